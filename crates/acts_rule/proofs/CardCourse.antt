@@ -6,7 +6,7 @@ use Rattle.activity_codec.specs.declared.values.Slot.{Slot}
 use Rattle.activity_codec.specs.declared.values.Slot.TheVariants.{Driver, CoDriver}
 use Rattle.trace_model.specs.declared.Card.{Card}
 use Rattle.trace_model.specs.declared.Action.{Action}
-use Rattle.trace_model.specs.declared.Action.TheVariants.{Select, Insert, Withdraw, Tear, Place}
+use Rattle.trace_model.specs.declared.Action.TheVariants.{Select, Insert, Withdraw, Tear, Place, Manual}
 use Rattle.trace_model.specs.Trace.{TraceSecond}
 use Rattle.log_model.specs.declared.lines.SlotFault.{SlotFault}
 use Rattle.log_model.specs.declared.lines.Verdict.{Verdict}
@@ -146,6 +146,7 @@ PutsNone (Insert slot card) = ⊥
 PutsNone (Withdraw slot) = Unit {0}
 PutsNone (Tear slot) = Unit {0}
 PutsNone (Place slot ending country region) = Unit {0}
+PutsNone (Manual slot pick minute) = Unit {0}
 
 answered-quiet : (n : ℕ) (r : Option SlotFault) (a : Action) (c : Course) → ((f : SlotFault) × (r ≡ Some f)) ⊎ PutsNone a → IsQuiet c (answered n r a c)
 answered-quiet n (Some fault) a c h = quiet-same c (answered n (Some fault) a c) refl refl refl
@@ -155,6 +156,7 @@ answered-quiet n None (Insert slot card) c (inr h) = absurd h
 answered-quiet n None (Withdraw slot) c h = quiet-same c (answered n None (Withdraw slot) c) refl refl refl
 answered-quiet n None (Tear slot) c h = quiet-same c (answered n None (Tear slot) c) refl refl refl
 answered-quiet n None (Place slot ending country region) c h = quiet-same c (answered n None (Place slot ending country region) c) refl refl refl
+answered-quiet n None (Manual slot pick minute) c h = quiet-same c (answered n None (Manual slot pick minute) c) refl refl refl
 
 moved-none : (n : ℕ) (r : Option SlotFault) (a : Action) (slots : Slots) → ((f : SlotFault) × (r ≡ Some f)) ⊎ PutsNone a → (slot : Slot) → (moved_by n r a slots).enters slot ≡ false
 moved-none n (Some fault) a slots h slot = refl
@@ -164,6 +166,7 @@ moved-none n None (Insert s card) slots (inr h) slot = absurd h
 moved-none n None (Withdraw s) slots h slot = refl
 moved-none n None (Tear s) slots h slot = refl
 moved-none n None (Place s ending country region) slots h slot = refl
+moved-none n None (Manual s pick minute) slots h slot = refl
 
 pub acted-quiet : (log : RunLog) (s : TraceSecond) (n : ℕ) (a : Action) (c : Course) → (begins (cut_in log s.number) n ≡ false) ⊎ (((f : SlotFault) × (refusal c.slots s.speed a ≡ Some f)) ⊎ PutsNone a) → IsQuiet c (acted log s n a c)
 acted-quiet log s n a c h = by (begins (cut_in log s.number) n) refl

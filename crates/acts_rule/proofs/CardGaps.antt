@@ -8,7 +8,7 @@ use Rattle.activity_codec.specs.declared.values.Slot.TheVariants.{Driver, CoDriv
 use Rattle.activity_codec.specs.Activity.{same_slot}
 use Rattle.trace_model.specs.declared.Card.{Card}
 use Rattle.trace_model.specs.declared.Action.{Action}
-use Rattle.trace_model.specs.declared.Action.TheVariants.{Select, Insert, Withdraw, Tear as Pull, Place}
+use Rattle.trace_model.specs.declared.Action.TheVariants.{Select, Insert, Withdraw, Tear as Pull, Place, Manual}
 use Rattle.trace_model.specs.Trace.{TraceSecond}
 use Rattle.tacho_types.specs.declared.texts.Registration.{Registration}
 use Rattle.log_model.specs.declared.lines.Break.{Break}
@@ -230,6 +230,7 @@ goes-answered n None (Insert slot card) c = record { finds = []; found = sym (ap
 goes-answered n None (Withdraw slot) c = goes-none c (answered n None (Withdraw slot) c) refl refl
 goes-answered n None (Pull slot) c = goes-none c (answered n None (Pull slot) c) refl refl
 goes-answered n None (Place slot ending country region) c = goes-none c (answered n None (Place slot ending country region) c) refl refl
+goes-answered n None (Manual slot pick minute) c = goes-none c (answered n None (Manual slot pick minute) c) refl refl
 
 goes-acted : (log : RunLog) (s : TraceSecond) (n : ℕ) (a : Action) (c : Course) → GoesBy c (acted log s n a c)
 goes-acted log s n a c = by (begins (cut_in log s.number) n)

@@ -32,7 +32,9 @@ use Rattle.run_outcome.specs.Lines.{Listed}
 use Rattle.run_keeping.specs.declared.keeper.Moment.{Moment}
 use Rattle.run_keeping.specs.Keeping.{CardReady}
 use Rattle.safety_model.specs.Safe.{Devices, card_of}
+use Rattle.tacho_types.specs.declared.texts.Registration.{Registration}
 use Rattle.unit_memory.specs.declared.format.Identity.{Identity}
+use Rattle.unit_memory.specs.declared.memory.UnitFacts.{UnitFacts}
 use Rattle.unit_notes.specs.declared.unit_event.UnitEvent.{UnitEvent}
 use Rattle.run_notes.specs.Entries.{card_entry}
 use Rattle.event_model.specs.declared.kinds.TheConstants.{POWER_INTERRUPTION, SESSION_NOT_CLOSED}
@@ -49,8 +51,8 @@ use Rattle.acts_rule.specs.CardNotes.{NotesOn, NotesOnCards, on_seat}
 pub plain-gap : (event : CardEvent) → event.kind ≡ POWER_INTERRUPTION → IsPlain event
 plain-gap event is = (inr (inr is), λ other. let wrong : POWER_INTERRUPTION ≡ SESSION_NOT_CLOSED = sym is ∙ other in absurd (omega (arith, wrong)))
 
-pub entry-is : (event : UnitEvent) (noted : CardEvent) (told known : Identity) → noted ≡ card_entry event told.registration → told ≡ known → noted ≡ card_entry event known.registration
-entry-is event noted told known is same = is ∙ ap (λ (i : Identity). card_entry event i.registration) same
+pub entry-is : (event : UnitEvent) (noted : CardEvent) (told : Identity) (known : UnitFacts) → noted ≡ card_entry event told.registration → told.registration ≡ known.registration → noted ≡ card_entry event known.registration
+entry-is event noted told known is same = is ∙ ap (λ (r : Registration). card_entry event r) same
 
 pub both-cards : (P : Card → Type 0) → P A → P B → (card : Card) → P card
 both-cards P a b A = a

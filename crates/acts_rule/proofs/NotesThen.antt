@@ -10,7 +10,7 @@ use Rattle.activity_codec.specs.declared.values.Slot.TheVariants.{Driver, CoDriv
 use Rattle.activity_codec.specs.Activity.{same_slot}
 use Rattle.trace_model.specs.declared.Card.{Card}
 use Rattle.trace_model.specs.declared.Action.{Action}
-use Rattle.trace_model.specs.declared.Action.TheVariants.{Select, Insert, Withdraw, Tear, Place}
+use Rattle.trace_model.specs.declared.Action.TheVariants.{Select, Insert, Withdraw, Tear, Place, Manual}
 use Rattle.trace_model.specs.Trace.{TraceSecond, driven, dark}
 use Rattle.log_model.specs.declared.lines.Break.{Break}
 use Rattle.log_model.specs.declared.lines.Break.TheVariants.{Tear as Torn}
@@ -43,7 +43,7 @@ use Rattle.run_moments.specs.Reached.{IsFindAt, course_at, course_with, moved_at
 use Rattle.run_moments.proofs.Telling.{card-judged}
 use Rattle.run_rings.specs.Notes.{accepted_in, noted_if, accepts_by, sits_accepted, notes_to, TellSameTo, NotesMore, course_behind}
 use Rattle.run_rings.proofs.Notes.{Finding, is_at, accepted-append, action-notes, later-lines, second-noted}
-use Rattle.run_rings.proofs.Actions.{power-notes, selections, pulls, refusals, places, withdrawals, insertions}
+use Rattle.run_rings.proofs.Actions.{power-notes, selections, pulls, entries, refusals, places, withdrawals, insertions}
 use Rattle.run_recorded.specs.Origin.{Origin, rule_of, start_at, first_of}
 use Rattle.run_ringed.specs.Ringed.{notes_in}
 use Rattle.run_ringed.specs.SoFar.{GoesBehind, notes_so_far}
@@ -334,6 +334,12 @@ pub select-now : (o : Origin) (done : List TraceSecond) (s : TraceSecond) (front
     spells_of c (notes_within w.b done s (In (suc (length front))) v.log) ≡ spells_of c (notes_within w.b done s (In (length front)) v.log)
 select-now o done s front rest slot pick are v d w c = nothing-now o done s front rest (Select slot pick) are v d w (selections v.log (went w.b.run.log done).before s front slot pick) c
 
+-- nor an entry by hand
+pub hand-now : (o : Origin) (done : List TraceSecond) (s : TraceSecond) (front rest : List Action) (slot : Slot) (pick : Pick) (minute : ℕ) (are : s.actions ≡ front ++ Manual slot pick minute ∷ rest) (v : Values) (d : Devices) (w : Within o done s (In (length front)) [] None [] v d) → (c : Card) →
+    spells_of c (notes_within w.b done s (In (suc (length front))) v.log) ≡ spells_of c (notes_within w.b done s (In (length front)) v.log)
+hand-now o done s front rest slot pick minute are v d w c =
+    nothing-now o done s front rest (Manual slot pick minute) are v d w (entries v.log (went w.b.run.log done).before s front slot pick minute) c
+
 -- nor a card that is pulled out, of which a line is told
 pub pull-now : (o : Origin) (done : List TraceSecond) (s : TraceSecond) (front rest : List Action) (slot : Slot) (are : s.actions ≡ front ++ Tear slot ∷ rest) (v : Values) (d : Devices) (w : Within o done s (In (length front)) [] None [] v d) → (c : Card) →
     spells_of c (notes_within w.b done s (In (suc (length front))) (and_break v.log (Torn s.number slot false (suc (length front)) false))) ≡ spells_of c (notes_within w.b done s (In (length front)) v.log)
@@ -463,6 +469,7 @@ puts-one n (Insert x card) None c slot enters = record { slot = x; card = card; 
 puts-one n (Withdraw x) None c slot enters = absurd (let wrong : false ≡ true = enters in cc)
 puts-one n (Tear x) None c slot enters = absurd (let wrong : false ≡ true = enters in cc)
 puts-one n (Place x ending country region) None c slot enters = absurd (let wrong : false ≡ true = enters in cc)
+puts-one n (Manual x pick minute) None c slot enters = absurd (let wrong : false ≡ true = enters in cc)
 
 -- what it notes by a log in which it has begun: what was found with it
 module _ (log : RunLog) (was : Before) (s : TraceSecond) (front rest : List Action) (slot : Slot) (card : Card) (are : s.actions ≡ front ++ Insert slot card ∷ rest) (uncut : cut_in log s.number ≡ None) (fine : refusal (course_behind log was s front).slots s.speed (Insert slot card) ≡ None) where

@@ -5,9 +5,10 @@ use Rattle.std.specs.List.{list_any}
 use Rattle.std.proofs.lemmas.List.Elements.{filter-append, Contains-append_left, Contains-append_right, Contains-append_cases, Contains-push, Contains-push_cases}
 use Rattle.activity_codec.specs.declared.values.Slot.{Slot}
 use Rattle.activity_codec.specs.declared.values.Slot.TheVariants.{Driver, CoDriver}
+use Rattle.activity_codec.specs.declared.values.Pick.{Pick}
 use Rattle.activity_codec.specs.Activity.{same_slot}
 use Rattle.trace_model.specs.declared.Action.{Action}
-use Rattle.trace_model.specs.declared.Action.TheVariants.{Select, Insert, Withdraw, Tear, Place}
+use Rattle.trace_model.specs.declared.Action.TheVariants.{Select, Insert, Withdraw, Tear, Place, Manual}
 use Rattle.trace_model.specs.declared.Card.{Card}
 use Rattle.trace_model.specs.Trace.{TraceSecond}
 use Rattle.log_model.specs.declared.lines.Break.{Break}
@@ -142,7 +143,15 @@ lines-alike log u p moved quiet_moved c quiet h none =
       calm = calm;
     }
 
--- AN ACTION is refused or carried out alike; but for a place, which takes no card out
+-- AN ACTION is refused or carried out alike; but for a place and an entry by hand, which ask for an accepted card and take none out
+abbrev asks_accepted : Action → Bool
+asks_accepted (Select slot pick) = false
+asks_accepted (Insert slot card) = false
+asks_accepted (Withdraw slot) = false
+asks_accepted (Tear slot) = false
+asks_accepted (Place slot ending country region) = true
+asks_accepted (Manual slot pick minute) = true
+
 any_card : List Card → Bool
 any_card [] = false
 any_card (x ∷ cards) = true
@@ -181,14 +190,15 @@ module _ (c quiet : Course) (h : IsAlike c quiet) where
   with-alike Driver CoDriver q = h.sits CoDriver
   with-alike CoDriver Driver q = h.sits Driver
 
-  refusal-alike : (speed : ℕ) (a : Action) → ((slot : Slot) (ending : Bool) (country region : ℕ) → a ≡ Place slot ending country region → ⊥) → refusal quiet.slots speed a ≡ refusal c.slots speed a
+  refusal-alike : (speed : ℕ) (a : Action) → asks_accepted a ≡ false → refusal quiet.slots speed a ≡ refusal c.slots speed a
   refusal-alike speed (Select slot pick) other = refl
   refusal-alike speed (Insert slot card) other =
       ap (λ (b : Bool). cond b (Some (Occupied slot)) (cond (holds (in_slot quiet.slots (other_slot slot)) card) (Some (Elsewhere card)) None)) (some-alike slot)
       ∙ ap (λ (b : Bool). cond (is_some (in_slot c.slots slot)) (Some (Occupied slot)) (cond b (Some (Elsewhere card)) None)) (holds-alike (other_slot slot) card)
   refusal-alike speed (Withdraw slot) other = ap (λ (b : Bool). cond (not b) (Some (Empty slot)) (cond (nat_lt 0 speed) (Some (Moving speed)) None)) (some-alike slot)
   refusal-alike speed (Tear slot) other = ap (λ (b : Bool). cond b None (Some (Empty slot))) (some-alike slot)
-  refusal-alike speed (Place slot ending country region) other = absurd (other slot ending country region refl)
+  refusal-alike speed (Place slot ending country region) other = absurd (cc)
+  refusal-alike speed (Manual slot pick minute) other = absurd (cc)
 
   answered-alike : (n : ℕ) (r : Option SlotFault) (a : Action) → IsAlike (answered n r a c) (answered n r a quiet)
   answered-alike n (Some fault) a = same-alike (answered n (Some fault) a c) (answered n (Some fault) a quiet) refl refl refl refl refl
@@ -201,6 +211,7 @@ module _ (c quiet : Course) (h : IsAlike c quiet) where
     calm = h.calm;
   }
   answered-alike n None (Place slot ending country region) = same-alike c quiet refl refl refl refl refl
+  answered-alike n None (Manual slot pick minute) = same-alike c quiet refl refl refl refl refl
 
   placed-alike : (n : ℕ) (r q : Option SlotFault) (slot : Slot) (ending : Bool) (country region : ℕ) → IsAlike (answered n r (Place slot ending country region) c) (answered n q (Place slot ending country region) quiet)
   placed-alike n None None slot ending country region = same-alike c quiet refl refl refl refl refl
@@ -209,16 +220,25 @@ module _ (c quiet : Course) (h : IsAlike c quiet) where
   placed-alike n (Some fault) (Some other) slot ending country region =
       same-alike (answered n (Some fault) (Place slot ending country region) c) (answered n (Some other) (Place slot ending country region) quiet) refl refl refl refl refl
 
-  by-refusals : (n speed : ℕ) (a : Action) → ((slot : Slot) (ending : Bool) (country region : ℕ) → a ≡ Place slot ending country region → ⊥) → IsAlike (answered n (refusal c.slots speed a) a c) (answered n (refusal quiet.slots speed a) a quiet)
+  by-hand-alike : (n : ℕ) (r q : Option SlotFault) (slot : Slot) (pick : Pick) (minute : ℕ) → IsAlike (answered n r (Manual slot pick minute) c) (answered n q (Manual slot pick minute) quiet)
+  by-hand-alike n None None slot pick minute = same-alike c quiet refl refl refl refl refl
+  by-hand-alike n None (Some fault) slot pick minute = same-alike c (answered n (Some fault) (Manual slot pick minute) quiet) refl refl refl refl refl
+  by-hand-alike n (Some fault) None slot pick minute = same-alike (answered n (Some fault) (Manual slot pick minute) c) quiet refl refl refl refl refl
+  by-hand-alike n (Some fault) (Some other) slot pick minute =
+      same-alike (answered n (Some fault) (Manual slot pick minute) c) (answered n (Some other) (Manual slot pick minute) quiet) refl refl refl refl refl
+
+  by-refusals : (n speed : ℕ) (a : Action) → asks_accepted a ≡ false → IsAlike (answered n (refusal c.slots speed a) a c) (answered n (refusal quiet.slots speed a) a quiet)
   by-refusals n speed a other = subst (λ (r : Option SlotFault). IsAlike (answered n (refusal c.slots speed a) a c) (answered n r a quiet)) (sym (refusal-alike speed a other)) (answered-alike n (refusal c.slots speed a) a)
 
   begun-alike : (n speed : ℕ) (a : Action) → IsAlike (answered n (refusal c.slots speed a) a c) (answered n (refusal quiet.slots speed a) a quiet)
-  begun-alike n speed (Select slot pick) = by-refusals n speed (Select slot pick) (λ y ending country region is. absurd (cc))
-  begun-alike n speed (Insert slot card) = by-refusals n speed (Insert slot card) (λ y ending country region is. absurd (cc))
-  begun-alike n speed (Withdraw slot) = by-refusals n speed (Withdraw slot) (λ y ending country region is. absurd (cc))
-  begun-alike n speed (Tear slot) = by-refusals n speed (Tear slot) (λ y ending country region is. absurd (cc))
+  begun-alike n speed (Select slot pick) = by-refusals n speed (Select slot pick) refl
+  begun-alike n speed (Insert slot card) = by-refusals n speed (Insert slot card) refl
+  begun-alike n speed (Withdraw slot) = by-refusals n speed (Withdraw slot) refl
+  begun-alike n speed (Tear slot) = by-refusals n speed (Tear slot) refl
   begun-alike n speed (Place slot ending country region) =
       placed-alike n (refusal c.slots speed (Place slot ending country region)) (refusal quiet.slots speed (Place slot ending country region)) slot ending country region
+  begun-alike n speed (Manual slot pick minute) =
+      by-hand-alike n (refusal c.slots speed (Manual slot pick minute)) (refusal quiet.slots speed (Manual slot pick minute)) slot pick minute
 
 answered-torn : (n : ℕ) (r : Option SlotFault) (a : Action) (c : Course) → (answered n r a c).torn ≡ c.torn
 answered-torn n (Some fault) a c = refl
@@ -227,6 +247,7 @@ answered-torn n None (Insert slot card) c = refl
 answered-torn n None (Withdraw slot) c = refl
 answered-torn n None (Tear slot) c = refl
 answered-torn n None (Place slot ending country region) c = refl
+answered-torn n None (Manual slot pick minute) c = refl
 
 -- one that has begun, by either log
 begun-as : (log : RunLog) (s : TraceSecond) (n : ℕ) (a : Action) (c : Course) → cut_in log s.number ≡ None → acted log s n a c ≡ both_told log s.number (In (n + 1)) (moved_by n (refusal c.slots s.speed a) a c.slots) (answered n (refusal c.slots s.speed a) a c)

@@ -6,7 +6,7 @@ use Rattle.activity_codec.specs.declared.values.Slot.{Slot}
 use Rattle.activity_codec.specs.declared.values.Slot.TheVariants.{Driver, CoDriver}
 use Rattle.trace_model.specs.declared.Card.{Card}
 use Rattle.trace_model.specs.declared.Action.{Action}
-use Rattle.trace_model.specs.declared.Action.TheVariants.{Select, Insert, Withdraw, Tear as Pull, Place}
+use Rattle.trace_model.specs.declared.Action.TheVariants.{Select, Insert, Withdraw, Tear as Pull, Place, Manual}
 use Rattle.trace_model.specs.Trace.{TraceSecond}
 use Rattle.run_model.specs.declared.Device.{Device}
 use Rattle.card_image.specs.Own.{IsOwnValid}
@@ -145,6 +145,7 @@ puts-stay slot n None (Insert at card) slots is = refl
 puts-stay slot n r (Withdraw at) slots is = no-both true refl (sym is)
 puts-stay slot n r (Pull at) slots is = no-both true refl (sym is)
 puts-stay slot n r (Place at ending country region) slots is = no-both true refl (sym is)
+puts-stay slot n r (Manual at pick minute) slots is = no-both true refl (sym is)
 
 none-leaves : (slot : Slot) (n : ℕ) (a : Option Action) (speed : ℕ) (c : Course) → puts_into slot a ≡ true → (moved_with n a speed c).leaving slot ≡ []
 none-leaves slot n None speed c is = no-both true refl (sym is)

@@ -9,7 +9,7 @@ use Rattle.activity_codec.specs.declared.values.Slot.{Slot}
 use Rattle.activity_codec.specs.declared.values.Slot.TheVariants.{Driver, CoDriver}
 use Rattle.activity_codec.specs.Activity.{same_slot}
 use Rattle.trace_model.specs.declared.Action.{Action}
-use Rattle.trace_model.specs.declared.Action.TheVariants.{Select, Insert, Withdraw, Tear, Place}
+use Rattle.trace_model.specs.declared.Action.TheVariants.{Select, Insert, Withdraw, Tear, Place, Manual}
 use Rattle.trace_model.specs.declared.Card.{Card}
 use Rattle.trace_model.specs.Trace.{TraceSecond}
 use Rattle.log_model.specs.declared.lines.Find.{Find}
@@ -314,6 +314,7 @@ puts-none n None slot (Insert y card) c out x is = put-beside y slot card c.slot
 puts-none n None slot (Withdraw y) c out x is = emptied y slot c.slots x is
 puts-none n None slot (Tear y) c out x is = emptied y slot c.slots x is
 puts-none n None slot (Place y ending country region) c out x is = is
+puts-none n None slot (Manual y pick minute) c out x is = is
 
 answered-keeps : (n : ℕ) (r : Option SlotFault) (slot : Slot) (a : Action) (c : Course) → ((card : Card) → a ≡ Insert slot card → r ≡ None → ⊥) → Keeps slot c (answered n r a c)
 answered-keeps n r slot a c out = keeps-same slot c (answered n r a c) (puts-none n r slot a c out) (answered-found n r a c)
@@ -329,6 +330,7 @@ enters-none n None slot (Insert y card) slots out = by (same_slot y slot) refl
 enters-none n None slot (Withdraw y) slots out = refl
 enters-none n None slot (Tear y) slots out = refl
 enters-none n None slot (Place y ending country region) slots out = refl
+enters-none n None slot (Manual y pick minute) slots out = refl
 
 -- ---- SINCE WHEN
 
@@ -426,6 +428,7 @@ module _ (log : RunLog) (s : TraceSecond) (n : ℕ) (slot : Slot) (actions : Lis
   goes-sat (Withdraw y) = acted-withdraw y (same_slot y slot) refl
   goes-sat (Tear y) = acted-beside (Tear y) refl (λ d e none. absurd (cc))
   goes-sat (Place y ending country region) = acted-beside (Place y ending country region) refl (λ d e none. absurd (cc))
+  goes-sat (Manual y pick minute) = acted-beside (Manual y pick minute) refl (λ d e none. absurd (cc))
 
   acted-sat : (a : Action) → Sat slot (actions ++ a ∷ []) (acted log s n a c)
   acted-sat a = subst (λ (k : Course). Sat slot (actions ++ a ∷ []) k) (acted-is a) (goes-sat a)
@@ -451,6 +454,7 @@ enters-by m None (Insert y card) slots slot is = (card, ap (λ (z : Slot). Inser
 enters-by m None (Withdraw y) slots slot is = absurd (let wrong : false ≡ true = is in cc)
 enters-by m None (Tear y) slots slot is = absurd (let wrong : false ≡ true = is in cc)
 enters-by m None (Place y ending country region) slots slot is = absurd (let wrong : false ≡ true = is in cc)
+enters-by m None (Manual y pick minute) slots slot is = absurd (let wrong : false ≡ true = is in cc)
 
 put-by : (log : RunLog) (s : TraceSecond) (m : ℕ) (slot : Slot) (c : Course) (x : Sitting) (q : Option Action) (p : Parts s.actions m) → q ≡ Some p.a → (moved_with m q s.speed c).enters slot ≡ true →
     in_slot (both_told log s.number (In (suc m)) (moved_with m q s.speed c) (course_with m q s.speed c)).slots slot ≡ Some x → PutsIn s.actions (suc m) slot x.card

@@ -242,13 +242,13 @@ fresh-watches w next stands = record {
 ready-bare : (known : Known) (chip : CardState) (card : State) → known.accepted ≡ None → CardAt known chip card → IsKnown known → CardReady known chip card
 ready-bare known chip card none at is = record { is_known = is; port = at.port; works = subst (λ (o : Option Accepted). IfSome o (λ a. card.works ≡ true)) (sym none) tt }
 
-module _ {U V A0 B0 : State} {chip_a chip_b : CardState} (old new : Run) (journal : Notes) where
+module _ {U V A0 B0 : State} {chip_a chip_b : CardState} (rule : Rule) (old new : Run) (journal : Notes) where
   -- where the unit was mended, and the last-kept minute is earlier, the run goes on with power
-  pub span-lit : is_lit old.power ≡ false → IsAt (old.next / 60) old U chip_a chip_b A0 B0 → IsSpanBegun old new journal → journal.kept < old.next / 60 → UnitReady new.keeper V → IsLit (old.next / 60) new V chip_a chip_b A0 B0
+  pub span-lit : is_lit old.power ≡ false → IsAt (old.next / 60) old U chip_a chip_b A0 B0 → IsSpanBegun rule old new journal → journal.kept < old.next / 60 → UnitReady new.keeper V → IsLit (old.next / 60) new V chip_a chip_b A0 B0
   span-lit dark h begun late unit =
       let d = h.dark dark in
       let bare = d.bare in
-      let u : ℕ = ungiven_of (begin Original old.next) in
+      let u : ℕ = ungiven_of (begin rule old.next) in
       let is : u ≡ old.next / 60 = omega arith in
       let cabin : new.keeper.cabin ≡ old.keeper.cabin = ap (λ (k : Keeper). k.cabin) begun.keeper in
       record {
@@ -257,7 +257,7 @@ module _ {U V A0 B0 : State} {chip_a chip_b : CardState} (old new : Run) (journa
           card_a = subst (λ (c : Cabin). CardReady c.cards.a chip_a A0) (sym cabin) (ready-bare old.keeper.cabin.cards.a chip_a A0 (bare A) h.held.card_a (d.stands 0).a);
           card_b = subst (λ (c : Cabin). CardReady c.cards.b chip_b B0) (sym cabin) (ready-bare old.keeper.cabin.cards.b chip_b B0 (bare B) h.held.card_b (d.stands 0).b);
         };
-        span = begin Original old.next;
+        span = begin rule old.next;
         stands = begun.minutes;
         next = let e : old.next + 0 ≡ old.next = omega arith in e ∙ sym begun.next;
         low = h.low;
@@ -275,7 +275,7 @@ module _ {U V A0 B0 : State} {chip_a chip_b : CardState} (old new : Run) (journa
       }
 
   -- it is held so
-  pub span-held : IsAt (old.next / 60) old U chip_a chip_b A0 B0 → IsSpanBegun old new journal → UnitReady new.keeper V → new.keeper.odometer ≤ HIGHEST_ODOMETER → IsHeld (old.next / 60) new V chip_a chip_b A0 B0
+  pub span-held : IsAt (old.next / 60) old U chip_a chip_b A0 B0 → IsSpanBegun rule old new journal → UnitReady new.keeper V → new.keeper.odometer ≤ HIGHEST_ODOMETER → IsHeld (old.next / 60) new V chip_a chip_b A0 B0
   span-held h begun unit most =
       let cabin : new.keeper.cabin ≡ old.keeper.cabin = ap (λ (k : Keeper). k.cabin) begun.keeper in
       record {

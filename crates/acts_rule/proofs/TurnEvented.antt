@@ -11,7 +11,7 @@ use Rattle.log_model.specs.declared.lines.Mark.{Mark}
 use Rattle.log_model.specs.Log.{RunLog, Keeping}
 use Rattle.log_model.specs.Causes.{RoseBy}
 use Rattle.log_model.specs.Course.{Told as Second, went}
-use Rattle.unit_memory.specs.declared.format.Identity.{Identity}
+use Rattle.unit_memory.specs.declared.memory.UnitFacts.{UnitFacts}
 use Rattle.unit_model.specs.Image.{IsUnit, odometer_at}
 use Rattle.unit_rule.specs.Odometer.{odometer_after}
 use Rattle.unit_course.specs.Followed.{Lit as IsLit, Lost as IsLost}
@@ -188,7 +188,7 @@ module _ (old : Run) (before : Outcome) (minutes : Kept) (keeper : Keeper) (watc
           evented = subst (λ (k : ℕ). Evented o (done ++ s ∷ []) later old.unfound k (IsLit (p.first ∷ p.rest)) e) (let at = w.next in omega (arith, next_is, some, at))
               (subst (λ (k : ℕ). Evented o (done ++ s ∷ []) later k (suc w.b.run.next) (IsLit (p.first ∷ p.rest)) e) (sym w.unfound)
               (subst (λ (ss : List Second). Evented o (done ++ s ∷ []) later w.b.run.unfound (suc w.b.run.next) (IsLit ss) e) p.is end));
-          limit = ap (λ (m_ : Identity). m_.limit) memory ∙ limit;
+          limit = ap (λ (m_ : UnitFacts). m_.limit) memory ∙ limit;
           watched = λ on. watches g.ended g.fed;
         }
 
@@ -202,7 +202,7 @@ module _ (old : Run) (before : Outcome) (minutes : Kept) (keeper : Keeper) (watc
           (subst (λ (k : ℕ). Evented o (done ++ s ∷ []) (and_break later (cut_at (old.next + n - 1) true begun)) k (suc w.b.run.next) IsLost e) (sym w.unfound)
           (subst (λ (k : ℕ). Evented o (done ++ s ∷ []) (and_break later (cut_at (old.next + n - 1) true k)) w.b.run.unfound (suc w.b.run.next) IsLost e) actions
           (subst (λ (k : ℕ). Evented o (done ++ s ∷ []) (and_break later (cut_at k true (length s.actions))) w.b.run.unfound (suc w.b.run.next) IsLost e) number end)));
-      limit = ap (λ (m_ : Identity). m_.limit) memory ∙ limit;
+      limit = ap (λ (m_ : UnitFacts). m_.limit) memory ∙ limit;
       watched = λ on. absurd (cc);
     }
 

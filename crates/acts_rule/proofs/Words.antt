@@ -9,7 +9,7 @@ use Rattle.activity_codec.specs.declared.values.Slot.{Slot}
 use Rattle.activity_codec.specs.declared.values.Slot.TheVariants.{Driver, CoDriver}
 use Rattle.activity_codec.specs.Activity.{same_slot}
 use Rattle.trace_model.specs.declared.Action.{Action}
-use Rattle.trace_model.specs.declared.Action.TheVariants.{Select, Insert, Withdraw, Tear, Place}
+use Rattle.trace_model.specs.declared.Action.TheVariants.{Select, Insert, Withdraw, Tear, Place, Manual}
 use Rattle.trace_model.specs.Trace.{TraceSecond}
 use Rattle.minute_model.specs.declared.Minute.{Minute}
 use Rattle.minute_model.specs.Span.{Span, activity_next}
@@ -50,6 +50,7 @@ picks-cons (Insert slot card) actions = refl
 picks-cons (Withdraw slot) actions = refl
 picks-cons (Tear slot) actions = refl
 picks-cons (Place slot ending country region) actions = refl
+picks-cons (Manual slot pick minute) actions = refl
 
 either-picks : (b : Bool) (x y : Course) (ps : List (Slot × Pick)) → x.picks ≡ ps → y.picks ≡ ps → (cond b x y).picks ≡ ps
 either-picks true x y ps one other = one
@@ -75,11 +76,13 @@ answered-picks n None (Insert slot card) c fine = sym (append-nil c.picks)
 answered-picks n None (Withdraw slot) c fine = sym (append-nil c.picks)
 answered-picks n None (Tear slot) c fine = sym (append-nil c.picks)
 answered-picks n None (Place slot ending country region) c fine = sym (append-nil c.picks)
+answered-picks n None (Manual slot pick minute) c fine = sym (append-nil c.picks)
 answered-picks n (Some fault) (Select slot pick) c fine = absurd (let wrong : Some fault ≡ None = fine slot pick refl in cc)
 answered-picks n (Some fault) (Insert slot card) c fine = sym (append-nil c.picks)
 answered-picks n (Some fault) (Withdraw slot) c fine = sym (append-nil c.picks)
 answered-picks n (Some fault) (Tear slot) c fine = sym (append-nil c.picks)
 answered-picks n (Some fault) (Place slot ending country region) c fine = sym (append-nil c.picks)
+answered-picks n (Some fault) (Manual slot pick minute) c fine = sym (append-nil c.picks)
 
 answered-by : (n speed : ℕ) (a : Action) (c : Course) → (answered n (refusal c.slots speed a) a c).picks ≡ c.picks ++ picks_of (a ∷ [])
 answered-by n speed a c = answered-picks n (refusal c.slots speed a) a c (λ slot pick is. ap (λ (x : Action). refusal c.slots speed x) is)
@@ -118,6 +121,7 @@ takes-one n (Insert y card) None slots slot x is = absurd (let wrong : [] ≡ x 
 takes-one n (Withdraw y) None slots slot x is = withdraw-own y slot (visits (In (n + 1)) slot slots) x is
 takes-one n (Tear y) None slots slot x is = absurd (let wrong : [] ≡ x ∷ [] = is in cc)
 takes-one n (Place y ending country region) None slots slot x is = absurd (let wrong : [] ≡ x ∷ [] = is in cc)
+takes-one n (Manual y pick minute) None slots slot x is = absurd (let wrong : [] ≡ x ∷ [] = is in cc)
 
 -- ---- THE WORD
 

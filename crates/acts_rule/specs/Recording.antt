@@ -4,7 +4,6 @@ use Rattle.trace_model.specs.declared.Action.{Action}
 use Rattle.trace_model.specs.declared.Card.{Card}
 use Rattle.trace_model.specs.Trace.{TraceSecond, driven}
 use Rattle.minute_model.specs.declared.Minute.{Minute}
-use Rattle.minute_model.specs.declared.Rule.TheVariants.{Original}
 use Rattle.log_model.specs.Log.{RunLog, Phase, In}
 use Rattle.log_model.specs.Course.{Visit, went}
 use Rattle.log_model.specs.Slots.{refusal}
@@ -13,6 +12,7 @@ use Rattle.unit_course.specs.Followed.{Supply}
 use Rattle.unit_course.specs.Followed.{Lit as IsLit, Due as IsDue, Lost as IsLost}
 use Rattle.unit_model.specs.Decoding.{Decodes}
 use Rattle.unit_model.specs.Image.{odometer_at}
+use Rattle.unit_model.specs.Versions.{rule_of}
 use Rattle.unit_rule.specs.Odometer.{odometer_after}
 use Rattle.unit_rule.specs.Rule.{started}
 use Rattle.card_image.specs.Own.{own_number, IsOwnValid}
@@ -57,9 +57,9 @@ Supplies Lost (IsLit span) = ⊥
 Supplies Lost IsDue = ⊥
 Supplies Lost IsLost = Unit {0}
 
--- WHAT A RUN BEGAN WITH: a unit whose image decodes, and the cards as the opening found them by their images
+-- WHAT A RUN BEGAN WITH: a unit whose image decodes, by whose rule it goes, and the cards as the opening found them by their images
 pub record IsOrigin (o : Origin) : Type 0 where
-  pub rule : o.recording.rule ≡ Original
+  pub rule : o.recording.rule ≡ rule_of o.recording.unit
   pub decodes : Decodes o.recording.unit
   pub unit : o.found.unit ≡ started o.recording.unit o.found.unit.number_a o.found.unit.number_b o.found.unit.began
   pub image : (c : Card) → (found_of o.found c).image ≡ card_image o.recording c

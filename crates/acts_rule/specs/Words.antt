@@ -6,7 +6,7 @@ use Rattle.activity_codec.specs.declared.values.Pick.{Pick}
 use Rattle.activity_codec.specs.declared.values.Slot.{Slot}
 use Rattle.activity_codec.specs.Activity.{same_slot}
 use Rattle.trace_model.specs.declared.Action.{Action}
-use Rattle.trace_model.specs.declared.Action.TheVariants.{Select, Insert, Withdraw, Tear, Place}
+use Rattle.trace_model.specs.declared.Action.TheVariants.{Select, Insert, Withdraw, Tear, Place, Manual}
 use Rattle.trace_model.specs.Trace.{TraceSecond}
 use Rattle.minute_model.specs.declared.Rule.{Rule}
 use Rattle.minute_model.specs.Span.{activity_next}
@@ -23,6 +23,7 @@ picks_of (Insert slot card ∷ actions) = picks_of actions
 picks_of (Withdraw slot ∷ actions) = picks_of actions
 picks_of (Tear slot ∷ actions) = picks_of actions
 picks_of (Place slot ending country region ∷ actions) = picks_of actions
+picks_of (Manual slot pick minute ∷ actions) = picks_of actions
 
 -- an action withdraws the card of a slot
 abbrev pub withdraws : Slot → Action → Bool
@@ -31,6 +32,7 @@ withdraws slot (Insert s card) = false
 withdraws slot (Withdraw s) = same_slot s slot
 withdraws slot (Tear s) = false
 withdraws slot (Place s ending country region) = false
+withdraws slot (Manual s pick minute) = false
 
 -- how many actions of a second had begun as a card was accepted by this line: none, where that was in another second
 abbrev pub begun_in : (second : ℕ) → Find → ℕ

@@ -11,7 +11,7 @@ use crate::{CardEvent, write_event};
 use card_files::file_of;
 use card_layout::{Application, Fid};
 use gated_ring::Ring;
-use tach_media::{AbsentMedium, Failed, Medium};
+use tach_media::{Failed, Medium};
 use tacho_types::TimeReal;
 
 /// The most events that a set has, and their bytes.
@@ -47,7 +47,7 @@ fn set_place(app: &Application, kind: u8) -> u32
     base + offset
 }
 
-// The ring of a type's events. It has no pointer, so no medium is asked for one.
+// The ring of a type's events, which has no pointer.
 fn event_ring(app: &Application, kind: u8) -> Ring
     requires { IsApplication app.now }
     ensures { result ≡ event_ring app.now kind }
@@ -55,8 +55,7 @@ fn event_ring(app: &Application, kind: u8) -> Ring
     let base = set_place(app, kind);
     let count = u32::from(app.events);
     let width = CardEvent::SIZE as u32;
-    let mut none = AbsentMedium::new(base + width * count);
-    Ring::load(&mut none, base, width, count, 0, BEGIN as u32).unwrap()
+    Ring::at(base, width, count, 0, BEGIN as u32)
 }
 
 /// Whether an event of a type with this begin is there: true exactly where one stands in the set of its type. The types

@@ -12,7 +12,7 @@ use Rattle.card_model.specs.Changes.{Shorter, date_of, trimmed}
 use Rattle.card_model.specs.Image.{StringShape, Holds}
 use Rattle.cyclic_days.specs.Held.{Held, Knows}
 use Rattle.cyclic_days.specs.Moments.{IfKnown}
-use Rattle.cyclic_days.specs.Steps.{SameDays}
+use Rattle.cyclic_days.specs.Steps.{SameDays, IsIdle}
 use Rattle.cyclic_days.specs.Trim.{IsTrim, IsTrimMoment}
 use Rattle.card_image.specs.Fields.{day_string, vehicle_ring, last_use_of}
 use Rattle.card_session.specs.declared.words.TheConstants.{LATEST_MINUTE}
@@ -57,7 +57,7 @@ module _ (s t : Session) (value : IsValue s) (same : HasSame s t) (old new : Sta
   pub still_part : t.days ≡ s.days
       → (failed ≡ false → IfSome old.image (λ x. IfSome new.image (IfKnown s.days (SameDays s.days.shape) x)))
       → (failed ≡ false → IfSome old.image (λ x. IfSome new.image (λ y. (days : List Day) → Knows s.days x days → Knows s.days y days)))
-      → LeavesOnly old new (IfKnown s.days (SameDays s.days.shape)) → HasCause old new failed
+      → LeavesOnly old new (IfKnown s.days (SameDays s.days.shape)) → HasCause old new failed ⊎ ((failed ≡ false) × IsIdle old new)
       → DoesPart old new failed (IsPartDone s t AnyBook (λ b. b)) (IsPartMoment s AnyBook IsBook)
   still_part days_are kept knowing moments cause = record {
     done = λ fine. where_told old.image new.image _ (λ x y was is knows any.
@@ -69,7 +69,7 @@ module _ (s t : Session) (value : IsValue s) (same : HasSame s t) (old new : Sta
     leaves = weaken moments (λ x c was is knows any.
         let holds : Holds r c (book_of app x).days = subst (λ (q : StringShape). Holds q c (book_of app x).days) value.days ((is.told (book_of app x).days knows.days).list (book_of app x).days knows.days.holds) in
         written s t value same old new failed card whole (IsBook (book_of app x)) x c was knows is.outside (book_of app x).days holds (refl, refl));
-    cause = inl cause;
+    cause = cause;
   }
 
   -- THE CUT

@@ -46,3 +46,4 @@ pub mod ShutValid
 pub mod Renewing
 pub mod Ends
 pub mod Ended
+pub mod ByHand

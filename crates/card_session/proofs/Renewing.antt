@@ -37,7 +37,7 @@ use Rattle.card_session.proofs.Marks.{session_same, mark_told, use_before}
 use Rattle.card_session.proofs.Preparing.{use_at, used_at}
 use Rattle.card_session.proofs.Stopping.{days_there, ended_same}
 use Rattle.card_session.proofs.Valid.{valid_words}
-use Rattle.card_session.proofs.NewestStays.{newest_by_mark, next_newest, next_low, keep_newest, Rewrites, close_newest, closed_in, view_newest, view_word}
+use Rattle.card_session.proofs.NewestStays.{newest_by_mark, next_newest, next_low, keep_newest, Rewrites, close_newest, closed_in, closed_open, view_newest, view_word}
 use Rattle.card_session.proofs.InsertingBooks.{lacked_each, cut_ready, trimmed_low}
 use Rattle.card_session.proofs.InsertingCards.{noted_same, noting_same}
 use Rattle.card_session.proofs.InsertingUse.{use_inside}
@@ -134,6 +134,21 @@ in_beside : (app : Application) → IsApplication app → (x c : List ℕ) → H
 unfolding book_of
 in_beside app sound x c days vehicles points =
     ap (λ (n : ℕ). max n (newest_word (card_days app c))) (mark_beside app sound x c days vehicles points) ∙ ap (λ (ds : List Day). max (end_mark app x) (newest_word ds)) (days_same app x c days)
+
+-- ---- whether an entry is open behind the end mark
+
+open_told : (app : Application) (y : List ℕ) → is_open (end_mark app y) (card_days app y) ≡ is_open (mark_of (book_of app y)) (book_of app y).days
+unfolding book_of
+open_told app y = refl
+
+open_beside : (app : Application) → IsApplication app → (x c : List ℕ) → HaveSameDays app x c → HaveSameVehicles app x c → PointsInside (vehicle_ring app) x → is_open (end_mark app c) (card_days app c) ≡ is_open (end_mark app x) (card_days app x)
+open_beside app sound x c days vehicles points =
+    ap (λ (n : ℕ). is_open n (card_days app c)) (mark_beside app sound x c days vehicles points) ∙ ap (is_open (end_mark app x)) (days_same app x c days)
+
+-- the closing word is written, where one is to be
+shut_open : (app : Application) → IsApplication app → (x y : List ℕ) → AreDays 0 (book_of app x).days → IsOpenBook (book_of app x) → IsShut app x y → is_open (end_mark app y) (card_days app y) ≡ false
+shut_open app sound x y are may shut =
+    open_told app y ∙ ap (λ (k : Book). is_open (mark_of k) k.days) (told_book app (closed app.activity Rest (book_of app x)) x y shut) ∙ closed_open app.activity sound.string_least (book_of app x) are Rest may
 
 -- ---- a withdrawal
 
@@ -492,6 +507,14 @@ module _ (app : Application) (sound : IsApplication app) (x : List ℕ) (fits : 
       let first = noted_renews x1 still x2 mended x3 noted in
       in_beside app sound x4 y side.0 side.1 shut.points ∙ in_ ∙ omega (arith, more, rest.newest, first.newest)
 
+  -- no entry is open at its end
+  pub ends_shut : (y : List ℕ) → InsertsOpen app registration odometer owed now x y → is_open (end_mark app y) (card_days app y) ≡ false
+  ends_shut y (x1, still, (x2, mended, (x3, noted, (x4, shut, reopened)))) =
+      let side = reopened_same app registration now long x4 y (room x1 still x2 mended x3 noted x4 shut) reopened in
+      let fine = noted_fine app sound x fits registration long odometer now owed are_owed.0 valid open_ x1 still x2 mended x3 noted in
+      let low : newest_word (card_days app x3) ≤ end_mark app x3 = noted_low app sound x fits registration long odometer now owed are_owed.0 valid open_ x1 still x2 mended x3 noted in
+      open_beside app sound x4 y side.0 side.1 shut.points ∙ shut_open app sound x3 x4 (book_are app sound x3 fine low) (book_may app sound x3 fine low) shut
+
   -- ---- what stands behind the end mark
 
   pub ends_low : (y : List ℕ) → InsertsOpen app registration odometer owed now x y → (card_view app y).word ≤ end_mark app y
@@ -569,6 +592,11 @@ module _ (app : Application) (sound : IsApplication app) (x : List ℕ) (fits : 
   closed_answered y (x1, still, (x2, shut, opened)) =
       let side = opened_same app registration now long x2 y (shut_room x1 still x2 shut) opened in
       in_beside app sound x2 y side.0 side.1 shut.points ∙ shut_in x1 still x2 shut
+
+  pub closed_shut : (y : List ℕ) → InsertsClosed app registration now x y → is_open (end_mark app y) (card_days app y) ≡ false
+  closed_shut y (x1, still, (x2, shut, opened)) =
+      let side = opened_same app registration now long x2 y (shut_room x1 still x2 shut) opened in
+      open_beside app sound x2 y side.0 side.1 shut.points ∙ shut_open app sound x1 x2 still.holds.ordered (y_may x1 still) shut
 
   pub closed_stored : (y : List ℕ) → InsertingClosed app registration now x y → (card_view app y).stored ≤ max (max (card_view app x).stored now) (60 * (card_view app y).newest)
   closed_stored y inserting = by (nat_eq (session_time app y) 0) refl

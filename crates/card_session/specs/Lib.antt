@@ -8,3 +8,4 @@ pub mod Parts
 pub mod Inserting
 pub mod Overwriting
 pub mod Repairs
+pub mod ByHand

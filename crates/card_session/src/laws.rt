@@ -240,6 +240,15 @@ pub fn an_insertion_leaves_no_word_behind()
         (card_view app y).word ≤ max (card_view app x).word (card_view app x).newest }
 {}
 
+/// At the end of an insertion no entry of a card is open: where the minute behind the end mark lies in its newest day, the latest word
+/// of that day is no entry's.
+pub fn an_insertion_leaves_no_entry_open()
+    ensures open { (app : Application) (registration : Registration) (odometer now : ℕ) (owed : List Entry) (x y : List ℕ) → IsApplication app → image_size_of app ≤ length x → length registration.0 ≡ 15 → AreOwed now owed → IsValid app x → 0 < session_time app x →
+        IsCardInserted app registration odometer owed now x y → is_open (end_mark app y) (card_days app y) ≡ false }
+    ensures shut { (app : Application) (registration : Registration) (odometer now : ℕ) (owed : List Entry) (x y : List ℕ) → IsApplication app → image_size_of app ≤ length x → length registration.0 ≡ 15 → IsValid app x → session_time app x ≡ 0 →
+        IsCardInserted app registration odometer owed now x y → is_open (end_mark app y) (card_days app y) ≡ false }
+{}
+
 /// At the end of an insertion, and once the end mark of a keep has moved, a card would be valid, were its session ended.
 pub fn a_card_may_be_ended()
     ensures keep { (s : Session) (e : Entry) (odometer : ℕ) (x y : List ℕ) → IsApplication s.application → image_size_of s.application ≤ length x → 0 < session_time s.application x → IsValid s.application x →

@@ -1,7 +1,7 @@
 -- The calls of one write, where the image tells what is kept.
-use Rattle.std.proofs.Common.{◌≡◌, ⊎_elim, ℕ, ◌+◌, ◌≤◌, List, [], ◌∷◌, length, refl, sym, ◌∙◌, ap, subst, arith}
+use Rattle.std.proofs.Common.{◌≡◌, ⊎_elim, ℕ, ◌+◌, ◌<◌, ◌≤◌, List, [], ◌∷◌, length, refl, sym, ◌∙◌, ap, subst, arith}
 use Rattle.tach_media.specs.Medium.{put}
-use Rattle.tach_media.proofs.Images.{put_outside, part_before}
+use Rattle.tach_media.proofs.Images.{put_outside, outside_same, part_before}
 use Rattle.write_plan.specs.Plan.{put_all, IsPartway}
 use Rattle.write_plan.proofs.Plans.{partway_outside, puts_outside}
 use Rattle.card_model.specs.Bytes.{number, two_bytes}
@@ -30,6 +30,17 @@ newest_km t km [] is = tt
 newest_km t km (d ∷ []) is = (ap (λ (h : DayHead). record h { km = record { 0 = km } }) is.0, is.1)
 newest_km t km (d ∷ e ∷ []) is = newest_km t km (e ∷ []) is
 newest_km t km (d ∷ e ∷ f ∷ ds) is = newest_km t km (e ∷ f ∷ ds) is
+
+-- without a write
+pub same_known : (v : Held) (x : List ℕ) → IfKnown v (SameDays v.shape) x x
+same_known v x = record {
+  outside = outside_same v.shape.base (4 + v.shape.size) x;
+  told = λ days k. record { outside = outside_same v.shape.base (4 + v.shape.size) x; list = λ all h. h };
+}
+
+pub none_mended : (v : Held) (x : List ℕ) → v.tail.used ≡ 0 → (days : List Day) → Knows v x days → IsDropMended v.shape days x x
+none_mended v x none [] k = refl
+none_mended v x none (d ∷ ds) k = absurd (omega (arith, none, k.used))
 
 module _ (v : Held) (is : IsHeld v) (x : List ℕ) (inside : v.shape.base + (4 + v.shape.size) ≤ length x) where
   abbrev r : StringShape
@@ -69,11 +80,9 @@ module _ (v : Held) (is : IsHeld v) (x : List ℕ) (inside : v.shape.base + (4 +
     told = λ days k. ⊎_elim (λ here. while_mending r is.shape x inside o o_pointer 0 (λ pointer. o_is days k) c here) (λ none. absurd none) part;
   }
 
-  pub mended_is : IfKnown v (IsDropMended r) x (put_all (mend_pieces v) x)
-  mended_is = record {
-    outside = puts_outside r.base (4 + r.size) (mend_pieces v) mend_inside x inside;
-    told = λ days k pointer. ap (λ (p : ℕ). put (at r p) (two_bytes 0) x) (o_is days k);
-  }
+  pub mended_is : 0 < v.tail.used → (days : List Day) → Knows v x days → IsDropMended r days x (put_all (mend_pieces v) x)
+  mended_is some [] k = absurd (omega (arith, some, k.used))
+  mended_is some (d ∷ ds) k = ap (λ (p : ℕ). put (at r p) (two_bytes 0) x) (o_is (d ∷ ds) k)
 
   pub mended_knows : (days : List Day) → Knows v x days → Knows v (put_all (mend_pieces v) x) days
   mended_knows days k = record {

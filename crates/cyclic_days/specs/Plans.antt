@@ -83,7 +83,7 @@ beginning_pieces v date words x =
 abbrev pub tail_begun : Held → (date : ℕ) → (words : List ℕ) → (used : ℕ) → Tail
 tail_begun v date words used = record { head = day_head (end_of v) (day_by v date words); latest = last_word words; used = used }
 
--- the length before the oldest day is cleared
+-- the length before the oldest day, which there is, is cleared
 abbrev pub mend_pieces : Held → List Piece
 mend_pieces v = piece (at v.shape (oldest_at v v.tail.used)) (two_bytes 0) ∷ []
 

@@ -53,9 +53,10 @@ pub record SameDays (r : StringShape) (x c : List ℕ) : Type 0 where
   pub outside : SameOutside r.base (4 + r.size) x c
   pub list : (days : List Day) → Holds r x days → Holds r c days
 
--- there is no length before the oldest day, and all else is as before
-abbrev pub IsDropMended : StringShape → List ℕ → List ℕ → Type 0
-IsDropMended r x y = IsPointer r.size (oldest_pointer r x) → y ≡ put (at r (oldest_pointer r x)) (two_bytes 0) x
+-- the oldest of these days has no length before it, and all else is as before; without a day nothing has changed
+abbrev pub IsDropMended : StringShape → List Day → List ℕ → List ℕ → Type 0
+IsDropMended r [] x y = y ≡ x
+IsDropMended r (d ∷ ds) x y = y ≡ put (at r (oldest_pointer r x)) (two_bytes 0) x
 
 -- the newest day, which there is, has another distance
 pub record IsMeasured (r : StringShape) (km : ℕ) (x y : List ℕ) : Type 0 where

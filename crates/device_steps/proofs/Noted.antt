@@ -70,7 +70,7 @@ module _ (x c : List ℕ) (keeps : KeepsJournal x c) where
 pub noted-holds : (s : Started) {U V : State} (due : ℕ) (b : Book) (marks : List Mark) → IsCoherent U → LeavesOnly U V LeavesJournal → Holds s due b marks U → Holds s due b marks V
 noted-holds s {U} {V} due b marks whole run h = holds-elsewhere s due b marks h whole LeavesJournal run (λ x c is. (
   same_journal x c is.keeps,
-  issued-parts x c (front_part x c is.keeps 0 LAST_KEPT.place (omega arith)) (counts_noted x c is.keeps) (spare_noted x c is.keeps) is.keeps.behind,
+  issued-parts x c (front_part x c is.keeps 0 LAST_KEPT.place (omega arith)) (counts_noted x c is.keeps) (spare_noted x c is.keeps) is.keeps.spare,
   is.decodes,
 )) (λ x c is. rows-beside s x c (rows_noted x c is.keeps) (last_beside x c (same_journal x c is.keeps)))
 

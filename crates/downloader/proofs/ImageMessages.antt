@@ -1,17 +1,15 @@
 -- The messages of an image that decodes are of the grammar.
-use Rattle.std.proofs.Common.{◌≡◌, ℕ, suc, ◌+◌, ◌*◌, ◌/◌, ◌^◌, ◌<◌, ◌≤◌, Bool, true, false, cond, List, [], ◌∷◌, ◌++◌, length, map, filter, All, Some, IfSome, option_map, refl, sym, ap, subst, arith}
-use Rattle.std.specs.Prelude.{◌==◌, ◌&&◌, ◌||◌, nat_eq, nat_lt, nat_le}
+use Rattle.std.proofs.Common.{◌≡◌, ℕ, suc, ◌+◌, ◌*◌, ◌^◌, ◌<◌, ◌≤◌, Bool, true, false, cond, List, [], ◌∷◌, ◌++◌, length, map, filter, All, Some, IfSome, option_map, refl, sym, ap, subst, arith}
+use Rattle.std.specs.Prelude.{nat_eq}
 use Rattle.std.specs.List.{list_all}
-use Rattle.std.proofs.lemmas.Bool.Decides.{nat_tests}
 use Rattle.std.proofs.lemmas.List.Elements.{All-nil, All-cons, All-filter, All-append}
-use Rattle.card_layout.specs.Images.{number_at}
 use Rattle.gated_ring.specs.Ring.{Shape, size_of, pointer, ring_list}
 use Rattle.unit_model.specs.declared.layout.Field.{Field}
-use Rattle.unit_model.specs.declared.layout.TheConstants.{VERSION, VIN, REGISTRATION, IDENTIFICATION, SENSOR, STATE_CERTIFICATE, UNIT_CERTIFICATE, OVER_COUNT, INSERTIONS, PLACES}
+use Rattle.unit_model.specs.declared.layout.TheConstants.{VIN, REGISTRATION, IDENTIFICATION, SENSOR, STATE_CERTIFICATE, UNIT_CERTIFICATE, OVER_COUNT}
 use Rattle.unit_model.specs.Days.{StoredDay, Each}
-use Rattle.unit_model.specs.Image.{number_of, last_kept, odometer_at, recorded_indices}
-use Rattle.unit_model.specs.Decoding.{front_checks, ring_checks, has_day}
-use Rattle.unit_model.proofs.Checks.{passes, and_split, le_of, good_of}
+use Rattle.unit_model.specs.Image.{number_of, last_kept, recorded_indices}
+use Rattle.unit_model.specs.Decoding.{front_checks, ring_checks}
+use Rattle.unit_model.proofs.Checks.{passes, good_of, front_split, rings_split}
 use Rattle.link_model.specs.declared.request.Request.{Request}
 use Rattle.link_model.specs.declared.request.Request.TheVariants.{Overview as AskOverview, Day as AskDay, Events as AskEvents, Speed as AskSpeed, Technical as AskTechnical}
 use Rattle.message_model.specs.Records.{insertion_ring, unit_place_ring}
@@ -23,27 +21,14 @@ use Rattle.downloader.proofs.ImageParts.{part_long, number_low, filter_few, tabl
 use Rattle.downloader.proofs.Short.{overview_few, day_long, event_few, technical_few}
 use Rattle.downloader.proofs.ImageDays.{ok, sent_is, days_good, IsSent, sent_good}
 
-below_of : (a b : ℕ) → nat_lt a b ≡ true → a < b
-below_of a b is = grind (arith, nat_tests)
-
 -- the pointers of insertions and places are indices, and over speedings are few
 pointers : (x : List ℕ) → list_all passes (ring_checks x) ≡ true → (pointer insertion_ring x < 2048) × (pointer unit_place_ring x < 255)
 pointers x all =
-    let a = number_at x INSERTIONS.place 4 in
-    let b = number_at x PLACES.place 4 in
-    let first = and_split (nat_lt a 2048) (nat_lt b 255 && true) all in
-    let next = and_split (nat_lt b 255) true first.1 in
-    (below_of a 2048 first.0, below_of b 255 next.0)
+    let rings = rings_split x all in
+    (rings.insertions, rings.places)
 
 few_over : (x : List ℕ) → list_all passes (front_checks x) ≡ true → number_of x OVER_COUNT ≤ 255
-few_over x all =
-    let k = last_kept x in
-    let good = nat_le k 71582788 && (k == 0 || has_day x (k / 1440)) in
-    let overs : Bool = nat_le (number_of x OVER_COUNT) 255 && true in
-    let rest : Bool = nat_le (odometer_at x) 9999999 && overs in
-    let behind = and_split good rest (and_split (number_of x VERSION == 1) (good && rest) all).1 in
-    let last = and_split (nat_le (odometer_at x) 9999999) overs behind.1 in
-    le_of (number_of x OVER_COUNT) 255 (and_split (nat_le (number_of x OVER_COUNT) 255) true last.1).0
+few_over x all = (front_split x all).overs
 
 some_member : (m : Message) (ms : List Message) → 0 < length (m ∷ ms)
 some_member m ms = omega arith

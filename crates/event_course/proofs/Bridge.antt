@@ -10,7 +10,7 @@ use Rattle.activity_codec.specs.declared.values.Pick.{Pick}
 use Rattle.activity_codec.specs.Activity.{same_slot}
 use Rattle.trace_model.specs.declared.Card.{Card}
 use Rattle.trace_model.specs.declared.Action.{Action}
-use Rattle.trace_model.specs.declared.Action.TheVariants.{Select, Insert, Withdraw, Tear, Place}
+use Rattle.trace_model.specs.declared.Action.TheVariants.{Select, Insert, Withdraw, Tear, Place, Manual}
 use Rattle.trace_model.specs.Trace.{TraceSecond}
 use Rattle.log_model.specs.declared.lines.Break.{Break}
 use Rattle.log_model.specs.declared.lines.Break.TheVariants.{Cut, Tear as Torn}
@@ -87,6 +87,7 @@ all-picked log s n (Insert slot card ∷ actions) picks h each = absurd each.0
 all-picked log s n (Withdraw slot ∷ actions) picks h each = absurd each.0
 all-picked log s n (Tear slot ∷ actions) picks h each = absurd each.0
 all-picked log s n (Place slot ending country region ∷ actions) picks h each = absurd each.0
+all-picked log s n (Manual slot pick minute ∷ actions) picks h each = absurd each.0
 
 some-selections : (n : ℕ) (actions : List Action) → AllByRecursion IsSelection actions → AllByRecursion IsSelection (take n actions)
 some-selections zero actions h = tt

@@ -178,7 +178,7 @@ pub journal-then : {U M V : State} → IsCoherent U → IsCoherent M → U.works
 journal-then {U} {M} {V} before mid works first next = goes_on first next (λ x y c was is here. both x y c here (here-or x y was (first.now y (mid.is_left y is))))
   where
     itself : (x : List ℕ) → LeavesJournal x x
-    itself x = record { keeps = record { front = refl; rest = refl; behind = refl; same_length = refl }; decodes = λ d. d }
+    itself x = record { keeps = record { front = refl; rest = refl; spare = refl; same_length = refl }; decodes = λ d. d }
 
     here-or : (x y : List ℕ) → U.image ≡ Some x → U.may_leave y ⊎ ((z : List ℕ) × (U.image ≡ Some z) × LeavesJournal z y) → LeavesJournal x y
     here-or x y was (inl old) = let one : Some x ≡ Some y = sym was ∙ before.only y works old in let same : x ≡ y = cc in subst (LeavesJournal x) same (itself x)
@@ -186,6 +186,6 @@ journal-then {U} {M} {V} before mid works first next = goes_on first next (λ x 
 
     both : (x y c : List ℕ) → LeavesJournal y c → LeavesJournal x y → LeavesJournal x c
     both x y c second one = record {
-      keeps = record { front = second.keeps.front ∙ one.keeps.front; rest = second.keeps.rest ∙ one.keeps.rest; behind = second.keeps.behind ∙ one.keeps.behind; same_length = second.keeps.same_length ∙ one.keeps.same_length };
+      keeps = record { front = second.keeps.front ∙ one.keeps.front; rest = second.keeps.rest ∙ one.keeps.rest; spare = second.keeps.spare ∙ one.keeps.spare; same_length = second.keeps.same_length ∙ one.keeps.same_length };
       decodes = λ d. second.decodes (one.decodes d);
     }

@@ -19,7 +19,8 @@ use write_plan::{Plan, put_pieces};
 /// The list of a ring goes from the index after the pointer round to the pointer, through the entries that are there.
 ///
 /// The medium handed to a call has the size that it had at loading. What the calls say of the entries holds where the
-/// pointer is below the count, as [`Ring::load`] has found it and each call leaves it.
+/// pointer is below the count, as [`Ring::load`] has found it and each call leaves it; of a ring from [`Ring::at`] the caller
+/// knows so.
 #[derive(Debug, PartialEq, Eq, Clone, Copy)]
 pub struct Ring {
     base: u32,
@@ -43,6 +44,25 @@ impl Model for Ring {
 
 impl Ring {
     ghost use Rattle.gated_ring.specs.Loading.{IfBadPointer, ReadsPointer, has_failed};
+
+    /// The ring that [`Ring::load`] gives where the pointer is below `count`, without a read: of a ring that has no pointer, and
+    /// of one in an image that is known to be sound.
+    pub fn at(base: u32, width: u32, count: u32, pointer_width: u8, gate: u32) -> Ring
+        requires short { base + (pointer_width + count * width) < 2 ^ 32 }
+        requires some { 0 < count }
+        requires pointer { IsTrue (is_pointer_width pointer_width) }
+        requires holds { 0 < pointer_width → count ≤ 256 ^ pointer_width }
+        requires gate { gate + 4 ≤ width }
+        ensures { result ≡ record { base = base; width = width; count = count; pointer_width = pointer_width; gate = gate } }
+    {
+        Ring {
+            base,
+            width,
+            count,
+            pointer_width: pointer_width as u32,
+            gate,
+        }
+    }
 
     /// Loads a ring at `base`, of `count` entries of `width` bytes behind a pointer of `pointer_width` bytes, which is 0
     /// where the ring has no pointer, or 1, 2 or 4. The gate stands at `gate` in each entry.
@@ -72,13 +92,7 @@ impl Ring {
     {
         // so the ring ends below 2 ^ 32
         let _size = medium.size();
-        let ring = Ring {
-            base,
-            width,
-            count,
-            pointer_width: pointer_width as u32,
-            gate,
-        };
+        let ring = Ring::at(base, width, count, pointer_width, gate);
         if pointer_width > 0 {
             let pointer = read_number(medium, base, pointer_width as u32)?;
             if pointer >= count {

@@ -12,6 +12,7 @@ use Rattle.log_model.specs.declared.lines.SlotFault.{SlotFault}
 use Rattle.log_model.specs.declared.lines.Verdict.{Verdict}
 use Rattle.log_model.specs.declared.lines.Break.{Break}
 use Rattle.log_model.specs.declared.lines.Break.TheVariants.{Cut, Tear}
+use Rattle.log_model.specs.declared.lines.Refused.{Refused}
 use Rattle.log_model.specs.Log.{RunLog, Phase, In, Keeping, same_phase, phase_of, cut_in, is_torn_in}
 use Rattle.log_model.specs.Slots.{same_card}
 use Rattle.log_model.specs.Course.{Told, Visit, went}
@@ -71,9 +72,20 @@ visit_places u vs = map (λ v. (u, v.phase, v.slot)) vs
 abbrev pub in_the_slot : Slot → List (ℕ × Phase × Slot) → List (ℕ × Phase × Slot)
 in_the_slot slot places = filter (λ p. same_slot p.2 slot) places
 
+-- a refusal of a second, with the number of actions that had begun, and all of these
+abbrev pub refusal_at : ℕ → ℕ × SlotFault → ℕ × ℕ × SlotFault
+refusal_at u r = (u, r.0, r.1)
+
+abbrev pub refusals_at : ℕ → List (ℕ × SlotFault) → List (ℕ × ℕ × SlotFault)
+refusals_at u refused = map (refusal_at u) refused
+
 -- the refusals that the seconds tell
-abbrev pub refusals_of : List Told → List (ℕ × SlotFault)
-refusals_of told = flat_map (λ t. map (λ r. (t.second.number, r)) t.course.refused) told
+abbrev pub refusals_of : List Told → List (ℕ × ℕ × SlotFault)
+refusals_of told = flat_map (λ t. refusals_at t.second.number t.course.refused) told
+
+-- what the line of a refusal tells
+abbrev pub refusal_told : Refused → ℕ × ℕ × SlotFault
+refusal_told r = (r.second, r.begun, r.fault)
 
 -- the cards that `tear` lines pulled out
 abbrev pub pulled_of : List Told → List (ℕ × Phase × Slot)
@@ -139,8 +151,8 @@ pub record IsJudged (log : RunLog) (t : Told) (e : Visit) : Type 0 where
 -- in a second
 pub record HasCauses (IsVerdict : Card → ℕ → Verdict → Type 0) (before now : Device → ℕ)
     (ss : List TraceSecond) (log : RunLog) : Type 0 where
-  -- refusals are exactly those of the slots, the speed and the power
-  pub refused : map (λ r. (r.second, r.fault)) log.refused ≡ refusals_of (went log ss).told
+  -- refusals are exactly those of the slots, the speed and the power, each with the number of actions that had begun
+  pub refused : map refusal_told log.refused ≡ refusals_of (went log ss).told
   -- a cut stands in a second with power, one in a second, and their seconds increase
   pub cut_seconds : map second_of (filter is_cut log.breaks) ≡ map (λ t. t.second.number) (filter (λ t. t.cut) (went log ss).told)
   -- each `off` line that meets power is a cut

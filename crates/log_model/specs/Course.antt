@@ -7,7 +7,7 @@ use Rattle.activity_codec.specs.declared.values.Pick.{Pick}
 use Rattle.activity_codec.specs.Activity.{same_slot}
 use Rattle.trace_model.specs.declared.Card.{Card}
 use Rattle.trace_model.specs.declared.Action.{Action}
-use Rattle.trace_model.specs.declared.Action.TheVariants.{Select, Insert, Withdraw, Tear, Place}
+use Rattle.trace_model.specs.declared.Action.TheVariants.{Select, Insert, Withdraw, Tear, Place, Manual}
 use Rattle.trace_model.specs.Trace.{TraceSecond}
 use Rattle.minute_model.specs.Second.{Second}
 use Rattle.log_model.specs.declared.lines.SlotFault.{SlotFault}
@@ -23,8 +23,8 @@ pub record Visit : Type 0 where
   pub card : Card
 
 -- a second as far as it has gone: its selections, the cards that left or lost power, those that a `tear` line pulled and those
--- that a failed call tore out, those that entered and what was found of them, the refusals, whether there was a settling, and
--- the slots now
+-- that a failed call tore out, those that entered and what was found of them, the refusals, each with the number of actions that
+-- had begun, the refused one included, whether there was a settling, and the slots now
 pub record Course : Type 0 where
   pub picks : List (Slot × Pick)
   pub left : List Card
@@ -32,7 +32,7 @@ pub record Course : Type 0 where
   pub torn : List Visit
   pub entered : List Visit
   pub found : List (Visit × Verdict)
-  pub refused : List SlotFault
+  pub refused : List (ℕ × SlotFault)
   pub settled : Bool
   pub slots : Slots
 
@@ -65,11 +65,12 @@ carried_out n (Insert slot card) c = record c {
 carried_out n (Withdraw slot) c = record (leaves slot c) { settled = true }
 carried_out n (Tear slot) c = record (leaves slot c) { pulled = c.pulled ++ visits (In (n + 1)) slot c.slots }
 carried_out n (Place slot ending country region) c = c
+carried_out n (Manual slot pick minute) c = c
 
 -- an action is carried out or refused
 abbrev pub answered : ℕ → Option SlotFault → Action → Course → Course
 answered n None a c = carried_out n a c
-answered n (Some r) a c = record c { refused = c.refused ++ r ∷ [] }
+answered n (Some r) a c = record c { refused = c.refused ++ (n + 1, r) ∷ [] }
 
 -- the slots that a card enters at a moment, and the cards that are taken out of them
 pub record Moved : Type 0 where
@@ -89,6 +90,7 @@ moved_by n None (Withdraw s) slots =
     record { enters = λ slot. false; leaving = λ slot. if same_slot s slot then visits (In (n + 1)) slot slots else [] }
 moved_by n None (Tear s) slots = unmoved false
 moved_by n None (Place s ending country region) slots = unmoved false
+moved_by n None (Manual s pick minute) slots = unmoved false
 
 -- what the log tells of a slot at a moment: what was found of its card where one entered, and then whether it, or one that was
 -- taken out, was torn
@@ -120,6 +122,7 @@ is_settling (Insert slot card) = true
 is_settling (Withdraw slot) = true
 is_settling (Tear slot) = false
 is_settling (Place slot ending country region) = false
+is_settling (Manual slot pick minute) = false
 
 -- one action more, with n before it; one that a cut came before counts as a settling alone
 abbrev pub acted : RunLog → TraceSecond → ℕ → Action → Course → Course
@@ -167,7 +170,12 @@ lit_course log s starts slots =
     (both_told log s.number Keeping
     (unmoved false) (all_acted log s 0 s.actions (both_told log s.number (In 0) (unmoved starts) (fresh starts slots))))
 
--- a second without power: each action is refused
+-- without power each of these actions is refused, with so many before them
+abbrev pub without_power : ℕ → List Action → List (ℕ × SlotFault)
+without_power n [] = []
+without_power n (a ∷ actions) = (n + 1, NoPower) ∷ without_power (n + 1) actions
+
+-- a second without power
 abbrev pub dark_course : TraceSecond → Slots → Course
 dark_course s slots = record {
   picks = [];
@@ -176,7 +184,7 @@ dark_course s slots = record {
   torn = [];
   entered = [];
   found = [];
-  refused = map (λ a. NoPower) s.actions;
+  refused = without_power 0 s.actions;
   settled = false;
   slots = slots;
 }

@@ -5,7 +5,7 @@ use Rattle.activity_codec.specs.declared.values.Slot.TheVariants.{Driver, CoDriv
 use Rattle.trace_model.specs.declared.Card.{Card}
 use Rattle.trace_model.specs.declared.Card.TheVariants.{A, B}
 use Rattle.trace_model.specs.declared.Action.{Action}
-use Rattle.trace_model.specs.declared.Action.TheVariants.{Select, Insert, Withdraw, Tear, Place}
+use Rattle.trace_model.specs.declared.Action.TheVariants.{Select, Insert, Withdraw, Tear, Place, Manual}
 use Rattle.log_model.specs.declared.lines.SlotFault.{SlotFault}
 use Rattle.log_model.specs.declared.lines.SlotFault.TheVariants.{Moving, Empty, Occupied, NoCard, Elsewhere}
 
@@ -47,7 +47,8 @@ is_accepted None = false
 is_accepted (Some sitting) = is_some sitting.accepted
 
 -- Why the slots and the speed refuse an action, if they do: an insertion where the slot is not free or the other one has the card,
--- a withdrawal or a tear where it is empty, a withdrawal in motion, a place where no accepted card is in the slot.
+-- a withdrawal or a tear where it is empty, a withdrawal in motion, a place or an entry by hand where no accepted card is in the slot,
+-- an entry by hand in motion.
 abbrev pub refusal : Slots → (speed : ℕ) → Action → Option SlotFault
 refusal slots speed (Select slot pick) = None
 refusal slots speed (Insert slot card) =
@@ -58,3 +59,6 @@ refusal slots speed (Withdraw slot) =
     else (if nat_lt 0 speed then Some (Moving speed) else None)
 refusal slots speed (Tear slot) = if is_some (in_slot slots slot) then None else Some (Empty slot)
 refusal slots speed (Place slot ending country region) = if is_accepted (in_slot slots slot) then None else Some (NoCard slot)
+refusal slots speed (Manual slot pick minute) =
+    if not (is_accepted (in_slot slots slot)) then Some (NoCard slot)
+    else (if nat_lt 0 speed then Some (Moving speed) else None)

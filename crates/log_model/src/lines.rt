@@ -33,6 +33,13 @@ pub enum SlotFault {
     Elsewhere(Card),
     /// There is no power.
     NoPower,
+    /// The session of the slot's card has kept a minute already: the first such.
+    Begun(u32),
+    /// An entry by hand is not later than the newest minute of the card and of its entries by hand, or not earlier than the
+    /// insertion: that newest minute, and the minute of the insertion.
+    NotFree(u32, u32),
+    /// The session holds so many entries by hand already.
+    Full(u8),
 }
 
 /// A minute that a device has acknowledged: from now on it stands there, whatever stops come.
@@ -96,4 +103,6 @@ pub struct Find {
 pub struct Refused {
     pub second: u32,
     pub fault: SlotFault,
+    /// How many actions of the second had begun, the refused one included.
+    pub begun: u32,
 }

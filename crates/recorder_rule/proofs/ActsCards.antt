@@ -4,7 +4,7 @@ use Rattle.activity_codec.specs.declared.values.Slot.{Slot}
 use Rattle.activity_codec.specs.declared.values.Pick.{Pick}
 use Rattle.trace_model.specs.declared.Card.{Card}
 use Rattle.trace_model.specs.declared.Action.{Action}
-use Rattle.trace_model.specs.declared.Action.TheVariants.{Select, Tear as Pull}
+use Rattle.trace_model.specs.declared.Action.TheVariants.{Select, Manual, Tear as Pull}
 use Rattle.trace_model.specs.Trace.{TraceSecond}
 use Rattle.log_model.specs.declared.lines.Break.{Break}
 use Rattle.log_model.specs.declared.lines.Break.TheVariants.{Tear}
@@ -52,6 +52,11 @@ pub selected-cards : (d : Devices) (slot : Slot) (pick : Pick) (begun speed : �
 selected-cards d slot pick begun speed run out o done s now front rest are is allowed vehicle w cards time =
     quiet-goes o done s front rest (Select slot pick) are run out d d w tt [] (log_of out) (ap (λ (bs : List Break). record (log_of out) { breaks = bs }) (sym (append-nil (log_of out).breaks))) tt (left-itself o d) (shows-self o d) cards false
 
+-- or an entry by hand is let pass
+pub hand-cards : (d : Devices) (slot : Slot) (pick : Pick) (minute begun speed : ℕ) (run : Run) (out : Outcome) → CardsAction (Manual slot pick minute) begun speed false run out out d d
+hand-cards d slot pick minute begun speed run out o done s now front rest are is allowed vehicle w cards time =
+    quiet-goes o done s front rest (Manual slot pick minute) are run out d d w tt [] (log_of out) (ap (λ (bs : List Break). record (log_of out) { breaks = bs }) (sym (append-nil (log_of out).breaks))) tt (left-itself o d) (shows-self o d) cards false
+
 -- a card is pulled out
 pub pulled-cards : (d : Devices) (slot : Slot) (begun speed : ℕ) (run : Run) (out : Outcome) → CardsAction (Pull slot) begun speed false run out
     (record out { breaks = with_lines (pulled_breaks (card_in (seat_in run.keeper.cabin.slots.seats slot)) slot (record { second = run.next; begun = begun; late = false })) out.breaks }) d d
@@ -91,12 +96,12 @@ course-refused log was s front line = refl
 
 pub refused-cards : (o : Origin) (done : List TraceSecond) (s : TraceSecond) (speed : ℕ) (run : Run) (before : Outcome) (d : Devices) → IsNow s speed run → (front : List Action) (a : Action) (rest : List Action) → s.actions ≡ front ++ a ∷ rest →
     (w : RunWithin o done s (In (length front)) [] [] run before d) → CardsIn o done s w.within.b.run.log front (log_of before) d → (fault : SlotFault) → refusal (logged run.keeper.cabin.slots.seats) speed a ≡ Some fault → (after : Outcome) →
-    after ≡ record before { refused = with_lines (record { second = run.next; fault = fault } ∷ []) before.refused } → CardsIn o done s w.within.b.run.log (front ++ a ∷ []) (log_of after) d
+    after ≡ record before { refused = with_lines (record { second = run.next; fault = fault; begun = suc (length front) } ∷ []) before.refused } → CardsIn o done s w.within.b.run.log (front ++ a ∷ []) (log_of after) d
 refused-cards o done s speed run before d now front a rest are w cards fault is after told =
     let log : RunLog = log_of before in
     let was : Before = (went w.within.b.run.log done).before in
     let uncut = w.within.moment.up_to.uncut in
-    let line : Refused = record { second = run.next; fault = fault } in
+    let line : Refused = record { second = run.next; fault = fault; begun = suc (length front) } in
     let later : RunLog = and_refused log line in
     let goes = goes-refused log later.refused s front uncut in
     let few : length front ≤ length s.actions = w.within.moment.is in

@@ -17,7 +17,7 @@ use Rattle.slot_machine.specs.Calls.{seat_in, card_in, logged}
 use Rattle.unit_course.specs.Lines.{cut_at}
 use Rattle.unit_course.specs.Followed.{Lost as IsLost}
 use Rattle.safety_model.specs.Safe.{Devices, breakdowns_of}
-use Rattle.unit_memory.specs.declared.format.Identity.{Identity}
+use Rattle.unit_memory.specs.declared.memory.UnitFacts.{UnitFacts}
 use Rattle.run_notes.specs.declared.watch.Watch.{Watch}
 use Rattle.run_events.proofs.Shows.{nothing-more}
 use Rattle.run_moments.specs.Reached.{course_at, moved_at, Reaches, IsTearAt}
@@ -63,7 +63,7 @@ module _ (o : Origin) (done : List TraceSecond) (s : TraceSecond) (run : Run) (o
 
 pub watches-on : (o : Origin) (span : List Seen) (run new : Run) → StaysWatched run new → RunWatches o span run → RunWatches o span new
 watches-on o span run new same h = record {
-  limit = ap (λ (m : Identity). m.limit) same.memory ∙ h.limit;
+  limit = ap (λ (m : UnitFacts). m.limit) same.memory ∙ h.limit;
   watched = subst (λ (w : Watch). IsWatching o span w) (sym same.watch) h.watched;
 }
 
@@ -82,7 +82,7 @@ evented-cuts o done s n begun run mid new before told after d e now h cut fails 
       evented = subst (λ (l : RunLog). Evented o (done ++ s ∷ []) l new.unfound (suc new.next) IsLost e) log
           (subst (λ (k : ℕ). Evented o (done ++ s ∷ []) (and_break (log_of told) (cut_at s.number true begun)) new.unfound (suc k) IsLost e) second
           (subst (λ (k : ℕ). Evented o (done ++ s ∷ []) (and_break (log_of told) (cut_at s.number true begun)) k (suc w.b.run.next) IsLost e) first fails));
-      limit = ap (λ (r : Run). r.keeper.memory.limit) is ∙ ap (λ (m : Identity). m.limit) same.memory ∙ h.watches.limit;
+      limit = ap (λ (r : Run). r.keeper.memory.limit) is ∙ ap (λ (m : UnitFacts). m.limit) same.memory ∙ h.watches.limit;
     }
 
 -- no device was called
@@ -94,12 +94,12 @@ notes-none o d = λ c there. (c, there, λ log now. nothing-more (number_in o) l
 
 -- it is refused
 pub refused-now : (o : Origin) (done : List TraceSecond) (s : TraceSecond) (speed : ℕ) (run : Run) (before : Outcome) (d : Devices) → IsNow s speed run → (front : List Action) (a : Action) (rest : List Action) → s.actions ≡ front ++ a ∷ rest →
-    (h : WithinEvented o done s (In (length front)) [] [] Acting run before d) → (fault : SlotFault) → refusal (logged run.keeper.cabin.slots.seats) speed a ≡ Some fault → (after : Outcome) → after ≡ record before { refused = with_lines (record { second = run.next; fault = fault } ∷ []) before.refused } →
+    (h : WithinEvented o done s (In (length front)) [] [] Acting run before d) → (fault : SlotFault) → refusal (logged run.keeper.cabin.slots.seats) speed a ≡ Some fault → (after : Outcome) → after ≡ record before { refused = with_lines (record { second = run.next; fault = fault; begun = suc (length front) } ∷ []) before.refused } →
     EventedNow o done s h.within.within.b.run Acting (log_of after) d
 refused-now o done s speed run before d now front a rest are h fault is after told =
     let w = h.within in
     let p : Progress = w.within.b.run in
-    let line : Refused = record { second = run.next; fault = fault } in
+    let line : Refused = record { second = run.next; fault = fault; begun = suc (length front) } in
     let adds = refusal-adds d o done p w.within.b.span s (begins-now o w.origin done s (In (length front)) (values_of run before) d w.within) (In (length front)) (log_of before)
     (reaches-of p (went p.log done).before s (In (length front)) (log_of before) [] w.within.b.broken (breakdowns_of d) w.within.moment) line in
     let then_ = call-notes d d o done s p Acting Acting (log_of before) (and_refused (log_of before) line) [] h.evented adds (notes-none o d) (still-images o d) in

@@ -3,7 +3,7 @@ use Rattle.std.proofs.Common.{◌≡◌, ◌∙◌, ℕ, suc, ◌+◌, ◌-◌, 
 use Rattle.activity_codec.specs.declared.values.Slot.{Slot}
 use Rattle.activity_codec.specs.declared.values.Pick.{Pick}
 use Rattle.trace_model.specs.declared.Action.{Action}
-use Rattle.trace_model.specs.declared.Action.TheVariants.{Select}
+use Rattle.trace_model.specs.declared.Action.TheVariants.{Select, Manual}
 use Rattle.trace_model.specs.Trace.{TraceSecond}
 use Rattle.log_model.specs.declared.lines.SlotFault.{SlotFault}
 use Rattle.log_model.specs.Log.{In}
@@ -24,7 +24,7 @@ use Rattle.run_keeping.specs.Books.{HaveTime}
 use Rattle.run_keeping.specs.Keeping.{with_lines}
 use Rattle.run_within.specs.Recorded.{Values, Recorded}
 use Rattle.run_within.specs.Within.{Beginning, course_in, told_before, cut_values, passed_values}
-use Rattle.run_within.proofs.Acting.{refusal-recorded, selection-recorded}
+use Rattle.run_within.proofs.Acting.{refusal-recorded, selection-recorded, hand-recorded}
 use Rattle.run_within.proofs.Cutting.{cut-recorded, recounted}
 use Rattle.run_state.specs.declared.run.Run.{Run}
 use Rattle.run_state.specs.Power.{is_lit, cut_run}
@@ -37,7 +37,7 @@ use Rattle.acts_rule.specs.Closings.{notes_within}
 use Rattle.acts_rule.specs.Truths.{truths_within, marked}
 use Rattle.acts_rule.specs.Stays.{AllStay}
 use Rattle.acts_rule.proofs.AllStay.{all-noted, log-self, no-cut}
-use Rattle.acts_rule.proofs.NotesThen.{select-now, refuse-now}
+use Rattle.acts_rule.proofs.NotesThen.{select-now, hand-now, refuse-now}
 
 -- ---- with power, or cut
 
@@ -62,13 +62,13 @@ module _ (o : Origin) (done : List TraceSecond) (s : TraceSecond) (speed : ℕ) 
   same-odometer b is = h.odometer ∙ ap (λ (x : Beginning). odometer_after (odometer_at o.recording.unit) x.travel.before) (sym is)
 
   -- it is refused
-  pub refused : (fault : SlotFault) → refusal (logged run.keeper.cabin.slots.seats) speed a ≡ Some fault → (after : Outcome) → after ≡ record before { refused = with_lines (record { second = run.next; fault = fault } ∷ []) before.refused }
+  pub refused : (fault : SlotFault) → refusal (logged run.keeper.cabin.slots.seats) speed a ≡ Some fault → (after : Outcome) → after ≡ record before { refused = with_lines (record { second = run.next; fault = fault; begun = suc (length front) } ∷ []) before.refused }
       → RunGoesOn o done s (In (suc (length front))) [] run after d h.within.b
   refused fault is after told =
       let g = refusal-recorded d o done s (values_of run before) front a rest are h.within fault (refuses (Some fault) is) in
-      let line : Refused = record { second = s.number; fault = fault } in
+      let line : Refused = record { second = s.number; fault = fault; begun = suc (length front) } in
       subst (λ (x : Outcome). RunGoesOn o done s (In (suc (length front))) [] run x d h.within.b) (sym told)
-      (subst (λ (u : ℕ). RunGoesOn o done s (In (suc (length front))) [] run (record before { refused = with_lines (record { second = u; fault = fault } ∷ []) before.refused }) d h.within.b) now.number
+      (subst (λ (u : ℕ). RunGoesOn o done s (In (suc (length front))) [] run (record before { refused = with_lines (record { second = u; fault = fault; begun = suc (length front) } ∷ []) before.refused }) d h.within.b) now.number
       (record {
         goes = record {
           origin = h.origin;
@@ -104,6 +104,24 @@ module _ (o : Origin) (done : List TraceSecond) (s : TraceSecond) (speed : ℕ) 
         };
         began = g.began;
       })
+
+  -- an entry by hand is let pass
+  pub passed-by : (slot : Slot) (pick : Pick) (minute : ℕ) → a ≡ Manual slot pick minute → refusal (logged run.keeper.cabin.slots.seats) speed a ≡ None → RunGoesOn o done s (In (suc (length front))) [] run before d h.within.b
+  passed-by slot pick minute is allowed =
+      let here : s.actions ≡ front ++ Manual slot pick minute ∷ rest = subst (λ (x : Action). s.actions ≡ front ++ x ∷ rest) is are in
+      let g = hand-recorded d o done s (values_of run before) front slot pick minute rest here h.within (subst (λ (x : Action). refusal (course_in h.within.b done s (In (length front)) (values_of run before).log).slots s.speed x ≡ None) is (refuses None allowed)) in
+      record {
+        goes = record {
+          origin = h.origin;
+          lit = h.lit;
+          within = g.within;
+          odometer = same-odometer g.within.b g.began;
+          stay = subst (λ (b : Beginning). AllStay o (marked before.marks.items (truths_within o b.run.log done s)) s.number (log_of before) (notes_within b done s (In (suc (length front))) (log_of before)) run.keeper.memory.registration run.keeper.cabin d) (sym g.began)
+              (all-noted o (marked before.marks.items (truths_within o h.within.b.run.log done s)) s.number (log_of before) (log_of before) (notes_within h.within.b done s (In (length front)) (log_of before)) (notes_within h.within.b done s (In (suc (length front))) (log_of before)) run.keeper.memory.registration run.keeper.cabin d
+              (log-self (log_of before)) (λ none c. hand-now o done s front rest slot pick minute here (values_of run before) d h.within c) h.stay);
+        };
+        began = g.began;
+      }
 
 -- ---- the unit has failed: power is cut
 

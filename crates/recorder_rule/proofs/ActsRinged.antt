@@ -5,7 +5,7 @@ use Rattle.activity_codec.specs.declared.values.Pick.{Pick}
 use Rattle.trace_model.specs.declared.Card.{Card}
 use Rattle.trace_model.specs.declared.Card.TheVariants.{A, B}
 use Rattle.trace_model.specs.declared.Action.{Action}
-use Rattle.trace_model.specs.declared.Action.TheVariants.{Select, Tear as Pull}
+use Rattle.trace_model.specs.declared.Action.TheVariants.{Select, Manual, Tear as Pull}
 use Rattle.trace_model.specs.Trace.{TraceSecond}
 use Rattle.minute_rules.specs.Kept.{Kept as Minutes}
 use Rattle.log_model.specs.declared.lines.Break.{Break}
@@ -22,7 +22,7 @@ use Rattle.side_model.specs.Odometer.{SpanFrom}
 use Rattle.safety_model.specs.Safe.{Devices}
 use Rattle.run_rings.specs.Notes.{NotesMore, course_behind}
 use Rattle.run_rings.specs.Spans.{with_second}
-use Rattle.run_rings.proofs.Actions.{selections, pulls, refusals}
+use Rattle.run_rings.proofs.Actions.{selections, pulls, entries, refusals}
 use Rattle.run_rings.proofs.Same.{rings-left}
 use Rattle.acts_rule.proofs.NotesThen.{behind-refused}
 use Rattle.run_course.specs.Moments.{and_break, and_refused}
@@ -128,6 +128,12 @@ selected-ringed d slot pick begun speed run minutes out o done s now front rest 
     passes-by d o done s w.within.b.run.log (log_of out) (log_of out) front (Select slot pick) spans t run (record run { minutes = minutes }) rings (goes-still (log_of out) s front w.within.moment.up_to.uncut)
     (selections (log_of out) (went w.within.b.run.log done).before s front slot pick) refl (λ c. inl refl) refl refl
 
+-- or an entry by hand is let pass
+pub hand-ringed : (d : Devices) (slot : Slot) (pick : Pick) (minute begun speed : ℕ) (run : Run) (out : Outcome) → RingsAction (Manual slot pick minute) begun speed false run run out out d d
+hand-ringed d slot pick minute begun speed run out o done s now front rest are is allowed w spans t rings time =
+    passes-by d o done s w.within.b.run.log (log_of out) (log_of out) front (Manual slot pick minute) spans t run run rings (goes-still (log_of out) s front w.within.moment.up_to.uncut)
+    (entries (log_of out) (went w.within.b.run.log done).before s front slot pick minute) refl (λ c. inl refl) refl refl
+
 -- a card is pulled out
 pulled-seats : (card : Card) (second : ℕ) (run : Run) (c : Card) → (seats_of (with_cabin (torn_out card second run.keeper.cabin) run) c ≡ seats_of run c) ⊎ (seats_of (with_cabin (torn_out card second run.keeper.cabin) run) c ≡ None)
 pulled-seats A second run A = inr refl
@@ -157,14 +163,14 @@ pulled-ringed d slot begun speed run out o done s now front rest are is allowed 
 
 -- or it is refused
 pub refused-ringed : (o : Origin) (done : List TraceSecond) (s : TraceSecond) (speed : ℕ) (run : Run) (before : Outcome) (d : Devices) → IsNow s speed run → (front : List Action) (a : Action) (rest : List Action) → s.actions ≡ front ++ a ∷ rest →
-    WithinRinged o done s (length front) run before d → (fault : SlotFault) → refusal (logged run.keeper.cabin.slots.seats) speed a ≡ Some fault → (after : Outcome) → after ≡ record before { refused = with_lines (record { second = run.next; fault = fault } ∷ []) before.refused } →
+    WithinRinged o done s (length front) run before d → (fault : SlotFault) → refusal (logged run.keeper.cabin.slots.seats) speed a ≡ Some fault → (after : Outcome) → after ≡ record before { refused = with_lines (record { second = run.next; fault = fault; begun = suc (length front) } ∷ []) before.refused } →
     WithinRinged o done s (suc (length front)) run after d
 refused-ringed o done s speed run before d now front a rest are h fault is after told =
     let w = h.evented.within in
     let log : RunLog = log_of before in
     let was : Before = (went w.within.b.run.log done).before in
     let uncut = w.within.moment.up_to.uncut in
-    let line : Refused = record { second = run.next; fault = fault } in
+    let line : Refused = record { second = run.next; fault = fault; begun = suc (length front) } in
     let later : RunLog = and_refused log line in
     let goes = goes-refused log later.refused s front uncut in
     let few : length front ≤ length s.actions = w.within.moment.is in

@@ -4,7 +4,7 @@ use Rattle.activity_codec.specs.declared.values.Slot.{Slot}
 use Rattle.activity_codec.specs.declared.values.Slot.TheVariants.{Driver, CoDriver}
 use Rattle.trace_model.specs.declared.Card.{Card}
 use Rattle.trace_model.specs.declared.Action.{Action}
-use Rattle.trace_model.specs.declared.Action.TheVariants.{Select, Insert, Withdraw, Tear, Place}
+use Rattle.trace_model.specs.declared.Action.TheVariants.{Select, Insert, Withdraw, Tear, Place, Manual}
 use Rattle.trace_model.specs.declared.Item.TheVariants.{Act}
 use Rattle.run_outcome.specs.Room.{insertion_count}
 use Rattle.run_state.specs.declared.run.Run.{Run}
@@ -53,6 +53,7 @@ fine-selected (Insert slot card) failed old new so fine = tt
 fine-selected (Withdraw slot) failed old new so fine = tt
 fine-selected (Tear slot) failed old new so fine = tt
 fine-selected (Place slot ending country region) failed old new so fine = tt
+fine-selected (Manual slot pick minute) failed old new so fine = tt
 
 -- an insertion counts as one
 pub count-is : (action : Action) → insertion_count (Act action) ≡ put_count action
@@ -61,3 +62,4 @@ count-is (Insert slot card) = refl
 count-is (Withdraw slot) = refl
 count-is (Tear slot) = refl
 count-is (Place slot ending country region) = refl
+count-is (Manual slot pick minute) = refl

@@ -1,7 +1,7 @@
 -- A span that begins at a power-on.
 use Rattle.std.proofs.Common.{◌≡◌, ℕ, ◌-◌, Option, Some, None, refl, subst, arith}
 use Rattle.trace_model.specs.declared.Card.{Card}
-use Rattle.minute_model.specs.declared.Rule.TheVariants.{Original}
+use Rattle.minute_model.specs.declared.Rule.{Rule}
 use Rattle.minute_model.specs.Span.{begin}
 use Rattle.minute_rules.specs.Kept.{StandsFor, Kept as Minutes}
 use Rattle.slot_machine.specs.declared.seats.Seat.{Seat}
@@ -13,8 +13,8 @@ use Rattle.acts_rule.proofs.Kept.{owing-is}
 use Rattle.recorder_rule.specs.Accepting.{IsBare}
 
 -- none waits
-pub begun-none : (minutes : Minutes) (next : ℕ) → StandsFor minutes (begin Original next) → minutes.owing ≡ 0
-begun-none minutes next stands = let is = owing-is minutes (begin Original next) stands in omega (arith, is)
+pub begun-none : (rule : Rule) (minutes : Minutes) (next : ℕ) → StandsFor minutes (begin rule next) → minutes.owing ≡ 0
+begun-none rule minutes next stands = let is = owing-is minutes (begin rule next) stands in omega (arith, is)
 
 -- no card is accepted
 newest-none : (from : ℕ) (newest : Option ℕ) → AnswersTo from newest None → newest ≡ None

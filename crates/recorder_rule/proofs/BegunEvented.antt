@@ -7,7 +7,7 @@ use Rattle.log_model.specs.Log.{RunLog, In}
 use Rattle.log_model.specs.Course.{Told, went}
 use Rattle.event_model.specs.Events.{Seen, seen_of, seen_spans}
 use Rattle.unit_course.specs.Turn.{begins_with}
-use Rattle.unit_memory.specs.declared.format.Identity.{Identity}
+use Rattle.unit_memory.specs.declared.memory.UnitFacts.{UnitFacts}
 use Rattle.safety_model.specs.Safe.{Devices}
 use Rattle.run_course.specs.Followed.{Progress}
 use Rattle.run_course.proofs.Told.{lit-told}
@@ -60,7 +60,7 @@ module _ (o : Origin) (done : List TraceSecond) (s : TraceSecond) (run : Run) (o
           within = w;
           evented = subst (λ (l : RunLog). EventedNow o done s p Acting l d) log (subst (λ (b : Bool). EventedNow o done s p (stage_of b) p.log d) g.3 now);
           watches = record {
-            limit = ap (λ (m : Identity). m.limit) (over-memory (nat_eq (run.next % 60) 0) run) ∙ h.limit;
+            limit = ap (λ (m : UnitFacts). m.limit) (over-memory (nat_eq (run.next % 60) 0) run) ∙ h.limit;
             watched = subst (λ (x : Watch). IsWatching o (span_seen p done s) x) (sym (over-watch (nat_eq (run.next % 60) 0) run))
                 (subst (λ (xs : List Seen). IsWatching o xs run.watch) (sym (span-goes o done p s begins g.3 ∙ ap (λ (l : RunLog). span_of l done) log)) (h.watched lit));
           };

@@ -10,7 +10,7 @@ use Rattle.activity_codec.specs.declared.values.Slot.TheVariants.{Driver, CoDriv
 use Rattle.trace_model.specs.declared.Card.{Card}
 use Rattle.trace_model.specs.declared.Card.TheVariants.{A, B}
 use Rattle.trace_model.specs.declared.Action.{Action}
-use Rattle.trace_model.specs.declared.Action.TheVariants.{Select, Insert, Withdraw, Tear, Place}
+use Rattle.trace_model.specs.declared.Action.TheVariants.{Select, Insert, Withdraw, Tear, Place, Manual}
 use Rattle.trace_model.specs.Trace.{TraceSecond}
 use Rattle.tach_media.specs.Medium.{State, IsCoherent}
 use Rattle.minute_rules.specs.Kept.{Kept}
@@ -106,6 +106,7 @@ put-once c n None (Insert slot card) x =
 put-once c n None (Withdraw slot) x = not-less (times_of c x.entered) 0
 put-once c n None (Tear slot) x = not-less (times_of c x.entered) 0
 put-once c n None (Place slot ending country region) x = not-less (times_of c x.entered) 0
+put-once c n None (Manual slot pick minute) x = not-less (times_of c x.entered) 0
 
 put-acted : (c : Card) (log : RunLog) (s : TraceSecond) (n : ℕ) (a : Action) (x : Course) → times_of c (acted log s n a x).entered ≤ times_of c x.entered + length (filter (puts_in c) (a ∷ []))
 put-acted c log s n a x = by (begins (cut_in log s.number) n)

@@ -4,7 +4,7 @@ use Rattle.std.specs.List.{AllByRecursion}
 use Rattle.activity_codec.specs.declared.values.Slot.{Slot}
 use Rattle.trace_model.specs.declared.Card.{Card}
 use Rattle.trace_model.specs.declared.Action.{Action}
-use Rattle.trace_model.specs.declared.Action.TheVariants.{Select, Insert, Withdraw, Tear, Place}
+use Rattle.trace_model.specs.declared.Action.TheVariants.{Select, Insert, Withdraw, Tear, Place, Manual}
 use Rattle.log_model.specs.declared.lines.Break.{Break}
 use Rattle.log_model.specs.Causes.{second_of}
 use Rattle.slot_machine.specs.Calls.{seat_in, card_in}
@@ -102,3 +102,4 @@ done-of (Tear slot) at speed failed old new before after is =
     of-lines at.second before.breaks after.breaks.items (pulled_breaks card slot at) (ap (λ (o : Outcome). o.breaks.items) is.2) (pulled-here card slot at)
 done-of (Place slot ending country region) at speed failed old new before after is =
     placed-of (card_in (seat_in old.keeper.cabin.slots.seats slot)) slot at old new before.breaks after.breaks is.0 is.1
+done-of (Manual slot pick minute) at speed failed old new before after is = of-none at.second before.breaks.items after.breaks.items (ap (λ (o : Outcome). o.breaks.items) is.2)

@@ -37,7 +37,7 @@ use Rattle.unit_rule.specs.OtherRows.{valid_number}
 use Rattle.unit_rule.proofs.OtherRows.{valid-number, keeps-rows}
 use Rattle.unit_rule.proofs.Travelling.{travelled-opened}
 use Rattle.unit_journal.proofs.Beside.{passes_beside}
-use Rattle.unit_memory.specs.declared.format.Identity.{Identity}
+use Rattle.unit_memory.specs.declared.memory.UnitFacts.{UnitFacts}
 use Rattle.safety_model.specs.Recording.{Recording, card_image, brought, history_of, lost_of, start_of}
 use Rattle.safety_model.specs.Unit.{UnitSafe}
 use Rattle.safety_model.specs.Safe.{Devices, card_of, breakdowns_of}
@@ -489,12 +489,12 @@ module _ (x a b : List ℕ) (start : ℕ) (began now : Devices) (opened : Opened
           (subst (λ (n : ℕ). Evented first-o [] empty_log 0 n r.supply now) (sym next)
           (subst (λ (p : Supply). Evented first-o [] empty_log 0 start p now) (sym (due-supply r.supply (subst (λ (p : Power). Supplies p r.supply) due r.powers)))
           (nothing-noted now first-o only_unit (passes_beside x ready.decodes).overs))));
-      limit = let is = ready.memory.limit in let same : run.keeper.memory.limit ≡ opened.unit.memory.limit = ap (λ (i : Identity). i.limit) memory in omega (arith, is, same);
+      limit = let is = ready.memory.limit in let same : run.keeper.memory.limit ≡ opened.unit.memory.limit = ap (λ (i : UnitFacts). i.limit) memory in omega (arith, is, same);
       watched = λ lit. absurd (let bad : Due ≡ Lit = sym due ∙ lit in cc);
     }
       where
         r : RunRecorded first-o [] run out now
-        r = starts-recorded run out due next begun unfound slots same bare breaks refused finds marks (ap (λ (i : Identity). i.registration.0) memory ∙ ready.memory.registration)
+        r = starts-recorded run out due next begun unfound slots same bare breaks refused finds marks (ap (λ (i : UnitFacts). i.registration.0) memory ∙ ready.memory.registration)
 
         log : log_of out ≡ empty_log
         log = ap (λ bs. record { breaks = bs; refused = out.refused.items; finds = out.finds.items }) breaks ∙ ap (λ rs. record { breaks = []; refused = rs; finds = out.finds.items }) refused ∙ ap (λ fs. record { breaks = []; refused = []; finds = fs }) finds
@@ -526,7 +526,7 @@ module _ (x a b : List ℕ) (start : ℕ) (began now : Devices) (opened : Opened
         run.noted ≡ 0 → RunCarded first-o [] run out now
     starts-carded run out due next begun unfound memory slots same bare breaks refused finds marks noted = record {
       ringed = starts-ringed run out due next begun unfound memory slots same bare breaks refused finds marks noted;
-      vehicle = ap (λ (bs : List ℕ). record { 0 = bs }) (ap (λ (i : Identity). i.registration.0) memory ∙ ready.memory.registration);
+      vehicle = ap (λ (bs : List ℕ). record { 0 = bs }) (ap (λ (i : UnitFacts). i.registration.0) memory ∙ ready.memory.registration);
       cards = λ c valid. record {
         uses = [];
         exact = λ none. ap (uses_in first-o c) (sym (no-notes (log_of out)));

@@ -9,8 +9,13 @@ use Rattle.history_model.specs.Book.{all, IsMark}
 use Rattle.joint_rule.specs.Views.{unit_view}
 use Rattle.unit_model.specs.Image.{last_kept, odometer_at}
 use Rattle.unit_model.specs.Decoding.{Check, checks, first_failing, first_bad_place, Decodes}
+use Rattle.unit_model.specs.Versions.{rule_by, rule_of}
+use Rattle.unit_memory.specs.declared.memory.UnitFacts.{UnitFacts}
+use Rattle.unit_memory.specs.Identified.{AreFacts}
+use Rattle.minute_model.specs.declared.Rule.{Rule}
 use Rattle.unit_course.specs.Followed.{Supply, MayPower}
 use Rattle.unit_course.specs.Followed.{Lit as IsLit, Due as IsDue, Lost as IsLost}
+use Rattle.safety_model.specs.Unit.{issued_bytes}
 use Rattle.unit_rule.proofs.Moves.{shown-last}
 use Rattle.unit_rule.proofs.Travelling.{travelled-read}
 use Rattle.safety_model.specs.Safe.{Devices, breakdowns_of}
@@ -50,6 +55,14 @@ held-of : (o : Origin) (done : List TraceSecond) (supply : Supply) (v : Values) 
 held-of o done (IsLit span) v w e may off = absurd may
 held-of o done IsDue v w e may off = off
 held-of o done IsLost v w e may off = off
+
+-- ---- the rule by which it goes on
+
+-- what is known of a unit tells its rule
+pub rule-known : (image : Option (List ℕ)) (facts : UnitFacts) (rule : Rule) → IfSome image (AreFacts facts) → rule ≡ rule_by facts.rule_byte → IfSome image (λ x. rule ≡ rule_of x)
+unfolding rule_of
+rule-known (Some x) facts rule known is = is ∙ ap rule_by known.rule_byte
+rule-known None facts rule known is = tt
 
 -- ---- an image that decodes has no bad place
 
@@ -94,6 +107,10 @@ module _ (o : Origin) (done : List TraceSecond) (supply : Supply) (v : Values) (
   -- each image that the unit may have decodes
   pub unit-decodes : IsCoherent d.unit → (x : List ℕ) → d.unit.may_leave x → Decodes x
   unit-decodes whole x there = off.powerless.carried.unit.decodes x (whole.counts_now o.found.unit.began x began there)
+
+  -- and has what the unit was issued with
+  pub unit-issued : IsCoherent d.unit → (x : List ℕ) → d.unit.may_leave x → issued_bytes x ≡ o.found.unit.issued
+  unit-issued whole x there = off.powerless.carried.unit.issued x (whole.counts_now o.found.unit.began x began there)
 
   -- and its last-kept minute is before that of the next second
   pub kept-early : (x : List ℕ) → d.unit.may_leave x → last_kept x < v.next / 60

@@ -11,7 +11,8 @@ use Rattle.trace_model.specs.Trace.{TraceSecond}
 use Rattle.tach_media.specs.Medium.{State, IsCoherent, LeavesOnly, Unchanged, HasCause}
 use Rattle.tach_media.proofs.Runs.{starts}
 use Rattle.minute_model.specs.declared.Rule.{Rule}
-use Rattle.minute_model.specs.declared.Rule.TheVariants.{Original}
+use Rattle.unit_model.specs.Versions.{rule_of as unit_rule}
+use Rattle.safety_model.proofs.Issued.{issued-rule}
 use Rattle.minute_rules.specs.Kept.{StandsFor}
 use Rattle.log_model.specs.declared.lines.Find.{Find}
 use Rattle.log_model.specs.declared.lines.Mark.{Mark}
@@ -79,7 +80,7 @@ use Rattle.acts_rule.proofs.NoteRecorded.{same-course}
 use Rattle.acts_rule.proofs.Stored.{stored-back}
 use Rattle.recorder_rule.specs.Accepting.{IsBare, IsAnew}
 use Rattle.recorder_rule.specs.Judged.{moment_in, RunNext, RunBehind, JudgedTo, JudgesAnew}
-use Rattle.recorder_rule.proofs.Read.{unit-tells, image-of, at-image}
+use Rattle.recorder_rule.proofs.Read.{unit-tells, unit-issued, image-of, at-image}
 use Rattle.recorder_rule.proofs.StoredCalls.{mend-stays}
 use Rattle.side_model.specs.Noted.{Note}
 use Rattle.run_ringed.specs.Ringed.{notes_in}
@@ -217,12 +218,23 @@ module _ (o : Origin) (origin : IsOrigin o) (done : List TraceSecond) (s : Trace
   as-read P = subst P kept-is
 
   -- it was mended, and a span has begun
-  module _ (well : failed ≡ false) (journal : Notes) (agrees : IfSome W.image (Agrees journal)) (new : Run) (begun : IsSpanBegun old new journal) (after : IsCoherent W) (stay : AllStay o (marked v.marks (truths_of o v.log done)) 0 v.log (notes_in v.log done) old.keeper.memory.registration v.cabin (devices U X Y)) where
+  module _ (well : failed ≡ false) (journal : Notes) (agrees : IfSome W.image (Agrees journal)) (rule : Rule) (told : IfSome U.image (λ x. rule ≡ unit_rule x)) (new : Run) (begun : IsSpanBegun rule old new journal) (after : IsCoherent W) (stay : AllStay o (marked v.marks (truths_of o v.log done)) 0 v.log (notes_in v.log done) old.keeper.memory.registration v.cabin (devices U X Y)) where
     next : old.next ≡ v.next
     next = ap (λ (x : Values). x.next) values
 
+    off : IsOff o done v (carried v r.due r.book r.standing r.brought) d
+    off = off-of o done supply v (carried v r.due r.book r.standing r.brought) d may r.held
+
+    -- the unit's rule is that with which the run began
+    rule-is : rule ≡ rule_of o
+    rule-is =
+        let x = has-image.0 in
+        at-image (λ (y : List ℕ). rule ≡ unit_rule y) U.image x has-image.1 told
+        ∙ issued-rule x o.recording.unit (unit-issued o done supply v d r may whole x (whole.is_left x has-image.1) ∙ ap (λ (u : Started). u.issued) origin.unit)
+        ∙ sym origin.rule
+
     span : StandsFor new.minutes (span_at (rule_of o) v.next [])
-    span = subst (λ (rule : Rule). StandsFor new.minutes (span_at rule v.next [])) (sym origin.rule) (subst (λ (n : ℕ). StandsFor new.minutes (span_at Original n [])) next begun.minutes)
+    span = subst (λ (q : Rule). StandsFor new.minutes (span_at q v.next [])) rule-is (subst (λ (n : ℕ). StandsFor new.minutes (span_at rule n [])) next begun.minutes)
 
     back : IsBack o done supply v d r (last_kept has-image.0) new.minutes e
     back = is-back o done supply v d r may U whole (starts U Unchanged) whole wholes works has-image.0 has-image.1 refl first j W failed mends tells cause holds taken_a taken_b well new.minutes span
@@ -254,9 +266,6 @@ module _ (o : Origin) (origin : IsOrigin o) (done : List TraceSecond) (s : Trace
         became
         ∙ ap (λ (x : Values). record x { minutes = new.minutes; odometer = new.keeper.odometer }) (values ∙ ap (λ (k : ℕ). read_values k v) (sym kept-is))
         ∙ ap (λ (n : ℕ). counted_from n (begun_values (last_kept has-image.0) new.minutes v)) odometer
-
-    off : IsOff o done v (carried v r.due r.book r.standing r.brought) d
-    off = off-of o done supply v (carried v r.due r.book r.standing r.brought) d may r.held
 
     kept-cabin : v.cabin ≡ new.keeper.cabin
     kept-cabin = sym (ap (λ (x : Values). x.cabin) values) ∙ sym cabin

@@ -8,7 +8,7 @@ use Rattle.log_model.specs.Course.{Before, Went, has_power, went}
 use Rattle.unit_course.specs.Followed.{Supply}
 use Rattle.unit_course.specs.Followed.{Lit as IsLit, Due as IsDue, Lost as IsLost}
 use Rattle.unit_course.specs.Lines.{cut_at}
-use Rattle.unit_memory.specs.declared.format.Identity.{Identity}
+use Rattle.unit_memory.specs.declared.memory.UnitFacts.{UnitFacts}
 use Rattle.safety_model.specs.Safe.{Devices}
 use Rattle.run_course.specs.Moments.{and_break}
 use Rattle.run_course.specs.Followed.{Progress, Followed, IsSupplied}
@@ -160,7 +160,7 @@ module _ (o : Origin) (done : List TraceSecond) (old : Run) (before : Outcome) (
   off-carded sits zero some breaks told new is = absurd (omega (arith, some))
   off-carded sits (suc n) some breaks told new is = record {
     ringed = off-ringed o done old before d h.ringed sits (suc n) some breaks told new is;
-    vehicle = ap (λ (x : Run). x.keeper.memory.registration) is ∙ ap (λ (m : Identity). m.registration) (off-memory (is_lit old.power) old) ∙ h.vehicle;
+    vehicle = ap (λ (x : Run). x.keeper.memory.registration) is ∙ ap (λ (m : UnitFacts). m.registration) (off-memory (is_lit old.power) old) ∙ h.vehicle;
     cards = subst (λ (l : Listed Break). CardsBehind o (done ++ dark (suc n) old.next) (log_of (record before { breaks = l })) d) (sym told) (by old.power refl r.supply refl r.powers);
   }
     where
@@ -208,6 +208,6 @@ turned-carded o done s n speed begun old new before after d e many some h turned
     let at = at-turn o done s begun old before d many some (is_lit old.power) refl h in
     record {
       ringed = ringed at.0;
-      vehicle = ap (λ (m : Identity). m.registration) (turn-memory (is_lit old.power) n speed begun old new before after turned) ∙ at.1;
+      vehicle = ap (λ (m : UnitFacts). m.registration) (turn-memory (is_lit old.power) n speed begun old new before after turned) ∙ at.1;
       cards = cards at.2;
     }

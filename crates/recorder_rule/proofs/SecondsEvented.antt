@@ -16,7 +16,7 @@ use Rattle.run_recorded.specs.Origin.{Origin}
 use Rattle.run_within.specs.Recorded.{progress}
 use Rattle.run_evented.specs.Evented.{Evented}
 use Rattle.run_evented.proofs.Unlit.{dark-seconds, off-line, off-line_cuts}
-use Rattle.unit_memory.specs.declared.format.Identity.{Identity}
+use Rattle.unit_memory.specs.declared.memory.UnitFacts.{UnitFacts}
 use Rattle.run_state.specs.declared.run.Run.{Run}
 use Rattle.run_state.specs.declared.run.Power.{Power}
 use Rattle.run_state.specs.declared.run.Power.TheVariants.{Lit, Due, Lost}
@@ -87,7 +87,7 @@ module _ (o : Origin) (done : List TraceSecond) (old : Run) (before : Outcome) (
             (subst (λ (k : ℕ). Evented o (done ++ dark (suc n) old.next) (log_of (record before { breaks = breaks })) old.unfound k IsDue d) (sym next)
             (subst (λ (l : Listed Break). Evented o (done ++ dark (suc n) old.next) (log_of (record before { breaks = l })) old.unfound (old.next + suc n) IsDue d) (sym told)
             (by old.power refl r.supply refl r.powers))));
-        limit = ap (λ (x : Run). x.keeper.memory.limit) is ∙ ap (λ (m : Identity). m.limit) (dark-limit (is_lit old.power) old) ∙ h.limit;
+        limit = ap (λ (x : Run). x.keeper.memory.limit) is ∙ ap (λ (m : UnitFacts). m.limit) (dark-limit (is_lit old.power) old) ∙ h.limit;
         watched = λ lit. absurd (let bad : Due ≡ Lit = sym power ∙ lit in cc);
       }
     where

@@ -1,5 +1,5 @@
 -- What seconds of a run leave of the record: without power, of an `off` line, and one after another.
-use Rattle.std.proofs.Common.{◌≡◌, ◌∙◌, ℕ, zero, suc, ◌+◌, ◌-◌, ◌%◌, ◌<◌, ◌≤◌, Bool, true, false, List, [], ◌∷◌, ◌++◌, map, refl, ap, sym, subst, arith, append_assoc, ⊎_elim, Some, None, is_some}
+use Rattle.std.proofs.Common.{◌≡◌, ◌∙◌, ℕ, zero, suc, ◌+◌, ◌-◌, ◌%◌, ◌<◌, ◌≤◌, Bool, true, false, List, [], ◌∷◌, ◌++◌, length, map, min, refl, ap, sym, subst, arith, append_assoc, ⊎_elim, Some, None, is_some}
 use Rattle.std.specs.Prelude.{◌==◌, Result, Ok}
 use Rattle.std.proofs.lemmas.List.{append-nil}
 use Rattle.std.proofs.lemmas.Bool.Decides.{nat_tests}
@@ -19,7 +19,6 @@ use Rattle.run_outcome.specs.declared.outcome.Outcome.{Outcome}
 use Rattle.run_outcome.specs.Lines.{Listed, cut_at}
 use Rattle.run_keeping.specs.Keeping.{with_lines}
 use Rattle.run_recorded.specs.Origin.{Origin}
-use Rattle.run_recorded.specs.Seconds.{fault_of, refused_for}
 use Rattle.run_within.specs.Recorded.{Recorded}
 use Rattle.run_within.specs.Going.{off_values}
 use Rattle.run_within.proofs.Going.{dark-recorded, off-recorded, off-cut-recorded}
@@ -27,15 +26,18 @@ use Rattle.run_state.specs.declared.run.Run.{Run}
 use Rattle.run_state.specs.declared.run.Power.{Power}
 use Rattle.run_state.specs.declared.run.Power.TheVariants.{Lit, Due, Lost}
 use Rattle.run_state.specs.Power.{is_lit, has_power, darkened, off_run, off_cut, passed}
+use Rattle.run_state.specs.Going.{largest_number}
 use Rattle.acts_rule.specs.Turning.{IsTurnOf}
 use Rattle.acts_rule.specs.Recording.{log_of, values_of, Supplies, RunRecorded}
-use Rattle.recorder_rule.specs.Acting.{IsItemActed, AreActed}
-use Rattle.recorder_rule.specs.Recorded.{Inside, Between, action_of, actions_in, HasBegunBy, HasRunBy}
+use Rattle.recorder_rule.specs.Acting.{AreActed}
+use Rattle.recorder_rule.specs.Recorded.{Inside, Between, actions_in, HasBegunBy, HasRunBy}
+use Rattle.recorder_rule.proofs.Waiting.{most-actions}
 use Rattle.trace_model.specs.declared.Card.{Card}
 use Rattle.trace_model.specs.declared.Card.TheVariants.{A, B}
 use Rattle.run_crew.specs.Cards.{session_of}
 use Rattle.run_crew.specs.Cabin.{Stands, with_power_lost}
-use Rattle.log_model.specs.Course.{Told, went}
+use Rattle.log_model.specs.Causes.{refusals_at, refusal_told}
+use Rattle.log_model.specs.Course.{Told, went, without_power}
 use Rattle.side_model.specs.Noted.{Note}
 use Rattle.run_recorded.specs.Origin.{rule_of, start_at, first_of}
 use Rattle.run_ringed.specs.Ringed.{notes_in}
@@ -52,13 +54,17 @@ use Rattle.recorder_rule.proofs.OffRings.{off-cut-notes, off-cut-true}
 
 -- ---- a second without power
 
--- its actions are refused for that
-abbrev pub refused_dark : (second : ℕ) → List Action → List Refused
-refused_dark second actions = map (λ a. record { second = second; fault = NoPower }) actions
+-- its actions are refused for that, the first of these with so many before it
+abbrev pub refused_from : (second number : ℕ) → List Action → List Refused
+refused_from second number [] = []
+refused_from second number (a ∷ actions) = record { second = second; fault = NoPower; begun = number + 1 } ∷ refused_from second (number + 1) actions
 
-faults-dark : (second : ℕ) (actions : List Action) → map fault_of (refused_dark second actions) ≡ refused_for second actions
-faults-dark second [] = refl
-faults-dark second (a ∷ actions) = ap (λ (l : List (ℕ × SlotFault)). (second, NoPower) ∷ l) (faults-dark second actions)
+abbrev pub refused_dark : (second : ℕ) → List Action → List Refused
+refused_dark second actions = refused_from second 0 actions
+
+faults-from : (second number : ℕ) (actions : List Action) → map refusal_told (refused_from second number actions) ≡ refusals_at second (without_power number actions)
+faults-from second number [] = refl
+faults-from second number (a ∷ actions) = ap (λ (l : List (ℕ × ℕ × SlotFault)). (second, number + 1, NoPower) ∷ l) (faults-from second (number + 1) actions)
 
 -- an outcome in which these lines more tell of refusals
 abbrev and_refused : List Refused → Outcome → Outcome
@@ -70,25 +76,31 @@ none-refused out = ap (λ (l : List Refused). record out { refused = record { it
 then-refused : (xs ys : List Refused) (out : Outcome) → and_refused ys (and_refused xs out) ≡ and_refused (xs ++ ys) out
 then-refused xs ys out = ap (λ (l : List Refused). record out { refused = record { items = l; room = out.refused.room } }) (append_assoc out.refused.items xs ys)
 
-one-dark : (lit : Bool) (begun speed : ℕ) (item : Item) (a b : Run) (o p : Outcome) → IsItemActed item false lit begun speed a b o p → (b ≡ a) × (p ≡ and_refused (refused_dark a.next (action_of item)) o)
-one-dark lit begun speed (Driven seconds driven_) a b o p so = (so.0, so.1 ∙ none-refused o)
-one-dark lit begun speed (Off seconds) a b o p so = (so.0, so.1 ∙ none-refused o)
-one-dark lit begun speed (Act action) a b o p so = so
+-- the line of one of them
+abbrev dark_line : (second begun : ℕ) → List Refused
+dark_line second begun = record { second = second; fault = NoPower; begun = begun } ∷ []
 
-refused-dark_append : (second : ℕ) (xs ys : List Action) → refused_dark second (xs ++ ys) ≡ refused_dark second xs ++ refused_dark second ys
-refused-dark_append second [] ys = refl
-refused-dark_append second (x ∷ xs) ys = ap (λ (l : List Refused). record { second = second; fault = NoPower } ∷ l) (refused-dark_append second xs ys)
+few-begun : (number : ℕ) → number + 1 ≤ largest_number → min (number + 1) largest_number ≡ number + 1
+few-begun number few = omega (arith, few)
 
-pub acted-dark : (speed number : ℕ) (items : List Item) (a c : Run) (o q : Outcome) → AreActed false speed number items a c o q → (c ≡ a) × (q ≡ record o { refused = with_lines (refused_dark a.next (actions_in items)) o.refused })
-acted-dark speed number [] a c o q so = (so.0, so.1 ∙ none-refused o)
-acted-dark speed number (item ∷ items) a c o q so =
-    let one = one-dark _ _ speed item a so.0 o so.1 so.2 in
-    let rest = acted-dark speed (number + 1) items so.0 c so.1 q so.3 in (
-      rest.0 ∙ one.0,
-      rest.1 ∙ ap (λ (p : Outcome). and_refused (refused_dark so.0.next (actions_in items)) p) one.1
-          ∙ ap (λ (r : Run). and_refused (refused_dark r.next (actions_in items)) (and_refused (refused_dark a.next (action_of item)) o)) one.0
-          ∙ then-refused (refused_dark a.next (action_of item)) (refused_dark a.next (actions_in items)) o
-          ∙ ap (λ (l : List Refused). and_refused l o) (sym (refused-dark_append a.next (action_of item) (actions_in items))),
+-- where all of the items are actions, so few that a line can tell their number
+pub acted-dark : (speed number : ℕ) (items : List Item) (a c : Run) (o q : Outcome) → length items ≤ length (actions_in items) → number + length items ≤ largest_number → AreActed false speed number items a c o q →
+    (c ≡ a) × (q ≡ record o { refused = with_lines (refused_from a.next number (actions_in items)) o.refused })
+acted-dark speed number [] a c o q all few so = (so.0, so.1 ∙ none-refused o)
+acted-dark speed number (Driven seconds driven_ ∷ items) a c o q all few so =
+    let none : suc (length items) ≤ length (actions_in items) = all in absurd (omega (arith, none, most-actions items))
+acted-dark speed number (Off seconds ∷ items) a c o q all few so =
+    let none : suc (length items) ≤ length (actions_in items) = all in absurd (omega (arith, none, most-actions items))
+acted-dark speed number (Act action ∷ items) a c o q all few so =
+    let all_rest : suc (length items) ≤ suc (length (actions_in items)) = all in
+    let few_rest : number + suc (length items) ≤ largest_number = few in
+    let behind : List Refused = refused_from a.next (number + 1) (actions_in items) in
+    let rest = acted-dark speed (number + 1) items so.0 c so.1 q (omega (arith, all_rest)) (omega (arith, few_rest)) so.3 in (
+      rest.0 ∙ so.2.0,
+      rest.1 ∙ ap (λ (p : Outcome). and_refused (refused_from so.0.next (number + 1) (actions_in items)) p) so.2.1
+          ∙ ap (λ (r : Run). and_refused (refused_from r.next (number + 1) (actions_in items)) (and_refused (dark_line a.next (min (number + 1) largest_number)) o)) so.2.0
+          ∙ ap (λ (n : ℕ). and_refused behind (and_refused (dark_line a.next n) o)) (few-begun number (omega (arith, few_rest)))
+          ∙ then-refused (dark_line a.next (number + 1)) behind o,
     )
 
 -- and then it passes
@@ -124,7 +136,7 @@ module _ (o : Origin) (done : List TraceSecond) (old : Run) (before : Outcome) (
       let lost = lost-away old.power old.next away in
       let supply = lost-supply old.power h.supply lost.0 h.powers in
       let was = subst (λ (s : Supply). Recorded o done s (values_of old before) d) supply h.recorded in
-      let on = dark-recorded d o done (values_of old before) was n speed actions (refused_dark old.next actions) begun lost.1 fits (faults-dark old.next actions) in
+      let on = dark-recorded d o done (values_of old before) was n speed actions (refused_dark old.next actions) begun lost.1 fits (faults-from old.next 0 actions) in
       subst (λ (r : Run). RunRecorded o (done ++ driven (suc n) old.next speed actions) r after d) (sym is)
       (subst (λ (p : Outcome). RunRecorded o (done ++ driven (suc n) old.next speed actions) (passed (suc n) begun old) p d) (sym told)
       (record {

@@ -3,7 +3,7 @@ use Rattle.std.proofs.Common.{◌≡◌, ◌∙◌, ◌⊎◌, inl, inr, ⊎_eli
 use Rattle.activity_codec.specs.declared.values.Slot.{Slot}
 use Rattle.trace_model.specs.declared.Card.{Card}
 use Rattle.trace_model.specs.declared.Action.{Action}
-use Rattle.trace_model.specs.declared.Action.TheVariants.{Select, Insert, Withdraw, Tear, Place}
+use Rattle.trace_model.specs.declared.Action.TheVariants.{Select, Insert, Withdraw, Tear, Place, Manual}
 use Rattle.minute_model.specs.declared.Minute.{Minute}
 use Rattle.slot_machine.specs.Calls.{seat_in, card_in}
 use Rattle.log_model.specs.declared.lines.Break.{Break}
@@ -93,3 +93,4 @@ done-watched (Tear slot) at speed failed old new before after is =
     watched-then old pulled new (pulled-watched (card_in (seat_in old.keeper.cabin.slots.seats slot)) at.second old) (watched-is pulled new is.1)
 done-watched (Place slot ending country region) at speed failed old new before after is =
     placed-watched (card_in (seat_in old.keeper.cabin.slots.seats slot)) slot at old new before.breaks after.breaks is.0 is.1
+done-watched (Manual slot pick minute) at speed failed old new before after is = watched-is old new is.1

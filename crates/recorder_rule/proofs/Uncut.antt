@@ -3,7 +3,7 @@ use Rattle.std.proofs.Common.{◌≡◌, ◌∙◌, ◌⊎◌, ⊎_elim, ℕ, Bo
 use Rattle.activity_codec.specs.declared.values.Slot.{Slot}
 use Rattle.trace_model.specs.declared.Card.{Card}
 use Rattle.trace_model.specs.declared.Action.{Action}
-use Rattle.trace_model.specs.declared.Action.TheVariants.{Select, Insert, Withdraw, Tear, Place}
+use Rattle.trace_model.specs.declared.Action.TheVariants.{Select, Insert, Withdraw, Tear, Place, Manual}
 use Rattle.slot_machine.specs.Calls.{seat_in, card_in}
 use Rattle.run_outcome.specs.Broken.{failed_cuts}
 use Rattle.run_outcome.specs.declared.outcome.Outcome.{Outcome}
@@ -54,6 +54,7 @@ done-uncut (Tear slot) at speed failed old new before after is =
     ap (λ (o : Outcome). failed_cuts o.breaks.items) is.2 ∙ more-uncut before.breaks.items (pulled_breaks card slot at) (pulled-uncut card slot at)
 done-uncut (Place slot ending country region) at speed failed old new before after is =
     placed-uncut (card_in (seat_in old.keeper.cabin.slots.seats slot)) slot at old new before.breaks after.breaks is.0 is.1
+done-uncut (Manual slot pick minute) at speed failed old new before after is = ap (λ (o : Outcome). failed_cuts o.breaks.items) is.2
 
 -- ---- an `off` line
 

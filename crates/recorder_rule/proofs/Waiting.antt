@@ -35,7 +35,7 @@ one-action (Run seconds speed) = omega arith
 one-action (Off seconds) = omega arith
 one-action (Act action) = omega arith
 
-most-actions : (items : List Item) → length (actions_in items) ≤ length items
+pub most-actions : (items : List Item) → length (actions_in items) ≤ length items
 most-actions [] = omega arith
 most-actions (item ∷ items) = omega (arith, one-action item, most-actions items, length-append (action_of item) (actions_in items))
 
@@ -43,6 +43,12 @@ most-taken : (n : ℕ) (items : List Item) → length (take n items) ≤ n
 most-taken zero items = omega arith
 most-taken (suc n) [] = omega arith
 most-taken (suc n) (item ∷ items) = omega (arith, most-taken n items)
+
+-- all of these are actions where they have so many
+pub all-actions : (from to : ℕ) (items : List Item) → length (actions_in (between from to items)) ≡ to - from →
+    (length (between from to items) ≤ length (actions_in (between from to items))) × (length (between from to items) ≤ to - from)
+all-actions from to items many =
+    let most : length (between from to items) ≤ to - from = most-taken (to - from) (drop from items) in (omega (arith, most, many), most)
 
 -- so there are no more than items, and the number of them with one item more
 pub few-actions : (items : List Item) (from i : ℕ) (item : Item) → from ≤ i → slice_get items i ≡ Some item →

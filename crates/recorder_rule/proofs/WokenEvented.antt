@@ -5,6 +5,7 @@ use Rattle.activity_codec.specs.declared.values.Slot.{Slot}
 use Rattle.activity_codec.specs.declared.values.Slot.TheVariants.{Driver, CoDriver}
 use Rattle.trace_model.specs.declared.Card.{Card}
 use Rattle.trace_model.specs.Trace.{TraceSecond}
+use Rattle.minute_model.specs.declared.Rule.{Rule}
 use Rattle.log_model.specs.declared.lines.Break.{Break}
 use Rattle.log_model.specs.Log.{RunLog, In}
 use Rattle.log_model.specs.Slots.{is_accepted}
@@ -271,8 +272,8 @@ module _ (o : Origin) (origin : IsOrigin o) (done : List TraceSecond) (s : Trace
       (listed crew ∙ ap (λ (spans : List (List Seen)). interruption_of k spans s.number crew) (q-none o done s supply v d e r may number given k evented quiet left followed none)) notes here-now
 
 -- the limit is that of the unit, and the span that began is watched by it
-pub begun-watched : (o : Origin) (old mid new : Run) (journal : Notes) → IsSpanBegun old mid journal → old.keeper.memory.limit ≡ limit_in o → new.watch ≡ mid.watch → IsWatching o [] new.watch
-begun-watched o old mid new journal begun limit same =
+pub begun-watched : (o : Origin) (rule : Rule) (old mid new : Run) (journal : Notes) → IsSpanBegun rule old mid journal → old.keeper.memory.limit ≡ limit_in o → new.watch ≡ mid.watch → IsWatching o [] new.watch
+begun-watched o rule old mid new journal begun limit same =
     subst (IsWatching o []) (sym same) (record { stands = begun.watch; limit = begun.limit.0 ∙ limit; low = tt; valid = tt })
 
 -- behind the note of the interruption

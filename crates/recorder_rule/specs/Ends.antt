@@ -2,10 +2,10 @@
 use Rattle.std.specs.Prelude.{◌≢◌, ◌<◌, ◌/◌, ℕ, List, [], All}
 use Rattle.trace_model.specs.declared.Item.{Item}
 use Rattle.trace_model.specs.Trace.{TraceSecond, seconds_of}
-use Rattle.minute_model.specs.declared.Rule.TheVariants.{Original}
 use Rattle.log_model.specs.Log.{RunLog}
 use Rattle.unit_model.specs.Decoding.{Decodes}
 use Rattle.unit_model.specs.Image.{last_kept}
+use Rattle.unit_model.specs.Versions.{rule_of}
 use Rattle.card_image.specs.Own.{own_number, IsOwnValid}
 use Rattle.safety_model.specs.Recording.{Recording}
 use Rattle.safety_model.specs.Safe.{Devices, breakdowns_of}
@@ -36,9 +36,9 @@ pub record BeginAs (unit card_a card_b : List ℕ) (began : Devices) : Type 0 wh
   pub bytes_a : All (λ n. n < 256) card_a
   pub bytes_b : All (λ n. n < 256) card_b
 
--- a run on devices with these images, with these seconds and this log
+-- a run on devices with these images, by the rule of the unit's, with these seconds and this log
 abbrev pub recorded_with : (unit card_a card_b : List ℕ) → List TraceSecond → RunLog → Recording
-recorded_with unit card_a card_b trace log = record { rule = Original; unit = unit; card_a = card_a; card_b = card_b; trace = trace; log = log }
+recorded_with unit card_a card_b trace log = record { rule = rule_of unit; unit = unit; card_a = card_a; card_b = card_b; trace = trace; log = log }
 
 -- the run of a trace, as its outcome tells it
 abbrev pub recording_of : (unit card_a card_b : List ℕ) → (start : ℕ) → List Item → Outcome → Recording

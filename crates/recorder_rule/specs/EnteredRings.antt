@@ -3,7 +3,7 @@ use Rattle.std.specs.Prelude.{◌≡◌, ◌⊎◌, ℕ, Bool, true, false, Opti
 use Rattle.activity_codec.specs.declared.values.Slot.{Slot}
 use Rattle.trace_model.specs.declared.Card.{Card}
 use Rattle.trace_model.specs.declared.Action.{Action}
-use Rattle.trace_model.specs.declared.Action.TheVariants.{Select, Insert, Withdraw, Tear, Place}
+use Rattle.trace_model.specs.declared.Action.TheVariants.{Select, Insert, Withdraw, Tear, Place, Manual}
 use Rattle.tacho_types.specs.declared.places.PlaceEntry.{PlaceEntry}
 use Rattle.slot_machine.specs.Calls.{seat_in, card_in}
 use Rattle.run_crew.specs.Cabin.{number_of_seat}
@@ -82,3 +82,4 @@ RingsDone (Withdraw slot) at speed failed old new before after unit unit_after =
 RingsDone (Tear slot) at speed failed old new before after unit unit_after = LeavesRings unit unit_after
 RingsDone (Place slot ending country region) at speed failed old new before after unit unit_after =
     (entry : PlaceEntry) × IsPlaceNow ending country region old entry × WritesPlace (number_of_seat old.keeper.cabin.cards (seat_in old.keeper.cabin.slots.seats slot)) entry failed unit unit_after
+RingsDone (Manual slot pick minute) at speed failed old new before after unit unit_after = LeavesRings unit unit_after

@@ -7,7 +7,7 @@ use Rattle.slot_machine.specs.Calls.{seat_in, card_in}
 use Rattle.unit_journal.specs.declared.notes.Notes.{Notes}
 use Rattle.trace_model.specs.declared.Card.{Card}
 use Rattle.trace_model.specs.declared.Action.{Action}
-use Rattle.trace_model.specs.declared.Action.TheVariants.{Select, Insert, Withdraw, Tear, Place}
+use Rattle.trace_model.specs.declared.Action.TheVariants.{Select, Insert, Withdraw, Tear, Place, Manual}
 use Rattle.unit_notes.specs.declared.unit_event.UnitEvent.{UnitEvent}
 use Rattle.safety_model.specs.Safe.{Devices}
 use Rattle.run_keeping.specs.declared.keeper.Moment.{Moment}
@@ -21,6 +21,7 @@ use Rattle.run_state.specs.declared.run.Run.{Run}
 use Rattle.unit_course.specs.Lines.{found_from}
 use Rattle.run_outcome.specs.Lines.{cut_at}
 use Rattle.run_keeping.specs.Keeping.{with_lines}
+use Rattle.minute_model.specs.declared.Rule.{Rule}
 use Rattle.run_state.specs.Power.{IsSpanBegun, cut_run}
 use Rattle.acts_rule.specs.Acting.{now_moment}
 use Rattle.acts_rule.specs.Noting.{GapReach, AreGapEvents, NotesPlace, SettlesThese, NotesWithdrawing}
@@ -86,7 +87,7 @@ pub data WakeReach : Type 0 where
 
 -- a span began
 abbrev pub HasBegunSpan : (old mid : Run) → Type 0
-HasBegunSpan old mid = (journal : Notes) × IsSpanBegun old mid journal
+HasBegunSpan old mid = (rule : Rule) × (journal : Notes) × IsSpanBegun rule old mid journal
 
 -- THE EVENTS AND FAULTS of it
 abbrev pub AreWakingEvents : WakeReach → (kept speed : ℕ) → (failed : Bool) → (old new : Run) → (before after : Outcome) → List UnitEvent → Type 0
@@ -152,10 +153,11 @@ pub record NotesInserting (slot : Slot) (card : Card) (at : Moment) (speed : ℕ
 
 -- ---- an action
 
--- AN ACTION IS CARRIED OUT, and so it is noted: of a selection, and of a card that is pulled out, nothing.
+-- AN ACTION IS CARRIED OUT, and so it is noted: of a selection, of a card that is pulled out and of an entry by hand, nothing.
 abbrev pub NotesDone : Action → Moment → (speed : ℕ) → (failed : Bool) → (old new : Run) → (before after : Outcome) → (d later : Devices) → Type 0
 NotesDone (Select slot pick) at speed failed old new before after d later = NotesEvents [] failed d later
 NotesDone (Insert slot card) at speed failed old new before after d later = NotesInserting slot card at speed failed old new before after d later
 NotesDone (Withdraw slot) at speed failed old new before after d later = NotesWithdrawing (card_in (seat_in old.keeper.cabin.slots.seats slot)) slot at failed old new before after d later
 NotesDone (Tear slot) at speed failed old new before after d later = NotesEvents [] failed d later
 NotesDone (Place slot ending country region) at speed failed old new before after d later = NotesPlace (card_in (seat_in old.keeper.cabin.slots.seats slot)) slot at failed old new before.breaks after.breaks d later
+NotesDone (Manual slot pick minute) at speed failed old new before after d later = NotesEvents [] failed d later

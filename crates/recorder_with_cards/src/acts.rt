@@ -147,7 +147,7 @@ fn act<M: Medium, C: Chip, D: Chip>(
     ensures time { HaveTime (devices (M.state unit.new) (C.state card_a.new) (D.state card_b.new)) → HaveTime (devices (M.state unit.old) (C.state card_a.old) (D.state card_b.old)) }
     ensures later { AreLater (devices (M.state unit.old) (C.state card_a.old) (D.state card_b.old)) (devices (M.state unit.new) (C.state card_a.new) (D.state card_b.new)) }
     ensures calm { AreCalm outcome.old.breaks.items outcome.new.breaks.items (devices (M.state unit.old) (C.state card_a.old) (D.state card_b.old)) (devices (M.state unit.new) (C.state card_a.new) (D.state card_b.new)) }
-    ensures refused { outcome.new.refused ≡ with_lines (refusal_lines (refused_by has_power (is_lit run.old.power) run.old.keeper.cabin.slots.seats speed action) run.old.next) outcome.old.refused }
+    ensures refused { outcome.new.refused ≡ with_lines (refusal_lines (refused_by has_power (is_lit run.old.power) run.old.keeper.cabin.slots.seats speed action) run.old.next begun) outcome.old.refused }
     ensures none { (refused_by has_power (is_lit run.old.power) run.old.keeper.cabin.slots.seats speed action ≡ None → ⊥) → run.new ≡ run.old }
     ensures lost { has_power ≡ true → is_lit run.old.power ≡ false → (run.new ≡ run.old) × (outcome.new ≡ outcome.old) }
     ensures selected { is_lit run.old.power ≡ true → IsSelected action run.old run.new }
@@ -160,7 +160,7 @@ fn act<M: Medium, C: Chip, D: Chip>(
     ensures broke { BreaksDown outcome.old.breaks.items outcome.new.breaks.items (M.state unit.old) (M.state unit.new) }
 {
     if !has_power {
-        run.refuse(SlotFault::NoPower, &mut outcome.refused);
+        run.refuse(begun, SlotFault::NoPower, &mut outcome.refused);
         return;
     }
     if !run.is_lit() {
@@ -190,7 +190,7 @@ fn act_lit<M: Medium, C: Chip, D: Chip>(
     ensures time { HaveTime (devices (M.state unit.new) (C.state card_a.new) (D.state card_b.new)) → HaveTime (devices (M.state unit.old) (C.state card_a.old) (D.state card_b.old)) }
     ensures later { AreLater (devices (M.state unit.old) (C.state card_a.old) (D.state card_b.old)) (devices (M.state unit.new) (C.state card_a.new) (D.state card_b.new)) }
     ensures calm { AreCalm outcome.old.breaks.items outcome.new.breaks.items (devices (M.state unit.old) (C.state card_a.old) (D.state card_b.old)) (devices (M.state unit.new) (C.state card_a.new) (D.state card_b.new)) }
-    ensures refused { outcome.new.refused ≡ with_lines (refusal_lines (refusal (logged run.old.keeper.cabin.slots.seats) speed action) run.old.next) outcome.old.refused }
+    ensures refused { outcome.new.refused ≡ with_lines (refusal_lines (refusal (logged run.old.keeper.cabin.slots.seats) speed action) run.old.next begun) outcome.old.refused }
     ensures none { (refusal (logged run.old.keeper.cabin.slots.seats) speed action ≡ None → ⊥) → run.new ≡ run.old }
     ensures selected { IsSelected action run.old run.new }
     ensures going { IsWithin run.new (M.state unit.new) (C.card card_a.new) (D.card card_b.new) (C.state card_a.new) (D.state card_b.new) }
@@ -201,7 +201,7 @@ fn act_lit<M: Medium, C: Chip, D: Chip>(
     ensures broke { BreaksDown outcome.old.breaks.items outcome.new.breaks.items (M.state unit.old) (M.state unit.new) }
 {
     if let Err(fault) = may(run, action, speed) {
-        run.refuse(fault, &mut outcome.refused);
+        run.refuse(begun, fault, &mut outcome.refused);
         return;
     }
     if carry_out(run, action, begun, speed, unit, card_a, card_b, outcome).is_err() {
@@ -219,6 +219,7 @@ fn may(run: &Run, action: Action, speed: u8) -> Result<(), SlotFault>
         Action::Withdraw { slot } => run.keeper.cabin.slots.may_withdraw(slot, speed),
         Action::Tear { slot } => run.keeper.cabin.slots.may_tear(slot),
         Action::Place { slot, .. } => run.keeper.cabin.slots.may_note(slot),
+        Action::Manual { slot, .. } => run.keeper.cabin.slots.may_enter(slot, speed),
     }
 }
 
@@ -282,5 +283,6 @@ fn carry_out<M: Medium, C: Chip, D: Chip>(
             let breaks = &mut outcome.breaks;
             note_place(run, slot, &entry, at, unit, card_a, card_b, breaks)
         }
+        Action::Manual { .. } => Ok(()),
     }
 }

@@ -1,7 +1,8 @@
 //! Power is back.
-ghost use Rattle.std.specs.Prelude.{◌≡◌, ℕ, ◌+◌, ◌*◌, ◌/◌, ◌<◌, ◌≤◌, true, false, IfOk, IfErr, IsOk, OnOk, length, is_err};
+ghost use Rattle.std.specs.Prelude.{◌≡◌, ℕ, ◌+◌, ◌*◌, ◌/◌, ◌<◌, ◌≤◌, true, false, IfOk, IfErr, IfSome, IsOk, OnOk, length, is_err};
 ghost use Rattle.tach_media.specs.Medium.{HasCause};
 ghost use Rattle.unit_model.specs.Image.{IsUnit};
+ghost use Rattle.unit_model.specs.Versions.{rule_of};
 ghost use Rattle.run_opening.specs.Units.{IsLoaded};
 ghost use Rattle.run_state.specs.declared.run.Power.TheVariants.{Lit};
 ghost use Rattle.run_keeping.specs.Later.{AreLater, AreCalm};
@@ -21,8 +22,9 @@ ghost use Rattle.run_rule.specs.Between.{devices};
 use crate::accepting::accept_anew;
 use activity_codec::Slot;
 use device_steps::mend;
+use minute_rules::Rule;
 use run_acts::{Run, note_gap};
-use run_opening::{RunFault, judge_clock, load};
+use run_opening::{RunFault, judge_clock, open_unit};
 use run_outcome::Outcome;
 use tach_media::{Chip, Failed, Medium};
 use unit_journal::{Journal, UnitFault};
@@ -109,8 +111,20 @@ fn power_on<M: Medium, C: Chip, D: Chip>(
     ensures calm { AreCalm outcome.old.breaks.items outcome.new.breaks.items (devices (M.state unit.old) (C.state card_a.old) (D.state card_b.old)) (devices (M.state unit.new) (C.state card_a.new) (D.state card_b.new)) }
     ensures broke { BreaksDown outcome.old.breaks.items outcome.new.breaks.items (M.state unit.old) (M.state unit.new) }
 {
-    match load(unit) {
-        Ok(journal) => found(run, journal, speed, unit, card_a, card_b, outcome),
+    match open_unit(unit) {
+        Ok(opened) => {
+            let rule = opened.memory.rule();
+            found(
+                run,
+                opened.journal,
+                rule,
+                speed,
+                unit,
+                card_a,
+                card_b,
+                outcome,
+            )
+        }
         Err(UnitFault::BadUnit(place)) => Err(RunFault::BadUnit(place)),
         Err(UnitFault::Failed) => {
             run.cut(run.next, true, 0, &mut outcome.breaks);
@@ -123,6 +137,7 @@ fn power_on<M: Medium, C: Chip, D: Chip>(
 fn found<M: Medium, C: Chip, D: Chip>(
     run: &mut Run,
     journal: Journal,
+    rule: Rule,
     speed: u8,
     unit: &mut M,
     card_a: &mut C,
@@ -132,6 +147,7 @@ fn found<M: Medium, C: Chip, D: Chip>(
     requires dark { is_lit run.old.power ≡ false }
     requires going { IsWithin run.old (M.state unit.old) (C.card card_a.old) (D.card card_b.old) (C.state card_a.old) (D.state card_b.old) }
     requires loaded { IsLoaded (M.state unit.old) journal }
+    requires rule { IfSome (M.state unit.old).image (λ x. rule ≡ rule_of x) }
     requires breaks { length outcome.old.breaks.items + falls_of run.old.keeper.cabin < outcome.old.breaks.room }
     requires finds { length outcome.old.finds.items + bare_seats run.old.keeper.cabin.slots.seats ≤ outcome.old.finds.room }
     requires unfound { run.old.unfound ≤ length outcome.old.breaks.items }
@@ -158,7 +174,7 @@ fn found<M: Medium, C: Chip, D: Chip>(
     let kept = journal.last_kept();
     run.learn(kept, &mut outcome.breaks);
     judge_clock(kept, run.next)?;
-    if resume(run, journal, speed, unit, card_a, card_b, outcome).is_err() {
+    if resume(run, journal, rule, speed, unit, card_a, card_b, outcome).is_err() {
         run.cut(run.next, true, 0, &mut outcome.breaks);
         return Ok(());
     }
@@ -170,6 +186,7 @@ fn found<M: Medium, C: Chip, D: Chip>(
 fn resume<M: Medium, C: Chip, D: Chip>(
     run: &mut Run,
     mut journal: Journal,
+    rule: Rule,
     speed: u8,
     unit: &mut M,
     card_a: &mut C,
@@ -179,6 +196,7 @@ fn resume<M: Medium, C: Chip, D: Chip>(
     requires dark { is_lit run.old.power ≡ false }
     requires going { IsWithin run.old (M.state unit.old) (C.card card_a.old) (D.card card_b.old) (C.state card_a.old) (D.state card_b.old) }
     requires loaded { IsLoaded (M.state unit.old) journal }
+    requires rule { IfSome (M.state unit.old).image (λ x. rule ≡ rule_of x) }
     requires later { journal.kept < run.old.next / 60 }
     requires breaks { length outcome.old.breaks.items + falls_of run.old.keeper.cabin < outcome.old.breaks.room }
     requires finds { length outcome.old.finds.items + bare_seats run.old.keeper.cabin.slots.seats ≤ outcome.old.finds.room }
@@ -207,7 +225,7 @@ fn resume<M: Medium, C: Chip, D: Chip>(
     let kept = journal.last_kept();
     let is_first = outcome.breaks.is_empty();
     mend(unit, &mut journal, card_a, card_b)?;
-    run.begin_span(journal);
+    run.begin_span(journal, rule);
     let at = run.moment(0);
     accept_anew(run, Slot::Driver, at, speed, unit, card_a, card_b, outcome)?;
     accept_anew(

@@ -5,7 +5,7 @@ use Rattle.std.specs.List.{list_any}
 use Rattle.activity_codec.specs.declared.values.Slot.{Slot}
 use Rattle.activity_codec.specs.declared.values.Slot.TheVariants.{Driver, CoDriver}
 use Rattle.trace_model.specs.declared.Action.{Action}
-use Rattle.trace_model.specs.declared.Action.TheVariants.{Select, Insert, Withdraw, Tear, Place}
+use Rattle.trace_model.specs.declared.Action.TheVariants.{Select, Insert, Withdraw, Tear, Place, Manual}
 use Rattle.trace_model.specs.Trace.{TraceSecond}
 use Rattle.log_model.specs.declared.lines.SlotFault.{SlotFault}
 use Rattle.log_model.specs.declared.lines.Verdict.{Verdict}
@@ -75,6 +75,7 @@ answered-fine n None (Insert slot card) c fine = inr refl
 answered-fine n None (Withdraw slot) c fine = inr refl
 answered-fine n None (Tear slot) c fine = fine
 answered-fine n None (Place slot ending country region) c fine = fine
+answered-fine n None (Manual slot pick minute) c fine = fine
 
 enters-settled : (n : ℕ) (o : Option SlotFault) (a : Action) (slots : Slots) (c : Course) → ((slot : Slot) → (moved_by n o a slots).enters slot ≡ false) ⊎ ((answered n o a c).settled ≡ true)
 enters-settled n (Some r) a slots c = inl (λ slot. refl)
@@ -83,6 +84,7 @@ enters-settled n None (Insert slot card) slots c = inr refl
 enters-settled n None (Withdraw slot) slots c = inr refl
 enters-settled n None (Tear slot) slots c = inl (λ slot. refl)
 enters-settled n None (Place slot ending country region) slots c = inl (λ slot. refl)
+enters-settled n None (Manual slot pick minute) slots c = inl (λ slot. refl)
 
 acted-fine : (log : RunLog) (s : TraceSecond) (n : ℕ) (a : Action) (c : Course) → IsFine c → IsFine (acted log s n a c)
 acted-fine log s n a c fine = by (begins (cut_in log s.number) n)

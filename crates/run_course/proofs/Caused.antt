@@ -24,7 +24,7 @@ use Rattle.log_model.specs.Log.{RunLog, Phase, In, cut_of, cut_in, tears_here, i
 use Rattle.log_model.specs.Same.{SameAt}
 use Rattle.log_model.specs.Slots.{same_card}
 use Rattle.log_model.specs.Course.{Told, Visit, Went, Before, has_power, second_told, went}
-use Rattle.log_model.specs.Causes.{device_of, is_cut, has_failed, second_of, cuts, failed_cut_in, ComesBehind, AreInTime, tears, places, visit_places, in_the_slot, refusals_of, pulled_of, torn_of, cards_torn, finds_of, off_cuts, RoseBy, IsBegun, IsAtPowerOn, HasMoment, CutBy, IsJudged}
+use Rattle.log_model.specs.Causes.{device_of, is_cut, has_failed, second_of, cuts, failed_cut_in, ComesBehind, AreInTime, tears, places, visit_places, in_the_slot, refusals_at, refusals_of, refusal_told, pulled_of, torn_of, cards_torn, finds_of, off_cuts, RoseBy, IsBegun, IsAtPowerOn, HasMoment, CutBy, IsJudged}
 use Rattle.log_model.specs.Spans.{seconds_in, AreInOrder}
 use Rattle.log_model.proofs.Spanning.{spanned, order-parts}
 use Rattle.history_model.specs.Presence.{Start}
@@ -54,14 +54,11 @@ torn_in t = visit_places t.second.number t.course.torn
 abbrev cards_in : Told → List Card
 cards_in t = map (λ (v : Visit). v.card) t.course.torn
 
-abbrev refusals_in : Told → List (ℕ × SlotFault)
-refusals_in t = map (λ (r : SlotFault). (t.second.number, r)) t.course.refused
+abbrev refusals_in : Told → List (ℕ × ℕ × SlotFault)
+refusals_in t = refusals_at t.second.number t.course.refused
 
 abbrev finds_in : Told → List (ℕ × Phase × Slot × Verdict)
 finds_in t = map (λ (f : Visit × Verdict). (t.second.number, f.0.phase, f.0.slot, f.1)) t.course.found
-
-abbrev pub refused_as : Refused → ℕ × SlotFault
-refused_as r = (r.second, r.fault)
 
 abbrev find_as : Find → ℕ × Phase × Slot × Verdict
 find_as f = (f.second, In f.begun, f.slot, f.verdict)
@@ -363,8 +360,8 @@ second-caused rule start from first done p f s later g refused more_refused befo
     let so_far = breaks-next rule start from first done p f in
     let all_ : AreCaused before now (done ++ s ∷ []) later = record {
       refused =
-          ap (map refused_as) more_refused ∙ map-append refused_as p.log.refused refused
-          ∙ ap (λ (xs : List (ℕ × SlotFault)). xs ++ map refused_as refused) c.refused ∙ ap (λ (xs : List (ℕ × SlotFault)). refusals_of told ++ xs) a.refusals
+          ap (map refusal_told) more_refused ∙ map-append refusal_told p.log.refused refused
+          ∙ ap (λ (xs : List (ℕ × ℕ × SlotFault)). xs ++ map refusal_told refused) c.refused ∙ ap (λ (xs : List (ℕ × ℕ × SlotFault)). refusals_of told ++ xs) a.refusals
           ∙ sym (ap refusals_of now_ ∙ refusals-more told (t ∷ []));
       cut_seconds =
           ap (λ (bs : List Break). map second_of (filter is_cut bs)) g.breaks.1 ∙ ap (map second_of) (filter-append is_cut p.log.breaks g.breaks.0)

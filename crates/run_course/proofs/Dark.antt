@@ -12,11 +12,10 @@ use Rattle.minute_model.specs.declared.Rule.{Rule}
 use Rattle.log_model.specs.declared.lines.Mark.{Mark}
 use Rattle.log_model.specs.declared.lines.Refused.{Refused}
 use Rattle.log_model.specs.declared.lines.SlotFault.{SlotFault}
-use Rattle.log_model.specs.declared.lines.SlotFault.TheVariants.{NoPower}
 use Rattle.log_model.specs.Log.{RunLog, Phase}
 use Rattle.log_model.specs.Slots.{same_card}
-use Rattle.log_model.specs.Course.{Told, Before, Went, went, has_power, second_told, before_next}
-use Rattle.log_model.specs.Causes.{device_of, HasMoment, in_the_slot, refusals_of, pulled_of, torn_of, cards_torn, finds_of, off_cuts, RoseBy}
+use Rattle.log_model.specs.Course.{Told, Before, Went, went, has_power, second_told, before_next, without_power}
+use Rattle.log_model.specs.Causes.{device_of, HasMoment, in_the_slot, refusals_at, refusals_of, refusal_told, pulled_of, torn_of, cards_torn, finds_of, off_cuts, RoseBy}
 use Rattle.log_model.specs.Spans.{AreInOrder}
 use Rattle.log_model.proofs.Growth.{went-more}
 use Rattle.history_model.specs.Presence.{Start}
@@ -33,7 +32,7 @@ use Rattle.run_course.proofs.Logs.{BreaksBefore, breaks-later, went-refused, ref
 use Rattle.run_course.proofs.Presence.{time-passes, second-gone}
 use Rattle.run_course.proofs.Complete.{power-alone}
 use Rattle.run_course.proofs.Staying.{refused-stays}
-use Rattle.run_course.proofs.Caused.{refused_as, refusals-more, pulled-more, torn-more, cards-more, finds-more, begun-old, moments-old, over-last, off-behind, failed-same, judged-same, breaks-next}
+use Rattle.run_course.proofs.Caused.{refusals-more, pulled-more, torn-more, cards-more, finds-more, begun-old, moments-old, over-last, off-behind, failed-same, judged-same, breaks-next}
 use Rattle.run_course.proofs.Steps.{with-supply}
 use Rattle.run_course.proofs.Told.{lost-dark, told-lit}
 
@@ -104,19 +103,9 @@ off-are-told log done (suc n) next =
     )
 
 -- EACH LINE HAS ITS CAUSE
-abbrev unpowered : ℕ → ℕ × SlotFault
-unpowered number = (number, NoPower)
-
-abbrev faults_at : ℕ → List SlotFault → List (ℕ × SlotFault)
-faults_at number faults = map (λ r. (number, r)) faults
-
-no-power : (number : ℕ) (actions : List Action) → map (λ (a : Action). unpowered number) actions ≡ faults_at number (map (λ (a : Action). NoPower) actions)
-no-power number [] = refl
-no-power number (a ∷ rest) = ap (λ (xs : List (ℕ × SlotFault)). unpowered number ∷ xs) (no-power number rest)
-
 -- one of them, where the log has these refusals behind it
 dark-one : (before now : Device → ℕ) (log : RunLog) (xs : List Refused) (done : List TraceSecond) (s : TraceSecond) → IsLost (went log done).before → 0 < s.number % 60 → s.has_power ≡ true → BreaksBefore s.number s.number log.breaks →
-    map refused_as xs ≡ map refused_as log.refused ++ refusals_of (dark_told s (went log done).before.slots ∷ []) → AreCaused before now done log → IsOver (failures log) (went log done).told →
+    map refusal_told xs ≡ map refusal_told log.refused ++ refusals_of (dark_told s (went log done).before.slots ∷ []) → AreCaused before now done log → IsOver (failures log) (went log done).told →
     let later : RunLog = record log { refused = xs } in
     AreCaused before now (done ++ s ∷ []) later × IsOver (failures later) (went later (done ++ s ∷ [])).told
 dark-one before now log xs done s lost some given lines are c over =
@@ -126,7 +115,7 @@ dark-one before now log xs done s lost some given lines are c over =
     let now_ : (went later (done ++ s ∷ [])).told ≡ told ++ t ∷ [] =
     ap (λ (w : Went). w.told) (went-refused log later refl refl (done ++ s ∷ []) ∙ lost-one log done s lost some given) in (
       record {
-        refused = are ∙ ap (λ (ys : List (ℕ × SlotFault)). ys ++ refusals_of (t ∷ [])) c.refused ∙ sym (ap refusals_of now_ ∙ refusals-more told (t ∷ []));
+        refused = are ∙ ap (λ (ys : List (ℕ × ℕ × SlotFault)). ys ++ refusals_of (t ∷ [])) c.refused ∙ sym (ap refusals_of now_ ∙ refusals-more told (t ∷ []));
         cut_seconds = c.cut_seconds ∙ sym (ap cuts_of now_ ∙ cuts-append told (t ∷ []) ∙ append-nil (cuts_of told));
         off_lines = c.off_lines ∙ sym (ap (off_cuts (failures log)) now_ ∙ off-behind (failures log) told t over);
         failed_cuts = c.failed_cuts;
@@ -156,24 +145,24 @@ dark-many : (before now : Device → ℕ) (log : RunLog) (n : ℕ) (done : List 
 dark-many before now log zero done next speed lost some within lines both =
     subst (λ (ss : List TraceSecond). AreCaused before now ss log × IsOver (failures log) (went log ss).told) (sym (append-nil done)) both
 dark-many before now log (suc zero) done next speed lost some within lines both =
-    dark-one before now log log.refused done (lost_second next speed []) lost some refl lines (sym (append-nil (map refused_as log.refused))) both.0 both.1
+    dark-one before now log log.refused done (lost_second next speed []) lost some refl lines (sym (append-nil (map refusal_told log.refused))) both.0 both.1
 dark-many before now log (suc (suc n)) done next speed lost some within lines both =
     let s : TraceSecond = lost_second next speed [] in
-    let one = dark-one before now log log.refused done s lost some refl lines (sym (append-nil (map refused_as log.refused))) both.0 both.1 in
+    let one = dark-one before now log log.refused done s lost some refl lines (sym (append-nil (map refusal_told log.refused))) both.0 both.1 in
     let step : (next + 1) % 60 ≡ next % 60 + 1 = omega (arith, within) in
     subst (λ (ss : List TraceSecond). AreCaused before now ss log × IsOver (failures log) (went log ss).told) (append_assoc done (s ∷ []) (driven (suc n) (next + 1) speed []))
     (dark-many before now log (suc n) (done ++ s ∷ []) (next + 1) speed (subst (λ (w : Went). IsLost w.before) (sym (lost-one log done s lost some refl)) lost) (omega (arith, step)) (omega (arith, step, within))
     (breaks-later next next (next + 1) (next + 1) log.breaks (omega arith) (omega arith) lines) one)
 
 dark-all : (before now : Device → ℕ) (log : RunLog) (n : ℕ) (done : List TraceSecond) (next speed : ℕ) (actions : List Action) (refused : List Refused) → IsLost (went log done).before → 0 < next % 60 → next % 60 + suc n ≤ 60 → BreaksBefore next next log.breaks →
-    map refused_as refused ≡ map (λ (a : Action). unpowered next) actions → AreCaused before now done log → IsOver (failures log) (went log done).told →
+    map refusal_told refused ≡ refusals_at next (without_power 0 actions) → AreCaused before now done log → IsOver (failures log) (went log done).told →
     let later : RunLog = record log { refused = log.refused ++ refused } in
     AreCaused before now (done ++ driven (suc n) next speed actions) later × IsOver (failures later) (went later (done ++ driven (suc n) next speed actions)).told
 dark-all before now log n done next speed actions refused lost some within lines are c over =
     let later : RunLog = record log { refused = log.refused ++ refused } in
     let s : TraceSecond = lost_second next speed actions in
     let one = dark-one before now log (log.refused ++ refused) done s lost some refl lines
-    (map-append refused_as log.refused refused ∙ ap (λ (ys : List (ℕ × SlotFault)). map refused_as log.refused ++ ys) (are ∙ no-power next actions ∙ sym (append-nil (faults_at next (map (λ (a : Action). NoPower) actions))))) c over in
+    (map-append refusal_told log.refused refused ∙ ap (λ (ys : List (ℕ × ℕ × SlotFault)). map refusal_told log.refused ++ ys) (are ∙ sym (append-nil (refusals_at next (without_power 0 actions))))) c over in
     let here : IsLost (went later (done ++ s ∷ [])).before = subst (λ (w : Went). IsLost w.before) (sym (went-refused log later refl refl (done ++ s ∷ []) ∙ lost-one log done s lost some refl)) lost in
     go n within later one here lines
   where

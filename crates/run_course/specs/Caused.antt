@@ -13,7 +13,7 @@ use Rattle.log_model.specs.declared.lines.Refused.{Refused}
 use Rattle.log_model.specs.Log.{RunLog, In}
 use Rattle.log_model.specs.Slots.{same_card}
 use Rattle.log_model.specs.Course.{Told, Visit, went}
-use Rattle.log_model.specs.Causes.{device_of, is_cut, second_of, cuts, AreInTime, tears, places, in_the_slot, refusals_of, pulled_of, torn_of, cards_torn, finds_of, off_cuts, RoseBy, IsBegun, IsAtPowerOn, HasMoment, IsJudged}
+use Rattle.log_model.specs.Causes.{device_of, is_cut, second_of, cuts, AreInTime, tears, places, in_the_slot, refusals_of, refusal_told, pulled_of, torn_of, cards_torn, finds_of, off_cuts, RoseBy, IsBegun, IsAtPowerOn, HasMoment, IsJudged}
 use Rattle.history_model.specs.Presence.{Start}
 use Rattle.unit_course.specs.Caused.{IsOver}
 use Rattle.unit_course.specs.Lines.{log_of, cut_at, found_from}
@@ -33,7 +33,7 @@ failures log = map second_of (cuts true log)
 -- all causes of a run log so far but the verdicts, each as HasCauses of log_model has it; and a card of which no tear by a failed call is told has not
 -- broken down
 pub record AreCaused (before now : Device → ℕ) (ss : List TraceSecond) (log : RunLog) : Type 0 where
-  pub refused : map (λ r. (r.second, r.fault)) log.refused ≡ refusals_of (went log ss).told
+  pub refused : map refusal_told log.refused ≡ refusals_of (went log ss).told
   pub cut_seconds : map second_of (filter is_cut log.breaks) ≡ map (λ t. t.second.number) (filter (λ t. t.cut) (went log ss).told)
   pub off_lines : map second_of (cuts false log) ≡ off_cuts (failures log) (went log ss).told
   pub failed_cuts : RoseBy (length (cuts true log)) (before Recorder) (now Recorder)
@@ -49,7 +49,7 @@ pub record AreCaused (before now : Device → ℕ) (ss : List TraceSecond) (log 
 
 -- What the new lines of a second have to tell: exactly what happened in it, each failed call a breakdown, and each breakdown of a card told.
 pub record AreNewCauses (mid now : Device → ℕ) (breaks : List Break) (finds : List Find) (refused : List Refused) (later : RunLog) (s : TraceSecond) (t : Told) : Type 0 where
-  pub refusals : map (λ r. (r.second, r.fault)) refused ≡ refusals_of (t ∷ [])
+  pub refusals : map refusal_told refused ≡ refusals_of (t ∷ [])
   pub cut_seconds : map second_of (filter is_cut breaks) ≡ map (λ t. t.second.number) (filter (λ t. t.cut) (t ∷ []))
   pub no_off : cuts false (log_of breaks) ≡ []
   pub failed_cuts : RoseBy (length (cuts true (log_of breaks))) (mid Recorder) (now Recorder)

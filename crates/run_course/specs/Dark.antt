@@ -6,11 +6,10 @@ use Rattle.run_model.specs.declared.Device.{Device}
 use Rattle.minute_model.specs.declared.Rule.{Rule}
 use Rattle.log_model.specs.declared.lines.Mark.{Mark}
 use Rattle.log_model.specs.declared.lines.Refused.{Refused}
-use Rattle.log_model.specs.declared.lines.SlotFault.{SlotFault}
-use Rattle.log_model.specs.declared.lines.SlotFault.TheVariants.{NoPower}
 use Rattle.log_model.specs.Log.{RunLog}
 use Rattle.log_model.specs.Slots.{Slots}
-use Rattle.log_model.specs.Course.{Told, Before, Went, went, dark_course}
+use Rattle.log_model.specs.Course.{Told, Before, Went, went, dark_course, without_power}
+use Rattle.log_model.specs.Causes.{refusals_at, refusal_told}
 use Rattle.log_model.specs.Spans.{AreInOrder}
 use Rattle.history_model.specs.Minutes.{HistoryMinute}
 use Rattle.history_model.specs.Presence.{Start}
@@ -54,7 +53,7 @@ OffSecondsAreTold = (log : RunLog) (done : List TraceSecond) (n next : ℕ) →
 abbrev pub ADarkMinuteIsCaused : Type 0
 ADarkMinuteIsCaused = (rule : Rule) (start : Start) (from first : ℕ) (done : List TraceSecond) (p : Progress) → Followed rule start from first done p →
     p.supply ≡ Lost → (n speed : ℕ) (actions : List Action) (refused : List Refused) → 0 < p.next % 60 → p.next % 60 + suc n ≤ 60 →
-    map {B = ℕ × SlotFault} (λ r. (r.second, r.fault)) refused ≡ map {B = ℕ × SlotFault} (λ a. (p.next, NoPower)) actions →
+    map refusal_told refused ≡ refusals_at p.next (without_power 0 actions) →
     (before now : Device → ℕ) → WellCaused before now done p → (q : Progress) → q.log ≡ record p.log { refused = p.log.refused ++ refused } →
     WellCaused before now (done ++ driven (suc n) p.next speed actions) q
 

@@ -11,7 +11,7 @@ use Rattle.activity_codec.specs.declared.values.Slot.TheVariants.{Driver, CoDriv
 use Rattle.activity_codec.specs.Activity.{same_slot}
 use Rattle.trace_model.specs.declared.Card.{Card}
 use Rattle.trace_model.specs.declared.Action.{Action}
-use Rattle.trace_model.specs.declared.Action.TheVariants.{Select, Insert, Withdraw, Tear as Pull, Place}
+use Rattle.trace_model.specs.declared.Action.TheVariants.{Select, Insert, Withdraw, Tear as Pull, Place, Manual}
 use Rattle.trace_model.specs.Trace.{TraceSecond}
 use Rattle.log_model.specs.declared.lines.Break.{Break}
 use Rattle.log_model.specs.declared.lines.SlotFault.{SlotFault}
@@ -90,6 +90,7 @@ few-by n None (Withdraw CoDriver) c CoDriver =
     subst (IsFew (In (n + 1)) CoDriver) (sym (append-nil (visits (In (n + 1)) CoDriver c.slots))) (few-visits (In (n + 1)) CoDriver c.slots.codriver)
 few-by n None (Pull at) c slot = few-visits (In (n + 1)) slot (in_slot (answered n None (Pull at) c).slots slot)
 few-by n None (Place at ending country region) c slot = few-visits (In (n + 1)) slot (in_slot c.slots slot)
+few-by n None (Manual at pick minute) c slot = few-visits (In (n + 1)) slot (in_slot c.slots slot)
 
 few-with : (n : ℕ) (o : Option Action) (speed : ℕ) (c : Course) (slot : Slot) → IsFew (In (n + 1)) slot ((moved_with n o speed c).leaving slot ++ visits (In (n + 1)) slot (course_with n o speed c).slots)
 few-with n None speed c slot = few-visits (In (n + 1)) slot (in_slot c.slots slot)

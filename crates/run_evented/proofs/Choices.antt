@@ -8,7 +8,7 @@ use Rattle.activity_codec.specs.declared.values.Slot.TheVariants.{Driver, CoDriv
 use Rattle.activity_codec.specs.Activity.{same_slot}
 use Rattle.trace_model.specs.declared.Card.{Card}
 use Rattle.trace_model.specs.declared.Action.{Action}
-use Rattle.trace_model.specs.declared.Action.TheVariants.{Select, Insert, Withdraw, Tear as Pull, Place}
+use Rattle.trace_model.specs.declared.Action.TheVariants.{Select, Insert, Withdraw, Tear as Pull, Place, Manual}
 use Rattle.trace_model.specs.Trace.{TraceSecond}
 use Rattle.log_model.specs.declared.lines.SlotFault.{SlotFault}
 use Rattle.log_model.specs.Log.{RunLog, Phase, In, Keeping, same_phase, cut_in, is_torn_in, is_accepting}
@@ -103,6 +103,7 @@ puts-apart (Some (Insert CoDriver card)) is = refl
 puts-apart (Some (Withdraw at)) is = absurd (let wrong : false ≡ true = is in cc)
 puts-apart (Some (Pull at)) is = absurd (let wrong : false ≡ true = is in cc)
 puts-apart (Some (Place at ending country region)) is = absurd (let wrong : false ≡ true = is in cc)
+puts-apart (Some (Manual at pick minute)) is = absurd (let wrong : false ≡ true = is in cc)
 
 pub planned-put : (s : TraceSecond) (n : ℕ) (slot : Slot) → puts_into slot (slice_get s.actions n) ≡ true → is_first (planned s) s.number (suc n) slot ≡ false
 planned-put s n Driver puts = ap not puts
@@ -157,6 +158,7 @@ answered-put actions n None (Insert slot card) c got all = all-both (IsPutBy act
 answered-put actions n None (Withdraw slot) c got all = all
 answered-put actions n None (Pull slot) c got all = all
 answered-put actions n None (Place slot ending country region) c got all = all
+answered-put actions n None (Manual slot pick minute) c got all = all
 
 module _ (log : RunLog) (s : TraceSecond) where
   pick-put : (b : Bool) (x y : Course) → AllByRecursion (IsPutBy s.actions) x.entered → AllByRecursion (IsPutBy s.actions) y.entered → AllByRecursion (IsPutBy s.actions) (cond b x y).entered

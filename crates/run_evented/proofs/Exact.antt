@@ -9,7 +9,7 @@ use Rattle.std.proofs.lemmas.List.Elements.{filter-append, All-nil, All-cons, Co
 use Rattle.activity_codec.specs.declared.values.Slot.{Slot}
 use Rattle.trace_model.specs.declared.Card.{Card}
 use Rattle.trace_model.specs.declared.Action.{Action}
-use Rattle.trace_model.specs.declared.Action.TheVariants.{Select, Insert, Withdraw, Tear as Pull, Place}
+use Rattle.trace_model.specs.declared.Action.TheVariants.{Select, Insert, Withdraw, Tear as Pull, Place, Manual}
 use Rattle.trace_model.specs.Trace.{TraceSecond}
 use Rattle.log_model.specs.declared.lines.Break.{Break}
 use Rattle.log_model.specs.declared.lines.Break.TheVariants.{Cut, Tear}
@@ -130,6 +130,7 @@ by-quiet c log u a (Withdraw slot) = by (is_torn_in log u (In (a.before + 1)) sl
     by true = tt
     by false = each (accepted_card (in_slot a.slots slot))
 by-quiet c log u a (Pull slot) = tt
+by-quiet c log u a (Manual slot pick minute) = tt
 by-quiet c log u a (Place slot ending country region) = each (accepted_card (in_slot a.slots slot))
   where
     each : (cards : List Card) → AllByRecursion (NotAccepted c) (map (λ (card : Card). Enters (record { second = u; card = card; ending = ending; country = country; region = region })) cards)

@@ -11,7 +11,7 @@ use Rattle.activity_codec.specs.declared.values.Slot.TheVariants.{Driver, CoDriv
 use Rattle.activity_codec.specs.Activity.{same_slot}
 use Rattle.trace_model.specs.declared.Card.{Card}
 use Rattle.trace_model.specs.declared.Action.{Action}
-use Rattle.trace_model.specs.declared.Action.TheVariants.{Select, Insert, Withdraw, Tear as Pull, Place}
+use Rattle.trace_model.specs.declared.Action.TheVariants.{Select, Insert, Withdraw, Tear as Pull, Place, Manual}
 use Rattle.trace_model.specs.Trace.{TraceSecond}
 use Rattle.log_model.specs.declared.lines.SlotFault.{SlotFault}
 use Rattle.log_model.specs.declared.lines.Find.{Find}
@@ -68,6 +68,7 @@ none-enters n None (Insert s card) slots slot is = put-apart s slot is
 none-enters n None (Withdraw s) slots slot is = absurd (let wrong : false ≡ true = is in cc)
 none-enters n None (Pull s) slots slot is = absurd (let wrong : false ≡ true = is in cc)
 none-enters n None (Place s ending country region) slots slot is = absurd (let wrong : false ≡ true = is in cc)
+none-enters n None (Manual s pick minute) slots slot is = absurd (let wrong : false ≡ true = is in cc)
 
 one-enters : (n : ℕ) (o : Option Action) (speed : ℕ) (c : Course) (slot : Slot) → (moved_with n o speed c).enters slot ≡ true → (moved_with n o speed c).enters (other_slot slot) ≡ false
 one-enters n None speed c slot is = absurd (let wrong : false ≡ true = is in cc)

@@ -6,7 +6,7 @@ use Rattle.std.proofs.lemmas.List.Elements.{All-head, All-tail}
 use Rattle.activity_codec.specs.declared.values.Slot.{Slot}
 use Rattle.activity_codec.specs.declared.values.Slot.TheVariants.{Driver, CoDriver}
 use Rattle.trace_model.specs.declared.Action.{Action}
-use Rattle.trace_model.specs.declared.Action.TheVariants.{Select, Insert, Withdraw, Tear, Place}
+use Rattle.trace_model.specs.declared.Action.TheVariants.{Select, Insert, Withdraw, Tear, Place, Manual}
 use Rattle.trace_model.specs.Trace.{TraceSecond}
 use Rattle.log_model.specs.Log.{RunLog, Phase, In}
 use Rattle.log_model.specs.Slots.{refusal}
@@ -78,6 +78,7 @@ module _ (log later : RunLog) where
   noted-by-same u same a (Withdraw slot) = rw (same.torn (In (a.before + 1)) slot) refl
   noted-by-same u same a (Tear slot) = refl
   noted-by-same u same a (Place slot ending country region) = refl
+  noted-by-same u same a (Manual slot pick minute) = refl
 
   noted-in-same : (d : Done) → SameAt log later d.told.second.number → noted_in later d ≡ noted_in log d
   noted-in-same d same =

@@ -7,7 +7,7 @@ use Rattle.activity_codec.specs.declared.values.Slot.TheVariants.{Driver, CoDriv
 use Rattle.activity_codec.specs.Activity.{same_slot}
 use Rattle.trace_model.specs.declared.Card.{Card}
 use Rattle.trace_model.specs.declared.Action.{Action}
-use Rattle.trace_model.specs.declared.Action.TheVariants.{Select, Insert, Withdraw, Tear as Pull, Place}
+use Rattle.trace_model.specs.declared.Action.TheVariants.{Select, Insert, Withdraw, Tear as Pull, Place, Manual}
 use Rattle.trace_model.specs.Trace.{TraceSecond}
 use Rattle.log_model.specs.declared.lines.SlotFault.{SlotFault}
 use Rattle.log_model.specs.declared.lines.Verdict.{Verdict}
@@ -138,6 +138,7 @@ leaving-by n None (Insert at card) slots slot = tt
 leaving-by n None (Withdraw at) slots slot = if-here (λ (v : Visit). v.phase ≡ In (n + 1)) (same_slot at slot) (visits (In (n + 1)) slot slots) (visits-here (In (n + 1)) slot (in_slot slots slot))
 leaving-by n None (Pull at) slots slot = tt
 leaving-by n None (Place at ending country region) slots slot = tt
+leaving-by n None (Manual at pick minute) slots slot = tt
 
 leaving-with : (n : ℕ) (o : Option Action) (speed : ℕ) (c : Course) → AreLeavingAt (In (n + 1)) (moved_with n o speed c)
 leaving-with n None speed c slot = tt

@@ -2,7 +2,7 @@
 use Rattle.std.proofs.Common.{◌≡◌, ℕ, zero, suc, ◌+◌, ◌<◌, false, cond, not, ◌||◌, Option, Some, None, List, [], ◌∷◌, length, take, is_some, refl, ap, sym, ◌∙◌, arith}
 use Rattle.activity_codec.specs.declared.values.Slot.{Slot}
 use Rattle.trace_model.specs.declared.Action.{Action}
-use Rattle.trace_model.specs.declared.Action.TheVariants.{Select, Insert, Withdraw, Tear as Pull, Place}
+use Rattle.trace_model.specs.declared.Action.TheVariants.{Select, Insert, Withdraw, Tear as Pull, Place, Manual}
 use Rattle.trace_model.specs.Trace.{TraceSecond}
 use Rattle.log_model.specs.declared.lines.SlotFault.{SlotFault}
 use Rattle.log_model.specs.Log.{RunLog, Phase, In, Keeping, cut_in, is_torn_in, found_in}
@@ -31,6 +31,7 @@ answered-told n None (Insert slot card) c = record { torn = refl; found = refl }
 answered-told n None (Withdraw slot) c = record { torn = refl; found = refl }
 answered-told n None (Pull slot) c = record { torn = refl; found = refl }
 answered-told n None (Place slot ending country region) c = record { torn = refl; found = refl }
+answered-told n None (Manual slot pick minute) c = record { torn = refl; found = refl }
 
 -- behind so many actions a log tells nothing
 pub record IsSilent (log : RunLog) (u n : ℕ) : Type 0 where

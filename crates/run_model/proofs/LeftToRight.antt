@@ -7,7 +7,7 @@ use Rattle.activity_codec.specs.declared.values.Slot.{Slot}
 use Rattle.activity_codec.specs.declared.values.Pick.{Pick}
 use Rattle.minute_model.specs.Second.{Second}
 use Rattle.trace_model.specs.declared.Action.{Action}
-use Rattle.trace_model.specs.declared.Action.TheVariants.{Select, Insert, Withdraw, Tear, Place}
+use Rattle.trace_model.specs.declared.Action.TheVariants.{Select, Insert, Withdraw, Tear, Place, Manual}
 use Rattle.trace_model.specs.Trace.{TraceSecond}
 use Rattle.run_model.specs.Span.{picks_of, span_of}
 
@@ -19,6 +19,7 @@ picks_of-more (Insert s card ∷ actions) slot pick = picks_of-more actions slot
 picks_of-more (Withdraw s ∷ actions) slot pick = picks_of-more actions slot pick
 picks_of-more (Tear s ∷ actions) slot pick = picks_of-more actions slot pick
 picks_of-more (Place s ending country region ∷ actions) slot pick = picks_of-more actions slot pick
+picks_of-more (Manual s p minute ∷ actions) slot pick = picks_of-more actions slot pick
 
 -- the seconds with power of some seconds and of others
 pub span_of-append : (xs ys : List TraceSecond) → span_of (xs ++ ys) ≡ span_of xs ++ span_of ys

@@ -10,7 +10,7 @@ use Rattle.activity_codec.specs.declared.values.Slot.TheVariants.{Driver, CoDriv
 use Rattle.activity_codec.specs.Activity.{same_slot}
 use Rattle.trace_model.specs.declared.Card.{Card}
 use Rattle.trace_model.specs.declared.Action.{Action}
-use Rattle.trace_model.specs.declared.Action.TheVariants.{Select, Insert, Withdraw, Tear, Place}
+use Rattle.trace_model.specs.declared.Action.TheVariants.{Select, Insert, Withdraw, Tear, Place, Manual}
 use Rattle.trace_model.specs.Trace.{TraceSecond}
 use Rattle.log_model.specs.declared.lines.Break.{Break}
 use Rattle.log_model.specs.declared.lines.Find.{Find}
@@ -280,6 +280,7 @@ leaving-of n None (Insert at card) slots slot = of-none slot
 leaving-of n None (Withdraw at) slots slot = of-where (same_slot at slot) slot (visits (In (n + 1)) slot slots) (of-visits (In (n + 1)) slot slots)
 leaving-of n None (Tear at) slots slot = of-none slot
 leaving-of n None (Place at ending country region) slots slot = of-none slot
+leaving-of n None (Manual at pick minute) slots slot = of-none slot
 
 leaving-with : (n : ℕ) (o : Option Action) (speed : ℕ) (c : Course) (slot : Slot) → AllOf slot ((moved_with n o speed c).leaving slot)
 leaving-with n None speed c slot = of-none slot

@@ -11,7 +11,7 @@ use Rattle.activity_codec.specs.declared.values.Slot.TheVariants.{Driver, CoDriv
 use Rattle.activity_codec.specs.Activity.{same_slot}
 use Rattle.trace_model.specs.declared.Card.{Card}
 use Rattle.trace_model.specs.declared.Action.{Action}
-use Rattle.trace_model.specs.declared.Action.TheVariants.{Select, Insert, Withdraw, Tear as Pull, Place}
+use Rattle.trace_model.specs.declared.Action.TheVariants.{Select, Insert, Withdraw, Tear as Pull, Place, Manual}
 use Rattle.trace_model.specs.Trace.{TraceSecond}
 use Rattle.run_model.specs.declared.Device.{Device}
 use Rattle.run_model.specs.declared.Device.TheVariants.{Unit as Recorder}
@@ -24,7 +24,7 @@ use Rattle.log_model.specs.declared.lines.SlotFault.TheVariants.{Empty}
 use Rattle.log_model.specs.declared.lines.Verdict.{Verdict}
 use Rattle.log_model.specs.Log.{RunLog, Phase, In, Keeping, same_phase, tears_here, is_torn_in, found_in}
 use Rattle.log_model.specs.Slots.{Slots, Sitting, in_slot, other_slot, refusal}
-use Rattle.log_model.specs.Causes.{device_of, is_cut, second_of, tears, places, visit_places, in_the_slot, has_failed, RoseBy, IsBegun, IsAtPowerOn}
+use Rattle.log_model.specs.Causes.{device_of, is_cut, second_of, tears, places, visit_places, in_the_slot, has_failed, refusal_at, refusals_at, refusal_told, RoseBy, IsBegun, IsAtPowerOn}
 use Rattle.log_model.specs.Course.{Course, Visit, Before, Moved, visits, card_in, slot_told, both_told, moved_by, unmoved, answered, carried_out, fresh, went}
 use Rattle.unit_course.specs.Lines.{log_of}
 use Rattle.unit_course.specs.Turn.{begins_with}
@@ -35,7 +35,7 @@ use Rattle.run_course.proofs.Lookups.{break-more}
 use Rattle.run_course.proofs.Moments.{slot-still, both-still}
 use Rattle.run_moments.specs.Reached.{IsBehind, begun_at, moved_at, course_at, Reaches, IsTearAt}
 use Rattle.run_moments.specs.Lines.{times_of}
-use Rattle.run_moments.specs.Moment.{finds_by, refused_as, refused_at, find_as, found_at, IsJudgedBy, IsWaiting, Moment, goes_on, AMomentBegins, AnActionIsRefused, AnActionIsDone, ACardIsPulled, entering_by, pulls}
+use Rattle.run_moments.specs.Moment.{finds_by, find_as, found_at, IsJudgedBy, IsWaiting, Moment, goes_on, AMomentBegins, AnActionIsRefused, AnActionIsDone, ACardIsPulled, entering_by, pulls}
 use Rattle.run_moments.proofs.Reached.{push-each, second-reached, action-reached, lines-reached}
 use Rattle.run_moments.proofs.Lines.{times-append, tear-begun, tear-other, refusal-seen}
 
@@ -55,7 +55,7 @@ pub record HasCourse (starts : Bool) (p : Progress) (s : TraceSecond) (at : Phas
   pub finds_here : AllByRecursion (λ (f : Find). f.second ≡ p.next) finds
   pub refused : List Refused
   pub refused_are : log.refused ≡ p.log.refused ++ refused
-  pub refusals : map refused_as refused ≡ map (refused_at s.number) c.refused
+  pub refusals : map refusal_told refused ≡ refusals_at s.number c.refused
   pub uncut : AllByRecursion (λ (b : Break). is_cut b ≡ false) breaks
   pub unit : mid Recorder ≤ now Recorder
   pub tear_lines : flat_map places (tears false (log_of breaks)) ≡ visit_places s.number c.pulled
@@ -195,10 +195,10 @@ found-later n (f ∷ fs) h = ((λ behind. h.0 (behind-more n f.0.phase behind)),
 
 -- it adds a refusal
 refused-more : {starts : Bool} (p : Progress) (s : TraceSecond) (n : ℕ) (log : RunLog) (mid now : Device → ℕ) (c : Course) (fault : SlotFault) → HasCourse starts p s (In n) log [] mid now c →
-    HasCourse starts p s (In (suc n)) (and_refused log (record { second = s.number; fault = fault })) [] mid now (record c { refused = c.refused ++ fault ∷ [] })
+    HasCourse starts p s (In (suc n)) (and_refused log (record { second = s.number; fault = fault; begun = suc n })) [] mid now (record c { refused = c.refused ++ (suc n, fault) ∷ [] })
 unfolding is_torn_in
 refused-more p s n log mid now c fault h =
-    let r : Refused = record { second = s.number; fault = fault } in
+    let r : Refused = record { second = s.number; fault = fault; begun = suc n } in
     record {
       number = h.number;
       given = h.given;
@@ -210,8 +210,8 @@ refused-more p s n log mid now c fault h =
       finds_here = h.finds_here;
       refused = h.refused ++ r ∷ [];
       refused_are = ap (λ (rs : List Refused). rs ++ r ∷ []) h.refused_are ∙ append_assoc p.log.refused h.refused (r ∷ []);
-      refusals = map-append refused_as h.refused (r ∷ []) ∙ ap (λ (xs : List (ℕ × SlotFault)). xs ++ (s.number, fault) ∷ []) h.refusals
-          ∙ sym (map-append (refused_at s.number) c.refused (fault ∷ []));
+      refusals = map-append refusal_told h.refused (r ∷ []) ∙ ap (λ (xs : List (ℕ × ℕ × SlotFault)). xs ++ (s.number, suc n, fault) ∷ []) h.refusals
+          ∙ sym (map-append (refusal_at s.number) c.refused ((suc n, fault) ∷ []));
       uncut = h.uncut;
       unit = h.unit;
       tear_lines = h.tear_lines;
@@ -230,12 +230,13 @@ pub action-refused : AnActionIsRefused
 action-refused p before s log mid now front a rest are m fault is =
     let n : ℕ = length front in
     let c : Course = course_at log before s (In n) in
-    let r : Refused = record { second = s.number; fault = fault } in
+    let r : Refused = record { second = s.number; fault = fault; begun = suc n } in
     let next = action-reached p before s log front a rest are (reaches-of p before s (In n) log [] mid now m) in
     let later : RunLog = and_refused log r in
-    let same : course_at later before s (In (suc n)) ≡ record c { refused = c.refused ++ fault ∷ [] } =
-    refusal-seen log before s (In (suc n)) r ∙ next.1 ∙ ap (λ (o : Option SlotFault). answered n o a c) is in (
-      moment-by p before s (In (suc n)) later [] mid now (record c { refused = c.refused ++ fault ∷ [] }) same ((lines-reached p s (In (suc n)) log next.0).2 r) tt
+    let more : n + 1 ≡ suc n = omega arith in
+    let same : course_at later before s (In (suc n)) ≡ record c { refused = c.refused ++ (suc n, fault) ∷ [] } =
+    refusal-seen log before s (In (suc n)) r ∙ next.1 ∙ ap (λ (o : Option SlotFault). answered n o a c) is ∙ ap (λ (k : ℕ). record c { refused = c.refused ++ (k, fault) ∷ [] }) more in (
+      moment-by p before s (In (suc n)) later [] mid now (record c { refused = c.refused ++ (suc n, fault) ∷ [] }) same ((lines-reached p s (In (suc n)) log next.0).2 r) tt
           (refused-more p s n log mid now c fault (parts-of p before s (In n) log [] mid now m)),
       same,
     )
@@ -275,7 +276,7 @@ done-more p s n log waits mid now c d h same more enters = record {
   finds_here = h.finds_here;
   refused = h.refused;
   refused_are = h.refused_are;
-  refusals = h.refusals ∙ ap (λ (fs : List SlotFault). map (refused_at s.number) fs) (sym same.refused);
+  refusals = h.refusals ∙ ap (refusals_at s.number) (sym same.refused);
   uncut = h.uncut;
   unit = h.unit;
   tear_lines = h.tear_lines ∙ ap (visit_places s.number) (sym same.pulled);
@@ -319,6 +320,7 @@ done-by p s log mid now n (Insert slot card) c none h =
 done-by p s log mid now n (Withdraw slot) c none h = done-more p s n log [] mid now c (carried_out n (Withdraw slot) c) h (plain-told c (carried_out n (Withdraw slot) c) refl refl refl refl) (λ card. omega arith) (λ e at. inl at)
 done-by p s log mid now n (Pull slot) c none h = absurd (cc)
 done-by p s log mid now n (Place slot ending country region) c none h = done-more p s n log [] mid now c c h (plain-told c c refl refl refl refl) (λ card. omega arith) (λ e at. inl at)
+done-by p s log mid now n (Manual slot pick minute) c none h = done-more p s n log [] mid now c c h (plain-told c c refl refl refl refl) (λ card. omega arith) (λ e at. inl at)
 
 waits-by : (n : ℕ) (a : Action) → AllByRecursion (λ (e : Visit). e.phase ≡ In (suc n)) (entering_by n a)
 waits-by n (Select slot pick) = tt
@@ -326,6 +328,7 @@ waits-by n (Insert slot card) = (refl, tt)
 waits-by n (Withdraw slot) = tt
 waits-by n (Pull slot) = tt
 waits-by n (Place slot ending country region) = tt
+waits-by n (Manual slot pick minute) = tt
 
 pub action-done : AnActionIsDone
 action-done p before s log mid now front a rest are m none is =

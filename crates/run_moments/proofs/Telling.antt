@@ -21,7 +21,7 @@ use Rattle.log_model.specs.declared.lines.Find.{Find}
 use Rattle.log_model.specs.declared.lines.Verdict.{Verdict}
 use Rattle.log_model.specs.Log.{RunLog, Phase, In, Keeping, same_phase, phase_of, cut_of, cut_in, tears_here, is_torn_in, found_in}
 use Rattle.log_model.specs.Slots.{Slots, Sitting, same_card, in_slot}
-use Rattle.log_model.specs.Causes.{device_of, is_cut, has_failed, second_of, cuts, failed_cut_in, ComesBehind, AreInTime, tears, places, visit_places, in_the_slot, RoseBy, IsBegun, IsAtPowerOn, CutBy}
+use Rattle.log_model.specs.Causes.{device_of, is_cut, has_failed, second_of, cuts, failed_cut_in, ComesBehind, AreInTime, tears, places, visit_places, in_the_slot, refusals_at, RoseBy, IsBegun, IsAtPowerOn, CutBy}
 use Rattle.log_model.specs.Course.{Told, Went, Course, Visit, Before, Moved, visits, card_in, slot_told, both_told, unmoved, cut_told, lit_course, has_power, second_told, went}
 use Rattle.event_model.specs.Events.{course_by}
 use Rattle.history_model.specs.Presence.{Start}
@@ -40,7 +40,7 @@ use Rattle.run_course.proofs.Told.{lit-power, lit-starts}
 use Rattle.run_course.proofs.Within.{second-ends, cut-ends}
 use Rattle.run_moments.specs.Reached.{IsBehind, moved_at, course_at, IsUpTo, IsTearAt, IsFindAt}
 use Rattle.run_moments.specs.Lines.{times_of, IsTornAt}
-use Rattle.run_moments.specs.Moment.{finds_by, refused_at, find_as, found_at, found_by, IsJudgedBy, IsWaiting, goes_on}
+use Rattle.run_moments.specs.Moment.{finds_by, find_as, found_at, found_by, IsJudgedBy, IsWaiting, goes_on}
 use Rattle.run_moments.specs.Telling.{IsMore, BreakdownsOnly, BrokeDown, ACardIsTorn, WaitBut, ATornCardWaitsNoMore, ACardIsJudged, TheKeepingComes, told_with, TheSecondEnds, begun_by, IsLeft, ACutEnds}
 use Rattle.run_moments.proofs.Reached.{at-by, push-each, keeping-reached, lines-reached}
 use Rattle.run_moments.proofs.Lines.{tear-seen, find-seen, who-sits}
@@ -161,7 +161,7 @@ torn-parts {starts = starts} p s at log waits mid now later c d slot b card is p
       finds_here = h.finds_here;
       refused = h.refused;
       refused_are = h.refused_are;
-      refusals = h.refusals ∙ ap (map (refused_at s.number)) (sym t.is.refused);
+      refusals = h.refusals ∙ ap (refusals_at s.number) (sym t.is.refused);
       uncut = push-each (λ (b : Break). is_cut b ≡ false) h.breaks b h.uncut (ap is_cut is.2);
       unit = let le = h.unit in let on = broke.unit in omega (arith, le, on);
       tear_lines = places-more false h.breaks b ∙ ap (λ (ps : List (ℕ × Phase × Slot)). flat_map places (tears false (log_of h.breaks)) ++ ps) mine.1
@@ -404,7 +404,7 @@ module _ (p : Progress) (s : TraceSecond) (at : Phase) (log : RunLog) (waits few
     finds_here = push-each (λ (f : Find). f.second ≡ p.next) h.finds f h.finds_here (is.second ∙ h.number);
     refused = h.refused;
     refused_are = h.refused_are;
-    refusals = h.refusals ∙ ap (map (refused_at s.number)) (sym refused);
+    refusals = h.refusals ∙ ap (refusals_at s.number) (sym refused);
     uncut = h.uncut;
     unit = h.unit;
     tear_lines = h.tear_lines ∙ ap (visit_places s.number) (sym pulled);
@@ -537,7 +537,7 @@ cut-in_time n (x ∷ bs) b uncut h is = (same-second n x (bs ++ b ∷ []) uncut.
 -- what a second tells where it went so, by its new lines
 told-causes : (p : Progress) (s : TraceSecond) (at : Phase) (log : RunLog) (mid now : Device → ℕ) (c : Course) (starts : Bool) (h : HasCourse starts p s at log [] mid now c) → AreNewCauses mid now h.breaks h.finds h.refused log s (told_with starts false s c)
 told-causes p s at log mid now c starts h = record {
-  refusals = h.refusals ∙ sym (append-nil (map (refused_at s.number) c.refused));
+  refusals = h.refusals ∙ sym (append-nil (refusals_at s.number c.refused));
   cut_seconds = ap (map second_of) (no-cuts h.breaks h.uncut);
   no_off = no-cuts_by false h.breaks h.uncut;
   failed_cuts = subst (λ (bs : List Break). RoseBy (length bs) (mid Recorder) (now Recorder)) (sym (no-cuts_by true h.breaks h.uncut)) (inl (let le = h.unit in omega (arith, le)));
@@ -704,7 +704,7 @@ pub cut-causes : (p : Progress) (s : TraceSecond) (at : Phase) (log : RunLog) (w
 cut-causes p s at log waits mid now later c starts rest up left here more broke h =
     let cut : Break = cut_at s.number true (begun_by s at) in
     record {
-      refusals = h.refusals ∙ sym (append-nil (map (refused_at s.number) c.refused));
+      refusals = h.refusals ∙ sym (append-nil (refusals_at s.number c.refused));
       cut_seconds = ap (map second_of) (filter-append is_cut h.breaks (cut ∷ []) ∙ ap (λ (bs : List Break). bs ++ cut ∷ []) (no-cuts h.breaks h.uncut));
       no_off = filter-append (λ (b : Break). is_cut b && not (has_failed b)) h.breaks (cut ∷ []) ∙ append-nil (cuts false (log_of h.breaks)) ∙ no-cuts_by false h.breaks h.uncut;
       failed_cuts = subst (λ (bs : List Break). RoseBy (length bs) (mid Recorder) (later Recorder))

@@ -18,7 +18,7 @@ use Rattle.log_model.specs.declared.lines.SlotFault.{SlotFault}
 use Rattle.log_model.specs.declared.lines.Verdict.{Verdict}
 use Rattle.log_model.specs.Log.{RunLog, Phase, In, same_phase, is_torn_in}
 use Rattle.log_model.specs.Slots.{Sitting, same_card, in_slot, refusal}
-use Rattle.log_model.specs.Causes.{device_of, is_cut, second_of, tears, places, visit_places, in_the_slot, RoseBy, IsBegun, IsAtPowerOn}
+use Rattle.log_model.specs.Causes.{device_of, is_cut, second_of, tears, places, visit_places, in_the_slot, refusals_at, refusal_told, RoseBy, IsBegun, IsAtPowerOn}
 use Rattle.log_model.specs.Course.{Told, Course, Visit, Before, answered, fresh, went}
 use Rattle.history_model.specs.Presence.{Start}
 use Rattle.unit_course.specs.Lines.{log_of}
@@ -31,13 +31,7 @@ use Rattle.run_course.specs.Caused.{StandsBy}
 use Rattle.run_moments.specs.Reached.{IsBehind, course_at, IsMoment, IsUpTo}
 use Rattle.run_moments.specs.Lines.{times_of}
 
--- refusals and finds, as lines and as a course has them
-abbrev pub refused_as : Refused → ℕ × SlotFault
-refused_as r = (r.second, r.fault)
-
-abbrev pub refused_at : ℕ → SlotFault → ℕ × SlotFault
-refused_at u fault = (u, fault)
-
+-- finds, as lines and as a course has them
 abbrev pub find_as : Find → ℕ × Phase × Slot × Verdict
 find_as f = (f.second, In f.begun, f.slot, f.verdict)
 
@@ -77,7 +71,7 @@ pub record Moment (p : Progress) (before : Before) (s : TraceSecond) (at : Phase
   pub refused_are : log.refused ≡ p.log.refused ++ refused
   pub up_to : IsUpTo log s.number at
   pub is : IsMoment s at
-  pub refusals : map refused_as refused ≡ map (refused_at s.number) (course_at log before s at).refused
+  pub refusals : map refusal_told refused ≡ refusals_at s.number (course_at log before s at).refused
   pub uncut : AllByRecursion (λ (b : Break). is_cut b ≡ false) breaks
   pub unit : mid Recorder ≤ now Recorder
   pub tear_lines : flat_map places (tears false (log_of breaks)) ≡ visit_places s.number (course_at log before s at).pulled
@@ -110,9 +104,9 @@ AnActionIsRefused = (p : Progress) (before : Before) (s : TraceSecond) (log : Ru
     s.actions ≡ front ++ a ∷ rest → Moment p before s (In (length front)) log [] mid now →
     let c : Course = course_at log before s (In (length front)) in
     (fault : SlotFault) → refusal c.slots s.speed a ≡ Some fault →
-    let later : RunLog = and_refused log (record { second = s.number; fault = fault }) in
+    let later : RunLog = and_refused log (record { second = s.number; fault = fault; begun = suc (length front) }) in
     Moment p before s (In (suc (length front))) later [] mid now
-    × (course_at later before s (In (suc (length front))) ≡ record c { refused = c.refused ++ fault ∷ [] })
+    × (course_at later before s (In (suc (length front))) ≡ record c { refused = c.refused ++ (suc (length front), fault) ∷ [] })
 
 -- the cards that an action lets enter
 abbrev pub entering_by : ℕ → Action → List Visit

@@ -14,7 +14,7 @@ use Rattle.card_image.specs.View.{CardView}
 use Rattle.card_image.specs.Own.{own_view, own_sizes, own_number, own_bad_file, IsOwnValid}
 use Rattle.unit_model.specs.Image.{last_kept}
 use Rattle.unit_model.specs.Decoding.{Decodes, first_bad_place}
-use Rattle.unit_memory.specs.Identified.{IsIdentity}
+use Rattle.unit_memory.specs.Identified.{AreFacts}
 use Rattle.unit_journal.specs.Image.{IsFoundBy}
 use Rattle.joint_rule.specs.Views.{unit_view, owed}
 use Rattle.unit_rule.specs.Rule.{started}
@@ -136,7 +136,7 @@ module _ (r : Recording) (start : ℕ) (old new : Devices) (unit_before : IsCohe
   named-found A = refl
   named-found B = refl
 
-  module _ (opened : Opened) (on : Card → CardState) (loaded : IsLoaded new.unit opened.unit.journal) (identity : IfSome new.unit.image (IsIdentity opened.unit.memory)) (later : opened.unit.journal.kept < start / 60)
+  module _ (opened : Opened) (on : Card → CardState) (loaded : IsLoaded new.unit opened.unit.journal) (identity : IfSome new.unit.image (AreFacts opened.unit.memory)) (later : opened.unit.journal.kept < start / 60)
       (found : (c : Card) → IsFoundOn (known_of opened c) (on c) (card_of new c)) (two : AreTwo opened.card_a.number opened.card_b.number) where
     decodes : Decodes r.unit
     decodes = at_image Decodes unit-image loaded.decodes
@@ -189,7 +189,7 @@ module _ (r : Recording) (start : ℕ) (old new : Devices) (unit_before : IsCohe
       decodes = decodes;
       later = late-start;
       journal = journal;
-      memory = at_image (IsIdentity opened.unit.memory) unit-image identity;
+      memory = at_image (AreFacts opened.unit.memory) unit-image identity;
       told = told;
       named = λ c. subst (λ (l : List ℕ). IfSome (known_of opened c).number (λ n. card_number_bytes n ≡ l)) (sym (named-found c)) (named c (card_image r c) (known_of opened c) (told c) (own_bad_file (card_image r c)) refl);
       two = names;
@@ -238,7 +238,7 @@ module _ (r : Recording) (start : ℕ) (U V P Q S T : State) (U_whole : IsCohere
   were : (c : Card) → IsAsItWas (card_of (devices U P S) c) (card_of (devices V Q T) c)
   were = each (λ c. IsAsItWas (card_of (devices U P S) c) (card_of (devices V Q T) c)) a_was b_was
 
-  pub begun : (on_a on_b : CardState) (result : Result Opened RunFault) → IfOk result (λ o. IsLoaded V o.unit.journal) → IfOk result (λ o. IfSome V.image (IsIdentity o.unit.memory)) → IfOk result (λ o. o.unit.journal.kept < start / 60)
+  pub begun : (on_a on_b : CardState) (result : Result Opened RunFault) → IfOk result (λ o. IsLoaded V o.unit.journal) → IfOk result (λ o. IfSome V.image (AreFacts o.unit.memory)) → IfOk result (λ o. o.unit.journal.kept < start / 60)
       → IfOk result (λ o. IsFoundOn o.card_a on_a Q) → IfOk result (λ o. IsFoundOn o.card_b on_b T) → IfOk result (λ o. AreTwo o.card_a.number o.card_b.number) → IfErr result (IsRefused start (devices U P S) (devices V Q T))
       → IsBegun r start (devices U P S) (devices V Q T) result
   begun on_a on_b (Ok o) loaded identity later found_a found_b two why =

@@ -9,7 +9,7 @@ use Rattle.tach_media.specs.Medium.{Rose}
 use Rattle.card_image.specs.Own.{own_number, own_bad_file, IsOwnValid}
 use Rattle.unit_model.specs.Image.{last_kept}
 use Rattle.unit_model.specs.Decoding.{Decodes, first_bad_place}
-use Rattle.unit_memory.specs.Identified.{IsIdentity}
+use Rattle.unit_memory.specs.Identified.{AreFacts}
 use Rattle.unit_journal.specs.Image.{IsFoundBy}
 use Rattle.safety_model.specs.Recording.{Recording, card_image, unit_seen}
 use Rattle.safety_model.specs.Safe.{Devices, card_of, MayBegin, first_of}
@@ -76,7 +76,7 @@ pub record IsReady (r : Recording) (start : ℕ) (opened : Opened) (old new : De
   pub decodes : Decodes r.unit
   pub later : last_kept r.unit < start / 60
   pub journal : IsFoundBy opened.unit.journal r.unit
-  pub memory : IsIdentity opened.unit.memory r.unit
+  pub memory : AreFacts opened.unit.memory r.unit
   pub told : (c : Card) → IsTold (card_image r c) (known_of opened c)
   pub named : (c : Card) → IfSome (known_of opened c).number (λ n. card_number_bytes n ≡ (found_of (found_in r old) c).number)
   pub two : (found_in r old).card_a.number ≢ (found_in r old).card_b.number

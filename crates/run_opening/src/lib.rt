@@ -8,5 +8,5 @@ mod opening;
 
 pub use fault::RunFault;
 pub use on_card::judge_card;
-pub use on_unit::{OpenedUnit, judge_clock, judge_unit, load};
+pub use on_unit::{OpenedUnit, judge_clock, judge_unit, open_unit};
 pub use opening::{Opened, judge};

@@ -4,7 +4,7 @@ ghost use Rattle.tach_media.specs.Medium.{LeavesOnly, Unchanged, HasCause, reviv
 ghost use Rattle.unit_model.specs.declared.layout.TheConstants.{IMAGE_SIZE};
 ghost use Rattle.unit_model.specs.Image.{IsUnit};
 ghost use Rattle.unit_memory.specs.Fault.{has_failed};
-ghost use Rattle.unit_memory.specs.Identified.{IsIdentity};
+ghost use Rattle.unit_memory.specs.Identified.{AreFacts};
 ghost use Rattle.run_opening.specs.Opening.{IsAsItWas};
 ghost use Rattle.run_opening.specs.Units.{IsLoaded, IsNotLoaded, HasBrokenDown, IsClockBack, IsUnitRefused, opening_fault};
 
@@ -27,7 +27,7 @@ pub struct OpenedUnit {
 ///
 /// 1. `Failed` where the unit failed.
 /// 2. `BadUnit` exactly where its image does not decode, with the place of the first field, in order of places, that fails.
-pub fn load<M: Medium>(unit: &mut M) -> Result<Journal, UnitFault>
+fn load<M: Medium>(unit: &mut M) -> Result<Journal, UnitFault>
     requires unit { (M.state unit.old).size ≡ IMAGE_SIZE }
     ensures loaded { IfOk result (IsLoaded (M.state unit.new)) }
     ensures bad { IfErr result (IsNotLoaded (M.state unit.old) (M.state unit.new)) }
@@ -42,12 +42,14 @@ pub fn load<M: Medium>(unit: &mut M) -> Result<Journal, UnitFault>
     Ok(journal)
 }
 
-// Revives the unit, judges it, and reads what it was told of the vehicle; it writes nothing.
-fn open<M: Medium>(unit: &mut M) -> Result<OpenedUnit, UnitFault>
+/// Revives the unit, judges it, and reads what it was told of the vehicle, and its rule; it writes nothing. No line tells a failure here but the
+/// caller's.
+pub fn open_unit<M: Medium>(unit: &mut M) -> Result<OpenedUnit, UnitFault>
     requires unit { (M.state unit.old).size ≡ IMAGE_SIZE }
     ensures loaded { IfOk result (λ opened. IsLoaded (M.state unit.new) opened.journal) }
-    ensures identity { IfOk result (λ opened. IfSome (M.state unit.new).image (IsIdentity opened.memory)) }
+    ensures facts { IfOk result (λ opened. IfSome (M.state unit.new).image (AreFacts opened.memory)) }
     ensures bad { IfErr result (IsNotLoaded (M.state unit.old) (M.state unit.new)) }
+    ensures broke { IfErr result (HasBrokenDown (M.state unit.old) (M.state unit.new)) }
     ensures unit { IsUnit (M.state unit.old) → IsUnit (M.state unit.new) }
     ensures leaves { LeavesOnly (M.state unit.old) (M.state unit.new) Unchanged }
     ensures clock { (M.state unit.new).clock ≡ (M.state unit.old).clock }
@@ -82,7 +84,7 @@ pub fn judge_clock(kept: u32, second: u32) -> Result<(), RunFault>
 pub fn judge_unit<M: Medium>(unit: &mut M, start: u32) -> Result<OpenedUnit, RunFault>
     requires unit { (M.state unit.old).size ≡ IMAGE_SIZE }
     ensures loaded { IfOk result (λ opened. IsLoaded (M.state unit.new) opened.journal) }
-    ensures identity { IfOk result (λ opened. IfSome (M.state unit.new).image (IsIdentity opened.memory)) }
+    ensures facts { IfOk result (λ opened. IfSome (M.state unit.new).image (AreFacts opened.memory)) }
     ensures later { IfOk result (λ opened. opened.journal.kept < start / 60) }
     ensures refused { IfErr result (IsUnitRefused start (M.state unit.old) (M.state unit.new)) }
     ensures unit { IsUnit (M.state unit.old) → IsUnit (M.state unit.new) }
@@ -91,7 +93,7 @@ pub fn judge_unit<M: Medium>(unit: &mut M, start: u32) -> Result<OpenedUnit, Run
     ensures same { IsAsItWas (M.state unit.old) (M.state unit.new) }
     ensures cause { OnOk result (HasCause (revivable (M.state unit.old)) (M.state unit.new) false) }
 {
-    match open(unit) {
+    match open_unit(unit) {
         Ok(opened) => {
             judge_clock(opened.journal.last_kept(), start)?;
             Ok(opened)

@@ -3,7 +3,7 @@ ghost use Rattle.std.specs.Prelude.{◌≡◌, ◌≤◌, ◌<◌, ◌/◌, fals
 ghost use Rattle.tach_media.specs.Medium.{HasCause, revivable};
 ghost use Rattle.unit_model.specs.declared.layout.TheConstants.{IMAGE_SIZE};
 ghost use Rattle.unit_model.specs.Image.{IsUnit};
-ghost use Rattle.unit_memory.specs.Identified.{IsIdentity};
+ghost use Rattle.unit_memory.specs.Identified.{AreFacts};
 ghost use Rattle.safety_model.specs.Recording.{Recording};
 ghost use Rattle.run_rule.specs.Between.{devices};
 ghost use Rattle.run_opening.specs.Units.{IsLoaded};
@@ -38,7 +38,7 @@ fn judge_each<M: Medium, C: Chip, D: Chip>(
     requires card_a { LARGEST_IMAGE ≤ (C.state card_a.old).size }
     requires card_b { LARGEST_IMAGE ≤ (D.state card_b.old).size }
     ensures loaded { IfOk result (λ opened. IsLoaded (M.state unit.new) opened.unit.journal) }
-    ensures identity { IfOk result (λ opened. IfSome (M.state unit.new).image (IsIdentity opened.unit.memory)) }
+    ensures facts { IfOk result (λ opened. IfSome (M.state unit.new).image (AreFacts opened.unit.memory)) }
     ensures later { IfOk result (λ opened. opened.unit.journal.kept < start / 60) }
     ensures found_a { IfOk result (λ opened. IsFoundOn opened.card_a (C.card card_a.new) (C.state card_a.new)) }
     ensures found_b { IfOk result (λ opened. IsFoundOn opened.card_b (D.card card_b.new) (D.state card_b.new)) }
@@ -79,7 +79,7 @@ pub fn judge<M: Medium, C: Chip, D: Chip>(
     requires card_a { LARGEST_IMAGE ≤ (C.state card_a.old).size }
     requires card_b { LARGEST_IMAGE ≤ (D.state card_b.old).size }
     ensures loaded { IfOk result (λ opened. IsLoaded (M.state unit.new) opened.unit.journal) }
-    ensures identity { IfOk result (λ opened. IfSome (M.state unit.new).image (IsIdentity opened.unit.memory)) }
+    ensures facts { IfOk result (λ opened. IfSome (M.state unit.new).image (AreFacts opened.unit.memory)) }
     ensures later { IfOk result (λ opened. opened.unit.journal.kept < start / 60) }
     ensures found_a { IfOk result (λ opened. IsFoundOn opened.card_a (C.card card_a.new) (C.state card_a.new)) }
     ensures found_b { IfOk result (λ opened. IsFoundOn opened.card_b (D.card card_b.new) (D.state card_b.new)) }

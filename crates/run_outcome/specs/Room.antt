@@ -1,7 +1,7 @@
 -- How many lines a run can have (profile).
 use Rattle.std.specs.Prelude.{◌≡◌, ℕ, ◌+◌, ◌*◌, ◌/◌, Bool, true, false, if◌then◌else◌, List, [], length, count_by}
 use Rattle.trace_model.specs.declared.Action.{Action}
-use Rattle.trace_model.specs.declared.Action.TheVariants.{Select, Insert, Withdraw, Tear, Place}
+use Rattle.trace_model.specs.declared.Action.TheVariants.{Select, Insert, Withdraw, Tear, Place, Manual}
 use Rattle.trace_model.specs.declared.Item.{Item}
 use Rattle.trace_model.specs.declared.Item.TheVariants.{Run, Off, Act}
 use Rattle.trace_model.specs.Trace.{total_seconds}
@@ -21,6 +21,7 @@ puts_in (Insert slot card) = true
 puts_in (Withdraw slot) = false
 puts_in (Tear slot) = false
 puts_in (Place slot ending country region) = false
+puts_in (Manual slot pick minute) = false
 
 abbrev pub is_insertion : Item → Bool
 is_insertion (Run seconds speed) = false

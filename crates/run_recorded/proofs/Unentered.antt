@@ -11,7 +11,7 @@ use Rattle.activity_codec.specs.declared.values.Slot.TheVariants.{Driver, CoDriv
 use Rattle.trace_model.specs.declared.Card.{Card}
 use Rattle.trace_model.specs.declared.Card.TheVariants.{A, B}
 use Rattle.trace_model.specs.declared.Action.{Action}
-use Rattle.trace_model.specs.declared.Action.TheVariants.{Select, Insert, Withdraw, Tear, Place}
+use Rattle.trace_model.specs.declared.Action.TheVariants.{Select, Insert, Withdraw, Tear, Place, Manual}
 use Rattle.trace_model.specs.Trace.{TraceSecond}
 use Rattle.minute_model.specs.declared.Rule.{Rule}
 use Rattle.minute_model.specs.declared.Minute.{Minute}
@@ -107,6 +107,7 @@ module _ (c : Card) where
   carried-goes n (Withdraw slot) x = still x _ refl (λ o. out-with x.slots slot None refl o)
   carried-goes n (Tear slot) x = still x _ refl (λ o. out-with x.slots slot None refl o)
   carried-goes n (Place slot ending country region) x = still x _ refl (λ o. o)
+  carried-goes n (Manual slot pick minute) x = still x _ refl (λ o. o)
 
   answered-goes : (n : ℕ) (r : Option SlotFault) (a : Action) (x : Course) → Goes x (answered n r a x)
   answered-goes n None a x = carried-goes n a x

@@ -8,11 +8,9 @@ use Rattle.run_model.specs.declared.Device.TheVariants.{Unit as Recorder}
 use Rattle.minute_model.specs.declared.Minute.{Minute}
 use Rattle.log_model.specs.declared.lines.Mark.{Mark}
 use Rattle.log_model.specs.declared.lines.Refused.{Refused}
-use Rattle.log_model.specs.declared.lines.SlotFault.{SlotFault}
-use Rattle.log_model.specs.declared.lines.SlotFault.TheVariants.{NoPower}
 use Rattle.log_model.specs.Log.{RunLog, Phase, Keeping}
-use Rattle.log_model.specs.Causes.{RoseBy}
-use Rattle.log_model.specs.Course.{Told, Visit, went}
+use Rattle.log_model.specs.Causes.{refusals_at, refusal_told, RoseBy}
+use Rattle.log_model.specs.Course.{Told, Visit, went, without_power}
 use Rattle.history_model.specs.Minutes.{HistoryMinute}
 use Rattle.history_model.specs.History.{seated, minutes_after, decided_of}
 use Rattle.history_model.specs.Book.{Book, found, not_begun}
@@ -147,15 +145,9 @@ QuietSecondsAreRecorded = (o : Origin) (done : List TraceSecond) (p : Progress) 
 abbrev pub passed_dark : (n begun : ℕ) → (refused : List Refused) → Progress → Progress
 passed_dark n begun refused p = record p { log = record p.log { refused = p.log.refused ++ refused }; next = p.next + n; begun = begun }
 
-abbrev pub refused_for : ℕ → List Action → List (ℕ × SlotFault)
-refused_for second actions = map (λ a. (second, NoPower)) actions
-
-abbrev pub fault_of : Refused → ℕ × SlotFault
-fault_of r = (r.second, r.fault)
-
 abbrev pub DarkSecondsAreRecorded : Type 0
 DarkSecondsAreRecorded = (o : Origin) (done : List TraceSecond) (p : Progress) (g : Travel) (marks : List Mark) (now : Device → ℕ) (brought : Card → List ℕ) → HasRecorded o done p g marks now brought →
-    p.supply ≡ Lost → (n speed : ℕ) (actions : List Action) (refused : List Refused) (begun : ℕ) → 0 < p.next % 60 → p.next % 60 + suc n ≤ 60 → map fault_of refused ≡ refused_for p.next actions →
+    p.supply ≡ Lost → (n speed : ℕ) (actions : List Action) (refused : List Refused) (begun : ℕ) → 0 < p.next % 60 → p.next % 60 + suc n ≤ 60 → map refusal_told refused ≡ refusals_at p.next (without_power 0 actions) →
     HasRecorded o (done ++ driven (suc n) p.next speed actions) (passed_dark (suc n) begun refused p) g marks now brought
 
 -- AN `off` LINE while there is no power, and while there is

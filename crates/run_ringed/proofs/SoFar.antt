@@ -3,7 +3,7 @@ use Rattle.std.proofs.Common.{◌≡◌, inl, ℕ, suc, ◌+◌, ◌<◌, ◌≤
 use Rattle.std.specs.List.{AllByRecursion, list_any}
 use Rattle.std.proofs.lemmas.List.Elements.{filter-append}
 use Rattle.trace_model.specs.declared.Action.{Action}
-use Rattle.trace_model.specs.declared.Action.TheVariants.{Select, Insert, Withdraw, Tear, Place}
+use Rattle.trace_model.specs.declared.Action.TheVariants.{Select, Insert, Withdraw, Tear, Place, Manual}
 use Rattle.trace_model.specs.declared.Card.{Card}
 use Rattle.trace_model.specs.Trace.{TraceSecond}
 use Rattle.minute_model.specs.Second.{Second}
@@ -275,6 +275,7 @@ of-by log u a (Withdraw slot) = by (is_torn_in log u (In (a.before + 1)) slot)
     by false = of-withdrawn u (accepted_card (in_slot a.slots slot))
 of-by log u a (Tear slot) = tt
 of-by log u a (Place slot ending country region) = of-places u ending country region (accepted_card (in_slot a.slots slot))
+of-by log u a (Manual slot pick minute) = tt
 
 of-if : (r : Option SlotFault) (log : RunLog) (u : ℕ) (a : CarriedOut) (found : List Finding) → AreOf u (noted_if r log u a found)
 of-if (Some fault) log u a found = tt

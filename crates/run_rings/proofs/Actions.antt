@@ -8,7 +8,7 @@ use Rattle.activity_codec.specs.declared.values.Slot.{Slot}
 use Rattle.activity_codec.specs.declared.values.Slot.TheVariants.{Driver, CoDriver}
 use Rattle.trace_model.specs.declared.Card.{Card}
 use Rattle.trace_model.specs.declared.Action.{Action}
-use Rattle.trace_model.specs.declared.Action.TheVariants.{Select, Insert, Withdraw, Tear, Place}
+use Rattle.trace_model.specs.declared.Action.TheVariants.{Select, Insert, Withdraw, Tear, Place, Manual}
 use Rattle.trace_model.specs.Trace.{TraceSecond}
 use Rattle.log_model.specs.declared.lines.SlotFault.{SlotFault}
 use Rattle.log_model.specs.declared.lines.Verdict.{Verdict}
@@ -17,7 +17,7 @@ use Rattle.log_model.specs.Slots.{Sitting, in_slot, is_accepted, refusal}
 use Rattle.log_model.specs.Course.{Course, Visit, Before, Moved, card_in, visits, leaves, with_slot, answered, unmoved, moved_by, fresh, slot_told, both_told, begins, is_settling, acted, all_acted}
 use Rattle.side_model.specs.Done.{CarriedOut, course_powered}
 use Rattle.side_model.specs.Noted.{Note, Accepts, Withdraws, Enters, accepted_card}
-use Rattle.run_rings.specs.Notes.{accepted_in, noted_if, notes_to, course_behind, accepts_by, sits_accepted, NotesMore, SelectionsNoteNothing, PullsNoteNothing, RefusalsNoteNothing, PlacesAreNoted, WithdrawalsAreNoted, InsertionsAreNoted, PowerOnsAreNoted}
+use Rattle.run_rings.specs.Notes.{accepted_in, noted_if, notes_to, course_behind, accepts_by, sits_accepted, NotesMore, SelectionsNoteNothing, PullsNoteNothing, EntriesByHandNoteNothing, RefusalsNoteNothing, PlacesAreNoted, WithdrawalsAreNoted, InsertionsAreNoted, PowerOnsAreNoted}
 use Rattle.run_rings.proofs.Notes.{Finding, is_at, seen_of, verdicts_at, seen_at, judged_at, accepted-append, slot-found, seen-other, answered-found, action-notes}
 
 -- ---- nothing was found yet of a later moment
@@ -143,6 +143,21 @@ module _ (log : RunLog) (before : Before) (s : TraceSecond) (front : List Action
   pull-notes slot = nothing-notes (Tear slot) (by (refusal c.slots s.speed (Tear slot)) (quiet-any (Tear slot) (enters-none (refusal c.slots s.speed (Tear slot)) slot Driver) (enters-none (refusal c.slots s.speed (Tear slot)) slot CoDriver)))
     where
       by : (r : Option SlotFault) → accepted_in u (In (n + 1)) (acted log s n (Tear slot) c).found ≡ [] → one_notes r (Tear slot) ≡ []
+      by None none = none
+      by (Some fault) none = refl
+
+  -- an entry by hand lets no card enter either, refused or not
+  hand-enters : (r : Option SlotFault) (slot : Slot) (pick : Pick) (minute : ℕ) (at : Slot) → (moved_by n r (Manual slot pick minute) c.slots).enters at ≡ false
+  hand-enters None slot pick minute at = refl
+  hand-enters (Some fault) slot pick minute at = refl
+
+  hand-notes : (slot : Slot) (pick : Pick) (minute : ℕ) → NotesMore log before s front (Manual slot pick minute) []
+  hand-notes slot pick minute =
+      let a : Action = Manual slot pick minute in
+      let r : Option SlotFault = refusal c.slots s.speed a in
+      nothing-notes a (by r (quiet-any a (hand-enters r slot pick minute Driver) (hand-enters r slot pick minute CoDriver)))
+    where
+      by : (r : Option SlotFault) → accepted_in u (In (n + 1)) (acted log s n (Manual slot pick minute) c).found ≡ [] → one_notes r (Manual slot pick minute) ≡ []
       by None none = none
       by (Some fault) none = refl
 
@@ -301,6 +316,9 @@ selections = select-notes
 
 pub pulls : PullsNoteNothing
 pulls = pull-notes
+
+pub entries : EntriesByHandNoteNothing
+entries = hand-notes
 
 pub refusals : RefusalsNoteNothing
 refusals log before s front a fault is = refused-notes log before s front a (Some fault) fault is refl

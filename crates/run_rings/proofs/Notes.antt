@@ -9,7 +9,7 @@ use Rattle.std.proofs.lemmas.Bool.Decides.{nat_tests}
 use Rattle.activity_codec.specs.declared.values.Slot.{Slot}
 use Rattle.activity_codec.specs.declared.values.Slot.TheVariants.{Driver, CoDriver}
 use Rattle.trace_model.specs.declared.Action.{Action}
-use Rattle.trace_model.specs.declared.Action.TheVariants.{Select, Insert, Withdraw, Tear, Place}
+use Rattle.trace_model.specs.declared.Action.TheVariants.{Select, Insert, Withdraw, Tear, Place, Manual}
 use Rattle.trace_model.specs.Trace.{TraceSecond}
 use Rattle.log_model.specs.declared.lines.SlotFault.{SlotFault}
 use Rattle.log_model.specs.declared.lines.Verdict.{Verdict}
@@ -91,6 +91,7 @@ answered-found n None (Insert slot card) c = refl
 answered-found n None (Withdraw slot) c = refl
 answered-found n None (Tear slot) c = refl
 answered-found n None (Place slot ending country region) c = refl
+answered-found n None (Manual slot pick minute) c = refl
 
 acted-accepted : (log : RunLog) (s : TraceSecond) (n m : ℕ) (a : Action) (c : Course) → m ≤ n → accepted_in s.number (In m) (acted log s n a c).found ≡ accepted_in s.number (In m) c.found
 acted-accepted log s n m a c le = by (begins (cut_in log s.number) n)
@@ -155,6 +156,7 @@ module _ (log later : RunLog) (s : TraceSecond) where
   by-same a (Withdraw slot) torn = rw (torn slot) refl
   by-same a (Tear slot) torn = refl
   by-same a (Place slot ending country region) torn = refl
+  by-same a (Manual slot pick minute) torn = refl
 
   if-same : (r : Option SlotFault) (a : CarriedOut) (found : List Finding) → ((slot : Slot) → is_torn_in later u (In (a.before + 1)) slot ≡ is_torn_in log u (In (a.before + 1)) slot) → noted_if r later u a found ≡ noted_if r log u a found
   if-same (Some fault) a found torn = refl

@@ -5,7 +5,7 @@ use Rattle.activity_codec.specs.declared.values.Slot.{Slot}
 use Rattle.activity_codec.specs.declared.values.Slot.TheVariants.{Driver, CoDriver}
 use Rattle.trace_model.specs.declared.Card.{Card}
 use Rattle.trace_model.specs.declared.Action.{Action}
-use Rattle.trace_model.specs.declared.Action.TheVariants.{Select, Insert, Withdraw, Tear, Place}
+use Rattle.trace_model.specs.declared.Action.TheVariants.{Select, Insert, Withdraw, Tear, Place, Manual}
 use Rattle.trace_model.specs.Trace.{TraceSecond}
 use Rattle.log_model.specs.declared.lines.SlotFault.{SlotFault}
 use Rattle.log_model.specs.declared.lines.Verdict.{Verdict}
@@ -83,12 +83,15 @@ sits_accepted u slot (Some x) verdicts = accepts_by u slot x.card verdicts
 abbrev pub NotesMore : RunLog → Before → TraceSecond → (front : List Action) → Action → List Note → Type 0
 NotesMore log before s front a more = notes_to log before s (front ++ a ∷ []) ≡ notes_to log before s front ++ more
 
--- A SELECTION notes nothing, nor does a card that is pulled out, nor an action that is refused;
+-- A SELECTION notes nothing, nor does a card that is pulled out, nor an entry by hand, nor an action that is refused;
 abbrev pub SelectionsNoteNothing : Type 0
 SelectionsNoteNothing = (log : RunLog) (before : Before) (s : TraceSecond) (front : List Action) (slot : Slot) (pick : Pick) → NotesMore log before s front (Select slot pick) []
 
 abbrev pub PullsNoteNothing : Type 0
 PullsNoteNothing = (log : RunLog) (before : Before) (s : TraceSecond) (front : List Action) (slot : Slot) → NotesMore log before s front (Tear slot) []
+
+abbrev pub EntriesByHandNoteNothing : Type 0
+EntriesByHandNoteNothing = (log : RunLog) (before : Before) (s : TraceSecond) (front : List Action) (slot : Slot) (pick : Pick) (minute : ℕ) → NotesMore log before s front (Manual slot pick minute) []
 
 abbrev pub RefusalsNoteNothing : Type 0
 RefusalsNoteNothing = (log : RunLog) (before : Before) (s : TraceSecond) (front : List Action) (a : Action) (fault : SlotFault) → refusal (course_behind log before s front).slots s.speed a ≡ Some fault → NotesMore log before s front a []

@@ -7,7 +7,7 @@ ghost use Rattle.log_model.specs.Slots.{same_card};
 ghost use Rattle.side_model.specs.Noted.{InsertionNote, Withdrawal, with_withdrawal};
 ghost use Rattle.run_rings.specs.Carried.{Carries};
 ghost use Rattle.run_rings.specs.Spans.{TheyAreTheSpans, EarlierOdometersStay, AlikeSecondsCountAlike, TheOdometerOfNow};
-ghost use Rattle.run_rings.specs.Notes.{LaterLinesChangeNoNote, AnActionNotes, ASecondHasNoted, ACutNotesNoMore, SelectionsNoteNothing, PullsNoteNothing, RefusalsNoteNothing, PlacesAreNoted, WithdrawalsAreNoted, InsertionsAreNoted, PowerOnsAreNoted};
+ghost use Rattle.run_rings.specs.Notes.{LaterLinesChangeNoNote, AnActionNotes, ASecondHasNoted, ACutNotesNoMore, SelectionsNoteNothing, PullsNoteNothing, EntriesByHandNoteNothing, RefusalsNoteNothing, PlacesAreNoted, WithdrawalsAreNoted, InsertionsAreNoted, PowerOnsAreNoted};
 
 /// A ring that was dense at the start carries what it showed and the entries that were added since, over each step: an entry is added, or a
 /// stop comes at a moment of that; bytes outside the ring are written; one of the run's entries gets other bytes where it stands, or would
@@ -55,6 +55,7 @@ pub fn a_second_notes_action_by_action()
 pub fn what_an_action_notes()
     ensures selection { SelectionsNoteNothing }
     ensures pull { PullsNoteNothing }
+    ensures by_hand { EntriesByHandNoteNothing }
     ensures refusal { RefusalsNoteNothing }
     ensures place { PlacesAreNoted }
     ensures withdrawal { WithdrawalsAreNoted }

@@ -1,6 +1,6 @@
 -- Power lost, and power back (profile).
 use Rattle.std.specs.Prelude.{◌≡◌, ℕ, ◌+◌, ◌-◌, ◌/◌, ◌%◌, ◌==◌, Bool, true, false, List, [], ◌∷◌}
-use Rattle.minute_model.specs.declared.Rule.TheVariants.{Original}
+use Rattle.minute_model.specs.declared.Rule.{Rule}
 use Rattle.minute_model.specs.Span.{begin}
 use Rattle.minute_rules.specs.Kept.{StandsFor}
 use Rattle.log_model.specs.declared.lines.Break.{Break}
@@ -58,14 +58,14 @@ minute_over run = over_by (run.next % 60 == 0) run
 abbrev pub passed : (n begun : ℕ) → Run → Run
 passed n begun run = record run { next = run.next + n; begun = begun }
 
--- A SPAN HAS BEGUN with the next second, of a unit with this journal: nothing is fed or watched yet.
-pub record IsSpanBegun (old new : Run) (journal : Notes) : Type 0 where
+-- A SPAN HAS BEGUN with the next second, of a unit with this journal, by this rule of minutes: nothing is fed or watched yet.
+pub record IsSpanBegun (rule : Rule) (old new : Run) (journal : Notes) : Type 0 where
   pub power : new.power ≡ Lit
   pub next : new.next ≡ old.next
   pub begun : new.begun ≡ old.begun
   pub unfound : new.unfound ≡ old.unfound
   pub noted : new.noted ≡ old.noted
   pub keeper : new.keeper ≡ record old.keeper { journal = journal; odometer = journal.odometer }
-  pub minutes : StandsFor new.minutes (begin Original old.next)
+  pub minutes : StandsFor new.minutes (begin rule old.next)
   pub watch : watching.StandsFor new.watch []
   pub limit : (new.watch.over.limit ≡ old.keeper.memory.limit) × (new.watch.limit ≡ old.keeper.memory.limit)

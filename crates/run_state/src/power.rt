@@ -90,14 +90,14 @@ impl Run {
         self.unfound = breaks.len();
     }
 
-    /// A span begins with the next second.
-    pub fn begin_span(&mut self, journal: Journal)
-        ensures begun { IsSpanBegun self.old self.new journal }
+    /// A span begins with the next second, by this rule of minutes.
+    pub fn begin_span(&mut self, journal: Journal, rule: Rule)
+        ensures begun { IsSpanBegun rule self.old self.new journal }
         ensures odometer { self.new.keeper.odometer ≤ HIGHEST_ODOMETER }
     {
         self.keeper.odometer = journal.odometer().0;
         self.keeper.journal = journal;
-        self.minutes = Minutes::new(Rule::Original, self.next);
+        self.minutes = Minutes::new(rule, self.next);
         self.watch = Watch::new(self.keeper.memory.identity().limit);
         self.power = Power::Lit;
     }

@@ -1,7 +1,7 @@
 //! What is kept of a run.
 ghost use Rattle.std.specs.Prelude.{◌≡◌, ℕ, ◌+◌, ◌<◌, ◌≤◌, ◌∷◌, [], false, None, length};
 ghost use Rattle.unit_model.specs.declared.layout.TheConstants.{HIGHEST_ODOMETER};
-ghost use Rattle.minute_model.specs.declared.Rule.TheVariants.{Original};
+ghost use Rattle.unit_model.specs.Versions.{rule_by};
 ghost use Rattle.minute_model.specs.Span.{Span, begin, travelled_of};
 ghost use Rattle.minute_rules.specs.Kept.{StandsFor};
 ghost use Rattle.slot_machine.specs.Kept.{nothing_yet};
@@ -63,12 +63,13 @@ impl Run {
         ensures begun { result.begun ≡ 0 }
         ensures unfound { result.unfound ≡ 0 }
         ensures noted { result.noted ≡ 0 }
-        ensures minutes { StandsFor result.minutes (begin Original start) }
+        ensures minutes { StandsFor result.minutes (begin (rule_by opened.unit.memory.rule_byte) start) }
         ensures keeper { result.keeper ≡ record { memory = opened.unit.memory; journal = opened.unit.journal; odometer = opened.unit.journal.odometer; cabin = record { slots = nothing_yet; cards = record { a = opened.card_a; b = opened.card_b } } } }
         ensures odometer { result.keeper.odometer ≤ HIGHEST_ODOMETER }
         ensures stands { (from : ℕ) → Stands from None result.keeper.cabin }
     {
         let limit = opened.unit.memory.identity().limit;
+        let rule = opened.unit.memory.rule();
         let odometer = opened.unit.journal.odometer().0;
         let keeper = Keeper {
             memory: opened.unit.memory,
@@ -81,7 +82,7 @@ impl Run {
             next: start,
             begun: 0,
             unfound: 0,
-            minutes: Minutes::new(Rule::Original, start),
+            minutes: Minutes::new(rule, start),
             keeper,
             watch: Watch::new(limit),
             noted: 0,
@@ -115,14 +116,15 @@ impl Run {
         odometer_after(self.keeper.odometer, self.minutes.travelled())
     }
 
-    /// An action of the next second is refused.
-    pub fn refuse(&self, fault: SlotFault, refused: &mut Lines<Refused>)
+    /// An action of the next second is refused, with which so many of its actions have begun.
+    pub fn refuse(&self, begun: u32, fault: SlotFault, refused: &mut Lines<Refused>)
         requires { length refused.old.items < refused.old.room }
-        ensures { refused.new ≡ with_lines (record { second = self.now.next; fault = fault } ∷ []) refused.old }
+        ensures { refused.new ≡ with_lines (record { second = self.now.next; fault = fault; begun = begun } ∷ []) refused.old }
     {
         refused.add(Refused {
             second: self.next,
             fault,
+            begun,
         });
     }
 

@@ -1,8 +1,8 @@
 -- An action that changes no slot: it is refused, or selects an activity.
-use Rattle.std.proofs.Common.{◌≡◌, inl, suc, ◌+◌, ◌-◌, None, List, [], ◌∷◌, ◌++◌, length, refl, sym, subst, arith}
+use Rattle.std.proofs.Common.{◌≡◌, ℕ, inl, suc, ◌+◌, ◌-◌, None, List, [], ◌∷◌, ◌++◌, length, refl, sym, subst, arith}
 use Rattle.activity_codec.specs.declared.values.Slot.{Slot}
 use Rattle.activity_codec.specs.declared.values.Pick.{Pick}
-use Rattle.trace_model.specs.declared.Action.TheVariants.{Select, Place}
+use Rattle.trace_model.specs.declared.Action.TheVariants.{Select, Place, Manual}
 use Rattle.trace_model.specs.Trace.{TraceSecond}
 use Rattle.minute_model.specs.Span.{Span, picked, ungiven_of}
 use Rattle.minute_rules.specs.Kept.{Kept, StandsFor}
@@ -20,7 +20,7 @@ use Rattle.run_moments.proofs.Kept.{selection-heard, nothing-else}
 use Rattle.run_recorded.specs.Origin.{Origin, rule_of, start_at}
 use Rattle.run_present.specs.Presence.{PresentStand}
 use Rattle.run_within.specs.Recorded.{Values}
-use Rattle.run_within.specs.Within.{told_before, course_in, IsFoundSo, MayBeWrittenSo, IsSparedSo, Within, GoesOn, ARefusalIsRecorded, ASelectionIsRecorded, APlaceIsRecorded}
+use Rattle.run_within.specs.Within.{told_before, course_in, IsFoundSo, MayBeWrittenSo, IsSparedSo, Within, GoesOn, ARefusalIsRecorded, ASelectionIsRecorded, AnEntryByHandIsRecorded, APlaceIsRecorded}
 use Rattle.run_within.proofs.Back.{back-plain}
 use Rattle.run_within.proofs.Stays.{goes-still}
 use Rattle.run_within.proofs.Written.{written-on, spared-on}
@@ -36,10 +36,10 @@ module _ (o : Origin) (done : List TraceSecond) (s : TraceSecond) (at : Phase) (
   c = course_in w.b done s at v.log
 
   -- the same course, but for what was selected and refused
-  abbrev but : List (Slot × Pick) → List SlotFault → Course
+  abbrev but : List (Slot × Pick) → List (ℕ × SlotFault) → Course
   but picks refused = record c { picks = picks; refused = refused }
 
-  acted : (log : RunLog) (next : Phase) (picks : List (Slot × Pick)) (refused : List SlotFault) (minutes : Kept) (sp : Span) → Moment p (went p.log done).before s next log [] w.b.broken (breakdowns_of d) →
+  acted : (log : RunLog) (next : Phase) (picks : List (Slot × Pick)) (refused : List (ℕ × SlotFault)) (minutes : Kept) (sp : Span) → Moment p (went p.log done).before s next log [] w.b.broken (breakdowns_of d) →
       course_in w.b done s next log ≡ but picks refused → StandsFor minutes sp → ungiven_of sp ≡ ungiven_of w.sp →
       HasDecided (rule_of o) (start_at o) told0 p w.b.span (but picks refused) None sp w.ds [] w.new → GoesOn o done s next [] None [] (record v { log = log; minutes = minutes }) d w.b w.from
   acted log next picks refused minutes sp m is stands still decided = record {
@@ -95,8 +95,8 @@ refusal-recorded d o done s v front a rest are w fault is =
     let p : Progress = w.b.run in
     let c : Course = course_in w.b done s (In (length front)) v.log in
     let done_ = action-refused p (went p.log done).before s v.log w.b.broken (breakdowns_of d) front a rest are w.moment fault is in
-    acted o done s (In (length front)) v d w (and_refused v.log (record { second = s.number; fault = fault })) (In (suc (length front))) c.picks (c.refused ++ fault ∷ []) v.minutes w.sp done_.0 done_.1 w.minutes refl
-    (nothing-else (rule_of o) (start_at o) (told_before w.b done) p w.b.span c (record c { refused = c.refused ++ fault ∷ [] }) None w.sp w.ds [] w.new w.decided refl refl)
+    acted o done s (In (length front)) v d w (and_refused v.log (record { second = s.number; fault = fault; begun = suc (length front) })) (In (suc (length front))) c.picks (c.refused ++ (suc (length front), fault) ∷ []) v.minutes w.sp done_.0 done_.1 w.minutes refl
+    (nothing-else (rule_of o) (start_at o) (told_before w.b done) p w.b.span c (record c { refused = c.refused ++ (suc (length front), fault) ∷ [] }) None w.sp w.ds [] w.new w.decided refl refl)
 
 pub selection-recorded : (d : Devices) → ASelectionIsRecorded d
 selection-recorded d o done s v front slot pick rest are w is minutes stands =
@@ -105,6 +105,13 @@ selection-recorded d o done s v front slot pick rest are w is minutes stands =
     let done_ = action-done p (went p.log done).before s v.log w.b.broken (breakdowns_of d) front (Select slot pick) rest are w.moment refl is in
     acted o done s (In (length front)) v d w v.log (In (suc (length front))) (c.picks ++ (slot, pick) ∷ []) c.refused minutes (picked w.sp slot pick) done_.0 done_.1 stands refl
     (selection-heard (rule_of o) (start_at o) (told_before w.b done) p w.b.span c (record c { picks = c.picks ++ (slot, pick) ∷ [] }) w.sp w.ds [] w.new w.decided slot pick refl refl)
+
+pub hand-recorded : (d : Devices) → AnEntryByHandIsRecorded d
+hand-recorded d o done s v front slot pick minute rest are w is =
+    let p : Progress = w.b.run in
+    let c : Course = course_in w.b done s (In (length front)) v.log in
+    let done_ = action-done p (went p.log done).before s v.log w.b.broken (breakdowns_of d) front (Manual slot pick minute) rest are w.moment refl is in
+    acted o done s (In (length front)) v d w v.log (In (suc (length front))) c.picks c.refused v.minutes w.sp done_.0 done_.1 w.minutes refl w.decided
 
 pub place-recorded : (d : Devices) → APlaceIsRecorded d
 place-recorded d o done s v front slot ending country region rest are w is =

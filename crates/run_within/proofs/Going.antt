@@ -15,7 +15,8 @@ use Rattle.log_model.specs.declared.lines.Mark.{Mark}
 use Rattle.log_model.specs.declared.lines.Refused.{Refused}
 use Rattle.log_model.specs.Log.{RunLog}
 use Rattle.log_model.specs.Slots.{Slots, is_accepted}
-use Rattle.log_model.specs.Course.{Told, Went, powerless, fresh, went}
+use Rattle.log_model.specs.Causes.{refusals_at, refusal_told}
+use Rattle.log_model.specs.Course.{Told, Went, powerless, fresh, went, without_power}
 use Rattle.history_model.specs.Growth.{as_span}
 use Rattle.history_model.specs.Minutes.{HistoryMinute}
 use Rattle.history_model.specs.Presence.{Start}
@@ -53,7 +54,7 @@ use Rattle.run_told.proofs.Parts.{held-dark}
 use Rattle.run_recorded.specs.Origin.{Origin, rule_of, start_at, first_of}
 use Rattle.run_recorded.specs.Ends.{recording_by, AreFound, AreVerdicts, AreSpared, MayBeWritten}
 use Rattle.run_recorded.specs.Beside.{TellsMore, AreIdle, AreFewFound}
-use Rattle.run_recorded.specs.Seconds.{empty_log, at_start, fault_of, refused_for}
+use Rattle.run_recorded.specs.Seconds.{empty_log, at_start}
 use Rattle.run_recorded.proofs.Beside.{dark-tells, off-tells, off-cut-tells, quiet-tells, idle-verdicts, idle-spared, idle-few, few-on, written-on, entered-same, kept-cut}
 use Rattle.run_recorded.proofs.Seconds as seconds
 use Rattle.run_within.specs.Recorded.{Values, progress, carried, slots_of, AreBack, IsWrittenSince, IsWritten, IsOn, IsOff, Recorded}
@@ -102,7 +103,7 @@ module _ (o : Origin) (done : List TraceSecond) (v : Values) (d : Devices) (supp
   }
 
 module _ (o : Origin) (done : List TraceSecond) (v : Values) (d : Devices) (r : Recorded o done Lost v d) (n speed : ℕ) (actions : List Action) (refused : List Refused) (begun : ℕ)
-    (low : 0 < v.next % 60) (high : v.next % 60 + suc n ≤ 60) (told : map fault_of refused ≡ refused_for v.next actions) where
+    (low : 0 < v.next % 60) (high : v.next % 60 + suc n ≤ 60) (told : map refusal_told refused ≡ refusals_at v.next (without_power 0 actions)) where
   abbrev p : Progress
   p = progress v Lost r.book
 

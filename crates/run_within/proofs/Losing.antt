@@ -5,7 +5,7 @@ use Rattle.activity_codec.specs.declared.values.Slot.{Slot}
 use Rattle.activity_codec.specs.declared.values.Slot.TheVariants.{Driver, CoDriver}
 use Rattle.trace_model.specs.declared.Card.{Card}
 use Rattle.trace_model.specs.declared.Action.{Action}
-use Rattle.trace_model.specs.declared.Action.TheVariants.{Select, Insert, Withdraw, Tear as Pull, Place}
+use Rattle.trace_model.specs.declared.Action.TheVariants.{Select, Insert, Withdraw, Tear as Pull, Place, Manual}
 use Rattle.trace_model.specs.Trace.{TraceSecond}
 use Rattle.log_model.specs.declared.lines.Break.{Break}
 use Rattle.log_model.specs.declared.lines.Find.{Find}
@@ -56,6 +56,7 @@ stays-in n None None (Insert sl card) slots now x y is = refl
 stays-in n None None (Withdraw sl) slots now x y is = absurd (cc)
 stays-in n None None (Pull sl) slots now x y is = absurd (cc)
 stays-in n None None (Place sl ending country region) slots now x y is = absurd (cc)
+stays-in n None None (Manual sl pick minute) slots now x y is = absurd (cc)
 
 moved-in : (log later : RunLog) (before : Before) (s : TraceSecond) (at : Phase) (x y : Slot) → (moved_at log before s at).enters x ≡ true → (moved_at later before s at).leaving y ≡ []
 moved-in log later before s (In zero) x y is = refl

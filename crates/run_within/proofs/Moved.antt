@@ -5,7 +5,7 @@ use Rattle.std.specs.List.{list_any}
 use Rattle.activity_codec.specs.declared.values.Slot.{Slot}
 use Rattle.activity_codec.specs.declared.values.Slot.TheVariants.{Driver, CoDriver}
 use Rattle.trace_model.specs.declared.Action.{Action}
-use Rattle.trace_model.specs.declared.Action.TheVariants.{Select, Insert, Withdraw, Tear as Pull, Place}
+use Rattle.trace_model.specs.declared.Action.TheVariants.{Select, Insert, Withdraw, Tear as Pull, Place, Manual}
 use Rattle.trace_model.specs.Trace.{TraceSecond}
 use Rattle.log_model.specs.declared.lines.Break.{Break}
 use Rattle.log_model.specs.declared.lines.SlotFault.{SlotFault}
@@ -64,6 +64,7 @@ by-act log u n p (Select at pick) None c slot x is = refl
 by-act log u n p (Insert at card) None c slot x is = refl
 by-act log u n p (Pull at) None c slot x is = refl
 by-act log u n p (Place at ending country region) None c slot x is = refl
+by-act log u n p (Manual at pick minute) None c slot x is = refl
 by-act log u n p (Withdraw Driver) None c CoDriver x is = refl
 by-act log u n p (Withdraw CoDriver) None c Driver x is = refl
 by-act log u n p (Withdraw Driver) None c Driver x is =

@@ -6,7 +6,8 @@ use Rattle.trace_model.specs.declared.Card.{Card}
 use Rattle.trace_model.specs.Trace.{TraceSecond, driven, dark}
 use Rattle.minute_rules.specs.Kept.{Kept, StandsFor}
 use Rattle.log_model.specs.declared.lines.Refused.{Refused}
-use Rattle.log_model.specs.Course.{Told}
+use Rattle.log_model.specs.Causes.{refusals_at, refusal_told}
+use Rattle.log_model.specs.Course.{Told, without_power}
 use Rattle.history_model.specs.Book.{not_begun}
 use Rattle.joint_rule.specs.Rules.{Out}
 use Rattle.unit_course.specs.Followed.{Supply, Lit, Due, Lost, IsDark}
@@ -26,7 +27,7 @@ use Rattle.run_course.specs.Quiet.{quiet_seconds, begun_after}
 use Rattle.run_moments.specs.Telling.{IsMore}
 use Rattle.run_told.specs.Told.{AreFoundCards, IsPowerless}
 use Rattle.run_recorded.specs.Origin.{Origin, rule_of, first_of}
-use Rattle.run_recorded.specs.Seconds.{empty_log, fault_of, refused_for}
+use Rattle.run_recorded.specs.Seconds.{empty_log}
 use Rattle.run_within.specs.Recorded.{Values, slots_of, AreThere, Recorded}
 use Rattle.run_within.specs.Within.{RecordedFrom}
 
@@ -36,7 +37,7 @@ dark_values n begun refused v = record v { log = record v.log { refused = v.log.
 
 abbrev pub DarkSecondsStayRecorded : Devices → Type 0
 DarkSecondsStayRecorded d = (o : Origin) (done : List TraceSecond) (v : Values) → Recorded o done Lost v d → (n speed : ℕ) (actions : List Action) (refused : List Refused) (begun : ℕ) →
-    0 < v.next % 60 → v.next % 60 + suc n ≤ 60 → map fault_of refused ≡ refused_for v.next actions →
+    0 < v.next % 60 → v.next % 60 + suc n ≤ 60 → map refusal_told refused ≡ refusals_at v.next (without_power 0 actions) →
     Recorded o (done ++ driven (suc n) v.next speed actions) Lost (dark_values (suc n) begun refused v) d
 
 -- AN `off` LINE where there is no power,

@@ -6,7 +6,7 @@ use Rattle.activity_codec.specs.declared.values.Pick.{Pick}
 use Rattle.trace_model.specs.declared.Card.{Card}
 use Rattle.trace_model.specs.Trace.{TraceSecond}
 use Rattle.trace_model.specs.declared.Action.{Action}
-use Rattle.trace_model.specs.declared.Action.TheVariants.{Select, Place}
+use Rattle.trace_model.specs.declared.Action.TheVariants.{Select, Place, Manual}
 use Rattle.run_model.specs.declared.Device.{Device}
 use Rattle.run_model.specs.declared.Device.TheVariants.{Unit as Recorder}
 use Rattle.minute_model.specs.declared.Minute.{Minute}
@@ -296,13 +296,13 @@ ASecondIsFed d = (o : Origin) (done : List TraceSecond) (s : TraceSecond) (v : V
     GoesOn o done s Keeping [] (Some s.speed) rest (record v { minutes = minutes }) d w.b w.from
 
 -- AN ACTION IS REFUSED, and that is told;
-abbrev pub refused_values : ℕ → SlotFault → Values → Values
-refused_values u fault v = record v { log = and_refused v.log (record { second = u; fault = fault }) }
+abbrev pub refused_values : (second begun : ℕ) → SlotFault → Values → Values
+refused_values second begun fault v = record v { log = and_refused v.log (record { second = second; fault = fault; begun = begun }) }
 
 abbrev pub ARefusalIsRecorded : Devices → Type 0
 ARefusalIsRecorded d = (o : Origin) (done : List TraceSecond) (s : TraceSecond) (v : Values) (front : List Action) (a : Action) (rest : List Action) → s.actions ≡ front ++ a ∷ rest →
     (w : Within o done s (In (length front)) [] None [] v d) → (fault : SlotFault) → refusal (course_in w.b done s (In (length front)) v.log).slots s.speed a ≡ Some fault →
-    GoesOn o done s (In (suc (length front))) [] None [] (refused_values s.number fault v) d w.b w.from
+    GoesOn o done s (In (suc (length front))) [] None [] (refused_values s.number (suc (length front)) fault v) d w.b w.from
 
 -- or an activity IS SELECTED.
 abbrev pub heard_values : Kept → Values → Values
@@ -312,6 +312,13 @@ abbrev pub ASelectionIsRecorded : Devices → Type 0
 ASelectionIsRecorded d = (o : Origin) (done : List TraceSecond) (s : TraceSecond) (v : Values) (front : List Action) (slot : Slot) (pick : Pick) (rest : List Action) → s.actions ≡ front ++ Select slot pick ∷ rest →
     (w : Within o done s (In (length front)) [] None [] v d) → refusal (course_in w.b done s (In (length front)) v.log).slots s.speed (Select slot pick) ≡ None →
     (minutes : Kept) → StandsFor minutes (picked w.sp slot pick) → GoesOn o done s (In (suc (length front))) [] None [] (heard_values minutes v) d w.b w.from
+
+-- AN ENTRY BY HAND that slots and speed let pass changes nothing.
+abbrev pub AnEntryByHandIsRecorded : Devices → Type 0
+AnEntryByHandIsRecorded d = (o : Origin) (done : List TraceSecond) (s : TraceSecond) (v : Values) (front : List Action) (slot : Slot) (pick : Pick) (minute : ℕ) (rest : List Action) →
+    s.actions ≡ front ++ Manual slot pick minute ∷ rest →
+    (w : Within o done s (In (length front)) [] None [] v d) → refusal (course_in w.b done s (In (length front)) v.log).slots s.speed (Manual slot pick minute) ≡ None →
+    GoesOn o done s (In (suc (length front))) [] None [] v d w.b w.from
 
 -- no session is new
 abbrev pub AreOld : (old new : Cards) → Type 0

@@ -1,5 +1,5 @@
 ghost use Rattle.run_rule.specs.Between.{devices};
-ghost use Rattle.run_within.specs.Within.{ACutIsRecorded, TheSecondIsOver, ASecondBegins, AMinuteIsOver, ASecondIsFed, ARefusalIsRecorded, ASelectionIsRecorded, APlaceIsRecorded, ACallIsRecorded, AFailureIsRecorded};
+ghost use Rattle.run_within.specs.Within.{ACutIsRecorded, TheSecondIsOver, ASecondBegins, AMinuteIsOver, ASecondIsFed, ARefusalIsRecorded, ASelectionIsRecorded, AnEntryByHandIsRecorded, APlaceIsRecorded, ACallIsRecorded, AFailureIsRecorded};
 ghost use Rattle.run_within.specs.Judging.{ACardIsJudged, AJudgingFails, AWaitingCardIsTorn, ATearingFails};
 ghost use Rattle.run_within.specs.Losing.{ACardIsLost, ALosingFails};
 ghost use Rattle.run_within.specs.Powering.{PowerIsBack, AMendingFails, AReadingFails};
@@ -42,6 +42,11 @@ pub fn a_refusal_is_recorded<M: Medium, C: Chip, D: Chip>(unit: &M, card_a: &C, 
 /// An activity is selected.
 pub fn a_selection_is_recorded<M: Medium, C: Chip, D: Chip>(unit: &M, card_a: &C, card_b: &D)
     ensures { ASelectionIsRecorded (devices (M.state unit.now) (C.state card_a.now) (D.state card_b.now)) }
+{}
+
+/// An entry by hand is let pass by slots and speed.
+pub fn an_entry_by_hand_is_recorded<M: Medium, C: Chip, D: Chip>(unit: &M, card_a: &C, card_b: &D)
+    ensures { AnEntryByHandIsRecorded (devices (M.state unit.now) (C.state card_a.now) (D.state card_b.now)) }
 {}
 
 /// A call on the devices of which nothing is told goes well.

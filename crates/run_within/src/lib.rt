@@ -9,8 +9,9 @@ pub use laws::{
     a_judging_fails, a_losing_fails, a_mending_fails, a_minute_is_over, a_place_is_recorded,
     a_reading_fails, a_refusal_is_recorded, a_run_begins, a_second_begins, a_second_is_fed,
     a_selection_is_recorded, a_tearing_fails, a_turn_is_fed, a_waiting_card_is_torn,
-    an_off_cut_stays_recorded, an_off_line_stays_recorded, dark_seconds_stay_recorded,
-    power_is_back, power_wakes, quiet_seconds_stay_recorded, the_second_is_over,
+    an_entry_by_hand_is_recorded, an_off_cut_stays_recorded, an_off_line_stays_recorded,
+    dark_seconds_stay_recorded, power_is_back, power_wakes, quiet_seconds_stay_recorded,
+    the_second_is_over,
 };
 pub use taking::{
     a_card_is_pulled_out, a_card_is_put_in, a_card_leaves, a_closing_fails, a_leaving_card_is_torn,

@@ -1,3 +1,4 @@
 pub mod Giving
 pub mod Verdicts
 pub mod Whole
+pub mod Issued

@@ -1,5 +1,5 @@
 -- What a run promises of its unit (profile).
-use Rattle.std.specs.Prelude.{◌≡◌, ℕ, ◌-◌, ◌<◌, ◌≤◌, Option, is_some, List, [], ◌∷◌, ◌++◌, Contains, drop, filter, Bool, true, false}
+use Rattle.std.specs.Prelude.{◌≡◌, ℕ, ◌-◌, ◌<◌, ◌≤◌, Option, is_some, List, [], ◌∷◌, ◌++◌, Contains, filter, Bool, true, false}
 use Rattle.minute_model.specs.declared.Rule.{Rule}
 use Rattle.minute_model.specs.declared.Minute.{Minute}
 use Rattle.run_model.specs.declared.Device.{Device}
@@ -18,10 +18,11 @@ use Rattle.joint_rule.specs.Filling.{FillsDays, filled_with}
 use Rattle.safety_model.specs.Recording.{IsPassed, MayCome}
 
 -- What a unit was issued with, and no call writes: the bytes before the last-kept minute (version, vehicle, speed limit, identification, sensor and
--- certificates), the spare ones behind the counts and behind the owed rows, and all behind the faults.
+-- certificates), and the spare ones behind the counts, behind the owed rows and behind the faults.
 abbrev pub issued_bytes : List ℕ → List ℕ
 issued_bytes x =
-    bytes_at x 0 LAST_KEPT.place ++ (bytes_at x SPARE_COUNTS.place SPARE_COUNTS.size ++ (bytes_at x SPARE_ROWS.place SPARE_ROWS.size ++ drop SPARE_FAULTS.place x))
+    bytes_at x 0 LAST_KEPT.place
+    ++ (bytes_at x SPARE_COUNTS.place SPARE_COUNTS.size ++ (bytes_at x SPARE_ROWS.place SPARE_ROWS.size ++ bytes_at x SPARE_FAULTS.place SPARE_FAULTS.size))
 
 -- An image shows the start's days filled with these minutes, of which only the oldest days may be gone: the newest 366 are
 -- there, or one fewer where the minute that may come next begins a further day.

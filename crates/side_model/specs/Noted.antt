@@ -4,7 +4,7 @@ use Rattle.std.specs.List.{list_any}
 use Rattle.activity_codec.specs.declared.values.Slot.{Slot}
 use Rattle.trace_model.specs.declared.Card.{Card}
 use Rattle.trace_model.specs.declared.Action.{Action}
-use Rattle.trace_model.specs.declared.Action.TheVariants.{Select, Insert, Withdraw, Tear, Place}
+use Rattle.trace_model.specs.declared.Action.TheVariants.{Select, Insert, Withdraw, Tear, Place, Manual}
 use Rattle.log_model.specs.Log.{RunLog, Phase, In, same_phase, is_torn_in, is_accepting}
 use Rattle.log_model.specs.Slots.{Sitting, in_slot, same_card}
 use Rattle.side_model.specs.Done.{CarriedOut, Done}
@@ -55,6 +55,7 @@ noted_by log u a (Withdraw slot) =
 noted_by log u a (Tear slot) = []
 noted_by log u a (Place slot ending country region) =
     map (λ card. Enters (record { second = u; card = card; ending = ending; country = country; region = region })) (accepted_card (in_slot a.slots slot))
+noted_by log u a (Manual slot pick minute) = []
 
 -- what a second notes: the cards that its power-on accepted, then what each action notes and which cards it accepted
 abbrev pub noted_in : RunLog → Done → List Note

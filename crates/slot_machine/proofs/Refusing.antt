@@ -5,7 +5,7 @@ use Rattle.activity_codec.specs.declared.values.Slot.{Slot}
 use Rattle.activity_codec.specs.declared.values.Slot.TheVariants.{Driver, CoDriver}
 use Rattle.trace_model.specs.declared.Card.{Card}
 use Rattle.trace_model.specs.declared.Action.{Action}
-use Rattle.trace_model.specs.declared.Action.TheVariants.{Select, Insert, Withdraw, Tear, Place}
+use Rattle.trace_model.specs.declared.Action.TheVariants.{Select, Insert, Withdraw, Tear, Place, Manual}
 use Rattle.log_model.specs.declared.lines.SlotFault.TheVariants.{Moving, Empty, Occupied, NoCard, Elsewhere}
 use Rattle.log_model.specs.Slots.{Sitting, same_card, in_slot, other_slot, holds, is_accepted, refusal}
 use Rattle.log_model.specs.Slots as log
@@ -43,3 +43,5 @@ refuse-alike seats slots speed (Tear slot) same =
     ap (λ (b : Bool). cond b None (Some (Empty slot))) (alike-in seats slots same slot).there
 refuse-alike seats slots speed (Place slot ending country region) same =
     ap (λ (b : Bool). cond b None (Some (NoCard slot))) (alike-in seats slots same slot).accepted
+refuse-alike seats slots speed (Manual slot pick minute) same =
+    ap (λ (b : Bool). cond (not b) (Some (NoCard slot)) (cond (nat_lt 0 speed) (Some (Moving speed)) None)) (alike-in seats slots same slot).accepted

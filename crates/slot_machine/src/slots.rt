@@ -1,7 +1,8 @@
 //! The two slots, call by call.
 ghost use Rattle.std.specs.Prelude.{◌≡◌, ℕ, ◌+◌, ◌/◌, ◌≤◌, Bool, true, false, Option, Some, None, List, [], ◌∷◌, ◌++◌, is_some, take};
 ghost use Rattle.std.specs.Result.{result_err};
-ghost use Rattle.trace_model.specs.declared.Action.TheVariants.{Insert, Withdraw, Tear, Place};
+ghost use Rattle.activity_codec.specs.declared.values.Pick.{Pick};
+ghost use Rattle.trace_model.specs.declared.Action.TheVariants.{Insert, Withdraw, Tear, Place, Manual};
 ghost use Rattle.log_model.specs.Slots.{refusal, other_slot};
 ghost use Rattle.slot_machine.specs.Calls.{SlotCall, Put, Take, CutAt, EndMinute, seat_in, with_seat, card_in, is_card, has_accepted, powerless, logged, ending, ended_in, present_in, present_by};
 ghost use Rattle.slot_machine.specs.Kept.{Kept, StandsFor, KnowsNewest, SitStill, IsFree, left_in, with_left, put_in, taken, cut_off, minute_ended, nothing_yet};
@@ -103,6 +104,20 @@ impl Slots {
         } else {
             Err(SlotFault::NoCard(slot))
         }
+    }
+
+    /// Whether an entry by hand may be made for a slot at this speed in km/h, by the slots: `NoCard` where it has no accepted
+    /// card, else `Moving` where the speed is above 0.
+    pub fn may_enter(&self, slot: Slot, speed: u8) -> Result<(), SlotFault>
+        ensures answer { (pick : Pick) (minute : ℕ) → result_err result ≡ refusal (logged self.now.seats) speed (Manual slot pick minute) }
+    {
+        if !is_accepted(self.seat(slot)) {
+            return Err(SlotFault::NoCard(slot));
+        }
+        if speed > 0 {
+            return Err(SlotFault::Moving(speed));
+        }
+        Ok(())
     }
 
     /// The card of a slot, if there is one.

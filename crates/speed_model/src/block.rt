@@ -1,4 +1,5 @@
 //! A minute's speeds.
+use unit_model::layout::SPEED_SLOTS;
 
 /// A minute's speeds in km/h, second by second, and the number of its first second.
 #[derive(Clone, Copy, Debug, PartialEq, Eq)]
@@ -11,4 +12,4 @@ pub struct Block {
 pub const BLOCK_SIZE: u32 = 64;
 
 /// How many blocks a unit has room for.
-pub const BLOCK_SLOTS: u32 = 1440;
+pub const BLOCK_SLOTS: u32 = SPEED_SLOTS;

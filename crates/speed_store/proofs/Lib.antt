@@ -2,4 +2,3 @@ pub mod Counting
 pub mod Feeding
 pub mod Held
 mod WorkedWrites
-pub mod ZeroBytes

@@ -1,4 +1,3 @@
 pub mod Feeding
 pub mod Faults
 pub mod Stores
-pub mod Zeros

@@ -7,7 +7,6 @@ mod laws;
 mod minute;
 mod ring;
 mod store;
-mod zeros;
 
 pub use fault::SpeedFault;
 pub use laws::what_the_ring_holds_of_a_run;

@@ -8,29 +8,19 @@ ghost use Rattle.unit_model.specs.Image.{IsUnit};
 ghost use Rattle.speed_model.specs.Blocks.{block_bytes};
 ghost use Rattle.speed_model.specs.Stored.{speed_ring};
 
-use crate::zeros::Zeros;
 use gated_ring::Ring;
 use speed_model::{BLOCK_SIZE, BLOCK_SLOTS, Block};
 use tach_media::{Failed, Medium};
-use unit_model::layout::{IMAGE_SIZE, SPEEDS};
+use unit_model::layout::SPEEDS;
 
 /// The width of the pointer before the blocks.
 pub const POINTER: u8 = 4;
 
-/// The ring of blocks. Its pointer is that of each unit that decodes, so no unit is asked for it.
+/// The ring of blocks, whose pointer is below its count in each unit that decodes.
 pub fn blocks() -> Ring
     ensures { result ≡ speed_ring }
 {
-    let mut zeros = Zeros::new(IMAGE_SIZE);
-    Ring::load(
-        &mut zeros,
-        SPEEDS.place,
-        BLOCK_SIZE,
-        BLOCK_SLOTS,
-        POINTER,
-        0,
-    )
-    .unwrap()
+    Ring::at(SPEEDS.place, BLOCK_SIZE, BLOCK_SLOTS, POINTER, 0)
 }
 
 // A block in bytes: its time, and its speeds.

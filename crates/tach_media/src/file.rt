@@ -1,16 +1,44 @@
 ghost use Rattle.tach_media.specs.Medium.{IsUntouched};
 
 use crate::{Counts, Failed, Medium};
-use std::fs::{File, Files, OpenFile, OpenOptions};
+use std::fs;
+use std::fs::{File, Files, OpenFile, OpenOptions, TryLockError};
 use std::io::ErrorKind;
-use std::os::unix::fs::FileExt;
+use std::os::unix::fs::{FileExt, FileTypeExt, MetadataExt};
+
+// What a file is asked for.
+#[derive(Clone, Copy)]
+enum Access {
+    // To be read and written: each write waits for the disk.
+    Lasting,
+    // The same, and no write does.
+    Passing,
+    // To be read.
+    Reading,
+}
+
+impl Access {
+    fn waits(self) -> bool {
+        match self {
+            Access::Lasting => true,
+            _ => false,
+        }
+    }
+
+    fn writes(self) -> bool {
+        match self {
+            Access::Reading => false,
+            _ => true,
+        }
+    }
+}
 
 // The file under a medium.
 #[derive(Drop)]
 enum Backing {
     // No call has asked for it yet.
     Unopened,
-    // It is locked: nobody else who asks for its lock has it.
+    // It is locked: nobody else who asks for its lock has it, or only such as read.
     Open(File),
     // It can be neither opened nor made, or somebody else has its lock, or a write could not be synchronised, so that nobody
     // knows what a power cut leaves of it: every call fails.
@@ -19,16 +47,15 @@ enum Backing {
 
 /// A file, as a medium of a fixed size: of a longer file only the front, of a shorter one a read past its end is a fault.
 ///
-/// The first call opens the file, and makes it, as zeros, where it is missing. From then on it is locked; where another program
-/// has locked it, every call fails. Every write stands on the disk before `Ok`, and so does the name of a file that was made.
-/// It tells nothing of its content.
+/// The first call opens the file, and makes it, as zeros, where it is missing or has no byte, as a making that was stopped leaves
+/// it. From then on it is locked; where another program has locked it, every call fails. Every write stands on the disk before
+/// `Ok`, and so does the name of a file that was made. It tells nothing of its content.
 #[derive(Drop)]
 pub struct FileMedium<'a, R: Files<File = File>> {
     files: &'a R,
     path: &'a str,
     backing: Backing,
-    // whether a write waits for the disk
-    waits: bool,
+    access: Access,
     size: u32,
     clock: u64,
     counts: Counts,
@@ -43,7 +70,7 @@ impl<'a, R: Files<File = File>> FileMedium<'a, R> {
             files,
             path,
             backing: Backing::Unopened,
-            waits: true,
+            access: Access::Lasting,
             size,
             clock: 0,
             counts: Counts::new(),
@@ -55,7 +82,18 @@ impl<'a, R: Files<File = File>> FileMedium<'a, R> {
         ensures { IsUntouched size (⟦<FileMedium<'a, R> as Medium>⟧.state result) }
     {
         FileMedium {
-            waits: false,
+            access: Access::Passing,
+            ..FileMedium::new(files, path, size)
+        }
+    }
+
+    /// The same for what only reads: the file may be one that can't be written, and others that only read may have it at the
+    /// same time. Every write fails.
+    pub fn for_reading(files: &'a R, path: &'a str, size: u32) -> FileMedium<'a, R>
+        ensures { IsUntouched size (⟦<FileMedium<'a, R> as Medium>⟧.state result) }
+    {
+        FileMedium {
+            access: Access::Reading,
             ..FileMedium::new(files, path, size)
         }
     }
@@ -78,7 +116,13 @@ impl<'a, R: Files<File = File>> Medium for FileMedium<'a, R> {
     }
 
     fn read_at(&mut self, place: u32, out: &mut [u8]) -> Result<(), Failed> {
-        reach(self.files, self.path, self.size, &mut self.backing);
+        reach(
+            self.files,
+            self.path,
+            self.size,
+            self.access,
+            &mut self.backing,
+        );
         if self.counts.works && read(&self.backing, place, out) {
             return Ok(());
         }
@@ -87,10 +131,16 @@ impl<'a, R: Files<File = File>> Medium for FileMedium<'a, R> {
     }
 
     fn write_at(&mut self, place: u32, bytes: &[u8]) -> Result<(), Failed> {
-        reach(self.files, self.path, self.size, &mut self.backing);
-        if self.counts.works {
+        reach(
+            self.files,
+            self.path,
+            self.size,
+            self.access,
+            &mut self.backing,
+        );
+        if self.counts.works && self.access.writes() {
             self.clock = self.clock.saturating_add(1);
-            if write(&self.backing, place, bytes) && stands(self.waits, &mut self.backing) {
+            if write(&self.backing, place, bytes) && stands(self.access, &mut self.backing) {
                 return Ok(());
             }
         }
@@ -99,9 +149,15 @@ impl<'a, R: Files<File = File>> Medium for FileMedium<'a, R> {
     }
 
     fn revive(&mut self) -> Result<(), Failed> {
-        reach(self.files, self.path, self.size, &mut self.backing);
+        reach(
+            self.files,
+            self.path,
+            self.size,
+            self.access,
+            &mut self.backing,
+        );
         self.counts.works = true;
-        if stands(self.waits, &mut self.backing) {
+        if stands(self.access, &mut self.backing) {
             return Ok(());
         }
         self.counts.fail();
@@ -110,23 +166,58 @@ impl<'a, R: Files<File = File>> Medium for FileMedium<'a, R> {
 }
 
 // Opens the file, or makes it, at the first call.
-fn reach<R: Files<File = File>>(files: &R, path: &str, size: u32, backing: &mut Backing) {
+fn reach<R: Files<File = File>>(
+    files: &R,
+    path: &str,
+    size: u32,
+    access: Access,
+    backing: &mut Backing,
+) {
     if let Backing::Unopened = backing {
-        *backing = match opened(files, path, size) {
+        let opened = match access {
+            Access::Reading => shared(files, path, size),
+            _ => owned(files, path, size),
+        };
+        *backing = match opened {
             Some(file) => Backing::Open(file),
             None => Backing::Lost,
         };
     }
 }
 
-fn opened<R: Files<File = File>>(files: &R, path: &str, size: u32) -> Option<File> {
+// The file that nobody else has, to be read and written.
+fn owned<R: Files<File = File>>(files: &R, path: &str, size: u32) -> Option<File> {
     let mut options = OpenOptions::new();
     options.read(true).write(true);
     match options.open(files, path) {
-        Ok(file) => locked(file),
+        Ok(file) => {
+            let file = locked(file)?;
+            if !is_empty(&file) || is_filled(files, path, &file, size) {
+                return Some(file);
+            }
+            None
+        }
         Err(error) if error.kind() == ErrorKind::NotFound => made(files, path, size),
         Err(_) => None,
     }
+}
+
+// The file that only others who read it have, to be read. One that is to be made is made first.
+fn shared<R: Files<File = File>>(files: &R, path: &str, size: u32) -> Option<File> {
+    if is_pipe(files, path) {
+        return None;
+    }
+    match File::open(files, path) {
+        Ok(file) => {
+            let file = lent(file)?;
+            if !is_empty(&file) {
+                return Some(file);
+            }
+        }
+        Err(error) if error.kind() == ErrorKind::NotFound => {}
+        Err(_) => return None,
+    }
+    lent(owned(files, path, size)?)
 }
 
 // A file that nobody else has locked.
@@ -138,16 +229,62 @@ fn locked(file: File) -> Option<File> {
     }
 }
 
-// A new file of so many zeros. One that could not be filled, or whose name does not stand in its folder, is taken away again.
+// A file that nobody has locked but to read it.
+fn lent(file: File) -> Option<File> {
+    if file.try_lock_shared().is_ok() {
+        Some(file)
+    } else {
+        None
+    }
+}
+
+// Whether a file has no byte. Whoever makes one holds its lock, so of one that is locked here it says that a making was stopped.
+fn is_empty(file: &File) -> bool {
+    matches!(file.read_at(&mut [0; 1], 0), Ok(0))
+}
+
+// Whether it is a pipe, which is no medium: to open one to read waits for another program that writes.
+fn is_pipe<R: Files<File = File>>(files: &R, path: &str) -> bool {
+    match fs::metadata(files, path) {
+        Ok(metadata) => metadata.file_type().is_fifo(),
+        Err(_) => false,
+    }
+}
+
+// A new file of so many zeros. One that could be neither locked nor filled, or whose name does not stand in its folder, is taken
+// away again; one that another program has locked meanwhile is left to it, which fills it.
 fn made<R: Files<File = File>>(files: &R, path: &str, size: u32) -> Option<File> {
     let mut options = OpenOptions::new();
     options.read(true).write(true).create_new(true);
-    let file = locked(options.open(files, path).ok()?)?;
-    if file.set_len(size as u64).is_ok() && file.sync_all().is_ok() && is_named(files, path) {
-        return Some(file);
+    let file = options.open(files, path).ok()?;
+    match file.try_lock() {
+        Ok(()) => {
+            if is_filled(files, path, &file, size) {
+                return Some(file);
+            }
+        }
+        Err(TryLockError::WouldBlock) => return None,
+        Err(TryLockError::Error(_)) => {}
     }
     let _ = files.remove_file(path);
     None
+}
+
+// Fills a file with so many zeros, and waits until they and its name stand on the disk. It has its name still: another program
+// that could not fill it may have taken it away before this one locked it.
+fn is_filled<R: Files<File = File>>(files: &R, path: &str, file: &File, size: u32) -> bool {
+    file.set_len(size as u64).is_ok()
+        && file.sync_all().is_ok()
+        && is_named(files, path)
+        && has_name(file)
+}
+
+// Whether a file has a name.
+fn has_name(file: &File) -> bool {
+    match file.metadata() {
+        Ok(metadata) => metadata.nlink() > 0,
+        Err(_) => false,
+    }
 }
 
 // Waits until the name of a file stands in its folder.
@@ -178,9 +315,9 @@ fn write(backing: &Backing, place: u32, bytes: &[u8]) -> bool {
 }
 
 // Waits until what was written stands on the disk. A file of which that cannot be said is lost.
-fn stands(waits: bool, backing: &mut Backing) -> bool {
+fn stands(access: Access, backing: &mut Backing) -> bool {
     let stands = match backing {
-        Backing::Open(file) => !waits || file.sync_data().is_ok(),
+        Backing::Open(file) => !access.waits() || file.sync_data().is_ok(),
         _ => false,
     };
     if !stands {

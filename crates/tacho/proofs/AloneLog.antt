@@ -5,7 +5,7 @@ use Rattle.std.specs.List.{AllByRecursion}
 use Rattle.activity_codec.specs.declared.values.Slot.TheVariants.{Driver, CoDriver}
 use Rattle.trace_model.specs.declared.Card.{Card}
 use Rattle.trace_model.specs.declared.Action.{Action}
-use Rattle.trace_model.specs.declared.Action.TheVariants.{Select, Insert, Withdraw, Tear, Place}
+use Rattle.trace_model.specs.declared.Action.TheVariants.{Select, Insert, Withdraw, Tear, Place, Manual}
 use Rattle.trace_model.specs.declared.Item.{Item}
 use Rattle.trace_model.specs.declared.Item.TheVariants.{Run, Off, Act}
 use Rattle.trace_model.specs.Trace.{TraceSecond, driven, dark, seconds_from, seconds_of}
@@ -60,6 +60,7 @@ only-selects (Act (Insert slot card) ∷ items) number waiting each h = absurd (
 only-selects (Act (Withdraw slot) ∷ items) number waiting each h = absurd (let no : false ≡ true = h.0 in cc)
 only-selects (Act (Tear slot) ∷ items) number waiting each h = absurd (let no : false ≡ true = h.0 in cc)
 only-selects (Act (Place slot ending country region) ∷ items) number waiting each h = absurd (let no : false ≡ true = h.0 in cc)
+only-selects (Act (Manual slot pick minute) ∷ items) number waiting each h = absurd (let no : false ≡ true = h.0 in cc)
 
 pub trace-selects : (start : ℕ) (items : List Item) → IsForUnit items → OnlySelect (seconds_of start items)
 unfolding seconds_of

@@ -4,7 +4,7 @@ use Rattle.std.specs.Prelude.{◌==◌, nat_eq, flat_map, option_to_list}
 use Rattle.std.specs.List.{AllByRecursion}
 use Rattle.trace_model.specs.declared.Card.{Card}
 use Rattle.trace_model.specs.declared.Action.{Action}
-use Rattle.trace_model.specs.declared.Action.TheVariants.{Select, Insert, Withdraw, Tear, Place}
+use Rattle.trace_model.specs.declared.Action.TheVariants.{Select, Insert, Withdraw, Tear, Place, Manual}
 use Rattle.trace_model.specs.Trace.{TraceSecond}
 use Rattle.log_model.specs.declared.lines.Verdict.{Verdict}
 use Rattle.log_model.specs.Log.{RunLog, Phase, In, cut_in, kept_after}
@@ -63,6 +63,7 @@ notes-by log u a (Insert slot card) is = absurd is
 notes-by log u a (Withdraw slot) is = absurd is
 notes-by log u a (Tear slot) is = absurd is
 notes-by log u a (Place slot ending country region) is = absurd is
+notes-by log u a (Manual slot pick minute) is = absurd is
 
 acts-nothing : (log : RunLog) (d : Done) → IsIdle d → (acts : List CarriedOut) → AllByRecursion (λ (a : CarriedOut). IsSelection a.action) acts →
     flat_map (λ a. noted_by log d.told.second.number a a.action ++ accepted_at d (In (a.before + 1))) acts ≡ []

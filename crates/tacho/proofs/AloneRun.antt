@@ -5,7 +5,6 @@ use Rattle.trace_model.specs.declared.Card.{Card}
 use Rattle.trace_model.specs.declared.Card.TheVariants.{A as OfA, B as OfB}
 use Rattle.trace_model.specs.declared.Item.{Item}
 use Rattle.trace_model.specs.Trace.{TraceSecond, seconds_of}
-use Rattle.minute_model.specs.declared.Rule.TheVariants.{Original}
 use Rattle.run_model.specs.declared.Device.{Device}
 use Rattle.run_model.specs.declared.Device.TheVariants.{Unit as OfUnit}
 use Rattle.tach_media.specs.Medium.{State}
@@ -20,6 +19,7 @@ use Rattle.history_model.specs.Presence.{Start}
 use Rattle.message_model.specs.Records.{insertion_ring, unit_place_ring}
 use Rattle.unit_model.specs.declared.layout.TheConstants.{SPEED_LIMIT, FIRST_OVER, OVER_COUNT}
 use Rattle.unit_model.specs.Image.{recorded, last_kept, number_of}
+use Rattle.unit_model.specs.Versions.{rule_of}
 use Rattle.card_image.specs.Own.{own_number, IsOwnValid}
 use Rattle.safety_model.specs.Recording.{Recording, card_image, start_of}
 use Rattle.safety_model.specs.Recording.{history_of as history_in, lost_of as lost_in}
@@ -104,15 +104,15 @@ module _ (x : List ℕ) (start : ℕ) (items : List Item) (out : Outcome) (U V A
         }
 
   module _ (cards : Start) where
-    history-same : history_in r ≡ history_of cards out start items
-    history-same = unit-history-any Original (start_of r) cards log told (plain-told told none-in)
+    history-same : history_in r ≡ history_of (rule_of x) cards out start items
+    history-same = unit-history-any (rule_of x) (start_of r) cards log told (plain-told told none-in)
 
-    lost-same : lost_in r ≡ lost_of cards out start items
-    lost-same = with-lost-any Original (start_of r) cards log told (plain-told told none-in)
+    lost-same : lost_in r ≡ lost_of (rule_of x) cards out start items
+    lost-same = with-lost-any (rule_of x) (start_of r) cards log told (plain-told told none-in)
 
     -- its part of the theorem, with the last-kept minutes
-    safe-same : (s : UnitSafe (recorded x) (history_of cards out start items) (lost_of cards out start items) out.marks.items U.clock V) × TellsLast (last_kept x) s
-    safe-same = subst (λ (is : List HistoryMinute). (s : UnitSafe (recorded x) is (lost_of cards out start items) out.marks.items U.clock V) × TellsLast (last_kept x) s) history-same
+    safe-same : (s : UnitSafe (recorded x) (history_of (rule_of x) cards out start items) (lost_of (rule_of x) cards out start items) out.marks.items U.clock V) × TellsLast (last_kept x) s
+    safe-same = subst (λ (is : List HistoryMinute). (s : UnitSafe (recorded x) is (lost_of (rule_of x) cards out start items) out.marks.items U.clock V) × TellsLast (last_kept x) s) history-same
         (subst (λ (ls : List (List HistoryMinute)). (s : UnitSafe (recorded x) (history_in r) ls out.marks.items U.clock V) × TellsLast (last_kept x) s) lost-same (h.ends.safe.unit, h.last))
 
     -- THE RUN ON THE UNIT ALONE
@@ -133,7 +133,7 @@ module _ (x : List ℕ) (start : ℕ) (items : List Item) (out : Outcome) (U V A
       complete = h.ends.caused.complete.unit;
       whole = λ none.
           let w = h.ends.whole (none, no-failed-tears _ _ _ ss log selects h.ends.caused.causes) in (
-            subst (HasEachDecided Original told) history-same w.decided,
+            subst (HasEachDecided (rule_of x) told) history-same w.decided,
             λ y left. subst (λ (is : List HistoryMinute). IsFilled (recorded x) is y) history-same (w.unit y left),
           );
     }

@@ -2,14 +2,14 @@
 use Rattle.std.proofs.Common.{ℕ, ◌+◌, ◌*◌, ◌<◌, ◌≤◌, List, [], ◌∷◌, subst, arith}
 use Rattle.std.specs.Prelude.{map}
 use Rattle.std.specs.List.{AllByRecursion}
-use Rattle.minute_model.specs.declared.Rule.TheVariants.{Original}
+use Rattle.minute_model.specs.declared.Rule.{Rule}
 use Rattle.minute_model.specs.declared.Minute.{Minute}
 use Rattle.minute_model.specs.Second.{Second}
 use Rattle.minute_model.specs.Minute.{decided}
 use Rattle.minute_model.specs.Span.{Span, begin, end_of, fed_many, picked, AreSettled, AreNumbered}
 use Rattle.minute_model.proofs.Counted.{decided-ended}
 use Rattle.minute_model.proofs.Spans.{fed_many-numbered}
-use Rattle.trace_model.specs.declared.Action.TheVariants.{Select, Insert, Withdraw, Tear, Place}
+use Rattle.trace_model.specs.declared.Action.TheVariants.{Select, Insert, Withdraw, Tear, Place, Manual}
 use Rattle.trace_model.specs.declared.Item.{Item}
 use Rattle.trace_model.specs.declared.Item.TheVariants.{Run, Off, Act}
 use Rattle.trace_text.specs.declared.trace.Form.TheVariants.{Minutes}
@@ -39,22 +39,23 @@ fed_items-numbered span (Act (Insert slot card) ∷ items) numbered = fed_items-
 fed_items-numbered span (Act (Withdraw slot) ∷ items) numbered = fed_items-numbered span items numbered
 fed_items-numbered span (Act (Tear slot) ∷ items) numbered = fed_items-numbered span items numbered
 fed_items-numbered span (Act (Place slot ending country region) ∷ items) numbered = fed_items-numbered span items numbered
+fed_items-numbered span (Act (Manual slot pick minute) ∷ items) numbered = fed_items-numbered span items numbered
 
 -- minutes that have ended before a second are on days that a time can name
 shown-below : (end : ℕ) (minutes : List Minute) → end ≤ 4294880896 → AllByRecursion (λ (m : Minute). 60 * m.minute + 60 ≤ end) minutes → AllByRecursion (λ (v : Viewed UnitShown). day_of_minute v.minute < DAYS) (map without_card minutes)
 shown-below end [] le all = tt
 shown-below end (m ∷ minutes) le all = (omega (arith, all.0, le), shown-below end minutes le all.1)
 
-trace-below : (start : ℕ) (items : List Item) → IsWellFormed start items → AllByRecursion (IsKnown Minutes) items → AllByRecursion (λ (v : Viewed UnitShown). day_of_minute v.minute < DAYS) (minutes_printed start items)
-trace-below start items well known =
-    let span = fed_items (begin Original start) items in
-    let none = fed_items-settlings (begin Original start) items in
-    let rule = fed_items-rule (begin Original start) items in
+trace-below : (rule : Rule) (start : ℕ) (items : List Item) → IsWellFormed start items → AllByRecursion (IsKnown Minutes) items → AllByRecursion (λ (v : Viewed UnitShown). day_of_minute v.minute < DAYS) (minutes_printed rule start items)
+trace-below rule start items well known =
+    let span = fed_items (begin rule start) items in
+    let none = fed_items-settlings (begin rule start) items in
+    let same = fed_items-rule (begin rule start) items in
     let settled : AreSettled span = rw none tt in
-    let ended = rw (rule, none) at (decided-ended span (fed_items-numbered (begin Original start) items tt) settled) in
-    let P : List Second → Type 0 = λ xs. AllByRecursion (λ (m : Minute). 60 * m.minute + 60 ≤ end_of span) (decided Original xs []) in
-    shown-below (end_of span) (decided Original (trace_span start items) []) (omega (arith, fed_items-end (begin Original start) items known, well.within.1)) (subst P (fed-span start items known) ended)
+    let ended = rw (same, none) at (decided-ended span (fed_items-numbered (begin rule start) items tt) settled) in
+    let P : List Second → Type 0 = λ xs. AllByRecursion (λ (m : Minute). 60 * m.minute + 60 ≤ end_of span) (decided rule xs []) in
+    shown-below (end_of span) (decided rule (trace_span start items) []) (omega (arith, fed_items-end (begin rule start) items known, well.within.1)) (subst P (fed-span rule start items known) ended)
 
 -- so their lines begin on such days
-pub lines-of-trace : (start : ℕ) (items : List Item) → IsWellFormed start items → AllByRecursion (IsKnown Minutes) items → AllByRecursion (λ (l : Line UnitShown). day_of_minute l.first < DAYS) (lines_of same_unit (minutes_printed start items))
-lines-of-trace start items well known = lines-below DAYS same_unit (minutes_printed start items) (trace-below start items well known)
+pub lines-of-trace : (rule : Rule) (start : ℕ) (items : List Item) → IsWellFormed start items → AllByRecursion (IsKnown Minutes) items → AllByRecursion (λ (l : Line UnitShown). day_of_minute l.first < DAYS) (lines_of same_unit (minutes_printed rule start items))
+lines-of-trace rule start items well known = lines-below DAYS same_unit (minutes_printed rule start items) (trace-below rule start items well known)

@@ -6,14 +6,13 @@ use Rattle.activity_codec.specs.declared.values.Slot.{Slot}
 use Rattle.activity_codec.specs.declared.values.Slot.TheVariants.{Driver, CoDriver}
 use Rattle.activity_codec.specs.declared.values.Pick.{Pick}
 use Rattle.trace_model.specs.declared.Action.{Action}
-use Rattle.trace_model.specs.declared.Action.TheVariants.{Select, Insert, Withdraw, Tear, Place}
+use Rattle.trace_model.specs.declared.Action.TheVariants.{Select, Insert, Withdraw, Tear, Place, Manual}
 use Rattle.trace_model.specs.Trace.{TraceSecond}
 use Rattle.log_model.specs.declared.lines.SlotFault.{SlotFault}
-use Rattle.log_model.specs.declared.lines.SlotFault.TheVariants.{NoPower}
 use Rattle.log_model.specs.declared.lines.Verdict.{Verdict}
 use Rattle.log_model.specs.Log.{RunLog, Phase, In, Keeping, cut_in, is_torn_in}
 use Rattle.log_model.specs.Slots.{Slots}
-use Rattle.log_model.specs.Course.{Course, Visit, Told, Went, Before, Moved, moved_by, unmoved, slot_told, both_told, begins, acted, all_acted, fresh, cut_told, lit_course, dark_course, has_power, second_told, went_on, went, not_begun}
+use Rattle.log_model.specs.Course.{Course, Visit, Told, Went, Before, Moved, moved_by, unmoved, slot_told, both_told, begins, acted, all_acted, fresh, cut_told, lit_course, dark_course, without_power, has_power, second_told, went_on, went, not_begun}
 use Rattle.log_model.specs.Causes.{pulled_of, torn_of, cards_torn, finds_of, visit_places}
 use Rattle.unit_course.specs.Turn.{IsSelection, empty_slots, plain_course, ArePlain}
 use Rattle.event_course.specs.Plain.{OnlySelect}
@@ -22,14 +21,14 @@ use Rattle.event_course.proofs.Bridge.{each-push}
 -- SECONDS WITHOUT CARDS: such actions alone are carried out, and the slots stay empty, whatever the log tells
 pub record IsCardless (t : Told) : Type 0 where
   pub picks : List (Slot × Pick)
-  pub refused : List SlotFault
+  pub refused : List (ℕ × SlotFault)
   pub is : t.course ≡ plain_course picks refused
 
 either : {X : Type 0} (b : Bool) (x y z : X) → x ≡ z → y ≡ z → cond b x y ≡ z
 either true x y z a c = a
 either false x y z a c = c
 
-slot-plain : (log : RunLog) (u : ℕ) (p : Phase) (moved : Moved) (slot : Slot) (picks : List (Slot × Pick)) (refused : List SlotFault) → moved.leaving slot ≡ [] →
+slot-plain : (log : RunLog) (u : ℕ) (p : Phase) (moved : Moved) (slot : Slot) (picks : List (Slot × Pick)) (refused : List (ℕ × SlotFault)) → moved.leaving slot ≡ [] →
     slot_told log u p moved slot (plain_course picks refused) ≡ plain_course picks refused
 slot-plain log u p moved Driver picks refused none =
     either (is_torn_in log u p Driver) _ _ (plain_course picks refused)
@@ -40,7 +39,7 @@ slot-plain log u p moved CoDriver picks refused none =
     (ap (λ (vs : List Visit). record (plain_course picks refused) { torn = vs ++ [] }) none)
     (either _ _ _ (plain_course picks refused) refl refl)
 
-both-plain : (log : RunLog) (u : ℕ) (p : Phase) (moved : Moved) (picks : List (Slot × Pick)) (refused : List SlotFault) → ((slot : Slot) → moved.leaving slot ≡ []) →
+both-plain : (log : RunLog) (u : ℕ) (p : Phase) (moved : Moved) (picks : List (Slot × Pick)) (refused : List (ℕ × SlotFault)) → ((slot : Slot) → moved.leaving slot ≡ []) →
     both_told log u p moved (plain_course picks refused) ≡ plain_course picks refused
 both-plain log u p moved picks refused none =
     ap (slot_told log u p moved CoDriver) (slot-plain log u p moved Driver picks refused (none Driver)) ∙ slot-plain log u p moved CoDriver picks refused (none CoDriver)
@@ -72,6 +71,7 @@ all-picked log s n (Insert slot card ∷ actions) picks each = absurd each.0
 all-picked log s n (Withdraw slot ∷ actions) picks each = absurd each.0
 all-picked log s n (Tear slot ∷ actions) picks each = absurd each.0
 all-picked log s n (Place slot ending country region ∷ actions) picks each = absurd each.0
+all-picked log s n (Manual slot pick minute ∷ actions) picks each = absurd each.0
 
 pub powered-plain : (log : RunLog) (u : ℕ) (starts : Bool) (slots : Slots) → slots ≡ empty_slots → both_told log u (In 0) (unmoved starts) (fresh starts slots) ≡ plain_course [] []
 powered-plain log u starts slots empty =
@@ -95,7 +95,7 @@ second-cardless log before s slots each = by (has_power before s) refl
   where
     by : (b : Bool) → has_power before s ≡ b → IsCardless (second_told log before s)
     by true is = let lit = lit-plain log s (not before.running) before.slots slots each in rw is (record { picks = lit.0; refused = []; is = lit.1 })
-    by false is = rw is (record { picks = []; refused = map (λ a. NoPower) s.actions; is = ap (dark_course s) slots })
+    by false is = rw is (record { picks = []; refused = without_power 0 s.actions; is = ap (dark_course s) slots })
 
 abbrev pub AreCardless : List Told → Type 0
 AreCardless told = AllByRecursion IsCardless told

@@ -9,6 +9,7 @@ pub mod EndLaws
 pub mod Endings
 pub mod Views
 pub mod Formats
+pub mod Upgraded
 pub mod WordRows
 pub mod Recordings
 pub mod Unbroken

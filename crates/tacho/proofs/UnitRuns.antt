@@ -8,10 +8,10 @@ use Rattle.trace_model.specs.declared.Item.{Item}
 use Rattle.trace_model.specs.Trace.{seconds_of}
 use Rattle.trace_text.specs.declared.trace.Form.TheVariants.{Whole}
 use Rattle.trace_text.specs.Judged.{IsTraceText}
-use Rattle.minute_model.specs.declared.Rule.TheVariants.{Original}
 use Rattle.log_model.proofs.Spanning.{seconds-order}
 use Rattle.unit_model.specs.Image.{recorded as days_in, odometer_at, last_kept}
 use Rattle.unit_model.specs.Decoding.{Decodes, first_bad_place}
+use Rattle.unit_model.specs.Versions.{rule_of}
 use Rattle.safety_model.specs.Recording.{Recording, start_of}
 use Rattle.run_opening.specs.declared.fault.RunFault.{RunFault}
 use Rattle.run_opening.specs.declared.fault.RunFault.TheVariants as run
@@ -210,7 +210,7 @@ unit-run old new outcome start items for_unit is_read recorded caused begun brok
           w.0,
           λ y left. (
             w.1 y left,
-            whole-odometer Original cards (log_of outcome) s (seconds_of s is) (seconds-order s is) w.0 (days_in x) (odometer_at x) y (w.1 y left) (f.odometer y left),
+            whole-odometer (rule_of x) cards (log_of outcome) s (seconds_of s is) (seconds-order s is) w.0 (days_in x) (odometer_at x) y (w.1 y left) (f.odometer y left),
             λ day odometer records. ⊎_elim (λ was. inl was) (λ begun. inr (day-whole r s (seconds-order s is) own.0 y (own.1 y left) day odometer begun)) (f.days y left day odometer records),
           ),
         )

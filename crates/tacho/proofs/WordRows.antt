@@ -1,19 +1,33 @@
 -- Words and what they ask for, computed.
 use Rattle.std.specs.Prelude.{◌≡◌, Some, None, [], ◌∷◌, ◌++◌, codes, replicate, refl}
+use Rattle.minute_model.specs.declared.Rule.TheVariants.{Original, Amended}
 use Rattle.trace_model.specs.declared.Card.TheVariants.{B}
-use Rattle.tacho.specs.declared.forms.Form.TheVariants.{Minutes, Serve, ServeHex, Download, View}
+use Rattle.tacho.specs.declared.forms.Form.TheVariants.{Minutes, Upgrade, Serve, ServeHex, Download, Read, Help, Version}
+use Rattle.tacho.specs.declared.forms.Reading.TheVariants.{View, Match, MatchAll}
 use Rattle.tacho.specs.declared.forms.TheConstants.{PLATE}
 use Rattle.tacho.specs.Texts.{word_in, number_in}
 use Rattle.trace_model.specs.Names.{card_named}
 use Rattle.tacho.specs.Forms.{name_in, form_of}
 
-minutes-row : form_of (codes "minutes" ∷ []) ≡ Some Minutes
+minutes-row : form_of (codes "minutes" ∷ []) ≡ Some (Minutes Original)
 unfolding form_of
 minutes-row = refl
+
+amended-row : form_of (codes "minutes" ∷ codes "2009" ∷ []) ≡ Some (Minutes Amended)
+unfolding form_of
+amended-row = refl
+
+other-year-row : form_of (codes "minutes" ∷ codes "2010" ∷ []) ≡ None
+unfolding form_of
+other-year-row = refl
 
 misspelled-row : form_of (codes "minute" ∷ []) ≡ None
 unfolding form_of
 misspelled-row = refl
+
+upgrade-row : form_of (codes "upgrade" ∷ []) ≡ Some Upgrade
+unfolding form_of
+upgrade-row = refl
 
 serve-row : form_of (codes "serve" ∷ []) ≡ Some Serve
 unfolding form_of
@@ -23,6 +37,18 @@ hex-row : form_of (codes "serve" ∷ codes "--hex" ∷ []) ≡ Some ServeHex
 unfolding form_of
 hex-row = refl
 
+help-row : form_of (codes "help" ∷ []) ≡ Some Help
+unfolding form_of
+help-row = refl
+
+help-dash-row : form_of (codes "--help" ∷ []) ≡ Some Help
+unfolding form_of
+help-dash-row = refl
+
+version-row : form_of (codes "--version" ∷ []) ≡ Some Version
+unfolding form_of
+version-row = refl
+
 other-dash-row : form_of (codes "serve" ∷ codes "-hex" ∷ []) ≡ None
 unfolding form_of
 other-dash-row = refl
@@ -31,9 +57,17 @@ download-row : form_of (codes "download" ∷ []) ≡ Some Download
 unfolding form_of
 download-row = refl
 
-view-row : form_of (codes "view" ∷ []) ≡ Some (View None)
+view-row : form_of (codes "view" ∷ []) ≡ Some (Read (View None))
 unfolding form_of
 view-row = refl
+
+match-row : form_of (codes "match" ∷ []) ≡ Some (Read Match)
+unfolding form_of
+match-row = refl
+
+match-all-row : form_of (codes "match" ∷ codes "all" ∷ []) ≡ Some (Read MatchAll)
+unfolding form_of
+match-all-row = refl
 
 not-last-row : form_of (codes "view" ∷ codes "first" ∷ codes "1" ∷ []) ≡ None
 unfolding form_of

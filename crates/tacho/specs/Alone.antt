@@ -2,11 +2,11 @@
 use Rattle.std.specs.Prelude.{◌≡◌, ◌⊎◌, ℕ, Bool, true, false, IsTrue, List, [], is_some}
 use Rattle.std.specs.List.{AllByRecursion}
 use Rattle.trace_model.specs.declared.Card.{Card}
-use Rattle.trace_model.specs.declared.Action.TheVariants.{Select, Insert, Withdraw, Tear, Place}
+use Rattle.trace_model.specs.declared.Action.TheVariants.{Select, Insert, Withdraw, Tear, Place, Manual}
 use Rattle.trace_model.specs.declared.Item.{Item}
 use Rattle.trace_model.specs.declared.Item.TheVariants.{Run, Off, Act}
 use Rattle.trace_model.specs.Trace.{seconds_of}
-use Rattle.minute_model.specs.declared.Rule.TheVariants.{Original}
+use Rattle.minute_model.specs.declared.Rule.{Rule}
 use Rattle.run_model.specs.declared.Device.{Device}
 use Rattle.run_model.specs.declared.Device.TheVariants.{Unit as OfUnit, CardA, CardB}
 use Rattle.tach_media.specs.Medium.{State, Rose, LeavesOnly, Unchanged}
@@ -20,6 +20,7 @@ use Rattle.history_model.specs.History.{unit_history, with_lost}
 use Rattle.gated_ring.specs.Ring.{Shape, IsDense, ring_list}
 use Rattle.message_model.specs.Records.{insertion_ring, unit_place_ring}
 use Rattle.unit_model.specs.Image.{recorded, last_kept, odometer_at}
+use Rattle.unit_model.specs.Versions.{rule_of}
 use Rattle.safety_model.specs.Unit.{UnitSafe, HasEachDecided, IsFilled, issued_bytes, marks_of}
 use Rattle.side_model.specs.Odometer.{SpanFrom, AreSpansFrom, MayStore}
 use Rattle.unit_course.specs.Complete.{AreMarked}
@@ -50,6 +51,7 @@ needs_no_card (Act (Insert slot card)) = false
 needs_no_card (Act (Withdraw slot)) = false
 needs_no_card (Act (Tear slot)) = false
 needs_no_card (Act (Place slot ending country region)) = false
+needs_no_card (Act (Manual slot pick minute)) = false
 
 -- a trace for the unit alone: none of its lines is a card's
 abbrev pub IsForUnit : List Item → Type 0
@@ -61,12 +63,12 @@ IsForUnit items = AllByRecursion (λ item. IsTrue (needs_no_card item)) items
 abbrev pub told_of : Outcome → (start : ℕ) → List Item → List Told
 told_of o start items = (went (log_of o) (seconds_of start items)).told
 
--- the unit history of such a run, and its fronts up to a cut's limit, each with its lost minute
-abbrev pub history_of : Start → Outcome → (start : ℕ) → List Item → List HistoryMinute
-history_of cards o start items = unit_history Original cards (log_of o) (told_of o start items)
+-- the unit history of such a run by a rule of minutes, and its fronts up to a cut's limit, each with its lost minute
+abbrev pub history_of : Rule → Start → Outcome → (start : ℕ) → List Item → List HistoryMinute
+history_of rule cards o start items = unit_history rule cards (log_of o) (told_of o start items)
 
-abbrev pub lost_of : Start → Outcome → (start : ℕ) → List Item → List (List HistoryMinute)
-lost_of cards o start items = with_lost Original cards (log_of o) (told_of o start items)
+abbrev pub lost_of : Rule → Start → Outcome → (start : ℕ) → List Item → List (List HistoryMinute)
+lost_of rule cards o start items = with_lost rule cards (log_of o) (told_of o start items)
 
 -- nothing may be found of a card: none enters
 abbrev pub NoVerdict : Card → ℕ → Verdict → Type 0
@@ -88,17 +90,18 @@ pub record StartsAs (x : List ℕ) (unit : State) : Type 0 where
 -- an image's odometer is one that the spans of the run store, each with what was stored as it began
 pub record ShowsStored (x : List ℕ) (start : ℕ) (items : List Item) (o : Outcome) (y : List ℕ) : Type 0 where
   pub spans : List SpanFrom
-  pub are_spans : AreSpansFrom Original (log_of o) (told_of o start items) (odometer_at x) (last_kept x) spans
-  pub odometer : MayStore Original (odometer_at x) (last_kept x) spans (last_kept y) (odometer_at y)
+  pub are_spans : AreSpansFrom (rule_of x) (log_of o) (told_of o start items) (odometer_at x) (last_kept x) spans
+  pub odometer : MayStore (rule_of x) (odometer_at x) (last_kept x) spans (last_kept y) (odometer_at y)
 
 -- a ring shows exactly what it showed at the start
 pub record ShowsOld (ring : Shape) (x y : List ℕ) : Type 0 where
   pub shown : ring_list ring y ≡ ring_list ring x
   pub dense : IsDense ring y
 
--- WHAT A RUN HAS RECORDED on the unit alone of a trace, that began with this image, at this clock: the crash-safety theorem of the unit.
+-- WHAT A RUN HAS RECORDED on the unit alone of a trace, that began with this image, at this clock: the crash-safety theorem of the unit, by the rule
+-- of minutes of that image.
 pub record IsAlone (cards : Start) (x : List ℕ) (start : ℕ) (items : List Item) (clock : ℕ) (o : Outcome) (unit : State) : Type 0 where
-  pub safe : UnitSafe (recorded x) (history_of cards o start items) (lost_of cards o start items) o.marks.items clock unit
+  pub safe : UnitSafe (recorded x) (history_of (rule_of x) cards o start items) (lost_of (rule_of x) cards o start items) o.marks.items clock unit
   -- no minute is told as acknowledged by a card
   pub none : (c : Card) → marks_of (device_of c) o.marks.items ≡ []
   -- what the unit was issued with stays, in every image that a stop might have left since
@@ -106,7 +109,7 @@ pub record IsAlone (cards : Start) (x : List ℕ) (start : ℕ) (items : List It
   -- and what is owed to any card, in each of them
   pub owed : (y : List ℕ) → unit.left_since clock y → OwesStill x y
   -- the odometer of each image that a stop may leave is the start's and the whole kilometres of each span; and so it is stored
-  pub odometer : (y : List ℕ) → unit.may_leave y → OdometerSafe Original (log_of o) (told_of o start items) (odometer_at x) y
+  pub odometer : (y : List ℕ) → unit.may_leave y → OdometerSafe (rule_of x) (log_of o) (told_of o start items) (odometer_at x) y
   pub stored : (y : List ℕ) → unit.may_leave y → ShowsStored x start items o y
   -- and so is that of each day that it records: as at the start, or that at the end of the first minute with which the run began the day
   pub days : (y : List ℕ) → unit.may_leave y → (day odometer : ℕ) → RecordsDay y day odometer → RecordsDay x day odometer ⊎ IsBegunIn (recording_of x no_image no_image start items o) y day odometer
@@ -121,10 +124,10 @@ pub record IsAlone (cards : Start) (x : List ℕ) (start : ℕ) (items : List It
   -- the last-kept minute of each image that a stop might have left since the start is that of the last minute which it shows
   pub last : TellsLast (last_kept x) safe
   -- each decided minute is acknowledged, but where a call failed in the second that decided it
-  pub complete : AreMarked Original (log_of o) (seconds_of start items) o.marks.items
+  pub complete : AreMarked (rule_of x) (log_of o) (seconds_of start items) o.marks.items
   -- where no call on the unit failed, each decided minute stands in the history, and each image that a stop may leave has all of it
-  pub whole : cuts true (log_of o) ≡ [] → HasEachDecided Original (told_of o start items) (history_of cards o start items)
-      × ((y : List ℕ) → unit.may_leave y → IsFilled (recorded x) (history_of cards o start items) y)
+  pub whole : cuts true (log_of o) ≡ [] → HasEachDecided (rule_of x) (told_of o start items) (history_of (rule_of x) cards o start items)
+      × ((y : List ℕ) → unit.may_leave y → IsFilled (recorded x) (history_of (rule_of x) cards o start items) y)
 
 -- ---- or why it is not
 

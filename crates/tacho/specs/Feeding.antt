@@ -1,7 +1,7 @@
 -- A span, fed with the items of a trace.
 use Rattle.std.specs.Prelude.{List, [], ◌∷◌}
 use Rattle.minute_model.specs.Span.{Span, fed_many, picked}
-use Rattle.trace_model.specs.declared.Action.TheVariants.{Select, Insert, Withdraw, Tear, Place}
+use Rattle.trace_model.specs.declared.Action.TheVariants.{Select, Insert, Withdraw, Tear, Place, Manual}
 use Rattle.trace_model.specs.declared.Item.{Item}
 use Rattle.trace_model.specs.declared.Item.TheVariants.{Run, Off, Act}
 
@@ -14,6 +14,7 @@ fed_item span (Act (Insert slot card)) = span
 fed_item span (Act (Withdraw slot)) = span
 fed_item span (Act (Tear slot)) = span
 fed_item span (Act (Place slot ending country region)) = span
+fed_item span (Act (Manual slot pick minute)) = span
 
 abbrev pub fed_items : Span → List Item → Span
 fed_items span [] = span

@@ -13,9 +13,13 @@ pub mod UnitRecorded
 pub mod CardsRecorded
 pub mod Recorded
 pub mod Formatting
+pub mod Upgrading
 pub mod Serving
 pub mod Downloading
 pub mod View
+pub mod Match
+pub mod Read
 pub mod CardFile
 pub mod Demo
+pub mod Help
 pub mod Program

@@ -4,7 +4,6 @@ use Rattle.tach_media.specs.Medium.{State, Rose, HasBroken, LeavesOnly, Unchange
 use Rattle.run_model.specs.declared.Device.{Device}
 use Rattle.run_model.specs.declared.Device.TheVariants.{Unit as OfUnit}
 use Rattle.log_model.specs.Causes.{HasCauses, cuts}
-use Rattle.minute_model.specs.declared.Rule.TheVariants.{Original}
 use Rattle.history_model.specs.Presence.{Start}
 use Rattle.safety_model.specs.Unit.{HasEachDecided, IsFilled}
 use Rattle.recorder_rule.specs.Whole.{HasWholeOdometer, HasDayOdometer}
@@ -19,6 +18,7 @@ use Rattle.trace_model.specs.declared.Item.{Item}
 use Rattle.trace_model.specs.Trace.{seconds_of}
 use Rattle.unit_journal.specs.DayOdometers.{RecordsDay}
 use Rattle.unit_model.specs.Image.{recorded, last_kept, odometer_at}
+use Rattle.unit_model.specs.Versions.{rule_of}
 use Rattle.unit_model.specs.Decoding.{Decodes, first_bad_place}
 use Rattle.tacho.specs.declared.end.Fault.{Fault}
 use Rattle.tacho.specs.declared.end.Fault.TheVariants.{Done, BadUnit, ClockBack, MediumFault}
@@ -46,8 +46,8 @@ IsRecorded x start items clock outcome unit = (cards : Start) → IsAlone cards 
 -- with all of it, of which the newest 366 are retained, and its odometer with each whole kilometre; and so is that of each day that it records: as at
 -- the start, or with the whole kilometres of each span before and of the span up to the end of the day's first minute
 abbrev pub IsAllThere : (x : List ℕ) → (start : ℕ) → List Item → Outcome → State → Type 0
-IsAllThere x start items outcome unit = (cards : Start) → HasEachDecided Original (told_of outcome start items) (history_of cards outcome start items)
-    × ((y : List ℕ) → unit.may_leave y → IsFilled (recorded x) (history_of cards outcome start items) y × HasWholeOdometer Original (told_of outcome start items) (odometer_at x) y
+IsAllThere x start items outcome unit = (cards : Start) → HasEachDecided (rule_of x) (told_of outcome start items) (history_of (rule_of x) cards outcome start items)
+    × ((y : List ℕ) → unit.may_leave y → IsFilled (recorded x) (history_of (rule_of x) cards outcome start items) y × HasWholeOdometer (rule_of x) (told_of outcome start items) (odometer_at x) y
     × ((day odometer : ℕ) → RecordsDay y day odometer → RecordsDay x day odometer ⊎ HasDayOdometer (recording_of x no_image no_image start items outcome) day odometer))
 
 -- how often each device broke down

@@ -13,12 +13,16 @@ mod download_command;
 mod end;
 mod format_command;
 mod forms;
+mod help_command;
+mod match_command;
 mod minutes;
 mod minutes_command;
 mod outcome_text;
+mod reading_command;
 mod record_command;
 mod serve_command;
 mod top;
+mod upgrade_command;
 mod view_command;
 mod words;
 
@@ -57,11 +61,24 @@ fn words_of(rt: &HostRuntime) -> Result<Words, Fault> {
     Ok(words)
 }
 
-/// Whether each write waits for the disk: all do but those of a demonstration.
-fn waits(words: &Words) -> bool {
+/// What a form does with the files of the devices.
+#[derive(Clone, Copy)]
+enum Access {
+    /// It writes them, and each write waits for the disk.
+    Lasting,
+    /// It writes them as a demonstration, which need not outlive a power cut.
+    Passing,
+    /// It reads them: also such as can't be written, and beside other forms that read.
+    Reading,
+}
+
+fn access(words: &Words) -> Access {
     match form_of(words) {
-        Some(Form::Demo { .. }) => false,
-        _ => true,
+        Some(Form::Demo { .. }) => Access::Passing,
+        Some(Form::Serve | Form::ServeHex | Form::Download | Form::CardFile { .. }) => {
+            Access::Reading
+        }
+        _ => Access::Lasting,
     }
 }
 
@@ -70,14 +87,15 @@ fn file<'a>(
     rt: &'a HostRuntime,
     path: &'a str,
     size: u32,
-    waits: bool,
+    access: Access,
 ) -> FileMedium<'a, HostRuntime>
     ensures { IsUntouched size (⟦<FileMedium<'a, HostRuntime> as Medium>⟧.state result) }
 {
-    if waits {
-        return FileMedium::new(rt, path, size);
+    match access {
+        Access::Lasting => FileMedium::new(rt, path, size),
+        Access::Passing => FileMedium::without_waiting(rt, path, size),
+        Access::Reading => FileMedium::for_reading(rt, path, size),
     }
-    FileMedium::without_waiting(rt, path, size)
 }
 
 /// The top call over the program's streams, and over the unit and the cards in the working folder's files. A stream that is closed has left its number
@@ -88,15 +106,15 @@ fn run(rt: &HostRuntime) -> Ended {
     let _third = File::open(rt, "/");
     match words_of(rt) {
         Ok(words) => {
-            let waits = waits(&words);
+            let access = access(&words);
             tacho(
                 rt.alloc(),
                 &words,
                 &mut StdSource::new(rt.stdin()),
                 &mut StdSink::new(rt.stdout()),
-                &mut file(rt, "unit.img", IMAGE_SIZE, waits),
-                &mut SimCard::new(file(rt, "card-a.img", LARGEST_IMAGE, waits)),
-                &mut SimCard::new(file(rt, "card-b.img", LARGEST_IMAGE, waits)),
+                &mut file(rt, "unit.img", IMAGE_SIZE, access),
+                &mut SimCard::new(file(rt, "card-a.img", LARGEST_IMAGE, access)),
+                &mut SimCard::new(file(rt, "card-b.img", LARGEST_IMAGE, access)),
             )
         }
         Err(fault) => Ended::of(rt.alloc(), nothing(rt.alloc()), fault),

@@ -5,6 +5,7 @@ ghost use Rattle.tacho.specs.Outside.{outside};
 ghost use Rattle.tacho.specs.declared.forms.Form.TheVariants.{Record as FormOfRecord, FormatCard as FormOfFormat, CardFile as FormOfCard, Demo as FormOfDemo};
 ghost use Rattle.tacho.specs.Outcomes.{IsEmpty, IsToldForUnit};
 ghost use Rattle.tacho.specs.Program.{AreDevices, Ends, Spares};
+ghost use Rattle.tacho.specs.Serving.{AnswersWaiting};
 
 use crate::card_command::card_end;
 use crate::demo_command::demo;
@@ -12,14 +13,16 @@ use crate::download_command::download_end;
 use crate::end::{Ended, Fault};
 use crate::format_command::{format_card, make_unit};
 use crate::forms::{Form, form_of};
+use crate::help_command::{print_help, print_version};
 use crate::minutes_command::print_minutes;
+use crate::reading_command::print_reading;
 use crate::record_command::record;
 use crate::serve_command::{lines_end, service_end};
-use crate::view_command::print_view;
+use crate::upgrade_command::upgrade_unit;
 use crate::words::Words;
 use card_download::write_card_file;
 use card_files::CardIdentity;
-use link_service::{serve, serve_lines};
+use link_service::{Peer, serve, serve_lines};
 use run_model::{Card, Device};
 use run_outcome::Outcome;
 use std::alloc::Global;
@@ -28,19 +31,24 @@ use unit_download::{Wire, download};
 
 /// Does what the words ask for.
 ///
-/// `minutes` reads a trace from the source, and writes the view text of its decided minutes, no card present, to the sink.
+/// `minutes` reads a trace from the source, and writes the view text of its decided minutes, no card present, to the sink; `minutes 2009`
+/// the same by the amended rule.
 /// `record` reads a trace, records it on the unit and the cards, and writes five lines of counts to the sink; a trace without a card's
 /// line is recorded on the unit alone.
 /// `serve` answers the frames among the bytes of the source by the messages of the unit, and writes the answers to the sink;
 /// `serve --hex` the same of lines of hexadecimal digits.
 /// `download` downloads the unit, and writes its file, message by message, to the sink.
 /// `view` reads a unit file or a card file from the source, and writes the view text of its minutes or entries to the sink.
+/// `match` reads a unit file and a card file from the source, and writes whether the card's entries stand in the unit file to the sink;
+/// `match all` all that differ.
 /// `card a` and `card b` read the card by its commands, and write its card file to the sink.
 /// `demo X` makes the unit and card a new, records a demonstration on the unit and the cards, downloads the unit, and writes seven lines of
 /// counts to the sink.
 /// `format a` and `format b` issue the card anew, of the largest sizes, `format unit` makes the unit new; they write
-/// `formatted` to the sink. No other device is used than the form's.
-pub fn tacho<S: Source, K: Sink, U: Medium, C: Chip>(
+/// `formatted` to the sink. `upgrade` gives the unit version 2 with the amended rule of minutes, and writes `upgraded`, or `already 2`
+/// where the unit had it. No other device is used than the form's.
+/// `help` and `--help` write the forms to the sink, a line each, and `--version` the version.
+pub fn tacho<S: Peer<K>, K: Sink, U: Medium, C: Chip>(
     alloc: Global,
     words: &Words,
     source: &mut S,
@@ -63,6 +71,11 @@ pub fn tacho<S: Source, K: Sink, U: Medium, C: Chip>(
     // the sink as it was where a field is named.
     ensures spares { Spares (form_of words.now) result.fault (IsToldForUnit (S.left source.old))
         (source.new ≡ source.old) (sink.new ≡ sink.old) (unit.new ≡ unit.old) (card_a.new ≡ card_a.old) (card_b.new ≡ card_b.old) }
+
+    // A loader that waits for the answers to what it has sent has them before more is read.
+    ensures in_time { AnswersWaiting (form_of words.now)
+        (outside S.left S.faults K.held K.faults U.state C.state C.card source.old sink.old unit.old card_a.old card_b.old)
+        (outside S.left S.faults K.held K.faults U.state C.state C.card source.new sink.new unit.new card_a.new card_b.new) (S.asked source.old) (S.asked source.new) }
 {
     match form_of(words) {
         None => Ended::of(alloc, nothing(alloc), Fault::Usage),
@@ -71,7 +84,7 @@ pub fn tacho<S: Source, K: Sink, U: Medium, C: Chip>(
 }
 
 /// Does what a form of the words asks for.
-fn perform<S: Source, K: Sink, U: Medium, C: Chip>(
+fn perform<S: Peer<K>, K: Sink, U: Medium, C: Chip>(
     alloc: Global,
     form: Form,
     source: &mut S,
@@ -86,10 +99,17 @@ fn perform<S: Source, K: Sink, U: Medium, C: Chip>(
         (outside S.left S.faults K.held K.faults U.state C.state C.card source.new sink.new unit.new card_a.new card_b.new) result }
     ensures spares { Spares (Some form) result.fault (IsToldForUnit (S.left source.old))
         (source.new ≡ source.old) (sink.new ≡ sink.old) (unit.new ≡ unit.old) (card_a.new ≡ card_a.old) (card_b.new ≡ card_b.old) }
+    ensures in_time { AnswersWaiting (Some form)
+        (outside S.left S.faults K.held K.faults U.state C.state C.card source.old sink.old unit.old card_a.old card_b.old)
+        (outside S.left S.faults K.held K.faults U.state C.state C.card source.new sink.new unit.new card_a.new card_b.new) (S.asked source.old) (S.asked source.new) }
 {
     let nothing = nothing(alloc);
     match form {
-        Form::Minutes => Ended::after(alloc, nothing, print_minutes(alloc, source, sink)),
+        Form::Minutes { rule } => Ended::after(
+            alloc,
+            nothing,
+            print_minutes(alloc, rule, source, sink),
+        ),
         Form::Record => perform_record(alloc, source, sink, unit, card_a, card_b),
         Form::FormatCard { card, identity } => {
             perform_format(alloc, card, &identity, source, sink, unit, card_a, card_b)
@@ -99,6 +119,7 @@ fn perform<S: Source, K: Sink, U: Medium, C: Chip>(
             nothing,
             make_unit(&identity, unit, sink),
         ),
+        Form::Upgrade => Ended::after(alloc, nothing, upgrade_unit(unit, sink)),
         Form::Serve => Ended::of(alloc, nothing, service_end(serve(source, sink, unit))),
         Form::ServeHex => {
             Ended::of(
@@ -112,9 +133,13 @@ fn perform<S: Source, K: Sink, U: Medium, C: Chip>(
             let done = download(alloc, sink, unit, &mut wire);
             Ended::with(nothing, wire, download_end(done))
         }
-        Form::View { last } => Ended::after(alloc, nothing, print_view(alloc, last, source, sink)),
+        Form::Read { reading } => {
+            Ended::after(alloc, nothing, print_reading(alloc, reading, source, sink))
+        }
         Form::CardFile { card } => perform_card(alloc, card, source, sink, unit, card_a, card_b),
         Form::Demo { seed } => perform_demo(alloc, seed, source, sink, unit, card_a, card_b),
+        Form::Help => Ended::after(alloc, nothing, print_help(sink)),
+        Form::Version => Ended::after(alloc, nothing, print_version(sink)),
     }
 }
 

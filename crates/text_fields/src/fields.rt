@@ -49,6 +49,21 @@ pub fn two_fields(text: &[u8]) -> Option<(&[u8], &[u8])>
     }
 }
 
+/// The fields of a text of three.
+pub fn three_fields(text: &[u8]) -> Option<(&[u8], &[u8], &[u8])>
+    ensures found { IfSome result (λ f. pieces 32 text.now ≡ f.0.now ∷ f.1.now ∷ f.2.now ∷ []) }
+    ensures none { IfNone result ((a b c : List ℕ) → pieces 32 text.now ≡ a ∷ b ∷ c ∷ [] → ⊥) }
+{
+    let (first, behind) = first_piece(text, b' ');
+    let Some(rest) = behind else {
+        return None;
+    };
+    match two_fields(rest) {
+        Some((second, third)) => Some((first, second, third)),
+        None => None,
+    }
+}
+
 /// The fields of a text of four.
 pub fn four_fields(text: &[u8]) -> Option<(&[u8], &[u8], &[u8], &[u8])>
     ensures found { IfSome result (λ f. pieces 32 text.now ≡ f.0.now ∷ f.1.now ∷ f.2.now ∷ f.3.now ∷ []) }

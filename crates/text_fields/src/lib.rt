@@ -4,5 +4,5 @@
 mod fields;
 mod numbers;
 
-pub use fields::{first_piece, four_fields, is_word, one_field, two_fields};
+pub use fields::{first_piece, four_fields, is_word, one_field, three_fields, two_fields};
 pub use numbers::{byte, number, number_between};

@@ -56,6 +56,12 @@ pub enum Action {
         country: u8,
         region: u8,
     },
+    /// The driver of a slot enters by hand what began at this minute of the day, below 1440, without the card.
+    Manual {
+        slot: Slot,
+        pick: Pick,
+        minute: u16,
+    },
 }
 
 /// A line of a trace behind its first.

@@ -10,7 +10,7 @@ use Rattle.activity_codec.specs.declared.values.Slot.{Slot}
 use Rattle.activity_codec.specs.declared.values.Slot.TheVariants.{Driver, CoDriver}
 use Rattle.trace_model.specs.declared.Card.{Card}
 use Rattle.trace_model.specs.declared.Card.TheVariants.{A, B}
-use Rattle.trace_model.specs.declared.Action.TheVariants.{Select, Insert, Withdraw, Tear, Place}
+use Rattle.trace_model.specs.declared.Action.TheVariants.{Select, Insert, Withdraw, Tear, Place, Manual}
 use Rattle.trace_model.specs.declared.Item.{Item}
 use Rattle.trace_model.specs.declared.Item.TheVariants.{Run, Off, Act}
 use Rattle.activity_codec.specs.Names.{slot_name, pick_name}
@@ -63,7 +63,8 @@ item_by letter rest =
     else (if letter == 105 then Act (Insert (slot_of (second rest)) (card_of (third rest)))
     else (if letter == 119 then Act (Withdraw (slot_of (second rest)))
     else (if letter == 116 then Act (Tear (slot_of (second rest)))
-    else Act (Place (slot_of (second rest)) (ending_of (third rest)) (number_of (fourth rest)) (number_of (fifth rest))))))))
+    else (if letter == 112 then Act (Place (slot_of (second rest)) (ending_of (third rest)) (number_of (fourth rest)) (number_of (fifth rest)))
+    else Act (Manual (slot_of (second rest)) (pick_of (third rest)) (number_of (fourth rest)))))))))
 
 abbrev item_of : List (List ℕ) → Item
 item_of [] = Off 0
@@ -98,6 +99,7 @@ back (Act (Insert slot card)) fits = rw (back-slot slot, back-card card) refl
 back (Act (Withdraw slot)) fits = rw (back-slot slot) refl
 back (Act (Tear slot)) fits = rw (back-slot slot) refl
 back (Act (Place slot ending n r)) fits = rw (back-slot slot, back-ending ending, back-number n (omega (arith, fits.0)), back-number r (omega (arith, fits.1))) refl
+back (Act (Manual slot pick minute)) fits = rw (back-slot slot, back-pick pick, back-number minute (omega (arith, fits))) refl
 
 -- one item has these fields
 pub item-one : (a b : Item) → InRange a → InRange b → item_fields a ≡ item_fields b → a ≡ b

@@ -2,7 +2,7 @@
 use Rattle.std.specs.Prelude.{◌≡◌, ℕ, ◌≤◌, Bool, true, false, IsTrue, List, [], ◌∷◌, codes, decimal}
 use Rattle.activity_codec.specs.Names.{slot_name, pick_name}
 use Rattle.trace_model.specs.Names.{card_name}
-use Rattle.trace_model.specs.declared.Action.TheVariants.{Select, Insert, Withdraw, Tear, Place}
+use Rattle.trace_model.specs.declared.Action.TheVariants.{Select, Insert, Withdraw, Tear, Place, Manual}
 use Rattle.trace_model.specs.declared.Item.{Item}
 use Rattle.trace_model.specs.declared.Item.TheVariants.{Run, Off, Act}
 use Rattle.trace_text.specs.declared.trace.Form.{Form}
@@ -17,7 +17,8 @@ ending_word true = codes "end"
 abbrev pub start_fields : ℕ → List (List ℕ)
 start_fields second = codes "start" ∷ decimal second ∷ []
 
--- `run N V`, `off N`, `select SLOT ACT`, `insert SLOT CARD`, `withdraw SLOT`, `tear SLOT` and `place SLOT KIND N R`
+-- `run N V`, `off N`, `select SLOT ACT`, `insert SLOT CARD`, `withdraw SLOT`, `tear SLOT`, `place SLOT KIND N R` and
+-- `manual SLOT ACT M`
 abbrev pub item_fields : Item → List (List ℕ)
 item_fields (Run seconds speed) = codes "run" ∷ decimal seconds ∷ decimal speed ∷ []
 item_fields (Off seconds) = codes "off" ∷ decimal seconds ∷ []
@@ -27,9 +28,10 @@ item_fields (Act (Withdraw slot)) = codes "withdraw" ∷ slot_name slot ∷ []
 item_fields (Act (Tear slot)) = codes "tear" ∷ slot_name slot ∷ []
 item_fields (Act (Place slot ending country region)) =
     codes "place" ∷ slot_name slot ∷ ending_word ending ∷ decimal country ∷ decimal region ∷ []
+item_fields (Act (Manual slot pick minute)) = codes "manual" ∷ slot_name slot ∷ pick_name pick ∷ decimal minute ∷ []
 
 -- the lines that a form knows behind `start`: the form of minutes `run` and `select`, that of the unit alone `off` too, and the
--- whole form all
+-- whole form all but `manual`, which no form knows: so it is a bad line in each trace
 abbrev pub knows : Form → Item → Bool
 knows Minutes (Run seconds speed) = true
 knows Minutes (Off seconds) = false
@@ -38,6 +40,7 @@ knows Minutes (Act (Insert slot card)) = false
 knows Minutes (Act (Withdraw slot)) = false
 knows Minutes (Act (Tear slot)) = false
 knows Minutes (Act (Place slot ending country region)) = false
+knows Minutes (Act (Manual slot pick minute)) = false
 knows UnitAlone (Run seconds speed) = true
 knows UnitAlone (Off seconds) = true
 knows UnitAlone (Act (Select slot pick)) = true
@@ -45,7 +48,15 @@ knows UnitAlone (Act (Insert slot card)) = false
 knows UnitAlone (Act (Withdraw slot)) = false
 knows UnitAlone (Act (Tear slot)) = false
 knows UnitAlone (Act (Place slot ending country region)) = false
-knows Whole item = true
+knows UnitAlone (Act (Manual slot pick minute)) = false
+knows Whole (Run seconds speed) = true
+knows Whole (Off seconds) = true
+knows Whole (Act (Select slot pick)) = true
+knows Whole (Act (Insert slot card)) = true
+knows Whole (Act (Withdraw slot)) = true
+knows Whole (Act (Tear slot)) = true
+knows Whole (Act (Place slot ending country region)) = true
+knows Whole (Act (Manual slot pick minute)) = false
 
 -- the seconds that a trace may begin with
 abbrev pub IsFirstSecond : ℕ → Type 0
@@ -60,6 +71,7 @@ InRange (Act (Insert slot card)) = Unit {0}
 InRange (Act (Withdraw slot)) = Unit {0}
 InRange (Act (Tear slot)) = Unit {0}
 InRange (Act (Place slot ending country region)) = (country ≤ 255) × (region ≤ 255)
+InRange (Act (Manual slot pick minute)) = minute ≤ 1439
 
 -- a line that a form knows, with its numbers in their ranges
 abbrev pub IsKnown : Form → Item → Type 0

@@ -12,7 +12,9 @@ ghost use Rattle.trace_text.specs.Text.{counts, fields};
 
 use crate::trace::Form;
 use activity_codec::{Activity, Pick, Slot};
-use text_fields::{byte, first_piece, four_fields, is_word, number_between, one_field, two_fields};
+use text_fields::{
+    byte, first_piece, four_fields, is_word, number_between, one_field, three_fields, two_fields,
+};
 use trace_model::{Action, Card, Item};
 
 /// The earliest second of a trace.
@@ -20,6 +22,9 @@ pub const FIRST: u32 = 86400;
 
 /// The latest second of a trace.
 pub const LAST: u32 = 4294880895;
+
+/// The last minute of a day.
+const LAST_MINUTE: u32 = 1439;
 
 /// The most seconds of a trace: 400 days.
 pub const MOST: u32 = 34560000;
@@ -98,6 +103,9 @@ fn read_action(word: &[u8], rest: &[u8]) -> Option<Item>
     }
     if is_word(word, b"place") {
         return read_place(rest);
+    }
+    if is_word(word, b"manual") {
+        return read_manual(rest);
     }
     None
 }
@@ -220,6 +228,30 @@ fn read_place(rest: &[u8]) -> Option<Item>
         ending,
         country,
         region,
+    }))
+}
+
+/// The item of `manual` with these fields.
+fn read_manual(rest: &[u8]) -> Option<Item>
+    ensures found { IfSome result (λ item. (codes "manual" ∷ pieces 32 rest.now ≡ item_fields item) × InRange item) }
+    ensures none { IfNone result ((item : Each) → codes "manual" ∷ pieces 32 rest.now ≡ item_fields item → InRange item → ⊥) }
+{
+    let Some((slot, pick, minute)) = three_fields(rest) else {
+        return None;
+    };
+    let Some(slot) = read_slot(slot) else {
+        return None;
+    };
+    let Some(pick) = read_pick(pick) else {
+        return None;
+    };
+    let Some(minute) = number_between(minute, 0, LAST_MINUTE) else {
+        return None;
+    };
+    Some(Item::Act(Action::Manual {
+        slot,
+        pick,
+        minute: minute as u16,
     }))
 }
 

@@ -7,7 +7,7 @@ use Rattle.activity_codec.specs.declared.values.Slot.{Slot}
 use Rattle.activity_codec.specs.declared.values.Slot.TheVariants.{Driver, CoDriver}
 use Rattle.activity_codec.specs.declared.values.Pick.{Pick}
 use Rattle.trace_model.specs.declared.Action.{Action}
-use Rattle.trace_model.specs.declared.Action.TheVariants.{Select, Insert, Withdraw, Tear, Place}
+use Rattle.trace_model.specs.declared.Action.TheVariants.{Select, Insert, Withdraw, Tear, Place, Manual}
 use Rattle.trace_model.specs.Trace.{TraceSecond, driven, dark}
 use Rattle.run_model.specs.Span.{picks_of}
 use Rattle.log_model.specs.declared.lines.Verdict.{Verdict}
@@ -53,6 +53,7 @@ all-acted log s n (Insert slot card ∷ actions) picks quiet each begun = absurd
 all-acted log s n (Withdraw slot ∷ actions) picks quiet each begun = absurd each.0
 all-acted log s n (Tear slot ∷ actions) picks quiet each begun = absurd each.0
 all-acted log s n (Place slot ending country region ∷ actions) picks quiet each begun = absurd each.0
+all-acted log s n (Manual slot pick minute ∷ actions) picks quiet each begun = absurd each.0
 
 none-acted : (log : RunLog) (s : TraceSecond) (n : ℕ) (actions : List Action) (picks : List (Slot × Pick)) → AllByRecursion IsSelection actions → ((m : ℕ) → begins (cut_in log s.number) m ≡ false) →
     all_acted log s n actions (plain_course picks []) ≡ plain_course picks []
@@ -63,6 +64,7 @@ none-acted log s n (Insert slot card ∷ actions) picks each none = absurd each.
 none-acted log s n (Withdraw slot ∷ actions) picks each none = absurd each.0
 none-acted log s n (Tear slot ∷ actions) picks each none = absurd each.0
 none-acted log s n (Place slot ending country region ∷ actions) picks each none = absurd each.0
+none-acted log s n (Manual slot pick minute ∷ actions) picks each none = absurd each.0
 
 -- a second that the trace gives power
 abbrev pub given_second : (number speed : ℕ) → List Action → TraceSecond

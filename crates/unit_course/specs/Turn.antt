@@ -1,16 +1,15 @@
 -- The seconds of a turn, as they went on a unit whose slots are empty (profile).
-use Rattle.std.specs.Prelude.{◌≡◌, ℕ, zero, suc, ◌+◌, Bool, true, false, None, List, [], ◌∷◌, map}
+use Rattle.std.specs.Prelude.{◌≡◌, ℕ, zero, suc, ◌+◌, Bool, true, false, None, List, [], ◌∷◌}
 use Rattle.std.specs.List.{AllByRecursion}
 use Rattle.activity_codec.specs.declared.values.Slot.{Slot}
 use Rattle.activity_codec.specs.declared.values.Pick.{Pick}
 use Rattle.trace_model.specs.declared.Action.{Action}
-use Rattle.trace_model.specs.declared.Action.TheVariants.{Select, Insert, Withdraw, Tear, Place}
+use Rattle.trace_model.specs.declared.Action.TheVariants.{Select, Insert, Withdraw, Tear, Place, Manual}
 use Rattle.minute_model.specs.declared.Rule.{Rule}
 use Rattle.minute_model.specs.Span.{Span, begin}
 use Rattle.log_model.specs.declared.lines.SlotFault.{SlotFault}
-use Rattle.log_model.specs.declared.lines.SlotFault.TheVariants.{NoPower}
 use Rattle.log_model.specs.Slots.{Slots}
-use Rattle.log_model.specs.Course.{Course, Told, cut_told}
+use Rattle.log_model.specs.Course.{Course, Told, cut_told, without_power}
 use Rattle.history_model.specs.Growth.{as_span}
 
 -- an action that no card bears on
@@ -20,13 +19,14 @@ IsSelection (Insert slot card) = ⊥
 IsSelection (Withdraw slot) = ⊥
 IsSelection (Tear slot) = ⊥
 IsSelection (Place slot ending country region) = ⊥
+IsSelection (Manual slot pick minute) = ⊥
 
 -- no card in a slot
 abbrev pub empty_slots : Slots
 empty_slots = record { driver = None; codriver = None }
 
 -- what happens in a second of such a unit: selections, and refusals
-abbrev pub plain_course : List (Slot × Pick) → List SlotFault → Course
+abbrev pub plain_course : List (Slot × Pick) → List (ℕ × SlotFault) → Course
 plain_course picks refused = record {
   picks = picks;
   left = [];
@@ -63,7 +63,7 @@ dark_second number speed given actions = record {
   lit = false;
   starts = false;
   cut = false;
-  course = plain_course [] (map (λ a. NoPower) actions);
+  course = plain_course [] (without_power 0 actions);
 }
 
 -- n seconds without power, the first with these actions

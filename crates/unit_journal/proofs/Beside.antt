@@ -9,16 +9,16 @@ use Rattle.tach_media.proofs.Images.{part_before, part_after}
 use Rattle.gated_ring.specs.Ring.{number_at, pointer, is_there, entry_at, next, order, taken, indices as ring_indices}
 use Rattle.gated_ring.proofs.Orders as orders
 use Rattle.gated_ring.proofs.Orders.{next_below, order_each, each_append, each_filter, range_each, filter_same, map_same}
-use Rattle.unit_model.specs.declared.layout.TheConstants.{DAYS, DAY_COUNT, DAY_ODOMETER, DAY_SLOTS, DAY_SLOT_SIZE, DAY_WORDS, FIRST_OVER, HIGHEST_ODOMETER, INSERTIONS, LAST_KEPT, LAST_MINUTE, ODOMETER, OVER_COUNT, VERSION}
+use Rattle.unit_model.specs.declared.layout.TheConstants.{DAYS, DAY_COUNT, DAY_ODOMETER, DAY_SLOTS, DAY_SLOT_SIZE, DAY_WORDS, FIRST_OVER, INSERTIONS, LAST_KEPT, ODOMETER}
 use Rattle.unit_model.specs.Days.{day_of, days_shown, state_at, word_minute, Each}
-use Rattle.unit_model.specs.Image.{number_of, day_ring, slot_place, last_kept, odometer_at, unit_day, unit_days, recorded, indices, slot_date, slot_count, slot_words, words_at}
+use Rattle.unit_model.specs.Image.{day_ring, slot_place, last_kept, odometer_at, unit_day, unit_days, recorded, indices, slot_date, slot_count, slot_words, words_at}
 use Rattle.unit_model.specs.Decoding.{Decodes, cell_check, cell_minute, cell_word, slot_checks, front_checks, has_day, is_pointer_good, is_last_good, are_dense, indices_before, is_date_good}
 use Rattle.unit_journal.specs.Beside.{SameJournal, PassesBeside}
 use Rattle.unit_journal.specs.Image.{Notes, IsNotes, IsNewestDay, Agrees, IsFound, IsFoundBy, IsFoundDay, IsStray}
 use Rattle.unit_model.specs.Image.{stray_list}
 use Rattle.unit_model.specs.Writing.{free_place}
 use Rattle.unit_journal.specs.Mends.{IsGateShut, IsMendable}
-use Rattle.unit_model.proofs.Checks.{passes, le_true, le_of, and_split, and_join, IsGood, good_of, front_kept, front_today, front_odometer, still}
+use Rattle.unit_model.proofs.Checks.{passes, and_split, IsGood, good_of, front_kept, front_today, front_odometer, front_split, front_join, rings_split, rings_join, still}
 use Rattle.unit_model.proofs.Growth.{map_range_same}
 use Rattle.unit_model.proofs.Recorded.{recorded_is}
 use Rattle.unit_model.proofs.Numbers.{number_same, part_in}
@@ -218,21 +218,16 @@ module _ (x c : List ℕ) (same : SameJournal x c) where
   lt_true : (a b : ℕ) → a < b → nat_lt a b ≡ true
   lt_true a b is = grind (arith, nat_tests)
 
-  eq_one : (a : ℕ) → a ≡ 1 → (a == 1) ≡ true
-  eq_one a is = grind (arith, nat_tests)
-
   front_good : PassesBeside c → IsGood x → list_all passes (front_checks c) ≡ true
   front_good ok good =
-      let k = last_kept c in
-      let overs : Bool = nat_le (number_of c OVER_COUNT) 255 && true in
-      let rest : Bool = nat_le (odometer_at c) HIGHEST_ODOMETER && overs in
-      let now = nat_le k LAST_MINUTE && (k == 0 || has_day c (k / 1440)) in
-      and_join (number_of c VERSION == 1) (now && rest) (eq_one (number_of c VERSION) ok.version)
-      (and_join now rest
-      (and_join (nat_le k LAST_MINUTE) (k == 0 || has_day c (k / 1440)) (le_true k LAST_MINUTE (omega (arith, last_beside, front_kept x good.front)))
-      ((λ t. last_beside t == 0 || has_beside (last_beside t / 1440) t) ∙ front_today x good.front))
-      (and_join (nat_le (odometer_at c) HIGHEST_ODOMETER) overs (le_true (odometer_at c) HIGHEST_ODOMETER (omega (arith, odometer_beside, front_odometer x good.front)))
-      (ap (λ (b : Bool). b && true) (le_true (number_of c OVER_COUNT) 255 ok.overs))))
+      front_join c (record {
+        version = ok.version;
+        rule = ok.rule;
+        kept = omega (arith, last_beside, front_kept x good.front);
+        today = (λ t. last_beside t == 0 || has_beside (last_beside t / 1440) t) ∙ front_today x good.front;
+        odometer = omega (arith, odometer_beside, front_odometer x good.front);
+        overs = ok.overs;
+      })
 
   cell_good : PassesBeside c → (n : ℕ) → n < 32 → (cell_check c n).passes ≡ true
   cell_good ok n below = by (ok.cells n below)
@@ -291,8 +286,7 @@ module _ (x c : List ℕ) (same : SameJournal x c) where
     cells = cell_good ok;
     point = point_good good.point;
     slots = λ i below. slot_good i below (good.slots i below);
-    rings = and_join (nat_lt (number_at c INSERTIONS.place 4) 2048) (nat_lt (number_at c 2379240 4) 255 && true) (lt_true (number_at c INSERTIONS.place 4) 2048 ok.insertions)
-        (ap (λ (b : Bool). b && true) (lt_true (number_at c 2379240 4) 255 ok.places));
+    rings = rings_join c (record { insertions = ok.insertions; places = ok.places; speeds = ok.speeds });
   }
 
   pub decodes_beside : PassesBeside c → Decodes x → Decodes c
@@ -312,20 +306,17 @@ either_true false b is = inr is
 pub passes_beside : (x : List ℕ) → Decodes x → PassesBeside x
 passes_beside x decodes =
     let good = good_of x decodes in
-    let k = last_kept x in
-    let now : Bool = nat_le k LAST_MINUTE && (k == 0 || has_day x (k / 1440)) in
-    let overs : Bool = nat_le (number_of x OVER_COUNT) 255 && true in
-    let rest : Bool = nat_le (odometer_at x) HIGHEST_ODOMETER && overs in
-    let first = and_split (number_of x VERSION == 1) (now && rest) good.front in
-    let last = and_split (nat_le (odometer_at x) HIGHEST_ODOMETER) overs (and_split now rest first.1).1 in
-    let rings = and_split (nat_lt (number_at x INSERTIONS.place 4) 2048) (nat_lt (number_at x 2379240 4) 255 && true) good.rings in
+    let front = front_split x good.front in
+    let rings = rings_split x good.rings in
     record {
-      version = eq_of (number_of x VERSION) 1 first.0;
-      overs = le_of (number_of x OVER_COUNT) 255 (and_split (nat_le (number_of x OVER_COUNT) 255) true last.1).0;
+      version = front.version;
+      rule = front.rule;
+      overs = front.overs;
       cells = λ n below. ⊎_elim
           (λ empty. inl (eq_of (cell_minute x n) 0 empty))
           (λ low. inr (less_of (word_minute (cell_word x n)) 1440 low))
           (either_true (cell_minute x n == 0) (nat_lt (word_minute (cell_word x n)) 1440) (good.cells n below));
-      insertions = less_of (number_at x INSERTIONS.place 4) 2048 rings.0;
-      places = less_of (number_at x 2379240 4) 255 (and_split (nat_lt (number_at x 2379240 4) 255) true rings.1).0;
+      insertions = rings.insertions;
+      places = rings.places;
+      speeds = rings.speeds;
     }

@@ -6,3 +6,4 @@ pub mod WordLaws
 pub mod WalkLaws
 pub mod JudgeLaws
 pub mod Heads
+pub mod Upgrading

@@ -15,6 +15,10 @@ pub three_told : (o : Option (List ℕ)) {A B C : List ℕ → Type 0} (D : List
 three_told None D a b c all = tt
 three_told (Some x) D a b c all = all x a b c
 
+pub four_told : (o : Option (List ℕ)) {A B C D : List ℕ → Type 0} (E : List ℕ → Type 0) → IfSome o A → IfSome o B → IfSome o C → IfSome o D → ((x : List ℕ) → A x → B x → C x → D x → E x) → IfSome o E
+four_told None E a b c d all = tt
+four_told (Some x) E a b c d all = all x a b c d
+
 -- said of a told image by what is told
 pub told_all : (o : Option (List ℕ)) (D : List ℕ → Type 0) → ((x : List ℕ) → o ≡ Some x → D x) → IfSome o D
 told_all None D all = tt

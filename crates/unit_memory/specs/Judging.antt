@@ -2,9 +2,9 @@
 use Rattle.std.specs.Prelude.{◌≡◌, ℕ, ◌+◌, ◌-◌, ◌/◌, ◌%◌, max, Bool, true, false, ◌&&◌, ◌||◌, ◌==◌, Option, Some, None, Result, Ok, Err, List, [], ◌∷◌, ◌++◌, nat_le, nat_lt, if◌then◌else◌}
 use Rattle.std.specs.List.{range_with_len}
 use Rattle.gated_ring.specs.Ring.{pointer}
-use Rattle.unit_model.specs.declared.layout.TheConstants.{VERSION, LAST_KEPT, ODOMETER, OVER_COUNT, DAY_DATE, DAY_ODOMETER, DAY_COUNT, DAY_WORDS, DAY_WORD_LIMIT, DAY_SLOTS, INSERTIONS, INSERTION_SLOTS, PLACES, PLACE_SLOTS, MOST_OVERS, LAST_MINUTE, HIGHEST_ODOMETER}
+use Rattle.unit_model.specs.declared.layout.TheConstants.{VERSION, RULE_BYTE, LAST_KEPT, ODOMETER, OVER_COUNT, DAY_DATE, DAY_ODOMETER, DAY_COUNT, DAY_WORDS, DAY_WORD_LIMIT, DAY_SLOTS, INSERTIONS, INSERTION_SLOTS, PLACES, PLACE_SLOTS, SPEEDS, SPEED_SLOTS, MOST_OVERS, LAST_MINUTE, HIGHEST_ODOMETER}
 use Rattle.unit_model.specs.Image.{number_of, last_kept, odometer_at, day_ring, slot_place, slot_date, slot_odometer, slot_count, slot_words}
-use Rattle.unit_model.specs.Decoding.{Check, check, word_checks, first_bad_place}
+use Rattle.unit_model.specs.Decoding.{Check, check, is_version_good, is_rule_good, word_checks, first_bad_place}
 use Rattle.unit_memory.specs.Walks.{walk_start, walk_from}
 use Rattle.unit_memory.specs.declared.words.Scan.{Scan}
 use Rattle.unit_memory.specs.declared.walk.Density.{Density}
@@ -14,20 +14,25 @@ use Rattle.unit_memory.specs.declared.judge.Judged.{Judged}
 use Rattle.unit_memory.specs.declared.slots.Head.{Head}
 
 -- the fields in front, by their numbers
-abbrev pub front_of : (version kept : ℕ) → (has_today : Bool) → (odometer overs : ℕ) → List Check
-front_of version kept has_today odometer overs =
-    check VERSION.place (version == 1)
+abbrev pub front_of : (version rule kept : ℕ) → (has_today : Bool) → (odometer overs : ℕ) → List Check
+front_of version rule kept has_today odometer overs =
+    check VERSION.place (is_version_good version)
+    ∷ check RULE_BYTE.place (is_rule_good version rule)
     ∷ check LAST_KEPT.place (nat_le kept LAST_MINUTE && (kept == 0 || has_today))
     ∷ check ODOMETER.place (nat_le odometer HIGHEST_ODOMETER)
     ∷ check OVER_COUNT.place (nat_le overs MOST_OVERS)
     ∷ []
 
 abbrev pub front_by : (kept : ℕ) → (has_today : Bool) → List ℕ → List Check
-front_by kept has_today image = front_of (number_of image VERSION) kept has_today (odometer_at image) (number_of image OVER_COUNT)
+front_by kept has_today image = front_of (number_of image VERSION) (number_of image RULE_BYTE) kept has_today (odometer_at image) (number_of image OVER_COUNT)
 
--- the pointers of insertions and places
-abbrev pub rings_of : (insertion place : ℕ) → List Check
-rings_of insertion place = check INSERTIONS.place (nat_lt insertion INSERTION_SLOTS) ∷ check PLACES.place (nat_lt place PLACE_SLOTS) ∷ []
+-- the pointers of insertions, places and detailed speed
+abbrev pub rings_of : (insertion place speed : ℕ) → List Check
+rings_of insertion place speed =
+    check INSERTIONS.place (nat_lt insertion INSERTION_SLOTS)
+    ∷ check PLACES.place (nat_lt place PLACE_SLOTS)
+    ∷ check SPEEDS.place (nat_lt speed SPEED_SLOTS)
+    ∷ []
 
 -- the place of the first word that may not stand there
 abbrev pub failed_of : Result Scan ℕ → Option ℕ

@@ -4,3 +4,4 @@ pub mod Scans
 pub mod Walks
 pub mod Judging
 pub mod Identified
+pub mod Upgrades

@@ -12,7 +12,8 @@ use tach_media::{Failed, Medium, read_number};
 use unit_model::layout::{
     CELL_WORD, CELLS, DAY_MINUTES, DAY_SECONDS, DAY_SLOTS, DAYS, HIGHEST_ODOMETER, INSERTION_SLOTS,
     INSERTIONS, LAST_KEPT, LAST_MINUTE, MOST_OVERS, ODOMETER, OVER_COUNT, OWED_ROWS, PLACE_SLOTS,
-    PLACES, VERSION, WORD_MINUTES, cell_place,
+    PLACES, PLAIN_VERSION, RULE_BYTE, RULED_VERSION, SPEED_SLOTS, SPEEDS, VERSION, WORD_MINUTES,
+    cell_place,
 };
 
 /// What judging an image tells: the place of the first field that fails, the last-kept minute, the pointer of the days, and
@@ -35,23 +36,34 @@ fn or_failing(found: Option<u32>, place: u32, passes: bool) -> Option<u32>
     }
 }
 
-// The version, the last-kept minute, the odometer, the number of over speedings.
+// The version, the rule byte, the last-kept minute, the odometer, the number of over speedings.
 fn bad_front<M: Medium>(unit: &mut M, kept: u32, has_today: bool) -> Result<Option<u32>, Failed>
     requires unit { (M.state unit.old).size ≡ IMAGE_SIZE }
     ensures found { IfOk result (λ found. IfSome (M.state unit.old).image (λ x. found ≡ first_failing (front_by kept has_today x))) }
     ensures reads { Reads (M.state unit.old) (M.state unit.new) (is_err result) }
 {
     let version = read_number(unit, VERSION.place, VERSION.size)?;
+    let rule = read_number(unit, RULE_BYTE.place, RULE_BYTE.size)?;
     let odometer = read_number(unit, ODOMETER.place, ODOMETER.size)?;
     let overs = read_number(unit, OVER_COUNT.place, OVER_COUNT.size)?;
-    Ok(front_place(version, kept, has_today, odometer, overs))
+    Ok(front_place(version, rule, kept, has_today, odometer, overs))
 }
 
-fn front_place(version: u32, kept: u32, has_today: bool, odometer: u32, overs: u32) -> Option<u32>
-    ensures { result ≡ first_failing (front_of version kept has_today odometer overs) }
+fn front_place(
+    version: u32,
+    rule: u32,
+    kept: u32,
+    has_today: bool,
+    odometer: u32,
+    overs: u32,
+) -> Option<u32>
+    ensures { result ≡ first_failing (front_of version rule kept has_today odometer overs) }
 {
-    if version != 1 {
+    if version != PLAIN_VERSION && version != RULED_VERSION {
         return Some(VERSION.place);
+    }
+    if version != PLAIN_VERSION && rule > 1 {
+        return Some(RULE_BYTE.place);
     }
     if kept > LAST_MINUTE || (kept != 0 && !has_today) {
         return Some(LAST_KEPT.place);
@@ -88,7 +100,7 @@ fn cell_passes(minute: u32, word: u32) -> bool
     minute == 0 || word % WORD_MINUTES < DAY_MINUTES
 }
 
-// The pointers of insertions and places.
+// The pointers of insertions, places and detailed speed.
 fn bad_ring<M: Medium>(unit: &mut M) -> Result<Option<u32>, Failed>
     requires unit { (M.state unit.old).size ≡ IMAGE_SIZE }
     ensures found { IfOk result (λ found. IfSome (M.state unit.old).image (λ x. found ≡ first_failing (ring_checks x))) }
@@ -96,17 +108,21 @@ fn bad_ring<M: Medium>(unit: &mut M) -> Result<Option<u32>, Failed>
 {
     let insertion = read_number(unit, INSERTIONS.place, 4)?;
     let place = read_number(unit, PLACES.place, 4)?;
-    Ok(ring_place(insertion, place))
+    let speed = read_number(unit, SPEEDS.place, 4)?;
+    Ok(ring_place(insertion, place, speed))
 }
 
-fn ring_place(insertion: u32, place: u32) -> Option<u32>
-    ensures { result ≡ first_failing (rings_of insertion place) }
+fn ring_place(insertion: u32, place: u32, speed: u32) -> Option<u32>
+    ensures { result ≡ first_failing (rings_of insertion place speed) }
 {
     if insertion >= INSERTION_SLOTS {
         return Some(INSERTIONS.place);
     }
     if place >= PLACE_SLOTS {
         return Some(PLACES.place);
+    }
+    if speed >= SPEED_SLOTS {
+        return Some(SPEEDS.place);
     }
     None
 }

@@ -6,12 +6,13 @@ mod format;
 mod judge;
 mod memory;
 mod slots;
+mod upgrade;
 mod walk;
 mod words;
 
 pub use fault::UnitFault;
 pub use format::{Identity, format_unit};
 pub use judge::{Judged, judge_image};
-pub use memory::UnitMemory;
+pub use memory::{UnitFacts, UnitMemory};
 pub use walk::{Density, Walk};
 pub use words::{Scan, scan_day};

@@ -1,12 +1,12 @@
 -- What is found of a request.
-use Rattle.std.proofs.Common.{◌≡◌, ℕ, ◌+◌, ◌*◌, ◌<◌, ◌≤◌, Bool, true, Option, Some, None, List, [], ◌∷◌, length, map, filter, refl, sym, ◌∙◌, ap, arith}
-use Rattle.std.specs.Prelude.{◌==◌, ◌&&◌, nat_le, nat_lt, slice_get, option_map, All, ◌≢◌}
-use Rattle.gated_ring.specs.Ring.{ring_list, number_at, PointsInside}
-use Rattle.unit_model.specs.declared.layout.TheConstants.{VERSION, OVER_COUNT}
+use Rattle.std.proofs.Common.{◌≡◌, ℕ, ◌+◌, ◌*◌, ◌≤◌, Option, Some, None, List, [], ◌∷◌, length, map, filter, refl, sym, ◌∙◌, ap, arith}
+use Rattle.std.specs.Prelude.{slice_get, option_map, All, ◌≢◌}
+use Rattle.gated_ring.specs.Ring.{ring_list, PointsInside}
+use Rattle.unit_model.specs.declared.layout.TheConstants.{OVER_COUNT}
 use Rattle.unit_model.specs.Days.{StoredDay}
-use Rattle.unit_model.specs.Image.{number_of as number_in, last_kept, recorded_indices, slot_date, slot_place, words_at, odometer_at}
-use Rattle.unit_model.specs.Decoding.{Decodes, is_kept_good}
-use Rattle.unit_model.proofs.Checks.{good_of, le_of, and_split}
+use Rattle.unit_model.specs.Image.{number_of as number_in, last_kept, recorded_indices, slot_date, slot_place, words_at}
+use Rattle.unit_model.specs.Decoding.{Decodes}
+use Rattle.unit_model.proofs.Checks.{good_of, front_split, rings_split}
 use Rattle.unit_model.proofs.WholeDays.{decoded_of}
 use Rattle.unit_journal.specs.declared.notes.Notes.{Notes}
 use Rattle.unit_journal.specs.Image.{IsNotes}
@@ -25,23 +25,12 @@ use Rattle.unit_messages.proofs.SentDays.{sent_at, sent_are, counts_few, found_n
 -- the pointers of insertions and places are indices in an image that decodes
 pub pointers_inside : (x : List ℕ) → Decodes x → PointsInside insertion_ring x × PointsInside unit_place_ring x
 pointers_inside x decodes =
-    let i = number_at x 2115044 4 in
-    let p = number_at x 2379240 4 in
-    let both = and_split (nat_lt i 2048) (nat_lt p 255 && true) (good_of x decodes).rings in
-    let last = and_split (nat_lt p 255) true both.1 in
-    (lt_of i 2048 both.0, lt_of p 255 last.0)
-  where
-    lt_of : (a b : ℕ) → nat_lt a b ≡ true → a < b
-    lt_of a b is = grind (arith, Rattle.std.proofs.lemmas.Bool.Decides.nat_tests)
+    let rings = rings_split x (good_of x decodes).rings in
+    (rings.insertions, rings.places)
 
 -- and there are at most 255 over speedings
 pub overs_few : (x : List ℕ) → Decodes x → number_in x OVER_COUNT ≤ 255
-overs_few x decodes =
-    let overs : Bool = nat_le (number_in x OVER_COUNT) 255 && true in
-    let odometer : Bool = nat_le (odometer_at x) 9999999 in
-    let front = (good_of x decodes).front in
-    let third = and_split odometer overs (and_split (is_kept_good x) (odometer && overs) (and_split (number_in x VERSION == 1) (is_kept_good x && (odometer && overs)) front).1).1 in
-    le_of (number_in x OVER_COUNT) 255 (and_split (nat_le (number_in x OVER_COUNT) 255) true third.1).0
+overs_few x decodes = (front_split x (good_of x decodes).front).overs
 
 -- of a date that no recorded day has there is no message
 pub none_sent : (x : List ℕ) (date : ℕ) → Decodes x → All (λ i. slot_date x i ≢ date) (recorded_indices x) → message_of x (AskDay date) ≡ None

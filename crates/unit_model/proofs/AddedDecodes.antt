@@ -11,7 +11,7 @@ use Rattle.gated_ring.specs.Change.{IsShortened, IsExtended}
 use Rattle.gated_ring.proofs.Listing.{staying_there}
 use Rattle.gated_ring.proofs.Orders as orders
 use Rattle.gated_ring.proofs.Orders.{rest, rest_each, order_first, order_last, each_append, each_weaker, each_filter, range_each, filter_same, map_same}
-use Rattle.unit_model.specs.declared.layout.TheConstants.{DAYS, DAY_SLOTS, DAY_SLOT_SIZE, DAY_WORDS, HIGHEST_ODOMETER, INSERTIONS, INSERTION_SLOTS, LAST_MINUTE, OVER_COUNT, PLACES, PLACE_SLOTS}
+use Rattle.unit_model.specs.declared.layout.TheConstants.{DAYS, DAY_SLOTS, DAY_SLOT_SIZE, DAY_WORDS, HIGHEST_ODOMETER, INSERTIONS, LAST_MINUTE, OVER_COUNT, PLACES, RULE_BYTE, SPEEDS}
 use Rattle.unit_model.specs.Days.{word_minute, day_of, Each}
 use Rattle.unit_model.specs.Image.{last_kept, odometer_at, day_ring, slot_place, indices, slot_date, slot_odometer, slot_count, slot_words}
 use Rattle.unit_model.specs.Decoding.{check, cell_place, slot_checks, slot_day, day_checks, has_day, is_last_good, are_dense, is_filled_on, indices_before, is_date_good, word_checks}
@@ -20,7 +20,7 @@ use Rattle.unit_model.proofs.Numbers.{number_before, number_after, number_in}
 use Rattle.unit_model.proofs.Slots.{day_at}
 use Rattle.unit_model.proofs.Finding.{last_good_at}
 use Rattle.unit_model.proofs.Turning.{others_of, taken_below}
-use Rattle.unit_model.proofs.Checks.{passes, and_split, and_join, le_true, le_of, IsGood, front_by}
+use Rattle.unit_model.proofs.Checks.{passes, and_split, and_join, le_true, le_of, IsGood, front_by, rings_still}
 use Rattle.unit_model.proofs.StillDecodes.{DayPasses, slot_by, day_join}
 use Rattle.unit_model.proofs.KeptDecodes.{entry_as}
 
@@ -320,12 +320,12 @@ module _ (x c : List ℕ) (known : pointer day_ring x < DAY_SLOTS) (others : (j 
       let q_below : q < DAY_SLOTS = ⊎_elim (λ at. omega (arith, at, known)) (λ at. omega (arith, at, t_below)) which in
       let turned_c : (is_there day_ring c t ≡ false) ⊎ (q ≡ t) = ⊎_elim (λ shut. inl (is ∙ shut)) (λ moved. inr moved) turned in
       record {
-        front = front_by x c (number_before DAYS.place DAYS.size 0 4 x c same (omega arith)) (number_before DAYS.place DAYS.size OVER_COUNT.place OVER_COUNT.size x c same (omega arith)) low far today good.front;
+        front = front_by x c (number_before DAYS.place DAYS.size 0 4 x c same (omega arith), number_before DAYS.place DAYS.size RULE_BYTE.place RULE_BYTE.size x c same (omega arith)) (number_before DAYS.place DAYS.size OVER_COUNT.place OVER_COUNT.size x c same (omega arith)) low far today good.front;
         cells = λ n below. (λ i. number_before DAYS.place DAYS.size (cell_place n) 4 x c same (omega (arith, below)) i == 0 || nat_lt (word_minute (number_before DAYS.place DAYS.size (cell_place n + 4) 2 x c same (omega (arith, below)) i)) 1440) ∙ good.cells n below;
         point = and_join (nat_lt q DAY_SLOTS) (are_dense (map (is_there day_ring c) (order day_ring (next day_ring q))) && is_last_good c q (indices c)) (lt_true q DAY_SLOTS q_below)
             (and_join (are_dense (map (is_there day_ring c) (order day_ring (next day_ring q)))) (is_last_good c q (indices c)) (added_dense b is turned dense) last);
         slots = λ j below. slot_at j below turned_c (good.slots j below) (cases_eq j t);
-        rings = (λ i. list_all passes (check INSERTIONS.place (nat_lt (number_after DAYS.place DAYS.size INSERTIONS.place 4 x c same (omega arith) i) INSERTION_SLOTS) ∷ check PLACES.place (nat_lt (number_after DAYS.place DAYS.size PLACES.place 4 x c same (omega arith) i) PLACE_SLOTS) ∷ [])) ∙ good.rings;
+        rings = rings_still x c (number_after DAYS.place DAYS.size INSERTIONS.place 4 x c same (omega arith)) (number_after DAYS.place DAYS.size PLACES.place 4 x c same (omega arith)) (number_after DAYS.place DAYS.size SPEEDS.place 4 x c same (omega arith)) good.rings;
       }
     where
       slot_at : (j : ℕ) → j < DAY_SLOTS → (is_there day_ring c t ≡ false) ⊎ (pointer day_ring c ≡ t) → list_all passes (slot_checks x j) ≡ true → (j ≡ t) ⊎ (j ≢ t) → list_all passes (slot_checks c j) ≡ true

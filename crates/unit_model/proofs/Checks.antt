@@ -1,13 +1,14 @@
 -- An image decodes where each of its parts does.
 use Rattle.std.proofs.Common.{◌≡◌, ⊎_elim, ℕ, zero, suc, ◌+◌, ◌/◌, ◌<◌, ◌≤◌, Bool, true, false, List, ◌∷◌, ◌++◌, map, refl, sym, ◌∙◌, ap, arith}
-use Rattle.std.specs.Prelude.{◌==◌, ◌&&◌, ◌||◌, nat_le, flat_map}
+use Rattle.std.specs.Prelude.{◌==◌, ◌&&◌, ◌||◌, nat_le, nat_lt, flat_map}
 use Rattle.std.specs.List.{list_all, range_with_len}
 use Rattle.std.proofs.lemmas.Bool.{cases_lt}
 use Rattle.std.proofs.lemmas.Bool.Decides.{nat_tests}
 use Rattle.std.proofs.lemmas.List.Folds.{list_all-append}
-use Rattle.unit_model.specs.declared.layout.TheConstants.{DAYS, DAY_SLOTS, HIGHEST_ODOMETER, LAST_MINUTE, MOST_OVERS, OVER_COUNT, VERSION}
+use Rattle.gated_ring.specs.Ring.{number_at}
+use Rattle.unit_model.specs.declared.layout.TheConstants.{DAYS, DAY_SLOTS, HIGHEST_ODOMETER, INSERTIONS, INSERTION_SLOTS, LAST_MINUTE, MOST_OVERS, OVER_COUNT, PLACES, PLACE_SLOTS, RULE_BYTE, SPEEDS, SPEED_SLOTS, VERSION}
 use Rattle.unit_model.specs.Image.{number_of, last_kept, odometer_at}
-use Rattle.unit_model.specs.Decoding.{Check, check, front_checks, cell_check, cell_checks, ring_checks, slot_checks, is_pointer_good, has_day, checks, Decodes}
+use Rattle.unit_model.specs.Decoding.{Check, check, is_version_good, is_rule_good, front_checks, cell_check, cell_checks, ring_checks, slot_checks, is_pointer_good, has_day, checks, Decodes}
 
 abbrev pub passes : Check → Bool
 passes c = c.passes
@@ -101,63 +102,147 @@ module _ (x : List ℕ) where
       (and_join (is_pointer_good x) (list_all passes (S ++ ring_checks x)) good.point
       (append_join S (ring_checks x) (flat_all (slot_checks x) 0 DAY_SLOTS (λ i low high. good.slots i (omega (arith, high)))) good.rings)))
 
+-- what the first fields of an image pass
+pub record FrontPasses (x : List ℕ) : Type 0 where
+  pub version : is_version_good (number_of x VERSION) ≡ true
+  pub rule : is_rule_good (number_of x VERSION) (number_of x RULE_BYTE) ≡ true
+  pub kept : last_kept x ≤ LAST_MINUTE
+  pub today : (last_kept x == 0 || has_day x (last_kept x / 1440)) ≡ true
+  pub odometer : odometer_at x ≤ HIGHEST_ODOMETER
+  pub overs : number_of x OVER_COUNT ≤ MOST_OVERS
+
+module _ (x : List ℕ) where
+  abbrev version_is : Bool
+  version_is = is_version_good (number_of x VERSION)
+
+  abbrev rule_is : Bool
+  rule_is = is_rule_good (number_of x VERSION) (number_of x RULE_BYTE)
+
+  abbrev day_is : Bool
+  day_is = last_kept x == 0 || has_day x (last_kept x / 1440)
+
+  abbrev kept_is : Bool
+  kept_is = nat_le (last_kept x) LAST_MINUTE && day_is
+
+  abbrev overs_are : Bool
+  overs_are = nat_le (number_of x OVER_COUNT) MOST_OVERS && true
+
+  abbrev counts_are : Bool
+  counts_are = nat_le (odometer_at x) HIGHEST_ODOMETER && overs_are
+
+  pub front_split : list_all passes (front_checks x) ≡ true → FrontPasses x
+  front_split all =
+      let version = and_split version_is (rule_is && (kept_is && counts_are)) all in
+      let rule = and_split rule_is (kept_is && counts_are) version.1 in
+      let kept = and_split kept_is counts_are rule.1 in
+      let day = and_split (nat_le (last_kept x) LAST_MINUTE) day_is kept.0 in
+      let counts = and_split (nat_le (odometer_at x) HIGHEST_ODOMETER) overs_are kept.1 in
+      record {
+        version = version.0;
+        rule = rule.0;
+        kept = le_of (last_kept x) LAST_MINUTE day.0;
+        today = day.1;
+        odometer = le_of (odometer_at x) HIGHEST_ODOMETER counts.0;
+        overs = le_of (number_of x OVER_COUNT) MOST_OVERS (and_split (nat_le (number_of x OVER_COUNT) MOST_OVERS) true counts.1).0;
+      }
+
+  pub front_join : FrontPasses x → list_all passes (front_checks x) ≡ true
+  front_join ok =
+      and_join version_is (rule_is && (kept_is && counts_are)) ok.version
+      (and_join rule_is (kept_is && counts_are) ok.rule
+      (and_join kept_is counts_are (and_join (nat_le (last_kept x) LAST_MINUTE) day_is (le_true (last_kept x) LAST_MINUTE ok.kept) ok.today)
+      (and_join (nat_le (odometer_at x) HIGHEST_ODOMETER) overs_are (le_true (odometer_at x) HIGHEST_ODOMETER ok.odometer)
+      (and_join (nat_le (number_of x OVER_COUNT) MOST_OVERS) true (le_true (number_of x OVER_COUNT) MOST_OVERS ok.overs) refl))))
+
+-- images with one version and one rule byte
+abbrev pub SameVersion : List ℕ → List ℕ → Type 0
+SameVersion x c = (number_of c VERSION ≡ number_of x VERSION) × (number_of c RULE_BYTE ≡ number_of x RULE_BYTE)
+
 -- the first fields, where no number of them has changed and the last-kept minute's day is there as before
-abbrev front_of : (version kept : ℕ) (today : Bool) (odometer overs : ℕ) → Bool
-front_of version kept today odometer overs = (version == 1) && ((nat_le kept LAST_MINUTE && (kept == 0 || today)) && (nat_le odometer HIGHEST_ODOMETER && (nat_le overs MOST_OVERS && true)))
-
-front_more : (version kept : ℕ) (today today' : Bool) (odometer overs : ℕ) → (today ≡ true → today' ≡ true) → front_of version kept today odometer overs ≡ true → front_of version kept today' odometer overs ≡ true
-front_more version kept today today' odometer overs more all =
-    let rest : Bool = nat_le odometer HIGHEST_ODOMETER && (nat_le overs MOST_OVERS && true) in
-    let first = and_split (version == 1) ((nat_le kept LAST_MINUTE && (kept == 0 || today)) && rest) all in
-    let second = and_split (nat_le kept LAST_MINUTE && (kept == 0 || today)) rest first.1 in
-    let kept_good = and_split (nat_le kept LAST_MINUTE) (kept == 0 || today) second.0 in
-    and_join (version == 1) ((nat_le kept LAST_MINUTE && (kept == 0 || today')) && rest) first.0
-    (and_join (nat_le kept LAST_MINUTE && (kept == 0 || today')) rest
-    (and_join (nat_le kept LAST_MINUTE) (kept == 0 || today') kept_good.0 (or_more (kept == 0) today today' more kept_good.1)) second.1)
-
-pub front_still : (x c : List ℕ) → number_of c VERSION ≡ number_of x VERSION → last_kept c ≡ last_kept x → odometer_at c ≡ odometer_at x → number_of c OVER_COUNT ≡ number_of x OVER_COUNT
+pub front_still : (x c : List ℕ) → SameVersion x c → last_kept c ≡ last_kept x → odometer_at c ≡ odometer_at x → number_of c OVER_COUNT ≡ number_of x OVER_COUNT
     → (has_day x (last_kept x / 1440) ≡ true → has_day c (last_kept x / 1440) ≡ true) → list_all passes (front_checks x) ≡ true → list_all passes (front_checks c) ≡ true
 front_still x c version kept odometer overs today all =
-    (λ t. front_of (version t) (kept t) (has_day c (kept t / 1440)) (odometer t) (overs t))
-    ∙ front_more (number_of x VERSION) (last_kept x) (has_day x (last_kept x / 1440)) (has_day c (last_kept x / 1440)) (odometer_at x) (number_of x OVER_COUNT) today all
+    let ok = front_split x all in
+    front_join c (record {
+      version = ap is_version_good version.0 ∙ ok.version;
+      rule = (λ t. is_rule_good (version.0 t) (version.1 t)) ∙ ok.rule;
+      kept = omega (arith, kept, ok.kept);
+      today = (λ t. kept t == 0 || has_day c (kept t / 1440)) ∙ or_more (last_kept x == 0) (has_day x (last_kept x / 1440)) (has_day c (last_kept x / 1440)) today ok.today;
+      odometer = omega (arith, odometer, ok.odometer);
+      overs = omega (arith, overs, ok.overs);
+    })
 
 -- the last-kept minute's day is there, and what is said of the first fields where these have changed
 pub front_today : (x : List ℕ) → list_all passes (front_checks x) ≡ true → (last_kept x == 0 || has_day x (last_kept x / 1440)) ≡ true
-front_today x all =
-    let k = last_kept x in
-    let good = nat_le k LAST_MINUTE && (k == 0 || has_day x (k / 1440)) in
-    let rest : Bool = nat_le (odometer_at x) HIGHEST_ODOMETER && (nat_le (number_of x OVER_COUNT) MOST_OVERS && true) in
-    let second = and_split good rest (and_split (number_of x VERSION == 1) (good && rest) all).1 in
-    (and_split (nat_le k LAST_MINUTE) (k == 0 || has_day x (k / 1440)) second.0).1
+front_today x all = (front_split x all).today
 
-pub front_by : (x c : List ℕ) → number_of c VERSION ≡ number_of x VERSION → number_of c OVER_COUNT ≡ number_of x OVER_COUNT → last_kept c ≤ LAST_MINUTE → odometer_at c ≤ HIGHEST_ODOMETER
+pub front_by : (x c : List ℕ) → SameVersion x c → number_of c OVER_COUNT ≡ number_of x OVER_COUNT → last_kept c ≤ LAST_MINUTE → odometer_at c ≤ HIGHEST_ODOMETER
     → (last_kept c == 0 || has_day c (last_kept c / 1440)) ≡ true → list_all passes (front_checks x) ≡ true → list_all passes (front_checks c) ≡ true
 front_by x c version overs kept odometer today all =
-    let k = last_kept x in
-    let good = nat_le k LAST_MINUTE && (k == 0 || has_day x (k / 1440)) in
-    let rest : Bool = nat_le (odometer_at x) HIGHEST_ODOMETER && (nat_le (number_of x OVER_COUNT) MOST_OVERS && true) in
-    let first = and_split (number_of x VERSION == 1) (good && rest) all in
-    let second = and_split good rest first.1 in
-    let third = and_split (nat_le (odometer_at x) HIGHEST_ODOMETER) (nat_le (number_of x OVER_COUNT) MOST_OVERS && true) second.1 in
-    let now = nat_le (last_kept c) LAST_MINUTE && (last_kept c == 0 || has_day c (last_kept c / 1440)) in
-    let overs_now : Bool = nat_le (number_of c OVER_COUNT) MOST_OVERS && true in
-    and_join (number_of c VERSION == 1) (now && (nat_le (odometer_at c) HIGHEST_ODOMETER && overs_now)) (ap (λ (n : ℕ). n == 1) version ∙ first.0)
-    (and_join now (nat_le (odometer_at c) HIGHEST_ODOMETER && overs_now) (and_join (nat_le (last_kept c) LAST_MINUTE) (last_kept c == 0 || has_day c (last_kept c / 1440)) (le_true (last_kept c) LAST_MINUTE kept) today)
-    (and_join (nat_le (odometer_at c) HIGHEST_ODOMETER) overs_now (le_true (odometer_at c) HIGHEST_ODOMETER odometer) (ap (λ (n : ℕ). nat_le n 255 && true) overs ∙ third.1)))
+    let ok = front_split x all in
+    front_join c (record {
+      version = ap is_version_good version.0 ∙ ok.version;
+      rule = (λ t. is_rule_good (version.0 t) (version.1 t)) ∙ ok.rule;
+      kept = kept;
+      today = today;
+      odometer = odometer;
+      overs = omega (arith, overs, ok.overs);
+    })
 
 pub front_kept : (x : List ℕ) → list_all passes (front_checks x) ≡ true → last_kept x ≤ LAST_MINUTE
-front_kept x all =
-    let k = last_kept x in
-    let good = nat_le k LAST_MINUTE && (k == 0 || has_day x (k / 1440)) in
-    let rest : Bool = nat_le (odometer_at x) HIGHEST_ODOMETER && (nat_le (number_of x OVER_COUNT) MOST_OVERS && true) in
-    le_of k LAST_MINUTE (and_split (nat_le k LAST_MINUTE) (k == 0 || has_day x (k / 1440)) (and_split good rest (and_split (number_of x VERSION == 1) (good && rest) all).1).0).0
+front_kept x all = (front_split x all).kept
 
 pub front_odometer : (x : List ℕ) → list_all passes (front_checks x) ≡ true → odometer_at x ≤ HIGHEST_ODOMETER
-front_odometer x all =
-    let k = last_kept x in
-    let good = nat_le k LAST_MINUTE && (k == 0 || has_day x (k / 1440)) in
-    let overs : Bool = nat_le (number_of x OVER_COUNT) MOST_OVERS && true in
-    le_of (odometer_at x) HIGHEST_ODOMETER (and_split (nat_le (odometer_at x) HIGHEST_ODOMETER) overs (and_split good (nat_le (odometer_at x) HIGHEST_ODOMETER && overs) (and_split (number_of x VERSION == 1) (good && (nat_le (odometer_at x) HIGHEST_ODOMETER && overs)) all).1).1).0
+front_odometer x all = (front_split x all).odometer
+
+-- the pointers of the rings that pass
+pub record RingsPass (x : List ℕ) : Type 0 where
+  pub insertions : number_at x INSERTIONS.place 4 < INSERTION_SLOTS
+  pub places : number_at x PLACES.place 4 < PLACE_SLOTS
+  pub speeds : number_at x SPEEDS.place 4 < SPEED_SLOTS
+
+lt_true : (a b : ℕ) → a < b → nat_lt a b ≡ true
+lt_true a b is = grind (arith, nat_tests)
+
+lt_of : (a b : ℕ) → nat_lt a b ≡ true → a < b
+lt_of a b is = grind (arith, nat_tests)
+
+module _ (x : List ℕ) where
+  abbrev insertions_are : Bool
+  insertions_are = nat_lt (number_at x INSERTIONS.place 4) INSERTION_SLOTS
+
+  abbrev places_are : Bool
+  places_are = nat_lt (number_at x PLACES.place 4) PLACE_SLOTS
+
+  abbrev speeds_are : Bool
+  speeds_are = nat_lt (number_at x SPEEDS.place 4) SPEED_SLOTS
+
+  pub rings_split : list_all passes (ring_checks x) ≡ true → RingsPass x
+  rings_split all =
+      let insertions = and_split insertions_are (places_are && (speeds_are && true)) all in
+      let places = and_split places_are (speeds_are && true) insertions.1 in
+      record {
+        insertions = lt_of (number_at x INSERTIONS.place 4) INSERTION_SLOTS insertions.0;
+        places = lt_of (number_at x PLACES.place 4) PLACE_SLOTS places.0;
+        speeds = lt_of (number_at x SPEEDS.place 4) SPEED_SLOTS (and_split speeds_are true places.1).0;
+      }
+
+  pub rings_join : RingsPass x → list_all passes (ring_checks x) ≡ true
+  rings_join ok =
+      and_join insertions_are (places_are && (speeds_are && true)) (lt_true (number_at x INSERTIONS.place 4) INSERTION_SLOTS ok.insertions)
+      (and_join places_are (speeds_are && true) (lt_true (number_at x PLACES.place 4) PLACE_SLOTS ok.places)
+      (and_join speeds_are true (lt_true (number_at x SPEEDS.place 4) SPEED_SLOTS ok.speeds) refl))
+
+-- the pointers of the rings, where none of them has changed
+pub rings_still : (x c : List ℕ) → number_at c INSERTIONS.place 4 ≡ number_at x INSERTIONS.place 4 → number_at c PLACES.place 4 ≡ number_at x PLACES.place 4
+    → number_at c SPEEDS.place 4 ≡ number_at x SPEEDS.place 4 → list_all passes (ring_checks x) ≡ true → list_all passes (ring_checks c) ≡ true
+rings_still x c insertions places speeds all =
+    let ok = rings_split x all in
+    rings_join c (record {
+      insertions = omega (arith, insertions, ok.insertions);
+      places = omega (arith, places, ok.places);
+      speeds = omega (arith, speeds, ok.speeds);
+    })
 
 -- what decodes still does where its parts do
 pub still : (x c : List ℕ) → (IsGood x → IsGood c) → Decodes x → Decodes c

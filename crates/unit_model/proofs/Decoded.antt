@@ -5,9 +5,9 @@ use Rattle.std.specs.List.{list_all, range_with_len}
 use Rattle.std.proofs.lemmas.Bool.Decides.{nat_tests}
 use Rattle.std.proofs.lemmas.Bool.{cases_lt}
 use Rattle.gated_ring.specs.Ring.{pointer, is_there, next, order}
-use Rattle.unit_model.specs.declared.layout.TheConstants.{DAYS, DAY_SLOTS, DAY_WORDS, DAY_WORD_LIMIT, HIGHEST_ODOMETER, LAST_KEPT, LAST_MINUTE, MOST_OVERS, ODOMETER, OVER_COUNT}
-use Rattle.unit_model.specs.Image.{last_kept, odometer_at, day_ring, slot_place, slot_date, slot_count, slot_words, indices}
-use Rattle.unit_model.specs.Decoding.{Check, check, first_failing, front_checks, cell_checks, ring_checks, slot_checks, day_checks, word_checks, checks, first_bad_place, Decodes, has_day, is_pointer_good, is_last_good, are_dense, indices_before, is_date_good}
+use Rattle.unit_model.specs.declared.layout.TheConstants.{DAYS, DAY_SLOTS, DAY_WORDS, DAY_WORD_LIMIT, HIGHEST_ODOMETER, LAST_KEPT, LAST_MINUTE, MOST_OVERS, ODOMETER, OVER_COUNT, RULE_BYTE, VERSION}
+use Rattle.unit_model.specs.Image.{number_of, last_kept, odometer_at, day_ring, slot_place, slot_date, slot_count, slot_words, indices}
+use Rattle.unit_model.specs.Decoding.{Check, check, is_version_good, is_rule_good, first_failing, front_checks, cell_checks, ring_checks, slot_checks, day_checks, word_checks, checks, first_bad_place, Decodes, has_day, is_pointer_good, is_last_good, are_dense, indices_before, is_date_good}
 use Rattle.unit_model.specs.Decoding.{or_else}
 use Rattle.unit_model.proofs.Failing.{failing_append}
 
@@ -106,12 +106,14 @@ module _ (x : List ℕ) (none : first_bad_place x ≡ None) where
 
   pub decoded : IsDecoded x
   decoded =
-      let c1 = check 0 (Rattle.unit_model.specs.Image.number_of x Rattle.unit_model.specs.declared.layout.TheConstants.VERSION == 1) in
+      let c1 = check VERSION.place (is_version_good (number_of x VERSION)) in
+      let cr = check RULE_BYTE.place (is_rule_good (number_of x VERSION) (number_of x RULE_BYTE)) in
       let c2 = check LAST_KEPT.place (nat_le (last_kept x) LAST_MINUTE && (last_kept x == 0 || has_day x (last_kept x / 1440))) in
       let c3 = check ODOMETER.place (nat_le (odometer_at x) HIGHEST_ODOMETER) in
-      let c4 = check OVER_COUNT.place (nat_le (Rattle.unit_model.specs.Image.number_of x Rattle.unit_model.specs.declared.layout.TheConstants.OVER_COUNT) MOST_OVERS) in
-      let version = none_head c1 (c2 ∷ c3 ∷ c4 ∷ []) split.0 in
-      let kept = none_head c2 (c3 ∷ c4 ∷ []) version.1 in
+      let c4 = check OVER_COUNT.place (nat_le (number_of x OVER_COUNT) MOST_OVERS) in
+      let version = none_head c1 (cr ∷ c2 ∷ c3 ∷ c4 ∷ []) split.0 in
+      let rule = none_head cr (c2 ∷ c3 ∷ c4 ∷ []) version.1 in
+      let kept = none_head c2 (c3 ∷ c4 ∷ []) rule.1 in
       let odometer = none_head c3 (c4 ∷ []) kept.1 in
       let kept_is = both_true (nat_le (last_kept x) LAST_MINUTE) (last_kept x == 0 || has_day x (last_kept x / 1440)) kept.0 in
       let p = pointer day_ring x in

@@ -8,7 +8,7 @@ use Rattle.std.specs.Int.{to_be_bytes, w32}
 use Rattle.tach_media.specs.Medium.{SameOutside, IsPartlyWritten}
 use Rattle.tach_media.proofs.Images.{put_outside, outside_wider}
 use Rattle.gated_ring.specs.Ring.{number_at, pointer, is_there, entry_at, next, order}
-use Rattle.unit_model.specs.declared.layout.TheConstants.{DAYS, DAY_COUNT, DAY_SLOTS, DAY_SLOT_SIZE, DAY_WORDS, DAY_WORD_LIMIT, FIRST_OVER, HIGHEST_ODOMETER, IMAGE_SIZE, INSERTIONS, INSERTION_SLOTS, LAST_KEPT, LAST_MINUTE, ODOMETER, OVER_COUNT, PLACES, PLACE_SLOTS}
+use Rattle.unit_model.specs.declared.layout.TheConstants.{DAYS, DAY_COUNT, DAY_SLOTS, DAY_SLOT_SIZE, DAY_WORDS, DAY_WORD_LIMIT, FIRST_OVER, HIGHEST_ODOMETER, IMAGE_SIZE, INSERTIONS, LAST_KEPT, LAST_MINUTE, ODOMETER, OVER_COUNT, PLACES, RULE_BYTE, SPEEDS}
 use Rattle.unit_model.specs.Days.{word_minute, Each}
 use Rattle.unit_model.specs.Image.{last_kept, odometer_at, day_ring, slot_place, indices, slot_date, slot_count, slot_words, words_at}
 use Rattle.unit_model.specs.Decoding.{check, cell_place, slot_checks, day_checks, has_day, is_pointer_good, is_last_good, are_dense, indices_before, is_date_good, word_checks, Decodes}
@@ -17,7 +17,7 @@ use Rattle.unit_model.proofs.Front.{front_odometer as front_odometer_is}
 use Rattle.unit_model.proofs.Numbers.{number_before, number_after, number_in, words_before, words_after, words_in}
 use Rattle.unit_model.proofs.Slots.{SameButOne, in_slot, in_front, same_indices}
 use Rattle.unit_model.proofs.Finding.{all_there, each_last}
-use Rattle.unit_model.proofs.Checks.{passes, and_split, and_join, le_true, le_of, IsGood, front_by, front_today, front_kept, front_odometer, still}
+use Rattle.unit_model.proofs.Checks.{passes, and_split, and_join, le_true, le_of, IsGood, front_by, front_today, front_kept, front_odometer, still, rings_still}
 use Rattle.unit_model.proofs.StillDecodes.{day_split, SameDates, same_day, same_point, date_good, DayPasses, slot_by, day_still, out_good}
 
 -- a slot of which nothing has changed
@@ -143,11 +143,11 @@ module _ (x c : List ℕ) (same : SameOutside LAST_KEPT.place 8 x c) (later : la
 
   pub front_good : IsGood x → IsGood c
   front_good good = record {
-    front = front_by x c (number_before LAST_KEPT.place 8 0 4 x c same (omega arith)) (behind OVER_COUNT.place OVER_COUNT.size (omega arith)) kept odometer today good.front;
+    front = front_by x c (number_before LAST_KEPT.place 8 0 4 x c same (omega arith), number_before LAST_KEPT.place 8 RULE_BYTE.place RULE_BYTE.size x c same (omega arith)) (behind OVER_COUNT.place OVER_COUNT.size (omega arith)) kept odometer today good.front;
     cells = λ n below. (λ t. behind (cell_place n) 4 (omega arith) t == 0 || nat_lt (word_minute (behind (cell_place n + 4) 2 (omega arith) t)) 1440) ∙ good.cells n below;
     point = front_point good.point;
     slots = λ j less. slot_by x c j (front_but.there j) (front_day j) (good.slots j less);
-    rings = (λ t. list_all passes (check INSERTIONS.place (nat_lt (behind INSERTIONS.place 4 (omega arith) t) INSERTION_SLOTS) ∷ check PLACES.place (nat_lt (behind PLACES.place 4 (omega arith) t) PLACE_SLOTS) ∷ [])) ∙ good.rings;
+    rings = rings_still x c (behind INSERTIONS.place 4 (omega arith)) (behind PLACES.place 4 (omega arith)) (behind SPEEDS.place 4 (omega arith)) good.rings;
   }
 
 not_zero : (n : ℕ) → 0 < n → (n == 0) ≡ false

@@ -25,3 +25,4 @@ pub mod FilledWhole
 pub mod WholeDays
 pub mod Front
 pub mod Recorded
+pub mod Versions

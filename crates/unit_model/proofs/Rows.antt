@@ -7,7 +7,9 @@ use Rattle.std.specs.List.{range_with_len}
 use Rattle.unit_model.specs.Retention.{begins_day, UnitRetains}
 use Rattle.unit_model.specs.Days.{ShownDay, days_shown, filled_all, minute_by, unknown_minute, minutes_of}
 use Rattle.unit_model.specs.Image.{unit_day}
-use Rattle.unit_model.specs.Decoding.{are_dense, is_date_good, word_checks, first_failing, cell_place}
+use Rattle.unit_model.specs.Decoding.{are_dense, is_date_good, is_version_good, is_rule_good, word_checks, first_failing, cell_place}
+use Rattle.unit_model.specs.Versions.{rule_byte_by, rule_by}
+use Rattle.minute_model.specs.declared.Rule.TheVariants.{Original, Amended}
 
 -- the tables fill the image, a slot, a row and a cell
 image_filled : are_adjacent 0 IMAGE_SIZE image_fields ≡ true
@@ -91,3 +93,11 @@ fewer_shown = inr (refl, refl)
 same_day_next : begins_day ((1440 * 367 + 1439) ∷ []) many_days ≡ false
 unfolding many_days
 same_day_next = refl
+
+-- version 1 passes with any rule byte, version 2 with 0 and 1
+version_rows : (is_rule_good 1 7 ≡ true) × (is_rule_good 2 0 ≡ true) × (is_rule_good 2 1 ≡ true) × (is_rule_good 2 2 ≡ false) × (is_version_good 0 ≡ false) × (is_version_good 3 ≡ false)
+version_rows = (refl, refl, refl, refl, refl, refl)
+
+-- the rule byte counts in version 2 alone
+rule_rows : (rule_by (rule_byte_by 1 1) ≡ Original) × (rule_by (rule_byte_by 2 0) ≡ Original) × (rule_by (rule_byte_by 2 1) ≡ Amended)
+rule_rows = (refl, refl, refl)

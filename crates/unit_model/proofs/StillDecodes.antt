@@ -11,14 +11,14 @@ use Rattle.tach_media.proofs.Images.{outside_wider}
 use Rattle.gated_ring.specs.Ring.{number_at, pointer, is_there, next, order}
 use Rattle.gated_ring.proofs.Orders as orders
 use Rattle.gated_ring.proofs.Orders.{rest, rest_others, order_last, each_append, each_weaker, each_filter, range_each, filter_same, map_same}
-use Rattle.unit_model.specs.declared.layout.TheConstants.{DAYS, DAY_COUNT, DAY_SLOTS, DAY_SLOT_SIZE, DAY_WORDS, DAY_WORD_LIMIT, HIGHEST_ODOMETER, INSERTIONS, INSERTION_SLOTS, LAST_KEPT, ODOMETER, OVER_COUNT, OWED, PLACES, PLACE_SLOTS, SPARE_ROWS}
+use Rattle.unit_model.specs.declared.layout.TheConstants.{DAYS, DAY_COUNT, DAY_SLOTS, DAY_SLOT_SIZE, DAY_WORDS, DAY_WORD_LIMIT, HIGHEST_ODOMETER, INSERTIONS, LAST_KEPT, ODOMETER, OVER_COUNT, OWED, PLACES, RULE_BYTE, SPARE_ROWS, SPEEDS}
 use Rattle.unit_model.specs.Days.{slot_bit, word_minute, Each}
 use Rattle.unit_model.specs.Image.{last_kept, odometer_at, day_ring, slot_place, indices, slot_date, slot_odometer, slot_count, slot_words, words_at}
 use Rattle.unit_model.specs.Decoding.{check, cell_place, cell_minute, cell_word, cell_check, slot_checks, slot_day, has_day, is_pointer_good, is_last_good, are_dense, indices_before, is_date_good, is_filled_on, is_word_good, is_first_good, day_checks, word_checks}
 use Rattle.unit_model.proofs.Words.{words_split}
 use Rattle.unit_model.proofs.Numbers.{number_before, number_after, words_before, words_after}
 use Rattle.unit_model.proofs.Slots.{SameButOne, in_front, in_slot}
-use Rattle.unit_model.proofs.Checks.{passes, le_true, le_of, and_split, and_join, IsGood, front_still}
+use Rattle.unit_model.proofs.Checks.{passes, le_true, le_of, and_split, and_join, IsGood, front_still, rings_still}
 
 -- images with the same last-kept minute, pointer and dates
 pub record SameDates (x c : List ℕ) : Type 0 where
@@ -55,7 +55,7 @@ module _ (x c : List ℕ) (same : SameDates x c) where
   date_good i = λ t. is_date_good (same.kept t) (same_before i t) (same.date i t)
 
 -- the checks of a slot whose date is as good as before, and whose other fields are the same
-slot_same : (x c : List ℕ) (i : ℕ) → is_there day_ring c i ≡ is_there day_ring x i
+pub slot_same : (x c : List ℕ) (i : ℕ) → is_there day_ring c i ≡ is_there day_ring x i
     → is_date_good (last_kept c) (map (slot_date c) (indices_before c i)) (slot_date c i) ≡ is_date_good (last_kept x) (map (slot_date x) (indices_before x i)) (slot_date x i)
     → slot_odometer c i ≡ slot_odometer x i → slot_count c i ≡ slot_count x i → slot_words c i (slot_count x i) ≡ slot_words x i (slot_count x i)
     → slot_checks c i ≡ slot_checks x i
@@ -84,14 +84,14 @@ module _ (x c : List ℕ) (same : SameOutside OWED.place OWED.size x c) (cells :
   pub rows_pass : IsGood x → IsGood c
   unfolding odometer_at
   rows_pass good = record {
-    front = front_still x c (number_before OWED.place OWED.size 0 4 x c same (omega arith)) dates.kept (number_before OWED.place OWED.size ODOMETER.place ODOMETER.size x c same (omega arith)) (number_before OWED.place OWED.size OVER_COUNT.place OVER_COUNT.size x c same (omega arith))
+    front = front_still x c (number_before OWED.place OWED.size 0 4 x c same (omega arith), number_before OWED.place OWED.size RULE_BYTE.place RULE_BYTE.size x c same (omega arith)) dates.kept (number_before OWED.place OWED.size ODOMETER.place ODOMETER.size x c same (omega arith)) (number_before OWED.place OWED.size OVER_COUNT.place OVER_COUNT.size x c same (omega arith))
         (λ there. same_day x c dates (last_kept x / 1440) ∙ there) good.front;
     cells = λ n below. cells n below (good.cells n below);
     point = same_point x c dates ∙ good.point;
     slots = λ i below.
         let p : ℕ = slot_place i in
         ap (list_all passes) (slot_same x c i (but.there i) (date_good x c dates i) (behind (p + 4) 4 (omega arith)) (behind (p + 8) 2 (omega arith)) (words_after OWED.place OWED.size (p + 16) (slot_count x i) x c same (omega arith))) ∙ good.slots i below;
-    rings = (λ t. list_all passes (check INSERTIONS.place (nat_lt (behind INSERTIONS.place 4 (omega arith) t) INSERTION_SLOTS) ∷ check PLACES.place (nat_lt (behind PLACES.place 4 (omega arith) t) PLACE_SLOTS) ∷ [])) ∙ good.rings;
+    rings = rings_still x c (behind INSERTIONS.place 4 (omega arith)) (behind PLACES.place 4 (omega arith)) (behind SPEEDS.place 4 (omega arith)) good.rings;
   }
 
 -- writes in the owed rows that leave the words of cells, and empty cells or leave them
@@ -170,11 +170,11 @@ module _ (x c : List ℕ) (same : SameOutside (slot_place 0) (DAYS.size - 4) x c
   pub out_good : (has_day x (last_kept x / 1440) ≡ true → has_day c (last_kept x / 1440) ≡ true) → is_pointer_good c ≡ true → ((i : ℕ) → i < DAY_SLOTS → list_all passes (slot_checks c i) ≡ true) → IsGood x → IsGood c
   unfolding last_kept odometer_at
   out_good today point slots good = record {
-    front = front_still x c (out_front 0 4 (omega arith)) (out_front LAST_KEPT.place LAST_KEPT.size (omega arith)) (out_front ODOMETER.place ODOMETER.size (omega arith)) (out_front OVER_COUNT.place OVER_COUNT.size (omega arith)) today good.front;
+    front = front_still x c (out_front 0 4 (omega arith), out_front RULE_BYTE.place RULE_BYTE.size (omega arith)) (out_front LAST_KEPT.place LAST_KEPT.size (omega arith)) (out_front ODOMETER.place ODOMETER.size (omega arith)) (out_front OVER_COUNT.place OVER_COUNT.size (omega arith)) today good.front;
     cells = λ n below. out_cell n below ∙ good.cells n below;
     point = point;
     slots = slots;
-    rings = (λ t. list_all passes (check INSERTIONS.place (nat_lt (out_behind INSERTIONS.place 4 (omega arith) t) INSERTION_SLOTS) ∷ check PLACES.place (nat_lt (out_behind PLACES.place 4 (omega arith) t) PLACE_SLOTS) ∷ [])) ∙ good.rings;
+    rings = rings_still x c (out_behind INSERTIONS.place 4 (omega arith)) (out_behind PLACES.place 4 (omega arith)) (out_behind SPEEDS.place 4 (omega arith)) good.rings;
   }
 
 -- words in front of others are as good without these

@@ -2,7 +2,7 @@
 use Rattle.std.specs.Prelude.{ℕ, ◌+◌, ◌-◌, ◌*◌, ◌/◌, ◌%◌, Bool, true, false, not, ◌&&◌, ◌||◌, ◌==◌, Option, Some, None, List, [], ◌∷◌, ◌++◌, length, map, filter, nat_le, nat_lt, if◌then◌else◌, flat_map, IsTrue}
 use Rattle.std.specs.List.{range_with_len, list_all, list_any}
 use Rattle.gated_ring.specs.Ring.{number_at, pointer, is_there, next, order}
-use Rattle.unit_model.specs.declared.layout.TheConstants.{VERSION, LAST_KEPT, ODOMETER, OVER_COUNT, OWED, OWED_ROWS, OWED_ROW_SIZE, CELLS, CELL_SIZE, ROW_CELLS, CELL_MINUTE, CELL_WORD, DAYS, DAY_SLOTS, DAY_ODOMETER, DAY_COUNT, DAY_WORDS, DAY_WORD_LIMIT, INSERTIONS, INSERTION_SLOTS, PLACES, PLACE_SLOTS, MOST_OVERS, LAST_MINUTE, HIGHEST_ODOMETER}
+use Rattle.unit_model.specs.declared.layout.TheConstants.{VERSION, RULE_BYTE, PLAIN_VERSION, RULED_VERSION, LAST_KEPT, ODOMETER, OVER_COUNT, OWED, OWED_ROWS, OWED_ROW_SIZE, CELLS, CELL_SIZE, ROW_CELLS, CELL_MINUTE, CELL_WORD, DAYS, DAY_SLOTS, DAY_ODOMETER, DAY_COUNT, DAY_WORDS, DAY_WORD_LIMIT, INSERTIONS, INSERTION_SLOTS, PLACES, PLACE_SLOTS, SPEEDS, SPEED_SLOTS, MOST_OVERS, LAST_MINUTE, HIGHEST_ODOMETER}
 use Rattle.unit_model.specs.Days.{slot_bit, word_minute}
 use Rattle.unit_model.specs.Image.{number_of, last_kept, odometer_at, day_ring, slot_place, indices, slot_date, slot_odometer, slot_count, slot_words}
 
@@ -31,10 +31,18 @@ has_day image day = list_any (λ i. is_there day_ring image i && slot_day image 
 abbrev pub is_kept_good : List ℕ → Bool
 is_kept_good image = nat_le (last_kept image) LAST_MINUTE && (last_kept image == 0 || has_day image (last_kept image / 1440))
 
--- the version, the last-kept minute, the odometer, the number of over speedings
+-- the version is 1 or 2, and version 2 has a rule byte that is 0 or 1
+abbrev pub is_version_good : ℕ → Bool
+is_version_good version = version == PLAIN_VERSION || version == RULED_VERSION
+
+abbrev pub is_rule_good : (version rule : ℕ) → Bool
+is_rule_good version rule = version == PLAIN_VERSION || nat_le rule 1
+
+-- the version, the rule byte, the last-kept minute, the odometer, the number of over speedings
 abbrev pub front_checks : List ℕ → List Check
 front_checks image =
-    check VERSION.place (number_of image VERSION == 1)
+    check VERSION.place (is_version_good (number_of image VERSION))
+    ∷ check RULE_BYTE.place (is_rule_good (number_of image VERSION) (number_of image RULE_BYTE))
     ∷ check LAST_KEPT.place (is_kept_good image)
     ∷ check ODOMETER.place (nat_le (odometer_at image) HIGHEST_ODOMETER)
     ∷ check OVER_COUNT.place (nat_le (number_of image OVER_COUNT) MOST_OVERS)
@@ -118,9 +126,13 @@ day_checks image i =
 abbrev pub slot_checks : List ℕ → ℕ → List Check
 slot_checks image i = if is_there day_ring image i then day_checks image i else []
 
--- the pointers of insertions and places
+-- the pointers of insertions, places and detailed speed
 abbrev pub ring_checks : List ℕ → List Check
-ring_checks image = check INSERTIONS.place (nat_lt (number_at image INSERTIONS.place 4) INSERTION_SLOTS) ∷ check PLACES.place (nat_lt (number_at image PLACES.place 4) PLACE_SLOTS) ∷ []
+ring_checks image =
+    check INSERTIONS.place (nat_lt (number_at image INSERTIONS.place 4) INSERTION_SLOTS)
+    ∷ check PLACES.place (nat_lt (number_at image PLACES.place 4) PLACE_SLOTS)
+    ∷ check SPEEDS.place (nat_lt (number_at image SPEEDS.place 4) SPEED_SLOTS)
+    ∷ []
 
 -- all fields that are judged, in order of places
 unfoldable pub checks : List ℕ → List Check

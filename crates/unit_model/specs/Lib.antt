@@ -8,3 +8,4 @@ pub mod Changes
 pub mod Writing
 pub mod Cells
 pub use Rattle.gated_ring.specs.Ring
+pub mod Versions

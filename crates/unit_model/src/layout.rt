@@ -1,5 +1,5 @@
-//! The layout of a unit's image, version 1 (profile): each field with its place and its size in bytes. A number stands with
-//! its highest byte first. Days, insertions and places begin with a pointer of four bytes.
+//! The layout of a unit's image, versions 1 and 2 (profile): each field with its place and its size in bytes. A number stands with
+//! its highest byte first. Days, insertions and places begin with a pointer of four bytes, and so does the detailed speed.
 ghost use Rattle.std.specs.Prelude.{◌≡◌, ◌≤◌, ◌<◌};
 ghost use Rattle.unit_model.specs.Image.{slot_place};
 ghost use Rattle.unit_model.specs.Decoding.{cell_place};
@@ -15,7 +15,7 @@ pub struct Field {
 /// The size of the image in bytes.
 pub const IMAGE_SIZE: u32 = 2_485_808;
 
-/// 1; 0 while the unit is formatted.
+/// 1 or 2; 0 while the unit is formatted.
 pub const VERSION: Field = Field { place: 0, size: 4 };
 
 /// The vehicle identification number.
@@ -53,10 +53,15 @@ pub const UNIT_CERTIFICATE: Field = Field {
     place: 367,
     size: 194,
 };
+/// In version 2 the rule of minutes: 0 is the original one, 1 the amended one. In version 1 it is not looked at.
+pub const RULE_BYTE: Field = Field {
+    place: 561,
+    size: 1,
+};
 /// Zeros.
 pub const SPARE: Field = Field {
-    place: 561,
-    size: 3,
+    place: 562,
+    size: 2,
 };
 /// The minute that was kept last, 0 for none.
 pub const LAST_KEPT: Field = Field {
@@ -128,7 +133,7 @@ pub const SPARE_FAULTS: Field = Field {
     place: 2_393_642,
     size: 2,
 };
-/// A pointer and 1440 blocks of 64 bytes; zeros.
+/// The detailed speed: a pointer and 1440 blocks of 64 bytes. Nothing is written there yet.
 pub const SPEEDS: Field = Field {
     place: 2_393_644,
     size: 92_164,
@@ -139,6 +144,14 @@ pub const INSERTION_SLOTS: u32 = 2048;
 
 /// How many places there is room for.
 pub const PLACE_SLOTS: u32 = 255;
+
+/// How many blocks of detailed speed there is room for.
+pub const SPEED_SLOTS: u32 = 1440;
+/// The version of an image without a rule byte.
+pub const PLAIN_VERSION: u32 = 1;
+/// The version of an image with a rule byte.
+pub const RULED_VERSION: u32 = 2;
+
 /// The most over speedings that are counted.
 pub const MOST_OVERS: u32 = 255;
 

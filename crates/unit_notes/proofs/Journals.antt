@@ -1,9 +1,8 @@
 -- What a note leaves alone: what a journal reads, and that the image decodes.
-use Rattle.std.proofs.Common.{◌≡◌, ◌⊎◌, inl, inr, ⊎_elim, ℕ, ◌+◌, ◌-◌, ◌<◌, ◌≤◌, Bool, true, false, cond, List, length, drop, refl, sym, ◌∙◌, ap, subst, arith}
+use Rattle.std.proofs.Common.{◌≡◌, ◌⊎◌, inl, inr, ⊎_elim, ℕ, ◌+◌, ◌-◌, ◌<◌, ◌≤◌, Bool, true, false, cond, List, length, refl, sym, ◌∙◌, ap, subst, arith}
 use Rattle.std.specs.Prelude.{◌==◌, nat_lt}
 use Rattle.std.specs.Int.{to_be_bytes, w32}
 use Rattle.std.proofs.lemmas.Bool.{ltb-true}
-use Rattle.std.proofs.lemmas.List.{drop-drop}
 use Rattle.card_layout.specs.Images.{SameOutside, bytes_at, big_number, number_at, put}
 use Rattle.card_layout.proofs.Images.{part_before, part_after, part_in, put_outside}
 use Rattle.card_layout.proofs.Spelled.{number_before, number_after, number_put, bytes_filled}
@@ -15,7 +14,7 @@ use Rattle.event_model.specs.declared.kinds.TheConstants.{OVER_SPEEDING}
 use Rattle.message_model.specs.Records.{insertion_ring, unit_place_ring}
 use Rattle.side_model.specs.Tables.{table_of}
 use Rattle.unit_model.specs.Days.{word_minute}
-use Rattle.unit_model.specs.Decoding.{Decodes, cell_place}
+use Rattle.unit_model.specs.Decoding.{Decodes, is_version_good, is_rule_good, cell_place}
 use Rattle.unit_journal.specs.Beside.{SameJournal}
 use Rattle.unit_journal.proofs.Beside.{decodes_beside, passes_beside}
 use Rattle.unit_notes.specs.Journal.{KeepsJournal}
@@ -24,31 +23,25 @@ use Rattle.unit_notes.proofs.Types.{table_inside}
 
 -- ---- what a journal reads
 
--- bytes behind some that are the same
-behind_same : (n m : ℕ) (x c : List ℕ) → n ≤ m → drop n c ≡ drop n x → drop m c ≡ drop m x
-behind_same n m x c le same =
-    let is : n + (m - n) ≡ m = omega (arith, le) in
-    subst (λ (k : ℕ). drop k c ≡ drop k x) is (sym (drop-drop (m - n) n c) ∙ ap (drop (m - n)) same ∙ drop-drop (m - n) n x)
-
 pub keeps : (a n : ℕ) (x c : List ℕ) → ((572 ≤ a) × (a + n ≤ 580)) ⊎ ((2115044 ≤ a) × (a + n ≤ 2393642)) → SameOutside a n x c → KeepsJournal x c
 keeps a n x c (inl mid) same = record {
   front = part_before a n 0 572 x c same (omega (arith, mid.0));
   rest = part_after a n 580 2114464 x c same mid.1;
-  behind = behind_same (a + n) 2393642 x c (let le = mid.1 in omega (arith, le)) same.after;
+  spare = part_after a n 2393642 2 x c same (omega (arith, mid.1));
   same_length = same.same_length;
 }
 keeps a n x c (inr high) same = record {
   front = part_before a n 0 572 x c same (omega (arith, high.0));
   rest = part_before a n 580 2114464 x c same (omega (arith, high.0));
-  behind = behind_same (a + n) 2393642 x c high.1 same.after;
+  spare = part_after a n 2393642 2 x c same high.1;
   same_length = same.same_length;
 }
 
 keeps_same : (x c : List ℕ) → c ≡ x → KeepsJournal x c
-keeps_same x c same = record { front = ap (λ (l : List ℕ). bytes_at l 0 572) same; rest = ap (λ (l : List ℕ). bytes_at l 580 2114464) same; behind = ap (λ (l : List ℕ). drop 2393642 l) same; same_length = ap length same }
+keeps_same x c same = record { front = ap (λ (l : List ℕ). bytes_at l 0 572) same; rest = ap (λ (l : List ℕ). bytes_at l 580 2114464) same; spare = ap (λ (l : List ℕ). bytes_at l 2393642 2) same; same_length = ap length same }
 
 keeps_then : (x y c : List ℕ) → KeepsJournal x y → KeepsJournal y c → KeepsJournal x c
-keeps_then x y c first next = record { front = next.front ∙ first.front; rest = next.rest ∙ first.rest; behind = next.behind ∙ first.behind; same_length = next.same_length ∙ first.same_length }
+keeps_then x y c first next = record { front = next.front ∙ first.front; rest = next.rest ∙ first.rest; spare = next.spare ∙ first.spare; same_length = next.same_length ∙ first.same_length }
 
 pub insertion_keeps : (head x c : List ℕ) → IsAdding insertion_ring head x c → KeepsJournal x c
 insertion_keeps head x c adding = keeps 2115044 264196 x c (inr (omega arith, omega arith)) adding.outside
@@ -111,6 +104,9 @@ part_of p w q n x c inside same = sym (part_in c p w q n inside) ∙ ap (λ (l :
 version_inside : 0 + 4 ≤ 572
 version_inside = omega arith
 
+rule_inside : 561 + 1 ≤ 572
+rule_inside = omega arith
+
 overs_low : 576 + 4 ≤ 2115044
 overs_low = omega arith
 
@@ -123,6 +119,12 @@ insertions_low = omega arith
 insertions_end : 2115044 + 264196 ≤ 2379240
 insertions_end = omega arith
 
+insertions_before_speeds : 2115044 + 264196 ≤ 2393644
+insertions_before_speeds = omega arith
+
+places_before_speeds : 2379240 + 7144 ≤ 2393644
+places_before_speeds = omega arith
+
 pointer_before_entry : (i : ℕ) → 2115044 + 4 ≤ place_of insertion_ring i
 pointer_before_entry i = omega arith
 
@@ -131,6 +133,12 @@ overs_before_entry i = omega arith
 
 entry_end : (i : ℕ) → i < 2048 → place_of insertion_ring i + 129 ≤ 2379240
 entry_end i below = omega (arith, below)
+
+entry_before_speeds : (i : ℕ) → i < 2048 → place_of insertion_ring i + 129 ≤ 2393644
+entry_before_speeds i below = omega (arith, below)
+
+table_before_speeds : (base size : ℕ) → base + size ≤ 2393642 → base + size ≤ 2393644
+table_before_speeds base size inside = omega (arith, inside)
 
 before_table : (base p : ℕ) → 2386384 ≤ base → p + 4 ≤ 2379244 → p + 4 ≤ base
 before_table base p low inside = omega (arith, low, inside)
@@ -153,6 +161,9 @@ first_before_insertions = omega arith
 
 first_before_places : 572 + 4 ≤ 2379240
 first_before_places = omega arith
+
+first_before_speeds : 572 + 4 ≤ 2393644
+first_before_speeds = omega arith
 
 first_between : ((572 ≤ 572) × (572 + 4 ≤ 580)) ⊎ ((2115044 ≤ 572) × (572 + 4 ≤ 2393642))
 first_between = inl (omega arith, omega arith)
@@ -188,12 +199,19 @@ module _ (x c : List ℕ) (same : KeepsJournal x c) where
   cell_high : (n : ℕ) → n < 32 → (580 ≤ cell_place n) × (cell_place n + 6 ≤ 2115044)
   cell_high n below = (omega arith, omega (arith, below))
 
-  still_decodes : number_at c 576 4 ≤ 255 → number_at c 2115044 4 < 2048 → number_at c 2379240 4 < 255 → Decodes x → Decodes c
-  still_decodes overs insertions places decodes =
+  version_stays : number_at c 0 4 ≡ number_at x 0 4
+  version_stays = ap (big_number 4) (part_of 0 572 0 4 x c version_inside same.front)
+
+  rule_stays : number_at c 561 1 ≡ number_at x 561 1
+  rule_stays = ap (big_number 1) (part_of 0 572 561 1 x c rule_inside same.front)
+
+  still_decodes : number_at c 576 4 ≤ 255 → number_at c 2115044 4 < 2048 → number_at c 2379240 4 < 255 → number_at c 2393644 4 < 1440 → Decodes x → Decodes c
+  still_decodes overs insertions places speeds decodes =
       let was = passes_beside x decodes in
       decodes_beside x c same_journal
       (record {
-        version = ap (big_number 4) (part_of 0 572 0 4 x c version_inside same.front) ∙ was.version;
+        version = ap is_version_good version_stays ∙ was.version;
+        rule = (λ t. is_rule_good (version_stays t) (rule_stays t)) ∙ was.rule;
         overs = overs;
         cells = λ n below.
             let p : ℕ = cell_place n in
@@ -208,6 +226,7 @@ module _ (x c : List ℕ) (same : KeepsJournal x c) where
             (was.cells n below);
         insertions = insertions;
         places = places;
+        speeds = speeds;
       })
       decodes
 
@@ -231,6 +250,7 @@ insertion_decodes head x c adding decodes =
     (overs_few (number_at c 576 4) (low_number 2115044 264196 576 x c 256 adding.outside overs_low (overs_below x decodes)))
     (adding.step was.insertions).points
     (high_number 2115044 264196 2379240 x c 255 adding.outside insertions_end was.places)
+    (high_number 2115044 264196 2393644 x c 1440 adding.outside insertions_before_speeds was.speeds)
     decodes
 
 pub place_decodes : (head x c : List ℕ) → IsAdding unit_place_ring head x c → Decodes x → Decodes c
@@ -240,6 +260,7 @@ place_decodes head x c adding decodes =
     (overs_few (number_at c 576 4) (low_number 2379240 7144 576 x c 256 adding.outside overs_before_places (overs_below x decodes)))
     (low_number 2379240 7144 2115044 x c 2048 adding.outside insertions_low was.insertions)
     (adding.step was.places).points
+    (high_number 2379240 7144 2393644 x c 1440 adding.outside places_before_speeds was.speeds)
     decodes
 
 -- a change of one insertion, behind the ring's pointer
@@ -250,6 +271,7 @@ entry_decodes i x c below same decodes =
     (overs_few (number_at c 576 4) (low_number (place_of insertion_ring i) 129 576 x c 256 same (overs_before_entry i) (overs_below x decodes)))
     (low_number (place_of insertion_ring i) 129 2115044 x c 2048 same (pointer_before_entry i) was.insertions)
     (high_number (place_of insertion_ring i) 129 2379240 x c 255 same (entry_end i below) was.places)
+    (high_number (place_of insertion_ring i) 129 2393644 x c 1440 same (entry_before_speeds i below) was.speeds)
     decodes
 
 pub withdrawal_decodes : (i : ℕ) (time : TimeReal) (odometer : Odometer) (x c : List ℕ) → i < 2048 → IsWithdrawing i time odometer x c → Decodes x → Decodes c
@@ -265,6 +287,7 @@ table_decodes kind x c same decodes =
     (overs_few (number_at c 576 4) (low_number (table_of kind).base (size_of (table_of kind)) 576 x c 256 same (before_table (table_of kind).base 576 low overs_far) (overs_below x decodes)))
     (low_number (table_of kind).base (size_of (table_of kind)) 2115044 x c 2048 same (before_table (table_of kind).base 2115044 low insertions_far) was.insertions)
     (low_number (table_of kind).base (size_of (table_of kind)) 2379240 x c 255 same (before_table (table_of kind).base 2379240 low places_far) was.places)
+    (high_number (table_of kind).base (size_of (table_of kind)) 2393644 x c 1440 same (table_before_speeds (table_of kind).base (size_of (table_of kind)) (table_inside kind).1) was.speeds)
     decodes
 
 -- the begin of the first over speeding is not judged, and their number stays one that may stand there
@@ -277,6 +300,7 @@ first_decodes begin y long decodes =
     (overs_few (number_at c 576 4) (high_number 572 4 576 y c 256 same first_end (overs_below y decodes)))
     (high_number 572 4 2115044 y c 2048 same first_before_insertions was.insertions)
     (high_number 572 4 2379240 y c 255 same first_before_places was.places)
+    (high_number 572 4 2393644 y c 1440 same first_before_speeds was.speeds)
     decodes
 
 one_more_few : (y : List ℕ) → 580 ≤ length y → number_at y 576 4 ≤ 255 → number_at (with_one_more y) 576 4 ≤ 255

@@ -7,6 +7,5 @@ pub mod Withdrawing
 pub mod EntryFields
 pub mod Placing
 pub mod Journals
-pub mod ZeroBytes
 pub mod AfterRun
 mod Rows

@@ -3,5 +3,4 @@ pub mod Tables
 pub mod Noting
 pub mod Journal
 pub mod Fields
-pub mod Zeros
 pub mod Retention

@@ -12,7 +12,6 @@ mod retention;
 mod rings;
 mod tables;
 mod unit_event;
-mod zeros;
 
 pub use insertion::Insertion;
 pub use laws::{

@@ -1,6 +1,5 @@
 //! The rings of insertions and places, and what is written in them.
-ghost use Rattle.std.specs.Prelude.{◌≡◌, ◌≤◌, ◌<◌, ◌+◌, ◌*◌, ◌^◌, length, IfSome, OnOk, is_err};
-ghost use Rattle.unit_model.specs.declared.layout.TheConstants.{IMAGE_SIZE};
+ghost use Rattle.std.specs.Prelude.{◌≡◌, ◌≤◌, ◌<◌, ◌+◌, ◌^◌, length, IfSome, OnOk, is_err};
 ghost use Rattle.card_layout.specs.Images.{number_at};
 ghost use Rattle.tach_media.specs.Medium.{LeavesOnly, HasCause, IsSettled, Rose, last_count};
 ghost use Rattle.gated_ring.specs.Change.{IsSet, OrUnwritten};
@@ -9,11 +8,10 @@ ghost use Rattle.message_model.specs.Records.{insertion_ring, unit_place_ring};
 ghost use Rattle.unit_notes.specs.Entries.{unit_place_bytes};
 
 use crate::Insertion;
-use crate::zeros::Zeros;
 use gated_ring::Ring;
 use tach_media::{Failed, Medium};
 use tacho_types::{FullCardNumber, PlaceEntry, write_card_number, write_place};
-use unit_model::layout::{IMAGE_SIZE, INSERTION_SLOTS, INSERTIONS, PLACE_SLOTS, PLACES};
+use unit_model::layout::{INSERTION_SLOTS, INSERTIONS, PLACE_SLOTS, PLACES};
 
 /// The width of the pointers before the insertions and the places.
 const POINTER: u8 = 4;
@@ -30,38 +28,28 @@ pub const OUT_ODOMETER: u32 = 106;
 /// The size of a place of a card's holder, which begins with the card's number.
 pub const PLACE_SIZE: usize = FullCardNumber::SIZE + PlaceEntry::SIZE;
 
-// A ring of the unit behind a pointer of four bytes. Its pointer is that of each unit that decodes, so no unit is asked for it.
-fn ring_at(base: u32, width: u32, count: u32, gate: u32) -> Ring
-    requires inside { base + (4 + count * width) ≤ IMAGE_SIZE }
-    requires some { 0 < count }
-    requires few { count ≤ insertion_ring.count }
-    requires gate { gate + 4 ≤ width }
-    ensures { result ≡ record { base = base; width = width; count = count; pointer_width = 4; gate = gate } }
-{
-    let mut zeros = Zeros::new(IMAGE_SIZE);
-    Ring::load(&mut zeros, base, width, count, POINTER, gate).unwrap()
-}
-
-/// The ring of insertions.
+/// The ring of insertions, whose pointer is below its count in each unit that decodes.
 pub fn insertions() -> Ring
     ensures { result ≡ insertion_ring }
 {
-    ring_at(
+    Ring::at(
         INSERTIONS.place,
         Insertion::SIZE as u32,
         INSERTION_SLOTS,
+        POINTER,
         TIME,
     )
 }
 
-/// The ring of places.
+/// The ring of places, of which the same holds.
 pub fn places() -> Ring
     ensures { result ≡ unit_place_ring }
 {
-    ring_at(
+    Ring::at(
         PLACES.place,
         PLACE_SIZE as u32,
         PLACE_SLOTS,
+        POINTER,
         FullCardNumber::SIZE as u32,
     )
 }

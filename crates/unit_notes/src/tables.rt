@@ -15,8 +15,7 @@ use event_model::{
     INSERTION_WHILE_DRIVING, OVER_SPEEDING, SESSION_NOT_CLOSED, TIME_OVERLAP,
 };
 use gated_ring::Ring;
-use tach_media::AbsentMedium;
-use unit_model::layout::{EVENTS, FAULTS, IMAGE_SIZE, OVERS};
+use unit_model::layout::{EVENTS, FAULTS, OVERS};
 
 /// The size of an entry of a fault in bytes.
 pub const FAULT_SIZE: usize = UnitEvent::SIZE - 1;
@@ -91,7 +90,7 @@ pub fn base_of(kind: u8) -> u32
     }
 }
 
-// So many places of a width, without a pointer: an entry is there where its begin is not 0. No medium is asked for one.
+// So many places of a width, without a pointer: an entry is there where its begin is not 0.
 fn places_at(base: u32, width: usize, count: usize) -> Ring
     requires width { BEGIN + 4 ≤ width }
     requires some { 0 < count }
@@ -100,8 +99,7 @@ fn places_at(base: u32, width: usize, count: usize) -> Ring
     requires inside { base + count * width ≤ IMAGE_SIZE }
     ensures { result ≡ record { base = base; width = width; count = count; pointer_width = 0; gate = 2 } }
 {
-    let mut none = AbsentMedium::new(IMAGE_SIZE);
-    Ring::load(&mut none, base, width as u32, count as u32, 0, BEGIN as u32).unwrap()
+    Ring::at(base, width as u32, count as u32, 0, BEGIN as u32)
 }
 
 /// The places of the events of a type.

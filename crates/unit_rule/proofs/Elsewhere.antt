@@ -15,7 +15,7 @@ use Rattle.unit_rule.specs.Rule.{Started}
 use Rattle.unit_rule.specs.Marks.{Holds}
 use Rattle.unit_course.specs.Legs.{Travel}
 use Rattle.unit_rule.specs.Odometer.{HasTravelled, IsBesideTravel}
-use Rattle.unit_rule.proofs.Moves.{behind-same, issued-parts}
+use Rattle.unit_rule.proofs.Moves.{issued-parts}
 use Rattle.unit_rule.proofs.Found.{left-decodes}
 use Rattle.unit_rule.proofs.Marking.{holds-aside}
 use Rattle.unit_rule.proofs.RowsOn.{AreRowsOn}
@@ -28,7 +28,7 @@ rows-elsewhere x c same = beside 624 384 x c (inr (inl (omega arith, omega arith
 -- nor is it in what the unit was issued with
 pub rows-issued : (x c : List ℕ) → SameOutside 624 384 x c → issued_bytes c ≡ issued_bytes x
 rows-issued x c same =
-    issued-parts x c (part_before 624 384 0 564 x c same (omega arith)) (part_before 624 384 580 44 x c same (omega arith)) (part_after 624 384 1008 16 x c same (omega arith)) (behind-same 1008 2392634 x c same.after)
+    issued-parts x c (part_before 624 384 0 564 x c same (omega arith)) (part_before 624 384 580 44 x c same (omega arith)) (part_after 624 384 1008 16 x c same (omega arith)) (part_after 624 384 2393642 2 x c same (omega arith))
 
 -- the unit's rule and its marks
 pub holds-elsewhere : (s : Started) {U V : State} (due : ℕ) (b : Book) (marks : List Mark) → Holds s due b marks U → IsCoherent U → (R : List ℕ → List ℕ → Type 0) → LeavesOnly U V R →

@@ -10,7 +10,7 @@ use Rattle.unit_journal.specs.declared.notes.Notes.{Notes}
 use Rattle.unit_journal.specs.Mends.{SameButRowsAndSlots, IsMendable, IsMending}
 use Rattle.safety_model.specs.Unit.{issued_bytes}
 use Rattle.unit_rule.specs.Odometer.{IsBesideTravel}
-use Rattle.unit_rule.proofs.Moves.{front-same, part-same, behind-same, issued-parts}
+use Rattle.unit_rule.proofs.Moves.{front-same, part-same, spare-same, issued-parts}
 
 -- a number among the first 624 bytes, as the last-kept minute and the odometer are
 number-kept : (p : ℕ) → p + 4 ≤ 624 → (x c : List ℕ) → take 624 c ≡ take 624 x → number_at c p 4 ≡ number_at x p 4
@@ -29,7 +29,7 @@ odometer-kept x c before = number-kept 568 (omega arith) x c before
 
 issued-kept : (x c : List ℕ) → SameButRowsAndSlots x c → issued_bytes c ≡ issued_bytes x
 issued-kept x c same =
-    issued-parts x c (front-same 0 564 624 (omega arith) x c same.before) (front-same 580 44 624 (omega arith) x c same.before) (part-same 1008 20 0 16 (omega arith) x c same.between) (behind-same 2115044 278598 x c same.after)
+    issued-parts x c (front-same 0 564 624 (omega arith) x c same.before) (front-same 580 44 624 (omega arith) x c same.before) (part-same 1008 20 0 16 (omega arith) x c same.between) (spare-same 2115044 278598 x c same.after)
 
 pub mending-aside : (j : Notes) (x c : List ℕ) → IsMending j x c → (recorded c ≡ recorded x) × (last_kept c ≡ last_kept x) × (issued_bytes c ≡ issued_bytes x) × (Decodes x → Decodes c)
 mending-aside j x c is = (is.minutes, mark-kept x c is.outside.before, issued-kept x c is.outside, is.decodes)

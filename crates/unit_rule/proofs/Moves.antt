@@ -39,15 +39,19 @@ part-same p w q n le x c same = sym (part_in c p w q n le) ∙ ap (λ (l : List 
 pub behind-same : (p q : ℕ) (x c : List ℕ) → drop p c ≡ drop p x → drop (p + q) c ≡ drop (p + q) x
 behind-same p q x c same = sym (drop-drop q p c) ∙ ap (λ (l : List ℕ). drop q l) same ∙ drop-drop q p x
 
+-- the spare bytes behind the faults, where they lie so far behind a place
+pub spare-same : (p q : ℕ) (x c : List ℕ) → drop p c ≡ drop p x → bytes_at c (p + q) SPARE_FAULTS.size ≡ bytes_at x (p + q) SPARE_FAULTS.size
+spare-same p q x c same = ap (take SPARE_FAULTS.size) (behind-same p q x c same)
+
 -- images with these parts were issued with the same
 pub issued-parts : (x c : List ℕ) → bytes_at c 0 LAST_KEPT.place ≡ bytes_at x 0 LAST_KEPT.place → bytes_at c SPARE_COUNTS.place SPARE_COUNTS.size ≡ bytes_at x SPARE_COUNTS.place SPARE_COUNTS.size →
-    bytes_at c SPARE_ROWS.place SPARE_ROWS.size ≡ bytes_at x SPARE_ROWS.place SPARE_ROWS.size → drop SPARE_FAULTS.place c ≡ drop SPARE_FAULTS.place x → issued_bytes c ≡ issued_bytes x
-issued-parts x c front counts rows behind = λ t. front t ++ (counts t ++ (rows t ++ behind t))
+    bytes_at c SPARE_ROWS.place SPARE_ROWS.size ≡ bytes_at x SPARE_ROWS.place SPARE_ROWS.size → bytes_at c SPARE_FAULTS.place SPARE_FAULTS.size ≡ bytes_at x SPARE_FAULTS.place SPARE_FAULTS.size → issued_bytes c ≡ issued_bytes x
+issued-parts x c front counts rows faults = λ t. front t ++ (counts t ++ (rows t ++ faults t))
 
 -- so they are where a minute is kept
 pub issued-besides : (x c : List ℕ) → SameBesides x c → issued_bytes c ≡ issued_bytes x
 issued-besides x c same =
-    issued-parts x c (front-same 0 564 564 (omega arith) x c same.before) (part-same 572 452 8 44 (omega arith) x c same.between) (part-same 572 452 436 16 (omega arith) x c same.between) (behind-same 2115044 278598 x c same.after)
+    issued-parts x c (front-same 0 564 564 (omega arith) x c same.before) (part-same 572 452 8 44 (omega arith) x c same.between) (part-same 572 452 436 16 (omega arith) x c same.between) (spare-same 2115044 278598 x c same.after)
 
 -- what two clauses say of the images that a run leaves holds together: the image before is one
 pub both-leave : {old new : State} {R S : List ℕ → List ℕ → Type 0} → LeavesOnly old new R → LeavesOnly old new S → LeavesOnly old new (λ x c. R x c × S x c)

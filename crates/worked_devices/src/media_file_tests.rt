@@ -1,5 +1,4 @@
 use std::fs;
-use std::fs::File;
 use std::os::unix::fs::symlink;
 use std::test::Fail;
 use tach_media::{FileMedium, Medium};
@@ -101,10 +100,69 @@ fn a_folder_is_no_medium(rt: HostRuntime) -> Result<(), Fail> {
 #[test]
 fn a_file_that_may_only_be_read(rt: HostRuntime) -> Result<(), Fail> {
     let mut out = [0u8; 4];
-    assert!(rt; File::open(&rt, "/proc/self/exe").is_ok());
     let mut program = FileMedium::new(&rt, "/proc/self/exe", 8);
     assert!(rt; program.read_at(0, &mut out).is_err());
     assert!(rt; program.revive().is_err());
+    let mut read = FileMedium::for_reading(&rt, "/proc/self/exe", 8);
+    assert!(rt; read.read_at(0, &mut out).is_ok());
+    assert!(rt; &out == b"\x7fELF");
+    assert!(rt; read.write_at(0, b"abcd").is_err());
+    assert!(rt; read.revive().is_ok());
+    assert!(rt; read.read_at(0, &mut out).is_ok());
+    assert_eq!(rt; read.clock(), 0);
+    Ok(())
+}
+
+#[test]
+fn a_file_that_others_read_too(rt: HostRuntime) -> Result<(), Fail> {
+    let mut out = [0u8; 4];
+    fs::write(&rt, "tach_media_read", b"01234567")?;
+    {
+        let mut first = FileMedium::for_reading(&rt, "tach_media_read", 8);
+        let mut second = FileMedium::for_reading(&rt, "tach_media_read", 8);
+        let mut writer = FileMedium::new(&rt, "tach_media_read", 8);
+        assert!(rt; first.read_at(0, &mut out).is_ok());
+        assert!(rt; second.read_at(4, &mut out).is_ok());
+        assert!(rt; &out == b"4567");
+        assert!(rt; second.write_at(0, b"abcd").is_err());
+        assert!(rt; writer.read_at(0, &mut out).is_err());
+    }
+    {
+        let mut writer = FileMedium::new(&rt, "tach_media_read", 8);
+        let mut reader = FileMedium::for_reading(&rt, "tach_media_read", 8);
+        assert!(rt; writer.read_at(0, &mut out).is_ok());
+        assert!(rt; &out == b"0123");
+        assert!(rt; reader.read_at(0, &mut out).is_err());
+    }
+    fs::remove_file(&rt, "tach_media_read")?;
+    Ok(())
+}
+
+/// One that is missing, or has no byte, as a making that was stopped leaves it, is made, and for reading too.
+#[test]
+fn a_file_without_a_byte_is_made(rt: HostRuntime) -> Result<(), Fail> {
+    let mut out = [9u8; 4];
+    fs::write(&rt, "tach_media_empty", b"")?;
+    {
+        let mut made = FileMedium::new(&rt, "tach_media_empty", 64);
+        assert!(rt; made.read_at(60, &mut out).is_ok());
+        assert!(rt; out == [0; 4]);
+        assert!(rt; made.write_at(0, b"abcd").is_ok());
+    }
+    assert_eq!(rt; fs::metadata(&rt, "tach_media_empty")?.len(), 64);
+    fs::write(&rt, "tach_media_empty", b"")?;
+    {
+        let mut first = FileMedium::for_reading(&rt, "tach_media_empty", 64);
+        let mut second = FileMedium::for_reading(&rt, "tach_media_empty", 64);
+        assert!(rt; first.read_at(60, &mut out).is_ok());
+        assert!(rt; second.read_at(60, &mut out).is_ok());
+        assert!(rt; first.write_at(0, b"abcd").is_err());
+    }
+    fs::remove_file(&rt, "tach_media_empty")?;
+    let mut missing = FileMedium::for_reading(&rt, "tach_media_empty", 64);
+    assert!(rt; missing.read_at(60, &mut out).is_ok());
+    assert_eq!(rt; fs::metadata(&rt, "tach_media_empty")?.len(), 64);
+    fs::remove_file(&rt, "tach_media_empty")?;
     Ok(())
 }
 

@@ -100,6 +100,12 @@ fn new_unit<M: Medium>(rt: &impl Abort, unit: &mut M) -> Result<(), Failed>
         found_with(unit, 2379240, [0, 0, 0, 0xFF, 0, 0])?,
         Err(2379240)
     );
+    assert_eq!(rt;
+        found_with(unit, 2393644, [0, 0, 0x05, 0xA0, 0, 0])?,
+        Err(2393644)
+    );
+    // in version 1 no rule byte is looked at
+    assert_eq!(rt; found_with(unit, 558, [0, 0, 0, 2, 0, 0])?, Ok(IDENTITY));
     // all is as it was
     assert_eq!(rt; found(unit)?, Ok(IDENTITY));
     Ok(())

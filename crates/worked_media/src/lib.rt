@@ -18,5 +18,5 @@ pub use reading::{
 pub use traces::trace_of;
 pub use units::{
     IDENTITY, M0, NO_ROOM, NUMBER_A, NUMBER_B, SMALLEST, T0, card_image, card_number,
-    card_of_zeros, image_of, new_card, new_image, new_unit, one_stop, stops,
+    card_of_zeros, image_of, new_card, new_image, new_unit, one_stop, stops, upgraded_image,
 };

@@ -13,7 +13,7 @@ use card_layout::{Application, LARGEST, LARGEST_IMAGE};
 use std::alloc::{AllocError, Global};
 use tach_media::{Left, Medium, MemMedium, Memory, Stop};
 use tacho_types::{FullCardNumber, Name36, Nation};
-use unit_model::layout::IMAGE_SIZE;
+use unit_model::layout::{IMAGE_SIZE, RULE_BYTE, VERSION};
 
 /// 2010-03-01 00:00, and its minute.
 pub const T0: u32 = 1267401600;
@@ -56,6 +56,14 @@ const LIMIT: usize = 36;
 pub fn new_image(alloc: Global, limit: u8) -> Result<Vec<u8>, AllocError> {
     let mut image = empty(alloc, 0, 0, 0)?;
     put(image.as_mut_slice(), LIMIT, &[limit]);
+    Ok(image)
+}
+
+/// The image of such a unit that was upgraded: version 2, with the amended rule of minutes.
+pub fn upgraded_image(alloc: Global, limit: u8) -> Result<Vec<u8>, AllocError> {
+    let mut image = new_image(alloc, limit)?;
+    put(image.as_mut_slice(), RULE_BYTE.place as usize, &[1]);
+    put(image.as_mut_slice(), VERSION.place as usize, &[0, 0, 0, 2]);
     Ok(image)
 }
 

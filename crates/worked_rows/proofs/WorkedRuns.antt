@@ -45,7 +45,7 @@ minutes_from start log lines = unit_history Original new_cards log (told_from st
 abbrev minutes : RunLog → List Item → List HistoryMinute
 minutes log lines = minutes_from 1267401600 log lines
 
-abbrev refusals : RunLog → List Item → List (ℕ × SlotFault)
+abbrev refusals : RunLog → List Item → List (ℕ × ℕ × SlotFault)
 refusals log lines = refusals_of (told_from 1267401600 log lines)
 
 -- a log of breaks and finds
@@ -106,7 +106,7 @@ minutes_to_a_withdrawal : minutes withdrawn_log withdrawn ≡ rests 0 5 ++ drive
 unfolding decided seconds_of went spans_of cut_in kept_after is_torn_in found_in unit_history present_in newest_minute card_history
 minutes_to_a_withdrawal = refl
 
-refused_in_motion : refusals withdrawn_log withdrawn ≡ (1267401900, Moving 60) ∷ []
+refused_in_motion : refusals withdrawn_log withdrawn ≡ (1267401900, 1, Moving 60) ∷ []
 unfolding seconds_of went cut_in is_torn_in found_in
 refused_in_motion = refl
 
@@ -237,6 +237,6 @@ nothing_refused = refl
 abbrev begins_dark : List Item
 begins_dark = Off 30 ∷ Act (Withdraw Driver) ∷ Act (Insert Driver A) ∷ Run 200 0 ∷ []
 
-refused_where_nothing_sits : refusals (logged [] (accepts 1267401630 2 0 ∷ [])) begins_dark ≡ (1267401630, Empty Driver) ∷ []
+refused_where_nothing_sits : refusals (logged [] (accepts 1267401630 2 0 ∷ [])) begins_dark ≡ (1267401630, 1, Empty Driver) ∷ []
 unfolding seconds_of went cut_in is_torn_in found_in
 refused_where_nothing_sits = refl

@@ -236,7 +236,7 @@ fn the_clock(rt: HostRuntime) -> Result<(), Fail> {
 fn a_unit_that_does_not_decode(rt: HostRuntime) -> Result<(), Fail> {
     let alloc = rt.alloc();
     let bad = Err(RunFault::BadUnit(0));
-    assert_eq!(rt; opened_without_a(alloc, 2, 0)?, bad);
+    assert_eq!(rt; opened_without_a(alloc, 3, 0)?, bad);
     Ok(())
 }
 

@@ -1,6 +1,6 @@
 //! Loads units of worked images, and prints what each load answers: a small unit with one number changed in each row, one
-//! whose reads fail, units whose last `keep` or `mend` stopped at one of its calls, and a full one of 366 days with 2880
-//! words each, with the number of reads that it takes.
+//! of version 2 with each rule byte, one whose reads fail, units whose last `keep` or `mend` stopped at one of its calls,
+//! and a full one of 366 days with 2880 words each, with the number of reads that it takes.
 ghost use Rattle.std.specs.Prelude.{IfOk};
 ghost use Rattle.tach_media.specs.MemMedium.{memory_state};
 ghost use Rattle.unit_model.specs.Image.{IsUnit};
@@ -14,6 +14,8 @@ mod owed_tests;
 #[cfg(test)]
 mod stop_tests;
 mod stops;
+#[cfg(test)]
+mod upgrades;
 
 use crate::unit::keeping::KEPT;
 use crate::unit::stops::{show_mends, show_stops};
@@ -21,14 +23,17 @@ use std::alloc::Global;
 use std::io::{self, Print, Write};
 use tach_media::{FileMedium, Left, Medium, MemMedium, Memory, Stop};
 use unit_journal::{Journal, UnitFault};
-use unit_model::layout::IMAGE_SIZE;
+use unit_model::layout::{IMAGE_SIZE, RULED_VERSION};
 use worked_media::{Room, image, unit_with};
 
 /// Four bytes that the small unit is given at a place, as a number.
-const ROWS: [(u32, u32); 45] = [
+const ROWS: [(u32, u32); 49] = [
     // the version
     (0, 0),
     (0, 2),
+    (0, 3),
+    // the rule byte, in front of the spare bytes and the last-kept minute; version 1 does not look at it
+    (561, 0x0700_0001),
     // the last-kept minute: too late, on a day that is not there, on the days that are there, none
     (564, 71582789),
     (564, 14666 * 1440),
@@ -79,11 +84,21 @@ const ROWS: [(u32, u32); 45] = [
     (6824, 0x180A_8809),
     (6824, 0x180A_100A),
     (6824, 0x1864_8865),
-    // the pointers of insertions and places
+    // the pointers of insertions, places and detailed speed
     (2115044, 2048),
     (2115044, 2047),
     (2379240, 255),
     (2379240, 254),
+    (2393644, 1440),
+    (2393644, 1439),
+];
+
+/// The same for the small unit with version 2: the original rule, the amended one, and two that are none.
+const RULES: [(u32, u32); 4] = [
+    (561, 0x0000_0001),
+    (561, 0x0100_0001),
+    (561, 0x0200_0001),
+    (561, 0xFF00_0001),
 ];
 
 /// What a load of the unit answers.
@@ -132,8 +147,8 @@ fn small(alloc: Global, calls: &[u64]) -> Result<MemMedium, Memory> {
 
 /// Room for the writes of all rows.
 const ROOM: Room = Room {
-    writes: 100,
-    bytes: 400,
+    writes: 110,
+    bytes: 440,
 };
 
 /// A unit with this image, whose calls stop so.
@@ -160,9 +175,24 @@ fn show_small(rt: &HostRuntime) -> io::Result<()> {
     show(rt, &mut unit)
 }
 
+/// The small unit as one of version 2, with each rule byte.
+fn show_ruled(rt: &HostRuntime) -> io::Result<()> {
+    let Ok(mut image) = image::small(rt.alloc()) else {
+        return println!(rt; "out of memory");
+    };
+    image::put(image.as_mut_slice(), 0, &RULED_VERSION.to_be_bytes());
+    let Ok(mut unit) = unit(rt.alloc(), image, Vec::new(rt.alloc())) else {
+        return println!(rt; "out of memory");
+    };
+    for (place, number) in RULES {
+        show_row(rt, &mut unit, place, number)?;
+    }
+    show(rt, &mut unit)
+}
+
 /// The first read, one among the days, and the last one of a load fail.
 fn show_failing(rt: &HostRuntime) -> io::Result<()> {
-    let Ok(mut unit) = small(rt.alloc(), &[0, 200, 645]) else {
+    let Ok(mut unit) = small(rt.alloc(), &[0, 200, 647]) else {
         return println!(rt; "out of memory");
     };
     for _ in 0..4 {
@@ -211,6 +241,7 @@ pub fn write_full(rt: &HostRuntime) -> io::Result<()> {
 /// What the loads of all worked units answer.
 pub fn show_units(rt: &HostRuntime) -> io::Result<()> {
     show_small(rt)?;
+    show_ruled(rt)?;
     show_failing(rt)?;
     show_stops(rt, rt.alloc(), &KEPT[..3], &KEPT[3..4])?;
     show_stops(rt, rt.alloc(), &KEPT[..4], &KEPT[4..5])?;

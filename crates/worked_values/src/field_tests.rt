@@ -1,5 +1,5 @@
 use std::test::*;
-use text_fields::{byte, four_fields, number, number_between, one_field, two_fields};
+use text_fields::{byte, four_fields, number, number_between, one_field, three_fields, two_fields};
 
 #[test]
 fn numbers_are_read(rt: HostRuntime) {
@@ -35,6 +35,8 @@ fn fields_are_split_at_single_spaces(rt: HostRuntime) {
     assert_eq!(rt; one_field(b"a b"), None);
     assert_eq!(rt; two_fields(b"a"), None);
     assert_eq!(rt; two_fields(b"a  b"), None);
+    assert_eq!(rt; three_fields(b"a b"), None);
+    assert_eq!(rt; three_fields(b"a b c d"), None);
     assert_eq!(rt; four_fields(b"a b c d e"), None);
     let last = four_fields(b"a b c ").map(|fields| fields.3.len());
     assert_eq!(rt; last, Some(0));

@@ -88,4 +88,14 @@ fn refusals_in_their_order(rt: HostRuntime) {
         slots.may_insert(Slot::CoDriver, Card::A),
         Err(SlotFault::Occupied(Slot::CoDriver))
     );
+    assert_eq!(rt;
+        slots.may_enter(Slot::CoDriver, 80),
+        Err(SlotFault::NoCard(Slot::CoDriver))
+    );
+    slots.put(Slot::CoDriver, Card::B, Some(0));
+    assert_eq!(rt;
+        slots.may_enter(Slot::CoDriver, 80),
+        Err(SlotFault::Moving(80))
+    );
+    assert_eq!(rt; slots.may_enter(Slot::CoDriver, 0), Ok(()));
 }

@@ -78,7 +78,7 @@ fn each_kind_of_line_is_read(rt: HostRuntime) -> Result<(), Fail> {
 
 #[test]
 fn lines_that_are_none(rt: HostRuntime) -> Result<(), Fail> {
-    let bad: [&[u8]; 37] = [
+    let bad: [&[u8]; 43] = [
         b"start 86399",
         b"start 4294880896",
         b"start 086400",
@@ -110,6 +110,12 @@ fn lines_that_are_none(rt: HostRuntime) -> Result<(), Fail> {
         b"place driver begin 1",
         b"place driver begin 256 0",
         b"place driver begin 0 256",
+        b"manual driver work 300",
+        b"manual driver work",
+        b"manual driver work 1440",
+        b"manual driver drive 300",
+        b"manual a work 300",
+        b"manual driver work 300 0",
         b"place driver middle 1 1",
         b"place a begin 1 1",
         b"place driver begin 1 1 1",

@@ -1,4 +1,4 @@
-ghost use Rattle.std.specs.Prelude.{◌≡◌, ◌≢◌, [], ◌≤◌, ◌<◌, ◌+◌, ◌-◌, ◌*◌, ◌%◌, List, length, IfOk, OnOk, IfSome, is_err};
+ghost use Rattle.std.specs.Prelude.{◌≡◌, ◌≢◌, ◌⊎◌, false, [], ◌≤◌, ◌<◌, ◌+◌, ◌-◌, ◌*◌, ◌%◌, List, length, IfOk, OnOk, IfSome, is_err};
 ghost use Rattle.card_model.specs.declared.lengths.TheConstants.{DAYS_MOST};
 ghost use Rattle.tach_media.specs.Medium.{LeavesOnly, Reads, HasCause, LiesInside, IsSettled, last_count};
 ghost use Rattle.write_plan.specs.Plan.{PutsAll, PutsBy};
@@ -8,7 +8,7 @@ ghost use Rattle.card_model.specs.Image.{Holds, IsPointer};
 ghost use Rattle.cyclic_days.specs.Held.{IsHeld, Knows};
 ghost use Rattle.cyclic_days.specs.Moments.{FileFitsIn, IfKnown, IsChanging, IsChanged, KnowsChanged, IsDayBeginning, IsDayBegun, KnowsBegun, ClearsChanged, ClearsBegun, BeginsAgain};
 ghost use Rattle.cyclic_days.specs.Plans.{left_in, most_drops, change_pieces, tail_more, beginning_pieces, tail_begun, mend_pieces, km_pieces, tail_km};
-ghost use Rattle.cyclic_days.specs.Steps.{SameDays, IsDropMended, IsMeasured, IsMeasuring, KnowsMeasured, SettlesIfSettled};
+ghost use Rattle.cyclic_days.specs.Steps.{SameDays, IsIdle, IsDropMended, IsMeasured, IsMeasuring, KnowsMeasured, SettlesIfSettled};
 ghost use Rattle.cyclic_days.specs.Trim.{IsTrim, IsTrimMoment};
 
 use super::Days;
@@ -147,20 +147,25 @@ impl Days {
         put_pieces(medium, &plan)
     }
 
-    /// Ends a drop that a stop may have cut short: the oldest day has no length before it.
+    /// Ends a drop that a stop may have cut short: the oldest day has no length before it. Where there is no day, it makes no
+    /// call.
     pub fn finish_drop<M: Medium>(&mut self, medium: &mut M) -> Result<(), Failed>
         requires fits { FileFitsIn self.old.shape (M.state medium.old) }
         requires writable { LiesInside (M.state medium.old).writable self.old.shape.base (4 + self.old.shape.size) }
         ensures kept { self.new ≡ self.old }
-        ensures puts { PutsAll (M.state medium.old) (M.state medium.new) (is_err result) (mend_pieces self.old) }
+        ensures puts { 0 < self.old.tail.used → PutsAll (M.state medium.old) (M.state medium.new) (is_err result) (mend_pieces self.old) }
+        ensures empty { self.old.tail.used ≡ 0 → (is_err result ≡ false) × IsIdle (M.state medium.old) (M.state medium.new) }
         ensures same { OnOk result (IfSome (M.state medium.old).image (λ x. IfSome (M.state medium.new).image (IfKnown self.old (SameDays self.old.shape) x))) }
-        ensures mended { OnOk result (IfSome (M.state medium.old).image (λ x. IfSome (M.state medium.new).image (IfKnown self.old (IsDropMended self.old.shape) x))) }
+        ensures mended { OnOk result (IfSome (M.state medium.old).image (λ x. IfSome (M.state medium.new).image (λ y. (days : List Day) → Knows self.old x days → IsDropMended self.old.shape days x y))) }
         ensures knows { OnOk result (IfSome (M.state medium.old).image (λ x. IfSome (M.state medium.new).image (λ y. (days : List Day) → Knows self.old x days → Knows self.old y days))) }
         ensures moments { LeavesOnly (M.state medium.old) (M.state medium.new) (IfKnown self.old (SameDays self.old.shape)) }
-        ensures settled { OnOk result ((M.state medium.new).clock < last_count → IsSettled (M.state medium.new)) }
-        ensures cause { HasCause (M.state medium.old) (M.state medium.new) (is_err result) }
+        ensures settled { OnOk result (0 < self.old.tail.used → (M.state medium.new).clock < last_count → IsSettled (M.state medium.new)) }
+        ensures cause { HasCause (M.state medium.old) (M.state medium.new) (is_err result) ⊎ ((is_err result ≡ false) × IsIdle (M.state medium.old) (M.state medium.new)) }
         ensures most { (M.state medium.new).clock ≤ (M.state medium.old).clock + 1 }
     {
+        if self.tail.used == 0 {
+            return Ok(());
+        }
         self.clear_oldest(medium)
     }
 

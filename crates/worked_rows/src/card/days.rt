@@ -795,6 +795,22 @@ fn the_first_day_is_kept(rt: HostRuntime) -> Result<(), Fail> {
     Ok(())
 }
 
+// How many calls the end of a drop takes of the string of a file.
+fn end_drop_of(medium: &mut MemMedium) -> Result<u64, DaysFault> {
+    let mut days = loaded(&mut *medium)?;
+    end_drop(&mut days, medium)
+}
+
+#[test]
+fn of_a_string_without_a_day_no_drop_is_ended(rt: HostRuntime) -> Result<(), Fail> {
+    let alloc = rt.alloc();
+    let mut none = steady(alloc, empty(alloc)?)?;
+    let mut some = steady(alloc, full(alloc)?)?;
+    assert_eq!(rt; end_drop_of(&mut none)?, 0);
+    assert_eq!(rt; end_drop_of(&mut some)?, 1);
+    Ok(())
+}
+
 // How many calls each of these takes: a word on a full string, a day of two words then, a distance, and the end of a drop.
 fn calls_with(days: &mut Days, medium: &mut MemMedium) -> Result<[u64; 4], DaysFault>
     requires { days.old.shape ≡ record { base = 0; size = 5544 } }

@@ -136,7 +136,8 @@ fn calls_of_the_opening(alloc: Global) -> Result<u64, Fail> {
 fn stop_often(rt: &(impl Abort + AllocGlobal), left: Left) -> Result<(), Fail> {
     let alloc = rt.alloc();
     let load = calls_of_the_opening(alloc)?;
-    let stops = stops(alloc, 24, load.saturating_add(load), load, 1, left)?;
+    let first = load.saturating_add(load);
+    let stops = stops(alloc, 24, first, load.saturating_add(1), 1, left)?;
     let text = b"start 1267484400\nrun 7200 50\nrun 7200 0";
     let (ran, again) = twice(alloc, text, b"start 1267498800\nrun 300 10", stops)?;
     assert!(rt; ran.ended.is_ok() && ran.breaks == 24 && ran.is_right);
@@ -228,6 +229,7 @@ fn an_action_without_power_is_refused(rt: HostRuntime) -> Result<(), Fail> {
     let refused = Refused {
         second: T0 + 30,
         fault: SlotFault::NoPower,
+        begun: 2,
     };
     assert!(rt; ran.ended.is_ok() && ran.marks == 2 && ran.refused == 2);
     assert_eq!(rt; ran.refusal, Some(refused));

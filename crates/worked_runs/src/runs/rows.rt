@@ -3,9 +3,10 @@ ghost use Rattle.tach_media.specs.MemMedium.{memory_state};
 ghost use Rattle.unit_model.specs.Image.{IsUnit};
 
 use crate::runs::ran::Ran;
-use crate::runs::running::{Stops, calls_of, calls_with, new_devices, run};
+use crate::runs::running::{Stops, calls_of, calls_with, new_devices, new_devices_by, run};
 use activity_codec::Slot;
 use card_layout::Fid;
+use minute_model::Rule;
 use recorder_with_cards::{Break, Find, Refused, SlotFault, Verdict};
 use run_model::Device;
 use std::alloc::{AllocError, Global};
@@ -36,6 +37,41 @@ fn a_driver(rt: HostRuntime) -> Result<(), Fail> {
     assert_eq!(rt; (ran.breaks, ran.refused), (0, 0));
     assert!(rt; by_unit);
     assert!(rt; by_card);
+    Ok(())
+}
+
+/// The same hour by the amended rule of minutes; whether the unit tells it then, and whether the card does.
+fn driven_by_the_amended_rule(alloc: Global) -> Result<(Ran, bool, bool), Fail> {
+    let mut d = new_devices_by(alloc, Rule::Amended, Stops::none(alloc))?;
+    let ran = d.run(alloc, DRIVE)?;
+    let by_unit = d.unit_tells(alloc, M0 + 56, &[0x0000u16, 0xA000, 0x1801, 0xA801])?;
+    let card = told_by_card(alloc, &mut d.card_a)?;
+    let by_card = card.last == M0 + 56 && card.words.as_slice() == [0x0000u16, 0x1801].as_slice();
+    Ok((ran, by_unit, by_card))
+}
+
+/// A minute is decided one minute later.
+#[test]
+fn a_driver_by_the_amended_rule(rt: HostRuntime) -> Result<(), Fail> {
+    let alloc = rt.alloc();
+    let (ran, by_unit, by_card) = driven_by_the_amended_rule(alloc)?;
+    assert!(rt; ran.has(57, 57));
+    assert_eq!(rt; (ran.breaks, ran.refused), (0, 0));
+    assert!(rt; by_unit);
+    assert!(rt; by_card);
+    Ok(())
+}
+
+/// A card that is torn out of a unit with the amended rule, and comes back: three minutes were owed to it, and are put on it.
+#[test]
+fn three_minutes_are_put_on_a_card_by_the_amended_rule(rt: HostRuntime) -> Result<(), Fail> {
+    let alloc = rt.alloc();
+    let text =
+        b"start 1267401600\ninsert driver a\nrun 60 0\nrun 180 50\ntear driver\nrun 120 50\ninsert driver a\nrun 60 0\n";
+    let mut d = new_devices_by(alloc, Rule::Amended, Stops::none(alloc))?;
+    let ran = d.run(alloc, text)?;
+    assert!(rt; ran.has(6, 4) && ran.breaks == 1);
+    assert_eq!(rt; ran.replayed(), Some(3));
     Ok(())
 }
 
@@ -295,10 +331,12 @@ fn what_is_refused(rt: HostRuntime) -> Result<(), Fail> {
     let place = Refused {
         second: T0,
         fault: SlotFault::NoCard(Slot::CoDriver),
+        begun: 2,
     };
     let withdrawal = Refused {
         second: T0 + 60,
         fault: SlotFault::Moving(60),
+        begun: 1,
     };
     assert!(rt; ran.is_recorded && ran.refused == 2);
     assert_eq!(rt; ran.first_refusal, Some(place));

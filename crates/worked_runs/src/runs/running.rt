@@ -6,13 +6,14 @@ ghost use Rattle.unit_model.specs.Image.{IsUnit};
 use crate::recording::{Recorded, record};
 use crate::runs::ran::Ran;
 use card_commands::SimCard;
+use minute_model::Rule;
 use run_model::Device;
 use std::alloc::{AllocError, Global};
 use std::test::Fail;
 use tach_media::{MemMedium, Memory, Stop};
 use worked_media::{
-    NUMBER_A, NUMBER_B, Room, T0, card_of_zeros, card_tells, image_of, new_card, new_unit,
-    unit_tells, unit_with,
+    NUMBER_A, NUMBER_B, Room, T0, card_of_zeros, card_tells, image_of, new_card, new_image,
+    unit_tells, unit_with, upgraded_image,
 };
 
 /// The room of each device's log.
@@ -62,12 +63,28 @@ impl Stops {
     }
 }
 
+/// The image of a new unit with this rule of minutes.
+fn image_by(alloc: Global, rule: Rule) -> Result<Vec<u8>, AllocError> {
+    match rule {
+        Rule::Original => new_image(alloc, LIMIT),
+        Rule::Amended => upgraded_image(alloc, LIMIT),
+    }
+}
+
 /// New devices, whose calls stop so.
 pub fn new_devices(alloc: Global, stops: Stops) -> Result<Devices, Memory>
     ensures { IfOk result (λ d. IsUnit (memory_state d.unit.log d.unit.counts)) }
 {
+    new_devices_by(alloc, Rule::Original, stops)
+}
+
+/// The same of a unit with this rule of minutes.
+pub fn new_devices_by(alloc: Global, rule: Rule, stops: Stops) -> Result<Devices, Memory>
+    ensures { IfOk result (λ d. IsUnit (memory_state d.unit.log d.unit.counts)) }
+{
+    let image = image_by(alloc, rule)?;
     Ok(Devices {
-        unit: new_unit(alloc, LIMIT, ROOM, stops.unit)?,
+        unit: unit_with(alloc, image, ROOM, stops.unit)?,
         card_a: new_card(alloc, NUMBER_A, ROOM, stops.card_a)?,
         card_b: new_card(alloc, NUMBER_B, ROOM, stops.card_b)?,
     })
@@ -174,6 +191,13 @@ impl Calls {
 pub fn run(alloc: Global, text: &[u8], stops: Stops) -> Result<Ran, Fail> {
     let mut d = new_devices(alloc, stops)?;
     d.run(alloc, text)
+}
+
+/// How many calls a run makes of a unit with this rule of minutes, where none is stopped.
+pub fn calls_by(alloc: Global, rule: Rule, text: &[u8]) -> Result<Calls, Fail> {
+    let mut d = new_devices_by(alloc, rule, Stops::none(alloc))?;
+    d.run_whole(alloc, text)?;
+    Ok(d.calls())
 }
 
 /// How many calls a run makes where these are stopped.

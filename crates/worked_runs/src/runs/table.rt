@@ -1,12 +1,13 @@
 //! Each call of each device of an hour is stopped, in a run of its own, and many calls of all devices in longer runs: two cards are exchanged, one
 //! of them is torn out and put in again, and the power is cut. All that was acknowledged is there; and behind one more run the cards have what the
-//! unit tells of their slots.
+//! unit tells of their slots. So it is by the original rule of minutes, and by the amended one.
 ghost use Rattle.tach_media.specs.MemMedium.{memory_state};
 ghost use Rattle.unit_model.specs.Image.{IsUnit};
 
 use crate::recording::Recorded;
 use crate::runs::ran::Ran;
-use crate::runs::running::{Devices, Stops, calls_of, new_devices};
+use crate::runs::running::{Devices, Stops, calls_by, new_devices_by};
+use minute_model::Rule;
 use recorder_with_cards::{Mark, Outcome};
 use run_model::Device;
 use std::alloc::{AllocError, Global};
@@ -194,9 +195,16 @@ fn run_second(alloc: Global, d: &mut Devices, first: &Outcome) -> Result<(Ran, b
     Ok((Ran::of(&recorded), holds))
 }
 
+/// The rule of minutes of the unit of a run, and what a call that is stopped leaves.
+#[derive(Clone, Copy)]
+struct Manner {
+    rule: Rule,
+    left: Left,
+}
+
 /// Both runs, with these stops in the first.
-fn run_both(alloc: Global, text: &[u8], stops: Stops) -> Result<Both, Fail> {
-    let mut d = new_devices(alloc, stops)?;
+fn run_both(alloc: Global, rule: Rule, text: &[u8], stops: Stops) -> Result<Both, Fail> {
+    let mut d = new_devices_by(alloc, rule, stops)?;
     let (recorded, holds) = run_first(alloc, &mut d, text)?;
     let (second, agree) = run_second(alloc, &mut d, &recorded.outcome)?;
     Ok(Both {
@@ -210,13 +218,17 @@ fn run_both(alloc: Global, text: &[u8], stops: Stops) -> Result<Both, Fail> {
 /// One call of a device.
 fn stop_call(
     rt: &(impl Abort + AllocGlobal),
+    manner: Manner,
     device: Device,
     call: u64,
-    left: Left,
 ) -> Result<(), Fail> {
     let alloc = rt.alloc();
-    let stops = Stops::one(alloc, device, Stop { call, left })?;
-    let both = run_both(alloc, HOUR, stops)?;
+    let stop = Stop {
+        call,
+        left: manner.left,
+    };
+    let stops = Stops::one(alloc, device, stop)?;
+    let both = run_both(alloc, manner.rule, HOUR, stops)?;
     assert!(rt; both.is_whole(), "{call}");
     assert!(rt; both.first.failed == 1, "{call}");
     Ok(())
@@ -225,25 +237,26 @@ fn stop_call(
 /// Each of these calls of a device.
 fn stop_calls(
     rt: &(impl Abort + AllocGlobal),
+    manner: Manner,
     device: Device,
     from: u64,
     to: u64,
-    left: Left,
 ) -> Result<(), Fail> {
     assert!(rt; from < to);
     for call in from..to {
-        stop_call(rt, device, call, left)?;
+        stop_call(rt, manner, device, call)?;
     }
     Ok(())
 }
 
 /// Each call of each device, from the end of the opening to the last of a run without a stop.
-fn stop_each(rt: &(impl Abort + AllocGlobal), left: Left) -> Result<(), Fail> {
+fn stop_each(rt: &(impl Abort + AllocGlobal), rule: Rule, left: Left) -> Result<(), Fail> {
     let alloc = rt.alloc();
-    let opening = calls_of(alloc, START)?;
-    let whole = calls_of(alloc, HOUR)?;
+    let manner = Manner { rule, left };
+    let opening = calls_by(alloc, rule, START)?;
+    let whole = calls_by(alloc, rule, HOUR)?;
     for device in [Device::Unit, Device::CardA, Device::CardB] {
-        stop_calls(rt, device, opening.of(device), whole.of(device), left)?;
+        stop_calls(rt, manner, device, opening.of(device), whole.of(device))?;
     }
     Ok(())
 }
@@ -252,7 +265,7 @@ fn stop_each(rt: &(impl Abort + AllocGlobal), left: Left) -> Result<(), Fail> {
 fn stop_often(rt: &(impl Abort + AllocGlobal), left: Left) -> Result<(), Fail> {
     let alloc = rt.alloc();
     let text = blocks(alloc)?;
-    let opening = calls_of(alloc, START)?;
+    let opening = calls_by(alloc, Rule::Original, START)?;
     for round in 0..8u64 {
         let later = 7 * round;
         let unit = opening.unit.saturating_add(later);
@@ -264,7 +277,7 @@ fn stop_often(rt: &(impl Abort + AllocGlobal), left: Left) -> Result<(), Fail> {
             card_a: stops(alloc, 6, card_a, 150, 1, left)?,
             card_b: stops(alloc, 5, card_b, 160, 1, left)?,
         };
-        let both = run_both(alloc, &text, stops)?;
+        let both = run_both(alloc, Rule::Original, &text, stops)?;
         assert!(rt; both.is_whole());
         assert!(rt; both.first.breaks >= 17);
     }
@@ -281,15 +294,30 @@ fn many_stops_in_a_run(rt: HostRuntime) -> Result<(), Fail> {
 
 #[test]
 fn before_a_write(rt: HostRuntime) -> Result<(), Fail> {
-    stop_each(&rt, Left::Before)
+    stop_each(&rt, Rule::Original, Left::Before)
 }
 
 #[test]
 fn after_a_write(rt: HostRuntime) -> Result<(), Fail> {
-    stop_each(&rt, Left::After)
+    stop_each(&rt, Rule::Original, Left::After)
 }
 
 #[test]
 fn within_a_write(rt: HostRuntime) -> Result<(), Fail> {
-    stop_each(&rt, Left::Torn(0xFF))
+    stop_each(&rt, Rule::Original, Left::Torn(0xFF))
+}
+
+#[test]
+fn before_a_write_by_the_amended_rule(rt: HostRuntime) -> Result<(), Fail> {
+    stop_each(&rt, Rule::Amended, Left::Before)
+}
+
+#[test]
+fn after_a_write_by_the_amended_rule(rt: HostRuntime) -> Result<(), Fail> {
+    stop_each(&rt, Rule::Amended, Left::After)
+}
+
+#[test]
+fn within_a_write_by_the_amended_rule(rt: HostRuntime) -> Result<(), Fail> {
+    stop_each(&rt, Rule::Amended, Left::Torn(0xFF))
 }

@@ -205,6 +205,10 @@ returns-else-is_err-clause-going g c =
       lit = λ yes. ok_gives c.carry_out.result c.carry_out.ensures.going (let well : is_err c.carry_out.result ≡ false = sym c.is_err.ensures.value ∙ c.if-is_err.false in well);
     }
 
+-- a line more tells of a refusal, with which so many actions have begun
+abbrev told_refused : Run → Outcome → SlotFault → (begun : ℕ) → Outcome
+told_refused run out fault begun = record out { refused = with_lines (record { second = run.next; fault = fault; begun = begun } ∷ []) out.refused }
+
 -- ---- what it did
 
 pub returns-in-Err-clause-acted : goal.returns-in-Err-clause-acted
@@ -286,7 +290,7 @@ returns-in-Err-clause-ringed g c = λ o done s now front rest are begun in_ time
     let h = ringed-lit o done s run out d (length front) (ap is_lit c.requires.lit) in_ in
     in-ringed_lit o done s run told d c.args.begun
     (subst (λ (n : ℕ). WithinRinged o done s n run told d) here
-    (refused-ringed o done s c.args.speed run out d now front c.args.action rest are h c.in-Err.fault (sym c.in-Err.ensures) told (ap (λ (l : Listed Refused). record out { refused = l }) c.refuse.ensures)))
+    (refused-ringed o done s c.args.speed run out d now front c.args.action rest are h c.in-Err.fault (sym c.in-Err.ensures) told (ap (λ (l : Listed Refused). record out { refused = l }) c.refuse.ensures ∙ ap (λ (n : ℕ). told_refused run out c.in-Err.fault n) (sym here))))
 
 pub returns-then-is_err-clause-ringed : goal.returns-then-is_err-clause-ringed
 returns-then-is_err-clause-ringed g c = λ o done s now front rest are begun in_ time.
@@ -320,7 +324,7 @@ returns-in-Err-clause-cards g c = λ o done s now front rest are begun in_ time.
     let out = c.args.outcome.now in
     let d : Devices = devices (g.M.Medium.state c.args.unit.now) (g.C.Chip.state c.args.card_a.now) (g.D.Chip.state c.args.card_b.now) in
     let told : Outcome = record out { refused = c.refuse.new.refused } in
-    let told_is : told ≡ record out { refused = with_lines (record { second = run.next; fault = c.in-Err.fault } ∷ []) out.refused } = ap (λ (l : Listed Refused). record out { refused = l }) c.refuse.ensures in
+    let told_is : told ≡ told_refused run out c.in-Err.fault (suc (length front)) = ap (λ (l : Listed Refused). record out { refused = l }) c.refuse.ensures ∙ ap (λ (n : ℕ). told_refused run out c.in-Err.fault n) (sym here) in
     let h = carded-lit o done s run out d (length front) (ap is_lit c.requires.lit) in_ in
     let w = h.ringed.evented.within in
     let low = c.requires.going.low in

@@ -15,7 +15,7 @@ use Rattle.run_state.specs.Going.{IsHeld, IsLit}
 use Rattle.acts_rule.specs.Room.{Takes}
 use Rattle.acts_rule.specs.Acting.{pulled_run, pulled_breaks}
 use Rattle.recorder_rule.specs.Acting.{put_count, StaysIn, moment_of, IsDone, CallsNone}
-use Rattle.recorder_rule.proofs.ActsRecorded.{selected}
+use Rattle.recorder_rule.proofs.ActsRecorded.{selected, passed-by}
 use Rattle.recorder_rule.proofs.Rooms.{few-wait, put-room}
 use Rattle.acts_rule.proofs.Pulled.{pulled-recorded}
 use Rattle.acts_rule.specs.Recording.{RunGoesOn, RecordsAction}
@@ -31,14 +31,14 @@ use Rattle.recorder_rule.proofs.More.{inserted-more}
 use Rattle.acts_rule.specs.Evented.{EventsAction}
 use Rattle.recorder_rule.proofs.ActsEvented.{pulled-evented}
 use Rattle.acts_rule.specs.RunRinged.{RingsAction}
-use Rattle.recorder_rule.proofs.ActsRinged.{selected-ringed, pulled-ringed}
+use Rattle.recorder_rule.proofs.ActsRinged.{selected-ringed, hand-ringed, pulled-ringed}
 use Rattle.run_keeping.proofs.Later.{later-same}
 use Rattle.run_rings.proofs.Same.{rings-left}
 use Rattle.recorder_rule.specs.EnteredRings.{IsPlaceNow, RingsDone}
 use Rattle.acts_rule.proofs.NotedEvents.{same-noted}
 use Rattle.recorder_rule.specs.Noting.{NotesDone}
 use Rattle.acts_rule.specs.RunCards.{CardsAction}
-use Rattle.recorder_rule.proofs.ActsCards.{selected-cards, pulled-cards}
+use Rattle.recorder_rule.proofs.ActsCards.{selected-cards, hand-cards, pulled-cards}
 use Rattle.run_keeping.proofs.Calm.{calm-told, calm-same}
 use Rattle.recorder_rule.proofs.Uncut.{pulled-calm}
 use Rattle.trace_model.specs.declared.Card.{Card}
@@ -127,6 +127,9 @@ returns-in-Select-clause-going g c =
     let lit = c.requires.going.lit (ap is_lit c.requires.lit) in
     picked-going (c.args.run.now.next / 60) c.args.run.now c.select.new.self c.in-Select.slot c.in-Select.pick lit (c.select.ensures.picked lit.span lit.stands)
 
+pub returns-in-Manual-clause-going : goal.returns-in-Manual-clause-going
+returns-in-Manual-clause-going g c = c.requires.going.lit (ap is_lit c.requires.lit)
+
 pub returns-in-Insert-clause-breaks : goal.returns-in-Insert-clause-breaks
 returns-in-Insert-clause-breaks g c = inserted-more c.in-Insert.slot c.in-Insert.card c.moment-at.result c.args.speed (is_err c.insert.result) c.args.run.now c.insert.new.run c.args.outcome.now c.insert.new.outcome c.insert.ensures.inserted
 
@@ -172,6 +175,12 @@ returns-in-Select-clause-done g c =
     let o = c.args.outcome.now in
     subst (λ (a : Action). IsDone a (moment_of c.args.begun run) c.args.speed false run (record run { minutes = c.select.new.self }) o o) (sym c.in-Select.is) (refl, (refl, c.select.ensures.picked), refl)
 
+pub returns-in-Manual-clause-done : goal.returns-in-Manual-clause-done
+returns-in-Manual-clause-done g c =
+    let run = c.args.run.now in
+    let o = c.args.outcome.now in
+    subst (λ (a : Action). IsDone a (moment_of c.args.begun run) c.args.speed false run run o o) (sym c.in-Manual.is) (refl, refl, refl)
+
 pub returns-in-Insert-clause-done : goal.returns-in-Insert-clause-done
 returns-in-Insert-clause-done g c = by-insert g c (λ a m. IsDone a m c.args.speed (is_err c.insert.result) c.args.run.now c.insert.new.run c.args.outcome.now c.insert.new.outcome) c.insert.ensures.inserted
 
@@ -206,6 +215,9 @@ returns-in-Select-clause-still g c = λ none. (refl, refl, refl)
 pub returns-in-Tear-clause-still : goal.returns-in-Tear-clause-still
 returns-in-Tear-clause-still g c = λ none. (refl, refl, refl)
 
+pub returns-in-Manual-clause-still : goal.returns-in-Manual-clause-still
+returns-in-Manual-clause-still g c = λ none. (refl, refl, refl)
+
 -- ---- what is recorded
 
 pub returns-in-Select-clause-recorded : goal.returns-in-Select-clause-recorded
@@ -216,6 +228,14 @@ returns-in-Select-clause-recorded g c = λ o done s now front rest are begun all
     let d : Devices = devices (g.M.Medium.state c.args.unit.now) (g.C.Chip.state c.args.card_a.now) (g.D.Chip.state c.args.card_b.now) in
     subst (λ (n : ℕ). RunGoesOn o done s (In n) [] new out d h.within.b) (sym begun)
     (selected o done s c.args.speed run out d now front c.args.action rest are h c.in-Select.slot c.in-Select.pick c.in-Select.is allowed new (refl, c.select.ensures.picked))
+
+pub returns-in-Manual-clause-recorded : goal.returns-in-Manual-clause-recorded
+returns-in-Manual-clause-recorded g c = λ o done s now front rest are begun allowed h time.
+    let run = c.args.run.now in
+    let out = c.args.outcome.now in
+    let d : Devices = devices (g.M.Medium.state c.args.unit.now) (g.C.Chip.state c.args.card_a.now) (g.D.Chip.state c.args.card_b.now) in
+    subst (λ (n : ℕ). RunGoesOn o done s (In n) [] run out d h.within.b) (sym begun)
+    (passed-by o done s c.args.speed run out d now front c.args.action rest are h c.in-Manual.slot c.in-Manual.pick c.in-Manual.minute c.in-Manual.is allowed)
 
 pub returns-in-Tear-clause-recorded : goal.returns-in-Tear-clause-recorded
 returns-in-Tear-clause-recorded g c = by-tear g c (λ a r l. RecordsAction a c.args.begun c.args.speed false c.args.run.now r c.args.outcome.now (record c.args.outcome.now { breaks = l }) (torn g c) (torn g c)) (pulled-recorded (torn g c) c.in-Tear.slot c.args.begun c.args.speed c.args.run.now c.args.outcome.now _ (c.requires.going.lit (ap is_lit c.requires.lit)).cabin)
@@ -244,6 +264,9 @@ returns-in-Select-clause-time g c = λ h. h
 pub returns-in-Tear-clause-time : goal.returns-in-Tear-clause-time
 returns-in-Tear-clause-time g c = λ h. h
 
+pub returns-in-Manual-clause-time : goal.returns-in-Manual-clause-time
+returns-in-Manual-clause-time g c = λ h. h
+
 pub returns-in-Insert-clause-later : goal.returns-in-Insert-clause-later
 returns-in-Insert-clause-later g c = c.insert.ensures.later
 
@@ -259,10 +282,16 @@ returns-in-Select-clause-later g c = later-same (devices (g.M.Medium.state c.arg
 pub returns-in-Tear-clause-later : goal.returns-in-Tear-clause-later
 returns-in-Tear-clause-later g c = later-same (devices (g.M.Medium.state c.args.unit.now) (g.C.Chip.state c.args.card_a.now) (g.D.Chip.state c.args.card_b.now))
 
+pub returns-in-Manual-clause-later : goal.returns-in-Manual-clause-later
+returns-in-Manual-clause-later g c = later-same (devices (g.M.Medium.state c.args.unit.now) (g.C.Chip.state c.args.card_a.now) (g.D.Chip.state c.args.card_b.now))
+
 -- ---- and the events with it
 
 pub returns-in-Select-clause-evented : goal.returns-in-Select-clause-evented
 returns-in-Select-clause-evented g c = λ o done s now front rest are begun allowed h events time. events
+
+pub returns-in-Manual-clause-evented : goal.returns-in-Manual-clause-evented
+returns-in-Manual-clause-evented g c = λ o done s now front rest are begun allowed h events time. events
 
 pub returns-in-Tear-clause-evented : goal.returns-in-Tear-clause-evented
 returns-in-Tear-clause-evented g c = by-tear g c (λ a r l. EventsAction a c.args.begun c.args.speed false c.args.run.now r c.args.outcome.now (record c.args.outcome.now { breaks = l }) (torn g c) (torn g c)) (pulled-evented (torn g c) c.in-Tear.slot c.args.begun c.args.speed c.args.run.now c.args.outcome.now)
@@ -286,6 +315,13 @@ returns-in-Select-clause-ringed g c =
     subst (λ (a : Action). RingsAction a c.args.begun c.args.speed false run (record run { minutes = c.select.new.self }) o o d d) (sym c.in-Select.is)
     (selected-ringed d c.in-Select.slot c.in-Select.pick c.args.begun c.args.speed run c.select.new.self o)
 
+pub returns-in-Manual-clause-ringed : goal.returns-in-Manual-clause-ringed
+returns-in-Manual-clause-ringed g c =
+    let run = c.args.run.now in
+    let o = c.args.outcome.now in
+    let d : Devices = devices (g.M.Medium.state c.args.unit.now) (g.C.Chip.state c.args.card_a.now) (g.D.Chip.state c.args.card_b.now) in
+    subst (λ (a : Action). RingsAction a c.args.begun c.args.speed false run run o o d d) (sym c.in-Manual.is) (hand-ringed d c.in-Manual.slot c.in-Manual.pick c.in-Manual.minute c.args.begun c.args.speed run o)
+
 pub returns-in-Tear-clause-ringed : goal.returns-in-Tear-clause-ringed
 returns-in-Tear-clause-ringed g c = by-tear g c (λ a r l. RingsAction a c.args.begun c.args.speed false c.args.run.now r c.args.outcome.now (record c.args.outcome.now { breaks = l }) (torn g c) (torn g c)) (pulled-ringed (torn g c) c.in-Tear.slot c.args.begun c.args.speed c.args.run.now c.args.outcome.now)
 
@@ -307,6 +343,13 @@ returns-in-Select-clause-rings g c = λ tells.
     let o = c.args.outcome.now in
     let U = g.M.Medium.state c.args.unit.now in
     subst (λ (a : Action). RingsDone a (moment_of c.args.begun run) c.args.speed false run (record run { minutes = c.select.new.self }) o o U U) (sym c.in-Select.is) (rings-left U)
+
+pub returns-in-Manual-clause-rings : goal.returns-in-Manual-clause-rings
+returns-in-Manual-clause-rings g c = λ tells.
+    let run = c.args.run.now in
+    let o = c.args.outcome.now in
+    let U = g.M.Medium.state c.args.unit.now in
+    subst (λ (a : Action). RingsDone a (moment_of c.args.begun run) c.args.speed false run run o o U U) (sym c.in-Manual.is) (rings-left U)
 
 pub returns-in-Tear-clause-rings : goal.returns-in-Tear-clause-rings
 returns-in-Tear-clause-rings g c = λ tells.
@@ -336,6 +379,14 @@ returns-in-Select-clause-events g c =
     subst (λ (a : Action). NotesDone a (moment_of c.args.begun run) c.args.speed false run (record run { minutes = c.select.new.self }) o o d d) (sym c.in-Select.is)
     (same-noted (g.M.Medium.state c.args.unit.now) (g.C.Chip.state c.args.card_a.now) (g.D.Chip.state c.args.card_b.now))
 
+pub returns-in-Manual-clause-events : goal.returns-in-Manual-clause-events
+returns-in-Manual-clause-events g c =
+    let run = c.args.run.now in
+    let o = c.args.outcome.now in
+    let d = devices (g.M.Medium.state c.args.unit.now) (g.C.Chip.state c.args.card_a.now) (g.D.Chip.state c.args.card_b.now) in
+    subst (λ (a : Action). NotesDone a (moment_of c.args.begun run) c.args.speed false run run o o d d) (sym c.in-Manual.is)
+    (same-noted (g.M.Medium.state c.args.unit.now) (g.C.Chip.state c.args.card_a.now) (g.D.Chip.state c.args.card_b.now))
+
 pub returns-in-Tear-clause-events : goal.returns-in-Tear-clause-events
 returns-in-Tear-clause-events g c =
     let run = c.args.run.now in
@@ -362,6 +413,13 @@ returns-in-Select-clause-cards g c =
     let d : Devices = devices (g.M.Medium.state c.args.unit.now) (g.C.Chip.state c.args.card_a.now) (g.D.Chip.state c.args.card_b.now) in
     subst (λ (a : Action). CardsAction a c.args.begun c.args.speed false run o o d d) (sym c.in-Select.is) (selected-cards d c.in-Select.slot c.in-Select.pick c.args.begun c.args.speed run o)
 
+pub returns-in-Manual-clause-cards : goal.returns-in-Manual-clause-cards
+returns-in-Manual-clause-cards g c =
+    let run = c.args.run.now in
+    let o = c.args.outcome.now in
+    let d : Devices = devices (g.M.Medium.state c.args.unit.now) (g.C.Chip.state c.args.card_a.now) (g.D.Chip.state c.args.card_b.now) in
+    subst (λ (a : Action). CardsAction a c.args.begun c.args.speed false run o o d d) (sym c.in-Manual.is) (hand-cards d c.in-Manual.slot c.in-Manual.pick c.in-Manual.minute c.args.begun c.args.speed run o)
+
 pub returns-in-Tear-clause-cards : goal.returns-in-Tear-clause-cards
 returns-in-Tear-clause-cards g c = by-tear g c (λ a r l. CardsAction a c.args.begun c.args.speed false c.args.run.now c.args.outcome.now (record c.args.outcome.now { breaks = l }) (torn g c) (torn g c)) (pulled-cards (torn g c) c.in-Tear.slot c.args.begun c.args.speed c.args.run.now c.args.outcome.now)
 
@@ -387,6 +445,9 @@ returns-in-Place-clause-calm g c = c.note_place.ensures.calm
 
 pub returns-in-Select-clause-calm : goal.returns-in-Select-clause-calm
 returns-in-Select-clause-calm g c = calm-same (devices (g.M.Medium.state c.args.unit.now) (g.C.Chip.state c.args.card_a.now) (g.D.Chip.state c.args.card_b.now))
+
+pub returns-in-Manual-clause-calm : goal.returns-in-Manual-clause-calm
+returns-in-Manual-clause-calm g c = calm-same (devices (g.M.Medium.state c.args.unit.now) (g.C.Chip.state c.args.card_a.now) (g.D.Chip.state c.args.card_b.now))
 
 pub returns-in-Tear-clause-calm : goal.returns-in-Tear-clause-calm
 returns-in-Tear-clause-calm g c = calm-told (devices (g.M.Medium.state c.args.unit.now) (g.C.Chip.state c.args.card_a.now) (g.D.Chip.state c.args.card_b.now)) _ (ap (λ (l : Listed Break). l.items) c.pull.ensures.breaks) (pulled-calm _ _ _)

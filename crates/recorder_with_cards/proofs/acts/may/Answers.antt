@@ -12,3 +12,6 @@ returns-in-Tear c = c.may_tear.ensures.answer c.args.speed ∙ ap (λ (a : Actio
 
 pub returns-in-Place : goal.returns-in-Place
 returns-in-Place c = c.may_note.ensures.answer c.args.speed c.in-Place.ending c.in-Place.country c.in-Place.region ∙ ap (λ (a : Action). refusal (logged c.args.run.now.keeper.cabin.slots.seats) c.args.speed a) (sym c.in-Place.is)
+
+pub returns-in-Manual : goal.returns-in-Manual
+returns-in-Manual c = c.may_enter.ensures.answer c.in-Manual.pick c.in-Manual.minute ∙ ap (λ (a : Action). refusal (logged c.args.run.now.keeper.cabin.slots.seats) c.args.speed a) (sym c.in-Manual.is)

@@ -17,6 +17,7 @@ use Rattle.recorder_rule.specs.Acting.{AreActed}
 use Rattle.recorder_rule.specs.Items.{between, insertions_in}
 use Rattle.recorder_rule.specs.Recorded.{actions_in, Between, HasBegunBy, Inside}
 use Rattle.recorder_rule.proofs.SecondsRecorded.{refused_dark, acted-dark, passes-dark, by-power, run-then}
+use Rattle.recorder_rule.proofs.Waiting.{all-actions}
 use Rattle.recorder_rule.proofs.Rooms.{room-less}
 use Rattle.recorder_rule.proofs.Dark.{away-dark}
 use Rattle.acts_rule.specs.RunRinged.{RunRinged, InSecondRinged}
@@ -98,20 +99,21 @@ module _ (g : Over) (c : After-drive_on g) where
         let turned = c.turn.ensures.dark acted.0 in
         same-devices P g.M.Medium.state g.C.Chip.state g.D.Chip.state c.args.unit.now c.turn.new.unit c.args.card_a.now c.turn.new.card_a c.args.card_b.now c.turn.new.card_b (turned.0 ∙ acted.1 ∙ kept.2, turned.1 ∙ acted.2 ∙ kept.3, turned.2 ∙ acted.3 ∙ kept.4) h
 
-    acted-so : (c.act_all.new.run ≡ c.begin_second.new.run) × (c.act_all.new.outcome ≡ record c.begin_second.new.outcome { refused = with_lines (refused_dark c.begin_second.new.run.next acts) c.begin_second.new.outcome.refused })
-    acted-so =
-        acted-dark c.args.speed 0 (between c.args.from c.args.to c.args.items.now) c.begin_second.new.run c.act_all.new.run c.begin_second.new.outcome c.act_all.new.outcome
+    acted-so : length acts ≡ c.args.to - c.args.from → c.args.to - c.args.from ≤ largest_number → (c.act_all.new.run ≡ c.begin_second.new.run) × (c.act_all.new.outcome ≡ record c.begin_second.new.outcome { refused = with_lines (refused_dark c.begin_second.new.run.next acts) c.begin_second.new.outcome.refused })
+    acted-so many few =
+        let all = all-actions c.args.from c.args.to c.args.items.now many in
+        acted-dark c.args.speed 0 (between c.args.from c.args.to c.args.items.now) c.begin_second.new.run c.act_all.new.run c.begin_second.new.outcome c.act_all.new.outcome all.0 (let most = all.1 in omega (arith, most, few))
         (subst (λ (b : Bool). AreActed b c.args.speed 0 (between c.args.from c.args.to c.args.items.now) c.begin_second.new.run c.act_all.new.run c.begin_second.new.outcome c.act_all.new.outcome) away c.act_all.ensures.acted)
 
     passes : (c.turn.new.run ≡ passed 1 c.number_of-begun.result c.act_all.new.run) × (c.turn.new.outcome ≡ c.act_all.new.outcome)
     passes = passes-dark c.act_all.new.run c.turn.new.run c.act_all.new.outcome c.turn.new.outcome 1 c.args.speed c.number_of-begun.result (c.act_all.ensures.still dark).0 c.turn.ensures.turned
 
-    passed-on : c.turn.new.run ≡ passed 1 c.number_of-begun.result c.args.run.now
-    passed-on = passes.0 ∙ ap (passed 1 c.number_of-begun.result) (acted-so.0 ∙ (c.in_ok-has_power.ensures.dark away).0)
+    passed-on : length acts ≡ c.args.to - c.args.from → c.args.to - c.args.from ≤ largest_number → c.turn.new.run ≡ passed 1 c.number_of-begun.result c.args.run.now
+    passed-on many few = passes.0 ∙ ap (passed 1 c.number_of-begun.result) ((acted-so many few).0 ∙ (c.in_ok-has_power.ensures.dark away).0)
 
-    refused-all : c.turn.new.outcome ≡ record c.args.outcome.now { refused = with_lines (refused_dark c.args.run.now.next acts) c.args.outcome.now.refused }
-    refused-all =
-        passes.1 ∙ acted-so.1 ∙ ap (λ (x : Outcome). record x { refused = with_lines (refused_dark c.begin_second.new.run.next acts) x.refused }) (c.in_ok-has_power.ensures.dark away).1
+    refused-all : length acts ≡ c.args.to - c.args.from → c.args.to - c.args.from ≤ largest_number → c.turn.new.outcome ≡ record c.args.outcome.now { refused = with_lines (refused_dark c.args.run.now.next acts) c.args.outcome.now.refused }
+    refused-all many few =
+        passes.1 ∙ (acted-so many few).1 ∙ ap (λ (x : Outcome). record x { refused = with_lines (refused_dark c.begin_second.new.run.next acts) x.refused }) (c.in_ok-has_power.ensures.dark away).1
         ∙ ap (λ (n : ℕ). record c.args.outcome.now { refused = with_lines (refused_dark n acts) c.args.outcome.now.refused }) begun-next
 
   -- what is carried behind it
@@ -242,7 +244,7 @@ returns-clause-ringed g c = λ many few o done r time.
     let acted = c.act_all.ensures.ringed lit many few o done s (now-begun g c) [] [] (sym (append-nil (acts g c))) whole in_ (time-two g c time) in
     c.turn.ensures.ringed o done s (now-acted g c) (many ∙ sym number) (λ more. absurd (omega (arith, more)))
     (subst (λ (n : ℕ). InSecondRinged o done s n c.act_all.new.run c.act_all.new.outcome (dev2 g c)) (sym number) acted) (time-three g c time))
-    (λ away. dark-ringed o done c.args.run.now c.args.outcome.now (dev0 g c) r 1 c.args.speed c.number_of-begun.result (acts g c) (omega arith) (none-given g c away) (omega arith) c.turn.new.run c.turn.new.outcome (passed-on g c away) (refused-all g c away)) in
+    (λ away. dark-ringed o done c.args.run.now c.args.outcome.now (dev0 g c) r 1 c.args.speed c.number_of-begun.result (acts g c) (omega arith) (none-given g c away) (omega arith) c.turn.new.run c.turn.new.outcome (passed-on g c away many few) (refused-all g c away many few)) in
     run-then RunRinged c.drive_on.result o done c.args.seconds c.args.run.now.next c.turn.new.run.next c.args.speed (acts g c) c.drive_on.new.run c.drive_on.new.outcome (dev4 g c) c.requires.some (later-by-one g c)
     (c.drive_on.ensures.ringed o (done ++ driven 1 c.args.run.now.next c.args.speed (acts g c)) (done, s, refl, refl) behind time)
 
@@ -268,7 +270,7 @@ returns-clause-cards g c = λ many few o done r time.
     (subst (λ (n : ℕ). InSecondCarded o done s n c.act_all.new.run c.act_all.new.outcome (dev2 g c)) (sym number) acted) c.turn.ensures.turned
     (λ x. c.turn.ensures.ringed o done s (now-acted g c) (many ∙ sym number) (λ more. absurd (omega (arith, more))) x (time-three g c time))
     (λ x. c.turn.ensures.cards o done s (now-acted g c) (many ∙ sym number) (λ more. absurd (omega (arith, more))) x (time-three g c time)))
-    (λ away. dark-carded o done c.args.run.now c.args.outcome.now (dev0 g c) r c.requires.going.low 1 c.args.speed c.number_of-begun.result (acts g c) (omega arith) (none-given g c away) (omega arith) c.turn.new.run c.turn.new.outcome (passed-on g c away) (refused-all g c away)) in
+    (λ away. dark-carded o done c.args.run.now c.args.outcome.now (dev0 g c) r c.requires.going.low 1 c.args.speed c.number_of-begun.result (acts g c) (omega arith) (none-given g c away) (omega arith) c.turn.new.run c.turn.new.outcome (passed-on g c away many few) (refused-all g c away many few)) in
     run-then RunCarded c.drive_on.result o done c.args.seconds c.args.run.now.next c.turn.new.run.next c.args.speed (acts g c) c.drive_on.new.run c.drive_on.new.outcome (dev4 g c) c.requires.some (later-by-one g c)
     (c.drive_on.ensures.cards o (done ++ driven 1 c.args.run.now.next c.args.speed (acts g c)) (done, s, refl, refl) behind time)
 

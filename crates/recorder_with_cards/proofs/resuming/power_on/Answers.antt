@@ -31,7 +31,7 @@ use Rattle.acts_rule.specs.RunRinged.{seats_of, with_cut, InSecondRinged, RunRin
 use Rattle.acts_rule.specs.RunCards.{CardsBehind}
 use Rattle.recorder_rule.proofs.WokenRinged.{places-beside, read-leaves, comes-of, unpowered-ringed, cut-ringed}
 use Rattle.recorder_rule.proofs.CutOff.{cut-as}
-use Rattle.recorder_rule.proofs.Read.{may-of, read-on, left-on, unit-tells, unit-decodes, not-bad, image-of, at-image}
+use Rattle.recorder_rule.proofs.Read.{may-of, rule-known, read-on, left-on, unit-tells, unit-decodes, not-bad, image-of, at-image}
 use Rattle.run_state.specs.declared.run.Run.{Run}
 use Rattle.run_state.specs.Going.{IsAt}
 use Rattle.acts_rule.proofs.Standing.{cut-at}
@@ -59,12 +59,12 @@ use Rattle.trace_model.specs.Trace.{TraceSecond}
 use Rattle.recorder_rule.proofs.ActsRecorded.{cut-in}
 use Rattle.run_keeping.specs.Keeping.{with_lines}
 use Rattle.recorder_with_cards.proofs.resuming.power_on.Given.{Over}
-use Rattle.recorder_with_cards.proofs.resuming.power_on.Goals.{After-cut, After-load}
+use Rattle.recorder_with_cards.proofs.resuming.power_on.Goals.{After-cut, After-open_unit}
 use Rattle.recorder_with_cards.proofs.resuming.power_on.Goals as goal
 
 -- ---- WHAT THE READING LEAVES
 
-module _ (g : Over) (c : After-load g) where
+module _ (g : Over) (c : After-open_unit g) where
   abbrev run : Run
   run = c.args.run.now
 
@@ -75,7 +75,7 @@ module _ (g : Over) (c : After-load g) where
   dev0 = devices (g.M.Medium.state c.args.unit.now) (g.C.Chip.state c.args.card_a.now) (g.D.Chip.state c.args.card_b.now)
 
   abbrev dev1 : Devices
-  dev1 = devices (g.M.Medium.state c.load.new.unit) (g.C.Chip.state c.args.card_a.now) (g.D.Chip.state c.args.card_b.now)
+  dev1 = devices (g.M.Medium.state c.open_unit.new.unit) (g.C.Chip.state c.args.card_a.now) (g.D.Chip.state c.args.card_b.now)
 
   abbrev whole : IsCoherent (g.M.Medium.state c.args.unit.now)
   whole = g.met.M.Medium.coherent c.args.unit.now
@@ -85,23 +85,23 @@ module _ (g : Over) (c : After-load g) where
 
   off-now : (o : Origin) (spans : List SpanFrom) → Stores (is_lit run.power) o (log_of out) run.unfound run.keeper.odometer spans dev0 → StoresOff o (log_of out) run.unfound spans dev1
   off-now o spans stored =
-      stays-stored o (log_of out) run.unfound spans dev0 dev1 (read-stays dev0 dev1 whole c.load.ensures.leaves) (subst (λ (b : Bool). Stores b o (log_of out) run.unfound run.keeper.odometer spans dev0) c.requires.dark stored)
+      stays-stored o (log_of out) run.unfound spans dev0 dev1 (read-stays dev0 dev1 whole c.open_unit.ensures.leaves) (subst (λ (b : Bool). Stores b o (log_of out) run.unfound run.keeper.odometer spans dev0) c.requires.dark stored)
 
   behind : (o : Origin) (done : List TraceSecond) (all : RunRinged o done run out dev0) → HaveLeftMore o dev0 dev1 → RingedBehind o done (log_of out) run.next all.spans (seats_of run) dev1
   behind o done all left =
-      behind-stays dev0 dev1 o done (log_of out) run.next all.spans (seats_of run) all.ringed (read-leaves (g.M.Medium.state c.args.unit.now) (g.M.Medium.state c.load.new.unit) whole c.load.ensures.leaves) left
-      (places-beside o (g.M.Medium.state c.args.unit.now) (g.M.Medium.state c.load.new.unit) (g.C.Chip.state c.args.card_a.now) (g.D.Chip.state c.args.card_b.now))
+      behind-stays dev0 dev1 o done (log_of out) run.next all.spans (seats_of run) all.ringed (read-leaves (g.M.Medium.state c.args.unit.now) (g.M.Medium.state c.open_unit.new.unit) whole c.open_unit.ensures.leaves) left
+      (places-beside o (g.M.Medium.state c.args.unit.now) (g.M.Medium.state c.open_unit.new.unit) (g.C.Chip.state c.args.card_a.now) (g.D.Chip.state c.args.card_b.now))
 
   shown : (o : Origin) (done : List TraceSecond) → CardsBehind o done (log_of out) dev0 → CardsBehind o done (log_of out) dev1
-  shown o done = unit-alone o done (log_of out) (g.M.Medium.state c.args.unit.now) (g.M.Medium.state c.load.new.unit) (g.C.Chip.state c.args.card_a.now) (g.D.Chip.state c.args.card_b.now)
+  shown o done = unit-alone o done (log_of out) (g.M.Medium.state c.args.unit.now) (g.M.Medium.state c.open_unit.new.unit) (g.C.Chip.state c.args.card_a.now) (g.D.Chip.state c.args.card_b.now)
 
   later : AreLater dev0 dev1
   later =
-      let same = c.load.ensures.clock in
-      later-of-unit (g.M.Medium.state c.args.unit.now) (g.M.Medium.state c.load.new.unit) (g.C.Chip.state c.args.card_a.now) (g.D.Chip.state c.args.card_b.now) (state-revived (g.M.Medium.state c.args.unit.now) (g.M.Medium.state c.load.new.unit) _ (omega (arith, same)) c.load.ensures.cause)
+      let same = c.open_unit.ensures.clock in
+      later-of-unit (g.M.Medium.state c.args.unit.now) (g.M.Medium.state c.open_unit.new.unit) (g.C.Chip.state c.args.card_a.now) (g.D.Chip.state c.args.card_b.now) (state-revived (g.M.Medium.state c.args.unit.now) (g.M.Medium.state c.open_unit.new.unit) _ (omega (arith, same)) c.open_unit.ensures.cause)
 
   calm : AreCalm out.breaks.items out.breaks.items dev0 dev1
-  calm = calm-of-unit (g.M.Medium.state c.args.unit.now) (g.M.Medium.state c.load.new.unit) (g.C.Chip.state c.args.card_a.now) (g.D.Chip.state c.args.card_b.now)
+  calm = calm-of-unit (g.M.Medium.state c.args.unit.now) (g.M.Medium.state c.open_unit.new.unit) (g.C.Chip.state c.args.card_a.now) (g.D.Chip.state c.args.card_b.now)
 
   -- power comes, behind what is recorded
   module _ (o : Origin) (done : List TraceSecond) (has : has_power run.power run.next ≡ true) where
@@ -109,10 +109,10 @@ module _ (g : Over) (c : After-load g) where
     may rec = may-of run.power rec.supply run.next rec.powers c.requires.dark has
 
     read : (rec : RunRecorded o done run out dev0) → Recorded o done rec.supply (values_of run out) dev1
-    read rec = read-on o done rec.supply (values_of run out) dev0 rec.recorded (may rec) (g.M.Medium.state c.load.new.unit) whole c.load.ensures.leaves c.load.ensures.cause.breakdowns
+    read rec = read-on o done rec.supply (values_of run out) dev0 rec.recorded (may rec) (g.M.Medium.state c.open_unit.new.unit) whole c.open_unit.ensures.leaves c.open_unit.ensures.cause.breakdowns
 
     left : RunRecorded o done run out dev0 → HaveLeftMore o dev0 dev1
-    left rec = left-on o done rec.supply (values_of run out) dev0 rec.recorded (may rec) (g.M.Medium.state c.load.new.unit) whole c.load.ensures.leaves c.load.ensures.cause.breakdowns
+    left rec = left-on o done rec.supply (values_of run out) dev0 rec.recorded (may rec) (g.M.Medium.state c.open_unit.new.unit) whole c.open_unit.ensures.leaves c.open_unit.ensures.cause.breakdowns
 
     -- it stays so behind the reading
     abbrev recorded : RunRecorded o done run out dev0 → RunRecorded o done run out dev1
@@ -122,14 +122,14 @@ module _ (g : Over) (c : After-load g) where
       powers = rec.powers;
       recorded = read rec;
       odometer = λ lit. absurd (never-lit lit);
-      stay = all-unit o (marked out.marks.items (truths_of o (log_of out) done)) 0 (log_of out) (notes_in (log_of out) done) run.keeper.memory.registration run.keeper.cabin (g.M.Medium.state c.args.unit.now) (g.M.Medium.state c.load.new.unit) (g.C.Chip.state c.args.card_a.now) (g.D.Chip.state c.args.card_b.now)
-          (leaves-more (g.M.Medium.state c.args.unit.now) (g.M.Medium.state c.load.new.unit) (read-leaves (g.M.Medium.state c.args.unit.now) (g.M.Medium.state c.load.new.unit) whole c.load.ensures.leaves)) rec.stay;
+      stay = all-unit o (marked out.marks.items (truths_of o (log_of out) done)) 0 (log_of out) (notes_in (log_of out) done) run.keeper.memory.registration run.keeper.cabin (g.M.Medium.state c.args.unit.now) (g.M.Medium.state c.open_unit.new.unit) (g.C.Chip.state c.args.card_a.now) (g.D.Chip.state c.args.card_b.now)
+          (leaves-more (g.M.Medium.state c.args.unit.now) (g.M.Medium.state c.open_unit.new.unit) (read-leaves (g.M.Medium.state c.args.unit.now) (g.M.Medium.state c.open_unit.new.unit) whole c.open_unit.ensures.leaves)) rec.stay;
     }
 
     abbrev evented : RunEvented o done run out dev0 → RunEvented o done run out dev1
     evented all = record {
       recorded = recorded all.recorded;
-      evented = events-stay dev0 dev1 o done (log_of out) run.unfound run.next all.recorded.supply all.evented (read-says (g.M.Medium.state c.args.unit.now) (g.M.Medium.state c.load.new.unit) c.load.ensures.leaves) (left all.recorded);
+      evented = events-stay dev0 dev1 o done (log_of out) run.unfound run.next all.recorded.supply all.evented (read-says (g.M.Medium.state c.args.unit.now) (g.M.Medium.state c.open_unit.new.unit) c.open_unit.ensures.leaves) (left all.recorded);
       limit = all.limit;
       watched = λ lit. absurd (never-lit lit);
     }
@@ -145,10 +145,10 @@ module _ (g : Over) (c : After-load g) where
     }
 
     -- no place of such a unit is bad
-    never-bad : RunRecorded o done run out dev0 → (place : ℕ) → IfSome (g.M.Medium.state c.load.new.unit).image (λ x. first_bad_place x ≡ Some place) → ⊥
+    never-bad : RunRecorded o done run out dev0 → (place : ℕ) → IfSome (g.M.Medium.state c.open_unit.new.unit).image (λ x. first_bad_place x ≡ Some place) → ⊥
     never-bad rec place bad =
-        let V : State = g.M.Medium.state c.load.new.unit in
-        let after = g.met.M.Medium.coherent c.load.new.unit in
+        let V : State = g.M.Medium.state c.open_unit.new.unit in
+        let after = g.met.M.Medium.coherent c.open_unit.new.unit in
         let image = image-of V.image (unit-tells o done rec.supply (values_of run out) dev1 (read rec) (may rec)) in
         let decodes = unit-decodes o done rec.supply (values_of run out) dev1 (read rec) (may rec) after image.0 (after.is_left image.0 image.1) in
         not-bad image.0 place decodes (at-image (λ (x : List ℕ). first_bad_place x ≡ Some place) V.image image.0 image.1 bad)
@@ -156,8 +156,8 @@ module _ (g : Over) (c : After-load g) where
 -- ---- where it failed, and power is lost
 
 module _ (g : Over) (c : After-cut g) where
-  abbrev reading : After-load g
-  reading = (goal.at.returns-in-Err-Failed-clause-recorded g c).After-load
+  abbrev reading : After-open_unit g
+  reading = (goal.at.returns-in-Err-Failed-clause-recorded g c).After-open_unit
 
   abbrev lost : Outcome
   lost = record c.args.outcome.now { breaks = c.cut.new.breaks }
@@ -169,7 +169,7 @@ module _ (g : Over) (c : After-cut g) where
     unread : (rec : RunRecorded o done (run g reading) (out g reading) (dev0 g reading)) → IsNotRead o done rec.supply (values_of (run g reading) (out g reading)) (dev0 g reading) rec.recorded (dev1 g reading)
     unread rec =
         let cause = rw c.in-Err-Failed.field-0-is at c.in-Err-Failed.ensures.cause in
-        not-read o done rec.supply (values_of (run g reading) (out g reading)) (dev0 g reading) rec.recorded (may g reading o done has rec) (g.M.Medium.state c.load.new.unit) (whole g reading) c.load.ensures.leaves cause
+        not-read o done rec.supply (values_of (run g reading) (out g reading)) (dev0 g reading) rec.recorded (may g reading o done has rec) (g.M.Medium.state c.open_unit.new.unit) (whole g reading) c.open_unit.ensures.leaves cause
 
     recorded_cut : RunRecorded o done (run g reading) (out g reading) (dev0 g reading) → RunCut o done s c.cut.new.self lost (dev1 g reading)
     recorded_cut rec =
@@ -182,7 +182,7 @@ module _ (g : Over) (c : After-cut g) where
         let rec = all.recorded in
         let none = unread rec in
         let broken = power-on_broken (dev0 g reading) (dev1 g reading) o done (progress (values_of (run g reading) (out g reading)) rec.supply rec.recorded.book) rec.recorded.recorded.followed all.evented (may g reading o done has rec) s now.number now.given
-        (breakdowns_of (dev0 g reading)) (breakdowns_of (dev1 g reading)) none.goes.breakdowns none.broke (read-says (g.M.Medium.state c.args.unit.now) (g.M.Medium.state c.load.new.unit) c.load.ensures.leaves) none.goes.left in
+        (breakdowns_of (dev0 g reading)) (breakdowns_of (dev1 g reading)) none.goes.breakdowns none.broke (read-says (g.M.Medium.state c.args.unit.now) (g.M.Medium.state c.open_unit.new.unit) c.open_unit.ensures.leaves) none.goes.left in
         cut-woken o done s (run g reading) c.cut.new.self (out g reading) lost (dev1 g reading) (log_of (out g reading)) (broken, all.limit) (recorded_cut rec) c.cut.ensures.run line now.number
 
     comes : (rec : RunRecorded o done (run g reading) (out g reading) (dev0 g reading)) → Comes (went (log_of (out g reading)) done).before (run g reading).next
@@ -192,9 +192,9 @@ module _ (g : Over) (c : After-cut g) where
     ringed_cut all =
         let rec = all.evented.recorded in
         let progressed = progress (values_of (run g reading) (out g reading)) rec.supply rec.recorded.book in
-        let image = image-of (g.M.Medium.state c.load.new.unit).image (c.load.ensures.leaves.tells ∙ unit-tells o done rec.supply (values_of (run g reading) (out g reading)) (dev0 g reading) rec.recorded (may g reading o done has rec)) in
+        let image = image-of (g.M.Medium.state c.open_unit.new.unit).image (c.open_unit.ensures.leaves.tells ∙ unit-tells o done rec.supply (values_of (run g reading) (out g reading)) (dev0 g reading) rec.recorded (may g reading o done has rec)) in
         let base : ℕ = odometer_at image.0 in
-        let stored = unread-stored o done s progressed rec.recorded.recorded.followed (comes rec) now.number now.given all.spans (dev1 g reading) image.0 ((g.met.M.Medium.coherent c.load.new.unit).is_left image.0 image.1) (off-now g reading o all.spans all.stored) in
+        let stored = unread-stored o done s progressed rec.recorded.recorded.followed (comes rec) now.number now.given all.spans (dev1 g reading) image.0 ((g.met.M.Medium.coherent c.open_unit.new.unit).is_left image.0 image.1) (off-now g reading o all.spans all.stored) in
         let rung = unpowered-ringed o done s progressed rec.recorded.recorded.followed (comes rec) now.number now.given (dev1 g reading) all.spans (seats_of (run g reading))
         (subst (λ (m : ℕ). RingedBehind o done (log_of (out g reading)) m all.spans (seats_of (run g reading)) (dev1 g reading)) (sym now.number) (behind g reading o done all (unread rec).goes.left)) base in
         cut-ringed o done s (run g reading) c.cut.new.self (out g reading) lost (dev1 g reading) (log_of (out g reading)) all.spans (spans_cut all.spans base (with_cut (log_of (out g reading)) s []) done s, all.counted, rung, stored)
@@ -206,18 +206,23 @@ pub returns-in-Err-Failed-clause-going : goal.returns-in-Err-Failed-clause-going
 returns-in-Err-Failed-clause-going g c =
     let old : Run = c.args.run.now in
     let h = c.requires.going.held in
-    subst (λ (r : Run). IsAt (r.next / 60) r (g.M.Medium.state c.load.new.unit) (g.C.Chip.card c.args.card_a.now) (g.D.Chip.card c.args.card_b.now) (g.C.Chip.state c.args.card_a.now) (g.D.Chip.state c.args.card_b.now)) (sym c.cut.ensures.run)
+    subst (λ (r : Run). IsAt (r.next / 60) r (g.M.Medium.state c.open_unit.new.unit) (g.C.Chip.card c.args.card_a.now) (g.D.Chip.card c.args.card_b.now) (g.C.Chip.state c.args.card_a.now) (g.D.Chip.state c.args.card_b.now)) (sym c.cut.ensures.run)
     (cut-at old (old.next / 60) (old.next / 60) old.next c.requires.going.low c.requires.going.small
-    (record { is_unit = c.load.ensures.unit h.is_unit; odometer = h.odometer; minute = h.minute; card_a = h.card_a; card_b = h.card_b; stand = h.stand }) h.minute (omega arith))
+    (record { is_unit = c.open_unit.ensures.unit h.is_unit; odometer = h.odometer; minute = h.minute; card_a = h.card_a; card_b = h.card_b; stand = h.stand }) h.minute (omega arith))
+
+-- ---- BY THE UNIT'S RULE
+
+pub found-requires-clause-rule : goal.found-requires-clause-rule
+found-requires-clause-rule g c = rule-known (g.M.Medium.state c.open_unit.new.unit).image c.in-Ok.opened.memory c.rule-rule.result c.in-Ok.ensures.facts c.rule-rule.ensures
 
 -- ---- WHAT IS RECORDED
 
 pub returns-in-Ok-clause-recorded : goal.returns-in-Ok-clause-recorded
-returns-in-Ok-clause-recorded g c = λ room o done s now rec has time. c.found.ensures.recorded room o done s now (recorded g (goal.at.returns-in-Ok-clause-recorded g c).After-load o done has rec) has time
+returns-in-Ok-clause-recorded g c = λ room o done s now rec has time. c.found.ensures.recorded room o done s now (recorded g (goal.at.returns-in-Ok-clause-recorded g c).After-open_unit o done has rec) has time
 
 pub returns-in-Err-BadUnit-clause-recorded : goal.returns-in-Err-BadUnit-clause-recorded
 returns-in-Err-BadUnit-clause-recorded g c = λ room o done s now rec has time.
-    absurd (never-bad g (goal.at.returns-in-Err-BadUnit-clause-recorded g c).After-load o done has rec c.in-Err-BadUnit.place (rw c.in-Err-BadUnit.field-0-is at c.in-Err-BadUnit.ensures.bad))
+    absurd (never-bad g (goal.at.returns-in-Err-BadUnit-clause-recorded g c).After-open_unit o done has rec c.in-Err-BadUnit.place (rw c.in-Err-BadUnit.field-0-is at c.in-Err-BadUnit.ensures.bad))
 
 pub returns-in-Err-Failed-clause-recorded : goal.returns-in-Err-Failed-clause-recorded
 returns-in-Err-Failed-clause-recorded g c = λ room o done s now rec has time. cut-in o done s c.cut.new.self (lost g c) (dev1 g (reading g c)) 0 (recorded_cut g c o done s now has rec)
@@ -225,7 +230,7 @@ returns-in-Err-Failed-clause-recorded g c = λ room o done s now rec has time. c
 -- ---- WHAT IS NOTED, beside what is recorded
 
 pub returns-in-Ok-clause-evented : goal.returns-in-Ok-clause-evented
-returns-in-Ok-clause-evented g c = λ room o done s now all has time. c.found.ensures.evented room o done s now (evented g (goal.at.returns-in-Ok-clause-evented g c).After-load o done has all) has time
+returns-in-Ok-clause-evented g c = λ room o done s now all has time. c.found.ensures.evented room o done s now (evented g (goal.at.returns-in-Ok-clause-evented g c).After-open_unit o done has all) has time
 
 pub returns-in-Err-BadUnit-clause-evented : goal.returns-in-Err-BadUnit-clause-evented
 returns-in-Err-BadUnit-clause-evented g c = λ room o done s now all has time. absurd (returns-in-Err-BadUnit-clause-recorded g c room o done s now all.recorded has time)
@@ -236,7 +241,7 @@ returns-in-Err-Failed-clause-evented g c = λ room o done s now all has time. in
 -- ---- AND THE RINGS
 
 pub returns-in-Ok-clause-ringed : goal.returns-in-Ok-clause-ringed
-returns-in-Ok-clause-ringed g c = λ room o done s now all has time. c.found.ensures.ringed room o done s now (ringed g (goal.at.returns-in-Ok-clause-ringed g c).After-load o done has all) has time
+returns-in-Ok-clause-ringed g c = λ room o done s now all has time. c.found.ensures.ringed room o done s now (ringed g (goal.at.returns-in-Ok-clause-ringed g c).After-open_unit o done has all) has time
 
 pub returns-in-Err-BadUnit-clause-ringed : goal.returns-in-Err-BadUnit-clause-ringed
 returns-in-Err-BadUnit-clause-ringed g c = λ room o done s now all has time. absurd (returns-in-Err-BadUnit-clause-recorded g c room o done s now all.evented.recorded has time)
@@ -248,7 +253,7 @@ returns-in-Err-Failed-clause-ringed g c = λ room o done s now all has time. rin
 
 pub returns-in-Ok-clause-cards : goal.returns-in-Ok-clause-cards
 returns-in-Ok-clause-cards g c = λ room o done s now all has time.
-    let at = (goal.at.returns-in-Ok-clause-cards g c).After-load in
+    let at = (goal.at.returns-in-Ok-clause-cards g c).After-open_unit in
     c.found.ensures.cards room o done s now (record { ringed = ringed g at o done has all.ringed; vehicle = all.vehicle; cards = shown g at o done all.cards }) has time
 
 pub returns-in-Err-BadUnit-clause-cards : goal.returns-in-Err-BadUnit-clause-cards
@@ -273,26 +278,26 @@ returns-in-Err-Failed-clause-cards g c = λ room o done s now all has time.
 
 pub returns-in-Ok-clause-noted : goal.returns-in-Ok-clause-noted
 returns-in-Ok-clause-noted g c = on_ok c.found.result (λ well.
-    let at = (goal.at.returns-in-Ok-clause-noted g c).After-load in
+    let at = (goal.at.returns-in-Ok-clause-noted g c).After-open_unit in
     let dev2 : Devices = devices (g.M.Medium.state c.found.new.unit) (g.C.Chip.state c.found.new.card_a) (g.D.Chip.state c.found.new.card_b) in
-    let quiet = read-noted (g.M.Medium.state c.args.unit.now) (g.M.Medium.state c.load.new.unit) (g.C.Chip.state c.args.card_a.now) (g.D.Chip.state c.args.card_b.now) c.load.ensures.leaves false in
-    inl (c.in-Ok.journal.kept, read-then c.in-Ok.journal.kept c.args.speed c.args.run.now c.found.new.run c.args.outcome.now c.found.new.outcome (dev0 g at) (dev1 g at) dev2 quiet (ok_gives c.found.result c.found.ensures.noted well)))
+    let quiet = read-noted (g.M.Medium.state c.args.unit.now) (g.M.Medium.state c.open_unit.new.unit) (g.C.Chip.state c.args.card_a.now) (g.D.Chip.state c.args.card_b.now) c.open_unit.ensures.leaves false in
+    inl (c.in-Ok.opened.journal.kept, read-then c.in-Ok.opened.journal.kept c.args.speed c.args.run.now c.found.new.run c.args.outcome.now c.found.new.outcome (dev0 g at) (dev1 g at) dev2 quiet (ok_gives c.found.result c.found.ensures.noted well)))
 
 pub returns-in-Err-Failed-clause-noted : goal.returns-in-Err-Failed-clause-noted
 returns-in-Err-Failed-clause-noted g c = inr (record {
   ends = (c.cut.ensures.run, line g c);
-  notes = read-noted (g.M.Medium.state c.args.unit.now) (g.M.Medium.state c.load.new.unit) (g.C.Chip.state c.args.card_a.now) (g.D.Chip.state c.args.card_b.now) c.load.ensures.leaves true;
+  notes = read-noted (g.M.Medium.state c.args.unit.now) (g.M.Medium.state c.open_unit.new.unit) (g.C.Chip.state c.args.card_a.now) (g.D.Chip.state c.args.card_b.now) c.open_unit.ensures.leaves true;
 })
 
 -- ---- what holds of the devices after any calls
 
 pub returns-in-Ok-clause-later : goal.returns-in-Ok-clause-later
 returns-in-Ok-clause-later g c =
-    let at = (goal.at.returns-in-Ok-clause-later g c).After-load in
+    let at = (goal.at.returns-in-Ok-clause-later g c).After-open_unit in
     later-then (dev0 g at) (dev1 g at) (devices (g.M.Medium.state c.found.new.unit) (g.C.Chip.state c.found.new.card_a) (g.D.Chip.state c.found.new.card_b)) (later g at) c.found.ensures.later
 
 pub returns-in-Err-BadUnit-clause-later : goal.returns-in-Err-BadUnit-clause-later
-returns-in-Err-BadUnit-clause-later g c = later g (goal.at.returns-in-Err-BadUnit-clause-later g c).After-load
+returns-in-Err-BadUnit-clause-later g c = later g (goal.at.returns-in-Err-BadUnit-clause-later g c).After-open_unit
 
 pub returns-in-Err-Failed-clause-later : goal.returns-in-Err-Failed-clause-later
 returns-in-Err-Failed-clause-later g c = later g (reading g c)
@@ -300,12 +305,12 @@ returns-in-Err-Failed-clause-later g c = later g (reading g c)
 -- ---- how often the unit broke down
 
 pub returns-in-Ok-clause-broke : goal.returns-in-Ok-clause-broke
-returns-in-Ok-clause-broke g c = broke-then (broke-none c.args.outcome.now.breaks.items {old = (g.M.Medium.state c.args.unit.now)} {new = (g.M.Medium.state c.load.new.unit)} (c.in-Ok.ensures.cause.unbroken refl)) c.found.ensures.broke
+returns-in-Ok-clause-broke g c = broke-then (broke-none c.args.outcome.now.breaks.items {old = (g.M.Medium.state c.args.unit.now)} {new = (g.M.Medium.state c.open_unit.new.unit)} (c.in-Ok.ensures.cause.unbroken refl)) c.found.ensures.broke
 
 pub returns-in-Err-BadUnit-clause-broke : goal.returns-in-Err-BadUnit-clause-broke
 returns-in-Err-BadUnit-clause-broke g c =
     let cause = rw c.in-Err-BadUnit.field-0-is at c.in-Err-BadUnit.ensures.cause in
-    broke-none c.args.outcome.now.breaks.items {old = (g.M.Medium.state c.args.unit.now)} {new = (g.M.Medium.state c.load.new.unit)} (cause.unbroken refl)
+    broke-none c.args.outcome.now.breaks.items {old = (g.M.Medium.state c.args.unit.now)} {new = (g.M.Medium.state c.open_unit.new.unit)} (cause.unbroken refl)
 
 pub returns-in-Err-Failed-clause-broke : goal.returns-in-Err-Failed-clause-broke
 returns-in-Err-Failed-clause-broke g c =
@@ -316,11 +321,11 @@ returns-in-Err-Failed-clause-broke g c =
 
 pub returns-in-Ok-clause-calm : goal.returns-in-Ok-clause-calm
 returns-in-Ok-clause-calm g c =
-    let at = (goal.at.returns-in-Ok-clause-calm g c).After-load in
+    let at = (goal.at.returns-in-Ok-clause-calm g c).After-open_unit in
     calm-then (dev0 g at) (dev1 g at) (devices (g.M.Medium.state c.found.new.unit) (g.C.Chip.state c.found.new.card_a) (g.D.Chip.state c.found.new.card_b)) (calm g at) c.found.ensures.calm
 
 pub returns-in-Err-BadUnit-clause-calm : goal.returns-in-Err-BadUnit-clause-calm
-returns-in-Err-BadUnit-clause-calm g c = calm g (goal.at.returns-in-Err-BadUnit-clause-calm g c).After-load
+returns-in-Err-BadUnit-clause-calm g c = calm g (goal.at.returns-in-Err-BadUnit-clause-calm g c).After-open_unit
 
 pub returns-in-Err-Failed-clause-calm : goal.returns-in-Err-Failed-clause-calm
 returns-in-Err-Failed-clause-calm g c = calm-more (dev0 g (reading g c)) (dev1 g (reading g c)) _ (calm g (reading g c)) (ap (λ (l : Listed Break). l.items) c.cut.ensures.breaks) refl

@@ -50,7 +50,7 @@ use Rattle.unit_course.specs.Lines.{cut_at}
 use Rattle.unit_course.specs.Followed.{Lost, Supply, MayPower}
 use Rattle.run_course.specs.Moments.{and_break}
 use Rattle.run_course.specs.Followed.{Progress, Followed}
-use Rattle.unit_memory.specs.declared.format.Identity.{Identity}
+use Rattle.unit_memory.specs.declared.memory.UnitFacts.{UnitFacts}
 use Rattle.run_recorded.specs.Seconds.{found_again}
 use Rattle.run_within.specs.Within.{Beginning}
 use Rattle.minute_model.specs.Span.{ungiven_of}
@@ -172,7 +172,7 @@ module _ (g : Over) (c : After-moment-at g) where
   cabin = ap (λ (k : Keeper). k.cabin) c.begin_span.ensures.begun.keeper
 
   none : mid.minutes.owing ≡ 0
-  none = begun-none mid.minutes run.next c.begin_span.ensures.begun.minutes
+  none = begun-none c.args.rule mid.minutes run.next c.begin_span.ensures.begun.minutes
 
   bare : IsBare mid.keeper.cabin.slots.seats.driver
   bare =
@@ -225,7 +225,7 @@ module _ (g : Over) (c : After-moment-at g) where
         let ok = c.in_ok-mend.ensures in
         let loaded = c.requires.loaded in
         awake p.o p.origin p.done p.s p.supply p.v U X Y p.r p.may p.number p.given (g.met.M.Medium.coherent c.args.unit.now) (wholes-of U X Y (g.met.C.Chip.coherent c.args.card_a.now) (g.met.D.Chip.coherent c.args.card_b.now)) loaded.works c.args.journal (kept-of c.args.journal U.image loaded.found)
-        (g.M.Medium.state c.mend.new.unit) false c.mend.ensures.moments c.mend.ensures.tells ok.cause c.mend.ensures.holds ok.first ok.second run out p.values refl c.mend.new.journal ok.agrees mid c.begin_span.ensures.begun (g.met.M.Medium.coherent c.mend.new.unit) p.stay
+        (g.M.Medium.state c.mend.new.unit) false c.mend.ensures.moments c.mend.ensures.tells ok.cause c.mend.ensures.holds ok.first ok.second run out p.values refl c.mend.new.journal ok.agrees c.args.rule c.requires.rule mid c.begin_span.ensures.begun (g.met.M.Medium.coherent c.mend.new.unit) p.stay
 
     is : (woke.0.run ≡ found_again c.args.journal.kept (progress p.v p.supply p.r.book)) × (woke.0.span ≡ []) × HaveLeftMore p.o dev0 mended
     unfolding woke
@@ -236,7 +236,7 @@ module _ (g : Over) (c : After-moment-at g) where
         let ok = c.in_ok-mend.ensures in
         let loaded = c.requires.loaded in
         awake-is p.o p.origin p.done p.s p.supply p.v U X Y p.r p.may p.number p.given (g.met.M.Medium.coherent c.args.unit.now) (wholes-of U X Y (g.met.C.Chip.coherent c.args.card_a.now) (g.met.D.Chip.coherent c.args.card_b.now)) loaded.works c.args.journal (kept-of c.args.journal U.image loaded.found)
-        (g.M.Medium.state c.mend.new.unit) false c.mend.ensures.moments c.mend.ensures.tells ok.cause c.mend.ensures.holds ok.first ok.second run out p.values refl c.mend.new.journal ok.agrees mid c.begin_span.ensures.begun (g.met.M.Medium.coherent c.mend.new.unit) p.stay
+        (g.M.Medium.state c.mend.new.unit) false c.mend.ensures.moments c.mend.ensures.tells ok.cause c.mend.ensures.holds ok.first ok.second run out p.values refl c.mend.new.journal ok.agrees c.args.rule c.requires.rule mid c.begin_span.ensures.begun (g.met.M.Medium.coherent c.mend.new.unit) p.stay
 
     next_is : run.next ≡ p.s.number
     next_is = ap (λ (x : Values). x.next) p.values ∙ sym p.number
@@ -284,7 +284,7 @@ module _ (g : Over) (c : After-moment-at g) where
           let kept_now : c.mend.new.journal.kept ≡ c.args.journal.kept = ap (λ (j : Notes). j.kept) ok.notes in
           subst (λ (n : ℕ). StandsOn p.o (log_of out) n q.spans mid.keeper.odometer) (sym c.begin_span.ensures.begun.unfound)
           (awake-stands p.o p.origin p.done p.s p.supply p.v U X Y p.r p.may p.number p.given (g.met.M.Medium.coherent c.args.unit.now) (wholes-of U X Y (g.met.C.Chip.coherent c.args.card_a.now) (g.met.D.Chip.coherent c.args.card_b.now)) loaded.works c.args.journal (kept-of c.args.journal U.image loaded.found)
-          (g.M.Medium.state c.mend.new.unit) false c.mend.ensures.moments c.mend.ensures.tells ok.cause c.mend.ensures.holds ok.first ok.second run out p.values refl c.mend.new.journal ok.agrees mid c.begin_span.ensures.begun (g.met.M.Medium.coherent c.mend.new.unit) p.stay
+          (g.M.Medium.state c.mend.new.unit) false c.mend.ensures.moments c.mend.ensures.tells ok.cause c.mend.ensures.holds ok.first ok.second run out p.values refl c.mend.new.journal ok.agrees c.args.rule c.requires.rule mid c.begin_span.ensures.begun (g.met.M.Medium.coherent c.mend.new.unit) p.stay
           kept_now q.spans (spans-before p.o p.done p.supply p.v dev0 p.r c.args.journal.kept (log_of out) log_is q.spans q.ringed.spans_are) q.off)
 
       -- behind the calls that follow
@@ -331,7 +331,7 @@ module _ (g : Over) (c : After-accept_anew g) where
   vehicle-one : (o : Origin) → (run g span).keeper.memory.registration ≡ vehicle_in o → ((mid g span).keeper.memory.registration ≡ vehicle_in o) × (one.keeper.memory.registration ≡ vehicle_in o)
   vehicle-one o vehicle =
       let begun = ap (λ (k : Keeper). k.memory.registration) c.begin_span.ensures.begun.keeper ∙ vehicle in
-      (begun, ap (λ (m : Identity). m.registration) same-one.0 ∙ begun)
+      (begun, ap (λ (m : UnitFacts). m.registration) same-one.0 ∙ begun)
 
   noted-one : (vs : List UnitEvent) × JudgesDriver c.args.speed (mid g span) one (out g span) out1 vs × NotesEvents vs (is_err c.accept_anew.result) (dev0 g span) dev1
   noted-one = driver-these c.moment-at.result c.args.speed (is_err c.accept_anew.result) (mid g span) one (out g span) out1 (dev0 g span) (mended g span) dev1 c.moment-at.ensures (noted g span) c.accept_anew.ensures.noted
@@ -357,7 +357,7 @@ module _ (g : Over) (c : After-accept_anew g) where
         c.moment-at.result (now g span p) c.args.speed e.speed_is (is_err c.accept_anew.result) one out1 c.accept_anew.ensures.accepted dev1 still time (c.accept_anew.ensures.recorded room-one) (c.accept_anew.ensures.evented room-one)
 
     limit-one : WithEvents g span p → one.keeper.memory.limit ≡ limit_in p.o
-    limit-one e = ap (λ (m : Identity). m.limit) (same-one.0 ∙ ap (λ (k : Keeper). k.memory) c.begin_span.ensures.begun.keeper) ∙ e.limit
+    limit-one e = ap (λ (m : UnitFacts). m.limit) (same-one.0 ∙ ap (λ (k : Keeper). k.memory) c.begin_span.ensures.begun.keeper) ∙ e.limit
 
     began-unfound : (woke g span p).0.run.unfound ≡ one.unfound
     began-unfound = ap (λ (q : Progress). q.unfound) (is g span p).0 ∙ sym (ap (λ (x : Values). x.unfound) p.values) ∙ sym c.begin_span.ensures.begun.unfound ∙ sym unfound-one
@@ -421,7 +421,7 @@ module _ (g : Over) (c : After-accept_anew-2 g) where
   unfound-two = ap (λ (r : Run). r.unfound) c.accept_anew-2.ensures.only ∙ unfound-one g driver
 
   vehicle-two : (o : Origin) → (run g start).keeper.memory.registration ≡ vehicle_in o → two.keeper.memory.registration ≡ vehicle_in o
-  vehicle-two o vehicle = ap (λ (m : Identity). m.registration) same-two.0 ∙ (vehicle-one g driver o vehicle).1
+  vehicle-two o vehicle = ap (λ (m : UnitFacts). m.registration) same-two.0 ∙ (vehicle-one g driver o vehicle).1
 
   takes-two : Takes (bare_count (mid g start).keeper.cabin.slots.seats.driver + bare_count (one g driver).keeper.cabin.slots.seats.codriver) 0 0 (mid g start) two (out g start) out2
   takes-two =
@@ -495,7 +495,7 @@ module _ (g : Over) (c : After-accept_anew-2 g) where
         (c.accept_anew-2.ensures.recorded room-two) (c.accept_anew-2.ensures.evented room-two)
 
     limit-two : WithEvents g start p → two.keeper.memory.limit ≡ limit_in p.o
-    limit-two e = ap (λ (m : Identity). m.limit) same-two.0 ∙ limit-one g driver p time-one e
+    limit-two e = ap (λ (m : UnitFacts). m.limit) same-two.0 ∙ limit-one g driver p time-one e
 
     began-unfound-two : (woke g start p).0.run.unfound ≡ two.unfound
     began-unfound-two = began-unfound g driver p time-one ∙ sym (ap (λ (r : Run). r.unfound) c.accept_anew-2.ensures.only)
@@ -658,7 +658,7 @@ pub accept_anew-requires-clause-held : goal.accept_anew-requires-clause-held
 accept_anew-requires-clause-held g c =
     let at = (goal.at.accept_anew-requires-clause-held g c).After-moment-at in
     subst (λ (m : ℕ). IsHeld (m / 60) (mid g at) (g.M.Medium.state c.mend.new.unit) (g.C.Chip.card c.args.card_a.now) (g.D.Chip.card c.args.card_b.now) (g.C.Chip.state c.args.card_a.now) (g.D.Chip.state c.args.card_b.now)) (sym c.begin_span.ensures.begun.next)
-    (span-held (run g at) (mid g at) c.mend.new.journal c.requires.going c.begin_span.ensures.begun (ready g at) c.begin_span.ensures.odometer)
+    (span-held c.args.rule (run g at) (mid g at) c.mend.new.journal c.requires.going c.begin_span.ensures.begun (ready g at) c.begin_span.ensures.odometer)
 
 pub accept_anew-requires-clause-going : goal.accept_anew-requires-clause-going
 accept_anew-requires-clause-going g c =
@@ -666,7 +666,7 @@ accept_anew-requires-clause-going g c =
     let kept = ap (λ (j : Notes). j.kept) c.in_ok-mend.ensures.notes in
     let early = c.requires.later in
     subst (λ (m : ℕ). IsLit (m / 60) (mid g at) (g.M.Medium.state c.mend.new.unit) (g.C.Chip.card c.args.card_a.now) (g.D.Chip.card c.args.card_b.now) (g.C.Chip.state c.args.card_a.now) (g.D.Chip.state c.args.card_b.now)) (sym c.begin_span.ensures.begun.next)
-    (span-lit (run g at) (mid g at) c.mend.new.journal c.requires.dark c.requires.going c.begin_span.ensures.begun (omega (arith, kept, early)) (ready g at))
+    (span-lit c.args.rule (run g at) (mid g at) c.mend.new.journal c.requires.dark c.requires.going c.begin_span.ensures.begun (omega (arith, kept, early)) (ready g at))
 
 pub accept_anew-requires-clause-none : goal.accept_anew-requires-clause-none
 accept_anew-requires-clause-none g c = none g (goal.at.accept_anew-requires-clause-none g c).After-moment-at
@@ -825,7 +825,7 @@ returns-in_err-accept_anew-clause-noted g c =
     record {
       reach = AtDriver (mid g (span g card));
       events = these.0;
-      are = ((c.mend.new.journal, c.begin_span.ensures.begun), sym (failed-one g c), these.1);
+      are = ((c.args.rule, c.mend.new.journal, c.begin_span.ensures.begun), sym (failed-one g c), these.1);
       notes = subst (λ (f : Bool). NotesEvents these.0 f (dev0 g (span g card)) (dev1 g card)) (fails-one g c ∙ failed-one g c) these.2;
     }
 
@@ -836,7 +836,7 @@ returns-in_err-accept_anew-2-clause-noted g c =
     record {
       reach = AtCoDriver (mid g (start g cards));
       events = these.0;
-      are = ((c.mend.new.journal, c.begin_span.ensures.begun), sym (failed-two g c), these.1);
+      are = ((c.args.rule, c.mend.new.journal, c.begin_span.ensures.begun), sym (failed-two g c), these.1);
       notes = subst (λ (f : Bool). NotesEvents these.0 f (dev0 g (start g cards)) (dev2 g cards)) (fails-two g c ∙ failed-two g c) these.2;
     }
 
@@ -847,7 +847,7 @@ returns-then-is_first-clause-noted g c =
     record {
       reach = NoneBefore (mid g (start g cards));
       events = these.0;
-      are = ((c.mend.new.journal, c.begin_span.ensures.begun), refl, none-before g c, these.1);
+      are = ((c.args.rule, c.mend.new.journal, c.begin_span.ensures.begun), refl, none-before g c, these.1);
       notes = subst (λ (f : Bool). NotesEvents these.0 f (dev0 g (start g cards)) (dev2 g cards)) (fine-first g c) these.2;
     }
 
@@ -860,7 +860,7 @@ returns-clause-noted g c =
       reach = AtGap (mid g (begin g c)) gap.0;
       events = these.0 ++ gap.1;
       are = (
-        (c.mend.new.journal, c.begin_span.ensures.begun),
+        (c.args.rule, c.mend.new.journal, c.begin_span.ensures.begun),
         some g c,
         record {
           two = two g cards;
@@ -922,7 +922,7 @@ returns-then-is_first-clause-evented g c = λ room o origin done s supply v r st
     none-woken o origin done s supply v (dev0 g at) (mended g at) r may number given c.args.journal.kept evented (quiet g at) (is g at p).2 (woken g at p e).2 (woke g at p).0 (is g at p).0 (is g at p).1 (woken g at p e).0.bare
     (two g cards) (out2 g cards) (dev2 g cards) (goes-on g cards p time well_two) (evented-on g cards p time well_two e) (ungiven_of stands_so.span) stands_so.cabin (small g at p) untold (same-noted (dev2 g cards).unit (dev2 g cards).card_a (dev2 g cards).card_b) in
     woken-on o done s (within g cards p time well_two).within.b (two g cards) (out2 g cards) (dev2 g cards) (empty g cards p time well_two e) (within g cards p time well_two) refl noted_so (limit-two g cards p time e)
-    (begun-watched o (run g at) (mid g at) (two g cards) c.mend.new.journal c.begin_span.ensures.begun limit ((same-two g cards).1 ∙ (same-one g (driver g cards)).1)) (log_of (out g at)) (began-here g cards p time well_two)
+    (begun-watched o c.args.rule (run g at) (mid g at) (two g cards) c.mend.new.journal c.begin_span.ensures.begun limit ((same-two g cards).1 ∙ (same-one g (driver g cards)).1)) (log_of (out g at)) (began-here g cards p time well_two)
 
 pub returns-clause-evented : goal.returns-clause-evented
 returns-clause-evented g c = λ room o origin done s supply v r stay may number given speed_is values evented limit time.
@@ -941,8 +941,8 @@ returns-clause-evented g c = λ room o origin done s supply v r stay may number 
     woken-ends o done s (here g c p time).within.b (empty g cards p past (fine g c) e) (is_err c.note_gap.result) (new g c) (out3 g c) (dev3 g c) (goes g c p time) noted_so
     (ap (λ (b : Beginning). b.run.unfound) (began g cards p past (fine g c)) ∙ began-unfound-two g cards p past ∙ sym (ap (λ (r : Run). r.unfound) c.note_gap.ensures.only))
     (ap (λ (b : Beginning). b.run.next) (began g cards p past (fine g c)) ∙ began-next-two g cards p past ∙ sym (ap (λ (r : Run). r.next) c.note_gap.ensures.only))
-    (ap (λ (m : Identity). m.limit) (stays g c) ∙ limit-two g cards p past e)
-    (begun-watched o (run g at) (mid g at) (new g c) c.mend.new.journal c.begin_span.ensures.begun limit (ap (λ (r : Run). r.watch) c.note_gap.ensures.only ∙ (same-two g cards).1 ∙ (same-one g (driver g cards)).1)) (log_of (out g at)) (began-here g cards p past (fine g c))
+    (ap (λ (m : UnitFacts). m.limit) (stays g c) ∙ limit-two g cards p past e)
+    (begun-watched o c.args.rule (run g at) (mid g at) (new g c) c.mend.new.journal c.begin_span.ensures.begun limit (ap (λ (r : Run). r.watch) c.note_gap.ensures.only ∙ (same-two g cards).1 ∙ (same-one g (driver g cards)).1)) (log_of (out g at)) (began-here g cards p past (fine g c))
 
 -- ---- the rings
 
@@ -1073,7 +1073,7 @@ returns-clause-cards g c = λ room o origin done s supply v r stay may number gi
     let x = here g c p time in
     let here_is : (two g cards).next ≡ s.number = x.within.next ∙ sym x.within.moment.number in
     let same_gap : gap_of c.args.journal.kept s.number ≡ gap_of c.last_kept-kept.result (two g cards).next = ap (λ (n : ℕ). gap_of n s.number) (sym c.last_kept-kept.ensures.kept) ∙ ap (gap_of c.last_kept-kept.result) (sym here_is) in
-    woken-all (is_err c.note_gap.result) o done s x.within.b.run.log (log_of (out g at)) (new g c) (log_of (out3 g c)) (dev3 g c) (began-here g cards p past (fine g c)) (ap (λ (m : Identity). m.registration) (stays g c) ∙ vehicle-two g cards o vehicle)
+    woken-all (is_err c.note_gap.result) o done s x.within.b.run.log (log_of (out g at)) (new g c) (log_of (out3 g c)) (dev3 g c) (began-here g cards p past (fine g c)) (ap (λ (m : UnitFacts). m.registration) (stays g c) ∙ vehicle-two g cards o vehicle)
     (gap-shown o done s (two g cards) (out2 g cards) (dev2 g cards) (dev3 g c) x (ungiven_of stands_so.span) stands_so.cabin (off-here g cards p past (fine g c)) (bare-here g cards p past (fine g c) e) (positive g at p) (gap_of c.last_kept-kept.result (two g cards).next)
     (λ crew. some-list o done s supply v (dev0 g at) (mended g at) r may number given c.args.journal.kept evented (quiet g at) (is g at p).2 (woken g at p e).2 x.within.b.run.log (log-here g cards p past (fine g c)) (told-before g c p time) crew ∙ ap (λ (q : Option Span). gap_list q crew) same_gap)
     (vehicle-two g cards o vehicle) (cards-here g cards p past (fine g c) speed_is vehicle shown)

@@ -47,7 +47,7 @@ use Rattle.trace_model.specs.declared.Card.TheVariants.{A, B}
 use Rattle.activity_codec.specs.declared.values.Slot.{Slot}
 use Rattle.log_model.specs.declared.lines.Break.{Break}
 use Rattle.run_outcome.specs.Lines.{Listed}
-use Rattle.unit_memory.specs.declared.format.Identity.{Identity}
+use Rattle.unit_memory.specs.declared.memory.UnitFacts.{UnitFacts}
 use Rattle.acts_rule.specs.CardNotes.{NotesOn, NotesOnCards, LeavesPlaces, on_seat, gap_on}
 use Rattle.acts_rule.proofs.CardNotes.{both-cards, on-none, on-unbegun, session-noted, both-noted, first-noted}
 use Rattle.acts_rule.proofs.CardPlaces.{places-self, leaves-then}
@@ -464,7 +464,7 @@ returns-clause-card_events g c =
     let one = c.in_ok-note_in.ensures.noted in
     let two = c.note_in-2.ensures.noted in
     let memory : between.keeper.memory ≡ run.keeper.memory = memory-noted (card_in (seat_in run.keeper.cabin.slots.seats Driver)) Driver (now_moment run) run between c.args.breaks.now c.note_in.new.breaks one.0 one.1 in
-    let seconds = subst (λ (i : Identity). NotesOnCards false between.keeper.cabin.cards new.keeper.cabin.cards (on_seat (seat_in between.keeper.cabin.slots.seats CoDriver) (card_entry c.card_gap-event.result i.registration)) m e) memory c.note_in-2.ensures.card_events in
+    let seconds = subst (λ (i : UnitFacts). NotesOnCards false between.keeper.cabin.cards new.keeper.cabin.cards (on_seat (seat_in between.keeper.cabin.slots.seats CoDriver) (card_entry c.card_gap-event.result i.registration)) m e) memory c.note_in-2.ensures.card_events in
     let noted = both-noted (ungiven_of h.span) run between new (now_moment run) (now_moment between) c.args.breaks.now c.note_in.new.breaks c.note_in-2.new.breaks one.0 two.0 h.cabin one.1 two.1 event failed d m e c.in_ok-note_in.ensures.card_events seconds in
     λ card. unit-apart card (g.M.Medium.state c.args.unit.now) V (g.C.Chip.state c.args.card_a.now) (g.D.Chip.state c.args.card_b.now)
     (λ X. NotesOn failed (session_of run.keeper.cabin.cards card) (session_of new.keeper.cabin.cards card) (gap_on (gap_of c.args.kept run.next) run.keeper.memory.registration) X (card_of e card))

@@ -17,6 +17,7 @@ use Rattle.run_keeping.proofs.CardBooked.{no-session, none-there}
 use Rattle.run_keeping.proofs.Fates.{no-lines}
 use Rattle.acts_rule.proofs.Apart.{not-both, session-back, torn-apart, noted-sizes, ready-again, session-works, fell-broken, well-broken}
 use Rattle.event_model.specs.declared.kinds.TheConstants.{CARD_FAULT}
+use Rattle.unit_memory.specs.declared.format.Identity.{Identity}
 use Rattle.unit_notes.specs.Noting.{IsEventNoted, IsNotingEvent}
 use Rattle.run_notes.specs.Entries.{entry_of}
 use Rattle.run_rule.specs.Between.{devices}
@@ -221,7 +222,7 @@ returns-then-is_err-clause-card_events g c =
     let Y = g.C.Chip.state c.note_event_on.new.card in
     let sizes = sizes-fell g c in
     let event : CardEvent = card_entry c.args.event.now run.keeper.memory.registration in
-    let same = entry-is c.args.event.now c.on_card-noted.result c.identity.result run.keeper.memory c.on_card-noted.ensures c.identity.ensures in
+    let same = entry-is c.args.event.now c.on_card-noted.result c.identity.result run.keeper.memory c.on_card-noted.ensures (ap (λ (i : Identity). i.registration) c.identity.ensures) in
     let cabin = cabin-fell g c in
     let gone : session_of c.tear.new.self.cabin.cards c.args.which ≡ None = ap (λ (b : Cabin). session_of b.cards c.args.which) cabin ∙ session-set c.args.which None cards in
     let moments = subst (λ (v : CardEvent). LeavesOnly X Y (on.IsNotingEvent c.in-Ok.app v)) same c.note_event_on.ensures.moments in
@@ -237,7 +238,7 @@ returns-clause-card_events g c =
     let Y = g.C.Chip.state c.note_event_on.new.card in
     let sizes = sizes-back g c in
     let event : CardEvent = card_entry c.args.event.now run.keeper.memory.registration in
-    let same = entry-is c.args.event.now c.on_card-noted.result c.identity.result run.keeper.memory c.on_card-noted.ensures c.identity.ensures in
+    let same = entry-is c.args.event.now c.on_card-noted.result c.identity.result run.keeper.memory c.on_card-noted.ensures (ap (λ (i : Identity). i.registration) c.identity.ensures) in
     let cause = cause-well g c in
     let cards = cards-back g c in
     let moments = subst (λ (v : CardEvent). LeavesOnly X Y (on.IsNotingEvent c.in-Ok.app v)) same c.note_event_on.ensures.moments in

@@ -1,16 +1,18 @@
 use Rattle.std.proofs.Common.{refl, arith}
-use Rattle.tacho.proofs.Endings.{ends-minutes, minutes-ends, ends-view, view-ends}
+use Rattle.tacho.specs.Read.{Prints, IsBad}
+use Rattle.tacho.proofs.Endings.{ends-minutes, minutes-ends, ends-reading, reading-ends, help-ends, version-ends, no-other-end}
 use Rattle.tacho.proofs.Services.{serve-ends}
 use Rattle.tacho.proofs.LineServices.{serve-hex-ends}
 use Rattle.tacho.proofs.Downloads.{download-ends}
+use Rattle.tacho.proofs.Upgraded.{upgrade-ends, upgrade-spares}
 use Rattle.tacho.proofs.top.perform.Goals as goal
 
 pub returns-in-Minutes-clause-ends : goal.returns-in-Minutes-clause-ends
 returns-in-Minutes-clause-ends g c =
     let e = c.print_minutes.ensures in
     rw (c.in-Minutes.is, c.after.ensures)
-    (minutes-ends _ _ c.print_minutes.result
-    (ends-minutes _ _ c.print_minutes.result e.printed e.read e.bad_trace e.too_long e.read_fault e.write_fault e.prints e.finds_bad_trace e.finds_too_long e.front e.other)
+    (minutes-ends c.in-Minutes.rule _ _ c.print_minutes.result
+    (ends-minutes c.in-Minutes.rule _ _ c.print_minutes.result e.printed e.read e.bad_trace e.too_long e.read_fault e.write_fault e.prints e.finds_bad_trace e.finds_too_long e.front e.other)
     e.read_fault e.write_fault e.counts c.nothing-nothing.result c.nothing-nothing.ensures)
 
 pub returns-in-Serve-clause-ends : goal.returns-in-Serve-clause-ends
@@ -31,12 +33,18 @@ returns-in-ServeHex-clause-ends g c =
 pub returns-in-ServeHex-clause-spares : goal.returns-in-ServeHex-clause-spares
 returns-in-ServeHex-clause-spares g c = rw c.in-ServeHex.is (record { others = (refl, refl); cards = λ is. absurd (cc); before = λ none. absurd none; nothing = λ none. absurd none; unprinted = λ none. absurd none })
 
-pub returns-in-View-clause-ends : goal.returns-in-View-clause-ends
-returns-in-View-clause-ends g c =
-    let e = c.print_view.ensures in
-    rw (c.in-View.is, c.after-in-View.ensures)
-    (view-ends c.in-View.last _ _ c.print_view.result
-    (ends-view c.in-View.last _ _ c.print_view.result e.printed e.read e.bad_file e.too_long e.finds_too_long e.read_fault e.write_fault e.front e.other)
+pub returns-in-Serve-clause-in_time : goal.returns-in-Serve-clause-in_time
+returns-in-Serve-clause-in_time g c = rw c.in-Serve.is c.serve.ensures.in_time
+
+pub returns-in-ServeHex-clause-in_time : goal.returns-in-ServeHex-clause-in_time
+returns-in-ServeHex-clause-in_time g c = rw c.in-ServeHex.is c.serve_lines.ensures.in_time
+
+pub returns-in-Read-clause-ends : goal.returns-in-Read-clause-ends
+returns-in-Read-clause-ends g c =
+    let e = c.print_reading.ensures in
+    rw (c.in-Read.is, c.after-in-Read.ensures)
+    (reading-ends c.in-Read.reading _ _ c.print_reading.result
+    (ends-reading (Prints c.in-Read.reading) (IsBad c.in-Read.reading) _ _ c.print_reading.result e.printed e.read e.bad_file e.too_long e.finds_too_long e.read_fault e.write_fault e.front e.other)
     e.read_fault e.write_fault e.counts c.nothing-nothing.result c.nothing-nothing.ensures)
 
 pub returns-in-Download-clause-ends : goal.returns-in-Download-clause-ends
@@ -47,3 +55,42 @@ returns-in-Download-clause-ends g c =
 
 pub returns-in-Download-clause-spares : goal.returns-in-Download-clause-spares
 returns-in-Download-clause-spares g c = rw c.in-Download.is (record { others = (refl, refl, refl); cards = λ is. absurd (cc); before = λ none. absurd none; nothing = λ none. absurd none; unprinted = λ none. absurd none })
+
+pub returns-in-Upgrade-clause-ends : goal.returns-in-Upgrade-clause-ends
+returns-in-Upgrade-clause-ends g c =
+    let e = c.upgrade_unit.ensures in
+    rw (c.in-Upgrade.is, c.after-in-Upgrade.ensures)
+    (upgrade-ends _ _ c.nothing-nothing.result c.upgrade_unit.result e.ends c.nothing-nothing.ensures (omega arith) e.counts)
+
+pub returns-in-Upgrade-clause-spares : goal.returns-in-Upgrade-clause-spares
+returns-in-Upgrade-clause-spares g c =
+    let e = c.upgrade_unit.ensures in
+    rw (c.in-Upgrade.is, c.after-in-Upgrade.ensures) (upgrade-spares c.upgrade_unit.result e.ends refl refl refl e.nothing)
+
+pub returns-in-Help-clause-ends : goal.returns-in-Help-clause-ends
+returns-in-Help-clause-ends g c =
+    rw (c.in-Help.is, c.after-in-Help.ensures)
+    (help-ends _ _ c.print_help.result c.print_help.ensures.ends (omega arith) c.print_help.ensures.counts c.nothing-nothing.result c.nothing-nothing.ensures)
+
+pub returns-in-Help-clause-spares : goal.returns-in-Help-clause-spares
+returns-in-Help-clause-spares g c = rw (c.in-Help.is, c.after-in-Help.ensures) (record {
+  others = (refl, refl, refl, refl);
+  cards = λ is. absurd (cc);
+  before = λ first is. (refl, refl, refl);
+  nothing = λ first done wrote. absurd (no-other-end _ c.print_help.ensures.ends.ends done wrote);
+  unprinted = λ none. absurd none;
+})
+
+pub returns-in-Version-clause-ends : goal.returns-in-Version-clause-ends
+returns-in-Version-clause-ends g c =
+    rw (c.in-Version.is, c.after-in-Version.ensures)
+    (version-ends _ _ c.print_version.result c.print_version.ensures.ends (omega arith) c.print_version.ensures.counts c.nothing-nothing.result c.nothing-nothing.ensures)
+
+pub returns-in-Version-clause-spares : goal.returns-in-Version-clause-spares
+returns-in-Version-clause-spares g c = rw (c.in-Version.is, c.after-in-Version.ensures) (record {
+  others = (refl, refl, refl, refl);
+  cards = λ is. absurd (cc);
+  before = λ first is. (refl, refl, refl);
+  nothing = λ first done wrote. absurd (no-other-end _ c.print_version.ensures.ends.ends done wrote);
+  unprinted = λ none. absurd none;
+})

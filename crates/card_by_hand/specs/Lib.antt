@@ -1,0 +1,4 @@
+pub mod Clear
+pub mod Over
+pub mod Wider
+pub mod Listed

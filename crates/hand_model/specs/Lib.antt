@@ -1,0 +1,4 @@
+pub mod Manual
+pub mod ByHand
+pub mod Counted
+pub mod Holding

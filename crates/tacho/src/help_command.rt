@@ -1,0 +1,76 @@
+//! The forms `help` and `--version`: a text that is always the same.
+ghost use Rattle.std.specs.Prelude.{◌≡◌, ◌≤◌};
+ghost use Rattle.tacho.specs.End.{end_of};
+ghost use Rattle.tacho.specs.Help.{help_text, version_text, EndsText};
+
+use crate::end::Fault;
+use tach_media::{Sink, put_all};
+
+/// What `help` prints: the forms, a line each, and one example.
+const HELP: &[u8] = b"\
+tacho minutes < TRACE                    print the minutes of a trace, with no card
+tacho minutes 2009 < TRACE               print them by the rule as amended in 2009
+tacho record < TRACE                     record a trace on unit.img, card-a.img and card-b.img
+tacho serve                              answer a downloader's frames
+tacho serve --hex                        answer frames that are lines of hexadecimal digits
+tacho download > FILE                    write the unit's file
+tacho card a|b > FILE                    write a card's file
+tacho view < FILE                        print the minutes of a unit's file, or a card's entries
+tacho view last N < FILE                 print its last N days (1 to 366)
+tacho match < FILES                      say whether a card's file, behind a unit's, stands in that
+tacho match all < FILES                  print each difference, and the counts
+tacho format unit N PLATE VIN LIMIT      make a new unit in unit.img: what it held is lost
+tacho format a|b N NUMBER SURNAME FIRST  make a new card in card-a.img or card-b.img, likewise
+tacho upgrade                            give the unit the amended rule of minutes, for good
+tacho demo X                             record forty days drawn from X on a new unit and card a
+tacho help, tacho --help                 print these lines
+tacho --version                          print the version, and that of the toolchain
+Example: (echo start 1267401600; echo run 3600 50) | tacho minutes
+";
+
+/// What `--version` prints: the version, and that of the toolchain which proves it.
+const VERSION: &[u8] = b"tacho 1.0.0
+rattle-kit-13f logic dac8208d650f15bf
+";
+
+/// The form `help`.
+pub fn print_help<K: Sink>(sink: &mut K) -> Result<(), Fault>
+    ensures ends { EndsText help_text (record { held = K.held sink.old; faults = K.faults sink.old })
+        (record { held = K.held sink.new; faults = K.faults sink.new }) (end_of result) }
+    ensures counts { K.faults sink.old ≤ K.faults sink.new }
+{
+    print_text(help_text(), sink)
+}
+
+/// The form `--version`.
+pub fn print_version<K: Sink>(sink: &mut K) -> Result<(), Fault>
+    ensures ends { EndsText version_text (record { held = K.held sink.old; faults = K.faults sink.old })
+        (record { held = K.held sink.new; faults = K.faults sink.new }) (end_of result) }
+    ensures counts { K.faults sink.old ≤ K.faults sink.new }
+{
+    print_text(version_text(), sink)
+}
+
+/// Prints a text.
+fn print_text<K: Sink>(text: &[u8], sink: &mut K) -> Result<(), Fault>
+    ensures ends { EndsText text.now (record { held = K.held sink.old; faults = K.faults sink.old })
+        (record { held = K.held sink.new; faults = K.faults sink.new }) (end_of result) }
+    ensures counts { K.faults sink.old ≤ K.faults sink.new }
+{
+    if put_all(sink, text).is_err() {
+        return Err(Fault::WriteFault);
+    }
+    Ok(())
+}
+
+fn help_text() -> &'static [u8]
+    ensures { result.now ≡ help_text }
+{
+    HELP
+}
+
+fn version_text() -> &'static [u8]
+    ensures { result.now ≡ version_text }
+{
+    VERSION
+}

@@ -1,6 +1,0 @@
-use Rattle.std.proofs.Common.{sym}
-use Rattle.std.proofs.lemmas.List.{length-replicate}
-use Rattle.unit_notes.proofs.zeros.ZerosMedium.size.Goals as goal
-
-pub returns : goal.returns
-returns c = sym (length-replicate c.args.self.now.size 0)
