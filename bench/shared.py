@@ -7,6 +7,7 @@ import shutil
 import subprocess
 import sys
 import tempfile
+import time
 
 TOP = os.path.dirname(os.path.dirname(os.path.realpath(__file__)))
 PROGRAM = os.path.join(TOP, "release", "tacho")
@@ -25,6 +26,29 @@ def run(words, folder, source=b"", before=(), seconds=120, **more):
     """Runs the program behind the words `before`: its status, what it printed, and its line on standard error."""
     done = subprocess.run([*before, PROGRAM, *words], cwd=folder, input=source, capture_output=True, check=False, timeout=seconds, **more)
     return done.returncode, done.stdout, done.stderr.decode(errors="replace").strip()
+
+
+class Measured:
+    """A run of a program: its status, what it printed, the seconds that it took and those of the processor, its peak memory in KiB, and how
+    many calls that read and that write it made, as Linux counts them."""
+
+    def __init__(self, program, words, folder, source):
+        with tempfile.TemporaryFile(dir=MEMORY) as held, tempfile.TemporaryFile(dir=MEMORY) as printed:
+            held.write(source)
+            held.seek(0)
+            before = time.perf_counter()
+            # pylint: disable-next=consider-using-with
+            running = subprocess.Popen([program, *words], stdin=held, stdout=printed, cwd=folder)
+            os.waitid(os.P_PID, running.pid, os.WEXITED | os.WNOWAIT)  # its counts are there until it is waited for
+            self.seconds = time.perf_counter() - before
+            with open(f"/proc/{running.pid}/io", encoding="ascii") as counts:
+                calls = dict(line.split(": ") for line in counts.read().splitlines())
+            _, status, usage = os.wait4(running.pid, 0)
+            running.returncode = self.status = os.waitstatus_to_exitcode(status)
+            printed.seek(0)
+            self.printed = printed.read()
+        self.reads, self.writes = int(calls["syscr"]), int(calls["syscw"])
+        self.user, self.system, self.peak = usage.ru_utime, usage.ru_stime, usage.ru_maxrss
 
 
 def room():
