@@ -1,6 +1,6 @@
 -- What the commands `serve` and `serve --hex` do: the unit answers the bytes of the source on the link, or those that its lines spell.
-use Rattle.std.specs.Prelude.{◌≡◌, ℕ, Some, IfSome, Result, Ok, Err}
-use Rattle.std.specs.Io.KnownBytes.{IsAtEnd}
+use Rattle.std.specs.Prelude.{◌≡◌, ℕ, ⊤, List, Option, Some, IfSome, Result, Ok, Err}
+use Rattle.std.specs.Io.KnownBytes.{Appends, IsAtEnd}
 use Rattle.run_model.specs.declared.Device.TheVariants.{Unit as OfUnit}
 use Rattle.message_model.specs.Sending.{content_sent}
 use Rattle.unit_model.specs.Decoding.{first_bad_place}
@@ -9,8 +9,11 @@ use Rattle.link_service.specs.declared.fault.ServeFault.{ServeFault}
 use Rattle.link_service.specs.declared.fault.ServeFault.TheVariants as service
 use Rattle.link_service.specs.declared.fault.LinesFault.{LinesFault}
 use Rattle.link_service.specs.declared.fault.LinesFault.TheVariants as lines
-use Rattle.link_service.specs.Served.{IsServed}
-use Rattle.link_service.specs.ServedLines.{AreServed}
+use Rattle.link_service.specs.Served.{IsServed, answers_to}
+use Rattle.link_service.specs.ServedLines.{AreServed, WholeAnswered}
+use Rattle.link_service.specs.Asked.{Asking, AnswersInTime}
+use Rattle.tacho.specs.declared.forms.Form.{Form}
+use Rattle.tacho.specs.declared.forms.Form.TheVariants.{Serve, ServeHex}
 use Rattle.tacho.specs.declared.end.Fault.{Fault}
 use Rattle.tacho.specs.declared.end.Fault.TheVariants.{Done, BadTrace, TooLong, BadUnit, ReadFault, WriteFault, MediumFault, Memory}
 use Rattle.tacho.specs.End.{is_medium_fault}
@@ -60,3 +63,15 @@ pub record EndsServeHex (old new : Outside) (fault : Fault) : Type 0 where
   pub read : fault ≡ Done → IsAtEnd new.source.left
   pub bad_unit : (place : ℕ) → fault ≡ BadUnit place → IfSome old.unit.image (λ x. first_bad_place x ≡ Some place)
   pub unit : ReadsIfAny old.unit new.unit (is_medium_fault fault)
+
+-- WHAT A LOADER HAS SEEN at each read of its bytes, where it tells: over a unit that tells its image, the answers to all that it had sent;
+-- of lines, to all that had ended. Of other forms nothing is said.
+abbrev pub FormInTime : Form → (old new : Outside) → (before now : Option (List Asking)) → Type 0
+FormInTime Serve old new before now = IfSome old.unit.image (λ x. AnswersInTime (λ came held sunk. Appends held sunk (answers_to (content_sent x) came))
+    old.source.left new.source.left old.sink.held before now)
+FormInTime ServeHex old new before now = IfSome old.unit.image (λ x. AnswersInTime (WholeAnswered (content_sent x)) old.source.left new.source.left old.sink.held before now)
+FormInTime form old new before now = ⊤
+
+-- a loader that waits for answers has had them, where the words ask for a service
+abbrev pub AnswersWaiting : Option Form → (old new : Outside) → (before now : Option (List Asking)) → Type 0
+AnswersWaiting asked old new before now = IfSome asked (λ form. FormInTime form old new before now)

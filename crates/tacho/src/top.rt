@@ -5,6 +5,7 @@ ghost use Rattle.tacho.specs.Outside.{outside};
 ghost use Rattle.tacho.specs.declared.forms.Form.TheVariants.{Record as FormOfRecord, FormatCard as FormOfFormat, CardFile as FormOfCard, Demo as FormOfDemo};
 ghost use Rattle.tacho.specs.Outcomes.{IsEmpty, IsToldForUnit};
 ghost use Rattle.tacho.specs.Program.{AreDevices, Ends, Spares};
+ghost use Rattle.tacho.specs.Serving.{AnswersWaiting};
 
 use crate::card_command::card_end;
 use crate::demo_command::demo;
@@ -20,7 +21,7 @@ use crate::view_command::print_view;
 use crate::words::Words;
 use card_download::write_card_file;
 use card_files::CardIdentity;
-use link_service::{serve, serve_lines};
+use link_service::{Peer, serve, serve_lines};
 use run_model::{Card, Device};
 use run_outcome::Outcome;
 use std::alloc::Global;
@@ -42,7 +43,7 @@ use unit_download::{Wire, download};
 /// `format a` and `format b` issue the card anew, of the largest sizes, `format unit` makes the unit new; they write
 /// `formatted` to the sink. No other device is used than the form's.
 /// `help` and `--help` write the forms to the sink, a line each, and `--version` the version.
-pub fn tacho<S: Source, K: Sink, U: Medium, C: Chip>(
+pub fn tacho<S: Peer<K>, K: Sink, U: Medium, C: Chip>(
     alloc: Global,
     words: &Words,
     source: &mut S,
@@ -65,6 +66,11 @@ pub fn tacho<S: Source, K: Sink, U: Medium, C: Chip>(
     // the sink as it was where a field is named.
     ensures spares { Spares (form_of words.now) result.fault (IsToldForUnit (S.left source.old))
         (source.new ≡ source.old) (sink.new ≡ sink.old) (unit.new ≡ unit.old) (card_a.new ≡ card_a.old) (card_b.new ≡ card_b.old) }
+
+    // A loader that waits for the answers to what it has sent has them before more is read.
+    ensures in_time { AnswersWaiting (form_of words.now)
+        (outside S.left S.faults K.held K.faults U.state C.state C.card source.old sink.old unit.old card_a.old card_b.old)
+        (outside S.left S.faults K.held K.faults U.state C.state C.card source.new sink.new unit.new card_a.new card_b.new) (S.asked source.old) (S.asked source.new) }
 {
     match form_of(words) {
         None => Ended::of(alloc, nothing(alloc), Fault::Usage),
@@ -73,7 +79,7 @@ pub fn tacho<S: Source, K: Sink, U: Medium, C: Chip>(
 }
 
 /// Does what a form of the words asks for.
-fn perform<S: Source, K: Sink, U: Medium, C: Chip>(
+fn perform<S: Peer<K>, K: Sink, U: Medium, C: Chip>(
     alloc: Global,
     form: Form,
     source: &mut S,
@@ -88,6 +94,9 @@ fn perform<S: Source, K: Sink, U: Medium, C: Chip>(
         (outside S.left S.faults K.held K.faults U.state C.state C.card source.new sink.new unit.new card_a.new card_b.new) result }
     ensures spares { Spares (Some form) result.fault (IsToldForUnit (S.left source.old))
         (source.new ≡ source.old) (sink.new ≡ sink.old) (unit.new ≡ unit.old) (card_a.new ≡ card_a.old) (card_b.new ≡ card_b.old) }
+    ensures in_time { AnswersWaiting (Some form)
+        (outside S.left S.faults K.held K.faults U.state C.state C.card source.old sink.old unit.old card_a.old card_b.old)
+        (outside S.left S.faults K.held K.faults U.state C.state C.card source.new sink.new unit.new card_a.new card_b.new) (S.asked source.old) (S.asked source.new) }
 {
     let nothing = nothing(alloc);
     match form {

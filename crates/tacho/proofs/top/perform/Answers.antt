@@ -31,6 +31,12 @@ returns-in-ServeHex-clause-ends g c =
 pub returns-in-ServeHex-clause-spares : goal.returns-in-ServeHex-clause-spares
 returns-in-ServeHex-clause-spares g c = rw c.in-ServeHex.is (record { others = (refl, refl); cards = λ is. absurd (cc); before = λ none. absurd none; nothing = λ none. absurd none; unprinted = λ none. absurd none })
 
+pub returns-in-Serve-clause-in_time : goal.returns-in-Serve-clause-in_time
+returns-in-Serve-clause-in_time g c = rw c.in-Serve.is c.serve.ensures.in_time
+
+pub returns-in-ServeHex-clause-in_time : goal.returns-in-ServeHex-clause-in_time
+returns-in-ServeHex-clause-in_time g c = rw c.in-ServeHex.is c.serve_lines.ensures.in_time
+
 pub returns-in-View-clause-ends : goal.returns-in-View-clause-ends
 returns-in-View-clause-ends g c =
     let e = c.print_view.ensures in
