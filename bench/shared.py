@@ -22,7 +22,7 @@ LINE = re.compile(r"(\d+-\d+-\d+) (\d+):(\d+)-(\d+):(\d+) (.*)")
 MINUTES_OF_DAY = 1440
 
 
-def run(words, folder, source=b"", before=(), seconds=120, **more):
+def run(words, folder, source=b"", before=(), seconds=600, **more):
     """Runs the program behind the words `before`: its status, what it printed, and its line on standard error."""
     done = subprocess.run([*before, PROGRAM, *words], cwd=folder, input=source, capture_output=True, check=False, timeout=seconds, **more)
     return done.returncode, done.stdout, done.stderr.decode(errors="replace").strip()
