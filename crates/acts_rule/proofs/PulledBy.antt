@@ -197,8 +197,8 @@ module _ (c quiet : Course) (h : IsAlike c quiet) where
       ∙ ap (λ (b : Bool). cond (is_some (in_slot c.slots slot)) (Some (Occupied slot)) (cond b (Some (Elsewhere card)) None)) (holds-alike (other_slot slot) card)
   refusal-alike speed (Withdraw slot) other = ap (λ (b : Bool). cond (not b) (Some (Empty slot)) (cond (nat_lt 0 speed) (Some (Moving speed)) None)) (some-alike slot)
   refusal-alike speed (Tear slot) other = ap (λ (b : Bool). cond b None (Some (Empty slot))) (some-alike slot)
-  refusal-alike speed (Place slot ending country region) other = absurd (cc)
-  refusal-alike speed (Manual slot pick minute) other = absurd (cc)
+  refusal-alike speed (Place slot ending country region) other = absurd (let wrong : true ≡ false = other in cc)
+  refusal-alike speed (Manual slot pick minute) other = absurd (let wrong : true ≡ false = other in cc)
 
   answered-alike : (n : ℕ) (r : Option SlotFault) (a : Action) → IsAlike (answered n r a c) (answered n r a quiet)
   answered-alike n (Some fault) a = same-alike (answered n (Some fault) a c) (answered n (Some fault) a quiet) refl refl refl refl refl
