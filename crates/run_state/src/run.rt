@@ -10,7 +10,7 @@ ghost use Rattle.run_keeping.specs.Keeping.{with_lines};
 ghost use Rattle.run_keeping.specs.Minutes.{odometer_by};
 
 use log_model::{Refused, SlotFault};
-use minute_rules::{Minutes, Rule};
+use minute_rules::Minutes;
 use run_crew::Cabin;
 use run_keeping::{Keeper, Moment, odometer_after};
 use run_notes::Watch;

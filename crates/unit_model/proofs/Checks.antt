@@ -1,5 +1,5 @@
 -- An image decodes where each of its parts does.
-use Rattle.std.proofs.Common.{◌≡◌, ⊎_elim, ℕ, zero, suc, ◌+◌, ◌/◌, ◌<◌, ◌≤◌, Bool, true, false, List, ◌∷◌, ◌++◌, map, refl, sym, ◌∙◌, ap, arith}
+use Rattle.std.proofs.Common.{◌≡◌, ⊎_elim, ℕ, zero, suc, ◌+◌, ◌/◌, ◌<◌, ◌≤◌, Bool, true, false, List, ◌∷◌, ◌++◌, map, refl, sym, subst, ◌∙◌, ap, arith}
 use Rattle.std.specs.Prelude.{◌==◌, ◌&&◌, ◌||◌, nat_le, nat_lt, flat_map}
 use Rattle.std.specs.List.{list_all, range_with_len}
 use Rattle.std.proofs.lemmas.Bool.{cases_lt}
@@ -239,9 +239,9 @@ pub rings_still : (x c : List ℕ) → number_at c INSERTIONS.place 4 ≡ number
 rings_still x c insertions places speeds all =
     let ok = rings_split x all in
     rings_join c (record {
-      insertions = omega (arith, insertions, ok.insertions);
-      places = omega (arith, places, ok.places);
-      speeds = omega (arith, speeds, ok.speeds);
+      insertions = subst (λ (n : ℕ). n < INSERTION_SLOTS) (sym insertions) ok.insertions;
+      places = subst (λ (n : ℕ). n < PLACE_SLOTS) (sym places) ok.places;
+      speeds = subst (λ (n : ℕ). n < SPEED_SLOTS) (sym speeds) ok.speeds;
     })
 
 -- what decodes still does where its parts do
