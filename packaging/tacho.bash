@@ -1,0 +1,15 @@
+# Completion of the words of tacho for bash.
+
+_tacho() {
+  local word=${COMP_WORDS[COMP_CWORD]} words=
+  case "$COMP_CWORD ${COMP_WORDS[*]:1:COMP_CWORD-1}" in
+    '1 ') words='minutes record serve download card view format demo help --help --version' ;;
+    '2 serve') words=--hex ;;
+    '2 card') words='a b' ;;
+    '2 view') words=last ;;
+    '2 format') words='unit a b' ;;
+  esac
+  mapfile -t COMPREPLY < <(compgen -W "$words" -- "$word")
+}
+
+complete -F _tacho tacho
