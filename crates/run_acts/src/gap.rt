@@ -27,13 +27,13 @@ ghost use Rattle.acts_rule.specs.CardNotes.{NotesOn, NotesOnCards, LeavesPlaces,
 ghost use Rattle.run_notes.specs.Entries.{card_entry};
 ghost use Rattle.acts_rule.specs.Noting.{GapReach, IsGapNoted, IsNoteRecorded, NotesFall, AreGapEvents};
 
+use run_state::Run;
 use activity_codec::Slot;
 use card_calls::note_event_on;
 use event_rules::power_gap;
 use log_model::Break;
 use run_notes::{card_gap, on_card};
 use run_outcome::Lines;
-use run_state::Run;
 use tach_media::{Chip, Failed, Medium};
 use trace_model::Card;
 use unit_notes::{UnitEvent, UnitNotes};

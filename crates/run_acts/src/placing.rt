@@ -30,12 +30,12 @@ ghost use Rattle.run_state.specs.Going.{first_second, end_of_seconds, IsHeld, Is
 ghost use Rattle.acts_rule.specs.Room.{falls_of};
 ghost use Rattle.acts_rule.specs.Acting.{IsNotedOn, IsPlaced, falls_by};
 
+use run_state::Run;
 use activity_codec::Slot;
 use card_calls::note_place_on;
 use log_model::Break;
 use run_keeping::Moment;
 use run_outcome::Lines;
-use run_state::Run;
 use tach_media::{Chip, Failed, Medium};
 use tacho_types::{Nation, PlaceEntry, TimeReal};
 use trace_model::Card;

@@ -22,9 +22,9 @@ ghost use Rattle.acts_rule.specs.Evented.{EventsSettling};
 ghost use Rattle.acts_rule.specs.RunCards.{CardsSettling, PlacesSettling};
 ghost use Rattle.acts_rule.specs.Devices.{AreLeftMore};
 
+use run_state::Run;
 use run_keeping::Moment;
 use run_outcome::Outcome;
-use run_state::Run;
 use tach_media::{Chip, Failed, Medium};
 
 /// The minutes before that of the next second are decided and kept.

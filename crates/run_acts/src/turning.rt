@@ -28,10 +28,10 @@ ghost use Rattle.run_outcome.specs.Broken.{BreaksDown};
 ghost use Rattle.run_rule.specs.Between.{devices};
 
 use crate::feeding::feed;
+use run_state::Run;
 use minute_rules::Minute;
 use run_keeping::Moment;
 use run_outcome::Outcome;
-use run_state::Run;
 use tach_media::{Chip, Failed, Medium};
 
 /// So many seconds of one minute, the last of which has so many actions, and the keeping of what they decide.

@@ -34,13 +34,13 @@ ghost use Rattle.acts_rule.specs.RunRinged.{RingsWithdrawal};
 ghost use Rattle.acts_rule.specs.RunCards.{CardsWithdrawal};
 ghost use Rattle.acts_rule.specs.CardWrites.{ShutsSo, WithdrawsShut};
 
+use run_state::Run;
 use crate::settling::settle;
 use activity_codec::Slot;
 use device_steps::leave;
 use log_model::Break;
 use run_keeping::Moment;
 use run_outcome::{Lines, Outcome};
-use run_state::Run;
 use tach_media::{Chip, Failed, Medium};
 use tacho_types::TimeReal;
 use trace_model::Card;
