@@ -6,9 +6,9 @@ use Rattle.std.proofs.lemmas.List.{take_more, get_or-drop}
 use Rattle.std.proofs.lemmas.Option.{slice_get_within, get_or_from_slice_get}
 use Rattle.trace_model.specs.declared.Item.{Item}
 use Rattle.run_outcome.specs.declared.outcome.Outcome.{Outcome}
-use Rattle.run_state.specs.declared.run.Run.{Run}
-use Rattle.run_state.specs.Power.{is_lit}
-use Rattle.run_state.specs.Going.{largest_number}
+use Rattle.run_acts.specs.declared.run.Run.{Run}
+use Rattle.run_acts.specs.Power.{is_lit}
+use Rattle.run_acts.specs.Going.{largest_number}
 use Rattle.recorder_rule.specs.Items.{between}
 use Rattle.recorder_rule.specs.Acting.{IsItemActed, AreActed}
 

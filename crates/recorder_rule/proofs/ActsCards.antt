@@ -26,22 +26,22 @@ use Rattle.run_keeping.specs.Keeping.{with_lines}
 use Rattle.run_outcome.specs.declared.outcome.Outcome.{Outcome}
 use Rattle.run_recorded.specs.Origin.{Origin}
 use Rattle.run_within.specs.Within.{Beginning}
-use Rattle.run_state.specs.declared.run.Run.{Run}
-use Rattle.acts_rule.specs.Acting.{pulled_breaks}
-use Rattle.acts_rule.specs.Recording.{log_of, values_of, RunWithin, RunGoesOn, IsNow}
-use Rattle.acts_rule.specs.RunCards.{CardsBehind, CardsIn, CardsAction}
+use Rattle.run_acts.specs.declared.run.Run.{Run}
+use Rattle.run_acts.specs.Acting.{pulled_breaks}
+use Rattle.run_acts.specs.Recording.{log_of, values_of, RunWithin, RunGoesOn, IsNow}
+use Rattle.run_acts.specs.RunCards.{CardsBehind, CardsIn, CardsAction}
 use Rattle.unit_course.specs.Lines.{cut_at}
 use Rattle.run_ringed.specs.SoFar.{GoesBehind}
-use Rattle.acts_rule.specs.RunRinged.{with_cut}
-use Rattle.acts_rule.proofs.Asked.{pulls-one}
-use Rattle.acts_rule.proofs.RingedSecond.{cut-is, here-append, power-here}
-use Rattle.acts_rule.proofs.CardEnds.{IsLater, ends-shown, cut-short}
-use Rattle.acts_rule.proofs.CardTurn.{lines-later}
-use Rattle.acts_rule.proofs.CardSecond.{quiet-shown, quiet-action}
-use Rattle.acts_rule.proofs.CardShown.{FindsStill}
-use Rattle.acts_rule.proofs.CardUses.{FoundTo, still-found}
-use Rattle.acts_rule.proofs.CardStays.{shows-self}
-use Rattle.acts_rule.proofs.CardActs.{quiet-goes}
+use Rattle.run_acts.specs.RunRinged.{with_cut}
+use Rattle.run_acts.proofs.Asked.{pulls-one}
+use Rattle.run_acts.proofs.RingedSecond.{cut-is, here-append, power-here}
+use Rattle.run_acts.proofs.CardEnds.{IsLater, ends-shown, cut-short}
+use Rattle.run_acts.proofs.CardTurn.{lines-later}
+use Rattle.run_acts.proofs.CardSecond.{quiet-shown, quiet-action}
+use Rattle.run_acts.proofs.CardShown.{FindsStill}
+use Rattle.run_acts.proofs.CardUses.{FoundTo, still-found}
+use Rattle.run_acts.proofs.CardStays.{shows-self}
+use Rattle.run_acts.proofs.CardActs.{quiet-goes}
 use Rattle.recorder_rule.proofs.ActsRecorded.{refuses}
 use Rattle.recorder_rule.proofs.RingsHeld.{behind-at, goes-refused, goes-torn}
 use Rattle.recorder_rule.proofs.CardsHeld.{to-began, to-log, first-are}

@@ -36,17 +36,17 @@ use Rattle.run_evented.specs.SoFar.{EventedNow}
 use Rattle.run_evented.specs.Uses.{FindsNone}
 use Rattle.run_evented.proofs.Adding.{call-notes}
 use Rattle.run_evented.proofs.Passing.{refusal-adds, pull-adds}
-use Rattle.run_state.specs.declared.run.Run.{Run}
-use Rattle.run_state.specs.Power.{is_lit, cut_run}
-use Rattle.acts_rule.specs.Acting.{pulled_run, pulled_breaks}
-use Rattle.acts_rule.specs.Recording.{log_of, values_of, RunCut, IsNow}
-use Rattle.acts_rule.specs.Evented.{WithinEvented, CutEvented, InSecondEventedBy, InSecondEvented, EventsGoOn, EventsAction, RunWatches, IsWatching}
-use Rattle.acts_rule.proofs.NotedEvents.{same-says}
-use Rattle.acts_rule.proofs.FallEvented.{begins-now}
-use Rattle.acts_rule.proofs.Asked.{pulls-one}
-use Rattle.acts_rule.proofs.CardUses.{still-found}
-use Rattle.acts_rule.proofs.NotesThen.{torn-same}
-use Rattle.acts_rule.proofs.RingedSecond.{power-here}
+use Rattle.run_acts.specs.declared.run.Run.{Run}
+use Rattle.run_acts.specs.Power.{is_lit, cut_run}
+use Rattle.run_acts.specs.Acting.{pulled_run, pulled_breaks}
+use Rattle.run_acts.specs.Recording.{log_of, values_of, RunCut, IsNow}
+use Rattle.run_acts.specs.Evented.{WithinEvented, CutEvented, InSecondEventedBy, InSecondEvented, EventsGoOn, EventsAction, RunWatches, IsWatching}
+use Rattle.run_acts.proofs.NotedEvents.{same-says}
+use Rattle.run_acts.proofs.FallEvented.{begins-now}
+use Rattle.run_acts.proofs.Asked.{pulls-one}
+use Rattle.run_acts.proofs.CardUses.{still-found}
+use Rattle.run_acts.proofs.NotesThen.{torn-same}
+use Rattle.run_acts.proofs.RingedSecond.{power-here}
 use Rattle.recorder_rule.proofs.ActsRecorded.{refuses, refused}
 use Rattle.recorder_rule.proofs.Staying.{StaysWatched}
 

@@ -26,18 +26,18 @@ use Rattle.run_within.specs.Recorded.{Values, Recorded}
 use Rattle.run_within.specs.Within.{Beginning, course_in, told_before, cut_values, passed_values}
 use Rattle.run_within.proofs.Acting.{refusal-recorded, selection-recorded}
 use Rattle.run_within.proofs.Cutting.{cut-recorded, recounted}
-use Rattle.run_state.specs.declared.run.Run.{Run}
-use Rattle.run_state.specs.Power.{is_lit, cut_run}
-use Rattle.acts_rule.specs.Recording.{log_of, values_of, IsOrigin, RunWithin, RunCut, InSecondBy, InSecond, RunFails, RunGoesOn, IsNow}
+use Rattle.run_acts.specs.declared.run.Run.{Run}
+use Rattle.run_acts.specs.Power.{is_lit, cut_run}
+use Rattle.run_acts.specs.Recording.{log_of, values_of, IsOrigin, RunWithin, RunCut, InSecondBy, InSecond, RunFails, RunGoesOn, IsNow}
 use Rattle.recorder_rule.specs.Acting.{IsSelected}
 use Rattle.recorder_rule.specs.Recorded.{Inside, ActsBy}
 use Rattle.log_model.specs.declared.lines.Refused.{Refused}
 use Rattle.run_course.specs.Moments.{and_refused}
-use Rattle.acts_rule.specs.Closings.{notes_within}
-use Rattle.acts_rule.specs.Truths.{truths_within, marked}
-use Rattle.acts_rule.specs.Stays.{AllStay}
-use Rattle.acts_rule.proofs.AllStay.{all-noted, log-self, no-cut}
-use Rattle.acts_rule.proofs.NotesThen.{select-now, refuse-now}
+use Rattle.run_acts.specs.Closings.{notes_within}
+use Rattle.run_acts.specs.Truths.{truths_within, marked}
+use Rattle.run_acts.specs.Stays.{AllStay}
+use Rattle.run_acts.proofs.AllStay.{all-noted, log-self, no-cut}
+use Rattle.run_acts.proofs.NotesThen.{select-now, refuse-now}
 
 -- ---- with power, or cut
 

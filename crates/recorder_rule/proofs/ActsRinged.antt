@@ -24,7 +24,7 @@ use Rattle.run_rings.specs.Notes.{NotesMore, course_behind}
 use Rattle.run_rings.specs.Spans.{with_second}
 use Rattle.run_rings.proofs.Actions.{selections, pulls, refusals}
 use Rattle.run_rings.proofs.Same.{rings-left}
-use Rattle.acts_rule.proofs.NotesThen.{behind-refused}
+use Rattle.run_acts.proofs.NotesThen.{behind-refused}
 use Rattle.run_course.specs.Moments.{and_break, and_refused}
 use Rattle.run_moments.specs.Reached.{course_at}
 use Rattle.run_moments.specs.Telling.{IsLeft}
@@ -43,15 +43,15 @@ use Rattle.run_ringed.specs.Stored.{StoresOn, StoresOff}
 use Rattle.run_ringed.proofs.OnCards.{places-itself}
 use Rattle.run_ringed.proofs.SoFar.{left-itself}
 use Rattle.run_ringed.proofs.Steps.{passes}
-use Rattle.run_state.specs.declared.run.Run.{Run}
-use Rattle.run_state.specs.declared.run.Power.TheVariants.{Lit}
-use Rattle.run_state.specs.Power.{with_cabin, cut_run}
-use Rattle.acts_rule.specs.Acting.{pulled_run, pulled_breaks}
-use Rattle.acts_rule.specs.Recording.{log_of, RunFails, RunGoesOn, IsNow}
-use Rattle.acts_rule.specs.Evented.{CutEvented, RunWatches, span_seen}
-use Rattle.acts_rule.specs.RunRinged.{seats_of, IsLastFrom, RingsWithin, WithinRinged, CutRinged, with_cut, RingsGoOn, RingsAction}
-use Rattle.acts_rule.proofs.Asked.{pulls-one}
-use Rattle.acts_rule.proofs.StoredRun.{run-cut}
+use Rattle.run_acts.specs.declared.run.Run.{Run}
+use Rattle.run_acts.specs.declared.run.Power.TheVariants.{Lit}
+use Rattle.run_acts.specs.Power.{with_cabin, cut_run}
+use Rattle.run_acts.specs.Acting.{pulled_run, pulled_breaks}
+use Rattle.run_acts.specs.Recording.{log_of, RunFails, RunGoesOn, IsNow}
+use Rattle.run_acts.specs.Evented.{CutEvented, RunWatches, span_seen}
+use Rattle.run_acts.specs.RunRinged.{seats_of, IsLastFrom, RingsWithin, WithinRinged, CutRinged, with_cut, RingsGoOn, RingsAction}
+use Rattle.run_acts.proofs.Asked.{pulls-one}
+use Rattle.run_acts.proofs.StoredRun.{run-cut}
 use Rattle.recorder_rule.proofs.ActsRecorded.{refuses, refused}
 use Rattle.recorder_rule.proofs.ActsEvented.{watches-on, refused-now}
 use Rattle.recorder_rule.proofs.Staying.{StaysWatched}

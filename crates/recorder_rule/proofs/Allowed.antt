@@ -7,7 +7,7 @@ use Rattle.trace_model.specs.declared.Action.{Action}
 use Rattle.trace_model.specs.declared.Action.TheVariants.{Select, Insert, Withdraw, Tear, Place}
 use Rattle.trace_model.specs.declared.Item.TheVariants.{Act}
 use Rattle.run_outcome.specs.Room.{insertion_count}
-use Rattle.run_state.specs.declared.run.Run.{Run}
+use Rattle.run_acts.specs.declared.run.Run.{Run}
 use Rattle.recorder_rule.specs.Acting.{put_count, refused_by, IsSelected, IsFine}
 use Rattle.log_model.specs.declared.lines.SlotFault.{SlotFault}
 use Rattle.log_model.specs.declared.lines.SlotFault.TheVariants.{Occupied, Elsewhere}

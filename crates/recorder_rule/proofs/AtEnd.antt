@@ -20,18 +20,18 @@ use Rattle.run_outcome.specs.declared.outcome.Outcome.{Outcome}
 use Rattle.run_recorded.specs.Origin.{Origin}
 use Rattle.run_rule.specs.Between.{Carried}
 use Rattle.run_within.specs.Recorded.{IsHeldBy, carried}
-use Rattle.run_state.specs.declared.run.Run.{Run}
-use Rattle.run_state.specs.declared.run.Power.{Power}
-use Rattle.run_state.specs.declared.run.Power.TheVariants.{Lit, Due, Lost}
-use Rattle.acts_rule.specs.Recording.{Supplies, RunRecorded, values_of}
-use Rattle.acts_rule.specs.Closings.{Spell}
-use Rattle.acts_rule.specs.Truths.{past_of, truths_by}
-use Rattle.acts_rule.specs.Stays.{Stay, Shown, after_stay, sits_in, as_noted, AreOwed, IsTrueOf}
-use Rattle.acts_rule.proofs.SeatsThen.{sits-in-one}
+use Rattle.run_acts.specs.declared.run.Run.{Run}
+use Rattle.run_acts.specs.declared.run.Power.{Power}
+use Rattle.run_acts.specs.declared.run.Power.TheVariants.{Lit, Due, Lost}
+use Rattle.run_acts.specs.Recording.{Supplies, RunRecorded, values_of}
+use Rattle.run_acts.specs.Closings.{Spell}
+use Rattle.run_acts.specs.Truths.{past_of, truths_by}
+use Rattle.run_acts.specs.Stays.{Stay, Shown, after_stay, sits_in, as_noted, AreOwed, IsTrueOf}
+use Rattle.run_acts.proofs.SeatsThen.{sits-in-one}
 use Rattle.unit_model.specs.Image.{odometer_at}
 use Rattle.safety_model.specs.Recording.{Recording, brought, start_of}
 use Rattle.recorder_rule.specs.Stays.{IsClosedSo, IsCountedSo, IsAcknowledgedSo}
-use Rattle.acts_rule.specs.Owed.{IsOwed}
+use Rattle.run_acts.specs.Owed.{IsOwed}
 
 -- none is leaving then
 pub noted-at-end : (u : ℕ) (s : Option Accepted) (sits : Bool) (ss : List Spell) → (is_some s ≡ true → sits ≡ true) → as_noted u s sits ss ≡ ss

@@ -1,12 +1,12 @@
 -- The room within a second, by that before it.
 use Rattle.std.proofs.Common.{◌≡◌, ◌∙◌, ◌⊎◌, inl, inr, ⊎_elim, ℕ, ◌+◌, ◌-◌, ◌/◌, ◌%◌, ◌==◌, ◌≤◌, Bool, true, false, length, refl, ap, sym, arith, eqb-true}
 use Rattle.run_outcome.specs.declared.outcome.Outcome.{Outcome}
-use Rattle.run_state.specs.declared.run.Run.{Run}
-use Rattle.run_state.specs.declared.run.Power.{Power}
-use Rattle.run_state.specs.declared.run.Power.TheVariants.{Lit, Due, Lost}
-use Rattle.run_state.specs.Power.{is_lit, has_power, over_by}
-use Rattle.acts_rule.specs.Room.{waiting, falls_of, finds_due, cuts_from, cuts_within, HasRoom, HasRoomWithin}
-use Rattle.acts_rule.proofs.Torn.{bare-two}
+use Rattle.run_acts.specs.declared.run.Run.{Run}
+use Rattle.run_acts.specs.declared.run.Power.{Power}
+use Rattle.run_acts.specs.declared.run.Power.TheVariants.{Lit, Due, Lost}
+use Rattle.run_acts.specs.Power.{is_lit, has_power, over_by}
+use Rattle.run_acts.specs.Room.{waiting, falls_of, finds_due, cuts_from, cuts_within, HasRoom, HasRoomWithin}
+use Rattle.run_acts.proofs.Torn.{bare-two}
 use Rattle.recorder_rule.specs.Waking.{IsAwake, TakesAwake}
 
 -- with power, a minute that is over takes none

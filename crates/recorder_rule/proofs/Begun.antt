@@ -9,7 +9,7 @@ use Rattle.run_crew.specs.declared.cards.Accepted.{Accepted}
 use Rattle.run_crew.specs.declared.cards.Cards.{Cards}
 use Rattle.run_crew.specs.Cards.{session_of}
 use Rattle.run_crew.specs.Cabin.{AnswersTo, SeatAnswers}
-use Rattle.acts_rule.proofs.Kept.{owing-is}
+use Rattle.run_acts.proofs.Kept.{owing-is}
 use Rattle.recorder_rule.specs.Accepting.{IsBare}
 
 -- none waits

@@ -20,13 +20,13 @@ use Rattle.run_evented.specs.Noting.{Acting, stage_of}
 use Rattle.run_evented.specs.SoFar.{BeginsNow, EventedNow}
 use Rattle.run_evented.proofs.Adding.{second-begins_now, power-now, starts-now}
 use Rattle.run_notes.specs.declared.watch.Watch.{Watch}
-use Rattle.run_state.specs.declared.run.Run.{Run}
-use Rattle.run_state.specs.declared.run.Power.TheVariants.{Lit}
-use Rattle.run_state.specs.Power.{over_by, minute_over}
-use Rattle.run_state.specs.Going.{first_second, IsLit}
-use Rattle.acts_rule.specs.Recording.{log_of, values_of, RunWithin}
-use Rattle.acts_rule.specs.Evented.{IsWatching, span_of, span_seen, RunEvented, WithinEvented}
-use Rattle.acts_rule.proofs.FallEvented.{begins-now}
+use Rattle.run_acts.specs.declared.run.Run.{Run}
+use Rattle.run_acts.specs.declared.run.Power.TheVariants.{Lit}
+use Rattle.run_acts.specs.Power.{over_by, minute_over}
+use Rattle.run_acts.specs.Going.{first_second, IsLit}
+use Rattle.run_acts.specs.Recording.{log_of, values_of, RunWithin}
+use Rattle.run_acts.specs.Evented.{IsWatching, span_of, span_seen, RunEvented, WithinEvented}
+use Rattle.run_acts.proofs.FallEvented.{begins-now}
 use Rattle.recorder_rule.proofs.GoingOn.{second-goes}
 
 -- as a minute is over the unit's memory and the watch are as before

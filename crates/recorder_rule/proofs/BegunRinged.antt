@@ -19,14 +19,14 @@ use Rattle.run_ringed.specs.SoFar.{RingedBehind, IsSecond, RingedIn}
 use Rattle.run_ringed.specs.Stored.{StoresOn, Stores}
 use Rattle.run_ringed.proofs.SoFar.{second-begins}
 use Rattle.run_ringed.proofs.Bases.{stored-next}
-use Rattle.run_state.specs.declared.run.Run.{Run}
-use Rattle.run_state.specs.declared.run.Power.{Power}
-use Rattle.run_state.specs.declared.run.Power.TheVariants.{Lit}
-use Rattle.run_state.specs.Power.{is_lit, over_by, minute_over}
-use Rattle.run_state.specs.Going.{first_second, IsLit}
-use Rattle.acts_rule.specs.Recording.{log_of, Supplies}
-use Rattle.acts_rule.specs.RunRinged.{seats_of, IsLastFrom, RunRinged, RingsWithin, WithinRinged}
-use Rattle.acts_rule.proofs.RingedSecond.{goes-last}
+use Rattle.run_acts.specs.declared.run.Run.{Run}
+use Rattle.run_acts.specs.declared.run.Power.{Power}
+use Rattle.run_acts.specs.declared.run.Power.TheVariants.{Lit}
+use Rattle.run_acts.specs.Power.{is_lit, over_by, minute_over}
+use Rattle.run_acts.specs.Going.{first_second, IsLit}
+use Rattle.run_acts.specs.Recording.{log_of, Supplies}
+use Rattle.run_acts.specs.RunRinged.{seats_of, IsLastFrom, RunRinged, RingsWithin, WithinRinged}
+use Rattle.run_acts.proofs.RingedSecond.{goes-last}
 use Rattle.recorder_rule.proofs.BegunEvented.{lit-evented}
 
 -- a second with power, as its spans have it

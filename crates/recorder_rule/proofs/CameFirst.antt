@@ -34,9 +34,9 @@ use Rattle.run_within.specs.Within.{course_in, MayBeWrittenSo, Within}
 use Rattle.run_evented.specs.Opened.{came_in, puts_in, times_put, HasComeBefore}
 use Rattle.run_keeping.specs.declared.keeper.Keeper.{Keeper}
 use Rattle.run_entering.specs.declared.lines.Entering.{Entering}
-use Rattle.acts_rule.specs.Entered.{values_with, MayJudge}
-use Rattle.acts_rule.proofs.CardCourse.{slot-entered}
-use Rattle.acts_rule.proofs.EnteredNewest.{written-or}
+use Rattle.run_acts.specs.Entered.{values_with, MayJudge}
+use Rattle.run_acts.proofs.CardCourse.{slot-entered}
+use Rattle.run_acts.proofs.EnteredNewest.{written-or}
 
 -- ---- lists
 

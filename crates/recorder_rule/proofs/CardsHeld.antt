@@ -21,13 +21,13 @@ use Rattle.run_recorded.specs.Origin.{Origin}
 use Rattle.run_outcome.specs.declared.outcome.Outcome.{Outcome}
 use Rattle.run_within.specs.Recorded.{Values}
 use Rattle.run_within.specs.Within.{Within}
-use Rattle.run_state.specs.declared.run.Run.{Run}
-use Rattle.run_state.specs.Power.{is_lit}
-use Rattle.acts_rule.specs.OnCards.{as_accepted}
-use Rattle.acts_rule.specs.RunCards.{so_far, seen_behind, gap_behind, CardsShown, CardsIn}
-use Rattle.acts_rule.proofs.CardGaps.{kept-before, between-same, before-same, low-spans}
-use Rattle.acts_rule.proofs.CardEnds.{IsLater}
-use Rattle.acts_rule.proofs.CardTurn.{lines-later}
+use Rattle.run_acts.specs.declared.run.Run.{Run}
+use Rattle.run_acts.specs.Power.{is_lit}
+use Rattle.run_acts.specs.OnCards.{as_accepted}
+use Rattle.run_acts.specs.RunCards.{so_far, seen_behind, gap_behind, CardsShown, CardsIn}
+use Rattle.run_acts.proofs.CardGaps.{kept-before, between-same, before-same, low-spans}
+use Rattle.run_acts.proofs.CardEnds.{IsLater}
+use Rattle.run_acts.proofs.CardTurn.{lines-later}
 use Rattle.recorder_rule.specs.Carded.{WithinCarded, CutCarded, InSecondCardedBy, InSecondCarded}
 
 -- ---- by the log as the second began, or by that of now

@@ -23,8 +23,8 @@ use Rattle.run_crew.specs.declared.cabin.Cabin.{Cabin}
 use Rattle.run_crew.specs.Cards.{known_of, session_of}
 use Rattle.run_crew.specs.Cabin.{Stands, SeatAnswers, AnswersTo, AreTwo, torn_out, slot_with, left_from, with_accepted, with_sizes_of}
 use Rattle.tacho_types.specs.declared.card_number.FullCardNumber.{FullCardNumber}
-use Rattle.acts_rule.specs.Room.{bare_count, falls_of}
-use Rattle.acts_rule.proofs.Torn.{torn-past, torn-minute, torn-falls, sitting-falls}
+use Rattle.run_acts.specs.Room.{bare_count, falls_of}
+use Rattle.run_acts.proofs.Torn.{torn-past, torn-minute, torn-falls, sitting-falls}
 use Rattle.recorder_rule.specs.Accepting.{HasEntry}
 
 -- what holds behind it: the minutes that have ended, the other card and the other slot are as before; a session is of an insertion that was

@@ -11,11 +11,11 @@ use Rattle.run_outcome.specs.declared.outcome.Outcome.{Outcome}
 use Rattle.run_recorded.specs.Origin.{Origin}
 use Rattle.run_within.specs.Recorded.{Recorded}
 use Rattle.run_within.specs.Within.{cut_values}
-use Rattle.run_state.specs.declared.run.Run.{Run}
-use Rattle.run_state.specs.Power.{cut_run}
-use Rattle.acts_rule.specs.Recording.{IsOrigin, log_of, values_of, RunCut}
+use Rattle.run_acts.specs.declared.run.Run.{Run}
+use Rattle.run_acts.specs.Power.{cut_run}
+use Rattle.run_acts.specs.Recording.{IsOrigin, log_of, values_of, RunCut}
 use Rattle.recorder_rule.specs.Acting.{cut_breaks}
-use Rattle.acts_rule.proofs.AllStay.{no-cut}
+use Rattle.run_acts.proofs.AllStay.{no-cut}
 
 -- what is recorded so once a second has gone is so of a run that was cut in it
 pub cut-as : (d : Devices) (o : Origin) (done : List TraceSecond) (s : TraceSecond) (n : ℕ) (run : Run) (out : Outcome) → IsOrigin o → s.number ≡ run.next → Recorded o (done ++ s ∷ []) Lost (cut_values s (In n) (values_of run out)) d →

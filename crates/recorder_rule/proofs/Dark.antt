@@ -7,12 +7,12 @@ use Rattle.run_outcome.specs.Lines.{Listed, cut_at}
 use Rattle.run_outcome.specs.declared.outcome.Outcome.{Outcome}
 use Rattle.run_keeping.specs.Keeping.{with_lines}
 use Rattle.run_keeping.proofs.Counts.{lines-length}
-use Rattle.run_state.specs.declared.run.Run.{Run}
-use Rattle.run_state.specs.declared.run.Power.{Power}
-use Rattle.run_state.specs.declared.run.Power.TheVariants.{Lit, Due, Lost}
-use Rattle.run_state.specs.Power.{is_lit, has_power, darkened, off_cut, off_run, cut_run}
-use Rattle.acts_rule.specs.Room.{waiting, finds_due, cuts_from, HasRoom}
-use Rattle.acts_rule.proofs.Torn.{cut-falls, bare-two}
+use Rattle.run_acts.specs.declared.run.Run.{Run}
+use Rattle.run_acts.specs.declared.run.Power.{Power}
+use Rattle.run_acts.specs.declared.run.Power.TheVariants.{Lit, Due, Lost}
+use Rattle.run_acts.specs.Power.{is_lit, has_power, darkened, off_cut, off_run, cut_run}
+use Rattle.run_acts.specs.Room.{waiting, finds_due, cuts_from, HasRoom}
+use Rattle.run_acts.proofs.Torn.{cut-falls, bare-two}
 
 -- a second without power begins in one
 pub away-dark : (p : Power) (next : ℕ) → has_power p next ≡ false → is_lit p ≡ false

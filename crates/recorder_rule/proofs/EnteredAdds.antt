@@ -63,8 +63,8 @@ use Rattle.run_keeping.specs.Keeping.{tear_of}
 use Rattle.run_entering.specs.declared.lines.Entering.{Entering}
 use Rattle.run_entering.specs.Entered.{IsFound}
 use Rattle.run_entering.specs.Entering.{Ending, Unfit, Ahead, Fell, Unasked, Unnoted, Seated, Lost, find_of, finds_by, breaks_by, falls_of}
-use Rattle.acts_rule.specs.NotedEvents.{AreTold, NotesSo}
-use Rattle.acts_rule.specs.ActsEvented.{IsFailing}
+use Rattle.run_acts.specs.NotedEvents.{AreTold, NotesSo}
+use Rattle.run_acts.specs.ActsEvented.{IsFailing}
 use Rattle.run_crew.specs.declared.cabin.Cabin.{Cabin}
 use Rattle.run_entering.specs.Noted.{UnitNote, Inserts, BeginsRow, Tells, notes_by}
 use Rattle.event_course.specs.Noted.{are_sure}

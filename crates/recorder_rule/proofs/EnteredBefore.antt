@@ -17,10 +17,10 @@ use Rattle.run_rule.specs.Found.{CardFound}
 use Rattle.run_entering.specs.declared.lines.Entering.{Entering}
 use Rattle.run_entering.specs.Entering.{Way, Unread, Unsized, Judged, Unfit, Ahead, Fell, Unasked, Unnoted, Seated, Lost, ending_of, previous_of, previous_time_of, insertion_of}
 use Rattle.run_entering.specs.Entered.{FitsInsertion, IsWay, IsFoundIn}
-use Rattle.acts_rule.specs.Comings.{VehicleTold, told_in, told_of, TellMore}
-use Rattle.acts_rule.proofs.Comings.{leaves-more, insertion-more}
+use Rattle.run_acts.specs.Comings.{VehicleTold, told_in, told_of, TellMore}
+use Rattle.run_acts.proofs.Comings.{leaves-more, insertion-more}
 use Rattle.run_told.proofs.OnCards.{valid-own}
-use Rattle.acts_rule.proofs.EnteredStays.{TellsBy}
+use Rattle.run_acts.proofs.EnteredStays.{TellsBy}
 use Rattle.recorder_rule.specs.EnteredRings.{InsertsAt, WritesBy}
 use Rattle.recorder_rule.proofs.EnteredHolder.{previous-long, previous-low}
 

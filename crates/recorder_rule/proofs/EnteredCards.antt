@@ -44,17 +44,17 @@ use Rattle.run_entering.specs.CardEvents.{events_in, all_noted, AreBeingNoted, o
 use Rattle.run_entering.specs.CardBrought.{moving_on, brought_on, is_cut_short, BringsOnCard}
 use Rattle.run_entering.proofs.CardBrought.{IsSitting}
 use Rattle.run_within.specs.Within.{Within}
-use Rattle.acts_rule.specs.Closings.{notes_within}
-use Rattle.acts_rule.specs.Entered.{values_with, MayJudge, HasGone, AreSound}
-use Rattle.acts_rule.specs.Recording.{IsOrigin, log_of}
-use Rattle.acts_rule.specs.Truths.{truths_within, marked}
-use Rattle.acts_rule.specs.Stays.{AllStay}
-use Rattle.acts_rule.specs.OnCards.{unclosed_at, unclosed_by, events_by, accepts, moving_at, movings, StillShows, AreUses}
-use Rattle.acts_rule.specs.RunCards.{vehicle_in, sizes_in}
-use Rattle.acts_rule.proofs.OnCards.{events-none, still-same}
-use Rattle.acts_rule.proofs.CardStays.{valid-found}
-use Rattle.acts_rule.proofs.EnteredFacts.{mine, mine-back, each, now-is, card-tells, card-began, card-run, unit-told, left}
-use Rattle.acts_rule.proofs.RingedLines.{phase_at, tear-told}
+use Rattle.run_acts.specs.Closings.{notes_within}
+use Rattle.run_acts.specs.Entered.{values_with, MayJudge, HasGone, AreSound}
+use Rattle.run_acts.specs.Recording.{IsOrigin, log_of}
+use Rattle.run_acts.specs.Truths.{truths_within, marked}
+use Rattle.run_acts.specs.Stays.{AllStay}
+use Rattle.run_acts.specs.OnCards.{unclosed_at, unclosed_by, events_by, accepts, moving_at, movings, StillShows, AreUses}
+use Rattle.run_acts.specs.RunCards.{vehicle_in, sizes_in}
+use Rattle.run_acts.proofs.OnCards.{events-none, still-same}
+use Rattle.run_acts.proofs.CardStays.{valid-found}
+use Rattle.run_acts.proofs.EnteredFacts.{mine, mine-back, each, now-is, card-tells, card-began, card-run, unit-told, left}
+use Rattle.run_acts.proofs.RingedLines.{phase_at, tear-told}
 use Rattle.recorder_rule.specs.JudgedRings.{TellsHere}
 use Rattle.recorder_rule.specs.JudgedCards.{NotesNone, BringsNow, uses_then, IsJudgedOnCards}
 use Rattle.recorder_rule.proofs.EnteredAdds.{log_with}

@@ -51,22 +51,22 @@ use Rattle.run_within.specs.Within.{Within, course_in, told_before}
 use Rattle.run_evented.specs.Opened.{HasComeBefore}
 use Rattle.run_evented.specs.Evented.{number_in}
 use Rattle.run_evented.specs.SoFar.{EventedNow, BeginsNow, stage_in}
-use Rattle.acts_rule.specs.Closings.{notes_within}
-use Rattle.acts_rule.specs.Entered.{values_with, MayJudge, HasGone, AreSound}
-use Rattle.acts_rule.specs.EventCrews.{AreKnownBy}
-use Rattle.acts_rule.specs.Evented.{EventsGoOn}
-use Rattle.acts_rule.specs.Named.{ValidHere, CrewValid, NamesValid}
-use Rattle.acts_rule.specs.NotedEvents.{AreTold, NotesSo, NotesEvents}
-use Rattle.acts_rule.specs.Recording.{IsOrigin, log_of}
-use Rattle.acts_rule.specs.Truths.{truths_within, marked}
-use Rattle.acts_rule.specs.Stays.{AllStay}
-use Rattle.acts_rule.proofs.EnteredFacts.{before, mine-back, now-is, card-began, known as known-behind, left, breakdowns, broke-once, unit-broke}
-use Rattle.acts_rule.proofs.EnteredTurned.{own-card}
-use Rattle.acts_rule.proofs.EnteredWhole.{found-in}
-use Rattle.acts_rule.proofs.EventCrews.{all-well, sitting-named, sessions-known}
-use Rattle.acts_rule.specs.ActsEvented.{IsFailing}
-use Rattle.acts_rule.proofs.Named.{both-valid, crew-valid, without-valid}
-use Rattle.acts_rule.proofs.Numbers.{notes-at}
+use Rattle.run_acts.specs.Closings.{notes_within}
+use Rattle.run_acts.specs.Entered.{values_with, MayJudge, HasGone, AreSound}
+use Rattle.run_acts.specs.EventCrews.{AreKnownBy}
+use Rattle.run_acts.specs.Evented.{EventsGoOn}
+use Rattle.run_acts.specs.Named.{ValidHere, CrewValid, NamesValid}
+use Rattle.run_acts.specs.NotedEvents.{AreTold, NotesSo, NotesEvents}
+use Rattle.run_acts.specs.Recording.{IsOrigin, log_of}
+use Rattle.run_acts.specs.Truths.{truths_within, marked}
+use Rattle.run_acts.specs.Stays.{AllStay}
+use Rattle.run_acts.proofs.EnteredFacts.{before, mine-back, now-is, card-began, known as known-behind, left, breakdowns, broke-once, unit-broke}
+use Rattle.run_acts.proofs.EnteredTurned.{own-card}
+use Rattle.run_acts.proofs.EnteredWhole.{found-in}
+use Rattle.run_acts.proofs.EventCrews.{all-well, sitting-named, sessions-known}
+use Rattle.run_acts.specs.ActsEvented.{IsFailing}
+use Rattle.run_acts.proofs.Named.{both-valid, crew-valid, without-valid}
+use Rattle.run_acts.proofs.Numbers.{notes-at}
 use Rattle.recorder_rule.specs.EnteredEvents.{events_in}
 use Rattle.recorder_rule.specs.EnteredTold.{moving_events, unclosed_events, events_by, IsLow}
 use Rattle.recorder_rule.specs.Judged.{IsInTurn}

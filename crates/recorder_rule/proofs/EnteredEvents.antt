@@ -8,7 +8,7 @@ use Rattle.run_rule.specs.Between.{devices}
 use Rattle.run_evented.specs.Evented.{number_in}
 use Rattle.run_entering.specs.Noted.{UnitNote, Inserts, BeginsRow, Tells, IsOnUnit, IsComing, AreDone, HasNoted}
 use Rattle.recorder_rule.specs.EnteredTold.{TellEvents}
-use Rattle.acts_rule.specs.NotedEvents.{AreTold, NotesEvents}
+use Rattle.run_acts.specs.NotedEvents.{AreTold, NotesEvents}
 use Rattle.recorder_rule.specs.EnteredEvents.{events_in}
 use Rattle.recorder_rule.proofs.EnteredTold.{same-shown, told-shown, told-moment}
 

@@ -39,7 +39,7 @@ use Rattle.run_ringed.proofs.Bytes.{IsInsertionTold, insertion-is}
 use Rattle.run_entering.specs.declared.lines.Entering.{Entering}
 use Rattle.run_entering.specs.Entering.{slot_number, previous_of, previous_time_of, insertion_of}
 use Rattle.run_entering.specs.Entered.{FitsInsertion}
-use Rattle.acts_rule.specs.Recording.{IsOrigin}
+use Rattle.run_acts.specs.Recording.{IsOrigin}
 use Rattle.recorder_rule.specs.JudgedRings.{IsInsertionNow}
 
 -- ---- bytes

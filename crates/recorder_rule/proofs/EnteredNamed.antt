@@ -16,7 +16,7 @@ use Rattle.run_crew.specs.declared.cards.Cards.{Cards}
 use Rattle.run_crew.specs.Cards.{known_of, with_session, with_number, accepted_number}
 use Rattle.run_crew.specs.Cabin.{with_accepted, number_of_seat, slot_with, left_from, torn_out, crew_of}
 use Rattle.run_notes.specs.Entries.{number_or_no_card, IsCrewOf}
-use Rattle.acts_rule.specs.NotedEvents.{AreTold}
+use Rattle.run_acts.specs.NotedEvents.{AreTold}
 use Rattle.run_entering.specs.declared.lines.Entering.{Entering}
 use Rattle.run_entering.specs.Entering.{Ending, Unfit, Ahead, Fell, Unasked, Unnoted, Seated, Lost, and_one}
 use Rattle.run_entering.specs.Noted.{notes_by}

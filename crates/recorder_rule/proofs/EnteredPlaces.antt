@@ -43,13 +43,13 @@ use Rattle.run_entering.specs.Entering.{Way, Unread, Unsized, Judged}
 use Rattle.run_entering.specs.Noted.{CardNote, PutIn, Shows, IsOnCard, IsComingOnCard, AreBeingDone, AreComingOnCard, card_notes_by}
 use Rattle.run_entering.specs.Entered.{IsFoundIn}
 use Rattle.run_within.specs.Within.{Within}
-use Rattle.acts_rule.specs.Entered.{values_with, MayJudge, HasGone, AreSound}
-use Rattle.acts_rule.specs.Recording.{IsOrigin}
-use Rattle.acts_rule.specs.RunCards.{sizes_in}
-use Rattle.acts_rule.proofs.CardPlaces.{file-ring}
-use Rattle.acts_rule.proofs.CardStays.{valid-found}
-use Rattle.acts_rule.proofs.EnteredFacts.{mine-back, each, card-run}
-use Rattle.acts_rule.proofs.EnteredWhole.{found-in}
+use Rattle.run_acts.specs.Entered.{values_with, MayJudge, HasGone, AreSound}
+use Rattle.run_acts.specs.Recording.{IsOrigin}
+use Rattle.run_acts.specs.RunCards.{sizes_in}
+use Rattle.run_acts.proofs.CardPlaces.{file-ring}
+use Rattle.run_acts.proofs.CardStays.{valid-found}
+use Rattle.run_acts.proofs.EnteredFacts.{mine-back, each, card-run}
+use Rattle.run_acts.proofs.EnteredWhole.{found-in}
 
 -- ---- bytes
 

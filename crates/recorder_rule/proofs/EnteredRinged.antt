@@ -50,11 +50,11 @@ use Rattle.run_entering.specs.Entering.{Ending, Unfit, Ahead, Fell, Unasked, Unn
 use Rattle.run_entering.specs.Entered.{FitsInsertion, IsFoundIn, IsWay}
 use Rattle.run_entering.specs.Told.{IsToldOf}
 use Rattle.run_within.specs.Within.{Within}
-use Rattle.acts_rule.specs.Entered.{values_with, MayJudge, HasGone, AreSound}
-use Rattle.acts_rule.specs.Recording.{IsOrigin, log_of}
-use Rattle.acts_rule.specs.Ringing.{seating_of}
-use Rattle.acts_rule.proofs.EnteredFacts.{before, mine-back, units, now-is, card-began, unit-told, known as known-behind, left}
-use Rattle.acts_rule.proofs.EnteredWhole.{found-in}
+use Rattle.run_acts.specs.Entered.{values_with, MayJudge, HasGone, AreSound}
+use Rattle.run_acts.specs.Recording.{IsOrigin, log_of}
+use Rattle.run_acts.specs.Ringing.{seating_of}
+use Rattle.run_acts.proofs.EnteredFacts.{before, mine-back, units, now-is, card-began, unit-told, known as known-behind, left}
+use Rattle.run_acts.proofs.EnteredWhole.{found-in}
 use Rattle.recorder_rule.specs.EnteredRings.{WritesBy}
 use Rattle.recorder_rule.specs.JudgedRings.{IsInsertionNow, AreSeatedWith, JudgedInRings, TellsHere}
 use Rattle.recorder_rule.proofs.EnteredAdds.{log_with}

@@ -18,7 +18,7 @@ use Rattle.run_entering.specs.Noted.{AreDone, AreBeingDone, HasNoted, UnitNote, 
 use Rattle.run_entering.specs.Entered.{IsPlace, HasEntered}
 use Rattle.run_ringed.specs.Ringed.{HasSameRings, LeavesRings, WritesImages, Around, MayBeAdded}
 use Rattle.run_rings.proofs.Same.{same-rings, then-same, outside-both, table-outside, rings-then}
-use Rattle.acts_rule.proofs.Ringing.{added-moment, leaves-writes}
+use Rattle.run_acts.proofs.Ringing.{added-moment, leaves-writes}
 use Rattle.recorder_rule.specs.EnteredRings.{InsertsAt, WritesBy, AcceptWrites}
 
 -- ---- notes but an insertion

@@ -39,17 +39,17 @@ use Rattle.run_entering.specs.Entered.{IsFound, IsFoundIn}
 use Rattle.run_within.specs.Recorded.{Values}
 use Rattle.run_within.specs.Within.{Within}
 use Rattle.run_within.specs.Judging.{IsNext}
-use Rattle.acts_rule.specs.Closings.{notes_within}
-use Rattle.acts_rule.specs.Recording.{IsOrigin}
-use Rattle.acts_rule.specs.RunCards.{sizes_in}
-use Rattle.acts_rule.specs.Truths.{truths_within, marked}
-use Rattle.acts_rule.specs.Stays.{AllStay}
-use Rattle.acts_rule.proofs.AllStay.{no-tear}
-use Rattle.acts_rule.proofs.CardStays.{valid-found}
-use Rattle.acts_rule.proofs.CardUses.{FoundTo, others-found, mine-found}
-use Rattle.acts_rule.proofs.NotesThen.{judged-notes}
-use Rattle.acts_rule.proofs.RingedSecond.{power-here}
-use Rattle.acts_rule.proofs.StayUses.{use-now}
+use Rattle.run_acts.specs.Closings.{notes_within}
+use Rattle.run_acts.specs.Recording.{IsOrigin}
+use Rattle.run_acts.specs.RunCards.{sizes_in}
+use Rattle.run_acts.specs.Truths.{truths_within, marked}
+use Rattle.run_acts.specs.Stays.{AllStay}
+use Rattle.run_acts.proofs.AllStay.{no-tear}
+use Rattle.run_acts.proofs.CardStays.{valid-found}
+use Rattle.run_acts.proofs.CardUses.{FoundTo, others-found, mine-found}
+use Rattle.run_acts.proofs.NotesThen.{judged-notes}
+use Rattle.run_acts.proofs.RingedSecond.{power-here}
+use Rattle.run_acts.proofs.StayUses.{use-now}
 use Rattle.recorder_rule.proofs.EnteredAdds.{AreFound, log_with}
 use Rattle.recorder_rule.proofs.EnteredLines.{verdicts_of}
 

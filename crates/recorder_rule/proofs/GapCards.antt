@@ -34,8 +34,8 @@ use Rattle.run_evented.specs.SoFar.{AreBare, interruption}
 use Rattle.run_evented.specs.Uses.{notes_now, uses_in}
 use Rattle.run_evented.proofs.Brought.{found-now}
 use Rattle.run_evented.proofs.Stood.{acceptance, stands-as, accepted-as, accepted-are}
-use Rattle.run_state.specs.declared.run.Run.{Run}
-use Rattle.acts_rule.specs.Recording.{log_of, values_of, RunWithin}
+use Rattle.run_acts.specs.declared.run.Run.{Run}
+use Rattle.run_acts.specs.Recording.{log_of, values_of, RunWithin}
 use Rattle.tacho_types.specs.declared.texts.Registration.{Registration}
 use Rattle.card_image.specs.Own.{IsOwnValid}
 use Rattle.card_records.specs.declared.card_event.CardEvent.{CardEvent}
@@ -44,15 +44,15 @@ use Rattle.event_model.specs.declared.kinds.TheConstants.{POWER_INTERRUPTION}
 use Rattle.safety_model.specs.Recording.{card_image}
 use Rattle.run_events.specs.Seconds.{gap_before}
 use Rattle.run_recorded.specs.Beside.{HaveLeftMore}
-use Rattle.acts_rule.specs.CardNotes.{NotesOn, NotesOnCards, gap_on}
-use Rattle.acts_rule.specs.OnCards.{is_card, has_card, as_accepted, enters, falls, gap_entry, gaps_on}
-use Rattle.acts_rule.specs.RunCards.{vehicle_in, sizes_in, so_far, seen_behind, gap_behind, CardsIn, CardsWaking}
-use Rattle.acts_rule.proofs.CardCourse.{Finding, findings, sitting_at, powered-as}
-use Rattle.acts_rule.proofs.CardSecond.{is_now, standing-is}
-use Rattle.acts_rule.proofs.CardShown.{FindsStill, KeepsFailed}
-use Rattle.acts_rule.proofs.CardStays.{session-sizes}
-use Rattle.acts_rule.proofs.CardWaking.{follows-powered, found-same as found-still, sits-enters, gap-noted}
-use Rattle.acts_rule.proofs.RingedSecond.{power-here}
+use Rattle.run_acts.specs.CardNotes.{NotesOn, NotesOnCards, gap_on}
+use Rattle.run_acts.specs.OnCards.{is_card, has_card, as_accepted, enters, falls, gap_entry, gaps_on}
+use Rattle.run_acts.specs.RunCards.{vehicle_in, sizes_in, so_far, seen_behind, gap_behind, CardsIn, CardsWaking}
+use Rattle.run_acts.proofs.CardCourse.{Finding, findings, sitting_at, powered-as}
+use Rattle.run_acts.proofs.CardSecond.{is_now, standing-is}
+use Rattle.run_acts.proofs.CardShown.{FindsStill, KeepsFailed}
+use Rattle.run_acts.proofs.CardStays.{session-sizes}
+use Rattle.run_acts.proofs.CardWaking.{follows-powered, found-same as found-still, sits-enters, gap-noted}
+use Rattle.run_acts.proofs.RingedSecond.{power-here}
 use Rattle.recorder_rule.proofs.GapEvented.{gap_events as gap_list}
 use Rattle.recorder_rule.proofs.GapOnCard.{gap-noted-on}
 use Rattle.recorder_rule.proofs.InsertedCards.{mine}

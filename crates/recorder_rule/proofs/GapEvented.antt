@@ -45,19 +45,19 @@ use Rattle.run_evented.specs.Kept.{interruption_of}
 use Rattle.run_evented.proofs.Adding.{call-notes}
 use Rattle.run_evented.proofs.Cutting.{failure-cuts}
 use Rattle.run_evented.proofs.Waking.{interruption-adds}
-use Rattle.run_state.specs.declared.run.Run.{Run}
-use Rattle.acts_rule.specs.Acting.{IsNotedOn, IsNotedIn, now_moment}
-use Rattle.acts_rule.specs.Noting.{GapReach, NoGap, UnitFailed, DriverFell, BothSlots, AreGapEvents, fall_events, gap_event}
-use Rattle.acts_rule.specs.NotedEvents.{AreTold, NotesEvents}
-use Rattle.acts_rule.specs.EventCrews.{AreKnownBy}
-use Rattle.acts_rule.specs.Named.{CrewValid, NamesValid}
-use Rattle.acts_rule.specs.Recording.{IsOrigin, log_of, values_of, RunWithin}
-use Rattle.acts_rule.specs.Evented.{EventsGoOn}
-use Rattle.acts_rule.proofs.EventCrews.{all-well, sitting-named, sessions-known, faults-told}
-use Rattle.acts_rule.specs.ActsEvented.{IsFailing}
-use Rattle.acts_rule.proofs.Named.{crew-valid, without-valid, both-valid}
-use Rattle.acts_rule.proofs.Numbers.{notes-at}
-use Rattle.acts_rule.proofs.RoundFaults.{told-both}
+use Rattle.run_acts.specs.declared.run.Run.{Run}
+use Rattle.run_acts.specs.Acting.{IsNotedOn, IsNotedIn, now_moment}
+use Rattle.run_acts.specs.Noting.{GapReach, NoGap, UnitFailed, DriverFell, BothSlots, AreGapEvents, fall_events, gap_event}
+use Rattle.run_acts.specs.NotedEvents.{AreTold, NotesEvents}
+use Rattle.run_acts.specs.EventCrews.{AreKnownBy}
+use Rattle.run_acts.specs.Named.{CrewValid, NamesValid}
+use Rattle.run_acts.specs.Recording.{IsOrigin, log_of, values_of, RunWithin}
+use Rattle.run_acts.specs.Evented.{EventsGoOn}
+use Rattle.run_acts.proofs.EventCrews.{all-well, sitting-named, sessions-known, faults-told}
+use Rattle.run_acts.specs.ActsEvented.{IsFailing}
+use Rattle.run_acts.proofs.Named.{crew-valid, without-valid, both-valid}
+use Rattle.run_acts.proofs.Numbers.{notes-at}
+use Rattle.run_acts.proofs.RoundFaults.{told-both}
 use Rattle.recorder_rule.proofs.EnteredNamed.{gone-named}
 
 -- ---- the list of an interruption

@@ -15,8 +15,8 @@ use Rattle.log_model.specs.Log.{RunLog}
 use Rattle.side_model.specs.Done.{has_failed_in}
 use Rattle.run_crew.specs.declared.cards.Accepted.{Accepted}
 use Rattle.run_entering.specs.CardEvents.{events_in, all_noted, of_type, ShowsThese, ShowsMore}
-use Rattle.acts_rule.specs.CardNotes.{NotesOn, gap_on}
-use Rattle.acts_rule.specs.OnCards.{events_by, gaps_on, enters, falls, may_note, is_clear, is_sure_in, NotesThem}
+use Rattle.run_acts.specs.CardNotes.{NotesOn, gap_on}
+use Rattle.run_acts.specs.OnCards.{events_by, gaps_on, enters, falls, may_note, is_clear, is_sure_in, NotesThem}
 
 turned : (n m : ℕ) → nat_eq m n ≡ false → nat_eq n m ≡ false
 turned n m other = by (nat_eq n m) refl

@@ -47,16 +47,16 @@ use Rattle.run_evented.specs.Kept.{interruption_of}
 use Rattle.run_evented.proofs.Exact.{fewer-none}
 use Rattle.run_ringed.specs.SoFar.{HasMoreBreaks}
 use Rattle.run_ringed.proofs.SoFar.{failed-more}
-use Rattle.run_state.specs.declared.run.Run.{Run}
-use Rattle.acts_rule.specs.Acting.{IsNotedIn, now_moment}
-use Rattle.acts_rule.specs.Noting.{GapReach, NoGap, UnitFailed, DriverFell, BothSlots, IsGapNoted}
-use Rattle.acts_rule.specs.CardNotes.{NotesOn, NotesOnCards, gap_on}
-use Rattle.acts_rule.specs.Recording.{log_of, values_of, RunWithin}
-use Rattle.acts_rule.specs.RunRinged.{with_cut}
-use Rattle.acts_rule.specs.OnCards.{falls}
-use Rattle.acts_rule.specs.RunCards.{vehicle_in, seen_behind, CardsBehind, CardsIn, CardsWaking}
-use Rattle.acts_rule.proofs.CardUses.{woken-found}
-use Rattle.acts_rule.proofs.RingedSecond.{cut-found, cut-failed, power-here}
+use Rattle.run_acts.specs.declared.run.Run.{Run}
+use Rattle.run_acts.specs.Acting.{IsNotedIn, now_moment}
+use Rattle.run_acts.specs.Noting.{GapReach, NoGap, UnitFailed, DriverFell, BothSlots, IsGapNoted}
+use Rattle.run_acts.specs.CardNotes.{NotesOn, NotesOnCards, gap_on}
+use Rattle.run_acts.specs.Recording.{log_of, values_of, RunWithin}
+use Rattle.run_acts.specs.RunRinged.{with_cut}
+use Rattle.run_acts.specs.OnCards.{falls}
+use Rattle.run_acts.specs.RunCards.{vehicle_in, seen_behind, CardsBehind, CardsIn, CardsWaking}
+use Rattle.run_acts.proofs.CardUses.{woken-found}
+use Rattle.run_acts.proofs.RingedSecond.{cut-found, cut-failed, power-here}
 use Rattle.recorder_rule.specs.JudgedRings.{TellsHere}
 use Rattle.recorder_rule.specs.CardsWoken.{CardsWoken}
 use Rattle.recorder_rule.proofs.RingsHere.{here-then, here-cut}

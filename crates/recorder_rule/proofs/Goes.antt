@@ -19,9 +19,9 @@ use Rattle.run_entering.specs.declared.lines.Entering.{Entering}
 use Rattle.run_entering.specs.Entering.{Ending, Unfit, Ahead, Fell, Unasked, Unnoted, Seated, Lost, finds_by}
 use Rattle.slot_machine.specs.declared.seats.Seat.{Seat}
 use Rattle.slot_machine.specs.Calls.{card_in}
-use Rattle.run_state.specs.Going.{CardAt}
-use Rattle.acts_rule.specs.Room.{bare_count}
-use Rattle.acts_rule.proofs.Kept.{present-went}
+use Rattle.run_acts.specs.Going.{CardAt}
+use Rattle.run_acts.specs.Room.{bare_count}
+use Rattle.run_acts.proofs.Kept.{present-went}
 use Rattle.recorder_rule.specs.Accepting.{chip_a_of, chip_b_of, a_of, b_of, HasEntry, IsBare}
 
 -- ---- of two cards

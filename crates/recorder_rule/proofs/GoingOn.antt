@@ -26,26 +26,26 @@ use Rattle.history_model.specs.Book.{Book}
 use Rattle.run_within.specs.Recorded.{progress, Recorded}
 use Rattle.run_within.specs.Within.{Beginning, GoesOn, begun_behind, undecided_from}
 use Rattle.run_within.proofs.Beginning.{second-begins, minute-over}
-use Rattle.run_state.specs.declared.run.Run.{Run}
-use Rattle.run_state.specs.declared.run.Power.{Power}
-use Rattle.run_state.specs.declared.run.Power.TheVariants.{Lit}
-use Rattle.run_state.specs.Power.{is_lit, has_power, over_by, minute_over}
-use Rattle.run_state.specs.Going.{first_second, IsLit}
-use Rattle.acts_rule.specs.Room.{finds_due, bare_seats, HasRoom}
-use Rattle.acts_rule.specs.Recording.{log_of, IsOrigin, Supplies, values_of, RunRecorded, RunWithin}
-use Rattle.acts_rule.proofs.Kept.{owing-sum}
+use Rattle.run_acts.specs.declared.run.Run.{Run}
+use Rattle.run_acts.specs.declared.run.Power.{Power}
+use Rattle.run_acts.specs.declared.run.Power.TheVariants.{Lit}
+use Rattle.run_acts.specs.Power.{is_lit, has_power, over_by, minute_over}
+use Rattle.run_acts.specs.Going.{first_second, IsLit}
+use Rattle.run_acts.specs.Room.{finds_due, bare_seats, HasRoom}
+use Rattle.run_acts.specs.Recording.{log_of, IsOrigin, Supplies, values_of, RunRecorded, RunWithin}
+use Rattle.run_acts.proofs.Kept.{owing-sum}
 use Rattle.minute_model.proofs.Counted.{ahead-most}
 use Rattle.recorder_rule.proofs.AwakeRooms.{is-due}
 use Rattle.side_model.specs.Noted.{Note}
 use Rattle.run_ringed.specs.Ringed.{notes_in}
-use Rattle.acts_rule.specs.Closings.{notes_within}
-use Rattle.acts_rule.specs.Truths.{truths_of, truths_within, marked}
-use Rattle.acts_rule.specs.Stays.{AllStay}
-use Rattle.acts_rule.proofs.AllStay.{all-seated, all-second, all-true}
-use Rattle.acts_rule.proofs.SeatsThen.{stands-seated}
-use Rattle.acts_rule.proofs.Truths.{marked-still}
-use Rattle.acts_rule.proofs.TruthsThen.{truths-begin}
-use Rattle.acts_rule.proofs.NotesThen.{notes-begin}
+use Rattle.run_acts.specs.Closings.{notes_within}
+use Rattle.run_acts.specs.Truths.{truths_of, truths_within, marked}
+use Rattle.run_acts.specs.Stays.{AllStay}
+use Rattle.run_acts.proofs.AllStay.{all-seated, all-second, all-true}
+use Rattle.run_acts.proofs.SeatsThen.{stands-seated}
+use Rattle.run_acts.proofs.Truths.{marked-still}
+use Rattle.run_acts.proofs.TruthsThen.{truths-begin}
+use Rattle.run_acts.proofs.NotesThen.{notes-begin}
 
 -- room for the marks of what the cards in the slots may be owed
 pub marks-due : (run : Run) (out : Outcome) → is_lit run.power ≡ false → has_power run.power run.next ≡ true → HasRoom run out 1 0 0 0 → length out.marks.items + MOST_OWED * bare_seats run.keeper.cabin.slots.seats ≤ out.marks.room

@@ -14,12 +14,12 @@ use Rattle.run_keeping.specs.declared.keeper.Moment.{Moment}
 use Rattle.run_keeping.specs.Keeping.{with_lines}
 use Rattle.run_entering.specs.declared.lines.Entering.{Entering}
 use Rattle.run_entering.specs.Entering.{Ending, Unfit, Ahead, Fell, Unasked, Unnoted, Seated, Lost, breaks_by, ending_of}
-use Rattle.run_state.specs.declared.run.Run.{Run}
-use Rattle.acts_rule.specs.Acting.{told_of, IsSettled, IsClosedBehind, IsWithdrawn, IsPlaced, closed_breaks, noted_breaks, pulled_breaks}
-use Rattle.acts_rule.proofs.RingedLines.{AreTears, up-to-tells}
-use Rattle.acts_rule.proofs.RingedSecond.{tears-here_}
-use Rattle.acts_rule.proofs.RingedPlace.{noted-tears}
-use Rattle.acts_rule.proofs.RingedClosed.{closed-tears}
+use Rattle.run_acts.specs.declared.run.Run.{Run}
+use Rattle.run_acts.specs.Acting.{told_of, IsSettled, IsClosedBehind, IsWithdrawn, IsPlaced, closed_breaks, noted_breaks, pulled_breaks}
+use Rattle.run_acts.proofs.RingedLines.{AreTears, up-to-tells}
+use Rattle.run_acts.proofs.RingedSecond.{tears-here_}
+use Rattle.run_acts.proofs.RingedPlace.{noted-tears}
+use Rattle.run_acts.proofs.RingedClosed.{closed-tears}
 use Rattle.recorder_rule.specs.Accepting.{IsAccepted, IsInserted}
 use Rattle.recorder_rule.specs.Acting.{IsDone}
 

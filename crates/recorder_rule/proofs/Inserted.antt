@@ -32,30 +32,30 @@ use Rattle.run_keeping.specs.Minutes.{Told, AreKept, none, more}
 use Rattle.run_within.specs.Within.{Beginning}
 use Rattle.run_within.specs.Taking.{IsPut, AreTearsAt, MayBeJudged}
 use Rattle.run_within.proofs.Putting.{card-put, entered-next}
-use Rattle.run_state.specs.declared.run.Run.{Run}
+use Rattle.run_acts.specs.declared.run.Run.{Run}
 use Rattle.run_crew.specs.Cabin.{SitsThere, Stands, with_card_in}
 use Rattle.run_crew.specs.Cards.{session_of}
 use Rattle.run_crew.specs.declared.cards.Accepted.{Accepted}
 use Rattle.side_model.specs.Noted.{Note}
 use Rattle.slot_machine.specs.declared.seats.Seat.{Seat}
-use Rattle.acts_rule.specs.Closings.{spells_of, last_slot, notes_within}
-use Rattle.acts_rule.specs.Truths.{truths_within, marked}
-use Rattle.acts_rule.specs.Stays.{sits_in, IsPlaced, AllStay}
-use Rattle.acts_rule.proofs.AllStay.{Moves, moves-bare, moves-same, placed-bare, placed-same, all-moved, log-self}
-use Rattle.acts_rule.proofs.SeatsThen.{same-as, put-other, filled-slot}
-use Rattle.acts_rule.proofs.NotesThen.{put-now}
+use Rattle.run_acts.specs.Closings.{spells_of, last_slot, notes_within}
+use Rattle.run_acts.specs.Truths.{truths_within, marked}
+use Rattle.run_acts.specs.Stays.{sits_in, IsPlaced, AllStay}
+use Rattle.run_acts.proofs.AllStay.{Moves, moves-bare, moves-same, placed-bare, placed-same, all-moved, log-self}
+use Rattle.run_acts.proofs.SeatsThen.{same-as, put-other, filled-slot}
+use Rattle.run_acts.proofs.NotesThen.{put-now}
 use Rattle.recorder_rule.proofs.Allowed.{insert-empty, insert-elsewhere}
 use Rattle.run_evented.specs.Noting.{Acting}
 use Rattle.run_evented.specs.SoFar.{EventedNow, puts_into}
-use Rattle.acts_rule.specs.Acting.{IsSettled, IsBareIn, told_of}
-use Rattle.acts_rule.specs.Evented.{EventsGoOn, EventsSettling, IsUntold}
-use Rattle.acts_rule.specs.Recording.{log_of, values_of, RunWithin, RunFails, GoesOnOrFails, IsNow}
-use Rattle.acts_rule.specs.Settling.{settled_run, RecordsSettling, SettlesTo, IsSettledIn}
+use Rattle.run_acts.specs.Acting.{IsSettled, IsBareIn, told_of}
+use Rattle.run_acts.specs.Evented.{EventsGoOn, EventsSettling, IsUntold}
+use Rattle.run_acts.specs.Recording.{log_of, values_of, RunWithin, RunFails, GoesOnOrFails, IsNow}
+use Rattle.run_acts.specs.Settling.{settled_run, RecordsSettling, SettlesTo, IsSettledIn}
 use Rattle.recorder_rule.specs.Accepting.{put_run}
 use Rattle.recorder_rule.specs.Judged.{moment_in, RunNext, JudgesSo, IsInTurn, EventsJudged}
 use Rattle.recorder_rule.specs.JudgedRings.{RingsJudged, IsJudgedInRings}
 use Rattle.recorder_rule.specs.JudgedCards.{CardsJudged, IsJudgedOnCards}
-use Rattle.acts_rule.specs.RunCards.{vehicle_in}
+use Rattle.run_acts.specs.RunCards.{vehicle_in}
 use Rattle.recorder_rule.proofs.ActsRecorded.{refuses}
 use Rattle.recorder_rule.proofs.Resumed.{judged-as}
 

@@ -36,17 +36,17 @@ use Rattle.run_ringed.specs.SoFar.{HasMoreBreaks}
 use Rattle.run_ringed.specs.Steps.{GoesOnTo, IsCutIn}
 use Rattle.run_ringed.proofs.SoFar.{failed-more}
 use Rattle.run_within.specs.Within.{course_in}
-use Rattle.run_state.specs.declared.run.Run.{Run}
-use Rattle.acts_rule.specs.Recording.{log_of, values_of, RunWithin}
-use Rattle.acts_rule.specs.RunRinged.{with_cut}
-use Rattle.acts_rule.specs.OnCards.{unclosed_by, events_by, accepts, moving_at, movings, enters, falls, may_note, is_clear, is_sure_in, NotesThem, AreUses}
-use Rattle.acts_rule.specs.RunCards.{vehicle_in, sizes_in, seen_behind, CardsIn, CardsGoOn, StillShow}
-use Rattle.acts_rule.proofs.CardCourse.{quiet-same, behind-more, behind-same}
-use Rattle.acts_rule.proofs.CardSecond.{any-more, quiet-shown, put-shown}
-use Rattle.acts_rule.proofs.CardShown.{FindsUses, FindsStill}
-use Rattle.acts_rule.proofs.CardUses.{tears-none, lines-still}
-use Rattle.acts_rule.proofs.RingedLines.{AreTears}
-use Rattle.acts_rule.proofs.RingedSecond.{cut-found, cut-torn, cut-failed}
+use Rattle.run_acts.specs.declared.run.Run.{Run}
+use Rattle.run_acts.specs.Recording.{log_of, values_of, RunWithin}
+use Rattle.run_acts.specs.RunRinged.{with_cut}
+use Rattle.run_acts.specs.OnCards.{unclosed_by, events_by, accepts, moving_at, movings, enters, falls, may_note, is_clear, is_sure_in, NotesThem, AreUses}
+use Rattle.run_acts.specs.RunCards.{vehicle_in, sizes_in, seen_behind, CardsIn, CardsGoOn, StillShow}
+use Rattle.run_acts.proofs.CardCourse.{quiet-same, behind-more, behind-same}
+use Rattle.run_acts.proofs.CardSecond.{any-more, quiet-shown, put-shown}
+use Rattle.run_acts.proofs.CardShown.{FindsUses, FindsStill}
+use Rattle.run_acts.proofs.CardUses.{tears-none, lines-still}
+use Rattle.run_acts.proofs.RingedLines.{AreTears}
+use Rattle.run_acts.proofs.RingedSecond.{cut-found, cut-torn, cut-failed}
 use Rattle.recorder_rule.specs.JudgedCards.{NotesNone, IsJudgedOnCards}
 use Rattle.recorder_rule.proofs.SettledLines.{TellsOn, tears-on}
 use Rattle.recorder_rule.proofs.RingsHere.{here-then, here-more, goes-to, course-then, course-cut, is-cut}

@@ -29,11 +29,11 @@ use Rattle.run_ringed.specs.Steps.{GoesOnTo, IsCutIn, nobody, spans_cut}
 use Rattle.run_ringed.proofs.SoFar.{go-on-in}
 use Rattle.run_ringed.proofs.Steps.{passes, action-cut, card-accepted, acceptance-is-cut}
 use Rattle.run_within.specs.Within.{Beginning, course_in}
-use Rattle.run_state.specs.declared.run.Run.{Run}
-use Rattle.acts_rule.specs.Recording.{log_of, values_of, RunWithin}
-use Rattle.acts_rule.specs.RunRinged.{seats_of, IsLastFrom, RingsWithin, with_cut, RingsGoOn}
-use Rattle.acts_rule.proofs.RingedLines.{AreTears}
-use Rattle.acts_rule.proofs.RingedSecond.{odometer-here, cut-found, since-begun}
+use Rattle.run_acts.specs.declared.run.Run.{Run}
+use Rattle.run_acts.specs.Recording.{log_of, values_of, RunWithin}
+use Rattle.run_acts.specs.RunRinged.{seats_of, IsLastFrom, RingsWithin, with_cut, RingsGoOn}
+use Rattle.run_acts.proofs.RingedLines.{AreTears}
+use Rattle.run_acts.proofs.RingedSecond.{odometer-here, cut-found, since-begun}
 use Rattle.recorder_rule.specs.JudgedRings.{JudgedInRings, IsJudgedInRings}
 use Rattle.recorder_rule.proofs.SettledLines.{TellsOn, tears-on}
 use Rattle.recorder_rule.proofs.RingsHere.{here-then, here-more, goes-to, course-then, course-cut, is-cut}

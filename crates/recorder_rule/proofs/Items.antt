@@ -10,8 +10,8 @@ use Rattle.trace_text.specs.Line.{InRange}
 use Rattle.run_outcome.specs.declared.outcome.Outcome.{Outcome}
 use Rattle.run_outcome.specs.Room.{off_count, insertions, insertion_count}
 use Rattle.run_outcome.proofs.Items.{insertions-here}
-use Rattle.run_state.specs.declared.run.Run.{Run}
-use Rattle.acts_rule.specs.Room.{cuts_from, HasRoom}
+use Rattle.run_acts.specs.declared.run.Run.{Run}
+use Rattle.run_acts.specs.Room.{cuts_from, HasRoom}
 use Rattle.recorder_rule.specs.Items.{insertions_in}
 use Rattle.recorder_rule.proofs.Rooms.{room-less}
 use Rattle.recorder_rule.specs.Gone.{first_waiting, has_seconds}

@@ -13,11 +13,11 @@ use Rattle.run_told.specs.Told.{arranged}
 use Rattle.run_outcome.specs.declared.outcome.Outcome.{Outcome}
 use Rattle.run_recorded.specs.Origin.{Origin}
 use Rattle.run_keeping.specs.Books.{HaveTime}
-use Rattle.acts_rule.specs.Entered.{IsFoundBy, GoesOnOrIsCut}
+use Rattle.run_acts.specs.Entered.{IsFoundBy, GoesOnOrIsCut}
 use Rattle.run_within.specs.Within.{Beginning}
-use Rattle.run_state.specs.declared.run.Run.{Run}
-use Rattle.run_state.specs.declared.run.Power.TheVariants.{Lit}
-use Rattle.acts_rule.specs.Recording.{log_of, IsOrigin, values_of, RunWithin}
+use Rattle.run_acts.specs.declared.run.Run.{Run}
+use Rattle.run_acts.specs.declared.run.Power.TheVariants.{Lit}
+use Rattle.run_acts.specs.Recording.{log_of, IsOrigin, values_of, RunWithin}
 use Rattle.activity_codec.specs.declared.values.Slot.{Slot}
 use Rattle.unit_model.specs.Image.{IsUnit, odometer_at}
 use Rattle.unit_notes.specs.declared.unit_event.UnitEvent.{UnitEvent}
@@ -28,15 +28,15 @@ use Rattle.run_entering.specs.Entering.{Way, ending_of, measured}
 use Rattle.run_keeping.specs.declared.keeper.Keeper.{Keeper}
 use Rattle.recorder_rule.specs.EnteredEvents.{events_in}
 use Rattle.run_entering.specs.Noted.{UnitNote, IsOnUnit, IsComing, HasNoted, notes_by}
-use Rattle.acts_rule.specs.NotedEvents.{NotesEvents}
-use Rattle.acts_rule.proofs.NotedEvents.{quiet-noted}
+use Rattle.run_acts.specs.NotedEvents.{NotesEvents}
+use Rattle.run_acts.proofs.NotedEvents.{quiet-noted}
 use Rattle.recorder_rule.proofs.EnteredEvents.{entered-noted}
 use Rattle.recorder_rule.specs.Accepting.{IsAccepted}
 use Rattle.recorder_rule.specs.Judged.{JudgedTo}
 use Rattle.recorder_rule.specs.Noting.{IsJudgedNoting, NotesAnew}
-use Rattle.acts_rule.specs.Closings.{notes_within}
-use Rattle.acts_rule.specs.Truths.{truths_within, marked}
-use Rattle.acts_rule.specs.Stays.{AllStay}
+use Rattle.run_acts.specs.Closings.{notes_within}
+use Rattle.run_acts.specs.Truths.{truths_within, marked}
+use Rattle.run_acts.specs.Stays.{AllStay}
 
 -- its clock is not at its last value
 pub mine-time : (which : Card) (unit mine others : State) → HaveTime (arranged which unit mine others) → mine.clock < last_count

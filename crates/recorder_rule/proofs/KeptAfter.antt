@@ -24,12 +24,12 @@ use Rattle.run_recorded.specs.Origin.{Origin}
 use Rattle.run_recorded.specs.Ends.{AreFound}
 use Rattle.run_ringed.specs.Stored.{IsFoundEnd, IsOpenEnd, StoresOn, StoresOff, Stores}
 use Rattle.run_outcome.specs.declared.outcome.Outcome.{Outcome}
-use Rattle.run_state.specs.declared.run.Run.{Run}
-use Rattle.run_state.specs.declared.run.Power.{Power}
-use Rattle.run_state.specs.declared.run.Power.TheVariants.{Lit, Due, Lost}
-use Rattle.run_state.specs.Power.{is_lit}
+use Rattle.run_acts.specs.declared.run.Run.{Run}
+use Rattle.run_acts.specs.declared.run.Power.{Power}
+use Rattle.run_acts.specs.declared.run.Power.TheVariants.{Lit, Due, Lost}
+use Rattle.run_acts.specs.Power.{is_lit}
 use Rattle.run_within.specs.Recorded.{Recorded}
-use Rattle.acts_rule.specs.Recording.{log_of as log_in, values_of, Supplies, RunRecorded}
+use Rattle.run_acts.specs.Recording.{log_of as log_in, values_of, Supplies, RunRecorded}
 use Rattle.recorder_rule.specs.KeptAfter.{WasKept, IsFoundAfter, AreFoundAfter}
 
 -- ---- what a log tells of a cut

@@ -12,8 +12,8 @@ use Rattle.run_keeping.specs.Minutes.{Round, Told, AreKept, none, more, AreKeptU
 use Rattle.run_keeping.proofs.Counts.{lines-length}
 use Rattle.run_entering.specs.declared.lines.Entering.{Entering}
 use Rattle.run_entering.specs.Entering.{ending_of, breaks_by as entered_breaks}
-use Rattle.run_state.specs.declared.run.Run.{Run}
-use Rattle.acts_rule.specs.Acting.{IsSettled}
+use Rattle.run_acts.specs.declared.run.Run.{Run}
+use Rattle.run_acts.specs.Acting.{IsSettled}
 use Rattle.recorder_rule.specs.Accepting.{IsAccepted, IsInserted}
 
 round-more : (present : Present) (minute : ℕ) (at : Moment) (round : Round) (t : Told) → length t.breaks.items ≤ length (told_after present minute at round t).breaks.items

@@ -30,13 +30,13 @@ use Rattle.run_evented.specs.Uses.{notes_in, uses_in}
 use Rattle.run_evented.proofs.Lines.{early}
 use Rattle.run_evented.proofs.Exact.{fewer-none}
 use Rattle.run_ringed.proofs.SoFar.{failed-more}
-use Rattle.acts_rule.specs.OnCards.{as_accepted, accepted_in, gaps_on}
-use Rattle.acts_rule.specs.RunCards.{vehicle_in, sizes_in, CardShown, CardsBehind}
-use Rattle.acts_rule.proofs.OnCards.{gaps-next, still-same}
-use Rattle.acts_rule.proofs.CardCourse.{Finding, findings, behind-same}
-use Rattle.acts_rule.proofs.CardShown.{Follows, goes-on}
-use Rattle.acts_rule.proofs.CardSecond.{is_now, standing-is}
-use Rattle.acts_rule.proofs.CardGaps.{kept-before, between-same, before-same, low-spans}
+use Rattle.run_acts.specs.OnCards.{as_accepted, accepted_in, gaps_on}
+use Rattle.run_acts.specs.RunCards.{vehicle_in, sizes_in, CardShown, CardsBehind}
+use Rattle.run_acts.proofs.OnCards.{gaps-next, still-same}
+use Rattle.run_acts.proofs.CardCourse.{Finding, findings, behind-same}
+use Rattle.run_acts.proofs.CardShown.{Follows, goes-on}
+use Rattle.run_acts.proofs.CardSecond.{is_now, standing-is}
+use Rattle.run_acts.proofs.CardGaps.{kept-before, between-same, before-same, low-spans}
 use Rattle.recorder_rule.proofs.OffRings.{order, number, same, front-same, power, tells, notes-same}
 
 -- a cut leaves what was found, entered and torn out

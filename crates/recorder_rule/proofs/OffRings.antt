@@ -45,8 +45,8 @@ use Rattle.run_evented.proofs.Noted.{second-notes}
 use Rattle.run_ringed.proofs.OnCards.{call-failed-more, places-itself}
 use Rattle.run_ringed.proofs.Rings.{fewer-sit, rings-stay, come-before}
 use Rattle.run_ringed.proofs.SoFar.{failed-more, goes-alike, left-itself}
-use Rattle.acts_rule.specs.Truths.{Grow, truths_of}
-use Rattle.acts_rule.proofs.TruthsThen.{truths-end}
+use Rattle.run_acts.specs.Truths.{Grow, truths_of}
+use Rattle.run_acts.proofs.TruthsThen.{truths-end}
 
 -- ---- the spans: the last second of the last one is a cut's
 

@@ -6,8 +6,8 @@ use Rattle.tach_media.specs.Medium.{State}
 use Rattle.card_layout.specs.declared.command.CardState.{CardState}
 use Rattle.minute_model.specs.Span.{picked}
 use Rattle.minute_rules.specs.Kept.{StandsFor, Kept as Minutes}
-use Rattle.run_state.specs.declared.run.Run.{Run}
-use Rattle.run_state.specs.Going.{IsLit}
+use Rattle.run_acts.specs.declared.run.Run.{Run}
+use Rattle.run_acts.specs.Going.{IsLit}
 
 module _ {U A0 B0 : State} {chip_a chip_b : CardState} (to : ℕ) (run : Run) (minutes : Minutes) (slot : Slot) (pick : Pick) where
   pub picked-going : (g : IsLit to run U chip_a chip_b A0 B0) → StandsFor minutes (picked g.span slot pick) → IsLit to (record run { minutes = minutes }) U chip_a chip_b A0 B0

@@ -76,20 +76,20 @@ use Rattle.run_opening.specs.Cards.{IsFoundOn, number_by}
 use Rattle.run_opening.specs.declared.opening.Opened.{Opened}
 use Rattle.run_opening.proofs.Told.{valid-known}
 use Rattle.run_outcome.specs.declared.outcome.Outcome.{Outcome}
-use Rattle.run_state.specs.declared.run.Run.{Run}
-use Rattle.run_state.specs.declared.run.Power.{Power}
-use Rattle.run_state.specs.declared.run.Power.TheVariants.{Lit, Due}
-use Rattle.run_state.specs.Power.{is_lit}
-use Rattle.acts_rule.specs.Recording.{log_of, values_of, IsOrigin, Supplies, RunRecorded}
-use Rattle.acts_rule.proofs.StoredRun.{end-stores}
-use Rattle.acts_rule.specs.Evented.{RunEvented}
-use Rattle.acts_rule.specs.Ringing.{seating_of}
-use Rattle.acts_rule.specs.RunRinged.{seats_of, RunRinged}
-use Rattle.acts_rule.specs.OnCards.{accepted_on, ShowsOn, AreUses}
-use Rattle.acts_rule.specs.RunCards.{vehicle_in, sizes_in}
-use Rattle.acts_rule.proofs.StayUses.{shown-use}
-use Rattle.acts_rule.proofs.OnCards.{start-shown}
-use Rattle.acts_rule.proofs.Numbers.{own-long}
+use Rattle.run_acts.specs.declared.run.Run.{Run}
+use Rattle.run_acts.specs.declared.run.Power.{Power}
+use Rattle.run_acts.specs.declared.run.Power.TheVariants.{Lit, Due}
+use Rattle.run_acts.specs.Power.{is_lit}
+use Rattle.run_acts.specs.Recording.{log_of, values_of, IsOrigin, Supplies, RunRecorded}
+use Rattle.run_acts.proofs.StoredRun.{end-stores}
+use Rattle.run_acts.specs.Evented.{RunEvented}
+use Rattle.run_acts.specs.Ringing.{seating_of}
+use Rattle.run_acts.specs.RunRinged.{seats_of, RunRinged}
+use Rattle.run_acts.specs.OnCards.{accepted_on, ShowsOn, AreUses}
+use Rattle.run_acts.specs.RunCards.{vehicle_in, sizes_in}
+use Rattle.run_acts.proofs.StayUses.{shown-use}
+use Rattle.run_acts.proofs.OnCards.{start-shown}
+use Rattle.run_acts.proofs.Numbers.{own-long}
 use Rattle.recorder_rule.specs.Carded.{RunCarded}
 use Rattle.recorder_rule.specs.Ends.{BeginAs, recorded_with, recording_of, opened_with, origin_of, MayRecord, EndsTrace}
 use Rattle.recorder_rule.specs.Side.{ShowTheSide}
@@ -99,10 +99,10 @@ use Rattle.recorder_rule.specs.Placed.{ShowsPlaces}
 use Rattle.recorder_rule.proofs.KeptAfter.{end-kept}
 use Rattle.recorder_rule.specs.LastKept.{TellsLast}
 use Rattle.recorder_rule.proofs.LastKept.{safe-last}
-use Rattle.acts_rule.specs.Closings.{spells_of}
-use Rattle.acts_rule.specs.Comings.{TellsMore}
-use Rattle.acts_rule.proofs.Comings.{tells-none}
-use Rattle.acts_rule.specs.Stays.{Stay, Coming, comings_on, registration_in, AreMerged, spells, sits_in, HasStays, ShowsStays, start_shown, AreOwed, AreJudged, is_late}
+use Rattle.run_acts.specs.Closings.{spells_of}
+use Rattle.run_acts.specs.Comings.{TellsMore}
+use Rattle.run_acts.proofs.Comings.{tells-none}
+use Rattle.run_acts.specs.Stays.{Stay, Coming, comings_on, registration_in, AreMerged, spells, sits_in, HasStays, ShowsStays, start_shown, AreOwed, AreJudged, is_late}
 use Rattle.recorder_rule.proofs.AtEnd.{noted-at-end, sits-at-end, words-so, odometers-so, owes-so}
 use Rattle.run_recorded.specs.Whole.{NothingFailed}
 use Rattle.run_crew.specs.Cabin.{Stands}
@@ -110,9 +110,9 @@ use Rattle.std.specs.Prelude.{filter}
 use Rattle.log_model.specs.Log.{is_accepting}
 use Rattle.log_model.specs.Causes.{device_of}
 use Rattle.log_model.specs.declared.lines.Find.{Find}
-use Rattle.acts_rule.proofs.Stays.{stays-start}
-use Rattle.acts_rule.proofs.AllStay.{placed-bare}
-use Rattle.acts_rule.specs.Owed.{IsOwed}
+use Rattle.run_acts.proofs.Stays.{stays-start}
+use Rattle.run_acts.proofs.AllStay.{placed-bare}
+use Rattle.run_acts.specs.Owed.{IsOwed}
 
 -- what holds of either card
 pub both : (P : Card → Type 0) → P A → P B → (c : Card) → P c

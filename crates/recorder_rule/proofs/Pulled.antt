@@ -16,12 +16,12 @@ use Rattle.run_keeping.specs.Keeping.{CardReady, with_lines}
 use Rattle.run_keeping.proofs.Counts.{lines-length}
 use Rattle.run_keeping.proofs.Sessions.{number-set, row-set}
 use Rattle.run_keeping.proofs.Units.{has-row}
-use Rattle.run_state.specs.declared.run.Run.{Run}
-use Rattle.run_state.specs.Going.{CardAt, IsHeld, IsLit}
-use Rattle.acts_rule.specs.Room.{Takes}
-use Rattle.acts_rule.proofs.Torn.{torn-past, torn-minute, torn-sessions, sitting-falls, is-there}
-use Rattle.acts_rule.specs.Acting.{pulled_run, pulled_breaks, pull_of}
-use Rattle.acts_rule.proofs.Cabins.{cabin-going, cabin-held}
+use Rattle.run_acts.specs.declared.run.Run.{Run}
+use Rattle.run_acts.specs.Going.{CardAt, IsHeld, IsLit}
+use Rattle.run_acts.specs.Room.{Takes}
+use Rattle.run_acts.proofs.Torn.{torn-past, torn-minute, torn-sessions, sitting-falls, is-there}
+use Rattle.run_acts.specs.Acting.{pulled_run, pulled_breaks, pull_of}
+use Rattle.run_acts.proofs.Cabins.{cabin-going, cabin-held}
 use Rattle.recorder_rule.specs.Acting.{StaysIn}
 
 -- a card whose session was taken, or the other one

@@ -13,11 +13,11 @@ use Rattle.run_crew.specs.Cards.{session_of}
 use Rattle.run_crew.specs.Cabin.{Stands, with_card_in}
 use Rattle.run_keeping.proofs.Seats.{sessions-none}
 use Rattle.run_outcome.specs.declared.outcome.Outcome.{Outcome}
-use Rattle.run_state.specs.declared.run.Run.{Run}
-use Rattle.run_state.specs.Going.{IsHeld, IsLit}
-use Rattle.acts_rule.specs.Room.{bare_count, falls_of, Takes}
-use Rattle.acts_rule.proofs.Kept.{moved-going}
-use Rattle.acts_rule.specs.Acting.{IsBareIn}
+use Rattle.run_acts.specs.declared.run.Run.{Run}
+use Rattle.run_acts.specs.Going.{IsHeld, IsLit}
+use Rattle.run_acts.specs.Room.{bare_count, falls_of, Takes}
+use Rattle.run_acts.proofs.Kept.{moved-going}
+use Rattle.run_acts.specs.Acting.{IsBareIn}
 use Rattle.recorder_rule.specs.Accepting.{put_run}
 use Rattle.recorder_rule.proofs.Comes.{bare-of}
 

@@ -29,11 +29,11 @@ use Rattle.run_within.specs.Powering.{GoOn, read_values}
 use Rattle.run_within.proofs.Powering.{off-of}
 use Rattle.run_within.proofs.Known.{before-due}
 use Rattle.run_within.proofs.Calls.{goes-on}
-use Rattle.run_state.specs.declared.run.Run.{Run}
-use Rattle.run_state.specs.declared.run.Power.{Power}
-use Rattle.run_state.specs.declared.run.Power.TheVariants.{Lit, Due, Lost}
-use Rattle.run_state.specs.Power.{is_lit, has_power}
-use Rattle.acts_rule.specs.Recording.{Supplies, log_of, values_of}
+use Rattle.run_acts.specs.declared.run.Run.{Run}
+use Rattle.run_acts.specs.declared.run.Power.{Power}
+use Rattle.run_acts.specs.declared.run.Power.TheVariants.{Lit, Due, Lost}
+use Rattle.run_acts.specs.Power.{is_lit, has_power}
+use Rattle.run_acts.specs.Recording.{Supplies, log_of, values_of}
 
 -- ---- where power may come
 

@@ -71,29 +71,29 @@ use Rattle.run_within.specs.Waking.{IsWaking, both_slots}
 use Rattle.run_within.proofs.Powering.{off-of, power-wakes, mending-fails}
 use Rattle.run_within.proofs.Calls.{is-back, only-read}
 use Rattle.run_within.proofs.Waking.{but-first, next-waking, find-other}
-use Rattle.run_state.specs.declared.run.Run.{Run}
-use Rattle.run_state.specs.declared.run.Power.TheVariants.{Lit}
-use Rattle.run_state.specs.Power.{IsSpanBegun, is_lit}
-use Rattle.acts_rule.specs.Recording.{IsOrigin, log_of, values_of, RunWithin, ComesPower, GoesOnOrCut, GoesOnOrFails}
-use Rattle.acts_rule.proofs.NoteRecorded.{same-course}
-use Rattle.acts_rule.proofs.Stored.{stored-back}
+use Rattle.run_acts.specs.declared.run.Run.{Run}
+use Rattle.run_acts.specs.declared.run.Power.TheVariants.{Lit}
+use Rattle.run_acts.specs.Power.{IsSpanBegun, is_lit}
+use Rattle.run_acts.specs.Recording.{IsOrigin, log_of, values_of, RunWithin, ComesPower, GoesOnOrCut, GoesOnOrFails}
+use Rattle.run_acts.proofs.NoteRecorded.{same-course}
+use Rattle.run_acts.proofs.Stored.{stored-back}
 use Rattle.recorder_rule.specs.Accepting.{IsBare, IsAnew}
 use Rattle.recorder_rule.specs.Judged.{moment_in, RunNext, RunBehind, JudgedTo, JudgesAnew}
 use Rattle.recorder_rule.proofs.Read.{unit-tells, image-of, at-image}
 use Rattle.recorder_rule.proofs.StoredCalls.{mend-stays}
 use Rattle.side_model.specs.Noted.{Note}
 use Rattle.run_ringed.specs.Ringed.{notes_in}
-use Rattle.acts_rule.specs.Closings.{spells_of, notes_within}
+use Rattle.run_acts.specs.Closings.{spells_of, notes_within}
 use Rattle.run_crew.specs.declared.cards.Accepted.{Accepted}
 use Rattle.run_crew.specs.Cards.{session_of}
-use Rattle.acts_rule.specs.Truths.{Grow, truths_of, truths_within, marked}
-use Rattle.acts_rule.specs.Stays.{sits_in, AllStay}
+use Rattle.run_acts.specs.Truths.{Grow, truths_of, truths_within, marked}
+use Rattle.run_acts.specs.Stays.{sits_in, AllStay}
 use Rattle.run_rings.proofs.Same.{rings-moments, behind-same}
-use Rattle.acts_rule.proofs.Comings.{leaves-more}
-use Rattle.acts_rule.proofs.AllStay.{all-unit, all-of, all-noted, all-true, all-second, found-on}
-use Rattle.acts_rule.proofs.NotesThen.{notes-wake, notes-found, went-found}
-use Rattle.acts_rule.proofs.Truths.{grow-on, marked-still}
-use Rattle.acts_rule.proofs.TruthsThen.{truths-begin, truths-same}
+use Rattle.run_acts.proofs.Comings.{leaves-more}
+use Rattle.run_acts.proofs.AllStay.{all-unit, all-of, all-noted, all-true, all-second, found-on}
+use Rattle.run_acts.proofs.NotesThen.{notes-wake, notes-found, went-found}
+use Rattle.run_acts.proofs.Truths.{grow-on, marked-still}
+use Rattle.run_acts.proofs.TruthsThen.{truths-begin, truths-same}
 
 -- ---- a run at its power-on
 

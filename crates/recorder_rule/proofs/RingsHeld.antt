@@ -21,10 +21,10 @@ use Rattle.run_outcome.specs.declared.outcome.Outcome.{Outcome}
 use Rattle.run_recorded.specs.Origin.{Origin}
 use Rattle.run_rings.specs.Notes.{TellSameTo, course_behind}
 use Rattle.run_ringed.specs.Steps.{GoesOnTo}
-use Rattle.run_state.specs.declared.run.Run.{Run}
-use Rattle.run_state.specs.Power.{is_lit}
-use Rattle.acts_rule.specs.Recording.{log_of}
-use Rattle.acts_rule.specs.RunRinged.{RingsWithin, WithinRinged, CutRinged, InSecondRingedBy, InSecondRinged}
+use Rattle.run_acts.specs.declared.run.Run.{Run}
+use Rattle.run_acts.specs.Power.{is_lit}
+use Rattle.run_acts.specs.Recording.{log_of}
+use Rattle.run_acts.specs.RunRinged.{RingsWithin, WithinRinged, CutRinged, InSecondRingedBy, InSecondRinged}
 
 -- ---- with power, or cut
 

@@ -28,8 +28,8 @@ use Rattle.run_ringed.specs.Steps.{GoesOnTo, IsCutIn}
 use Rattle.run_evented.proofs.Lines.{same-before}
 use Rattle.run_within.specs.Recorded.{Values}
 use Rattle.run_within.specs.Within.{Within}
-use Rattle.acts_rule.specs.RunRinged.{with_cut}
-use Rattle.acts_rule.proofs.RingedSecond.{cut-is, cut-torn, cut-found, cut-failed, power-here}
+use Rattle.run_acts.specs.RunRinged.{with_cut}
+use Rattle.run_acts.proofs.RingedSecond.{cut-is, cut-torn, cut-found, cut-failed, power-here}
 use Rattle.recorder_rule.specs.JudgedRings.{TellsHere}
 
 -- ---- lines of one second

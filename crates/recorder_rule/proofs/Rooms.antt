@@ -2,16 +2,16 @@
 use Rattle.std.proofs.Common.{◌≡◌, ℕ, ◌+◌, ◌-◌, ◌*◌, ◌/◌, ◌≤◌, length, ap, arith}
 use Rattle.run_outcome.specs.declared.outcome.TheConstants.{MOST_OWED}
 use Rattle.run_outcome.specs.declared.outcome.Outcome.{Outcome}
-use Rattle.run_state.specs.declared.run.Run.{Run}
-use Rattle.run_state.specs.declared.run.Power.{Power}
-use Rattle.run_state.specs.declared.run.Power.TheVariants.{Lit, Lost}
-use Rattle.run_state.specs.Power.{is_lit}
-use Rattle.acts_rule.specs.Room.{waiting, falls_of, finds_due, cuts_within, HasRoomFrom, HasRoomWithin, Takes}
+use Rattle.run_acts.specs.declared.run.Run.{Run}
+use Rattle.run_acts.specs.declared.run.Power.{Power}
+use Rattle.run_acts.specs.declared.run.Power.TheVariants.{Lit, Lost}
+use Rattle.run_acts.specs.Power.{is_lit}
+use Rattle.run_acts.specs.Room.{waiting, falls_of, finds_due, cuts_within, HasRoomFrom, HasRoomWithin, Takes}
 use Rattle.tach_media.specs.Medium.{State}
 use Rattle.card_layout.specs.declared.command.CardState.{CardState}
-use Rattle.run_state.specs.Going.{IsLit}
-use Rattle.acts_rule.proofs.Kept.{owing-sum}
-use Rattle.acts_rule.proofs.Torn.{bare-two}
+use Rattle.run_acts.specs.Going.{IsLit}
+use Rattle.run_acts.proofs.Kept.{owing-sum}
+use Rattle.run_acts.proofs.Torn.{bare-two}
 
 -- no more minutes wait than there are
 pub few-wait : {U A0 B0 : State} {chip_a chip_b : CardState} (to : ℕ) (run : Run) → IsLit to run U chip_a chip_b A0 B0 → run.minutes.owing ≤ run.next / 60

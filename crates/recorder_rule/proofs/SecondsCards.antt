@@ -25,18 +25,18 @@ use Rattle.run_recorded.specs.Origin.{Origin, rule_of, start_at, first_of}
 use Rattle.run_within.specs.Recorded.{progress}
 use Rattle.run_evented.proofs.Lines.{early-before}
 use Rattle.run_evented.proofs.Unlit.{acted-last, off-last, behind-more}
-use Rattle.run_state.specs.declared.run.Run.{Run}
-use Rattle.run_state.specs.declared.run.Power.{Power}
-use Rattle.run_state.specs.declared.run.Power.TheVariants.{Lit, Due, Lost}
+use Rattle.run_acts.specs.declared.run.Run.{Run}
+use Rattle.run_acts.specs.declared.run.Power.{Power}
+use Rattle.run_acts.specs.declared.run.Power.TheVariants.{Lit, Due, Lost}
 use Rattle.run_crew.specs.Cabin.{Stands}
-use Rattle.run_state.specs.Power.{is_lit, has_power as has_by, over_by, darkened, off_run, off_cut, passed}
-use Rattle.run_state.specs.Going.{first_second}
-use Rattle.acts_rule.specs.Recording.{log_of, values_of, Supplies, RunRecorded}
-use Rattle.acts_rule.specs.Turning.{IsTurnOf, IsLitTurn, cut_where, told_of, late_moment}
-use Rattle.acts_rule.specs.RunRinged.{RunRinged, InSecondRinged}
-use Rattle.acts_rule.specs.RunCards.{vehicle_in, CardsBehind, CardsIn, CardsAtBy}
-use Rattle.acts_rule.proofs.CardEnds.{IsLater, second-begins, plain-second, plain-same}
-use Rattle.acts_rule.proofs.CardUses.{untold-to}
+use Rattle.run_acts.specs.Power.{is_lit, has_power as has_by, over_by, darkened, off_run, off_cut, passed}
+use Rattle.run_acts.specs.Going.{first_second}
+use Rattle.run_acts.specs.Recording.{log_of, values_of, Supplies, RunRecorded}
+use Rattle.run_acts.specs.Turning.{IsTurnOf, IsLitTurn, cut_where, told_of, late_moment}
+use Rattle.run_acts.specs.RunRinged.{RunRinged, InSecondRinged}
+use Rattle.run_acts.specs.RunCards.{vehicle_in, CardsBehind, CardsIn, CardsAtBy}
+use Rattle.run_acts.proofs.CardEnds.{IsLater, second-begins, plain-second, plain-same}
+use Rattle.run_acts.proofs.CardUses.{untold-to}
 use Rattle.recorder_rule.specs.Carded.{RunCarded, InSecondCardedBy, InSecondCarded}
 use Rattle.recorder_rule.proofs.SecondsRecorded.{refused_dark, lost-away, lost-supply}
 use Rattle.recorder_rule.proofs.SecondsRinged.{refused-all, lost, away, dark-ringed, off-ringed}

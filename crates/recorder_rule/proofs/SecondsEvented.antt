@@ -17,13 +17,13 @@ use Rattle.run_within.specs.Recorded.{progress}
 use Rattle.run_evented.specs.Evented.{Evented}
 use Rattle.run_evented.proofs.Unlit.{dark-seconds, off-line, off-line_cuts}
 use Rattle.unit_memory.specs.declared.format.Identity.{Identity}
-use Rattle.run_state.specs.declared.run.Run.{Run}
-use Rattle.run_state.specs.declared.run.Power.{Power}
-use Rattle.run_state.specs.declared.run.Power.TheVariants.{Lit, Due, Lost}
+use Rattle.run_acts.specs.declared.run.Run.{Run}
+use Rattle.run_acts.specs.declared.run.Power.{Power}
+use Rattle.run_acts.specs.declared.run.Power.TheVariants.{Lit, Due, Lost}
 use Rattle.run_crew.specs.Cabin.{Stands}
-use Rattle.run_state.specs.Power.{is_lit, has_power, darkened, off_run, off_cut, passed}
-use Rattle.acts_rule.specs.Recording.{log_of, values_of, Supplies, RunRecorded}
-use Rattle.acts_rule.specs.Evented.{RunEvented, LastAt}
+use Rattle.run_acts.specs.Power.{is_lit, has_power, darkened, off_run, off_cut, passed}
+use Rattle.run_acts.specs.Recording.{log_of, values_of, Supplies, RunRecorded}
+use Rattle.run_acts.specs.Evented.{RunEvented, LastAt}
 use Rattle.run_keeping.proofs.Fates.{no-lines}
 use Rattle.recorder_rule.proofs.SecondsRecorded.{refused_dark, lost-away, lost-supply, dark-run, off-seconds}
 

@@ -23,12 +23,12 @@ use Rattle.run_recorded.specs.Seconds.{fault_of, refused_for}
 use Rattle.run_within.specs.Recorded.{Recorded}
 use Rattle.run_within.specs.Going.{off_values}
 use Rattle.run_within.proofs.Going.{dark-recorded, off-recorded, off-cut-recorded}
-use Rattle.run_state.specs.declared.run.Run.{Run}
-use Rattle.run_state.specs.declared.run.Power.{Power}
-use Rattle.run_state.specs.declared.run.Power.TheVariants.{Lit, Due, Lost}
-use Rattle.run_state.specs.Power.{is_lit, has_power, darkened, off_run, off_cut, passed}
-use Rattle.acts_rule.specs.Turning.{IsTurnOf}
-use Rattle.acts_rule.specs.Recording.{log_of, values_of, Supplies, RunRecorded}
+use Rattle.run_acts.specs.declared.run.Run.{Run}
+use Rattle.run_acts.specs.declared.run.Power.{Power}
+use Rattle.run_acts.specs.declared.run.Power.TheVariants.{Lit, Due, Lost}
+use Rattle.run_acts.specs.Power.{is_lit, has_power, darkened, off_run, off_cut, passed}
+use Rattle.run_acts.specs.Turning.{IsTurnOf}
+use Rattle.run_acts.specs.Recording.{log_of, values_of, Supplies, RunRecorded}
 use Rattle.recorder_rule.specs.Acting.{IsItemActed, AreActed}
 use Rattle.recorder_rule.specs.Recorded.{Inside, Between, action_of, actions_in, HasBegunBy, HasRunBy}
 use Rattle.trace_model.specs.declared.Card.{Card}
@@ -40,14 +40,14 @@ use Rattle.side_model.specs.Noted.{Note}
 use Rattle.run_recorded.specs.Origin.{rule_of, start_at, first_of}
 use Rattle.run_ringed.specs.Ringed.{notes_in}
 use Rattle.run_within.specs.Recorded.{progress}
-use Rattle.acts_rule.specs.Closings.{spells_of}
-use Rattle.acts_rule.specs.Truths.{truths_of, marked}
-use Rattle.acts_rule.specs.Stays.{sits_in, AllStay}
-use Rattle.acts_rule.proofs.AllStay.{moves-gone, placed-bare, all-moved, all-noted, all-true, lines-on}
-use Rattle.acts_rule.proofs.Truths.{grow-on, marked-still}
-use Rattle.acts_rule.proofs.TruthsThen.{truths-same, truths-more}
-use Rattle.acts_rule.proofs.SeatsThen.{sits-in-one}
-use Rattle.acts_rule.proofs.NotesThen.{notes-off, notes-lost, notes-refused, went-refused}
+use Rattle.run_acts.specs.Closings.{spells_of}
+use Rattle.run_acts.specs.Truths.{truths_of, marked}
+use Rattle.run_acts.specs.Stays.{sits_in, AllStay}
+use Rattle.run_acts.proofs.AllStay.{moves-gone, placed-bare, all-moved, all-noted, all-true, lines-on}
+use Rattle.run_acts.proofs.Truths.{grow-on, marked-still}
+use Rattle.run_acts.proofs.TruthsThen.{truths-same, truths-more}
+use Rattle.run_acts.proofs.SeatsThen.{sits-in-one}
+use Rattle.run_acts.proofs.NotesThen.{notes-off, notes-lost, notes-refused, went-refused}
 use Rattle.recorder_rule.proofs.OffRings.{off-cut-notes, off-cut-true}
 
 -- ---- a second without power

@@ -35,14 +35,14 @@ use Rattle.run_ringed.specs.SoFar.{RingedBehind, GoesBehind}
 use Rattle.run_ringed.specs.Stored.{StoresOff, Stores}
 use Rattle.run_ringed.proofs.SoFar.{dark-ends}
 use Rattle.run_ringed.proofs.Bases.{stored-dark}
-use Rattle.run_state.specs.declared.run.Run.{Run}
-use Rattle.run_state.specs.declared.run.Power.{Power}
-use Rattle.run_state.specs.declared.run.Power.TheVariants.{Lit, Due, Lost}
+use Rattle.run_acts.specs.declared.run.Run.{Run}
+use Rattle.run_acts.specs.declared.run.Power.{Power}
+use Rattle.run_acts.specs.declared.run.Power.TheVariants.{Lit, Due, Lost}
 use Rattle.run_crew.specs.Cabin.{Stands}
-use Rattle.run_state.specs.Power.{is_lit, has_power as has_by, darkened, off_run, off_cut, passed}
-use Rattle.acts_rule.specs.Recording.{log_of, values_of, Supplies, RunRecorded}
-use Rattle.acts_rule.specs.RunRinged.{seats_of, RunRinged}
-use Rattle.acts_rule.proofs.StoredRun.{run-off}
+use Rattle.run_acts.specs.Power.{is_lit, has_power as has_by, darkened, off_run, off_cut, passed}
+use Rattle.run_acts.specs.Recording.{log_of, values_of, Supplies, RunRecorded}
+use Rattle.run_acts.specs.RunRinged.{seats_of, RunRinged}
+use Rattle.run_acts.proofs.StoredRun.{run-off}
 use Rattle.recorder_rule.proofs.SecondsRecorded.{refused_dark, lost-away, lost-supply}
 use Rattle.recorder_rule.proofs.SecondsEvented.{dark-evented, off-evented}
 use Rattle.recorder_rule.proofs.OffRings.{cut_off, off-cut-rings}

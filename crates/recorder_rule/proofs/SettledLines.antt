@@ -6,8 +6,8 @@ use Rattle.log_model.specs.Log.{RunLog, In, same_phase, cut_in}
 use Rattle.log_model.specs.declared.lines.Break.{Break}
 use Rattle.run_rings.specs.Notes.{TellSameTo}
 use Rattle.run_ringed.specs.SoFar.{HasMoreBreaks}
-use Rattle.acts_rule.proofs.RingedLines.{AreTears, TellsBeside, tears-beside}
-use Rattle.acts_rule.proofs.RingedSecond.{tears-here_}
+use Rattle.run_acts.proofs.RingedLines.{AreTears, TellsBeside, tears-beside}
+use Rattle.run_acts.proofs.RingedSecond.{tears-here_}
 use Rattle.recorder_rule.specs.JudgedRings.{TellsHere}
 use Rattle.recorder_rule.proofs.RingsHere.{here-more}
 

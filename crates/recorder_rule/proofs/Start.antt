@@ -17,11 +17,11 @@ use Rattle.run_keeping.specs.Keeping.{tears_of}
 use Rattle.run_outcome.specs.Lines.{Listed}
 use Rattle.run_outcome.specs.declared.outcome.Outcome.{Outcome}
 use Rattle.run_outcome.specs.Room.{offs, insertions, IsReserved}
-use Rattle.run_state.specs.declared.run.Run.{Run}
-use Rattle.run_state.specs.declared.run.Power.{Power}
-use Rattle.run_state.specs.declared.run.Power.TheVariants.{Due}
-use Rattle.run_state.specs.Power.{is_lit}
-use Rattle.acts_rule.specs.Room.{waiting, falls_of, bare_seats, finds_due, cuts_from, HasRoom}
+use Rattle.run_acts.specs.declared.run.Run.{Run}
+use Rattle.run_acts.specs.declared.run.Power.{Power}
+use Rattle.run_acts.specs.declared.run.Power.TheVariants.{Due}
+use Rattle.run_acts.specs.Power.{is_lit}
+use Rattle.run_acts.specs.Room.{waiting, falls_of, bare_seats, finds_due, cuts_from, HasRoom}
 
 -- what holds of each error
 pub if-err : {A E : Type 0} {P Q : E → Type 0} (r : Result A E) → ((e : E) → P e → Q e) → IfErr r P → IfErr r Q

@@ -12,8 +12,8 @@ use Rattle.run_outcome.specs.declared.outcome.Outcome.{Outcome}
 use Rattle.run_keeping.specs.declared.keeper.Keeper.{Keeper}
 use Rattle.run_keeping.specs.declared.keeper.Moment.{Moment}
 use Rattle.run_keeping.specs.Minutes.{Told, AreKept, none, more, AreKeptUpTo}
-use Rattle.run_state.specs.declared.run.Run.{Run}
-use Rattle.acts_rule.specs.Acting.{IsSettled, IsClosedBehind, IsWithdrawn, IsPlaced, noted_run, pulled_run, told_of}
+use Rattle.run_acts.specs.declared.run.Run.{Run}
+use Rattle.run_acts.specs.Acting.{IsSettled, IsClosedBehind, IsWithdrawn, IsPlaced, noted_run, pulled_run, told_of}
 use Rattle.recorder_rule.specs.Accepting.{IsInserted}
 use Rattle.recorder_rule.specs.Acting.{IsDone}
 

@@ -8,17 +8,17 @@ use Rattle.run_keeping.specs.Keeping.{with_lines}
 use Rattle.run_keeping.proofs.Counts.{lines-length}
 use Rattle.run_entering.specs.declared.lines.Entering.{Entering}
 use Rattle.run_entering.specs.Entering.{ending_of, breaks_by}
-use Rattle.run_state.specs.Power.{cut_run}
-use Rattle.acts_rule.proofs.Torn.{cut-falls}
+use Rattle.run_acts.specs.Power.{cut_run}
+use Rattle.run_acts.proofs.Torn.{cut-falls}
 use Rattle.recorder_rule.specs.Accepting.{IsAccepted, IsAnew}
 use Rattle.run_outcome.specs.declared.outcome.Outcome.{Outcome}
 use Rattle.log_model.specs.declared.lines.Break.{Break}
 use Rattle.run_outcome.specs.Lines.{Listed}
 use Rattle.run_keeping.specs.declared.keeper.Keeper.{Keeper}
-use Rattle.run_state.specs.declared.run.Run.{Run}
-use Rattle.run_state.specs.declared.run.Power.{Power}
-use Rattle.run_state.specs.declared.run.Power.TheVariants.{Lit}
-use Rattle.acts_rule.specs.Room.{waiting, waiting_of, falls_of, bare_seats, Takes}
+use Rattle.run_acts.specs.declared.run.Run.{Run}
+use Rattle.run_acts.specs.declared.run.Power.{Power}
+use Rattle.run_acts.specs.declared.run.Power.TheVariants.{Lit}
+use Rattle.run_acts.specs.Room.{waiting, waiting_of, falls_of, bare_seats, Takes}
 use Rattle.recorder_rule.specs.Waking.{TakesUp, TakesAwake}
 
 -- one call, and another

@@ -10,10 +10,10 @@ use Rattle.run_outcome.specs.declared.outcome.Outcome.{Outcome}
 use Rattle.run_keeping.specs.declared.keeper.Moment.{Moment}
 use Rattle.run_entering.specs.declared.lines.Entering.{Entering}
 use Rattle.run_entering.specs.Entering.{Ending, Unfit, Ahead, Fell, Unasked, Unnoted, Seated, Lost, breaks_by, ending_of}
-use Rattle.run_state.specs.declared.run.Run.{Run}
-use Rattle.run_state.specs.Power.{off_cut}
-use Rattle.acts_rule.specs.Acting.{pulled_breaks}
-use Rattle.acts_rule.proofs.Uncut.{more-uncut, settled-uncut, withdrawn-uncut, pulled-uncut, placed-uncut}
+use Rattle.run_acts.specs.declared.run.Run.{Run}
+use Rattle.run_acts.specs.Power.{off_cut}
+use Rattle.run_acts.specs.Acting.{pulled_breaks}
+use Rattle.run_acts.proofs.Uncut.{more-uncut, settled-uncut, withdrawn-uncut, pulled-uncut, placed-uncut}
 use Rattle.recorder_rule.specs.Accepting.{IsAccepted, IsAnew, IsInserted}
 use Rattle.recorder_rule.specs.Acting.{IsDone}
 use Rattle.run_keeping.specs.Later.{failed_tears}

@@ -16,15 +16,15 @@ use Rattle.run_events.specs.Shown.{SaysNothing}
 use Rattle.run_events.proofs.Frames.{keeps-nothing}
 use Rattle.run_events.proofs.Shows.{nothing-more}
 use Rattle.run_evented.specs.Evented.{number_in}
-use Rattle.acts_rule.specs.NotedEvents.{NotesEvents}
-use Rattle.acts_rule.proofs.NotedEvents.{quiet-noted, then-noted}
+use Rattle.run_acts.specs.NotedEvents.{NotesEvents}
+use Rattle.run_acts.proofs.NotedEvents.{quiet-noted, then-noted}
 use Rattle.run_keeping.specs.declared.keeper.Moment.{Moment}
 use Rattle.log_model.specs.declared.lines.Break.{Break}
 use Rattle.unit_course.specs.Lines.{found_from}
 use Rattle.run_outcome.specs.Lines.{Listed}
 use Rattle.run_outcome.specs.declared.outcome.Outcome.{Outcome}
-use Rattle.run_state.specs.declared.run.Run.{Run}
-use Rattle.acts_rule.specs.Acting.{now_moment}
+use Rattle.run_acts.specs.declared.run.Run.{Run}
+use Rattle.run_acts.specs.Acting.{now_moment}
 use Rattle.recorder_rule.specs.Noting.{judged_events, NotesAnew, JudgesThese, JudgesDriver, JudgesBoth, NotesWaking, NotesFound, read_run, read_outcome}
 
 -- images that say the same are cut

@@ -39,18 +39,18 @@ use Rattle.run_ringed.proofs.Waking.{still-failed}
 use Rattle.run_within.specs.Recorded.{Values}
 use Rattle.run_within.specs.Within.{Beginning, Within}
 use Rattle.run_within.specs.Waking.{both_slots}
-use Rattle.run_state.specs.declared.run.Run.{Run}
-use Rattle.acts_rule.specs.Recording.{log_of, values_of}
-use Rattle.acts_rule.specs.RunRinged.{with_cut}
-use Rattle.acts_rule.specs.OnCards.{as_accepted, are_sure_on}
-use Rattle.acts_rule.specs.RunCards.{vehicle_in, sizes_in, CardShown, CardsBehind, CardsWaking}
-use Rattle.acts_rule.proofs.OnCards.{still-same}
-use Rattle.acts_rule.proofs.CardShown.{plain-on}
-use Rattle.acts_rule.proofs.CardGaps.{gaps-found}
-use Rattle.acts_rule.proofs.CardEnds.{IsLater, waking-begins}
-use Rattle.acts_rule.proofs.CardStays.{shows-self}
-use Rattle.acts_rule.proofs.CardWaking.{found-same, waking-passed}
-use Rattle.acts_rule.proofs.RingedSecond.{cut-is, cut-torn, cut-found, cut-failed, power-here}
+use Rattle.run_acts.specs.declared.run.Run.{Run}
+use Rattle.run_acts.specs.Recording.{log_of, values_of}
+use Rattle.run_acts.specs.RunRinged.{with_cut}
+use Rattle.run_acts.specs.OnCards.{as_accepted, are_sure_on}
+use Rattle.run_acts.specs.RunCards.{vehicle_in, sizes_in, CardShown, CardsBehind, CardsWaking}
+use Rattle.run_acts.proofs.OnCards.{still-same}
+use Rattle.run_acts.proofs.CardShown.{plain-on}
+use Rattle.run_acts.proofs.CardGaps.{gaps-found}
+use Rattle.run_acts.proofs.CardEnds.{IsLater, waking-begins}
+use Rattle.run_acts.proofs.CardStays.{shows-self}
+use Rattle.run_acts.proofs.CardWaking.{found-same, waking-passed}
+use Rattle.run_acts.proofs.RingedSecond.{cut-is, cut-torn, cut-found, cut-failed, power-here}
 use Rattle.recorder_rule.specs.Accepting.{IsBare, IsAnew}
 use Rattle.recorder_rule.specs.Judged.{moment_in, RunNext, JudgesAnew}
 use Rattle.recorder_rule.specs.JudgedRings.{TellsHere}

@@ -36,7 +36,7 @@ use Rattle.safety_model.specs.Safe.{Devices}
 use Rattle.run_recorded.specs.Days.{IsBegunIn}
 use Rattle.run_recorded.specs.Whole.{NothingFailed}
 use Rattle.run_outcome.specs.declared.outcome.Outcome.{Outcome}
-use Rattle.acts_rule.specs.Recording.{log_of}
+use Rattle.run_acts.specs.Recording.{log_of}
 use Rattle.recorder_rule.specs.Ends.{recording_of, EndsTrace}
 use Rattle.recorder_rule.specs.Whole.{HasWholeOdometer, HasDayOdometer, IsAllThere}
 

@@ -30,17 +30,17 @@ use Rattle.run_evented.proofs.Exact.{fewer-none, no-cut}
 use Rattle.run_ringed.specs.SoFar.{HasMoreBreaks}
 use Rattle.run_ringed.specs.Waking.{NoneFound, IsFoundAnew}
 use Rattle.run_ringed.proofs.SoFar.{left-itself, failed-more}
-use Rattle.acts_rule.specs.Recording.{log_of}
-use Rattle.acts_rule.specs.RunRinged.{with_cut}
-use Rattle.acts_rule.specs.OnCards.{is_card, has_card, as_accepted, events_by, accepts, gap_entry, gaps_on, enters, falls, may_note, is_sure_in}
-use Rattle.acts_rule.specs.RunCards.{vehicle_in, sizes_in, seen_behind, gap_behind, CardsBehind, CardsWaking}
-use Rattle.acts_rule.proofs.CardCourse.{Finding, IsQuiet, sitting_at, powered-as}
-use Rattle.acts_rule.proofs.CardSecond.{any-more, is_now, standing-is}
-use Rattle.acts_rule.proofs.CardGaps.{met-power}
-use Rattle.acts_rule.proofs.CardEnds.{IsLater, ends-shown, cut-short}
-use Rattle.acts_rule.proofs.CardStays.{shows-self}
-use Rattle.acts_rule.proofs.CardWaking.{waking-judged, gap-noted}
-use Rattle.acts_rule.proofs.RingedSecond.{cut-torn, cut-found, cut-failed}
+use Rattle.run_acts.specs.Recording.{log_of}
+use Rattle.run_acts.specs.RunRinged.{with_cut}
+use Rattle.run_acts.specs.OnCards.{is_card, has_card, as_accepted, events_by, accepts, gap_entry, gaps_on, enters, falls, may_note, is_sure_in}
+use Rattle.run_acts.specs.RunCards.{vehicle_in, sizes_in, seen_behind, gap_behind, CardsBehind, CardsWaking}
+use Rattle.run_acts.proofs.CardCourse.{Finding, IsQuiet, sitting_at, powered-as}
+use Rattle.run_acts.proofs.CardSecond.{any-more, is_now, standing-is}
+use Rattle.run_acts.proofs.CardGaps.{met-power}
+use Rattle.run_acts.proofs.CardEnds.{IsLater, ends-shown, cut-short}
+use Rattle.run_acts.proofs.CardStays.{shows-self}
+use Rattle.run_acts.proofs.CardWaking.{waking-judged, gap-noted}
+use Rattle.run_acts.proofs.RingedSecond.{cut-torn, cut-found, cut-failed}
 use Rattle.recorder_rule.specs.JudgedCards.{IsJudgedOnCards}
 use Rattle.recorder_rule.proofs.RingsHere.{here-then, here-more, here-cut}
 use Rattle.recorder_rule.proofs.InsertedCards.{mine, any-behind, judged-them}

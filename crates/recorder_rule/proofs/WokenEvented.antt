@@ -50,16 +50,16 @@ use Rattle.run_evented.proofs.Adding.{adds-nothing, second-begins_now, power-now
 use Rattle.run_evented.proofs.Cutting.{failure-cuts}
 use Rattle.run_evented.proofs.Kept.{interruption-found, no-break_no-span}
 use Rattle.run_evented.proofs.Seconds.{events-found}
-use Rattle.run_state.specs.declared.run.Run.{Run}
-use Rattle.acts_rule.specs.NotedEvents.{NotesEvents}
-use Rattle.acts_rule.specs.Acting.{IsNotedIn, now_moment}
-use Rattle.acts_rule.specs.Noting.{GapReach, NoGap, UnitFailed, DriverFell, BothSlots, IsGapNoted, AreGapEvents}
+use Rattle.run_acts.specs.declared.run.Run.{Run}
+use Rattle.run_acts.specs.NotedEvents.{NotesEvents}
+use Rattle.run_acts.specs.Acting.{IsNotedIn, now_moment}
+use Rattle.run_acts.specs.Noting.{GapReach, NoGap, UnitFailed, DriverFell, BothSlots, IsGapNoted, AreGapEvents}
 use Rattle.event_model.specs.declared.entries.Span.{Span}
-use Rattle.run_state.specs.Power.{IsSpanBegun, cut_run}
+use Rattle.run_acts.specs.Power.{IsSpanBegun, cut_run}
 use Rattle.run_keeping.specs.Keeping.{with_lines}
-use Rattle.acts_rule.specs.Recording.{IsOrigin, log_of, RunWithin, RunCut, GoesOnOrFails}
-use Rattle.acts_rule.specs.Evented.{IsWatching, span_seen, CutEvented, EventsGoOn}
-use Rattle.acts_rule.specs.ActsEvented.{IsFailing}
+use Rattle.run_acts.specs.Recording.{IsOrigin, log_of, RunWithin, RunCut, GoesOnOrFails}
+use Rattle.run_acts.specs.Evented.{IsWatching, span_seen, CutEvented, EventsGoOn}
+use Rattle.run_acts.specs.ActsEvented.{IsFailing}
 use Rattle.recorder_rule.specs.Accepting.{IsBare, IsAnew}
 use Rattle.recorder_rule.specs.Judged.{moment_in, RunNext, IsInTurn, EventsJudged, JudgesAnew, EventsAnew}
 use Rattle.recorder_rule.specs.Woken.{EventsWoken}

@@ -59,14 +59,14 @@ use Rattle.run_ringed.proofs.Waking.{behind-alike, still-failed, still-call-fail
 use Rattle.run_within.specs.Recorded.{Values, Recorded}
 use Rattle.run_within.specs.Within.{Beginning}
 use Rattle.run_within.specs.Waking.{both_slots}
-use Rattle.run_state.specs.declared.run.Run.{Run}
-use Rattle.run_state.specs.Power.{is_lit, cut_run}
-use Rattle.run_state.specs.declared.run.Power.TheVariants.{Lit as HasPower}
-use Rattle.acts_rule.specs.Recording.{log_of, values_of, RunWithin, RunFails, GoesOnOrFails}
-use Rattle.acts_rule.specs.Evented.{CutEvented}
-use Rattle.acts_rule.specs.RunRinged.{seats_of, IsLastFrom, RingsWithin, RingsCut, WithinRinged, CutRinged, InSecondRingedBy, InSecondRinged, with_cut, RingsGoOn}
-use Rattle.acts_rule.proofs.StoredRun.{run-cut}
-use Rattle.acts_rule.proofs.RingedSecond.{cut-is, cut-torn, cut-found, cut-failed, power-here, odometer-here, begins-last, since-begun}
+use Rattle.run_acts.specs.declared.run.Run.{Run}
+use Rattle.run_acts.specs.Power.{is_lit, cut_run}
+use Rattle.run_acts.specs.declared.run.Power.TheVariants.{Lit as HasPower}
+use Rattle.run_acts.specs.Recording.{log_of, values_of, RunWithin, RunFails, GoesOnOrFails}
+use Rattle.run_acts.specs.Evented.{CutEvented}
+use Rattle.run_acts.specs.RunRinged.{seats_of, IsLastFrom, RingsWithin, RingsCut, WithinRinged, CutRinged, InSecondRingedBy, InSecondRinged, with_cut, RingsGoOn}
+use Rattle.run_acts.proofs.StoredRun.{run-cut}
+use Rattle.run_acts.proofs.RingedSecond.{cut-is, cut-torn, cut-found, cut-failed, power-here, odometer-here, begins-last, since-begun}
 use Rattle.recorder_rule.specs.Accepting.{IsBare, IsAnew}
 use Rattle.recorder_rule.specs.Judged.{moment_in, RunNext, JudgesAnew}
 use Rattle.recorder_rule.specs.JudgedRings.{AreSeatedWith, JudgedInRings, IsJudgedInRings, RingsJudged, RingsJudgedAnew}

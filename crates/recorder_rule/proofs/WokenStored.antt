@@ -24,8 +24,8 @@ use Rattle.run_ringed.specs.Stored.{StandsOn, StoresOff}
 use Rattle.run_ringed.specs.Steps.{spans_cut}
 use Rattle.run_ringed.proofs.Stored.{may-more}
 use Rattle.run_ringed.proofs.Bases.{with-first, stored-ends, failed-here, stored-unread}
-use Rattle.acts_rule.specs.RunRinged.{with_cut}
-use Rattle.acts_rule.proofs.RingedSecond.{cut-is}
+use Rattle.run_acts.specs.RunRinged.{with_cut}
+use Rattle.run_acts.proofs.RingedSecond.{cut-is}
 
 cuts-below : (supply : Supply) (next : ℕ) → cuts_from supply next ≤ next
 cuts-below (Lit []) next = omega arith

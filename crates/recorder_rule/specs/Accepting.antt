@@ -17,9 +17,9 @@ use Rattle.run_outcome.specs.declared.outcome.Outcome.{Outcome}
 use Rattle.run_entering.specs.declared.lines.Entering.{Entering}
 use Rattle.run_entering.specs.Entering.{Way, ending_of, measured}
 use Rattle.run_entering.specs.Entered.{IsLeft}
-use Rattle.run_state.specs.declared.run.Run.{Run}
-use Rattle.run_state.specs.Power.{with_cabin}
-use Rattle.acts_rule.specs.Acting.{IsSettled}
+use Rattle.run_acts.specs.declared.run.Run.{Run}
+use Rattle.run_acts.specs.Power.{with_cabin}
+use Rattle.run_acts.specs.Acting.{IsSettled}
 
 -- of two things, of which the first is a card's, that of card a, and that of card b
 abbrev pub chip_a_of : Card → CardState → CardState → CardState

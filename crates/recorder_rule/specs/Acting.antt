@@ -15,10 +15,10 @@ use Rattle.run_outcome.specs.Lines.{cut_at}
 use Rattle.run_outcome.specs.declared.outcome.Outcome.{Outcome}
 use Rattle.run_keeping.specs.declared.keeper.Moment.{Moment}
 use Rattle.run_keeping.specs.Keeping.{with_lines}
-use Rattle.run_state.specs.declared.run.Run.{Run}
-use Rattle.run_state.specs.Power.{is_lit, cut_run}
-use Rattle.run_state.specs.Going.{largest_number}
-use Rattle.acts_rule.specs.Acting.{IsWithdrawn, IsPlaced, pulled_run, pulled_breaks}
+use Rattle.run_acts.specs.declared.run.Run.{Run}
+use Rattle.run_acts.specs.Power.{is_lit, cut_run}
+use Rattle.run_acts.specs.Going.{largest_number}
+use Rattle.run_acts.specs.Acting.{IsWithdrawn, IsPlaced, pulled_run, pulled_breaks}
 use Rattle.recorder_rule.specs.Accepting.{IsInserted}
 
 -- a card is put into a slot

@@ -10,7 +10,7 @@ use Rattle.safety_model.specs.Recording.{Recording, card_image}
 use Rattle.safety_model.specs.Safe.{Devices, card_of}
 use Rattle.run_recorded.specs.Whole.{NothingFailed}
 use Rattle.run_evented.specs.Uses.{vehicle_of, uses_on, use_left}
-use Rattle.acts_rule.specs.OnCards.{accepted_on, ShowsOn, AreUses}
+use Rattle.run_acts.specs.OnCards.{accepted_on, ShowsOn, AreUses}
 
 -- A CARD SHOWS ITS EVENTS: at each of its acceptances a use was found on it, which an image of it told that it might have left since a clock; and each
 -- image that it may leave shows, of each type whose events are sure, those that it had at the start with those of the run, noted one after another.

@@ -9,12 +9,12 @@ use Rattle.run_recorded.specs.Origin.{Origin}
 use Rattle.run_keeping.specs.Books.{HaveTime}
 use Rattle.run_opening.specs.declared.fault.RunFault.{RunFault}
 use Rattle.run_outcome.specs.declared.outcome.Outcome.{Outcome}
-use Rattle.run_state.specs.declared.run.Run.{Run}
-use Rattle.run_state.specs.Power.{is_lit}
-use Rattle.acts_rule.specs.Recording.{log_of}
-use Rattle.acts_rule.specs.Evented.{LastAt}
-use Rattle.acts_rule.specs.RunRinged.{RunRinged, WithinRinged, CutRinged}
-use Rattle.acts_rule.specs.RunCards.{vehicle_in, CardsBehind, CardsIn}
+use Rattle.run_acts.specs.declared.run.Run.{Run}
+use Rattle.run_acts.specs.Power.{is_lit}
+use Rattle.run_acts.specs.Recording.{log_of}
+use Rattle.run_acts.specs.Evented.{LastAt}
+use Rattle.run_acts.specs.RunRinged.{RunRinged, WithinRinged, CutRinged}
+use Rattle.run_acts.specs.RunCards.{vehicle_in, CardsBehind, CardsIn}
 use Rattle.recorder_rule.specs.Recorded.{BeginsBy, ActsBy, SecondsBy, HasRunBy, ItemBy}
 
 -- BETWEEN TWO SECONDS: each card shows the events of these seconds

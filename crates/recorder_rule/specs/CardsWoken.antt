@@ -11,14 +11,14 @@ use Rattle.run_recorded.specs.Origin.{Origin}
 use Rattle.run_within.specs.Recorded.{Values, Recorded}
 use Rattle.run_within.specs.Powering.{read_values}
 use Rattle.run_evented.specs.Evented.{limit_in, Evented}
-use Rattle.run_state.specs.declared.run.Run.{Run}
-use Rattle.run_state.specs.Power.{has_power}
-use Rattle.acts_rule.specs.Recording.{IsOrigin, log_of, values_of, IsNow}
-use Rattle.acts_rule.specs.RunRinged.{with_cut}
-use Rattle.acts_rule.specs.RunCards.{vehicle_in, CardsBehind, CardsIn}
+use Rattle.run_acts.specs.declared.run.Run.{Run}
+use Rattle.run_acts.specs.Power.{has_power}
+use Rattle.run_acts.specs.Recording.{IsOrigin, log_of, values_of, IsNow}
+use Rattle.run_acts.specs.RunRinged.{with_cut}
+use Rattle.run_acts.specs.RunCards.{vehicle_in, CardsBehind, CardsIn}
 use Rattle.run_ringed.specs.Ringed.{notes_in}
-use Rattle.acts_rule.specs.Truths.{truths_of, marked}
-use Rattle.acts_rule.specs.Stays.{AllStay}
+use Rattle.run_acts.specs.Truths.{truths_of, marked}
+use Rattle.run_acts.specs.Stays.{AllStay}
 use Rattle.recorder_rule.specs.Carded.{RunCarded, InSecondCarded}
 
 -- of a second that began by this log: they show what it has brought so far, with the interruption before it; or the unit has failed before any action,

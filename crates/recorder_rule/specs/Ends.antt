@@ -18,7 +18,7 @@ use Rattle.run_opening.specs.Begun.{IsRefusedBy as IsRefusedAs}
 use Rattle.run_opening.specs.Opening.{IsAsItWas}
 use Rattle.run_opening.specs.declared.fault.RunFault.{RunFault}
 use Rattle.run_outcome.specs.declared.outcome.Outcome.{Outcome}
-use Rattle.acts_rule.specs.Recording.{log_of}
+use Rattle.run_acts.specs.Recording.{log_of}
 use Rattle.recorder_rule.specs.Written.{AreWritten}
 use Rattle.recorder_rule.specs.Stays.{HasAllStays}
 use Rattle.recorder_rule.specs.Still.{StayDense, KeepTheirHolders}

@@ -7,8 +7,8 @@ use Rattle.trace_model.specs.declared.Action.TheVariants.{Select, Insert, Withdr
 use Rattle.tacho_types.specs.declared.places.PlaceEntry.{PlaceEntry}
 use Rattle.slot_machine.specs.Calls.{seat_in, card_in}
 use Rattle.run_crew.specs.Cabin.{number_of_seat}
-pub use Rattle.acts_rule.specs.Ringing.{IsPlaceNow}
-use Rattle.acts_rule.specs.Ringing.{WritesPlace, WithdrawsSo}
+pub use Rattle.run_acts.specs.Ringing.{IsPlaceNow}
+use Rattle.run_acts.specs.Ringing.{WritesPlace, WithdrawsSo}
 use Rattle.tach_media.specs.Medium.{State, HasCause}
 use Rattle.message_model.specs.Records.{insertion_ring}
 use Rattle.unit_notes.specs.declared.insertion.Insertion.{Insertion}
@@ -20,8 +20,8 @@ use Rattle.run_entering.specs.Entering.{Ending, Way, Unfit, Ahead, Fell, Unasked
 use Rattle.run_entering.specs.Entered.{HasEntered}
 use Rattle.run_ringed.specs.Ringed.{LeavesRings, WritesImages, IsAddedAt, MayBeAdded}
 use Rattle.run_keeping.specs.declared.keeper.Moment.{Moment}
-use Rattle.run_state.specs.declared.run.Run.{Run}
-use Rattle.acts_rule.specs.Acting.{IsSettled}
+use Rattle.run_acts.specs.declared.run.Run.{Run}
+use Rattle.run_acts.specs.Acting.{IsSettled}
 use Rattle.recorder_rule.specs.Accepting.{IsAccepted, IsEnteringNow, put_run}
 
 -- an insertion is noted with this index; or the unit failed behind its begin

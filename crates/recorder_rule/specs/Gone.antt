@@ -9,8 +9,8 @@ use Rattle.run_opening.specs.declared.fault.RunFault.{RunFault}
 use Rattle.run_rule.specs.Between.{devices}
 use Rattle.run_opening.specs.Opening.{IsRefused, IsAsItWas}
 use Rattle.run_outcome.specs.declared.outcome.Outcome.{Outcome}
-use Rattle.run_state.specs.declared.run.Run.{Run}
-use Rattle.run_state.specs.Going.{IsGoing, IsFoundLater}
+use Rattle.run_acts.specs.declared.run.Run.{Run}
+use Rattle.run_acts.specs.Going.{IsGoing, IsFoundLater}
 
 -- the first item that waits for its second behind an item, where it was this one before: an action waits itself
 abbrev pub first_waiting : Item → (first index : ℕ) → ℕ

@@ -16,9 +16,9 @@ use Rattle.run_recorded.specs.Origin.{Origin}
 use Rattle.run_within.specs.Judging.{IsNext}
 use Rattle.run_within.specs.Within.{Beginning}
 use Rattle.run_evented.specs.SoFar.{EventedNow, AreBare, ComesInTurn, puts_into, stage_in}
-use Rattle.run_state.specs.declared.run.Run.{Run}
-use Rattle.acts_rule.specs.Recording.{log_of, values_of, RunWithin, GoesOnOrCut}
-use Rattle.acts_rule.specs.Evented.{EventsGoOn}
+use Rattle.run_acts.specs.declared.run.Run.{Run}
+use Rattle.run_acts.specs.Recording.{log_of, values_of, RunWithin, GoesOnOrCut}
+use Rattle.run_acts.specs.Evented.{EventsGoOn}
 
 -- the moment of a second behind so many of its actions
 abbrev pub moment_in : TraceSecond → (n : ℕ) → Moment

@@ -22,10 +22,10 @@ use Rattle.run_evented.specs.Evented.{images_in}
 use Rattle.run_evented.specs.Uses.{notes_now, uses_in}
 use Rattle.run_entering.specs.CardEvents.{events_in, all_noted}
 use Rattle.run_rings.specs.Notes.{TellSameTo}
-use Rattle.run_state.specs.declared.run.Run.{Run}
-use Rattle.acts_rule.specs.Recording.{log_of}
-use Rattle.acts_rule.specs.OnCards.{unclosed_by, events_by, accepts, movings, StillShows, AreUses}
-use Rattle.acts_rule.specs.RunCards.{vehicle_in, sizes_in}
+use Rattle.run_acts.specs.declared.run.Run.{Run}
+use Rattle.run_acts.specs.Recording.{log_of}
+use Rattle.run_acts.specs.OnCards.{unclosed_by, events_by, accepts, movings, StillShows, AreUses}
+use Rattle.run_acts.specs.RunCards.{vehicle_in, sizes_in}
 use Rattle.recorder_rule.specs.Judged.{moment_in, RunNext}
 use Rattle.recorder_rule.specs.JudgedRings.{TellsHere}
 

@@ -27,9 +27,9 @@ use Rattle.run_ringed.specs.SoFar.{AreFewer}
 use Rattle.run_keeping.specs.declared.keeper.Moment.{Moment}
 use Rattle.run_keeping.specs.Minutes.{odometer_by}
 use Rattle.run_keeping.specs.Books.{HaveTime}
-use Rattle.run_state.specs.declared.run.Run.{Run}
-use Rattle.acts_rule.specs.Recording.{log_of}
-use Rattle.acts_rule.specs.RunRinged.{seats_of}
+use Rattle.run_acts.specs.declared.run.Run.{Run}
+use Rattle.run_acts.specs.Recording.{log_of}
+use Rattle.run_acts.specs.RunRinged.{seats_of}
 use Rattle.recorder_rule.specs.Judged.{moment_in, RunNext}
 
 -- ITS INSERTION, in bytes: so it is told, whatever lines come since

@@ -16,14 +16,14 @@ use Rattle.run_entering.specs.declared.lines.Entering.{Entering}
 use Rattle.run_entering.specs.Entering.{Way, ending_of, measured}
 use Rattle.run_entering.specs.Noted.{notes_by}
 use Rattle.recorder_rule.specs.EnteredEvents.{events_in}
-use Rattle.acts_rule.specs.NotedEvents.{NotesEvents}
-use Rattle.run_state.specs.declared.run.Run.{Run}
+use Rattle.run_acts.specs.NotedEvents.{NotesEvents}
+use Rattle.run_acts.specs.declared.run.Run.{Run}
 use Rattle.unit_course.specs.Lines.{found_from}
 use Rattle.run_outcome.specs.Lines.{cut_at}
 use Rattle.run_keeping.specs.Keeping.{with_lines}
-use Rattle.run_state.specs.Power.{IsSpanBegun, cut_run}
-use Rattle.acts_rule.specs.Acting.{now_moment}
-use Rattle.acts_rule.specs.Noting.{GapReach, AreGapEvents, NotesPlace, SettlesThese, NotesWithdrawing}
+use Rattle.run_acts.specs.Power.{IsSpanBegun, cut_run}
+use Rattle.run_acts.specs.Acting.{now_moment}
+use Rattle.run_acts.specs.Noting.{GapReach, AreGapEvents, NotesPlace, SettlesThese, NotesWithdrawing}
 use Rattle.recorder_rule.specs.Accepting.{IsAccepted, IsEnteringNow, put_run}
 
 -- the events and faults of a card that entered in this way

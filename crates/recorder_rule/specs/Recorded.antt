@@ -9,11 +9,11 @@ use Rattle.run_recorded.specs.Origin.{Origin}
 use Rattle.run_keeping.specs.Books.{HaveTime}
 use Rattle.run_opening.specs.declared.fault.RunFault.{RunFault}
 use Rattle.run_outcome.specs.declared.outcome.Outcome.{Outcome}
-use Rattle.run_state.specs.declared.run.Run.{Run}
-use Rattle.run_state.specs.Going.{largest_number}
-use Rattle.acts_rule.specs.Recording.{IsNow}
-use Rattle.acts_rule.specs.Evented.{LastAt}
-use Rattle.acts_rule.specs.RunRinged.{RunRinged, InSecondRinged}
+use Rattle.run_acts.specs.declared.run.Run.{Run}
+use Rattle.run_acts.specs.Going.{largest_number}
+use Rattle.run_acts.specs.Recording.{IsNow}
+use Rattle.run_acts.specs.Evented.{LastAt}
+use Rattle.run_acts.specs.RunRinged.{RunRinged, InSecondRinged}
 
 -- an item's action, where it is one
 abbrev pub action_of : Item → List Action

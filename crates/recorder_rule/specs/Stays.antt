@@ -20,10 +20,10 @@ use Rattle.safety_model.specs.Safe.{Devices, card_of}
 use Rattle.run_recorded.specs.Whole.{NothingFailed}
 use Rattle.unit_model.specs.Image.{odometer_at}
 use Rattle.card_session.specs.declared.session.Kept.{Kept}
-use Rattle.acts_rule.specs.Closings.{spells_of}
-use Rattle.acts_rule.specs.Truths.{past_of, IsOdometerBefore, IsOdometerBehind, IsWordIn, IsLineOf}
-use Rattle.acts_rule.specs.Stays.{Stay, TellsBefores, registration_in, acceptances_told, spells, AreMerged, ShowsStays, start_shown, AreOwed, judged_told, judged_in, AreJudged}
-use Rattle.acts_rule.specs.Owed.{IsOwed}
+use Rattle.run_acts.specs.Closings.{spells_of}
+use Rattle.run_acts.specs.Truths.{past_of, IsOdometerBefore, IsOdometerBehind, IsWordIn, IsLineOf}
+use Rattle.run_acts.specs.Stays.{Stay, TellsBefores, registration_in, acceptances_told, spells, AreMerged, ShowsStays, start_shown, AreOwed, judged_told, judged_in, AreJudged}
+use Rattle.run_acts.specs.Owed.{IsOwed}
 
 -- A STAY WAS CLOSED with the word of its slot, where it was, in the second of its withdrawal
 abbrev pub IsClosedSo : Recording → Stay → Type 0

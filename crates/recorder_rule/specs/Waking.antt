@@ -2,9 +2,9 @@
 use Rattle.std.specs.Prelude.{◌≡◌, ◌⊎◌, ◌+◌, ◌*◌, ◌≤◌, length}
 use Rattle.run_outcome.specs.declared.outcome.TheConstants.{MOST_OWED}
 use Rattle.run_outcome.specs.declared.outcome.Outcome.{Outcome}
-use Rattle.run_state.specs.declared.run.Run.{Run}
-use Rattle.run_state.specs.declared.run.Power.TheVariants.{Lit, Lost}
-use Rattle.acts_rule.specs.Room.{falls_of, bare_seats}
+use Rattle.run_acts.specs.declared.run.Run.{Run}
+use Rattle.run_acts.specs.declared.run.Power.TheVariants.{Lit, Lost}
+use Rattle.run_acts.specs.Room.{falls_of, bare_seats}
 
 -- power is back, with no minute that waits; or it was lost at once
 abbrev pub IsAwake : Run → Type 0

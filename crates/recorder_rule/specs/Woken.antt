@@ -17,18 +17,18 @@ use Rattle.run_within.specs.Recorded.{Values, Recorded}
 use Rattle.run_within.specs.Powering.{read_values}
 use Rattle.run_evented.specs.Evented.{limit_in, Evented}
 use Rattle.run_evented.specs.Noting.{Acting}
-use Rattle.run_state.specs.declared.run.Run.{Run}
-use Rattle.run_state.specs.Power.{has_power}
-use Rattle.acts_rule.specs.Recording.{IsOrigin, log_of, values_of, RunRecorded, InSecond, GoesOnOrCut, IsNow}
-use Rattle.acts_rule.specs.Evented.{WithinEvented, InSecondEvented, RunEvented}
-use Rattle.acts_rule.specs.RunRinged.{RunRinged, RingsWithin, InSecondRinged, with_cut}
+use Rattle.run_acts.specs.declared.run.Run.{Run}
+use Rattle.run_acts.specs.Power.{has_power}
+use Rattle.run_acts.specs.Recording.{IsOrigin, log_of, values_of, RunRecorded, InSecond, GoesOnOrCut, IsNow}
+use Rattle.run_acts.specs.Evented.{WithinEvented, InSecondEvented, RunEvented}
+use Rattle.run_acts.specs.RunRinged.{RunRinged, RingsWithin, InSecondRinged, with_cut}
 use Rattle.run_ringed.specs.Ringed.{Seating, notes_in}
 use Rattle.run_ringed.specs.SoFar.{RingedBehind}
 use Rattle.run_ringed.specs.Steps.{nobody}
 use Rattle.run_rings.specs.Spans.{with_second}
 use Rattle.run_ringed.specs.Stored.{StoresOn, StoresOff}
-use Rattle.acts_rule.specs.Truths.{truths_of, marked}
-use Rattle.acts_rule.specs.Stays.{AllStay}
+use Rattle.run_acts.specs.Truths.{truths_of, marked}
+use Rattle.run_acts.specs.Stays.{AllStay}
 
 -- THE UNIT WAS MENDED, in which this last-kept minute was found, and each card judged: the second goes on before its actions; or the unit failed.
 abbrev pub ResumesSo : (kept : ℕ) → (failed : Bool) → (old new : Run) → (before after : Outcome) → (d e : Devices) → Type 0

@@ -3,10 +3,10 @@ ghost use Rattle.std.specs.Prelude.{◌≡◌, ◌+◌, ◌*◌, ◌/◌, ◌<�
 ghost use Rattle.tach_media.specs.Medium.{HasCause};
 ghost use Rattle.log_model.specs.Slots.{other_slot};
 ghost use Rattle.slot_machine.specs.Calls.{seat_in, card_in};
-ghost use Rattle.run_state.specs.declared.run.Power.TheVariants.{Lit};
+ghost use Rattle.run_acts.specs.declared.run.Power.TheVariants.{Lit};
 ghost use Rattle.run_keeping.specs.Later.{IsLater, AreLater, AreCalm, IsCalm};
-ghost use Rattle.run_state.specs.Going.{first_second, end_of_seconds, IsHeld, IsLit};
-ghost use Rattle.acts_rule.specs.Room.{falls_of, bare_count, Takes};
+ghost use Rattle.run_acts.specs.Going.{first_second, end_of_seconds, IsHeld, IsLit};
+ghost use Rattle.run_acts.specs.Room.{falls_of, bare_count, Takes};
 ghost use Rattle.recorder_rule.specs.Accepting.{chip_a_of, chip_b_of, a_of, b_of, IsAccepted, IsOdometerNow, IsEnteringNow, IsAnew, IsBare};
 ghost use Rattle.recorder_rule.specs.Judged.{JudgesSo, JudgesAnew, EventsJudged, EventsAnew};
 ghost use Rattle.recorder_rule.specs.Noting.{IsJudgedNoting, NotesJudging, NotesAnew};

@@ -4,7 +4,7 @@ use Rattle.trace_model.specs.declared.Card.{Card}
 use Rattle.safety_model.specs.Safe.{Devices}
 use Rattle.run_rule.specs.Between.{devices}
 use Rattle.slot_machine.specs.Calls.{seat_in, card_in}
-use Rattle.acts_rule.specs.Room.{Takes, bare_count}
+use Rattle.run_acts.specs.Room.{Takes, bare_count}
 use Rattle.recorder_rule.specs.Judged.{JudgesAnew, EventsAnew}
 use Rattle.recorder_rule.specs.Noting.{NotesAnew}
 use Rattle.recorder_rule.proofs.Judged.{none-noting}

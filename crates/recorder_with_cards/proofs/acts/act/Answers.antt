@@ -1,7 +1,7 @@
 use Rattle.std.proofs.Common.{◌≡◌, ◌∙◌, Bool, true, false, length, refl, ap, sym, subst, arith}
 use Rattle.log_model.specs.declared.lines.Refused.{Refused}
 use Rattle.run_outcome.specs.Lines.{Listed}
-use Rattle.run_state.specs.Power.{is_lit}
+use Rattle.run_acts.specs.Power.{is_lit}
 use Rattle.recorder_rule.specs.Acting.{IsActed}
 use Rattle.run_rule.specs.Between.{devices}
 use Rattle.recorder_rule.proofs.RingsHeld.{ringed-over}

@@ -1,14 +1,14 @@
 use Rattle.std.proofs.Common.{◌≡◌, ◌∙◌, ℕ, ◌+◌, List, true, false, ap, sym, subst, arith}
 use Rattle.run_outcome.specs.Room.{insertion_count}
-use Rattle.acts_rule.specs.Room.{HasRoomWithin}
+use Rattle.run_acts.specs.Room.{HasRoomWithin}
 use Rattle.trace_model.specs.declared.Action.{Action}
 use Rattle.trace_model.specs.declared.Item.{Item}
-use Rattle.run_state.specs.Power.{is_lit}
+use Rattle.run_acts.specs.Power.{is_lit}
 use Rattle.recorder_rule.specs.Acting.{IsItemActed}
 use Rattle.run_rule.specs.Between.{devices}
 use Rattle.safety_model.specs.Safe.{Devices}
 use Rattle.recorder_rule.specs.Recorded.{action_of, RingsActions}
-use Rattle.acts_rule.specs.RunRinged.{InSecondRinged}
+use Rattle.run_acts.specs.RunRinged.{InSecondRinged}
 use Rattle.recorder_rule.proofs.ActsRecorded.{no-action}
 use Rattle.recorder_rule.proofs.Allowed.{count-is}
 use Rattle.recorder_rule.specs.Carded.{InSecondCarded, CardsActions}

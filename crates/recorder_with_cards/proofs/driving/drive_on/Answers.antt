@@ -5,10 +5,10 @@ use Rattle.safety_model.specs.Safe.{Devices}
 use Rattle.run_rule.specs.Between.{devices}
 use Rattle.recorder_rule.proofs.SecondsRecorded.{plain-parts}
 use Rattle.std.proofs.lemmas.Grind.{common_steps}
-use Rattle.acts_rule.specs.Room.{cuts_from}
+use Rattle.run_acts.specs.Room.{cuts_from}
 use Rattle.recorder_rule.proofs.Rooms.{room-less}
-use Rattle.acts_rule.specs.Evented.{LastAt}
-use Rattle.acts_rule.specs.RunRinged.{RunRinged}
+use Rattle.run_acts.specs.Evented.{LastAt}
+use Rattle.run_acts.specs.RunRinged.{RunRinged}
 use Rattle.recorder_rule.specs.Carded.{RunCarded}
 use Rattle.recorder_rule.proofs.SecondsEvented.{last-more}
 use Rattle.run_keeping.proofs.Later.{later-same, later-then}

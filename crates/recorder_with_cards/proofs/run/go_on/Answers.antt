@@ -6,7 +6,7 @@ use Rattle.minute_model.specs.Span.{ungiven_of}
 use Rattle.safety_model.specs.Safe.{Devices}
 use Rattle.run_rule.specs.Between.{devices}
 use Rattle.run_outcome.specs.declared.outcome.Outcome.{Outcome}
-use Rattle.acts_rule.specs.RunRinged.{RunRinged}
+use Rattle.run_acts.specs.RunRinged.{RunRinged}
 use Rattle.recorder_rule.specs.Recorded.{actions_in, HasRunBy}
 use Rattle.recorder_rule.proofs.SecondsRinged.{off-ringed}
 use Rattle.recorder_rule.specs.Carded.{RunCarded}
@@ -18,11 +18,11 @@ use Rattle.log_model.specs.declared.lines.Break.{Break}
 use Rattle.run_outcome.specs.Lines.{Listed}
 use Rattle.run_outcome.specs.Room.{off_count}
 use Rattle.run_keeping.proofs.Counts.{lines-length}
-use Rattle.run_state.specs.declared.run.Run.{Run}
-use Rattle.run_state.specs.Power.{is_lit, off_cut}
-use Rattle.run_state.specs.Going.{IsGoing}
-use Rattle.acts_rule.specs.Room.{cuts_from, HasRoom}
-use Rattle.acts_rule.proofs.Standing.{off-at}
+use Rattle.run_acts.specs.declared.run.Run.{Run}
+use Rattle.run_acts.specs.Power.{is_lit, off_cut}
+use Rattle.run_acts.specs.Going.{IsGoing}
+use Rattle.run_acts.specs.Room.{cuts_from, HasRoom}
+use Rattle.run_acts.proofs.Standing.{off-at}
 use Rattle.recorder_rule.specs.Items.{between, insertions_in}
 use Rattle.recorder_rule.proofs.Rooms.{room-less}
 use Rattle.recorder_rule.specs.Gone.{has_seconds, HasGone}
