@@ -17,12 +17,12 @@ ghost use Rattle.run_acts.specs.Recording.{RecordsAction};
 ghost use Rattle.run_acts.specs.Evented.{EventsAction};
 ghost use Rattle.run_acts.specs.RunRinged.{RingsAction};
 ghost use Rattle.run_acts.specs.RunCards.{CardsAction};
-ghost use Rattle.recorder_rule.specs.Carded.{CardsActions};
-ghost use Rattle.recorder_rule.specs.Acting.{put_count, refusal_lines, refused_by, IsSelected, IsFine, StaysIn, moment_of, IsDone, IsActedBy, IsActed, IsItemActed, AreActed, CallsNone};
-ghost use Rattle.recorder_rule.specs.Recorded.{action_of, actions_in, RingsActions};
-ghost use Rattle.recorder_rule.specs.EnteredRings.{RingsDone};
-ghost use Rattle.recorder_rule.specs.Noting.{NotesDone};
-ghost use Rattle.recorder_rule.specs.Items.{between, insertions_in};
+ghost use Rattle.recorder_with_cards.specs.Carded.{CardsActions};
+ghost use Rattle.recorder_with_cards.specs.Acting.{put_count, refusal_lines, refused_by, IsSelected, IsFine, StaysIn, moment_of, IsDone, IsActedBy, IsActed, IsItemActed, AreActed, CallsNone};
+ghost use Rattle.recorder_with_cards.specs.Recorded.{action_of, actions_in, RingsActions};
+ghost use Rattle.recorder_with_cards.specs.EnteredRings.{RingsDone};
+ghost use Rattle.recorder_with_cards.specs.Noting.{NotesDone};
+ghost use Rattle.recorder_with_cards.specs.Items.{between, insertions_in};
 ghost use Rattle.run_outcome.specs.Room.{insertion_count};
 
 use crate::inserting::insert;

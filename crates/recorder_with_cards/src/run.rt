@@ -15,11 +15,11 @@ ghost use Rattle.tach_media.specs.Medium.{HasBroken};
 ghost use Rattle.run_outcome.specs.Broken.{BreaksDown};
 ghost use Rattle.run_acts.specs.Going.{largest_number, end_of_seconds, IsGoing};
 ghost use Rattle.run_acts.specs.Room.{HasRoom};
-ghost use Rattle.recorder_rule.specs.Items.{between, insertions_in};
-ghost use Rattle.recorder_rule.specs.Recorded.{actions_in, RingsItem};
-ghost use Rattle.recorder_rule.specs.Carded.{CardsItem};
-ghost use Rattle.recorder_rule.specs.Ends.{BeginAs, EndsTrace, MayRecord, IsKeptFrom};
-ghost use Rattle.recorder_rule.specs.Gone.{first_waiting, has_seconds, HasGone, IsRefusedBy};
+ghost use Rattle.recorder_with_cards.specs.Items.{between, insertions_in};
+ghost use Rattle.recorder_with_cards.specs.Recorded.{actions_in, RingsItem};
+ghost use Rattle.recorder_with_cards.specs.Carded.{CardsItem};
+ghost use Rattle.recorder_with_cards.specs.Ends.{BeginAs, EndsTrace, MayRecord, IsKeptFrom};
+ghost use Rattle.recorder_with_cards.specs.Gone.{first_waiting, has_seconds, HasGone, IsRefusedBy};
 
 use crate::driving::drive;
 use run_acts::Run;

@@ -8,7 +8,7 @@ use Rattle.run_acts.specs.Going.{IsGoing}
 use Rattle.run_acts.specs.Room.{HasRoom}
 use Rattle.run_acts.specs.Evented.{LastAt}
 use Rattle.run_acts.specs.RunRinged.{RunRinged}
-use Rattle.recorder_rule.specs.Carded.{RunCarded}
+use Rattle.recorder_with_cards.specs.Carded.{RunCarded}
 use Rattle.run_outcome.specs.Broken.{BreaksDown}
 use Rattle.recorder_with_cards.proofs.driving.drive_on.Given as goal
 

@@ -8,7 +8,7 @@ use Rattle.run_acts.specs.Going.{IsHeld, IsLit}
 use Rattle.run_acts.specs.Room.{Takes, waiting}
 use Rattle.slot_machine.specs.Calls.{seat_in}
 use Rattle.run_acts.specs.Acting.{IsSettled, IsBareIn, told_of}
-use Rattle.recorder_rule.proofs.Puts.{put-held, put-going, put-takes, put-then, put-bare, put-falls, seat-put}
+use Rattle.recorder_with_cards.proofs.Puts.{put-held, put-going, put-takes, put-then, put-bare, put-falls, seat-put}
 use Rattle.std.specs.Prelude.{is_err}
 use Rattle.log_model.specs.Log.{In, RunLog}
 use Rattle.safety_model.specs.Safe.{Devices}
@@ -30,24 +30,24 @@ use Rattle.run_acts.specs.RunRinged.{RingsGoOn}
 use Rattle.run_acts.proofs.RingedLines.{AreTears, up-to-tells}
 use Rattle.run_acts.proofs.RingedSecond.{more-left}
 use Rattle.run_acts.proofs.RingedClosed.{fewer-seats}
-use Rattle.recorder_rule.proofs.ActsRecorded.{refuses}
-use Rattle.recorder_rule.proofs.Inserted.{at-is, unsettled, inserted, waiting as waits-within, next-judged, next-cards, unsettled-evented, inserted-evented}
-use Rattle.recorder_rule.proofs.InsertedRinged.{unsettled-ringed, inserted-ringed, odometer-mid}
+use Rattle.recorder_with_cards.proofs.ActsRecorded.{refuses}
+use Rattle.recorder_with_cards.proofs.Inserted.{at-is, unsettled, inserted, waiting as waits-within, next-judged, next-cards, unsettled-evented, inserted-evented}
+use Rattle.recorder_with_cards.proofs.InsertedRinged.{unsettled-ringed, inserted-ringed, odometer-mid}
 use Rattle.tach_media.specs.Medium.{State}
 use Rattle.run_acts.specs.NotedEvents.{NotesEvents}
 use Rattle.run_acts.proofs.NotedEvents.{then-noted}
 use Rattle.run_acts.specs.Faults.{NotesSettling}
-use Rattle.recorder_rule.specs.Accepting.{put_run}
+use Rattle.recorder_with_cards.specs.Accepting.{put_run}
 use Rattle.run_acts.proofs.ActsNoted.{settles-these}
-use Rattle.recorder_rule.proofs.WakeNoted.{anew-these}
+use Rattle.recorder_with_cards.proofs.WakeNoted.{anew-these}
 use Rattle.run_entering.specs.Entering.{ending_of}
 use Rattle.run_acts.proofs.Ringing.{settling-leaves}
-use Rattle.recorder_rule.proofs.EnteredRings.{writes-behind}
+use Rattle.recorder_with_cards.proofs.EnteredRings.{writes-behind}
 use Rattle.run_keeping.proofs.Later.{later-then}
 use Rattle.run_ringed.specs.OnCards.{PlacesStay}
 use Rattle.run_acts.specs.RunCards.{vehicle_in, StillShow, CardsSettling, PlacesSettling, CardsGoOn}
-use Rattle.recorder_rule.proofs.InsertedCards.{unsettled-cards, inserted-cards}
-use Rattle.recorder_rule.proofs.Staying.{settled-watched}
+use Rattle.recorder_with_cards.proofs.InsertedCards.{unsettled-cards, inserted-cards}
+use Rattle.recorder_with_cards.proofs.Staying.{settled-watched}
 use Rattle.run_keeping.proofs.Calm.{calm-then}
 use Rattle.run_keeping.specs.Books.{HaveTime}
 use Rattle.run_outcome.specs.declared.outcome.TheConstants.{MOST_OWED}

@@ -7,10 +7,10 @@ use Rattle.safety_model.specs.Safe.{Devices}
 use Rattle.run_rule.specs.Between.{devices}
 use Rattle.run_outcome.specs.declared.outcome.Outcome.{Outcome}
 use Rattle.run_acts.specs.RunRinged.{RunRinged}
-use Rattle.recorder_rule.specs.Recorded.{actions_in, HasRunBy}
-use Rattle.recorder_rule.proofs.SecondsRinged.{off-ringed}
-use Rattle.recorder_rule.specs.Carded.{RunCarded}
-use Rattle.recorder_rule.proofs.SecondsCards.{off-carded}
+use Rattle.recorder_with_cards.specs.Recorded.{actions_in, HasRunBy}
+use Rattle.recorder_with_cards.proofs.SecondsRinged.{off-ringed}
+use Rattle.recorder_with_cards.specs.Carded.{RunCarded}
+use Rattle.recorder_with_cards.proofs.SecondsCards.{off-carded}
 use Rattle.tach_media.proofs.Runs.{on_ok, ok_gives}
 use Rattle.trace_model.specs.declared.Item.{Item}
 use Rattle.trace_text.specs.Line.{InRange}
@@ -23,13 +23,13 @@ use Rattle.run_acts.specs.Power.{is_lit, off_cut}
 use Rattle.run_acts.specs.Going.{IsGoing}
 use Rattle.run_acts.specs.Room.{cuts_from, HasRoom}
 use Rattle.run_acts.proofs.Standing.{off-at}
-use Rattle.recorder_rule.specs.Items.{between, insertions_in}
-use Rattle.recorder_rule.proofs.Rooms.{room-less}
-use Rattle.recorder_rule.specs.Gone.{has_seconds, HasGone}
-use Rattle.recorder_rule.proofs.Dark.{cut-room, off-room, unfound-same}
+use Rattle.recorder_with_cards.specs.Items.{between, insertions_in}
+use Rattle.recorder_with_cards.proofs.Rooms.{room-less}
+use Rattle.recorder_with_cards.specs.Gone.{has_seconds, HasGone}
+use Rattle.recorder_with_cards.proofs.Dark.{cut-room, off-room, unfound-same}
 use Rattle.run_keeping.proofs.Later.{later-same}
 use Rattle.run_outcome.proofs.Broken.{broke-none, broke-behind}
-use Rattle.recorder_rule.proofs.Uncut.{off-uncut, off-calm}
+use Rattle.recorder_with_cards.proofs.Uncut.{off-uncut, off-calm}
 use Rattle.run_keeping.proofs.Calm.{calm-told, calm-same}
 use Rattle.recorder_with_cards.proofs.run.go_on.Goals as goal
 
