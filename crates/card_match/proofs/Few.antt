@@ -6,7 +6,6 @@ use Rattle.std.proofs.Math.ListN.{length-map}
 use Rattle.std.proofs.lemmas.Bool.Decides.{nat_tests}
 use Rattle.activity_codec.proofs.ByTest.{by_test}
 use Rattle.activity_codec.specs.declared.entries.Entry.{Entry}
-use Rattle.activity_codec.specs.declared.values.Slot.{Slot}
 use Rattle.card_retention.specs.Retains.{Rise}
 use Rattle.tacho_types.specs.declared.calendar.TheConstants.{DAYS}
 use Rattle.view_model.specs.declared.CardShown.{CardShown}
@@ -16,10 +15,6 @@ use Rattle.view_model.specs.Lines.{same_card, day_of_minute, goes_on, with_minut
 use Rattle.view_text.specs.Exact.{both}
 use Rattle.history_view.specs.Histories.{AreLines, minutes_on, entry_told}
 use Rattle.history_view.proofs.Lines.{all_low}
-use Rattle.card_match.specs.Matching.{Against, IsMatch}
-use Rattle.card_match.specs.Text.{IsDated}
-use Rattle.card_match.specs.declared.verdict.Matched.{Matched}
-use Rattle.card_match.specs.declared.verdict.Matched.TheVariants.{Yes, No}
 use Rattle.card_match.proofs.Rising.{rise_few}
 
 equal : (a b : ℕ) → (a == b) ≡ true → a ≡ b
@@ -64,14 +59,3 @@ few (e ∷ es) rise dated = let all = below (e ∷ es) dated in omega (arith, ri
 
 pub few_minutes : (lines : List (Line CardShown)) → AreLines same_card lines → Rise (map entry_told (minutes_on lines)) → length (minutes_on lines) < 2 ^ 32
 few_minutes lines are rise = omega (arith, few (map entry_told (minutes_on lines)) rise (lines_dated lines are), length-map (minutes_on lines) entry_told)
-
--- an entry among those of a card
-pub dated_at : (before : List Entry) (e : Entry) (behind : List Entry) → AreDated (before ++ e ∷ behind) → day_of_minute e.minute < DAYS
-dated_at [] e behind all = all.0
-dated_at (x ∷ xs) e behind all = dated_at xs e behind all.1
-
--- so the minute of an answer lies on a day that a time of four bytes can name
-pub dated_answer : (a : Against) (entries : List Entry) (matched : Matched) → AreDated entries → IsMatch a entries matched → IsDated matched
-dated_answer a entries (Yes tested other before) dated is = tt
-dated_answer a entries (No minute slot) dated is =
-    subst (λ (m : ℕ). day_of_minute m < DAYS) (sym is.minute_is) (dated_at is.before is.entry is.behind (subst AreDated is.here dated))

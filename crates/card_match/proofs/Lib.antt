@@ -9,3 +9,6 @@ pub mod Rows
 pub mod Few
 pub mod Sources
 pub mod Answering
+pub mod Seeing
+pub mod RunTexts
+pub mod Firsts

@@ -1,14 +1,22 @@
 -- Worked rows of the match, computed.
 use Rattle.std.proofs.Common.{◌≡◌, ℕ, Bool, true, false, Some, None, List, [], ◌∷◌, refl}
-use Rattle.std.specs.Prelude.{count_by}
+use Rattle.std.specs.Prelude.{count_by, codes}
 use Rattle.activity_codec.specs.declared.entries.Entry.{Entry}
 use Rattle.activity_codec.specs.declared.values.Activity.{Activity}
 use Rattle.activity_codec.specs.declared.values.Activity.TheVariants.{Rest, Available, Work, Driving}
 use Rattle.activity_codec.specs.declared.values.Slot.{Slot}
 use Rattle.activity_codec.specs.declared.values.Slot.TheVariants.{Driver, CoDriver}
 use Rattle.view_model.specs.declared.State.{State}
+use Rattle.view_model.specs.declared.Viewed.{Viewed}
+use Rattle.view_model.specs.declared.Line.{Line}
+use Rattle.view_model.specs.Lines.{lines_of}
 use Rattle.unit_model.specs.Days.{UnitMinute}
 use Rattle.card_match.specs.declared.cases.Use.{Use}
+use Rattle.card_match.specs.declared.difference.Instead.{Instead}
+use Rattle.card_match.specs.declared.difference.Instead.TheVariants.{NoMinute, NoCard, Doing, Crew}
+use Rattle.card_match.specs.declared.difference.Difference.{Difference}
+use Rattle.card_match.specs.Differences.{differences, same_difference}
+use Rattle.card_match.specs.Text.{difference_words}
 use Rattle.card_match.specs.declared.verdict.Matched.{Matched}
 use Rattle.card_match.specs.declared.verdict.Matched.TheVariants.{Yes, No}
 use Rattle.card_match.specs.Matching.{Against, is_own, is_other, is_early, is_before, is_tested, minute_at, stands, IsMatch}
@@ -108,3 +116,55 @@ no_row =
       minute_is = refl;
       slot_is = refl;
     }
+
+-- ---- all that differs
+
+abbrev how : Slot → Activity → Instead → Difference
+how slot act instead = record { slot = slot; act = act; instead = instead }
+
+abbrev at : ℕ → Difference → Viewed Difference
+at minute d = record { minute = minute; shown = d }
+
+abbrev run : ℕ → ℕ → Difference → Line Difference
+run first last d = record { first = first; last = last; shown = d }
+
+-- another activity; the other crew alone; no card in the slot; no such minute; an entry that stands
+differs_act : differences seven (entry 21123361 Driver false Work ∷ []) ≡ at 21123361 (how Driver Work (Doing Driving)) ∷ []
+differs_act = refl
+
+differs_crew : differences seven (entry 21123361 Driver true Driving ∷ []) ≡ at 21123361 (how Driver Driving (Crew false)) ∷ []
+differs_crew = refl
+
+differs_slot : differences seven (entry 21123361 CoDriver false Driving ∷ []) ≡ at 21123361 (how CoDriver Driving NoCard) ∷ []
+differs_slot = refl
+
+differs_absent : differences seven (entry 21123410 Driver false Rest ∷ []) ≡ at 21123410 (how Driver Rest NoMinute) ∷ []
+differs_absent = refl
+
+differs_not : differences seven (entry 21123361 Driver false Driving ∷ []) ≡ []
+differs_not = refl
+
+-- minutes in a row that differ in the same way are one run; a minute between, another way and another slot are not
+one_run : lines_of same_difference (differences seven (entry 21123410 Driver false Rest ∷ entry 21123411 Driver false Rest ∷ [])) ≡ run 21123410 21123411 (how Driver Rest NoMinute) ∷ []
+one_run = refl
+
+a_minute_between : lines_of same_difference (differences seven (entry 21123410 Driver false Rest ∷ entry 21123412 Driver false Rest ∷ []))
+    ≡ run 21123410 21123410 (how Driver Rest NoMinute) ∷ run 21123412 21123412 (how Driver Rest NoMinute) ∷ []
+a_minute_between = refl
+
+another_way : lines_of same_difference (differences seven (entry 21123410 Driver false Rest ∷ entry 21123411 Driver false Work ∷ []))
+    ≡ run 21123410 21123410 (how Driver Rest NoMinute) ∷ run 21123411 21123411 (how Driver Work NoMinute) ∷ []
+another_way = refl
+
+-- the words
+words_of_act : difference_words (how Driver Work (Doing Rest)) ≡ codes "driver card=work unit=rest"
+words_of_act = refl
+
+words_of_crew : difference_words (how CoDriver Driving (Crew false)) ≡ codes "codriver card=drive,crew unit=drive,single"
+words_of_crew = refl
+
+words_of_none : difference_words (how Driver Rest NoMinute) ≡ codes "driver card=rest unit=none"
+words_of_none = refl
+
+words_of_out : difference_words (how Driver Available NoCard) ≡ codes "driver card=available unit=out"
+words_of_out = refl

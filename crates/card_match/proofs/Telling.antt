@@ -11,12 +11,10 @@ use Rattle.view_model.specs.declared.Viewed.{Viewed}
 use Rattle.view_model.specs.declared.Line.{Line}
 use Rattle.card_match.specs.declared.cases.Use.{Use}
 use Rattle.card_match.specs.declared.cases.Case.{Case}
-use Rattle.card_match.specs.declared.cases.Seen.{Seen}
-use Rattle.card_match.specs.declared.cases.Seen.TheVariants.{Nowhere, Alike, Differs}
 use Rattle.unit_model.specs.Days.{UnitMinute}
 use Rattle.history_view.specs.Histories.{minute_told, line_minutes}
-use Rattle.card_match.specs.Matching.{Against, is_within, is_own, is_as, minute_at}
-use Rattle.card_match.specs.Cases.{minute_of, seen_as, seen_by, case_of, with_use, with_line, line_use, first_seen}
+use Rattle.card_match.specs.Matching.{Against, is_within, is_own, minute_at}
+use Rattle.card_match.specs.Cases.{minute_of, shown_of, case_of, with_use, with_line, line_use, first_seen}
 
 -- a minute outside a use
 not_within : (m first last : ℕ) → (m < first) ⊎ (last < m) → (nat_le first m && nat_le m last) ≡ false
@@ -39,7 +37,7 @@ line_keeps line c = by_test (is_within c.entry.minute (line_use line)) (λ yes. 
 any_last : {X : Type 0} (p : X → Bool) (xs : List X) (x : X) → list_any p (xs ++ x ∷ []) ≡ (list_any p xs || p x)
 any_last p xs x = list_any-append p xs (x ∷ []) ∙ ap (λ (b : Bool). list_any p xs || b) (by_test (p x) (λ yes. rw yes refl) (λ no. rw no refl))
 
-own_more : (b within : Bool) (e : Entry) (s : Seen) → (let c : Case = record { entry = e; own = b; seen = s } in if within then (let d : Case = record { entry = e; own = true; seen = s } in d) else c) ≡ record { entry = e; own = b || within; seen = s }
+own_more : (b within : Bool) (e : Entry) (s : Option UnitShown) → (let c : Case = record { entry = e; own = b; seen = s } in if within then (let d : Case = record { entry = e; own = true; seen = s } in d) else c) ≡ record { entry = e; own = b || within; seen = s }
 own_more true true e s = refl
 own_more true false e s = refl
 own_more false true e s = refl
@@ -47,8 +45,8 @@ own_more false false e s = refl
 
 pub one_use : (a : Against) (u : Use) (e : Entry) → with_use u (case_of a e) ≡ case_of (record { uses = a.uses ++ u ∷ []; minutes = a.minutes }) e
 one_use a u e =
-    own_more (is_own a e) (is_within e.minute u) e (seen_by e (minute_at a.minutes e.minute))
-    ∙ ap (λ (b : Bool). let c : Case = record { entry = e; own = b; seen = seen_by e (minute_at a.minutes e.minute) } in c) (sym (any_last (is_within e.minute) a.uses u))
+    own_more (is_own a e) (is_within e.minute u) e (shown_of (minute_at a.minutes e.minute))
+    ∙ ap (λ (b : Bool). let c : Case = record { entry = e; own = b; seen = shown_of (minute_at a.minutes e.minute) } in c) (sym (any_last (is_within e.minute) a.uses u))
 
 -- the first of some minutes, and then of others
 abbrev or_else : Option UnitMinute → Option UnitMinute → Option UnitMinute
@@ -93,30 +91,24 @@ at_line line m =
     at_range line.shown m (line.last + 1 - line.first) line.first
     ∙ ap (λ (b : Bool). let o : Option UnitMinute = if b then Some (minute_of line.shown m) else None in o) (same_within line.first line.last m)
 
-seen_stays : (b : Bool) (later : Seen) → seen_as b ≡ first_seen (seen_as b) later
-seen_stays true later = refl
-seen_stays false later = refl
+seen_more : (within : Bool) (o : Option UnitMinute) (shown : UnitShown) (m : ℕ) → shown_of (or_else o (if within then Some (minute_of shown m) else None)) ≡ (if within then first_seen (shown_of o) (Some shown) else shown_of o)
+seen_more true None shown m = refl
+seen_more true (Some x) shown m = refl
+seen_more false None shown m = refl
+seen_more false (Some x) shown m = refl
 
-seen_more : (within : Bool) (e : Entry) (o : Option UnitMinute) (m : UnitMinute) → seen_by e (or_else o (if within then Some m else None)) ≡ (if within then first_seen (seen_by e o) (seen_as (is_as e m)) else seen_by e o)
-seen_more true e None m = refl
-seen_more true e (Some x) m = seen_stays (is_as e x) (seen_as (is_as e m))
-seen_more false e None m = refl
-seen_more false e (Some x) m = refl
-
-line_more : (within b : Bool) (e : Entry) (s t : Seen) → (let c : Case = record { entry = e; own = b; seen = s } in if within then (let d : Case = record { entry = e; own = b; seen = t } in d) else c) ≡ record { entry = e; own = b; seen = if within then t else s }
+line_more : (within b : Bool) (e : Entry) (s t : Option UnitShown) → (let c : Case = record { entry = e; own = b; seen = s } in if within then (let d : Case = record { entry = e; own = b; seen = t } in d) else c) ≡ record { entry = e; own = b; seen = if within then t else s }
 line_more true b e s t = refl
 line_more false b e s t = refl
 
 pub one_line : (a : Against) (line : Line UnitShown) (e : Entry) → with_line line (case_of a e) ≡ case_of (record { uses = a.uses; minutes = a.minutes ++ map minute_told (line_minutes line) }) e
 one_line a line e =
-    let w : Bool = is_within e.minute (line_use line) in
     let o : Option UnitMinute = minute_at a.minutes e.minute in
-    let m : UnitMinute = minute_of line.shown e.minute in
-    let at : Seen → Case = λ s. record { entry = e; own = is_own a e; seen = s } in
-    line_more (is_within e.minute (line_use line)) (is_own a e) e (seen_by e o) (first_seen (seen_by e o) (seen_as (is_as e m)))
-    ∙ ap at (sym (seen_more (is_within e.minute (line_use line)) e o m))
-    ∙ ap (λ (x : Option UnitMinute). at (seen_by e (or_else o x))) (sym (at_line line e.minute))
-    ∙ ap (λ (x : Option UnitMinute). at (seen_by e x)) (sym (at_append a.minutes (map minute_told (line_minutes line)) e.minute))
+    let at : Option UnitShown → Case = λ s. record { entry = e; own = is_own a e; seen = s } in
+    line_more (is_within e.minute (line_use line)) (is_own a e) e (shown_of o) (first_seen (shown_of o) (Some line.shown))
+    ∙ ap at (sym (seen_more (is_within e.minute (line_use line)) o line.shown e.minute))
+    ∙ ap (λ (x : Option UnitMinute). at (shown_of (or_else o x))) (sym (at_line line e.minute))
+    ∙ ap (λ (x : Option UnitMinute). at (shown_of x)) (sym (at_append a.minutes (map minute_told (line_minutes line)) e.minute))
 
 pub later_by_test : (a b : ℕ) → nat_le a b ≡ false → b < a
 later_by_test a b late = grind (arith, nat_tests)

@@ -1,18 +1,21 @@
 -- What is found out about each entry of a card file, one use and one line of the unit file after another.
-use Rattle.std.specs.Prelude.{◌≡◌, ℕ, ◌+◌, ◌&&◌, ◌||◌, nat_le, Bool, true, false, Option, Some, None, List, [], ◌∷◌, ◌++◌, if◌then◌else◌, map, count_by}
-use Rattle.std.specs.List.{list_any, AllByRecursion}
+use Rattle.std.specs.Prelude.{◌≡◌, ℕ, ◌+◌, ◌&&◌, nat_le, Bool, true, false, Option, Some, None, List, [], ◌∷◌, if◌then◌else◌}
+use Rattle.std.specs.List.{list_any}
 use Rattle.std.specs.List.Sorted.{IsNonDecreasingBy}
 use Rattle.activity_codec.specs.declared.entries.Entry.{Entry}
 use Rattle.view_model.specs.declared.UnitShown.{UnitShown}
+use Rattle.view_model.specs.declared.Viewed.{Viewed}
 use Rattle.view_model.specs.declared.Line.{Line}
 use Rattle.view_model.specs.Lines.{day_of_minute}
 use Rattle.unit_model.specs.Days.{UnitMinute}
-use Rattle.history_view.specs.Histories.{minute_told}
-use Rattle.card_match.specs.Matching.{Against, is_within, is_own, is_as, minute_at, is_other, is_before, is_tested, stands, IsMet}
+use Rattle.history_view.specs.Histories.{minute_shown, minute_told}
+use Rattle.card_match.specs.Matching.{Against, is_within, is_own, minute_at, is_before, is_tested, stands}
+use Rattle.card_match.specs.Differences.{instead_of}
 use Rattle.card_match.specs.declared.cases.Use.{Use}
 use Rattle.card_match.specs.declared.cases.Case.{Case}
-use Rattle.card_match.specs.declared.cases.Seen.{Seen}
-use Rattle.card_match.specs.declared.cases.Seen.TheVariants.{Nowhere, Alike, Differs}
+use Rattle.card_match.specs.declared.difference.Instead.{Instead}
+use Rattle.card_match.specs.declared.difference.Instead.TheVariants.{NoMinute}
+use Rattle.card_match.specs.declared.difference.Difference.{Difference}
 use Rattle.card_match.specs.declared.verdict.Sort.{Sort}
 use Rattle.card_match.specs.declared.verdict.Sort.TheVariants.{Other, Before, Standing, Missed}
 use Rattle.card_match.specs.declared.verdict.Counts.{Counts}
@@ -21,32 +24,27 @@ use Rattle.card_match.specs.declared.verdict.Counts.{Counts}
 abbrev pub minute_of : UnitShown → ℕ → UnitMinute
 minute_of shown minute = minute_told (record { minute = minute; shown = shown })
 
--- how a minute of the unit file looks beside an entry
-abbrev pub seen_as : Bool → Seen
-seen_as true = Alike
-seen_as false = Differs
-
-abbrev pub seen_by : Entry → Option UnitMinute → Seen
-seen_by e None = Nowhere
-seen_by e (Some m) = seen_as (is_as e m)
+-- what the unit file shows of a minute, if it has that
+abbrev pub shown_of : Option UnitMinute → Option UnitShown
+shown_of None = None
+shown_of (Some m) = Some (minute_shown m).shown
 
 -- an entry of which nothing is known yet
 abbrev pub fresh : Entry → Case
-fresh e = record { entry = e; own = false; seen = Nowhere }
+fresh e = record { entry = e; own = false; seen = None }
 
 -- an entry by these uses and these minutes
 abbrev pub case_of : Against → Entry → Case
-case_of a e = record { entry = e; own = is_own a e; seen = seen_by e (minute_at a.minutes e.minute) }
+case_of a e = record { entry = e; own = is_own a e; seen = shown_of (minute_at a.minutes e.minute) }
 
 -- a case after one use more
 abbrev pub with_use : Use → Case → Case
 with_use u c = if is_within c.entry.minute u then record { entry = c.entry; own = true; seen = c.seen } else c
 
 -- what was seen first
-abbrev pub first_seen : Seen → Seen → Seen
-first_seen Nowhere later = later
-first_seen Alike later = Alike
-first_seen Differs later = Differs
+abbrev pub first_seen : Option UnitShown → Option UnitShown → Option UnitShown
+first_seen None later = later
+first_seen (Some shown) later = Some shown
 
 abbrev pub line_use : Line UnitShown → Use
 line_use line = record { first = line.first; last = line.last }
@@ -55,7 +53,7 @@ line_use line = record { first = line.first; last = line.last }
 abbrev pub with_line : Line UnitShown → Case → Case
 with_line line c =
     if is_within c.entry.minute (line_use line)
-    then record { entry = c.entry; own = c.own; seen = first_seen c.seen (seen_as (is_as c.entry (minute_of line.shown c.entry.minute))) }
+    then record { entry = c.entry; own = c.own; seen = first_seen c.seen (Some line.shown) }
     else c
 
 abbrev pub minute_of_case : Case → ℕ
@@ -90,7 +88,7 @@ abbrev pub counted : Counts → Sort → Counts
 counted c Other = record { tested = c.tested; other = c.other + 1; before = c.before }
 counted c Before = record { tested = c.tested; other = c.other; before = c.before + 1 }
 counted c Standing = record { tested = c.tested + 1; other = c.other; before = c.before }
-counted c Missed = c
+counted c Missed = record { tested = c.tested + 1; other = c.other; before = c.before }
 
 abbrev pub total : Counts → ℕ
 total c = c.tested + (c.other + c.before)
@@ -99,9 +97,15 @@ abbrev pub is_missed : Sort → Bool
 is_missed Missed = true
 is_missed _ = false
 
--- so many of these are tested, other, before, and each tested one stands
-pub record AreCounted (a : Against) (entries : List Entry) (c : Counts) : Type 0 where
-  pub met : AllByRecursion (IsMet a) entries
-  pub tested_are : c.tested ≡ count_by (is_tested a) entries
-  pub other_are : c.other ≡ count_by (is_other a) entries
-  pub before_are : c.before ≡ count_by (is_before a) entries
+-- what a minute that shows so has in place of an entry
+abbrev pub instead_seen : Entry → Option UnitShown → Instead
+instead_seen e None = NoMinute
+instead_seen e (Some shown) = instead_of e (Some (minute_of shown e.minute))
+
+-- how a case differs
+abbrev pub difference_in : Case → Viewed Difference
+difference_in c = record { minute = c.entry.minute; shown = record { slot = c.entry.slot; act = c.entry.act; instead = instead_seen c.entry c.seen } }
+
+-- the difference of a case, if it is missed
+abbrev pub differing : Case → Sort → List (Viewed Difference)
+differing c sort = if is_missed sort then difference_in c ∷ [] else []

@@ -10,8 +10,10 @@ use Rattle.history_view.specs.UnitFiles.{IsBadUnitFile}
 use Rattle.history_view.specs.Fronts.{registration_in, begins_message, IsBadFront}
 use Rattle.history_view.specs.Vehicles.{ShowsCard}
 use Rattle.card_match.specs.Matching.{Against, IsMatch}
+use Rattle.card_match.specs.Differences.{AreDifferences}
 use Rattle.card_match.specs.declared.cases.Use.{Use}
 use Rattle.card_match.specs.declared.verdict.Matched.{Matched}
+use Rattle.card_match.specs.declared.verdict.Differences.{Differences}
 use Rattle.card_match.specs.declared.files.MatchFault.{MatchFault}
 use Rattle.card_match.specs.declared.files.MatchFault.TheVariants.{BadUnitFile, BadCardFile, Memory}
 
@@ -29,16 +31,23 @@ uses_of registration vehicles = map use_of (filter (is_of registration) vehicles
 abbrev pub against : List ℕ → List Vehicle → List UnitMinute → Against
 against registration vehicles minutes = record { uses = uses_of registration vehicles; minutes = minutes }
 
--- The bytes are a unit file with an overview, and a card file; and this answers whether the card's entries match the unit's minutes.
-pub record MatchesFiles (unit card : List ℕ) (matched : Matched) : Type 0 where
+-- The bytes are a unit file with an overview, and a card file; and this is the answer, of this kind, of the card's entries against the unit's minutes.
+pub record AnswersFiles {T : Type 0} (Answer : Against → List Entry → T → Type 0) (unit card : List ℕ) (told : T) : Type 0 where
   pub messages : List Message
   pub file : IsUnitFile messages unit
   pub registration : List ℕ
-  pub told : registration_in messages ≡ Some registration
+  pub registered : registration_in messages ≡ Some registration
   pub entries : List Entry
   pub vehicles : List Vehicle
   pub shows : ShowsCard card entries vehicles
-  pub answer : IsMatch (against registration vehicles (minutes_in messages)) entries matched
+  pub answer : Answer (against registration vehicles (minutes_in messages)) entries told
+
+-- whether they match, and all that differs
+abbrev pub MatchesFiles : (unit card : List ℕ) → Matched → Type 0
+MatchesFiles unit card matched = AnswersFiles IsMatch unit card matched
+
+abbrev pub ComparesFiles : (unit card : List ℕ) → Differences → Type 0
+ComparesFiles unit card all = AnswersFiles AreDifferences unit card all
 
 -- a unit file without an overview
 pub record LacksOverview (unit : List ℕ) : Type 0 where
@@ -70,12 +79,19 @@ pub record AreParts (bytes unit card : List ℕ) : Type 0 where
   pub file : IsUnitFile messages unit
   pub ends : begins_message card ≡ false
 
--- The source is a unit file followed at once by a card file; and this answers whether they match.
-pub record MatchesSource (bytes : List ℕ) (matched : Matched) : Type 0 where
+-- The source is a unit file followed at once by a card file; and this is the answer, of this kind.
+pub record AnswersSource {T : Type 0} (Answer : Against → List Entry → T → Type 0) (bytes : List ℕ) (told : T) : Type 0 where
   pub unit : List ℕ
   pub card : List ℕ
   pub are : AreParts bytes unit card
-  pub matches : MatchesFiles unit card matched
+  pub answers : AnswersFiles Answer unit card told
+
+-- whether they match, and all that differs
+abbrev pub MatchesSource : (bytes : List ℕ) → Matched → Type 0
+MatchesSource bytes matched = AnswersSource IsMatch bytes matched
+
+abbrev pub ComparesSource : (bytes : List ℕ) → Differences → Type 0
+ComparesSource bytes all = AnswersSource AreDifferences bytes all
 
 -- The source is of another form: a message fails at this place, or the unit file that ends there has no overview, or the card file fails.
 pub record IsBadBehind (place : ℕ) (bytes : List ℕ) : Type 0 where

@@ -1,13 +1,14 @@
 //! The entries of a card file, and what the vehicle uses and the unit file say of each.
-ghost use Rattle.std.specs.Prelude.{◌≡◌, ◌+◌, ◌<◌, ◌≤◌, ◌++◌, ℕ, Bool, List, length, map, IfOk, OnOk, slice_index_or};
+ghost use Rattle.std.specs.Prelude.{◌≡◌, ◌+◌, ◌<◌, ◌≤◌, ◌++◌, ℕ, Some, List, length, map, IfOk, OnOk, slice_index_or};
 ghost use Rattle.activity_codec.specs.declared.entries.Entry.{Entry as CardEntry};
 ghost use Rattle.history_view.specs.Histories.{entry_told, minute_told, line_minutes, minutes_on};
-ghost use Rattle.card_match.specs.Matching.{Against, is_within, is_as};
-ghost use Rattle.card_match.specs.Cases.{fresh, case_of, with_use, with_line, AreRising, minute_of, seen_as, first_seen, minute_of_case};
+ghost use Rattle.card_match.specs.Matching.{Against, is_within, is_as, state_in};
+ghost use Rattle.card_match.specs.Cases.{fresh, case_of, with_use, with_line, AreRising, minute_of, first_seen, minute_of_case, instead_seen, difference_in};
 
+use crate::difference::{Difference, Instead};
 use activity_codec::{Entry, Slot};
 use std::alloc::{AllocError, Global};
-use view_model::{CardShown, Line, UnitShown};
+use view_model::{CardShown, Line, State, UnitShown, Viewed};
 
 /// A use of a vehicle, by its first and its last minute.
 #[derive(Clone, Copy)]
@@ -25,44 +26,14 @@ impl Use {
     }
 }
 
-/// What the unit file says of the minute of an entry, as far as it was read.
-#[derive(Clone, Copy)]
-pub enum Seen {
-    /// It has no such minute.
-    Nowhere,
-    /// The first such minute is as the entry has it.
-    Alike,
-    /// The first such minute is not.
-    Differs,
-}
-
-impl Seen {
-    /// How a minute that is as the entry has it, or not, looks.
-    fn of(alike: bool) -> Seen
-        ensures { result ≡ seen_as alike }
-    {
-        if alike { Seen::Alike } else { Seen::Differs }
-    }
-
-    /// What was seen first.
-    fn then(self, later: Seen) -> Seen
-        ensures { result ≡ first_seen self later }
-    {
-        match self {
-            Seen::Nowhere => later,
-            Seen::Alike => Seen::Alike,
-            Seen::Differs => Seen::Differs,
-        }
-    }
-}
-
 /// An entry of a card file, and what was found out about it.
 #[derive(Clone, Copy)]
 pub struct Case {
     pub entry: Entry,
     /// Whether its minute lies in a use of the unit's vehicle.
     pub own: bool,
-    pub seen: Seen,
+    /// What the unit file shows of its minute, as far as that was read: of the first such.
+    pub seen: Option<UnitShown>,
 }
 
 impl Case {
@@ -90,27 +61,67 @@ impl Case {
             last: line.last,
         };
         if span.has(self.entry.minute) {
-            let alike = is_as(self.entry, line.shown);
             Case {
                 entry: self.entry,
                 own: self.own,
-                seen: self.seen.then(Seen::of(alike)),
+                seen: first_seen(self.seen, line.shown),
             }
         } else {
             self
         }
     }
+
+    /// How it differs.
+    pub fn difference(self) -> Viewed<Difference>
+        ensures { result ≡ difference_in self }
+    {
+        Viewed {
+            minute: self.entry.minute,
+            shown: Difference {
+                slot: self.entry.slot,
+                act: self.entry.act,
+                instead: instead_for(self.entry, self.seen),
+            },
+        }
+    }
+}
+
+/// What was seen first.
+fn first_seen(seen: Option<UnitShown>, later: UnitShown) -> Option<UnitShown>
+    ensures { result ≡ first_seen seen (Some later) }
+{
+    match seen {
+        Some(shown) => Some(shown),
+        None => Some(later),
+    }
 }
 
 /// Whether what a unit shows of a minute is as an entry of that minute has it.
-fn is_as(entry: Entry, shown: UnitShown) -> bool
+pub fn is_as(entry: Entry, shown: UnitShown) -> bool
     ensures { result ≡ is_as entry (minute_of shown entry.minute) }
 {
-    let state = match entry.slot {
+    let state = state_for(entry, shown);
+    state.present && state.act == entry.act && shown.crew == entry.crew
+}
+
+/// What a unit shows of the slot of an entry.
+fn state_for(entry: Entry, shown: UnitShown) -> State
+    ensures { result ≡ state_in entry.slot (minute_of shown entry.minute) }
+{
+    match entry.slot {
         Slot::Driver => shown.driver,
         Slot::CoDriver => shown.codriver,
-    };
-    state.present && state.act == entry.act && shown.crew == entry.crew
+    }
+}
+
+/// What the unit file has in place of an entry, by what was seen of its minute.
+fn instead_for(entry: Entry, seen: Option<UnitShown>) -> Instead
+    ensures { result ≡ instead_seen entry seen }
+{
+    match seen {
+        Some(shown) => Instead::of(entry.act, state_for(entry, shown), shown.crew),
+        None => Instead::NoMinute,
+    }
 }
 
 /// The entries of lines, of which nothing is known yet.
@@ -146,7 +157,7 @@ fn fresh(shown: CardShown, minute: u32) -> Case
             act: shown.act,
         },
         own: false,
-        seen: Seen::Nowhere,
+        seen: None,
     }
 }
 

@@ -2,19 +2,19 @@
 ghost use Rattle.std.specs.Prelude.{◌≡◌, ◌<◌, ◌≤◌, ◌^◌, Some, List, length, IfOk, IfErr};
 ghost use Rattle.message_model.specs.Messages.{Message, IsUnitFile};
 ghost use Rattle.history_view.specs.Fronts.{registration_in};
-ghost use Rattle.card_match.specs.Files.{is_of, use_of, uses_of, MatchesFiles, IsBadUnit, IsMatchFault, MatchesSource, IsBadSource};
+ghost use Rattle.card_match.specs.Files.{is_of, use_of, uses_of, MatchesFiles, ComparesFiles, IsBadUnit, IsMatchFault, MatchesSource, ComparesSource, IsBadSource};
 ghost use Rattle.card_match.specs.Faults.{IfBadSource};
-ghost use Rattle.card_match.specs.Text.{IsDated};
+ghost use Rattle.card_match.specs.Text.{IsDated, AreDatedRuns};
 
 use crate::cases::Use;
-use crate::entries::match_entries;
-use crate::verdict::Matched;
+use crate::entries::compare_entries;
+use crate::verdict::{Differences, Matched};
 use card_records::Vehicle;
 use history_view::{ViewFault, read_card, read_download, read_front};
 use std::alloc::{AllocError, Global};
 use tacho_types::Registration;
 
-/// Why two files were not matched.
+/// Why two files were not compared.
 #[derive(Clone, Copy, Debug, PartialEq, Eq)]
 pub enum MatchFault {
     /// The first bytes are no unit file, first at this place, or one without an overview, and this is its length.
@@ -25,12 +25,26 @@ pub enum MatchFault {
     Memory,
 }
 
-/// Matches the entries of a card file against the minutes of a unit file.
+/// Matches the entries of a card file against the minutes of a unit file: the first that differs, or the counts.
 pub fn match_files(alloc: Global, unit: &[u8], card: &[u8]) -> Result<Matched, MatchFault>
     requires unit { length unit.now < 2 ^ 32 }
     requires card { length card.now < 2 ^ 32 }
     ensures matched { IfOk result (λ matched. MatchesFiles unit.now card.now matched) }
     ensures dated { IfOk result IsDated }
+    ensures bad { IfErr result (IsMatchFault unit.now card.now) }
+{
+    match compare_files(alloc, unit, card) {
+        Ok(all) => Ok(all.first()),
+        Err(fault) => Err(fault),
+    }
+}
+
+/// Compares the entries of a card file with the minutes of a unit file: all that differ, and the counts.
+pub fn compare_files(alloc: Global, unit: &[u8], card: &[u8]) -> Result<Differences, MatchFault>
+    requires unit { length unit.now < 2 ^ 32 }
+    requires card { length card.now < 2 ^ 32 }
+    ensures compared { IfOk result (λ all. ComparesFiles unit.now card.now all) }
+    ensures dated { IfOk result (λ all. AreDatedRuns all.runs.items) }
     ensures bad { IfErr result (IsMatchFault unit.now card.now) }
 {
     let registration = match registration_of(unit) {
@@ -51,13 +65,13 @@ pub fn match_files(alloc: Global, unit: &[u8], card: &[u8]) -> Result<Matched, M
         Ok(uses) => uses,
         Err(_) => return Err(MatchFault::Memory),
     };
-    match match_entries(
+    match compare_entries(
         alloc,
         uses.as_slice(),
         minutes.lines(),
         read.history.lines(),
     ) {
-        Ok(matched) => Ok(matched),
+        Ok(all) => Ok(all),
         Err(_) => Err(MatchFault::Memory),
     }
 }
@@ -115,7 +129,7 @@ fn use_of(v: &Vehicle) -> Use
     }
 }
 
-/// Why a source was not matched.
+/// Why a source was not compared.
 #[derive(Clone, Copy, Debug, PartialEq, Eq)]
 pub enum SourceFault {
     /// The source is no unit file followed at once by a card file, first at this place.
@@ -131,13 +145,26 @@ pub fn match_source(alloc: Global, b: &[u8]) -> Result<Matched, SourceFault>
     ensures dated { IfOk result IsDated }
     ensures bad { IfErr result (λ fault. IfBadSource fault (λ place. IsBadSource place b.now)) }
 {
+    match compare_source(alloc, b) {
+        Ok(all) => Ok(all.first()),
+        Err(fault) => Err(fault),
+    }
+}
+
+/// Compares the two files of such a source.
+pub fn compare_source(alloc: Global, b: &[u8]) -> Result<Differences, SourceFault>
+    requires { length b.now < 2 ^ 32 }
+    ensures compared { IfOk result (ComparesSource b.now) }
+    ensures dated { IfOk result (λ all. AreDatedRuns all.runs.items) }
+    ensures bad { IfErr result (λ fault. IfBadSource fault (λ place. IsBadSource place b.now)) }
+{
     let front = match read_front(b) {
         Ok(front) => front,
         Err(place) => return Err(SourceFault::BadFile(place)),
     };
     let (unit, card) = b.split_at(front.end);
-    match match_files(alloc, unit, card) {
-        Ok(matched) => Ok(matched),
+    match compare_files(alloc, unit, card) {
+        Ok(all) => Ok(all),
         Err(MatchFault::BadUnitFile(place)) => Err(SourceFault::BadFile(place)),
         Err(MatchFault::BadCardFile(place)) => {
             Err(SourceFault::BadFile(front.end as u32 + place))

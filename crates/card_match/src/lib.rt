@@ -2,13 +2,17 @@
 #![tactic(auto)]
 
 mod cases;
+mod difference;
 mod entries;
 mod files;
 mod text;
 mod verdict;
 
 pub use cases::Use;
-pub use entries::match_entries;
-pub use files::{MatchFault, SourceFault, match_files, match_source};
-pub use text::match_text;
-pub use verdict::Matched;
+pub use difference::{Difference, Instead};
+pub use entries::compare_entries;
+pub use files::{
+    MatchFault, SourceFault, compare_files, compare_source, match_files, match_source,
+};
+pub use text::{differences_text, match_text};
+pub use verdict::{Counts, Differences, Matched};

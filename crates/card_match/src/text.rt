@@ -1,16 +1,20 @@
 //! What the command prints of an answer.
 ghost use Rattle.std.specs.Prelude.{◌≡◌, ◌++◌, ◌<◌, List, ℕ, codes, IfOk, OnOk};
+ghost use Rattle.std.specs.List.{AllByRecursion};
 ghost use Rattle.activity_codec.specs.Names.{slot_name};
 ghost use Rattle.tacho_types.specs.Calendar.{IsDateText};
 ghost use Rattle.view_model.specs.Lines.{day_of_minute};
-ghost use Rattle.view_model.specs.Text.{clock_text};
-ghost use Rattle.card_match.specs.Text.{IsDated, IsMatchText, count_line, place_words};
+ghost use Rattle.view_model.specs.Text.{clock_text, line_text};
+ghost use Rattle.card_match.specs.Text.{IsDated, IsMatchText, count_line, place_words, AreDatedRuns, difference_words, AreRunsText, IsDifferencesText};
 
-use crate::verdict::Matched;
+use crate::difference::Difference;
+use crate::verdict::{Counts, Differences, Matched};
 use activity_codec::Slot;
 use itoa::Buffer;
 use std::alloc::{AllocError, Global};
 use tacho_types::{DAYS, day_text};
+use view_model::Line;
+use view_text::Shown;
 
 /// The text of an answer: `match` and three counts, or the first minute that differs, with its slot.
 pub fn match_text(alloc: Global, matched: Matched) -> Result<Vec<u8>, AllocError>
@@ -50,6 +54,84 @@ fn differs_text(alloc: Global, minute: u32, slot: Slot) -> Result<Vec<u8>, Alloc
     text.extend_from_slice(date.as_slice())?;
     write_place(&mut text, minute, slot)?;
     Ok(text)
+}
+
+/// The text of all that differs: a line for each run, or `match` where there is none; and the counts.
+pub fn differences_text(alloc: Global, all: &Differences) -> Result<Vec<u8>, AllocError>
+    requires { AreDatedRuns all.now.runs.items }
+    ensures { IfOk result (λ text. IsDifferencesText all.now text.items) }
+{
+    let runs = all.runs.as_slice();
+    let counts = all.counts;
+    if runs.is_empty() {
+        return counts_text(alloc, counts.tested, counts.other, counts.before);
+    }
+    listed_text(alloc, runs, counts)
+}
+
+/// The text of runs and counts.
+fn listed_text(
+    alloc: Global,
+    runs: &[Line<Difference>],
+    counts: Counts,
+) -> Result<Vec<u8>, AllocError>
+    requires { AreDatedRuns runs.now }
+    ensures { IfOk result (λ text. (front : List ℕ) × AreRunsText runs.now front
+        × (text.items ≡ front ++ count_line (codes "tested") counts.tested ++ count_line (codes "other") counts.other ++ count_line (codes "before") counts.before)) }
+{
+    let mut text = runs_text(alloc, runs)?;
+    write_count(&mut text, b"tested", counts.tested)?;
+    write_count(&mut text, b"other", counts.other)?;
+    write_count(&mut text, b"before", counts.before)?;
+    Ok(text)
+}
+
+/// A line for each run.
+fn runs_text(alloc: Global, runs: &[Line<Difference>]) -> Result<Vec<u8>, AllocError>
+    requires { AreDatedRuns runs.now }
+    ensures { IfOk result (λ text. AreRunsText runs.now text.items) }
+{
+    let mut text = Vec::new(alloc);
+    for run in runs {
+        write_run(&mut text, *run)?;
+    }
+    Ok(text)
+}
+
+/// Writes the line of a run.
+fn write_run(text: &mut Vec<u8>, run: Line<Difference>) -> Result<(), AllocError>
+    requires { day_of_minute run.first < DAYS }
+    ensures { OnOk result ((date : List ℕ) × IsDateText (day_of_minute run.first) date
+        × (text.new.items ≡ text.old.items ++ codes "differs " ++ date ++ line_text difference_words run)) }
+{
+    let date = day_text(run.first / 1440);
+    text.extend_from_slice(b"differs ")?;
+    text.extend_from_slice(date.as_slice())?;
+    text.extend_from_slice(b" ")?;
+    write_clock(text, run.first)?;
+    text.extend_from_slice(b"-")?;
+    write_clock(text, run.last)?;
+    text.extend_from_slice(b" ")?;
+    run.shown.write(text)?;
+    text.extend_from_slice(b"\n")?;
+    Ok(())
+}
+
+/// Writes the time of day of a minute.
+fn write_clock(text: &mut Vec<u8>, minute: u32) -> Result<(), AllocError>
+    ensures { OnOk result (text.new.items ≡ text.old.items ++ clock_text minute) }
+{
+    let hour = minute % 1440 / 60;
+    let minute = minute % 60;
+    let clock = [
+        48 + (hour / 10) as u8,
+        48 + (hour % 10) as u8,
+        b':',
+        48 + (minute / 10) as u8,
+        48 + (minute % 10) as u8,
+    ];
+    text.extend_from_slice(&clock)?;
+    Ok(())
 }
 
 /// Writes a line: what is counted, and how many there are.

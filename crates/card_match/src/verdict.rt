@@ -1,13 +1,20 @@
 //! The answer to a match, once each entry was looked at.
-ghost use Rattle.std.specs.Prelude.{◌≡◌, ◌+◌, ◌||◌, ◌<◌, ◌^◌, ℕ, true, false, List, length, map};
+ghost use Rattle.std.specs.Prelude.{◌≡◌, ◌+◌, ◌||◌, ◌++◌, ◌<◌, ◌^◌, ℕ, true, false, List, length, map, IfOk, OnOk};
 ghost use Rattle.activity_codec.specs.declared.entries.Entry.{Entry as CardEntry};
 ghost use Rattle.history_view.specs.Histories.{minute_told, minutes_on};
-ghost use Rattle.card_match.specs.Matching.{Against, IsMatch};
-ghost use Rattle.card_match.specs.Cases.{case_of, begins_by, is_from, line_from, IsSort, counted, total, is_missed};
+ghost use Rattle.view_model.specs.declared.Viewed.{Viewed as ViewedMinute};
+ghost use Rattle.view_model.specs.Lines.{lines_of};
+ghost use Rattle.card_match.specs.declared.difference.Difference.{Difference as How};
+ghost use Rattle.card_match.specs.Matching.{Against};
+ghost use Rattle.card_match.specs.Differences.{same_difference, AreDifferences, first_in, first_of};
+ghost use Rattle.card_match.specs.Cases.{case_of, begins_by, is_from, line_from, IsSort, counted, total, is_missed, differing};
 
-use crate::cases::{Case, Seen};
+use crate::cases::{Case, is_as};
+use crate::difference::Difference;
 use activity_codec::Slot;
+use std::alloc::{AllocError, Global};
 use view_model::{Line, UnitShown};
+use view_text::add_minute;
 
 /// How many minutes a day has.
 const DAY: u32 = 1440;
@@ -26,6 +33,40 @@ pub enum Matched {
         minute: u32,
         slot: Slot,
     },
+}
+
+/// All entries of a card file that differ from a unit file, and how many entries there are of each sort.
+#[derive(Drop)]
+pub struct Differences {
+    /// The runs of consecutive minutes within a day of which the entries differ in the same way.
+    pub runs: Vec<Line<Difference>>,
+    pub counts: Counts,
+}
+
+impl Differences {
+    /// The first of them, or the counts where there is none.
+    pub fn first(&self) -> Matched
+        ensures { result ≡ first_of self.now }
+    {
+        first_in(self.runs.as_slice(), self.counts)
+    }
+}
+
+/// The first of some runs, or these counts.
+fn first_in(runs: &[Line<Difference>], counts: Counts) -> Matched
+    ensures { result ≡ first_in runs.now counts }
+{
+    match runs {
+        [] => Matched::Yes {
+            tested: counts.tested,
+            other: counts.other,
+            before: counts.before,
+        },
+        [run, ..] => Matched::No {
+            minute: run.first,
+            slot: run.shown.slot,
+        },
+    }
 }
 
 /// Which of them an entry is.
@@ -53,11 +94,14 @@ impl Sort {
     }
 }
 
-/// How many entries there are of each.
-#[derive(Clone, Copy)]
+/// How many entries there are of each sort.
+#[derive(Clone, Copy, Debug, PartialEq, Eq)]
 pub struct Counts {
+    /// In a use of the unit's vehicle, on a day of the unit file or a later one.
     pub tested: u32,
+    /// In no such use.
     pub other: u32,
+    /// In such a use, before the unit file's first day.
     pub before: u32,
 }
 
@@ -72,7 +116,7 @@ impl Counts {
             Sort::Other => counts.other += 1,
             Sort::Before => counts.before += 1,
             Sort::Standing => counts.tested += 1,
-            Sort::Missed => {}
+            Sort::Missed => counts.tested += 1,
         }
         counts
     }
@@ -113,11 +157,13 @@ fn sort_of(case: Case, first: Option<u32>) -> Sort
     if !begins_by(first, case.entry.minute / DAY) {
         return Sort::Before;
     }
-    match case.seen {
-        Seen::Alike => Sort::Standing,
-        Seen::Differs => Sort::Missed,
-        Seen::Nowhere => Sort::Missed,
+    let Some(shown) = case.seen else {
+        return Sort::Missed;
+    };
+    if is_as(case.entry, shown) {
+        return Sort::Standing;
     }
+    Sort::Missed
 }
 
 /// Whether a file begins on a day or earlier.
@@ -130,11 +176,17 @@ fn begins_by(first: Option<u32>, day: u32) -> bool
     }
 }
 
-/// The answer, by what was found out about each entry.
-pub fn verdict(cases: &[Case], first: Option<u32>) -> Matched
+/// All that differs, by what was found out about each entry.
+pub fn find_differences(
+    alloc: Global,
+    cases: &[Case],
+    first: Option<u32>,
+) -> Result<Differences, AllocError>
     requires { length cases.now < 2 ^ 32 }
-    ensures { (a : Against) (entries : List CardEntry) → cases.now ≡ map (case_of a) entries → ((day : ℕ) → begins_by a.minutes day ≡ is_from first day) → IsMatch a entries result }
+    ensures { IfOk result (λ all. (a : Against) (entries : List CardEntry) → cases.now ≡ map (case_of a) entries
+        → ((day : ℕ) → begins_by a.minutes day ≡ is_from first day) → AreDifferences a entries all) }
 {
+    let mut runs = Vec::new(alloc);
     let mut counts = Counts {
         tested: 0,
         other: 0,
@@ -142,17 +194,23 @@ pub fn verdict(cases: &[Case], first: Option<u32>) -> Matched
     };
     for case in cases {
         let sort = sort_of(*case, first);
-        if sort.is_missed() {
-            return Matched::No {
-                minute: case.entry.minute,
-                slot: case.entry.slot,
-            };
-        }
+        add_difference(&mut runs, *case, sort)?;
         counts = counts.with(sort);
     }
-    Matched::Yes {
-        tested: counts.tested,
-        other: counts.other,
-        before: counts.before,
+    Ok(Differences { runs, counts })
+}
+
+/// Adds the difference of a case, if it is missed.
+fn add_difference(
+    runs: &mut Vec<Line<Difference>>,
+    case: Case,
+    sort: Sort,
+) -> Result<(), AllocError>
+    ensures { (before : List (ViewedMinute How)) → runs.old.items ≡ lines_of same_difference before
+        → OnOk result (runs.new.items ≡ lines_of same_difference (before ++ differing case sort)) }
+{
+    if !sort.is_missed() {
+        return Ok(());
     }
+    add_minute(runs, case.difference())
 }

@@ -2,7 +2,7 @@
 use Rattle.std.proofs.Common.{ℕ, ◌+◌, ◌*◌, ◌<◌, ◌≤◌, List, [], ◌∷◌, subst, arith}
 use Rattle.std.specs.Prelude.{map}
 use Rattle.std.specs.List.{AllByRecursion}
-use Rattle.minute_model.specs.declared.Rule.TheVariants.{Original}
+use Rattle.minute_model.specs.declared.Rule.{Rule}
 use Rattle.minute_model.specs.declared.Minute.{Minute}
 use Rattle.minute_model.specs.Second.{Second}
 use Rattle.minute_model.specs.Minute.{decided}
@@ -45,16 +45,16 @@ shown-below : (end : ℕ) (minutes : List Minute) → end ≤ 4294880896 → All
 shown-below end [] le all = tt
 shown-below end (m ∷ minutes) le all = (omega (arith, all.0, le), shown-below end minutes le all.1)
 
-trace-below : (start : ℕ) (items : List Item) → IsWellFormed start items → AllByRecursion (IsKnown Minutes) items → AllByRecursion (λ (v : Viewed UnitShown). day_of_minute v.minute < DAYS) (minutes_printed start items)
-trace-below start items well known =
-    let span = fed_items (begin Original start) items in
-    let none = fed_items-settlings (begin Original start) items in
-    let rule = fed_items-rule (begin Original start) items in
+trace-below : (rule : Rule) (start : ℕ) (items : List Item) → IsWellFormed start items → AllByRecursion (IsKnown Minutes) items → AllByRecursion (λ (v : Viewed UnitShown). day_of_minute v.minute < DAYS) (minutes_printed rule start items)
+trace-below rule start items well known =
+    let span = fed_items (begin rule start) items in
+    let none = fed_items-settlings (begin rule start) items in
+    let same = fed_items-rule (begin rule start) items in
     let settled : AreSettled span = rw none tt in
-    let ended = rw (rule, none) at (decided-ended span (fed_items-numbered (begin Original start) items tt) settled) in
-    let P : List Second → Type 0 = λ xs. AllByRecursion (λ (m : Minute). 60 * m.minute + 60 ≤ end_of span) (decided Original xs []) in
-    shown-below (end_of span) (decided Original (trace_span start items) []) (omega (arith, fed_items-end (begin Original start) items known, well.within.1)) (subst P (fed-span start items known) ended)
+    let ended = rw (same, none) at (decided-ended span (fed_items-numbered (begin rule start) items tt) settled) in
+    let P : List Second → Type 0 = λ xs. AllByRecursion (λ (m : Minute). 60 * m.minute + 60 ≤ end_of span) (decided rule xs []) in
+    shown-below (end_of span) (decided rule (trace_span start items) []) (omega (arith, fed_items-end (begin rule start) items known, well.within.1)) (subst P (fed-span rule start items known) ended)
 
 -- so their lines begin on such days
-pub lines-of-trace : (start : ℕ) (items : List Item) → IsWellFormed start items → AllByRecursion (IsKnown Minutes) items → AllByRecursion (λ (l : Line UnitShown). day_of_minute l.first < DAYS) (lines_of same_unit (minutes_printed start items))
-lines-of-trace start items well known = lines-below DAYS same_unit (minutes_printed start items) (trace-below start items well known)
+pub lines-of-trace : (rule : Rule) (start : ℕ) (items : List Item) → IsWellFormed start items → AllByRecursion (IsKnown Minutes) items → AllByRecursion (λ (l : Line UnitShown). day_of_minute l.first < DAYS) (lines_of same_unit (minutes_printed rule start items))
+lines-of-trace rule start items well known = lines-below DAYS same_unit (minutes_printed rule start items) (trace-below rule start items well known)

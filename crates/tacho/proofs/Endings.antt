@@ -1,4 +1,4 @@
--- How `minutes`, `view`, `help` and `--version` end, by what they answer.
+-- How `minutes`, the forms that read a file, `help` and `--version` end, by what they answer.
 use Rattle.std.proofs.Common.{◌≡◌, ◌≤◌, ◌<◌, ◌⊎◌, inl, inr, refl, ℕ, List, [], length, Option, ap, subst, arith}
 use Rattle.std.specs.Prelude.{Result, Ok, Err, Some, OnOk, IfErr, IsErrAnd}
 use Rattle.std.specs.Io.KnownBytes.{Appends, IsAtEnd}
@@ -6,24 +6,26 @@ use Rattle.tach_media.specs.Medium.{Rose}
 use Rattle.tach_media.specs.Streams.{AppendsFront}
 use Rattle.run_model.specs.declared.Device.{Device}
 use Rattle.trace_text.specs.declared.trace.Form.TheVariants.{Minutes as FormOfMinutes}
+use Rattle.minute_model.specs.declared.Rule.{Rule}
 use Rattle.trace_model.specs.declared.Item.{Item}
 use Rattle.trace_text.specs.Judged.{IsTraceText, IsBadText, IsLongText}
 use Rattle.tacho.specs.declared.end.Fault.{Fault}
 use Rattle.tacho.specs.declared.end.Fault.TheVariants.{Done, Usage, BadTrace, TooLong, ReadFault, WriteFault, MediumFault, Memory, BadFile}
 use Rattle.tacho.specs.declared.forms.Form.{Form}
-use Rattle.tacho.specs.declared.forms.Form.TheVariants.{Minutes, View, Help, Version}
+use Rattle.tacho.specs.declared.forms.Form.TheVariants.{Minutes, Read, Help, Version}
+use Rattle.tacho.specs.declared.forms.Reading.{Reading}
 use Rattle.tacho.specs.End.{end_of, ended_by, IsUnread, IsUnprinted}
 use Rattle.tacho.specs.Outside.{Outside}
 use Rattle.tacho.specs.Minutes.{PrintsMinutes, IsMinutesEnd, EndsMinutes}
-use Rattle.tacho.specs.View.{PrintsFile, IsBadFile, IsViewEnd, EndsView, most_bytes}
+use Rattle.tacho.specs.Read.{Prints, IsBad, IsReadingEnd, EndsReading, most_bytes}
 use Rattle.tacho.specs.Help.{help_text, version_text, IsTextEnd, EndsText}
 use Rattle.run_outcome.specs.declared.outcome.Outcome.{Outcome}
 use Rattle.tacho.specs.Outcomes.{IsEmpty}
 use Rattle.tacho.specs.Program.{Ends, EndsForm, IsUnrecorded, IsUnpassed}
 use Rattle.tacho.proofs.EndLaws.{prints-end, wanted-end, judges-trace}
 
-pub ends-minutes : {T : Type 0} (old new : Outside) (r : Result T Fault)
-    → ((text : List ℕ) → old.source.left ≡ Some text → OnOk r ((out : List ℕ) × PrintsMinutes text out × Appends old.sink.held new.sink.held out))
+pub ends-minutes : {T : Type 0} (rule : Rule) (old new : Outside) (r : Result T Fault)
+    → ((text : List ℕ) → old.source.left ≡ Some text → OnOk r ((out : List ℕ) × PrintsMinutes rule text out × Appends old.sink.held new.sink.held out))
     → OnOk r (IsAtEnd new.source.left)
     → ((text : List ℕ) (n : ℕ) → old.source.left ≡ Some text → r ≡ Err (BadTrace n) → IsBadText FormOfMinutes text n)
     → ((text : List ℕ) (n : ℕ) → old.source.left ≡ Some text → r ≡ Err (TooLong n) → IsLongText FormOfMinutes text n)
@@ -32,10 +34,10 @@ pub ends-minutes : {T : Type 0} (old new : Outside) (r : Result T Fault)
     → ((text : List ℕ) (start : ℕ) (items : List Item) → old.source.left ≡ Some text → IsTraceText FormOfMinutes text start items → IfErr r IsUnprinted)
     → ((text : List ℕ) (n : ℕ) → old.source.left ≡ Some text → IsBadText FormOfMinutes text n → IsErrAnd r (λ fault. (fault ≡ BadTrace n) ⊎ IsUnread fault))
     → ((text : List ℕ) (n : ℕ) → old.source.left ≡ Some text → IsLongText FormOfMinutes text n → IsErrAnd r (λ fault. (fault ≡ TooLong n) ⊎ IsUnread fault))
-    → ((text : List ℕ) → old.source.left ≡ Some text → r ≡ Err WriteFault → (out : List ℕ) × PrintsMinutes text out × AppendsFront old.sink.held new.sink.held out)
+    → ((text : List ℕ) → old.source.left ≡ Some text → r ≡ Err WriteFault → (out : List ℕ) × PrintsMinutes rule text out × AppendsFront old.sink.held new.sink.held out)
     → IfErr r (λ fault. (fault ≡ Done → ⊥) × IsMinutesEnd fault)
-    → EndsMinutes old new (end_of r)
-ends-minutes old new (Ok u) printed read bad long read_fault write_fault prints finds_bad finds_long front other = record {
+    → EndsMinutes rule old new (end_of r)
+ends-minutes rule old new (Ok u) printed read bad long read_fault write_fault prints finds_bad finds_long front other = record {
   ends = tt;
   printed = λ text told is. printed text told;
   read = λ is. read;
@@ -43,7 +45,7 @@ ends-minutes old new (Ok u) printed read bad long read_fault write_fault prints 
   prints = λ text start items told is no_read no_write. inl refl;
   front = λ text told is. absurd (cc);
 }
-ends-minutes old new (Err fault) printed read bad long read_fault write_fault prints finds_bad finds_long front other = record {
+ends-minutes rule old new (Err fault) printed read bad long read_fault write_fault prints finds_bad finds_long front other = record {
   ends = other.1;
   printed = λ text told is. absurd (other.0 is);
   read = λ is. absurd (other.0 is);
@@ -53,7 +55,7 @@ ends-minutes old new (Err fault) printed read bad long read_fault write_fault pr
 }
 
 -- where no stream failed and the file is not too long, it was shown or judged, or memory ran out
-judged : (fault : Fault) → IsViewEnd fault → (fault ≡ ReadFault → ⊥) → (fault ≡ WriteFault → ⊥) → ((n : ℕ) → fault ≡ TooLong n → ⊥)
+judged : (fault : Fault) → IsReadingEnd fault → (fault ≡ ReadFault → ⊥) → (fault ≡ WriteFault → ⊥) → ((n : ℕ) → fault ≡ TooLong n → ⊥)
     → (fault ≡ Done) ⊎ ((fault ≡ Memory) ⊎ ((place : ℕ) × (fault ≡ BadFile place)))
 judged Done ends read write long = inl refl
 judged Memory ends read write long = inr (inl refl)
@@ -63,18 +65,18 @@ judged ReadFault ends read write long = absurd (read refl)
 judged WriteFault ends read write long = absurd (write refl)
 judged _ ends read write long = absurd ends
 
-pub ends-view : {T : Type 0} (last : Option ℕ) (old new : Outside) (r : Result T Fault)
-    → ((bytes : List ℕ) → old.source.left ≡ Some bytes → OnOk r ((out : List ℕ) × PrintsFile last bytes out × Appends old.sink.held new.sink.held out))
+pub ends-reading : {T : Type 0} (PrintsSo : (bytes out : List ℕ) → Type 0) (IsBadAt : (place : ℕ) → List ℕ → Type 0) (old new : Outside) (r : Result T Fault)
+    → ((bytes : List ℕ) → old.source.left ≡ Some bytes → OnOk r ((out : List ℕ) × PrintsSo bytes out × Appends old.sink.held new.sink.held out))
     → OnOk r (IsAtEnd new.source.left)
-    → ((bytes : List ℕ) (place : ℕ) → old.source.left ≡ Some bytes → r ≡ Err (BadFile place) → IsBadFile place bytes)
+    → ((bytes : List ℕ) (place : ℕ) → old.source.left ≡ Some bytes → r ≡ Err (BadFile place) → IsBadAt place bytes)
     → ((bytes : List ℕ) (n : ℕ) → old.source.left ≡ Some bytes → r ≡ Err (TooLong n) → (n ≡ 0) × (most_bytes < length bytes))
     → ((bytes : List ℕ) → old.source.left ≡ Some bytes → most_bytes < length bytes → IsErrAnd r (λ fault. (fault ≡ TooLong 0) ⊎ IsUnread fault))
     → (r ≡ Err ReadFault → Rose old.source.faults new.source.faults)
     → (r ≡ Err WriteFault → Rose old.sink.faults new.sink.faults)
-    → ((bytes : List ℕ) → old.source.left ≡ Some bytes → r ≡ Err WriteFault → (out : List ℕ) × PrintsFile last bytes out × AppendsFront old.sink.held new.sink.held out)
-    → IfErr r (λ fault. (fault ≡ Done → ⊥) × IsViewEnd fault)
-    → EndsView last old new (end_of r)
-ends-view last old new (Ok u) printed read bad long finds_long read_fault write_fault front other = record {
+    → ((bytes : List ℕ) → old.source.left ≡ Some bytes → r ≡ Err WriteFault → (out : List ℕ) × PrintsSo bytes out × AppendsFront old.sink.held new.sink.held out)
+    → IfErr r (λ fault. (fault ≡ Done → ⊥) × IsReadingEnd fault)
+    → EndsReading PrintsSo IsBadAt old new (end_of r)
+ends-reading PrintsSo IsBadAt old new (Ok u) printed read bad long finds_long read_fault write_fault front other = record {
   ends = tt;
   printed = λ bytes told is. printed bytes told;
   read = λ is. read;
@@ -84,7 +86,7 @@ ends-view last old new (Ok u) printed read bad long finds_long read_fault write_
   finds_too_long = λ bytes told many no_read. absurd (finds_long bytes told many);
   front = λ bytes told is. absurd (cc);
 }
-ends-view last old new (Err fault) printed read bad long finds_long read_fault write_fault front other = record {
+ends-reading PrintsSo IsBadAt old new (Err fault) printed read bad long finds_long read_fault write_fault front other = record {
   ends = other.1;
   printed = λ bytes told is. absurd (other.0 is);
   read = λ is. absurd (other.0 is);
@@ -134,25 +136,25 @@ streams-end form old new outcome (Err fault) ends none none_passed no_usage no_m
   };
 }
 
-pub minutes-ends : {T : Type 0} (old new : Outside) (r : Result T Fault)
-    → EndsMinutes old new (end_of r)
+pub minutes-ends : {T : Type 0} (rule : Rule) (old new : Outside) (r : Result T Fault)
+    → EndsMinutes rule old new (end_of r)
     → (r ≡ Err ReadFault → Rose old.source.faults new.source.faults)
     → (r ≡ Err WriteFault → Rose old.sink.faults new.sink.faults)
     → (old.source.faults ≤ new.source.faults) × (old.sink.faults ≤ new.sink.faults)
     → (outcome : Outcome) → IsEmpty outcome
-    → Ends (Some Minutes) old new (ended_by outcome (end_of r))
-minutes-ends old new r ends read_fault write_fault counts outcome none =
-    streams-end Minutes old new outcome r ends none refl (λ is. subst IsMinutesEnd is ends.ends) (λ device is. subst IsMinutesEnd is ends.ends) read_fault write_fault counts
+    → Ends (Some (Minutes rule)) old new (ended_by outcome (end_of r))
+minutes-ends rule old new r ends read_fault write_fault counts outcome none =
+    streams-end (Minutes rule) old new outcome r ends none refl (λ is. subst IsMinutesEnd is ends.ends) (λ device is. subst IsMinutesEnd is ends.ends) read_fault write_fault counts
 
-pub view-ends : {T : Type 0} (last : Option ℕ) (old new : Outside) (r : Result T Fault)
-    → EndsView last old new (end_of r)
+pub reading-ends : {T : Type 0} (reading : Reading) (old new : Outside) (r : Result T Fault)
+    → EndsReading (Prints reading) (IsBad reading) old new (end_of r)
     → (r ≡ Err ReadFault → Rose old.source.faults new.source.faults)
     → (r ≡ Err WriteFault → Rose old.sink.faults new.sink.faults)
     → (old.source.faults ≤ new.source.faults) × (old.sink.faults ≤ new.sink.faults)
     → (outcome : Outcome) → IsEmpty outcome
-    → Ends (Some (View last)) old new (ended_by outcome (end_of r))
-view-ends last old new r ends read_fault write_fault counts outcome none =
-    streams-end (View last) old new outcome r ends none refl (λ is. subst IsViewEnd is ends.ends) (λ device is. subst IsViewEnd is ends.ends) read_fault write_fault counts
+    → Ends (Some (Read reading)) old new (ended_by outcome (end_of r))
+reading-ends reading old new r ends read_fault write_fault counts outcome none =
+    streams-end (Read reading) old new outcome r ends none refl (λ is. subst IsReadingEnd is ends.ends) (λ device is. subst IsReadingEnd is ends.ends) read_fault write_fault counts
 
 pub help-ends : {T : Type 0} (old new : Outside) (r : Result T Fault)
     → EndsText help_text old.sink new.sink (end_of r)

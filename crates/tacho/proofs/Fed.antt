@@ -6,7 +6,6 @@ use Rattle.std.proofs.lemmas.List.Sums.{sum_by-cons}
 use Rattle.activity_codec.specs.declared.values.Slot.{Slot}
 use Rattle.activity_codec.specs.declared.values.Pick.{Pick}
 use Rattle.minute_model.specs.declared.Rule.{Rule}
-use Rattle.minute_model.specs.declared.Rule.TheVariants.{Original}
 use Rattle.minute_model.specs.Second.{Second}
 use Rattle.minute_model.specs.Minute.{decided}
 use Rattle.minute_model.specs.Span.{Span, begin, end_of, fed, fed_many, picked, decided_in}
@@ -88,19 +87,19 @@ fed_items-settlings span (Act (Tear slot) ∷ items) = fed_items-settlings span 
 fed_items-settlings span (Act (Place slot ending country region) ∷ items) = fed_items-settlings span items
 
 -- the seconds of a fed span are those of the trace
-pub fed-span : (start : ℕ) (items : List Item) → AllByRecursion (IsKnown Minutes) items → (fed_items (begin Original start) items).seconds ≡ trace_span start items
+pub fed-span : (rule : Rule) (start : ℕ) (items : List Item) → AllByRecursion (IsKnown Minutes) items → (fed_items (begin rule start) items).seconds ≡ trace_span start items
 unfolding seconds_of
-fed-span start items all =
-    let e : end_of (begin Original start) ≡ start = omega arith in
-    fed_items-seconds (begin Original start) [] items all refl ∙ ap (λ (m : ℕ). span_of (seconds_from m [] items)) e
+fed-span rule start items all =
+    let e : end_of (begin rule start) ≡ start = omega arith in
+    fed_items-seconds (begin rule start) [] items all refl ∙ ap (λ (m : ℕ). span_of (seconds_from m [] items)) e
 
 -- so its decided minutes are those of the trace
-pub decided-items : (start : ℕ) (items : List Item) → AllByRecursion (IsKnown Minutes) items → decided_in (fed_items (begin Original start) items) ≡ decided Original (trace_span start items) []
-decided-items start items all =
-    let span = fed_items (begin Original start) items in
-    ap (λ (r : Rule). decided r span.seconds span.settlings) (fed_items-rule (begin Original start) items)
-    ∙ ap (λ (xs : List Second). decided Original xs span.settlings) (fed-span start items all)
-    ∙ ap (λ (ts : List ℕ). decided Original (trace_span start items) ts) (fed_items-settlings (begin Original start) items)
+pub decided-items : (rule : Rule) (start : ℕ) (items : List Item) → AllByRecursion (IsKnown Minutes) items → decided_in (fed_items (begin rule start) items) ≡ decided rule (trace_span start items) []
+decided-items rule start items all =
+    let span = fed_items (begin rule start) items in
+    ap (λ (r : Rule). decided r span.seconds span.settlings) (fed_items-rule (begin rule start) items)
+    ∙ ap (λ (xs : List Second). decided rule xs span.settlings) (fed-span rule start items all)
+    ∙ ap (λ (ts : List ℕ). decided rule (trace_span start items) ts) (fed_items-settlings (begin rule start) items)
 
 -- the item at an index, and what is before and behind it
 take-at : {T : Type 0} → (xs : List T) (i : ℕ) (x : T) → slice_get xs i ≡ Some x → take (suc i) xs ≡ take i xs ++ x ∷ []

@@ -1,4 +1,4 @@
--- How `view` ends, by what reading its file answered.
+-- How a form ends that reads a file, by what reading answered.
 use Rattle.std.proofs.Common.{◌≡◌, ◌∙◌, ◌<◌, ◌≤◌, ℕ, List, length, Option, Some, true, ap, sym, subst, arith}
 use Rattle.std.specs.Prelude.{Result, Ok, Err, OnErr, is_err}
 use Rattle.std.specs.Io.KnownBytes.{Consumes, IsAtEnd}
@@ -8,7 +8,8 @@ use Rattle.history_view.specs.declared.fault.ViewFault.TheVariants as viewing
 use Rattle.history_view.specs.Faults.{IfBadFile}
 use Rattle.tacho.specs.declared.end.Fault.{Fault}
 use Rattle.tacho.specs.declared.end.Fault.TheVariants.{Done, Memory, BadFile}
-use Rattle.tacho.specs.View.{view_refusal_of, IsUnshown, IsViewEnd}
+use Rattle.tacho.specs.View.{view_refusal_of}
+use Rattle.tacho.specs.Read.{IsUnshown, IsReadingEnd}
 
 -- what holds of the bytes that were read to the end holds of those that the source told
 pub of-told : (P : List ℕ → Type 0) (old new : Option (List ℕ)) (read b bytes : List ℕ) → Consumes old new read → IsAtEnd new → b ≡ read → old ≡ Some bytes → P b → P bytes
@@ -27,7 +28,7 @@ pub refused-by : (IsPlace : ℕ → Type 0) (fault : ViewFault) → IfBadFile fa
 refused-by IsPlace (viewing.BadFile place) is = is
 refused-by IsPlace viewing.Memory is = tt
 
-pub unshown-end : (IsPlace : ℕ → Type 0) (fault : Fault) → IsUnshown IsPlace fault → (fault ≡ Done → ⊥) × IsViewEnd fault
+pub unshown-end : (IsPlace : ℕ → Type 0) (fault : Fault) → IsUnshown IsPlace fault → (fault ≡ Done → ⊥) × IsReadingEnd fault
 unshown-end IsPlace (BadFile place) is = (λ e. cc, tt)
 unshown-end IsPlace Memory is = (λ e. cc, tt)
 unshown-end IsPlace _ is = absurd is

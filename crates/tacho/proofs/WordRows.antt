@@ -1,15 +1,25 @@
 -- Words and what they ask for, computed.
 use Rattle.std.specs.Prelude.{◌≡◌, Some, None, [], ◌∷◌, ◌++◌, codes, replicate, refl}
+use Rattle.minute_model.specs.declared.Rule.TheVariants.{Original, Amended}
 use Rattle.trace_model.specs.declared.Card.TheVariants.{B}
-use Rattle.tacho.specs.declared.forms.Form.TheVariants.{Minutes, Serve, ServeHex, Download, View, Help, Version}
+use Rattle.tacho.specs.declared.forms.Form.TheVariants.{Minutes, Serve, ServeHex, Download, Read, Help, Version}
+use Rattle.tacho.specs.declared.forms.Reading.TheVariants.{View, Match, MatchAll}
 use Rattle.tacho.specs.declared.forms.TheConstants.{PLATE}
 use Rattle.tacho.specs.Texts.{word_in, number_in}
 use Rattle.trace_model.specs.Names.{card_named}
 use Rattle.tacho.specs.Forms.{name_in, form_of}
 
-minutes-row : form_of (codes "minutes" ∷ []) ≡ Some Minutes
+minutes-row : form_of (codes "minutes" ∷ []) ≡ Some (Minutes Original)
 unfolding form_of
 minutes-row = refl
+
+amended-row : form_of (codes "minutes" ∷ codes "2009" ∷ []) ≡ Some (Minutes Amended)
+unfolding form_of
+amended-row = refl
+
+other-year-row : form_of (codes "minutes" ∷ codes "2010" ∷ []) ≡ None
+unfolding form_of
+other-year-row = refl
 
 misspelled-row : form_of (codes "minute" ∷ []) ≡ None
 unfolding form_of
@@ -43,9 +53,17 @@ download-row : form_of (codes "download" ∷ []) ≡ Some Download
 unfolding form_of
 download-row = refl
 
-view-row : form_of (codes "view" ∷ []) ≡ Some (View None)
+view-row : form_of (codes "view" ∷ []) ≡ Some (Read (View None))
 unfolding form_of
 view-row = refl
+
+match-row : form_of (codes "match" ∷ []) ≡ Some (Read Match)
+unfolding form_of
+match-row = refl
+
+match-all-row : form_of (codes "match" ∷ codes "all" ∷ []) ≡ Some (Read MatchAll)
+unfolding form_of
+match-all-row = refl
 
 not-last-row : form_of (codes "view" ∷ codes "first" ∷ codes "1" ∷ []) ≡ None
 unfolding form_of

@@ -1,12 +1,14 @@
 -- The forms of words that the program knows (profile).
 use Rattle.std.specs.Prelude.{ℕ, ◌&&◌, ◌||◌, if◌then◌else◌, Option, Some, None, option_map, List, [], ◌∷◌, codes, bytes_eq}
 use Rattle.trace_model.specs.Names.{card_named}
+use Rattle.minute_model.specs.declared.Rule.TheVariants.{Original, Amended}
 use Rattle.tacho_types.specs.declared.texts.Name36.{Name36}
 use Rattle.tacho_types.specs.declared.texts.Registration.{Registration}
 use Rattle.card_files.specs.declared.new_card.CardIdentity.{CardIdentity}
 use Rattle.unit_memory.specs.declared.format.Identity.{Identity}
 use Rattle.tacho.specs.declared.forms.Form.{Form}
-use Rattle.tacho.specs.declared.forms.Form.TheVariants.{Minutes, Record, FormatCard, FormatUnit, Serve, ServeHex, Download, View, CardFile, Demo, Help, Version}
+use Rattle.tacho.specs.declared.forms.Form.TheVariants.{Minutes, Record, FormatCard, FormatUnit, Serve, ServeHex, Download, Read, CardFile, Demo, Help, Version}
+use Rattle.tacho.specs.declared.forms.Reading.TheVariants.{View, Match, MatchAll}
 use Rattle.tacho.specs.declared.forms.TheConstants.{CARD_NUMBER, NAME, PLATE, VIN, NATION_MOST, LIMIT_LEAST, LIMIT_MOST, LAST_LEAST, LAST_MOST, SEED_MOST}
 use Rattle.tacho_types.specs.Texts.{padded_text}
 use Rattle.tacho.specs.Texts.{word_in, number_in}
@@ -46,16 +48,17 @@ unit_in nation plate vin limit = do
   limit ← number_in LIMIT_LEAST LIMIT_MOST limit
   Some (record { vin = vin; registration = registration; limit = limit })
 
--- `minutes`, `record`, `serve`, `download` and `view`; `help`, also `--help`, and `--version`
+-- `minutes`, `record`, `serve`, `download`, `view` and `match`; `help`, also `--help`, and `--version`
 abbrev pub form_of_one : List ℕ → Option Form
 form_of_one word =
-    if bytes_eq word (codes "minutes") then Some Minutes
+    if bytes_eq word (codes "minutes") then Some (Minutes Original)
     else (if bytes_eq word (codes "record") then Some Record
     else (if bytes_eq word (codes "serve") then Some Serve
     else (if bytes_eq word (codes "download") then Some Download
-    else (if bytes_eq word (codes "view") then Some (View None)
+    else (if bytes_eq word (codes "view") then Some (Read (View None))
+    else (if bytes_eq word (codes "match") then Some (Read Match)
     else (if bytes_eq word (codes "help") || bytes_eq word (codes "--help") then Some Help
-    else (if bytes_eq word (codes "--version") then Some Version else None))))))
+    else (if bytes_eq word (codes "--version") then Some Version else None)))))))
 
 -- `a` and `b`
 abbrev pub file_of : (letter : List ℕ) → Option Form
@@ -69,12 +72,14 @@ demo_of seed = do
   seed ← number_in 0 SEED_MOST seed
   Some (Demo seed)
 
--- `serve --hex`, of which the second word alone begins with `-`; `card` and `demo`, and what follows them
+-- `minutes 2009` and `match all`; `serve --hex`, of which the second word alone begins with `-`; `card` and `demo`, and what follows them
 abbrev pub form_of_two : (command option : List ℕ) → Option Form
 form_of_two command option =
-    if bytes_eq command (codes "serve") && bytes_eq option (codes "--hex") then Some ServeHex
+    if bytes_eq command (codes "minutes") && bytes_eq option (codes "2009") then Some (Minutes Amended)
+    else (if bytes_eq command (codes "serve") && bytes_eq option (codes "--hex") then Some ServeHex
+    else (if bytes_eq command (codes "match") && bytes_eq option (codes "all") then Some (Read MatchAll)
     else (if bytes_eq command (codes "card") then file_of option
-    else (if bytes_eq command (codes "demo") then demo_of option else None))
+    else (if bytes_eq command (codes "demo") then demo_of option else None))))
 
 -- `unit N PLATE VIN LIMIT`
 abbrev pub unit_form : (nation plate vin limit : List ℕ) → Option Form
@@ -102,7 +107,7 @@ form_of_six command what first second third fourth =
 abbrev pub last_form : List ℕ → Option Form
 last_form count = do
   days ← number_in LAST_LEAST LAST_MOST count
-  Some (View (Some days))
+  Some (Read (View (Some days)))
 
 abbrev pub view_of : (which count : List ℕ) → Option Form
 view_of which count = if bytes_eq which (codes "last") then last_form count else None

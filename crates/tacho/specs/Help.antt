@@ -16,6 +16,7 @@ as_lines (line ∷ lines) = line ++ 10 ∷ as_lines lines
 unfoldable pub help_text : List ℕ
 help_text = as_lines (
     codes "tacho minutes < TRACE                    print the minutes of a trace, with no card" ∷
+    codes "tacho minutes 2009 < TRACE               print them by the rule as amended in 2009" ∷
     codes "tacho record < TRACE                     record a trace on unit.img, card-a.img and card-b.img" ∷
     codes "tacho serve                              answer a downloader's frames" ∷
     codes "tacho serve --hex                        answer frames that are lines of hexadecimal digits" ∷
@@ -23,6 +24,8 @@ help_text = as_lines (
     codes "tacho card a|b > FILE                    write a card's file" ∷
     codes "tacho view < FILE                        print the minutes of a unit's file, or a card's entries" ∷
     codes "tacho view last N < FILE                 print its last N days (1 to 366)" ∷
+    codes "tacho match < FILES                      say whether a card's file, behind a unit's, stands in that" ∷
+    codes "tacho match all < FILES                  print each difference, and the counts" ∷
     codes "tacho format unit N PLATE VIN LIMIT      make a new unit in unit.img: what it held is lost" ∷
     codes "tacho format a|b N NUMBER SURNAME FIRST  make a new card in card-a.img or card-b.img, likewise" ∷
     codes "tacho demo X                             record forty days drawn from X on a new unit and card a" ∷

@@ -16,6 +16,8 @@ pub mod Formatting
 pub mod Serving
 pub mod Downloading
 pub mod View
+pub mod Match
+pub mod Read
 pub mod CardFile
 pub mod Demo
 pub mod Help

@@ -1,10 +1,10 @@
--- What the command `minutes` shows of a trace.
+-- What the commands `minutes` and `minutes 2009` show of a trace, by the original and the amended rule of minutes.
 use Rattle.std.specs.Prelude.{◌≡◌, ◌⊎◌, ℕ, false, Some, List, [], map}
 use Rattle.std.specs.Io.KnownBytes.{Appends, IsAtEnd}
 use Rattle.tach_media.specs.Medium.{Rose}
 use Rattle.tach_media.specs.Streams.{AppendsFront}
 use Rattle.minute_model.specs.declared.Minute.{Minute}
-use Rattle.minute_model.specs.declared.Rule.TheVariants.{Original}
+use Rattle.minute_model.specs.declared.Rule.{Rule}
 use Rattle.minute_model.specs.Minute.{decided}
 use Rattle.view_model.specs.declared.UnitShown.{UnitShown}
 use Rattle.view_model.specs.declared.Viewed.{Viewed}
@@ -35,18 +35,18 @@ without_card m = record {
 abbrev pub lines_shown : List Minute → List (Line UnitShown)
 lines_shown minutes = lines_of same_unit (map without_card minutes)
 
--- the decided minutes of the one span of a trace, no card present
-abbrev pub minutes_printed : ℕ → List Item → List (Viewed UnitShown)
-minutes_printed start items = map without_card (decided Original (trace_span start items) [])
+-- the decided minutes of the one span of a trace by a rule, no card present
+abbrev pub minutes_printed : Rule → ℕ → List Item → List (Viewed UnitShown)
+minutes_printed rule start items = map without_card (decided rule (trace_span start items) [])
 
--- `minutes` prints this for a source of this text
-pub record PrintsMinutes (text out : List ℕ) : Type 0 where
+-- this is printed for a source of this text
+pub record PrintsMinutes (rule : Rule) (text out : List ℕ) : Type 0 where
   pub start : ℕ
   pub items : List Item
   pub trace : IsTraceText Minutes text start items
-  pub view : IsUnitView (minutes_printed start items) out
+  pub view : IsUnitView (minutes_printed rule start items) out
 
--- how `minutes` can end
+-- how they can end
 abbrev pub IsMinutesEnd : Fault → Type 0
 IsMinutesEnd Done = Unit {0}
 IsMinutesEnd (BadTrace n) = Unit {0}
@@ -56,12 +56,12 @@ IsMinutesEnd WriteFault = Unit {0}
 IsMinutesEnd Memory = Unit {0}
 IsMinutesEnd _ = ⊥
 
--- How the command `minutes` ends.
-pub record EndsMinutes (old new : Outside) (fault : Fault) : Type 0 where
+-- How they end, each by its rule.
+pub record EndsMinutes (rule : Rule) (old new : Outside) (fault : Fault) : Type 0 where
   pub ends : IsMinutesEnd fault
   -- Done: the sink gained exactly the view text of the decided minutes of the source's trace, and nothing of the source is
   -- left.
-  pub printed : (text : List ℕ) → old.source.left ≡ Some text → fault ≡ Done → (out : List ℕ) × PrintsMinutes text out × Appends old.sink.held new.sink.held out
+  pub printed : (text : List ℕ) → old.source.left ≡ Some text → fault ≡ Done → (out : List ℕ) × PrintsMinutes rule text out × Appends old.sink.held new.sink.held out
   pub read : fault ≡ Done → IsAtEnd new.source.left
   -- A bad or a long text is refused by its line.
   pub judges : JudgesTrace Minutes old.source new.source fault
@@ -69,4 +69,4 @@ pub record EndsMinutes (old new : Outside) (fault : Fault) : Type 0 where
   pub prints : (text : List ℕ) (start : ℕ) (items : List Item) → old.source.left ≡ Some text → IsTraceText Minutes text start items
       → (Rose old.source.faults new.source.faults → ⊥) → (Rose old.sink.faults new.sink.faults → ⊥) → (fault ≡ Done) ⊎ (fault ≡ Memory)
   -- At a write fault a front of what Done appends was appended.
-  pub front : (text : List ℕ) → old.source.left ≡ Some text → fault ≡ WriteFault → (out : List ℕ) × PrintsMinutes text out × AppendsFront old.sink.held new.sink.held out
+  pub front : (text : List ℕ) → old.source.left ≡ Some text → fault ≡ WriteFault → (out : List ℕ) × PrintsMinutes rule text out × AppendsFront old.sink.held new.sink.held out

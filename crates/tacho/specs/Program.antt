@@ -1,5 +1,5 @@
 -- THE PROGRAM: how its one call ends, and what it leaves untouched (profile). What each form promises stands in the form's own
--- file: Minutes, Recorded, Serving, Downloading, View, CardFile, Formatting, Demo, Help.
+-- file: Minutes, Recorded, Serving, Downloading, Read, CardFile, Formatting, Demo, Help.
 use Rattle.std.specs.Prelude.{◌≡◌, ◌↔◌, ◌≤◌, List, [], Option, Some, None, IfSome}
 use Rattle.tach_media.specs.Medium.{State, Rose}
 use Rattle.trace_model.specs.declared.Card.TheVariants.{A, B}
@@ -12,7 +12,7 @@ use Rattle.tacho.specs.declared.end.Ended.{Ended}
 use Rattle.run_outcome.specs.declared.outcome.Outcome.{Outcome}
 use Rattle.unit_download.specs.declared.wire.Passed.{Passed}
 use Rattle.tacho.specs.declared.forms.Form.{Form}
-use Rattle.tacho.specs.declared.forms.Form.TheVariants.{Minutes, Record, FormatCard, FormatUnit, Serve, ServeHex, Download, View, CardFile, Demo, Help, Version}
+use Rattle.tacho.specs.declared.forms.Form.TheVariants.{Minutes, Record, FormatCard, FormatUnit, Serve, ServeHex, Download, Read, CardFile, Demo, Help, Version}
 use Rattle.tacho.specs.End.{status_of, IsBeforeDevices}
 use Rattle.tacho.specs.Outside.{Outside, memory_of}
 use Rattle.tacho.specs.Minutes.{EndsMinutes}
@@ -20,7 +20,7 @@ use Rattle.tacho.specs.Outcomes.{IsEmpty}
 use Rattle.tacho.specs.Recorded.{EndsRecord}
 use Rattle.tacho.specs.Serving.{EndsServe, EndsServeHex}
 use Rattle.tacho.specs.Downloading.{EndsDownload}
-use Rattle.tacho.specs.View.{EndsView}
+use Rattle.tacho.specs.Read.{Prints, IsBad, EndsReading}
 use Rattle.tacho.specs.Formatting.{IsCard, EndsIssue, EndsMaking}
 use Rattle.tacho.specs.CardFile.{EndsCard}
 use Rattle.tacho.specs.Demo.{EndsDemo}
@@ -34,7 +34,7 @@ pub record AreDevices (unit card_a card_b : State) : Type 0 where
 
 -- what each form does, by its own record
 abbrev pub EndsForm : Form → (old new : Outside) → Ended → Type 0
-EndsForm Minutes old new ended = EndsMinutes old new ended.fault
+EndsForm (Minutes rule) old new ended = EndsMinutes rule old new ended.fault
 EndsForm Record old new ended = EndsRecord old new ended.outcome ended.fault
 EndsForm (FormatCard A identity) old new ended = EndsIssue CardA identity old.card_a new.card_a old.sink new.sink ended.fault
 EndsForm (FormatCard B identity) old new ended = EndsIssue CardB identity old.card_b new.card_b old.sink new.sink ended.fault
@@ -42,7 +42,7 @@ EndsForm (FormatUnit identity) old new ended = EndsMaking identity old.unit new.
 EndsForm Serve old new ended = EndsServe old new ended.fault
 EndsForm ServeHex old new ended = EndsServeHex old new ended.fault
 EndsForm Download old new ended = EndsDownload old new ended.wire ended.fault
-EndsForm (View last) old new ended = EndsView last old new ended.fault
+EndsForm (Read reading) old new ended = EndsReading (Prints reading) (IsBad reading) old new ended.fault
 EndsForm (CardFile A) old new ended = EndsCard CardA old.card_a new.card_a old.sink new.sink ended.fault
 EndsForm (CardFile B) old new ended = EndsCard CardB old.card_b new.card_b old.sink new.sink ended.fault
 EndsForm (Demo seed) old new ended = EndsDemo seed old new ended.outcome ended.fault
@@ -63,7 +63,7 @@ IsUnpassed asked wire = wire ≡ []
 -- What a form leaves as it was: all but the sink and what it names. Each argument says that one of them is as it was.
 abbrev pub LeavesOthers : Option Form → (source unit card_a card_b : Type 0) → Type 0
 LeavesOthers None source unit card_a card_b = source × unit × card_a × card_b
-LeavesOthers (Some Minutes) source unit card_a card_b = unit × card_a × card_b
+LeavesOthers (Some (Minutes rule)) source unit card_a card_b = unit × card_a × card_b
 LeavesOthers (Some Record) source unit card_a card_b = Unit {0}
 LeavesOthers (Some (FormatCard A identity)) source unit card_a card_b = source × unit × card_b
 LeavesOthers (Some (FormatCard B identity)) source unit card_a card_b = source × unit × card_a
@@ -71,7 +71,7 @@ LeavesOthers (Some (FormatUnit identity)) source unit card_a card_b = source × 
 LeavesOthers (Some Serve) source unit card_a card_b = card_a × card_b
 LeavesOthers (Some ServeHex) source unit card_a card_b = card_a × card_b
 LeavesOthers (Some Download) source unit card_a card_b = source × card_a × card_b
-LeavesOthers (Some (View last)) source unit card_a card_b = unit × card_a × card_b
+LeavesOthers (Some (Read reading)) source unit card_a card_b = unit × card_a × card_b
 LeavesOthers (Some (CardFile A)) source unit card_a card_b = source × unit × card_b
 LeavesOthers (Some (CardFile B)) source unit card_a card_b = source × unit × card_a
 LeavesOthers (Some (Demo seed)) source unit card_a card_b = source

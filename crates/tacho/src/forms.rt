@@ -7,6 +7,7 @@ ghost use Rattle.tacho.specs.Forms.{name_in, card_in, registration_in, unit_in, 
 
 use crate::words::Words;
 use card_files::CardIdentity;
+use minute_rules::Rule;
 use tacho_types::{Name36, Nation, Registration, write_padded};
 use text_fields::number_between;
 use trace_model::Card;
@@ -45,8 +46,8 @@ pub const SEED_MOST: u32 = 2147483647;
 /// What the words of the command line ask for.
 #[derive(Clone, Copy, Debug, PartialEq, Eq)]
 pub enum Form {
-    /// `minutes`: the decided minutes of a trace are printed.
-    Minutes,
+    /// `minutes`: the decided minutes of a trace are printed; `minutes 2009`: those by the amended rule.
+    Minutes { rule: Rule },
     /// `record`: a trace is recorded on the unit.
     Record,
     /// `format a N NUMBER SURNAME FIRST`, and `format b ..`: the card is issued to this identity.
@@ -59,8 +60,8 @@ pub enum Form {
     ServeHex,
     /// `download`: the unit's file is written.
     Download,
-    /// `view`: a unit file or a card file is printed; `view last N`: its last so many days, from 1 to 366.
-    View { last: Option<u32> },
+    /// What a file tells is printed: it is read to its end first.
+    Read { reading: Reading },
     /// `card a` and `card b`: the card's file is written.
     CardFile { card: Card },
     /// `demo X`: a demonstration is recorded that is drawn from this number, from 0 to 2147483647.
@@ -69,6 +70,17 @@ pub enum Form {
     Help,
     /// `--version`: the version is printed, and that of the toolchain.
     Version,
+}
+
+/// What is told of a file.
+#[derive(Clone, Copy, Debug, PartialEq, Eq)]
+pub enum Reading {
+    /// `view`: the days of a unit file or a card file; `view last N`: its last so many, from 1 to 366.
+    View { last: Option<u32> },
+    /// `match`: whether the entries of a card file stand in a unit file.
+    Match,
+    /// `match all`: which of them do not, and how they differ.
+    MatchAll,
 }
 
 /// What the words ask for, if they are in a form that is known. The test takes no memory.
@@ -95,7 +107,9 @@ fn form_of_one(word: &str) -> Option<Form>
     ensures { result ≡ form_of_one word.now }
 {
     if is_text(word, "minutes") {
-        return Some(Form::Minutes);
+        return Some(Form::Minutes {
+            rule: Rule::Original,
+        });
     }
     if is_text(word, "record") {
         return Some(Form::Record);
@@ -107,7 +121,14 @@ fn form_of_one(word: &str) -> Option<Form>
         return Some(Form::Download);
     }
     if is_text(word, "view") {
-        return Some(Form::View { last: None });
+        return Some(Form::Read {
+            reading: Reading::View { last: None },
+        });
+    }
+    if is_text(word, "match") {
+        return Some(Form::Read {
+            reading: Reading::Match,
+        });
     }
     if is_text(word, "help") || is_text(word, "--help") {
         return Some(Form::Help);
@@ -122,8 +143,18 @@ fn form_of_one(word: &str) -> Option<Form>
 fn form_of_two(command: &str, option: &str) -> Option<Form>
     ensures { result ≡ form_of_two command.now option.now }
 {
+    if is_text(command, "minutes") && is_text(option, "2009") {
+        return Some(Form::Minutes {
+            rule: Rule::Amended,
+        });
+    }
     if is_text(command, "serve") && is_text(option, "--hex") {
         return Some(Form::ServeHex);
+    }
+    if is_text(command, "match") && is_text(option, "all") {
+        return Some(Form::Read {
+            reading: Reading::MatchAll,
+        });
     }
     if is_text(command, "card") {
         return file_of(option);
@@ -172,7 +203,9 @@ fn view_of(which: &str, count: &str) -> Option<Form>
         let Some(days) = number(count, LAST_LEAST, LAST_MOST) else {
             return None;
         };
-        return Some(Form::View { last: Some(days) });
+        return Some(Form::Read {
+            reading: Reading::View { last: Some(days) },
+        });
     }
     None
 }

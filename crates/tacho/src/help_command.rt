@@ -9,6 +9,7 @@ use tach_media::{Sink, put_all};
 /// What `help` prints: the forms, a line each, and one example.
 const HELP: &[u8] = b"\
 tacho minutes < TRACE                    print the minutes of a trace, with no card
+tacho minutes 2009 < TRACE               print them by the rule as amended in 2009
 tacho record < TRACE                     record a trace on unit.img, card-a.img and card-b.img
 tacho serve                              answer a downloader's frames
 tacho serve --hex                        answer frames that are lines of hexadecimal digits
@@ -16,6 +17,8 @@ tacho download > FILE                    write the unit's file
 tacho card a|b > FILE                    write a card's file
 tacho view < FILE                        print the minutes of a unit's file, or a card's entries
 tacho view last N < FILE                 print its last N days (1 to 366)
+tacho match < FILES                      say whether a card's file, behind a unit's, stands in that
+tacho match all < FILES                  print each difference, and the counts
 tacho format unit N PLATE VIN LIMIT      make a new unit in unit.img: what it held is lost
 tacho format a|b N NUMBER SURNAME FIRST  make a new card in card-a.img or card-b.img, likewise
 tacho demo X                             record forty days drawn from X on a new unit and card a

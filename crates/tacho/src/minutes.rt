@@ -24,13 +24,17 @@ use view_text::add_minute;
 /// The last second that a time of four bytes can name.
 pub const LAST_TIME: u32 = 4294967295;
 
-/// The lines of the decided minutes of the one span of a trace, as a unit without a card shows them.
-pub fn lines_of(alloc: Global, trace: &Trace) -> Result<Vec<Line<UnitShown>>, AllocError>
+/// The lines of the decided minutes of the one span of a trace by a rule, as a unit without a card shows them.
+pub fn lines_of(
+    alloc: Global,
+    rule: Rule,
+    trace: &Trace,
+) -> Result<Vec<Line<UnitShown>>, AllocError>
     requires well { IsWellFormed trace.now.start trace.now.items }
     requires known { AllByRecursion (IsKnown FormOfMinutes) trace.now.items }
-    ensures { IfOk result (λ lines. lines.items ≡ lines_of same_unit (minutes_printed trace.now.start trace.now.items)) }
+    ensures { IfOk result (λ lines. lines.items ≡ lines_of same_unit (minutes_printed rule trace.now.start trace.now.items)) }
 {
-    let mut minutes = Minutes::new(Rule::Original, trace.start);
+    let mut minutes = Minutes::new(rule, trace.start);
     let mut lines = Vec::new(alloc);
     for i in 0..trace.items.len() {
         let item = *trace.items.get(i);

@@ -1,4 +1,4 @@
-//! The command `minutes`: the view text of a trace's decided minutes.
+//! The commands `minutes` and `minutes 2009`: the view text of a trace's decided minutes, by the original and by the amended rule.
 ghost use Rattle.std.specs.Prelude.{◌≡◌, ◌≢◌, ◌≤◌, ◌⊎◌, ℕ, List, Some, Err, OnOk, IfOk, IfErr, IsErrAnd};
 ghost use Rattle.std.specs.Io.KnownBytes.{Appends, IsAtEnd};
 ghost use Rattle.tach_media.specs.Medium.{Rose};
@@ -15,19 +15,21 @@ ghost use Rattle.tacho.specs.Minutes.{PrintsMinutes, minutes_printed, IsMinutesE
 
 use crate::end::Fault;
 use crate::minutes::lines_of;
+use minute_rules::Rule;
 use std::alloc::{AllocError, Global};
 use tach_media::{Sink, Source, put_all};
 use trace_text::{Trace, TraceFault, read_trace};
 use view_text::lines_text;
 
-/// The command `minutes`.
+/// The commands `minutes` and `minutes 2009`.
 pub fn print_minutes<S: Source, K: Sink>(
     alloc: Global,
+    rule: Rule,
     source: &mut S,
     sink: &mut K,
 ) -> Result<(), Fault>
     ensures printed { (text : List ℕ) → S.left source.old ≡ Some text
-        → OnOk result ((out : List ℕ) × PrintsMinutes text out × Appends (K.held sink.old) (K.held sink.new) out) }
+        → OnOk result ((out : List ℕ) × PrintsMinutes rule text out × Appends (K.held sink.old) (K.held sink.new) out) }
     ensures read { OnOk result (IsAtEnd (S.left source.new)) }
     ensures bad_trace { (text : List ℕ) (n : ℕ) → S.left source.old ≡ Some text → result ≡ Err (Fault.BadTrace n) → IsBadText FormOfMinutes text n }
     ensures too_long { (text : List ℕ) (n : ℕ) → S.left source.old ≡ Some text → result ≡ Err (Fault.TooLong n) → IsLongText FormOfMinutes text n }
@@ -41,7 +43,7 @@ pub fn print_minutes<S: Source, K: Sink>(
         → IsErrAnd result (λ fault. (fault ≡ Fault.TooLong n) ⊎ IsUnread fault) }
     ensures counts { (S.faults source.old ≤ S.faults source.new) × (K.faults sink.old ≤ K.faults sink.new) }
     ensures front { (text : List ℕ) → S.left source.old ≡ Some text → result ≡ Err Fault.WriteFault
-        → (out : List ℕ) × PrintsMinutes text out × AppendsFront (K.held sink.old) (K.held sink.new) out }
+        → (out : List ℕ) × PrintsMinutes rule text out × AppendsFront (K.held sink.old) (K.held sink.new) out }
     ensures nothing { IfErr result (λ fault. fault ≢ Fault.WriteFault → sink.new ≡ sink.old) }
     ensures other { IfErr result (λ fault. (fault ≢ Fault.Done) × IsMinutesEnd fault) }
 {
@@ -49,7 +51,7 @@ pub fn print_minutes<S: Source, K: Sink>(
         Ok(trace) => trace,
         Err(fault) => return Err(refusal(fault)),
     };
-    let Ok(text) = text_of(alloc, &trace) else {
+    let Ok(text) = text_of(alloc, rule, &trace) else {
         return Err(Fault::Memory);
     };
     if put_all(sink, text.as_slice()).is_err() {
@@ -70,12 +72,12 @@ pub fn refusal(fault: TraceFault) -> Fault
     }
 }
 
-/// The view text of the decided minutes of a trace, no card present.
-fn text_of(alloc: Global, trace: &Trace) -> Result<Vec<u8>, AllocError>
+/// The view text of the decided minutes of a trace by a rule, no card present.
+fn text_of(alloc: Global, rule: Rule, trace: &Trace) -> Result<Vec<u8>, AllocError>
     requires well { IsWellFormed trace.now.start trace.now.items }
     requires known { AllByRecursion (IsKnown FormOfMinutes) trace.now.items }
-    ensures { IfOk result (λ text. IsUnitView (minutes_printed trace.now.start trace.now.items) text.items) }
+    ensures { IfOk result (λ text. IsUnitView (minutes_printed rule trace.now.start trace.now.items) text.items) }
 {
-    let lines = lines_of(alloc, trace)?;
+    let lines = lines_of(alloc, rule, trace)?;
     lines_text(alloc, lines.as_slice())
 }

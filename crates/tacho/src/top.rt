@@ -15,9 +15,9 @@ use crate::format_command::{format_card, make_unit};
 use crate::forms::{Form, form_of};
 use crate::help_command::{print_help, print_version};
 use crate::minutes_command::print_minutes;
+use crate::reading_command::print_reading;
 use crate::record_command::record;
 use crate::serve_command::{lines_end, service_end};
-use crate::view_command::print_view;
 use crate::words::Words;
 use card_download::write_card_file;
 use card_files::CardIdentity;
@@ -30,13 +30,16 @@ use unit_download::{Wire, download};
 
 /// Does what the words ask for.
 ///
-/// `minutes` reads a trace from the source, and writes the view text of its decided minutes, no card present, to the sink.
+/// `minutes` reads a trace from the source, and writes the view text of its decided minutes, no card present, to the sink; `minutes 2009`
+/// the same by the amended rule.
 /// `record` reads a trace, records it on the unit and the cards, and writes five lines of counts to the sink; a trace without a card's
 /// line is recorded on the unit alone.
 /// `serve` answers the frames among the bytes of the source by the messages of the unit, and writes the answers to the sink;
 /// `serve --hex` the same of lines of hexadecimal digits.
 /// `download` downloads the unit, and writes its file, message by message, to the sink.
 /// `view` reads a unit file or a card file from the source, and writes the view text of its minutes or entries to the sink.
+/// `match` reads a unit file and a card file from the source, and writes whether the card's entries stand in the unit file to the sink;
+/// `match all` all that differ.
 /// `card a` and `card b` read the card by its commands, and write its card file to the sink.
 /// `demo X` makes the unit and card a new, records a demonstration on the unit and the cards, downloads the unit, and writes seven lines of
 /// counts to the sink.
@@ -100,7 +103,11 @@ fn perform<S: Peer<K>, K: Sink, U: Medium, C: Chip>(
 {
     let nothing = nothing(alloc);
     match form {
-        Form::Minutes => Ended::after(alloc, nothing, print_minutes(alloc, source, sink)),
+        Form::Minutes { rule } => Ended::after(
+            alloc,
+            nothing,
+            print_minutes(alloc, rule, source, sink),
+        ),
         Form::Record => perform_record(alloc, source, sink, unit, card_a, card_b),
         Form::FormatCard { card, identity } => {
             perform_format(alloc, card, &identity, source, sink, unit, card_a, card_b)
@@ -123,7 +130,9 @@ fn perform<S: Peer<K>, K: Sink, U: Medium, C: Chip>(
             let done = download(alloc, sink, unit, &mut wire);
             Ended::with(nothing, wire, download_end(done))
         }
-        Form::View { last } => Ended::after(alloc, nothing, print_view(alloc, last, source, sink)),
+        Form::Read { reading } => {
+            Ended::after(alloc, nothing, print_reading(alloc, reading, source, sink))
+        }
         Form::CardFile { card } => perform_card(alloc, card, source, sink, unit, card_a, card_b),
         Form::Demo { seed } => perform_demo(alloc, seed, source, sink, unit, card_a, card_b),
         Form::Help => Ended::after(alloc, nothing, print_help(sink)),

@@ -1,45 +1,8 @@
-use Rattle.std.proofs.Common.{◌≡◌, ◌∙◌, Some, List, map, ap, sym, subst, rules}
-use Rattle.card_retention.specs.Retains.{Rise}
-use Rattle.message_model.specs.Messages.{Message}
-use Rattle.message_model.specs.Showing.{minutes_in}
-use Rattle.card_records.specs.declared.vehicle.Vehicle.{Vehicle}
-use Rattle.history_view.specs.Fronts.{registration_in}
-use Rattle.history_view.specs.Histories.{entry_told, minute_told, minutes_on}
-use Rattle.card_match.specs.Files.{uses_of}
-use Rattle.card_match.specs.Matching.{Against}
-use Rattle.card_match.proofs.Answering.{same_match}
-use Rattle.card_match.proofs.Few.{few_minutes, lines_dated, dated_answer}
-use Rattle.card_match.proofs.Sources.{one_file}
+use Rattle.card_match.proofs.Firsts.{files_match, first_dated}
 use Rattle.card_match.proofs.files.match_files.Goals as goal
 
-pub match_entries-requires-clause-few : goal.match_entries-requires-clause-few
-match_entries-requires-clause-few c =
-    let rise : Rise (map entry_told (minutes_on c.lines-2.result.now)) = search rules in
-    few_minutes c.lines-2.result.now c.lines-2.ensures.lines rise
+pub returns-in-Ok-clause-matched : goal.returns-in-Ok-clause-matched
+returns-in-Ok-clause-matched c = rw c.first.ensures (files_match c.args.unit.now c.args.card.now c.in-Ok.all c.in-Ok.ensures.compared)
 
-pub returns-in-Ok-match_entries-clause-matched : goal.returns-in-Ok-match_entries-clause-matched
-returns-in-Ok-match_entries-clause-matched c =
-    let told = c.in-Ok.ensures.told in
-    let shown = c.in-Ok-read_download.ensures.minutes in
-    let card = c.in-Ok-read_card.ensures.shown in
-    record {
-      messages = shown.messages;
-      file = shown.file;
-      registration = c.in-Ok.registration.0;
-      told = subst (λ (ms : List Message). registration_in ms ≡ Some c.in-Ok.registration.0) (one_file told.0 shown.messages c.args.unit.now told.1 shown.file) told.2;
-      entries = c.in-Ok-read_card.read.history;
-      vehicles = c.in-Ok-read_card.read.vehicles.items;
-      shows = card;
-      answer =
-          same_match c.as_slice-2.result.now (uses_of c.in-Ok.registration.0 c.in-Ok-read_card.read.vehicles.items) (map minute_told (minutes_on c.lines.result.now)) (minutes_in shown.messages)
-          (map entry_told (minutes_on c.lines-2.result.now)) c.in-Ok-read_card.read.history c.in-Ok-match_entries.matched
-          (c.as_slice-2.ensures.value ∙ c.in-Ok-uses_of.ensures ∙ ap (λ (vs : List Vehicle). uses_of c.in-Ok.registration.0 vs) c.as_slice.ensures.value)
-          (c.lines.ensures.minutes ∙ shown.shown_are)
-          c.lines-2.ensures.entries
-          c.in-Ok-match_entries.ensures;
-    }
-
-pub returns-in-Ok-match_entries-clause-dated : goal.returns-in-Ok-match_entries-clause-dated
-returns-in-Ok-match_entries-clause-dated c =
-    let a : Against = record { uses = c.as_slice-2.result.now; minutes = map minute_told (minutes_on c.lines.result.now) } in
-    dated_answer a (map entry_told (minutes_on c.lines-2.result.now)) c.in-Ok-match_entries.matched (lines_dated c.lines-2.result.now c.lines-2.ensures.lines) c.in-Ok-match_entries.ensures
+pub returns-in-Ok-clause-dated : goal.returns-in-Ok-clause-dated
+returns-in-Ok-clause-dated c = rw c.first.ensures (first_dated c.in-Ok.all c.in-Ok.ensures.dated)

@@ -1,5 +1,4 @@
 use Rattle.std.proofs.Common.{◌≡◌, ◌+◌, ◌≤◌, take, drop}
-use Rattle.minute_model.specs.declared.Rule.TheVariants.{Original}
 use Rattle.minute_model.specs.Span.{begin, decided_in}
 use Rattle.minute_rules.specs.Kept.{StandsFor}
 use Rattle.trace_model.specs.Trace.{total_seconds}
@@ -10,7 +9,7 @@ use Rattle.tacho.proofs.minutes.lines_of.Given as goal
 
 abbrev pub invariant-loop-i : goal.invariant-loop-i
 invariant-loop-i l = record {
-  stands : StandsFor l.minutes (fed_items (begin Original l.trace.start) (take l.i l.trace.items));
-  lines : l.lines.items ≡ lines_shown (decided_in (fed_items (begin Original l.trace.start) (take l.i l.trace.items)));
+  stands : StandsFor l.minutes (fed_items (begin l.fn.rule l.trace.start) (take l.i l.trace.items));
+  lines : l.lines.items ≡ lines_shown (decided_in (fed_items (begin l.fn.rule l.trace.start) (take l.i l.trace.items)));
   next : l.minutes.next + total_seconds (drop l.i l.trace.items) ≤ LAST_TIME;
 }

@@ -1,5 +1,6 @@
 use Rattle.std.proofs.Common.{refl, arith}
-use Rattle.tacho.proofs.Endings.{ends-minutes, minutes-ends, ends-view, view-ends, help-ends, version-ends, no-other-end}
+use Rattle.tacho.specs.Read.{Prints, IsBad}
+use Rattle.tacho.proofs.Endings.{ends-minutes, minutes-ends, ends-reading, reading-ends, help-ends, version-ends, no-other-end}
 use Rattle.tacho.proofs.Services.{serve-ends}
 use Rattle.tacho.proofs.LineServices.{serve-hex-ends}
 use Rattle.tacho.proofs.Downloads.{download-ends}
@@ -9,8 +10,8 @@ pub returns-in-Minutes-clause-ends : goal.returns-in-Minutes-clause-ends
 returns-in-Minutes-clause-ends g c =
     let e = c.print_minutes.ensures in
     rw (c.in-Minutes.is, c.after.ensures)
-    (minutes-ends _ _ c.print_minutes.result
-    (ends-minutes _ _ c.print_minutes.result e.printed e.read e.bad_trace e.too_long e.read_fault e.write_fault e.prints e.finds_bad_trace e.finds_too_long e.front e.other)
+    (minutes-ends c.in-Minutes.rule _ _ c.print_minutes.result
+    (ends-minutes c.in-Minutes.rule _ _ c.print_minutes.result e.printed e.read e.bad_trace e.too_long e.read_fault e.write_fault e.prints e.finds_bad_trace e.finds_too_long e.front e.other)
     e.read_fault e.write_fault e.counts c.nothing-nothing.result c.nothing-nothing.ensures)
 
 pub returns-in-Serve-clause-ends : goal.returns-in-Serve-clause-ends
@@ -37,12 +38,12 @@ returns-in-Serve-clause-in_time g c = rw c.in-Serve.is c.serve.ensures.in_time
 pub returns-in-ServeHex-clause-in_time : goal.returns-in-ServeHex-clause-in_time
 returns-in-ServeHex-clause-in_time g c = rw c.in-ServeHex.is c.serve_lines.ensures.in_time
 
-pub returns-in-View-clause-ends : goal.returns-in-View-clause-ends
-returns-in-View-clause-ends g c =
-    let e = c.print_view.ensures in
-    rw (c.in-View.is, c.after-in-View.ensures)
-    (view-ends c.in-View.last _ _ c.print_view.result
-    (ends-view c.in-View.last _ _ c.print_view.result e.printed e.read e.bad_file e.too_long e.finds_too_long e.read_fault e.write_fault e.front e.other)
+pub returns-in-Read-clause-ends : goal.returns-in-Read-clause-ends
+returns-in-Read-clause-ends g c =
+    let e = c.print_reading.ensures in
+    rw (c.in-Read.is, c.after-in-Read.ensures)
+    (reading-ends c.in-Read.reading _ _ c.print_reading.result
+    (ends-reading (Prints c.in-Read.reading) (IsBad c.in-Read.reading) _ _ c.print_reading.result e.printed e.read e.bad_file e.too_long e.finds_too_long e.read_fault e.write_fault e.front e.other)
     e.read_fault e.write_fault e.counts c.nothing-nothing.result c.nothing-nothing.ensures)
 
 pub returns-in-Download-clause-ends : goal.returns-in-Download-clause-ends

@@ -1,0 +1,19 @@
+use Rattle.tacho.proofs.reading_command.reading_text.Goals as goal
+
+pub returns-in-View-clause-text : goal.returns-in-View-clause-text
+returns-in-View-clause-text c = rw c.in-View.is c.file_view.ensures.text
+
+pub returns-in-View-clause-err : goal.returns-in-View-clause-err
+returns-in-View-clause-err c = rw c.in-View.is c.file_view.ensures.err
+
+pub returns-in-Match-clause-text : goal.returns-in-Match-clause-text
+returns-in-Match-clause-text c = rw c.in-Match.is c.match_answer.ensures.text
+
+pub returns-in-Match-clause-err : goal.returns-in-Match-clause-err
+returns-in-Match-clause-err c = rw c.in-Match.is c.match_answer.ensures.err
+
+pub returns-in-MatchAll-clause-text : goal.returns-in-MatchAll-clause-text
+returns-in-MatchAll-clause-text c = rw c.in-MatchAll.is c.match_all_answer.ensures.text
+
+pub returns-in-MatchAll-clause-err : goal.returns-in-MatchAll-clause-err
+returns-in-MatchAll-clause-err c = rw c.in-MatchAll.is c.match_all_answer.ensures.err

@@ -1,0 +1,64 @@
+-- How a form ends that reads a file and prints what it tells, and what each of them prints.
+use Rattle.std.specs.Prelude.{◌≡◌, ◌⊎◌, ◌<◌, ◌≤◌, ℕ, Some, List, length}
+use Rattle.std.specs.Io.KnownBytes.{Appends, IsAtEnd}
+use Rattle.tach_media.specs.Medium.{Rose}
+use Rattle.tach_media.specs.Streams.{AppendsFront}
+use Rattle.card_match.specs.Files.{IsBadSource}
+use Rattle.tacho.specs.declared.forms.Reading.{Reading}
+use Rattle.tacho.specs.declared.forms.Reading.TheVariants.{View, Match, MatchAll}
+use Rattle.tacho.specs.declared.end.Fault.{Fault}
+use Rattle.tacho.specs.declared.end.Fault.TheVariants.{Done, TooLong, ReadFault, WriteFault, Memory, BadFile}
+use Rattle.tacho.specs.Outside.{Outside}
+use Rattle.tacho.specs.View.{PrintsFile, IsBadFile}
+use Rattle.tacho.specs.Match.{PrintsMatch, PrintsDifferences}
+
+-- a source has at most so many bytes
+abbrev pub most_bytes : ℕ
+most_bytes = 16777216
+
+-- what is printed of a source of these bytes
+abbrev pub Prints : Reading → (bytes out : List ℕ) → Type 0
+Prints (View last) bytes out = PrintsFile last bytes out
+Prints Match bytes out = PrintsMatch bytes out
+Prints MatchAll bytes out = PrintsDifferences bytes out
+
+-- the bytes are outside the grammar, first at this place
+abbrev pub IsBad : Reading → (place : ℕ) → List ℕ → Type 0
+IsBad (View last) place bytes = IsBadFile place bytes
+IsBad Match place bytes = IsBadSource place bytes
+IsBad MatchAll place bytes = IsBadSource place bytes
+
+-- the file is bad at a place of which this holds, or memory ran out
+abbrev pub IsUnshown : (ℕ → Type 0) → Fault → Type 0
+IsUnshown IsPlace (BadFile place) = IsPlace place
+IsUnshown IsPlace Memory = Unit {0}
+IsUnshown IsPlace _ = ⊥
+
+-- how such a form can end
+abbrev pub IsReadingEnd : Fault → Type 0
+IsReadingEnd Done = Unit {0}
+IsReadingEnd (TooLong n) = Unit {0}
+IsReadingEnd (BadFile place) = Unit {0}
+IsReadingEnd ReadFault = Unit {0}
+IsReadingEnd WriteFault = Unit {0}
+IsReadingEnd Memory = Unit {0}
+IsReadingEnd _ = ⊥
+
+-- How a form ends that reads a file to its end, and prints what it tells: the first two arguments say what is printed of bytes, and at which
+-- place bytes are bad.
+pub record EndsReading (Prints : (bytes out : List ℕ) → Type 0) (IsBad : (place : ℕ) → List ℕ → Type 0) (old new : Outside) (fault : Fault) : Type 0 where
+  pub ends : IsReadingEnd fault
+  -- Done: the sink gained exactly what is printed of the file, and nothing of the source is left.
+  pub printed : (bytes : List ℕ) → old.source.left ≡ Some bytes → fault ≡ Done → (out : List ℕ) × Prints bytes out × Appends old.sink.held new.sink.held out
+  pub read : fault ≡ Done → IsAtEnd new.source.left
+  -- A file outside the grammar is refused with the place where it first fails, and one of too many bytes at line 0.
+  pub bad_file : (bytes : List ℕ) (place : ℕ) → old.source.left ≡ Some bytes → fault ≡ BadFile place → IsBad place bytes
+  pub too_long : (bytes : List ℕ) (n : ℕ) → old.source.left ≡ Some bytes → fault ≡ TooLong n → (n ≡ 0) × (most_bytes < length bytes)
+  -- And each file is judged where neither stream fails, unless memory runs out: printed, or refused with its place. No file is
+  -- both, by the laws of history_view and card_match.
+  pub judges : (bytes : List ℕ) → old.source.left ≡ Some bytes → length bytes ≤ most_bytes
+      → (Rose old.source.faults new.source.faults → ⊥) → (Rose old.sink.faults new.sink.faults → ⊥) → (fault ≡ Done) ⊎ ((fault ≡ Memory) ⊎ ((place : ℕ) × (fault ≡ BadFile place)))
+  pub finds_too_long : (bytes : List ℕ) → old.source.left ≡ Some bytes → most_bytes < length bytes
+      → (Rose old.source.faults new.source.faults → ⊥) → (fault ≡ TooLong 0) ⊎ (fault ≡ Memory)
+  -- At a write fault a front of what Done appends was appended.
+  pub front : (bytes : List ℕ) → old.source.left ≡ Some bytes → fault ≡ WriteFault → (out : List ℕ) × Prints bytes out × AppendsFront old.sink.held new.sink.held out

@@ -1,0 +1,69 @@
+//! The forms that read a file to its end and print what it tells.
+ghost use Rattle.std.specs.Prelude.{◌≡◌, ◌≢◌, ◌≤◌, ◌<◌, ◌^◌, ◌⊎◌, ℕ, List, Some, Err, OnOk, IfOk, IfErr, IsErrAnd, length};
+ghost use Rattle.std.specs.Io.KnownBytes.{Appends, IsAtEnd};
+ghost use Rattle.tach_media.specs.Medium.{Rose};
+ghost use Rattle.tach_media.specs.Streams.{AppendsFront};
+ghost use Rattle.tacho.specs.End.{IsUnread};
+ghost use Rattle.tacho.specs.Read.{most_bytes, Prints, IsBad, IsUnshown, IsReadingEnd};
+
+use crate::end::Fault;
+use crate::forms::Reading;
+use crate::match_command::{match_all_answer, match_answer};
+use crate::view_command::file_view;
+use std::alloc::Global;
+use tach_media::{Sink, Source, TakeFault, put_all, take_all};
+
+/// The most bytes that a source may have.
+const MOST_BYTES: u32 = 16777216;
+
+/// Reads a file to its end, and prints what it tells.
+pub fn print_reading<S: Source, K: Sink>(
+    alloc: Global,
+    reading: Reading,
+    source: &mut S,
+    sink: &mut K,
+) -> Result<(), Fault>
+    ensures printed { (bytes : List ℕ) → S.left source.old ≡ Some bytes
+        → OnOk result ((out : List ℕ) × Prints reading bytes out × Appends (K.held sink.old) (K.held sink.new) out) }
+    ensures read { OnOk result (IsAtEnd (S.left source.new)) }
+    ensures bad_file { (bytes : List ℕ) (place : ℕ) → S.left source.old ≡ Some bytes → result ≡ Err (Fault.BadFile place) → IsBad reading place bytes }
+    ensures too_long { (bytes : List ℕ) (n : ℕ) → S.left source.old ≡ Some bytes → result ≡ Err (Fault.TooLong n) → (n ≡ 0) × (most_bytes < length bytes) }
+    ensures finds_too_long { (bytes : List ℕ) → S.left source.old ≡ Some bytes → most_bytes < length bytes
+        → IsErrAnd result (λ fault. (fault ≡ Fault.TooLong 0) ⊎ IsUnread fault) }
+    ensures read_fault { result ≡ Err Fault.ReadFault → Rose (S.faults source.old) (S.faults source.new) }
+    ensures write_fault { result ≡ Err Fault.WriteFault → Rose (K.faults sink.old) (K.faults sink.new) }
+    ensures counts { (S.faults source.old ≤ S.faults source.new) × (K.faults sink.old ≤ K.faults sink.new) }
+    ensures front { (bytes : List ℕ) → S.left source.old ≡ Some bytes → result ≡ Err Fault.WriteFault
+        → (out : List ℕ) × Prints reading bytes out × AppendsFront (K.held sink.old) (K.held sink.new) out }
+    ensures nothing { IfErr result (λ fault. fault ≢ Fault.WriteFault → sink.new ≡ sink.old) }
+    ensures other { IfErr result (λ fault. (fault ≢ Fault.Done) × IsReadingEnd fault) }
+{
+    let bytes = match take_all(alloc, source, MOST_BYTES) {
+        Ok(bytes) => bytes,
+        Err(TakeFault::ReadFault) => return Err(Fault::ReadFault),
+        Err(TakeFault::TooLong) => return Err(Fault::TooLong(0)),
+        Err(TakeFault::Memory) => return Err(Fault::Memory),
+    };
+    let text = match reading_text(alloc, reading, bytes.as_slice()) {
+        Ok(text) => text,
+        Err(fault) => return Err(fault),
+    };
+    let shown = text.as_slice();
+    if put_all(sink, shown).is_err() {
+        return Err(Fault::WriteFault);
+    }
+    Ok(())
+}
+
+/// What is printed of a file.
+fn reading_text(alloc: Global, reading: Reading, b: &[u8]) -> Result<Vec<u8>, Fault>
+    requires { length b.now < 2 ^ 32 }
+    ensures text { IfOk result (λ text. Prints reading b.now text.items) }
+    ensures err { IfErr result (IsUnshown (λ place. IsBad reading place b.now)) }
+{
+    match reading {
+        Reading::View { last } => file_view(alloc, last, b),
+        Reading::Match => match_answer(alloc, b),
+        Reading::MatchAll => match_all_answer(alloc, b),
+    }
+}
