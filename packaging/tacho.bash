@@ -9,6 +9,7 @@ _tacho() {
     '2 match') words=all ;;
     '2 card') words='a b' ;;
     '2 view') words=last ;;
+    '2 match') words=all ;;
     '2 format') words='unit a b' ;;
   esac
   mapfile -t COMPREPLY < <(compgen -W "$words" -- "$word")

@@ -3,18 +3,18 @@ ghost use Rattle.std.specs.Prelude.{◌≡◌, ℕ, ◌+◌, ◌*◌, ◌/◌, �
 ghost use Rattle.tach_media.specs.Medium.{HasCause};
 ghost use Rattle.unit_model.specs.Image.{IsUnit};
 ghost use Rattle.run_opening.specs.Units.{IsLoaded};
-ghost use Rattle.run_state.specs.declared.run.Power.TheVariants.{Lit};
+ghost use Rattle.run_acts.specs.declared.run.Power.TheVariants.{Lit};
 ghost use Rattle.run_keeping.specs.Later.{AreLater, AreCalm};
 ghost use Rattle.run_outcome.specs.Broken.{failed_cuts, BreaksDown};
-ghost use Rattle.run_state.specs.Power.{is_lit, has_power, minute_over};
-ghost use Rattle.run_state.specs.Going.{IsHeld, IsLit, IsGoing, IsWithin, IsFoundLater};
-ghost use Rattle.acts_rule.specs.Room.{HasRoom, HasRoomWithin, falls_of, bare_seats};
-ghost use Rattle.recorder_rule.specs.Waking.{IsAwake, TakesUp, TakesAwake};
-ghost use Rattle.recorder_rule.specs.Woken.{ResumesSo, WakesSo, EventsResuming, EventsWaking, RingsResuming, RingsWaking};
-ghost use Rattle.recorder_rule.specs.Recorded.{BeginsRinged};
-ghost use Rattle.recorder_rule.specs.Carded.{BeginsCarded};
-ghost use Rattle.recorder_rule.specs.CardsWoken.{CardsResuming, CardsPowering};
-ghost use Rattle.recorder_rule.specs.Noting.{NotesWaking, NotesFound, NotesPowerOn};
+ghost use Rattle.run_acts.specs.Power.{is_lit, has_power, minute_over};
+ghost use Rattle.run_acts.specs.Going.{IsHeld, IsLit, IsGoing, IsWithin, IsFoundLater};
+ghost use Rattle.run_acts.specs.Room.{HasRoom, HasRoomWithin, falls_of, bare_seats};
+ghost use Rattle.recorder_with_cards.specs.Waking.{IsAwake, TakesUp, TakesAwake};
+ghost use Rattle.recorder_with_cards.specs.Woken.{ResumesSo, WakesSo, EventsResuming, EventsWaking, RingsResuming, RingsWaking};
+ghost use Rattle.recorder_with_cards.specs.Recorded.{BeginsRinged};
+ghost use Rattle.recorder_with_cards.specs.Carded.{BeginsCarded};
+ghost use Rattle.recorder_with_cards.specs.CardsWoken.{CardsResuming, CardsPowering};
+ghost use Rattle.recorder_with_cards.specs.Noting.{NotesWaking, NotesFound, NotesPowerOn};
 ghost use Rattle.run_outcome.specs.declared.outcome.TheConstants.{MOST_OWED};
 ghost use Rattle.run_rule.specs.Between.{devices};
 
