@@ -74,9 +74,7 @@ def day_checks(image, index):
 
 
 def unit_checks(image):
-    version = number(image, 0, 4)
-    yield 0, version in (1, 2)
-    yield 561, version == 1 or image[561] <= 1
+    yield 0, number(image, 0, 4) == 1
     yield KEPT, is_kept_good(image)
     yield 568, number(image, 568, 4) <= 9999999
     yield 576, number(image, 576, 4) <= 255
@@ -90,7 +88,6 @@ def unit_checks(image):
             yield from day_checks(image, index)
     yield 2115044, number(image, 2115044, 4) < 2048
     yield 2379240, number(image, 2379240, 4) < 255
-    yield 2393644, number(image, 2393644, 4) < 1440
 
 
 def bad_unit(image):

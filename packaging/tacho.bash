@@ -6,6 +6,7 @@ _tacho() {
     '1 ') words='minutes record serve download card view match format upgrade demo help --help --version' ;;
     '2 minutes') words=2009 ;;
     '2 serve') words=--hex ;;
+    '2 match') words=all ;;
     '2 card') words='a b' ;;
     '2 view') words=last ;;
     '2 match') words=all ;;

@@ -4,12 +4,12 @@ ghost use Rattle.run_rule.specs.Between.{devices};
 ghost use Rattle.run_keeping.specs.Books.{HaveTime};
 ghost use Rattle.run_keeping.specs.Later.{AreLater, AreCalm};
 ghost use Rattle.run_outcome.specs.Broken.{BreaksDown};
-ghost use Rattle.run_state.specs.Going.{largest_number, end_of_seconds, IsGoing};
-ghost use Rattle.acts_rule.specs.Room.{HasRoom};
-ghost use Rattle.recorder_rule.specs.Items.{between, insertions_in};
-ghost use Rattle.recorder_rule.specs.Recorded.{actions_in, RingsSeconds, RingsMore};
-ghost use Rattle.recorder_rule.specs.Carded.{CardsSeconds, CardsMore};
-ghost use Rattle.recorder_rule.specs.Gone.{HasGone};
+ghost use Rattle.run_acts.specs.Going.{largest_number, end_of_seconds, IsGoing};
+ghost use Rattle.run_acts.specs.Room.{HasRoom};
+ghost use Rattle.recorder_with_cards.specs.Items.{between, insertions_in};
+ghost use Rattle.recorder_with_cards.specs.Recorded.{actions_in, RingsSeconds, RingsMore};
+ghost use Rattle.recorder_with_cards.specs.Carded.{CardsSeconds, CardsMore};
+ghost use Rattle.recorder_with_cards.specs.Gone.{HasGone};
 
 use crate::acts::{act_all, number_of};
 use crate::resuming::begin_second;

@@ -11,7 +11,7 @@ ghost use Rattle.run_crew.specs.declared.cabin.Cabin.{Cabin};
 ghost use Rattle.run_entering.specs.declared.lines.Entering.{Entering};
 ghost use Rattle.run_entering.specs.Entering.{Ending};
 ghost use Rattle.run_entering.specs.Noted.{AreDone, AreBeingDone, UnitNote, IsOnUnit, IsComing, notes_by};
-ghost use Rattle.recorder_rule.specs.EnteredTold.{TellEvents, AreUnsure, moving_events, unclosed_events, events_by, IsLow, AreNamed};
+ghost use Rattle.recorder_with_cards.specs.EnteredTold.{TellEvents, AreUnsure, moving_events, unclosed_events, events_by, IsLow, AreNamed};
 
 /// Notes of the unit that tell these events show them more, once all are done; at a moment of them nothing more is shown, where of the types
 /// of these events none is sure.

@@ -1,4 +1,4 @@
-ghost use Rattle.recorder_rule.specs.EnteredRings.{AcceptWrites};
+ghost use Rattle.recorder_with_cards.specs.EnteredRings.{AcceptWrites};
 
 use tach_media::{Chip, Medium};
 

@@ -1,4 +1,4 @@
-ghost use Rattle.acts_rule.specs.Entered.{ACardThatEntersIsRecorded};
+ghost use Rattle.run_acts.specs.Entered.{ACardThatEntersIsRecorded};
 
 use tach_media::{Chip, Medium};
 

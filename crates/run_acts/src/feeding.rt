@@ -2,7 +2,7 @@
 ghost use Rattle.std.specs.Prelude.{◌≡◌, ◌+◌, ◌%◌, ◌<◌, ◌≤◌, ◌++◌};
 ghost use Rattle.minute_model.specs.Span.{Span, decided_in, fed_many};
 ghost use Rattle.minute_rules.specs.Kept.{StandsFor};
-ghost use Rattle.run_state.specs.Going.{largest_number};
+ghost use Rattle.run_acts.specs.Going.{largest_number};
 
 use activity_codec::Steps;
 use minute_rules::{Decided, Minutes};

@@ -2,8 +2,8 @@ ghost use Rattle.run_keeping.specs.declared.keeper.Keeper.{Keeper};
 ghost use Rattle.run_keeping.specs.declared.keeper.Moment.{Moment};
 ghost use Rattle.run_keeping.specs.Minutes.{Reach, Told};
 ghost use Rattle.run_keeping.specs.Faults.{faults_to};
-ghost use Rattle.acts_rule.specs.KeptEvents.{AreFaults};
-ghost use Rattle.acts_rule.specs.EventCrews.{CardsAreNamed, CardsAreNamedBehind, CrewIsNamed, SessionsAreKnown, FaultsAreTold};
+ghost use Rattle.run_acts.specs.KeptEvents.{AreFaults};
+ghost use Rattle.run_acts.specs.EventCrews.{CardsAreNamed, CardsAreNamedBehind, CrewIsNamed, SessionsAreKnown, FaultsAreTold};
 
 /// As far as a keeping came, what it notes are faults of cards.
 pub fn keepings_note_faults()

@@ -9,7 +9,9 @@ mod kept_events;
 mod noted_events;
 mod on_cards;
 mod placing;
+mod power;
 mod rounds;
+mod run;
 mod settling;
 mod turning;
 mod withdrawing;
@@ -28,7 +30,7 @@ pub use rounds::{
     the_keeping_fails, the_keeping_is_recorded, the_minutes_are_kept, the_minutes_are_over,
     the_minutes_may_be_booked, the_note_fails, they_leave_still,
 };
-pub use run_state::{Power, Run};
+pub use run::{Power, Run};
 pub use settling::settle;
 pub use turning::turn;
 pub use withdrawing::{pull, withdraw};

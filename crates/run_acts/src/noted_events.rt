@@ -2,7 +2,7 @@ ghost use Rattle.std.specs.Prelude.{ℕ, List, ◌++◌};
 ghost use Rattle.trace_model.specs.declared.Card.{Card};
 ghost use Rattle.event_model.specs.Events.{Event};
 ghost use Rattle.unit_notes.specs.declared.unit_event.UnitEvent.{UnitEvent};
-ghost use Rattle.acts_rule.specs.NotedEvents.{AreTold, IsSplit};
+ghost use Rattle.run_acts.specs.NotedEvents.{AreTold, IsSplit};
 
 /// Events of a run that two calls note are those of the first, and then those of the other.
 pub fn what_two_calls_note_parts()

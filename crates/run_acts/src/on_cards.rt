@@ -8,7 +8,7 @@ ghost use Rattle.card_records.specs.declared.current_use.CurrentUse.{CurrentUse}
 ghost use Rattle.log_model.specs.Log.{RunLog};
 ghost use Rattle.event_model.specs.Events.{seen_of, seen_spans};
 ghost use Rattle.run_events.specs.Seconds.{gap_by, seen_next};
-ghost use Rattle.acts_rule.specs.OnCards.{as_accepted, accepted_in, accepted_on, moved_in, gaps_on, unclosed_by, events_by, is_sure_in, ShowsOn, NotesThem};
+ghost use Rattle.run_acts.specs.OnCards.{as_accepted, accepted_in, accepted_on, moved_in, gaps_on, unclosed_by, events_by, is_sure_in, ShowsOn, NotesThem};
 
 use tach_media::Chip;
 

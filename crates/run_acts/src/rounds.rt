@@ -1,5 +1,5 @@
 ghost use Rattle.run_rule.specs.Between.{devices};
-ghost use Rattle.acts_rule.specs.RoundLaws.{TheMinutesMayBeBooked, TheMinutesAreOver, TheMinutesAreKept, TheyLeaveStill, TheKeepingFails, TheNoteFails, TheKeepingIsRecorded};
+ghost use Rattle.run_acts.specs.RoundLaws.{TheMinutesMayBeBooked, TheMinutesAreOver, TheMinutesAreKept, TheyLeaveStill, TheKeepingFails, TheNoteFails, TheKeepingIsRecorded};
 
 use tach_media::{Chip, Medium};
 

@@ -3,9 +3,9 @@ ghost use Rattle.std.specs.Prelude.{◌≡◌, ◌+◌, ◌-◌, ◌*◌, ◌/�
 ghost use Rattle.trace_model.specs.declared.Card.{Card};
 ghost use Rattle.tach_media.specs.Medium.{HasCause, HasBroken};
 ghost use Rattle.run_keeping.specs.Keeping.{tears_of, most_tears};
-ghost use Rattle.run_state.specs.declared.run.Power.TheVariants.{Lit};
-ghost use Rattle.run_state.specs.Going.{first_second, end_of_seconds, IsHeld, IsGoingOn};
-ghost use Rattle.acts_rule.specs.Room.{Takes};
+ghost use Rattle.run_acts.specs.declared.run.Power.TheVariants.{Lit};
+ghost use Rattle.run_acts.specs.Going.{first_second, end_of_seconds, IsHeld, IsGoingOn};
+ghost use Rattle.run_acts.specs.Room.{Takes};
 ghost use Rattle.activity_codec.specs.declared.values.Slot.{Slot};
 ghost use Rattle.slot_machine.specs.Calls.{seat_in};
 ghost use Rattle.minute_model.specs.declared.Minute.{Minute};
@@ -15,16 +15,16 @@ ghost use Rattle.run_keeping.specs.Later.{AreLater, AreCalm};
 ghost use Rattle.run_rule.specs.Between.{devices};
 ghost use Rattle.run_keeping.specs.Minutes.{Reach, IsReach};
 ghost use Rattle.run_keeping.specs.Decided.{BooksAll};
-ghost use Rattle.acts_rule.specs.Acting.{IsSettled, IsBareIn, told_of};
-ghost use Rattle.acts_rule.specs.Settling.{RecordsSettling};
-ghost use Rattle.acts_rule.specs.Faults.{NotesSettling};
-ghost use Rattle.acts_rule.specs.Evented.{EventsSettling};
-ghost use Rattle.acts_rule.specs.RunCards.{CardsSettling, PlacesSettling};
-ghost use Rattle.acts_rule.specs.Devices.{AreLeftMore};
+ghost use Rattle.run_acts.specs.Acting.{IsSettled, IsBareIn, told_of};
+ghost use Rattle.run_acts.specs.Settling.{RecordsSettling};
+ghost use Rattle.run_acts.specs.Faults.{NotesSettling};
+ghost use Rattle.run_acts.specs.Evented.{EventsSettling};
+ghost use Rattle.run_acts.specs.RunCards.{CardsSettling, PlacesSettling};
+ghost use Rattle.run_acts.specs.Devices.{AreLeftMore};
 
+use crate::run::Run;
 use run_keeping::Moment;
 use run_outcome::Outcome;
-use run_state::Run;
 use tach_media::{Chip, Failed, Medium};
 
 /// The minutes before that of the next second are decided and kept.

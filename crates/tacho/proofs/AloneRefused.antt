@@ -11,9 +11,9 @@ use Rattle.run_opening.specs.Units.{IsUnitRefused}
 use Rattle.run_opening.specs.declared.fault.RunFault.{RunFault}
 use Rattle.run_opening.specs.declared.fault.RunFault.TheVariants.{MediumFault, BadUnit, ClockBack, SameCard}
 use Rattle.run_outcome.specs.declared.outcome.Outcome.{Outcome}
-use Rattle.recorder_rule.specs.Words.{HaveTime}
-use Rattle.recorder_rule.specs.Ends.{BeginAs, IsKeptFrom}
-use Rattle.recorder_rule.specs.Gone.{IsRefusedBy}
+use Rattle.recorder_with_cards.specs.Words.{HaveTime}
+use Rattle.recorder_with_cards.specs.Ends.{BeginAs, IsKeptFrom}
+use Rattle.recorder_with_cards.specs.Gone.{IsRefusedBy}
 use Rattle.tacho.specs.Alone.{StartsAs, IsUnitFault, IsRefusedAlone}
 use Rattle.tacho.specs.Blank.{no_image, blank_state}
 use Rattle.tacho.proofs.NoCard.{no-valid, never-failed, begins-alone, time-alone}

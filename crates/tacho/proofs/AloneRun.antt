@@ -34,9 +34,9 @@ use Rattle.event_course.proofs.Bridge.{events-plain}
 use Rattle.unit_rule.proofs.OtherRows.{owes-still}
 use Rattle.run_rule.specs.Between.{devices}
 use Rattle.run_outcome.specs.declared.outcome.Outcome.{Outcome}
-use Rattle.recorder_rule.specs.Words.{log_of}
-use Rattle.recorder_rule.specs.Ends.{recording_of, EndsTrace}
-use Rattle.recorder_rule.specs.LastKept.{TellsLast}
+use Rattle.recorder_with_cards.specs.Words.{log_of}
+use Rattle.recorder_with_cards.specs.Ends.{recording_of, EndsTrace}
+use Rattle.recorder_with_cards.specs.LastKept.{TellsLast}
 use Rattle.tacho.specs.Blank.{no_image}
 use Rattle.tacho.specs.Alone.{IsForUnit, NoVerdict, history_of, lost_of, IsAlone}
 use Rattle.tacho.proofs.Cardless.{AreCardless, cardless, plain-told}

@@ -6,7 +6,7 @@ use Rattle.run_model.specs.declared.Device.{Device}
 use Rattle.run_model.specs.declared.Device.TheVariants.{Unit as OfUnit, CardA, CardB}
 use Rattle.log_model.specs.Causes.{cuts, tears}
 use Rattle.safety_model.specs.Safe.{breakdowns_of}
-use Rattle.recorder_rule.specs.Words.{AreLater, log_of, IsFoundLater, HaveTime}
+use Rattle.recorder_with_cards.specs.Words.{AreLater, log_of, IsFoundLater, HaveTime}
 use Rattle.trace_model.specs.declared.Card.TheVariants.{A, B}
 use Rattle.trace_model.specs.declared.Item.{Item}
 use Rattle.trace_text.specs.declared.trace.Form.TheVariants.{Whole}
@@ -14,9 +14,9 @@ use Rattle.trace_text.specs.Judged.{IsTraceText}
 use Rattle.run_opening.specs.declared.fault.RunFault.{RunFault}
 use Rattle.run_opening.specs.declared.fault.RunFault.TheVariants as run
 use Rattle.tacho.specs.Alone.{IsForUnit}
-use Rattle.recorder_rule.specs.Gone.{IsRefusedBy as IsRefusedAt}
-use Rattle.recorder_rule.proofs.WholeOdometer.{all-there}
-use Rattle.recorder_rule.specs.Ends.{BeginAs, MayRecord, EndsTrace, IsKeptFrom}
+use Rattle.recorder_with_cards.specs.Gone.{IsRefusedBy as IsRefusedAt}
+use Rattle.recorder_with_cards.proofs.WholeOdometer.{all-there}
+use Rattle.recorder_with_cards.specs.Ends.{BeginAs, MayRecord, EndsTrace, IsKeptFrom}
 use Rattle.run_outcome.specs.declared.outcome.Outcome.{Outcome}
 use Rattle.tacho.specs.declared.end.Fault.{Fault}
 use Rattle.tacho.specs.declared.end.Fault.TheVariants.{WriteFault, MediumFault}

@@ -15,9 +15,9 @@ use Rattle.trace_model.specs.Trace.{total_seconds}
 use Rattle.unit_journal.specs.Reading.{ReadsIfAny}
 use Rattle.safety_model.specs.Safe.{Devices}
 use Rattle.run_rule.specs.Between.{devices}
-use Rattle.recorder_rule.specs.Words.{HaveTime}
+use Rattle.recorder_with_cards.specs.Words.{HaveTime}
 use Rattle.run_opening.specs.declared.fault.RunFault.TheVariants as run
-use Rattle.recorder_rule.specs.Ends.{MayRecord}
+use Rattle.recorder_with_cards.specs.Ends.{MayRecord}
 use Rattle.run_outcome.specs.declared.outcome.Outcome.{Outcome}
 use Rattle.unit_download.specs.declared.fault.DownloadFault.{DownloadFault}
 use Rattle.unit_download.specs.declared.fault.DownloadFault.TheVariants as download

@@ -10,12 +10,12 @@ use Rattle.tach_media.specs.Medium.{State, IsCoherent, IsSettled, put}
 use Rattle.safety_model.specs.Safe.{Devices, card_of, breakdowns_of}
 use Rattle.run_rule.specs.Opening.{BeginsAs}
 use Rattle.run_rule.specs.Between.{devices}
-use Rattle.recorder_rule.specs.Words.{HaveTime, AreLater}
+use Rattle.recorder_with_cards.specs.Words.{HaveTime, AreLater}
 use Rattle.run_outcome.specs.declared.outcome.Outcome.{Outcome}
 use Rattle.run_opening.specs.declared.fault.RunFault.{RunFault}
 use Rattle.run_opening.specs.declared.fault.RunFault.TheVariants.{MediumFault, BadUnit, ClockBack, SameCard}
-use Rattle.recorder_rule.specs.Ends.{BeginAs, MayRecord, EndsTrace, IsKeptFrom}
-use Rattle.recorder_rule.specs.Gone.{IsRefusedBy}
+use Rattle.recorder_with_cards.specs.Ends.{BeginAs, MayRecord, EndsTrace, IsKeptFrom}
+use Rattle.recorder_with_cards.specs.Gone.{IsRefusedBy}
 use Rattle.tacho.specs.declared.anew.AnewFault.TheVariants.{Kept}
 use Rattle.tacho.specs.Anew.{began_at, MayBeAnew, EndsAnew, IsFailed, IsFailure}
 use Rattle.tacho.proofs.Recordings.{none-bad}

@@ -15,12 +15,12 @@ use Rattle.safety_model.specs.Safe.{Devices, card_of, breakdowns_of, IsVerdict, 
 use Rattle.safety_model.specs.Side.{holder_of, notes_in, IsPrevious}
 use Rattle.unit_model.specs.Image.{recorded, last_kept}
 use Rattle.run_outcome.specs.declared.outcome.Outcome.{Outcome}
-use Rattle.recorder_rule.specs.Ends.{recording_of, EndsTrace}
-use Rattle.recorder_rule.specs.Still.{KeepsHolder}
-use Rattle.recorder_rule.specs.Side.{ShowsSide, HasComeBefore, TellsAtStart}
-use Rattle.recorder_rule.specs.KeptAfter.{TellsKept}
-use Rattle.recorder_rule.specs.LastKept.{TellsLast}
-use Rattle.recorder_rule.specs.CardEvents.{ShowsItsEvents}
+use Rattle.recorder_with_cards.specs.Ends.{recording_of, EndsTrace}
+use Rattle.recorder_with_cards.specs.Still.{KeepsHolder}
+use Rattle.recorder_with_cards.specs.Side.{ShowsSide, HasComeBefore, TellsAtStart}
+use Rattle.recorder_with_cards.specs.KeptAfter.{TellsKept}
+use Rattle.recorder_with_cards.specs.LastKept.{TellsLast}
+use Rattle.recorder_with_cards.specs.CardEvents.{ShowsItsEvents}
 
 module _ (x a b : List ℕ) (start : ℕ) (items : List Item) (out : Outcome) (p q now : Devices) (unit : p.unit.clock ≡ q.unit.clock) (cards : (c : Card) → (card_of p c).clock ≡ (card_of q c).clock) (broken : (device : Device) → breakdowns_of p device ≡ breakdowns_of q device) where
   abbrev r : Recording

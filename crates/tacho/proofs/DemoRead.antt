@@ -27,12 +27,12 @@ use Rattle.run_recorded.specs.Whole.{IsFull}
 use Rattle.log_model.specs.declared.lines.Break.{Break}
 use Rattle.log_model.specs.declared.lines.Break.TheVariants.{Cut, Tear}
 use Rattle.run_outcome.specs.declared.outcome.Outcome.{Outcome}
-use Rattle.recorder_rule.specs.Words.{ShowsStays}
-use Rattle.recorder_rule.specs.Ends.{recording_of, EndsTrace}
-use Rattle.recorder_rule.specs.Side.{ShowsSide, HasComeBefore, TellsAtStart}
-use Rattle.recorder_rule.specs.CardEvents.{ShowsItsEvents}
-use Rattle.recorder_rule.specs.LastKept.{TellsLast}
-use Rattle.recorder_rule.proofs.KeptAfter.{more-found}
+use Rattle.recorder_with_cards.specs.Words.{ShowsStays}
+use Rattle.recorder_with_cards.specs.Ends.{recording_of, EndsTrace}
+use Rattle.recorder_with_cards.specs.Side.{ShowsSide, HasComeBefore, TellsAtStart}
+use Rattle.recorder_with_cards.specs.CardEvents.{ShowsItsEvents}
+use Rattle.recorder_with_cards.specs.LastKept.{TellsLast}
+use Rattle.recorder_with_cards.proofs.KeptAfter.{more-found}
 use Rattle.tacho.specs.Anew.{EndsAnew, began_at}
 
 -- a device was read, if at all

@@ -10,9 +10,9 @@ use Rattle.card_image.specs.Own.{IsOwnValid}
 use Rattle.tach_media.specs.Medium.{State, IsCoherent, Rose, last_count, LeavesOnly, Unchanged, Reads, HasCause, revivable, most_writes}
 use Rattle.run_rule.specs.Opening.{BeginsAs}
 use Rattle.run_rule.specs.Between.{devices}
-use Rattle.recorder_rule.specs.Words.{HaveTime}
+use Rattle.recorder_with_cards.specs.Words.{HaveTime}
 use Rattle.run_opening.proofs.Told.{valid-sizes}
-use Rattle.recorder_rule.specs.Ends.{BeginAs}
+use Rattle.recorder_with_cards.specs.Ends.{BeginAs}
 use Rattle.tacho.specs.Alone.{StartsAs}
 use Rattle.tacho.specs.Blank.{zeros, no_image, blank_state}
 

@@ -16,11 +16,11 @@ use Rattle.safety_model.specs.Recording.{Recording, start_of}
 use Rattle.run_opening.specs.declared.fault.RunFault.{RunFault}
 use Rattle.run_opening.specs.declared.fault.RunFault.TheVariants as run
 use Rattle.run_opening.specs.Units.{IsUnitRefused}
-use Rattle.recorder_rule.specs.Words.{log_of}
-use Rattle.recorder_rule.specs.Words.{IsFoundLater}
+use Rattle.recorder_with_cards.specs.Words.{log_of}
+use Rattle.recorder_with_cards.specs.Words.{IsFoundLater}
 use Rattle.log_model.specs.Causes.{cuts, tears}
-use Rattle.recorder_rule.specs.Ends.{recording_of}
-use Rattle.recorder_rule.proofs.WholeOdometer.{whole-odometer, day-whole}
+use Rattle.recorder_with_cards.specs.Ends.{recording_of}
+use Rattle.recorder_with_cards.proofs.WholeOdometer.{whole-odometer, day-whole}
 use Rattle.run_outcome.specs.declared.outcome.Outcome.{Outcome}
 use Rattle.tacho.specs.declared.end.Fault.{Fault}
 use Rattle.tacho.specs.declared.end.Fault.TheVariants.{Done, Usage, BadTrace, TooLong, BadUnit, ClockBack, SameCard, ReadFault, WriteFault, MediumFault, Memory, BadFile, BadCard, Changed}

@@ -32,12 +32,12 @@ use Rattle.event_course.specs.Shown.{ShowsRun}
 use Rattle.run_opening.specs.declared.fault.RunFault.{RunFault}
 use Rattle.run_opening.specs.declared.fault.RunFault.TheVariants.{MediumFault, BadUnit, ClockBack, SameCard}
 use Rattle.run_opening.specs.Units.{IsUnitRefused}
-use Rattle.recorder_rule.specs.Words.{log_of}
-use Rattle.recorder_rule.specs.Words.{IsFoundLater}
+use Rattle.recorder_with_cards.specs.Words.{log_of}
+use Rattle.recorder_with_cards.specs.Words.{IsFoundLater}
 use Rattle.run_outcome.specs.declared.outcome.Outcome.{Outcome}
-use Rattle.recorder_rule.specs.Ends.{recording_of}
-use Rattle.recorder_rule.specs.KeptAfter.{TellsKept}
-use Rattle.recorder_rule.specs.LastKept.{TellsLast}
+use Rattle.recorder_with_cards.specs.Ends.{recording_of}
+use Rattle.recorder_with_cards.specs.KeptAfter.{TellsKept}
+use Rattle.recorder_with_cards.specs.LastKept.{TellsLast}
 use Rattle.tacho.specs.Blank.{no_image}
 
 -- ---- its trace

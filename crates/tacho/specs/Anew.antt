@@ -9,7 +9,7 @@ use Rattle.run_rule.specs.Opening.{BeginsAs}
 use Rattle.run_opening.specs.Opening.{faults_of}
 use Rattle.run_opening.specs.declared.fault.RunFault.TheVariants.{MediumFault, BadUnit, ClockBack, SameCard}
 use Rattle.run_outcome.specs.declared.outcome.Outcome.{Outcome}
-use Rattle.recorder_rule.specs.Ends.{EndsTrace}
+use Rattle.recorder_with_cards.specs.Ends.{EndsTrace}
 use Rattle.tacho.specs.declared.anew.AnewFault.{AnewFault}
 use Rattle.tacho.specs.declared.anew.AnewFault.TheVariants.{Unmade, Kept}
 

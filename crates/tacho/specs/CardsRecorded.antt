@@ -6,12 +6,12 @@ use Rattle.log_model.specs.Causes.{cuts, tears}
 use Rattle.safety_model.specs.Safe.{Devices, breakdowns_of}
 use Rattle.run_rule.specs.Between.{devices}
 use Rattle.run_recorded.specs.Whole.{NothingFailed}
-use Rattle.recorder_rule.specs.Words.{HaveTime, AreLater, log_of, IsFoundLater}
+use Rattle.recorder_with_cards.specs.Words.{HaveTime, AreLater, log_of, IsFoundLater}
 use Rattle.run_opening.specs.Opening.{IsRefused, IsAsItWas}
 use Rattle.run_opening.specs.declared.fault.RunFault.{RunFault}
 use Rattle.tacho.specs.Alone.{IsForUnit}
-use Rattle.recorder_rule.specs.Whole.{IsAllThere}
-use Rattle.recorder_rule.specs.Ends.{recording_of, BeginAs, MayRecord, EndsTrace, IsKeptFrom}
+use Rattle.recorder_with_cards.specs.Whole.{IsAllThere}
+use Rattle.recorder_with_cards.specs.Ends.{recording_of, BeginAs, MayRecord, EndsTrace, IsKeptFrom}
 use Rattle.run_outcome.specs.declared.outcome.Outcome.{Outcome}
 use Rattle.trace_model.specs.declared.Item.{Item}
 use Rattle.tacho.specs.declared.end.Fault.{Fault}

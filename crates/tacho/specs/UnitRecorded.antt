@@ -6,13 +6,13 @@ use Rattle.run_model.specs.declared.Device.TheVariants.{Unit as OfUnit}
 use Rattle.log_model.specs.Causes.{HasCauses, cuts}
 use Rattle.history_model.specs.Presence.{Start}
 use Rattle.safety_model.specs.Unit.{HasEachDecided, IsFilled}
-use Rattle.recorder_rule.specs.Whole.{HasWholeOdometer, HasDayOdometer}
-use Rattle.recorder_rule.specs.Ends.{recording_of}
+use Rattle.recorder_with_cards.specs.Whole.{HasWholeOdometer, HasDayOdometer}
+use Rattle.recorder_with_cards.specs.Ends.{recording_of}
 use Rattle.run_recorded.specs.Whole.{NothingFailed}
 use Rattle.run_opening.specs.Units.{IsUnitRefused}
 use Rattle.run_opening.specs.declared.fault.RunFault.{RunFault}
-use Rattle.recorder_rule.specs.Words.{log_of}
-use Rattle.recorder_rule.specs.Words.{IsFoundLater}
+use Rattle.recorder_with_cards.specs.Words.{log_of}
+use Rattle.recorder_with_cards.specs.Words.{IsFoundLater}
 use Rattle.run_outcome.specs.declared.outcome.Outcome.{Outcome}
 use Rattle.trace_model.specs.declared.Item.{Item}
 use Rattle.trace_model.specs.Trace.{seconds_of}

@@ -4,16 +4,16 @@ use Rattle.trace_model.specs.declared.Card.{Card}
 use Rattle.safety_model.specs.Safe.{Devices}
 use Rattle.run_rule.specs.Between.{devices}
 use Rattle.slot_machine.specs.Calls.{seat_in, card_in}
-use Rattle.acts_rule.specs.Room.{Takes, bare_count}
-use Rattle.recorder_rule.specs.Judged.{JudgesAnew, EventsAnew}
-use Rattle.recorder_rule.specs.Noting.{NotesAnew}
-use Rattle.recorder_rule.proofs.Judged.{none-noting}
-use Rattle.recorder_rule.proofs.Goes.{bare-one}
+use Rattle.run_acts.specs.Room.{Takes, bare_count}
+use Rattle.recorder_with_cards.specs.Judged.{JudgesAnew, EventsAnew}
+use Rattle.recorder_with_cards.specs.Noting.{NotesAnew}
+use Rattle.recorder_with_cards.proofs.Judged.{none-noting}
+use Rattle.recorder_with_cards.proofs.Goes.{bare-one}
 use Rattle.run_rings.proofs.Same.{rings-left}
-use Rattle.recorder_rule.specs.EnteredRings.{RingsAnew}
-use Rattle.recorder_rule.specs.JudgedRings.{RingsJudgedAnew}
+use Rattle.recorder_with_cards.specs.EnteredRings.{RingsAnew}
+use Rattle.recorder_with_cards.specs.JudgedRings.{RingsJudgedAnew}
 use Rattle.run_keeping.proofs.Later.{later-same}
-use Rattle.recorder_rule.specs.JudgedCards.{CardsAnew}
+use Rattle.recorder_with_cards.specs.JudgedCards.{CardsAnew}
 use Rattle.run_keeping.proofs.Calm.{calm-same}
 use Rattle.run_outcome.specs.declared.outcome.TheConstants.{MOST_OWED}
 use Rattle.slot_machine.specs.declared.seats.Seat.{Seat}

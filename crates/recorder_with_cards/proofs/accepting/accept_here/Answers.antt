@@ -13,47 +13,47 @@ use Rattle.run_keeping.specs.Keeping.{CardReady, HasItsRow, HaveRows}
 use Rattle.run_keeping.proofs.Units.{unit-stays}
 use Rattle.run_outcome.specs.declared.outcome.Outcome.{Outcome}
 use Rattle.run_entering.specs.Entering.{ending_of, measured, breaks_by, finds_by, Way}
-use Rattle.run_state.specs.Going.{CardAt}
-use Rattle.acts_rule.proofs.Kept.{owing-sum}
-use Rattle.recorder_rule.specs.Accepting.{HasEntry, IsAccepted}
-use Rattle.recorder_rule.proofs.Comes.{Comes, comes-of}
-use Rattle.recorder_rule.proofs.Goes.{card-or-other, others-session, both-at, other-at, mine-at, both-ready, other-ready, some-gives, entry-more, rows-went, ended-went, few-finds}
+use Rattle.run_acts.specs.Going.{CardAt}
+use Rattle.run_acts.proofs.Kept.{owing-sum}
+use Rattle.recorder_with_cards.specs.Accepting.{HasEntry, IsAccepted}
+use Rattle.recorder_with_cards.proofs.Comes.{Comes, comes-of}
+use Rattle.recorder_with_cards.proofs.Goes.{card-or-other, others-session, both-at, other-at, mine-at, both-ready, other-ready, some-gives, entry-more, rows-went, ended-went, few-finds}
 use Rattle.std.specs.Prelude.{is_err}
 use Rattle.tach_media.specs.Medium.{State}
 use Rattle.log_model.specs.Log.{In}
-use Rattle.acts_rule.specs.Recording.{log_of, values_of}
+use Rattle.run_acts.specs.Recording.{log_of, values_of}
 use Rattle.run_told.specs.Told.{arranged}
-use Rattle.acts_rule.specs.Entered.{MayJudge, HasGone, AreSound}
-use Rattle.acts_rule.proofs.EnteredWhole.{entered-recorded, found-in}
-use Rattle.run_state.specs.declared.run.Run.{Run}
+use Rattle.run_acts.specs.Entered.{MayJudge, HasGone, AreSound}
+use Rattle.run_acts.proofs.EnteredWhole.{entered-recorded, found-in}
+use Rattle.run_acts.specs.declared.run.Run.{Run}
 use Rattle.run_keeping.specs.declared.keeper.Moment.{Moment}
-use Rattle.recorder_rule.proofs.Judged.{mine-time, found-by, judged-by, judged-notes, judged-noting}
-use Rattle.recorder_rule.proofs.EnteredEvented.{judged-evented}
-use Rattle.recorder_rule.proofs.NoSession.{seat-answers}
-use Rattle.recorder_rule.proofs.EnteredRings.{accept-writes}
-use Rattle.recorder_rule.proofs.EnteredRinged.{judged-ringed}
-use Rattle.acts_rule.proofs.EnteredFacts.{known, unit-told, mine-back}
+use Rattle.recorder_with_cards.proofs.Judged.{mine-time, found-by, judged-by, judged-notes, judged-noting}
+use Rattle.recorder_with_cards.proofs.EnteredEvented.{judged-evented}
+use Rattle.recorder_with_cards.proofs.NoSession.{seat-answers}
+use Rattle.recorder_with_cards.proofs.EnteredRings.{accept-writes}
+use Rattle.recorder_with_cards.proofs.EnteredRinged.{judged-ringed}
+use Rattle.run_acts.proofs.EnteredFacts.{known, unit-told, mine-back}
 use Rattle.run_rule.specs.Found.{found_of}
-use Rattle.recorder_rule.proofs.EnteredBefore.{way-tells}
+use Rattle.recorder_with_cards.proofs.EnteredBefore.{way-tells}
 use Rattle.unit_model.specs.Image.{odometer_at}
 use Rattle.run_recorded.specs.Origin.{rule_of, Origin}
-use Rattle.acts_rule.specs.Closings.{notes_within}
-use Rattle.acts_rule.specs.Truths.{past_of, IsOdometerBefore, truths_within, marked}
-use Rattle.acts_rule.proofs.WholeLegs.{accepted-now}
-use Rattle.acts_rule.proofs.LastLine.{entered-now}
-use Rattle.acts_rule.proofs.TruthsThen.{began-none}
-use Rattle.acts_rule.proofs.EnteredStays.{finds-noted, entered-stays}
-use Rattle.acts_rule.proofs.EnteredLines.{marks-behind}
-use Rattle.acts_rule.proofs.AllStay.{all-true}
-use Rattle.acts_rule.proofs.Truths.{grow-self, marked-grow}
+use Rattle.run_acts.specs.Closings.{notes_within}
+use Rattle.run_acts.specs.Truths.{past_of, IsOdometerBefore, truths_within, marked}
+use Rattle.run_acts.proofs.WholeLegs.{accepted-now}
+use Rattle.run_acts.proofs.LastLine.{entered-now}
+use Rattle.run_acts.proofs.TruthsThen.{began-none}
+use Rattle.run_acts.proofs.EnteredStays.{finds-noted, entered-stays}
+use Rattle.run_acts.proofs.EnteredLines.{marks-behind}
+use Rattle.run_acts.proofs.AllStay.{all-true}
+use Rattle.run_acts.proofs.Truths.{grow-self, marked-grow}
 use Rattle.run_entering.proofs.CardBrought.{sits-works}
-use Rattle.recorder_rule.proofs.EnteredCards.{judged-cards}
+use Rattle.recorder_with_cards.proofs.EnteredCards.{judged-cards}
 use Rattle.card_image.specs.Own.{IsOwnValid}
-use Rattle.acts_rule.proofs.EnteredNewest.{was-valid}
-use Rattle.acts_rule.proofs.OwedNow.{owed-told}
+use Rattle.run_acts.proofs.EnteredNewest.{was-valid}
+use Rattle.run_acts.proofs.OwedNow.{owed-told}
 use Rattle.run_keeping.specs.Books.{HaveTime}
 use Rattle.run_outcome.specs.declared.outcome.TheConstants.{MOST_OWED}
-use Rattle.recorder_rule.specs.Judged.{RunNext, moment_in}
+use Rattle.recorder_with_cards.specs.Judged.{RunNext, moment_in}
 use Rattle.trace_model.specs.Trace.{TraceSecond}
 use Rattle.log_model.specs.Course.{Visit}
 use Rattle.log_model.specs.Slots.{other_slot}

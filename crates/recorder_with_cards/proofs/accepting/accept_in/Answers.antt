@@ -3,10 +3,10 @@ use Rattle.std.specs.Prelude.{is_err}
 use Rattle.trace_model.specs.declared.Card.{Card}
 use Rattle.safety_model.specs.Safe.{Devices}
 use Rattle.run_rule.specs.Between.{devices}
-use Rattle.recorder_rule.specs.Judged.{JudgesSo, EventsJudged}
-use Rattle.recorder_rule.specs.JudgedRings.{RingsJudged}
+use Rattle.recorder_with_cards.specs.Judged.{JudgesSo, EventsJudged}
+use Rattle.recorder_with_cards.specs.JudgedRings.{RingsJudged}
 use Rattle.run_keeping.proofs.Later.{state-by, later-of-a, later-of-b}
-use Rattle.recorder_rule.specs.JudgedCards.{CardsJudged}
+use Rattle.recorder_with_cards.specs.JudgedCards.{CardsJudged}
 use Rattle.run_keeping.proofs.Calm.{calm-of-a, calm-of-b}
 use Rattle.recorder_with_cards.proofs.accepting.accept_in.Goals as goal
 

@@ -2,23 +2,23 @@ use Rattle.std.proofs.Common.{◌≡◌, ◌∙◌, ℕ, ◌+◌, ◌-◌, ◌<�
 use Rattle.trace_model.specs.declared.Action.{Action}
 use Rattle.safety_model.specs.Safe.{Devices}
 use Rattle.run_rule.specs.Between.{devices}
-use Rattle.run_state.specs.Going.{largest_number}
-use Rattle.acts_rule.specs.RunRinged.{InSecondRinged}
-use Rattle.recorder_rule.specs.Recorded.{action_of, actions_in, RingsActions, ActsBy, Inside}
-use Rattle.recorder_rule.proofs.ActsRecorded.{no-action, actions-then}
-use Rattle.recorder_rule.proofs.Waiting.{actions-more, few-actions, one-action}
+use Rattle.run_acts.specs.Going.{largest_number}
+use Rattle.run_acts.specs.RunRinged.{InSecondRinged}
+use Rattle.recorder_with_cards.specs.Recorded.{action_of, actions_in, RingsActions, ActsBy, Inside}
+use Rattle.recorder_with_cards.proofs.ActsRecorded.{no-action, actions-then}
+use Rattle.recorder_with_cards.proofs.Waiting.{actions-more, few-actions, one-action}
 use Rattle.std.proofs.lemmas.List.{length-take}
 use Rattle.trace_model.specs.declared.Item.{Item}
 use Rattle.run_outcome.specs.Room.{insertion_count}
-use Rattle.acts_rule.specs.Room.{cuts_within}
-use Rattle.run_state.specs.Power.{is_lit}
-use Rattle.recorder_rule.specs.Acting.{IsItemActed, AreActed}
-use Rattle.recorder_rule.specs.Items.{between, insertions_in}
-use Rattle.recorder_rule.proofs.Acted.{between-none, between-more, acted-more}
-use Rattle.recorder_rule.proofs.Rooms.{room-less}
-use Rattle.recorder_rule.proofs.Counted.{none-in, first-in}
+use Rattle.run_acts.specs.Room.{cuts_within}
+use Rattle.run_acts.specs.Power.{is_lit}
+use Rattle.recorder_with_cards.specs.Acting.{IsItemActed, AreActed}
+use Rattle.recorder_with_cards.specs.Items.{between, insertions_in}
+use Rattle.recorder_with_cards.proofs.Acted.{between-none, between-more, acted-more}
+use Rattle.recorder_with_cards.proofs.Rooms.{room-less}
+use Rattle.recorder_with_cards.proofs.Counted.{none-in, first-in}
 use Rattle.run_keeping.proofs.Later.{later-same, later-then}
-use Rattle.recorder_rule.specs.Carded.{InSecondCarded, CardsActions}
+use Rattle.recorder_with_cards.specs.Carded.{InSecondCarded, CardsActions}
 use Rattle.run_outcome.proofs.Broken.{broke-none, broke-then}
 use Rattle.run_keeping.proofs.Calm.{calm-same, calm-then}
 use Rattle.recorder_with_cards.proofs.acts.act_all.Given.{Over}

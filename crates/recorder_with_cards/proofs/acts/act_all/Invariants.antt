@@ -2,14 +2,14 @@ use Rattle.std.proofs.Common.{◌≡◌, ℕ, ◌+◌, ◌-◌, ◌≤◌, true,
 use Rattle.run_rule.specs.Between.{devices}
 use Rattle.run_keeping.specs.Books.{HaveTime}
 use Rattle.run_keeping.specs.Later.{AreLater, AreCalm}
-use Rattle.run_state.specs.Going.{largest_number}
-use Rattle.recorder_rule.specs.Recorded.{actions_in, RingsActions}
-use Rattle.recorder_rule.specs.Carded.{CardsActions}
-use Rattle.run_state.specs.Power.{is_lit}
-use Rattle.run_state.specs.Going.{IsWithin}
-use Rattle.acts_rule.specs.Room.{HasRoomWithin}
-use Rattle.recorder_rule.specs.Acting.{AreActed}
-use Rattle.recorder_rule.specs.Items.{between, insertions_in}
+use Rattle.run_acts.specs.Going.{largest_number}
+use Rattle.recorder_with_cards.specs.Recorded.{actions_in, RingsActions}
+use Rattle.recorder_with_cards.specs.Carded.{CardsActions}
+use Rattle.run_acts.specs.Power.{is_lit}
+use Rattle.run_acts.specs.Going.{IsWithin}
+use Rattle.run_acts.specs.Room.{HasRoomWithin}
+use Rattle.recorder_with_cards.specs.Acting.{AreActed}
+use Rattle.recorder_with_cards.specs.Items.{between, insertions_in}
 use Rattle.run_outcome.specs.Broken.{BreaksDown}
 use Rattle.recorder_with_cards.proofs.acts.act_all.Given as goal
 

@@ -1,17 +1,17 @@
 use Rattle.std.proofs.Common.{◌≡◌, ◌∙◌, ℕ, ◌+◌, List, true, false, ap, sym, subst, arith}
 use Rattle.run_outcome.specs.Room.{insertion_count}
-use Rattle.acts_rule.specs.Room.{HasRoomWithin}
+use Rattle.run_acts.specs.Room.{HasRoomWithin}
 use Rattle.trace_model.specs.declared.Action.{Action}
 use Rattle.trace_model.specs.declared.Item.{Item}
-use Rattle.run_state.specs.Power.{is_lit}
-use Rattle.recorder_rule.specs.Acting.{IsItemActed}
+use Rattle.run_acts.specs.Power.{is_lit}
+use Rattle.recorder_with_cards.specs.Acting.{IsItemActed}
 use Rattle.run_rule.specs.Between.{devices}
 use Rattle.safety_model.specs.Safe.{Devices}
-use Rattle.recorder_rule.specs.Recorded.{action_of, RingsActions}
-use Rattle.acts_rule.specs.RunRinged.{InSecondRinged}
-use Rattle.recorder_rule.proofs.ActsRecorded.{no-action}
-use Rattle.recorder_rule.proofs.Allowed.{count-is}
-use Rattle.recorder_rule.specs.Carded.{InSecondCarded, CardsActions}
+use Rattle.recorder_with_cards.specs.Recorded.{action_of, RingsActions}
+use Rattle.run_acts.specs.RunRinged.{InSecondRinged}
+use Rattle.recorder_with_cards.proofs.ActsRecorded.{no-action}
+use Rattle.recorder_with_cards.proofs.Allowed.{count-is}
+use Rattle.recorder_with_cards.specs.Carded.{InSecondCarded, CardsActions}
 use Rattle.run_outcome.proofs.Broken.{broke-none}
 use Rattle.run_keeping.proofs.Calm.{calm-same}
 use Rattle.recorder_with_cards.proofs.acts.act_item.Goals as goal

@@ -14,37 +14,37 @@ use Rattle.run_outcome.specs.Lines.{Listed, cut_at}
 use Rattle.run_keeping.proofs.Counts.{lines-length}
 use Rattle.run_rule.specs.Between.{devices}
 use Rattle.safety_model.specs.Safe.{Devices}
-use Rattle.run_state.specs.declared.run.Run.{Run}
-use Rattle.run_state.specs.Power.{is_lit, cut_run}
-use Rattle.acts_rule.specs.Recording.{GoesOnOrFails, log_of, IsNow, RunFails, RunWithin}
-use Rattle.run_state.specs.Going.{IsAt}
-use Rattle.acts_rule.specs.Room.{falls_of}
-use Rattle.acts_rule.proofs.Standing.{cut-at}
-use Rattle.acts_rule.proofs.Torn.{cut-falls}
-use Rattle.recorder_rule.specs.Acting.{put_count, moment_of, IsDone, IsActedBy, CallsNone}
-use Rattle.recorder_rule.proofs.ActsRecorded.{cut, left, refused}
-use Rattle.recorder_rule.proofs.Allowed.{fine-selected}
-use Rattle.recorder_rule.proofs.Rooms.{few-wait, room-cut}
+use Rattle.run_acts.specs.declared.run.Run.{Run}
+use Rattle.run_acts.specs.Power.{is_lit, cut_run}
+use Rattle.run_acts.specs.Recording.{GoesOnOrFails, log_of, IsNow, RunFails, RunWithin}
+use Rattle.run_acts.specs.Going.{IsAt}
+use Rattle.run_acts.specs.Room.{falls_of}
+use Rattle.run_acts.proofs.Standing.{cut-at}
+use Rattle.run_acts.proofs.Torn.{cut-falls}
+use Rattle.recorder_with_cards.specs.Acting.{put_count, moment_of, IsDone, IsActedBy, CallsNone}
+use Rattle.recorder_with_cards.proofs.ActsRecorded.{cut, left, refused}
+use Rattle.recorder_with_cards.proofs.Allowed.{fine-selected}
+use Rattle.recorder_with_cards.proofs.Rooms.{few-wait, room-cut}
 use Rattle.run_evented.specs.Noting.{Acting}
-use Rattle.acts_rule.specs.Evented.{EventsGoOn, WithinEvented}
-use Rattle.acts_rule.specs.RunRinged.{WithinRinged, RingsGoOn, with_cut, InSecondRinged, RingsCut}
-use Rattle.recorder_rule.proofs.ActsEvented.{evented-cuts}
-use Rattle.recorder_rule.proofs.RingsHeld.{ringed-lit, in-ringed_lit, in-ringed_cut, at-front, ringed-cut}
-use Rattle.recorder_rule.proofs.ActsRinged.{ringed-on, ringed-cuts, cut-stores, refused-ringed}
+use Rattle.run_acts.specs.Evented.{EventsGoOn, WithinEvented}
+use Rattle.run_acts.specs.RunRinged.{WithinRinged, RingsGoOn, with_cut, InSecondRinged, RingsCut}
+use Rattle.recorder_with_cards.proofs.ActsEvented.{evented-cuts}
+use Rattle.recorder_with_cards.proofs.RingsHeld.{ringed-lit, in-ringed_lit, in-ringed_cut, at-front, ringed-cut}
+use Rattle.recorder_with_cards.proofs.ActsRinged.{ringed-on, ringed-cuts, cut-stores, refused-ringed}
 use Rattle.run_keeping.specs.Keeping.{with_lines}
-use Rattle.recorder_rule.proofs.Staying.{done-watched}
+use Rattle.recorder_with_cards.proofs.Staying.{done-watched}
 use Rattle.run_keeping.proofs.Later.{later-same}
 use Rattle.run_outcome.proofs.Broken.{broke-none}
-use Rattle.acts_rule.proofs.Uncut.{uncut-broke, cut-broke}
-use Rattle.recorder_rule.proofs.Uncut.{done-uncut}
+use Rattle.run_acts.proofs.Uncut.{uncut-broke, cut-broke}
+use Rattle.recorder_with_cards.proofs.Uncut.{done-uncut}
 use Rattle.run_course.specs.Moments.{and_break}
-use Rattle.acts_rule.specs.RunCards.{CardsBehind, CardsIn, CardsGoOn}
-use Rattle.recorder_rule.proofs.HereDone.{TellsMoreOf, done-of}
-use Rattle.recorder_rule.proofs.CardsHeld.{carded-lit, in-carded_lit, in-carded_cut}
-use Rattle.recorder_rule.proofs.ActsCards.{refused-cards, cards-on, cards-now, cut-later, cut-cards}
+use Rattle.run_acts.specs.RunCards.{CardsBehind, CardsIn, CardsGoOn}
+use Rattle.recorder_with_cards.proofs.HereDone.{TellsMoreOf, done-of}
+use Rattle.recorder_with_cards.proofs.CardsHeld.{carded-lit, in-carded_lit, in-carded_cut}
+use Rattle.recorder_with_cards.proofs.ActsCards.{refused-cards, cards-on, cards-now, cut-later, cut-cards}
 use Rattle.run_keeping.proofs.Calm.{calm-more, calm-same}
 use Rattle.run_keeping.specs.Books.{HaveTime}
-use Rattle.recorder_rule.specs.Carded.{InSecondCarded, WithinCarded}
+use Rattle.recorder_with_cards.specs.Carded.{InSecondCarded, WithinCarded}
 use Rattle.run_recorded.specs.Origin.{Origin}
 use Rattle.trace_model.specs.Trace.{TraceSecond}
 use Rattle.recorder_with_cards.proofs.acts.act_lit.Given.{Over}

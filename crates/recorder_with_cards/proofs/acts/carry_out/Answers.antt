@@ -9,38 +9,38 @@ use Rattle.run_crew.specs.Cabin.{Stands}
 use Rattle.run_outcome.specs.Lines.{Listed}
 use Rattle.run_outcome.specs.declared.outcome.Outcome.{Outcome}
 use Rattle.run_keeping.specs.declared.keeper.Moment.{Moment}
-use Rattle.run_state.specs.declared.run.Run.{Run}
-use Rattle.run_state.specs.Power.{is_lit}
-use Rattle.run_state.specs.Going.{IsHeld, IsLit}
-use Rattle.acts_rule.specs.Room.{Takes}
-use Rattle.acts_rule.specs.Acting.{pulled_run, pulled_breaks}
-use Rattle.recorder_rule.specs.Acting.{put_count, StaysIn, moment_of, IsDone, CallsNone}
-use Rattle.recorder_rule.proofs.ActsRecorded.{selected, passed-by}
-use Rattle.recorder_rule.proofs.Rooms.{few-wait, put-room}
-use Rattle.acts_rule.proofs.Pulled.{pulled-recorded}
-use Rattle.acts_rule.specs.Recording.{RunGoesOn, RecordsAction}
+use Rattle.run_acts.specs.declared.run.Run.{Run}
+use Rattle.run_acts.specs.Power.{is_lit}
+use Rattle.run_acts.specs.Going.{IsHeld, IsLit}
+use Rattle.run_acts.specs.Room.{Takes}
+use Rattle.run_acts.specs.Acting.{pulled_run, pulled_breaks}
+use Rattle.recorder_with_cards.specs.Acting.{put_count, StaysIn, moment_of, IsDone, CallsNone}
+use Rattle.recorder_with_cards.proofs.ActsRecorded.{selected, passed-by}
+use Rattle.recorder_with_cards.proofs.Rooms.{few-wait, put-room}
+use Rattle.run_acts.proofs.Pulled.{pulled-recorded}
+use Rattle.run_acts.specs.Recording.{RunGoesOn, RecordsAction}
 use Rattle.run_keeping.proofs.DecidedBooked.{time-before}
 use Rattle.run_keeping.specs.Keeping.{with_lines}
 use Rattle.run_rule.specs.Between.{devices}
 use Rattle.safety_model.specs.Safe.{Devices}
 use Rattle.log_model.specs.Log.{In}
-use Rattle.recorder_rule.proofs.Allowed.{insert-elsewhere}
-use Rattle.recorder_rule.proofs.Picked.{picked-going}
-use Rattle.recorder_rule.proofs.Pulled.{pulled-stays, pulled-held, pulled-going, pulled-takes}
-use Rattle.recorder_rule.proofs.More.{inserted-more}
-use Rattle.acts_rule.specs.Evented.{EventsAction}
-use Rattle.recorder_rule.proofs.ActsEvented.{pulled-evented}
-use Rattle.acts_rule.specs.RunRinged.{RingsAction}
-use Rattle.recorder_rule.proofs.ActsRinged.{selected-ringed, hand-ringed, pulled-ringed}
+use Rattle.recorder_with_cards.proofs.Allowed.{insert-elsewhere}
+use Rattle.recorder_with_cards.proofs.Picked.{picked-going}
+use Rattle.recorder_with_cards.proofs.Pulled.{pulled-stays, pulled-held, pulled-going, pulled-takes}
+use Rattle.recorder_with_cards.proofs.More.{inserted-more}
+use Rattle.run_acts.specs.Evented.{EventsAction}
+use Rattle.recorder_with_cards.proofs.ActsEvented.{pulled-evented}
+use Rattle.run_acts.specs.RunRinged.{RingsAction}
+use Rattle.recorder_with_cards.proofs.ActsRinged.{selected-ringed, hand-ringed, pulled-ringed}
 use Rattle.run_keeping.proofs.Later.{later-same}
 use Rattle.run_rings.proofs.Same.{rings-left}
-use Rattle.recorder_rule.specs.EnteredRings.{IsPlaceNow, RingsDone}
-use Rattle.acts_rule.proofs.NotedEvents.{same-noted}
-use Rattle.recorder_rule.specs.Noting.{NotesDone}
-use Rattle.acts_rule.specs.RunCards.{CardsAction}
-use Rattle.recorder_rule.proofs.ActsCards.{selected-cards, hand-cards, pulled-cards}
+use Rattle.recorder_with_cards.specs.EnteredRings.{IsPlaceNow, RingsDone}
+use Rattle.run_acts.proofs.NotedEvents.{same-noted}
+use Rattle.recorder_with_cards.specs.Noting.{NotesDone}
+use Rattle.run_acts.specs.RunCards.{CardsAction}
+use Rattle.recorder_with_cards.proofs.ActsCards.{selected-cards, hand-cards, pulled-cards}
 use Rattle.run_keeping.proofs.Calm.{calm-told, calm-same}
-use Rattle.recorder_rule.proofs.Uncut.{pulled-calm}
+use Rattle.recorder_with_cards.proofs.Uncut.{pulled-calm}
 use Rattle.trace_model.specs.declared.Card.{Card}
 use Rattle.run_outcome.specs.declared.outcome.TheConstants.{MOST_OWED}
 use Rattle.recorder_with_cards.proofs.acts.carry_out.Given.{Over}

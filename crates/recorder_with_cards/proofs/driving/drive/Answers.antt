@@ -6,32 +6,32 @@ use Rattle.safety_model.specs.Safe.{Devices}
 use Rattle.run_rule.specs.Between.{devices}
 use Rattle.run_keeping.proofs.DecidedBooked.{time-before}
 use Rattle.run_outcome.specs.declared.outcome.Outcome.{Outcome}
-use Rattle.acts_rule.specs.Recording.{IsNow}
+use Rattle.run_acts.specs.Recording.{IsNow}
 use Rattle.std.proofs.lemmas.Grind.{common_steps}
 use Rattle.tach_media.proofs.Runs.{on_ok, ok_gives}
-use Rattle.run_state.specs.declared.run.Run.{Run}
-use Rattle.run_state.specs.Power.{is_lit, has_power, passed}
+use Rattle.run_acts.specs.declared.run.Run.{Run}
+use Rattle.run_acts.specs.Power.{is_lit, has_power, passed}
 use Rattle.run_keeping.specs.Keeping.{with_lines}
-use Rattle.acts_rule.specs.Room.{cuts_from, cuts_within}
-use Rattle.recorder_rule.specs.Acting.{AreActed}
-use Rattle.recorder_rule.specs.Items.{between, insertions_in}
-use Rattle.recorder_rule.specs.Recorded.{actions_in, Between, HasBegunBy, Inside}
-use Rattle.recorder_rule.proofs.SecondsRecorded.{refused_dark, acted-dark, passes-dark, by-power, run-then}
-use Rattle.recorder_rule.proofs.Waiting.{all-actions}
-use Rattle.recorder_rule.proofs.Rooms.{room-less}
-use Rattle.recorder_rule.proofs.Dark.{away-dark}
-use Rattle.acts_rule.specs.RunRinged.{RunRinged, InSecondRinged}
-use Rattle.recorder_rule.proofs.SecondsRinged.{dark-ringed}
+use Rattle.run_acts.specs.Room.{cuts_from, cuts_within}
+use Rattle.recorder_with_cards.specs.Acting.{AreActed}
+use Rattle.recorder_with_cards.specs.Items.{between, insertions_in}
+use Rattle.recorder_with_cards.specs.Recorded.{actions_in, Between, HasBegunBy, Inside}
+use Rattle.recorder_with_cards.proofs.SecondsRecorded.{refused_dark, acted-dark, passes-dark, by-power, run-then}
+use Rattle.recorder_with_cards.proofs.Waiting.{all-actions}
+use Rattle.recorder_with_cards.proofs.Rooms.{room-less}
+use Rattle.recorder_with_cards.proofs.Dark.{away-dark}
+use Rattle.run_acts.specs.RunRinged.{RunRinged, InSecondRinged}
+use Rattle.recorder_with_cards.proofs.SecondsRinged.{dark-ringed}
 use Rattle.run_keeping.proofs.Later.{later-then}
 use Rattle.run_outcome.proofs.Broken.{broke-then}
-use Rattle.recorder_rule.specs.Carded.{RunCarded, InSecondCarded}
-use Rattle.recorder_rule.proofs.SecondsCards.{turned-carded, dark-carded}
+use Rattle.recorder_with_cards.specs.Carded.{RunCarded, InSecondCarded}
+use Rattle.recorder_with_cards.proofs.SecondsCards.{turned-carded, dark-carded}
 use Rattle.run_keeping.proofs.Calm.{calm-then}
 use Rattle.run_keeping.specs.Books.{HaveTime}
 use Rattle.std.specs.Prelude.{Ok}
 use Rattle.run_recorded.specs.Origin.{Origin}
-use Rattle.run_state.specs.Going.{largest_number}
-use Rattle.recorder_rule.proofs.Resumed.{same-devices}
+use Rattle.run_acts.specs.Going.{largest_number}
+use Rattle.recorder_with_cards.proofs.Resumed.{same-devices}
 use Rattle.recorder_with_cards.proofs.driving.drive.Given.{Over}
 use Rattle.recorder_with_cards.proofs.driving.drive.Goals.{After-drive_on}
 use Rattle.recorder_with_cards.proofs.driving.drive.Goals as goal

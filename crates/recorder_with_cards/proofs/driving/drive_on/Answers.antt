@@ -3,14 +3,14 @@ use Rattle.std.proofs.lemmas.List.{append-nil}
 use Rattle.trace_model.specs.Trace.{TraceSecond, driven}
 use Rattle.safety_model.specs.Safe.{Devices}
 use Rattle.run_rule.specs.Between.{devices}
-use Rattle.recorder_rule.proofs.SecondsRecorded.{plain-parts}
+use Rattle.recorder_with_cards.proofs.SecondsRecorded.{plain-parts}
 use Rattle.std.proofs.lemmas.Grind.{common_steps}
-use Rattle.acts_rule.specs.Room.{cuts_from}
-use Rattle.recorder_rule.proofs.Rooms.{room-less}
-use Rattle.acts_rule.specs.Evented.{LastAt}
-use Rattle.acts_rule.specs.RunRinged.{RunRinged}
-use Rattle.recorder_rule.specs.Carded.{RunCarded}
-use Rattle.recorder_rule.proofs.SecondsEvented.{last-more}
+use Rattle.run_acts.specs.Room.{cuts_from}
+use Rattle.recorder_with_cards.proofs.Rooms.{room-less}
+use Rattle.run_acts.specs.Evented.{LastAt}
+use Rattle.run_acts.specs.RunRinged.{RunRinged}
+use Rattle.recorder_with_cards.specs.Carded.{RunCarded}
+use Rattle.recorder_with_cards.proofs.SecondsEvented.{last-more}
 use Rattle.run_keeping.proofs.Later.{later-same, later-then}
 use Rattle.run_outcome.proofs.Broken.{broke-none, broke-then}
 use Rattle.run_keeping.proofs.Calm.{calm-then, calm-same}

@@ -4,11 +4,11 @@ use Rattle.run_rule.specs.Between.{devices}
 use Rattle.run_recorded.specs.Origin.{Origin}
 use Rattle.run_keeping.specs.Books.{HaveTime}
 use Rattle.run_keeping.specs.Later.{AreLater, AreCalm}
-use Rattle.run_state.specs.Going.{IsGoing}
-use Rattle.acts_rule.specs.Room.{HasRoom}
-use Rattle.acts_rule.specs.Evented.{LastAt}
-use Rattle.acts_rule.specs.RunRinged.{RunRinged}
-use Rattle.recorder_rule.specs.Carded.{RunCarded}
+use Rattle.run_acts.specs.Going.{IsGoing}
+use Rattle.run_acts.specs.Room.{HasRoom}
+use Rattle.run_acts.specs.Evented.{LastAt}
+use Rattle.run_acts.specs.RunRinged.{RunRinged}
+use Rattle.recorder_with_cards.specs.Carded.{RunCarded}
 use Rattle.run_outcome.specs.Broken.{BreaksDown}
 use Rattle.recorder_with_cards.proofs.driving.drive_on.Given as goal
 

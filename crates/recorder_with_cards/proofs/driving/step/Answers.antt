@@ -4,26 +4,26 @@ use Rattle.safety_model.specs.Safe.{Devices}
 use Rattle.run_rule.specs.Between.{devices}
 use Rattle.run_keeping.proofs.DecidedBooked.{time-before}
 use Rattle.run_keeping.specs.Keeping.{with_lines}
-use Rattle.run_state.specs.declared.run.Run.{Run}
-use Rattle.run_state.specs.Power.{is_lit, has_power, passed}
-use Rattle.recorder_rule.proofs.Dark.{away-dark}
-use Rattle.recorder_rule.proofs.SecondsRecorded.{refused_dark, none-refused, passes-dark, by-power, first-driven}
+use Rattle.run_acts.specs.declared.run.Run.{Run}
+use Rattle.run_acts.specs.Power.{is_lit, has_power, passed}
+use Rattle.recorder_with_cards.proofs.Dark.{away-dark}
+use Rattle.recorder_with_cards.proofs.SecondsRecorded.{refused_dark, none-refused, passes-dark, by-power, first-driven}
 use Rattle.std.proofs.lemmas.Grind.{common_steps}
-use Rattle.acts_rule.specs.Room.{cuts_from, cuts_within}
-use Rattle.recorder_rule.proofs.Rooms.{room-less}
-use Rattle.acts_rule.specs.RunRinged.{RunRinged, InSecondRinged}
-use Rattle.recorder_rule.proofs.SecondsRinged.{dark-ringed}
+use Rattle.run_acts.specs.Room.{cuts_from, cuts_within}
+use Rattle.recorder_with_cards.proofs.Rooms.{room-less}
+use Rattle.run_acts.specs.RunRinged.{RunRinged, InSecondRinged}
+use Rattle.recorder_with_cards.proofs.SecondsRinged.{dark-ringed}
 use Rattle.run_keeping.proofs.Later.{later-then}
 use Rattle.run_outcome.proofs.Broken.{broke-then}
-use Rattle.recorder_rule.specs.Carded.{RunCarded, InSecondCarded}
-use Rattle.recorder_rule.proofs.SecondsCards.{turned-carded, dark-carded}
+use Rattle.recorder_with_cards.specs.Carded.{RunCarded, InSecondCarded}
+use Rattle.recorder_with_cards.proofs.SecondsCards.{turned-carded, dark-carded}
 use Rattle.run_keeping.proofs.Calm.{calm-then}
-use Rattle.recorder_rule.specs.Recorded.{Between, HasBegunBy, Inside}
+use Rattle.recorder_with_cards.specs.Recorded.{Between, HasBegunBy, Inside}
 use Rattle.run_keeping.specs.Books.{HaveTime}
-use Rattle.acts_rule.specs.Recording.{IsNow}
+use Rattle.run_acts.specs.Recording.{IsNow}
 use Rattle.std.specs.Prelude.{Ok}
 use Rattle.run_recorded.specs.Origin.{Origin}
-use Rattle.recorder_rule.proofs.Resumed.{same-devices}
+use Rattle.recorder_with_cards.proofs.Resumed.{same-devices}
 use Rattle.recorder_with_cards.proofs.driving.step.Given.{Over}
 use Rattle.recorder_with_cards.proofs.driving.step.Goals.{After-turn}
 use Rattle.recorder_with_cards.proofs.driving.step.Goals as goal

@@ -1,4 +1,4 @@
-use Rattle.recorder_rule.proofs.EnteredTold.{events-told}
+use Rattle.recorder_with_cards.proofs.EnteredTold.{events-told}
 use Rattle.recorder_with_cards.proofs.entered_events.what_is_noted_of_a_card_are_its_events.Goals as goal
 
 pub returns : goal.returns

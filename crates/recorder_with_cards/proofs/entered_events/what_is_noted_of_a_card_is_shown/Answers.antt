@@ -1,4 +1,4 @@
-use Rattle.recorder_rule.proofs.EnteredTold.{told-shown, told-moment}
+use Rattle.recorder_with_cards.proofs.EnteredTold.{told-shown, told-moment}
 use Rattle.recorder_with_cards.proofs.entered_events.what_is_noted_of_a_card_is_shown.Goals as goal
 
 pub returns : goal.returns

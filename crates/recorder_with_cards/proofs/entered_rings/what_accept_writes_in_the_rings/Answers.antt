@@ -1,4 +1,4 @@
-use Rattle.recorder_rule.proofs.EnteredRings.{accept-writes}
+use Rattle.recorder_with_cards.proofs.EnteredRings.{accept-writes}
 use Rattle.recorder_with_cards.proofs.entered_rings.what_accept_writes_in_the_rings.Goals as goal
 
 pub returns : goal.returns

@@ -1,24 +1,24 @@
 use Rattle.std.proofs.Common.{◌≡◌, ◌∙◌, ℕ, ◌+◌, ◌/◌, ◌%◌, ◌==◌, Bool, true, false, refl, ap, sym, subst, arith}
 use Rattle.run_crew.specs.Cabin.{KnowsEnded}
-use Rattle.run_state.specs.declared.run.Run.{Run}
-use Rattle.run_state.specs.declared.run.Power.{Power}
-use Rattle.run_state.specs.declared.run.Power.TheVariants.{Lit, Due, Lost}
-use Rattle.run_state.specs.Power.{is_lit, has_power, minute_over}
-use Rattle.run_state.specs.Going.{IsWithin}
-use Rattle.acts_rule.specs.Room.{HasRoomWithin}
-use Rattle.acts_rule.proofs.Standing.{lit-is, begun-at, still-dark}
-use Rattle.recorder_rule.proofs.AwakeRooms.{room-over, room-away, room-awake}
+use Rattle.run_acts.specs.declared.run.Run.{Run}
+use Rattle.run_acts.specs.declared.run.Power.{Power}
+use Rattle.run_acts.specs.declared.run.Power.TheVariants.{Lit, Due, Lost}
+use Rattle.run_acts.specs.Power.{is_lit, has_power, minute_over}
+use Rattle.run_acts.specs.Going.{IsWithin}
+use Rattle.run_acts.specs.Room.{HasRoomWithin}
+use Rattle.run_acts.proofs.Standing.{lit-is, begun-at, still-dark}
+use Rattle.recorder_with_cards.proofs.AwakeRooms.{room-over, room-away, room-awake}
 use Rattle.tach_media.specs.Medium.{State}
 use Rattle.run_rule.specs.Between.{devices}
-use Rattle.recorder_rule.proofs.GoingOn.{marks-due}
+use Rattle.recorder_with_cards.proofs.GoingOn.{marks-due}
 use Rattle.run_keeping.proofs.Later.{later-same}
 use Rattle.run_outcome.proofs.Broken.{broke-none}
-use Rattle.acts_rule.specs.RunRinged.{InSecondRingedBy, InSecondRinged}
-use Rattle.recorder_rule.proofs.BegunRinged.{lit-ringed}
+use Rattle.run_acts.specs.RunRinged.{InSecondRingedBy, InSecondRinged}
+use Rattle.recorder_with_cards.proofs.BegunRinged.{lit-ringed}
 use Rattle.safety_model.specs.Safe.{Devices}
-use Rattle.recorder_rule.proofs.RingsHeld.{ringed-lit}
-use Rattle.recorder_rule.proofs.CardsHeld.{in-carded_lit}
-use Rattle.recorder_rule.proofs.SecondsCards.{over-lit, over-vehicle, begins-cards}
+use Rattle.recorder_with_cards.proofs.RingsHeld.{ringed-lit}
+use Rattle.recorder_with_cards.proofs.CardsHeld.{in-carded_lit}
+use Rattle.recorder_with_cards.proofs.SecondsCards.{over-lit, over-vehicle, begins-cards}
 use Rattle.run_keeping.proofs.Calm.{calm-same}
 use Rattle.recorder_with_cards.proofs.resuming.begin_second.Goals as goal
 

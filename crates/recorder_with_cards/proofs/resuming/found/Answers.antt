@@ -5,11 +5,11 @@ use Rattle.tach_media.specs.Medium.{State}
 use Rattle.tach_media.proofs.Runs.{ok_gives}
 use Rattle.run_outcome.specs.Lines.{Listed, cut_at}
 use Rattle.log_model.specs.declared.lines.Break.{Break}
-use Rattle.run_state.specs.declared.run.Run.{Run}
+use Rattle.run_acts.specs.declared.run.Run.{Run}
 use Rattle.run_opening.specs.Units.{IsClockBack}
-use Rattle.run_state.specs.Going.{IsAt, IsFoundLater}
-use Rattle.acts_rule.proofs.Standing.{cut-at}
-use Rattle.recorder_rule.proofs.Taken.{up-room, up-awake, up-lost}
+use Rattle.run_acts.specs.Going.{IsAt, IsFoundLater}
+use Rattle.run_acts.proofs.Standing.{cut-at}
+use Rattle.recorder_with_cards.proofs.Taken.{up-room, up-awake, up-lost}
 use Rattle.log_model.specs.Log.{RunLog, In}
 use Rattle.run_course.proofs.Logs.{found_log}
 use Rattle.run_ringed.specs.SoFar.{RingedBehind}
@@ -18,44 +18,44 @@ use Rattle.unit_journal.specs.Image.{IsFoundBy}
 use Rattle.safety_model.specs.Safe.{Devices}
 use Rattle.run_rule.specs.Between.{devices}
 use Rattle.run_within.specs.Powering.{read_values}
-use Rattle.run_state.specs.declared.run.Power.TheVariants.{Lit}
-use Rattle.run_state.specs.Power.{is_lit, has_power}
-use Rattle.acts_rule.specs.Room.{bare_seats}
-use Rattle.acts_rule.specs.Recording.{log_of, values_of, InSecondBy, GoesOnOrCut, IsNow, RunCut, RunRecorded}
-use Rattle.acts_rule.specs.RunRinged.{seats_of, with_cut, InSecondRinged, RunRinged}
-use Rattle.acts_rule.specs.RunCards.{CardsBehind, CardsIn}
-use Rattle.recorder_rule.proofs.ActsRecorded.{cut-in, cut}
-use Rattle.recorder_rule.proofs.ActsEvented.{in-evented_cut, in-evented_lit}
-use Rattle.recorder_rule.specs.Woken.{EventsWoken, RingsWoken}
-use Rattle.recorder_rule.proofs.WokenRinged.{learned-ringed, cut-ringed, lit-woken}
-use Rattle.recorder_rule.proofs.WokenEvented.{cut-woken}
-use Rattle.recorder_rule.proofs.Start.{if-err}
-use Rattle.recorder_rule.proofs.Read.{may-of, unit-tells, image-of, at-image, kept-early, learned}
-use Rattle.recorder_rule.specs.Noting.{NotesWaking, read_outcome, read_run}
-use Rattle.recorder_rule.proofs.WakeNoted.{as-read}
+use Rattle.run_acts.specs.declared.run.Power.TheVariants.{Lit}
+use Rattle.run_acts.specs.Power.{is_lit, has_power}
+use Rattle.run_acts.specs.Room.{bare_seats}
+use Rattle.run_acts.specs.Recording.{log_of, values_of, InSecondBy, GoesOnOrCut, IsNow, RunCut, RunRecorded}
+use Rattle.run_acts.specs.RunRinged.{seats_of, with_cut, InSecondRinged, RunRinged}
+use Rattle.run_acts.specs.RunCards.{CardsBehind, CardsIn}
+use Rattle.recorder_with_cards.proofs.ActsRecorded.{cut-in, cut}
+use Rattle.recorder_with_cards.proofs.ActsEvented.{in-evented_cut, in-evented_lit}
+use Rattle.recorder_with_cards.specs.Woken.{EventsWoken, RingsWoken}
+use Rattle.recorder_with_cards.proofs.WokenRinged.{learned-ringed, cut-ringed, lit-woken}
+use Rattle.recorder_with_cards.proofs.WokenEvented.{cut-woken}
+use Rattle.recorder_with_cards.proofs.Start.{if-err}
+use Rattle.recorder_with_cards.proofs.Read.{may-of, unit-tells, image-of, at-image, kept-early, learned}
+use Rattle.recorder_with_cards.specs.Noting.{NotesWaking, read_outcome, read_run}
+use Rattle.recorder_with_cards.proofs.WakeNoted.{as-read}
 use Rattle.run_keeping.proofs.Later.{later-same}
 use Rattle.run_outcome.proofs.Broken.{broke-found, broke-then}
-use Rattle.acts_rule.proofs.Uncut.{uncut-broke, cut-broke}
+use Rattle.run_acts.proofs.Uncut.{uncut-broke, cut-broke}
 use Rattle.run_ringed.specs.Ringed.{notes_in}
-use Rattle.acts_rule.specs.Truths.{truths_of, marked}
-use Rattle.acts_rule.proofs.AllStay.{all-of}
+use Rattle.run_acts.specs.Truths.{truths_of, marked}
+use Rattle.run_acts.proofs.AllStay.{all-of}
 use Rattle.run_course.specs.Moments.{and_break}
 use Rattle.run_outcome.specs.declared.outcome.Outcome.{Outcome}
-use Rattle.recorder_rule.specs.CardsWoken.{CardsWoken}
-use Rattle.recorder_rule.proofs.RingsHeld.{ringed-cut, ringed-lit}
-use Rattle.recorder_rule.proofs.CardsHeld.{in-carded_cut, in-carded_lit}
-use Rattle.recorder_rule.proofs.ActsCards.{cards-on}
-use Rattle.recorder_rule.proofs.WakesCards.{learned-cards}
+use Rattle.recorder_with_cards.specs.CardsWoken.{CardsWoken}
+use Rattle.recorder_with_cards.proofs.RingsHeld.{ringed-cut, ringed-lit}
+use Rattle.recorder_with_cards.proofs.CardsHeld.{in-carded_cut, in-carded_lit}
+use Rattle.recorder_with_cards.proofs.ActsCards.{cards-on}
+use Rattle.recorder_with_cards.proofs.WakesCards.{learned-cards}
 use Rattle.run_keeping.specs.Later.{failed_tears, AreCalm}
 use Rattle.run_keeping.proofs.Calm.{calm-more, calm-none, calm-then, found-tears}
-use Rattle.acts_rule.specs.Stays.{AllStay}
+use Rattle.run_acts.specs.Stays.{AllStay}
 use Rattle.run_outcome.specs.Broken.{BreaksDown}
-use Rattle.acts_rule.specs.Evented.{CutEvented, RunEvented}
+use Rattle.run_acts.specs.Evented.{CutEvented, RunEvented}
 use Rattle.run_keeping.specs.Books.{HaveTime}
 use Rattle.run_outcome.specs.declared.outcome.TheConstants.{MOST_OWED}
 use Rattle.unit_course.specs.Followed.{MayPower}
 use Rattle.run_recorded.specs.Origin.{Origin}
-use Rattle.recorder_rule.specs.Carded.{RunCarded}
+use Rattle.recorder_with_cards.specs.Carded.{RunCarded}
 use Rattle.trace_model.specs.Trace.{TraceSecond}
 use Rattle.run_evented.specs.Evented.{limit_in}
 use Rattle.run_keeping.specs.Keeping.{with_lines}

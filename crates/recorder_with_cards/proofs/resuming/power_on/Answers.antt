@@ -11,52 +11,52 @@ use Rattle.run_course.specs.Moments.{and_break}
 use Rattle.run_within.specs.Powering.{IsNotRead}
 use Rattle.run_within.proofs.Calls.{not-read}
 use Rattle.run_within.proofs.Reading.{reading-fails}
-use Rattle.run_state.specs.Power.{is_lit, cut_run, has_power}
-use Rattle.acts_rule.specs.Recording.{log_of, values_of, RunCut, IsNow, RunRecorded}
+use Rattle.run_acts.specs.Power.{is_lit, cut_run, has_power}
+use Rattle.run_acts.specs.Recording.{log_of, values_of, RunCut, IsNow, RunRecorded}
 use Rattle.run_within.specs.Recorded.{progress, Recorded}
 use Rattle.run_evented.proofs.Dark.{power-on_broken}
 use Rattle.run_evented.proofs.Seconds.{events-stay}
-use Rattle.recorder_rule.proofs.ActsEvented.{in-evented_cut}
-use Rattle.recorder_rule.proofs.WokenEvented.{cut-woken}
+use Rattle.recorder_with_cards.proofs.ActsEvented.{in-evented_cut}
+use Rattle.recorder_with_cards.proofs.WokenEvented.{cut-woken}
 use Rattle.log_model.specs.Course.{went}
 use Rattle.unit_model.specs.Image.{odometer_at}
 use Rattle.run_ringed.specs.SoFar.{RingedBehind}
 use Rattle.run_ringed.specs.Stored.{Stores, StoresOff}
 use Rattle.run_ringed.proofs.Bases.{stays-stored}
-use Rattle.recorder_rule.proofs.StoredCalls.{read-stays}
-use Rattle.recorder_rule.proofs.WokenStored.{unread-stored}
+use Rattle.recorder_with_cards.proofs.StoredCalls.{read-stays}
+use Rattle.recorder_with_cards.proofs.WokenStored.{unread-stored}
 use Rattle.run_ringed.specs.Steps.{spans_cut}
 use Rattle.run_ringed.proofs.Waking.{behind-stays}
-use Rattle.acts_rule.specs.RunRinged.{seats_of, with_cut, InSecondRinged, RunRinged}
-use Rattle.acts_rule.specs.RunCards.{CardsBehind}
-use Rattle.recorder_rule.proofs.WokenRinged.{places-beside, read-leaves, comes-of, unpowered-ringed, cut-ringed}
-use Rattle.recorder_rule.proofs.CutOff.{cut-as}
-use Rattle.recorder_rule.proofs.Read.{may-of, rule-known, read-on, left-on, unit-tells, unit-decodes, not-bad, image-of, at-image}
-use Rattle.run_state.specs.declared.run.Run.{Run}
-use Rattle.run_state.specs.Going.{IsAt}
-use Rattle.acts_rule.proofs.Standing.{cut-at}
+use Rattle.run_acts.specs.RunRinged.{seats_of, with_cut, InSecondRinged, RunRinged}
+use Rattle.run_acts.specs.RunCards.{CardsBehind}
+use Rattle.recorder_with_cards.proofs.WokenRinged.{places-beside, read-leaves, comes-of, unpowered-ringed, cut-ringed}
+use Rattle.recorder_with_cards.proofs.CutOff.{cut-as}
+use Rattle.recorder_with_cards.proofs.Read.{may-of, rule-known, read-on, left-on, unit-tells, unit-decodes, not-bad, image-of, at-image}
+use Rattle.run_acts.specs.declared.run.Run.{Run}
+use Rattle.run_acts.specs.Going.{IsAt}
+use Rattle.run_acts.proofs.Standing.{cut-at}
 use Rattle.tach_media.proofs.Runs.{on_ok, ok_gives}
-use Rattle.recorder_rule.proofs.WakeNoted.{read-says, read-noted, read-then}
+use Rattle.recorder_with_cards.proofs.WakeNoted.{read-says, read-noted, read-then}
 use Rattle.run_keeping.proofs.Later.{state-revived, later-then, later-of-unit}
 use Rattle.run_ringed.specs.Ringed.{notes_in}
-use Rattle.acts_rule.proofs.Comings.{leaves-more}
-use Rattle.acts_rule.specs.Truths.{truths_of, marked}
-use Rattle.acts_rule.proofs.AllStay.{all-unit}
+use Rattle.run_acts.proofs.Comings.{leaves-more}
+use Rattle.run_acts.specs.Truths.{truths_of, marked}
+use Rattle.run_acts.proofs.AllStay.{all-unit}
 use Rattle.run_outcome.proofs.Broken.{broke-none, broke-once, broke-then}
-use Rattle.recorder_rule.proofs.RingsHeld.{ringed-cut}
-use Rattle.recorder_rule.proofs.CardsHeld.{in-carded_cut}
-use Rattle.recorder_rule.proofs.WakesCards.{unit-alone, unpowered-cards}
+use Rattle.recorder_with_cards.proofs.RingsHeld.{ringed-cut}
+use Rattle.recorder_with_cards.proofs.CardsHeld.{in-carded_cut}
+use Rattle.recorder_with_cards.proofs.WakesCards.{unit-alone, unpowered-cards}
 use Rattle.run_keeping.proofs.Calm.{calm-of-unit, calm-then, calm-more}
 use Rattle.run_keeping.specs.Later.{AreCalm, AreLater}
 use Rattle.run_course.specs.Followed.{Comes}
-use Rattle.acts_rule.specs.Evented.{CutEvented, RunEvented}
+use Rattle.run_acts.specs.Evented.{CutEvented, RunEvented}
 use Rattle.run_recorded.specs.Beside.{HaveLeftMore}
-use Rattle.run_state.specs.declared.run.Power.TheVariants.{Lit}
+use Rattle.run_acts.specs.declared.run.Power.TheVariants.{Lit}
 use Rattle.unit_course.specs.Followed.{MayPower}
 use Rattle.run_recorded.specs.Origin.{Origin}
 use Rattle.side_model.specs.Odometer.{SpanFrom}
 use Rattle.trace_model.specs.Trace.{TraceSecond}
-use Rattle.recorder_rule.proofs.ActsRecorded.{cut-in}
+use Rattle.recorder_with_cards.proofs.ActsRecorded.{cut-in}
 use Rattle.run_keeping.specs.Keeping.{with_lines}
 use Rattle.recorder_with_cards.proofs.resuming.power_on.Given.{Over}
 use Rattle.recorder_with_cards.proofs.resuming.power_on.Goals.{After-cut, After-open_unit}

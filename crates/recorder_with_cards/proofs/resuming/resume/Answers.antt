@@ -9,26 +9,26 @@ use Rattle.run_crew.specs.declared.cabin.Cabin.{Cabin}
 use Rattle.run_crew.specs.Cards.{session_of}
 use Rattle.run_keeping.specs.declared.keeper.Keeper.{Keeper}
 use Rattle.run_keeping.specs.Keeping.{UnitReady}
-use Rattle.run_state.specs.declared.run.Run.{Run}
-use Rattle.run_state.specs.Going.{IsHeld, IsLit}
-use Rattle.acts_rule.specs.Room.{falls_of, bare_count, waiting, Takes, bare_seats}
-use Rattle.acts_rule.proofs.Standing.{span-lit, span-held}
-use Rattle.recorder_rule.specs.Accepting.{IsBare}
-use Rattle.recorder_rule.proofs.Begun.{begun-none, dark-bare}
+use Rattle.run_acts.specs.declared.run.Run.{Run}
+use Rattle.run_acts.specs.Going.{IsHeld, IsLit}
+use Rattle.run_acts.specs.Room.{falls_of, bare_count, waiting, Takes, bare_seats}
+use Rattle.run_acts.proofs.Standing.{span-lit, span-held}
+use Rattle.recorder_with_cards.specs.Accepting.{IsBare}
+use Rattle.recorder_with_cards.proofs.Begun.{begun-none, dark-bare}
 use Rattle.run_outcome.specs.declared.outcome.Outcome.{Outcome}
-use Rattle.recorder_rule.proofs.Taken.{takes-then, takes-breaks, awake-takes, takes-nothing, anew-more}
+use Rattle.recorder_with_cards.proofs.Taken.{takes-then, takes-breaks, awake-takes, takes-nothing, anew-more}
 use Rattle.slot_machine.specs.Calls.{card_in}
 use Rattle.log_model.specs.Log.{In, RunLog}
 use Rattle.slot_machine.specs.declared.seats.Seat.{Seat}
 use Rattle.run_rule.specs.Between.{devices}
 use Rattle.run_keeping.proofs.DecidedBooked.{time-before}
 use Rattle.run_within.specs.Recorded.{Values, progress, Recorded}
-use Rattle.run_state.specs.declared.run.Power.{Power}
-use Rattle.acts_rule.specs.Recording.{GoesOnOrCut, GoesOnOrFails, log_of, IsOrigin, values_of, ComesPower, RunWithin, RunFails}
-use Rattle.acts_rule.proofs.NoteRecorded.{goes-plain}
-use Rattle.recorder_rule.specs.Judged.{moment_in}
-use Rattle.recorder_rule.proofs.Resumed.{RunWaking, waiting_in, at-once, wholes-of, kept-of, same-devices, awake, awake-is, awake-stands, unmended, unmended-read, unmended-stands, within-of, driver-judged, codriver-judged, codriver-on, comes-waking, IsReadAgain}
-use Rattle.recorder_rule.specs.Woken.{EventsWoken, RingsWoken}
+use Rattle.run_acts.specs.declared.run.Power.{Power}
+use Rattle.run_acts.specs.Recording.{GoesOnOrCut, GoesOnOrFails, log_of, IsOrigin, values_of, ComesPower, RunWithin, RunFails}
+use Rattle.run_acts.proofs.NoteRecorded.{goes-plain}
+use Rattle.recorder_with_cards.specs.Judged.{moment_in}
+use Rattle.recorder_with_cards.proofs.Resumed.{RunWaking, waiting_in, at-once, wholes-of, kept-of, same-devices, awake, awake-is, awake-stands, unmended, unmended-read, unmended-stands, within-of, driver-judged, codriver-judged, codriver-on, comes-waking, IsReadAgain}
+use Rattle.recorder_with_cards.specs.Woken.{EventsWoken, RingsWoken}
 use Rattle.log_model.specs.Course.{Told, went, second_told, Visit}
 use Rattle.run_within.specs.Waking.{both_slots}
 use Rattle.run_ringed.specs.SoFar.{RingedBehind}
@@ -40,12 +40,12 @@ use Rattle.unit_model.specs.Image.{odometer_at}
 use Rattle.unit_rule.specs.Odometer.{odometer_after}
 use Rattle.run_ringed.specs.Steps.{nobody, spans_cut}
 use Rattle.run_ringed.proofs.Waking.{behind-stays}
-use Rattle.acts_rule.specs.Ringing.{seating_of}
-use Rattle.acts_rule.specs.RunRinged.{RingsWithin, RingsGoOn, with_cut}
-use Rattle.recorder_rule.proofs.WokenRinged.{WakesRinged, in-both, places-beside, mend-leaves, unpowered-ringed, wakes-ringed, driver-ringed, codriver-ringed, woken-rings, spans-before, goes-odometer}
-use Rattle.recorder_rule.proofs.WokenStored.{unmended-stored}
-use Rattle.recorder_rule.proofs.StoredCalls.{mend-stays}
-use Rattle.recorder_rule.proofs.WokenEvented.{WakesEvented, unmended-evented, wakes-evented, driver-evented, codriver-evented, anew-limit, woken-fails, woken-on, woken-ends, none-woken, gap-woken, here-empty, begun-watched, gap-memory, none-told, some-told}
+use Rattle.run_acts.specs.Ringing.{seating_of}
+use Rattle.run_acts.specs.RunRinged.{RingsWithin, RingsGoOn, with_cut}
+use Rattle.recorder_with_cards.proofs.WokenRinged.{WakesRinged, in-both, places-beside, mend-leaves, unpowered-ringed, wakes-ringed, driver-ringed, codriver-ringed, woken-rings, spans-before, goes-odometer}
+use Rattle.recorder_with_cards.proofs.WokenStored.{unmended-stored}
+use Rattle.recorder_with_cards.proofs.StoredCalls.{mend-stays}
+use Rattle.recorder_with_cards.proofs.WokenEvented.{WakesEvented, unmended-evented, wakes-evented, driver-evented, codriver-evented, anew-limit, woken-fails, woken-on, woken-ends, none-woken, gap-woken, here-empty, begun-watched, gap-memory, none-told, some-told}
 use Rattle.unit_course.specs.Lines.{cut_at}
 use Rattle.unit_course.specs.Followed.{Lost, Supply, MayPower}
 use Rattle.run_course.specs.Moments.{and_break}
@@ -56,25 +56,25 @@ use Rattle.run_within.specs.Within.{Beginning}
 use Rattle.minute_model.specs.Span.{ungiven_of}
 use Rattle.run_evented.specs.Evented.{limit_in, Evented, NotesNothing}
 use Rattle.run_evented.specs.Noting.{Waking}
-use Rattle.acts_rule.specs.Evented.{EventsGoOn}
+use Rattle.run_acts.specs.Evented.{EventsGoOn}
 use Rattle.event_model.specs.Spans.{gap_of}
-use Rattle.acts_rule.specs.NotedEvents.{NotesEvents}
-use Rattle.acts_rule.proofs.NotedEvents.{same-noted, then-noted}
-use Rattle.acts_rule.specs.Acting.{now_moment}
-use Rattle.recorder_rule.specs.Noting.{Unmended, AtDriver, AtCoDriver, NoneBefore, AtGap, JudgesDriver, JudgesBoth}
-use Rattle.recorder_rule.proofs.WakeNoted.{says, mended-noted, driver-these, both-these, is-none, is-some}
+use Rattle.run_acts.specs.NotedEvents.{NotesEvents}
+use Rattle.run_acts.proofs.NotedEvents.{same-noted, then-noted}
+use Rattle.run_acts.specs.Acting.{now_moment}
+use Rattle.recorder_with_cards.specs.Noting.{Unmended, AtDriver, AtCoDriver, NoneBefore, AtGap, JudgesDriver, JudgesBoth}
+use Rattle.recorder_with_cards.proofs.WakeNoted.{says, mended-noted, driver-these, both-these, is-none, is-some}
 use Rattle.run_keeping.proofs.Later.{state-by, later-then, later-of-unit}
-use Rattle.acts_rule.proofs.Uncut.{gap-uncut}
-use Rattle.recorder_rule.proofs.Uncut.{anew-uncut}
+use Rattle.run_acts.proofs.Uncut.{gap-uncut}
+use Rattle.recorder_with_cards.proofs.Uncut.{anew-uncut}
 use Rattle.event_model.specs.declared.entries.Span.{Span}
 use Rattle.run_evented.specs.SoFar.{AreBare, EventedNow, ComesInTurn}
 use Rattle.run_ringed.proofs.SoFar.{left-itself}
-use Rattle.acts_rule.specs.Noting.{NoGap, AreGapEvents}
-use Rattle.acts_rule.specs.RunCards.{vehicle_in, CardsBehind, CardsWaking}
-use Rattle.recorder_rule.specs.CardsWoken.{CardsWoken}
-use Rattle.recorder_rule.proofs.GapEvented.{gap_events as gap_list}
-use Rattle.recorder_rule.proofs.GapShown.{some-list, none-list, gap-shown, none-noted, none-fails, woken-all}
-use Rattle.recorder_rule.proofs.WakesCards.{WakesOn, unit-alone, unpowered-cards, wakes-cards, driver-woken, codriver-woken}
+use Rattle.run_acts.specs.Noting.{NoGap, AreGapEvents}
+use Rattle.run_acts.specs.RunCards.{vehicle_in, CardsBehind, CardsWaking}
+use Rattle.recorder_with_cards.specs.CardsWoken.{CardsWoken}
+use Rattle.recorder_with_cards.proofs.GapEvented.{gap_events as gap_list}
+use Rattle.recorder_with_cards.proofs.GapShown.{some-list, none-list, gap-shown, none-noted, none-fails, woken-all}
+use Rattle.recorder_with_cards.proofs.WakesCards.{WakesOn, unit-alone, unpowered-cards, wakes-cards, driver-woken, codriver-woken}
 use Rattle.run_keeping.proofs.Calm.{calm-of-unit, calm-then}
 use Rattle.trace_model.specs.declared.Card.{Card}
 use Rattle.trace_model.specs.Trace.{TraceSecond}
@@ -86,12 +86,12 @@ use Rattle.run_outcome.specs.declared.outcome.TheConstants.{MOST_OWED}
 use Rattle.run_recorded.specs.Origin.{Origin, rule_of, start_at, first_of}
 use Rattle.run_recorded.specs.Beside.{HaveLeftMore}
 use Rattle.run_within.specs.Powering.{read_values}
-use Rattle.acts_rule.specs.Stays.{AllStay}
-use Rattle.acts_rule.specs.Truths.{truths_of, marked}
+use Rattle.run_acts.specs.Stays.{AllStay}
+use Rattle.run_acts.specs.Truths.{truths_of, marked}
 use Rattle.run_ringed.specs.Ringed.{Seating, notes_in}
-use Rattle.run_state.specs.declared.run.Power.TheVariants.{Lit}
+use Rattle.run_acts.specs.declared.run.Power.TheVariants.{Lit}
 use Rattle.unit_notes.specs.declared.unit_event.UnitEvent.{UnitEvent}
-use Rattle.recorder_rule.specs.Waking.{TakesUp}
+use Rattle.recorder_with_cards.specs.Waking.{TakesUp}
 use Rattle.recorder_with_cards.proofs.resuming.resume.Given.{Over}
 use Rattle.recorder_with_cards.proofs.resuming.resume.Goals.{After-moment-at, After-accept_anew, After-accept_anew-2, After-note_gap, After-from_residual, After-from_residual-in_err-accept_anew, After-from_residual-in_err-accept_anew-2, Then-is_first}
 use Rattle.recorder_with_cards.proofs.resuming.resume.Goals as goal

@@ -6,11 +6,11 @@ use Rattle.minute_model.specs.Span.{ungiven_of}
 use Rattle.safety_model.specs.Safe.{Devices}
 use Rattle.run_rule.specs.Between.{devices}
 use Rattle.run_outcome.specs.declared.outcome.Outcome.{Outcome}
-use Rattle.acts_rule.specs.RunRinged.{RunRinged}
-use Rattle.recorder_rule.specs.Recorded.{actions_in, HasRunBy}
-use Rattle.recorder_rule.proofs.SecondsRinged.{off-ringed}
-use Rattle.recorder_rule.specs.Carded.{RunCarded}
-use Rattle.recorder_rule.proofs.SecondsCards.{off-carded}
+use Rattle.run_acts.specs.RunRinged.{RunRinged}
+use Rattle.recorder_with_cards.specs.Recorded.{actions_in, HasRunBy}
+use Rattle.recorder_with_cards.proofs.SecondsRinged.{off-ringed}
+use Rattle.recorder_with_cards.specs.Carded.{RunCarded}
+use Rattle.recorder_with_cards.proofs.SecondsCards.{off-carded}
 use Rattle.tach_media.proofs.Runs.{on_ok, ok_gives}
 use Rattle.trace_model.specs.declared.Item.{Item}
 use Rattle.trace_text.specs.Line.{InRange}
@@ -18,18 +18,18 @@ use Rattle.log_model.specs.declared.lines.Break.{Break}
 use Rattle.run_outcome.specs.Lines.{Listed}
 use Rattle.run_outcome.specs.Room.{off_count}
 use Rattle.run_keeping.proofs.Counts.{lines-length}
-use Rattle.run_state.specs.declared.run.Run.{Run}
-use Rattle.run_state.specs.Power.{is_lit, off_cut}
-use Rattle.run_state.specs.Going.{IsGoing}
-use Rattle.acts_rule.specs.Room.{cuts_from, HasRoom}
-use Rattle.acts_rule.proofs.Standing.{off-at}
-use Rattle.recorder_rule.specs.Items.{between, insertions_in}
-use Rattle.recorder_rule.proofs.Rooms.{room-less}
-use Rattle.recorder_rule.specs.Gone.{has_seconds, HasGone}
-use Rattle.recorder_rule.proofs.Dark.{cut-room, off-room, unfound-same}
+use Rattle.run_acts.specs.declared.run.Run.{Run}
+use Rattle.run_acts.specs.Power.{is_lit, off_cut}
+use Rattle.run_acts.specs.Going.{IsGoing}
+use Rattle.run_acts.specs.Room.{cuts_from, HasRoom}
+use Rattle.run_acts.proofs.Standing.{off-at}
+use Rattle.recorder_with_cards.specs.Items.{between, insertions_in}
+use Rattle.recorder_with_cards.proofs.Rooms.{room-less}
+use Rattle.recorder_with_cards.specs.Gone.{has_seconds, HasGone}
+use Rattle.recorder_with_cards.proofs.Dark.{cut-room, off-room, unfound-same}
 use Rattle.run_keeping.proofs.Later.{later-same}
 use Rattle.run_outcome.proofs.Broken.{broke-none, broke-behind}
-use Rattle.recorder_rule.proofs.Uncut.{off-uncut, off-calm}
+use Rattle.recorder_with_cards.proofs.Uncut.{off-uncut, off-calm}
 use Rattle.run_keeping.proofs.Calm.{calm-told, calm-same}
 use Rattle.recorder_with_cards.proofs.run.go_on.Goals as goal
 

@@ -3,12 +3,12 @@ use Rattle.trace_model.specs.Trace.{total_seconds, seconds_of}
 use Rattle.run_rule.specs.Between.{IsFound, devices}
 use Rattle.run_keeping.specs.Books.{HaveTime}
 use Rattle.run_opening.specs.Begun.{found_in}
-use Rattle.run_state.specs.Going.{largest_number, IsGoing}
-use Rattle.recorder_rule.specs.Carded.{RunCarded}
-use Rattle.recorder_rule.specs.Ends.{BeginAs, MayRecord, opened_with, origin_of}
-use Rattle.recorder_rule.proofs.Waiting.{Waits}
+use Rattle.run_acts.specs.Going.{largest_number, IsGoing}
+use Rattle.recorder_with_cards.specs.Carded.{RunCarded}
+use Rattle.recorder_with_cards.specs.Ends.{BeginAs, MayRecord, opened_with, origin_of}
+use Rattle.recorder_with_cards.proofs.Waiting.{Waits}
 use Rattle.run_outcome.specs.Room.{offs, insertions}
-use Rattle.acts_rule.specs.Room.{HasRoom}
+use Rattle.run_acts.specs.Room.{HasRoom}
 use Rattle.run_keeping.specs.Later.{AreLater, AreCalm}
 use Rattle.run_outcome.specs.Broken.{BreaksDown}
 use Rattle.recorder_with_cards.proofs.run.run_trace.Given as goal

@@ -1,4 +1,4 @@
-use Rattle.acts_rule.proofs.EnteredWhole.{entered-recorded}
+use Rattle.run_acts.proofs.EnteredWhole.{entered-recorded}
 use Rattle.run_acts.proofs.entered.a_card_that_entered_is_recorded.Goals as goal
 
 pub returns : goal.returns

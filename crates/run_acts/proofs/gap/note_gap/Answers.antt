@@ -9,9 +9,9 @@ use Rattle.run_keeping.proofs.Seats.{sessions-none}
 use Rattle.activity_codec.specs.declared.values.Slot.TheVariants.{Driver, CoDriver}
 use Rattle.slot_machine.specs.Calls.{seat_in, card_in}
 use Rattle.run_keeping.specs.declared.keeper.Moment.{Moment}
-use Rattle.run_state.specs.declared.run.Run.{Run}
-use Rattle.acts_rule.specs.Acting.{IsNotedIn, now_moment}
-use Rattle.acts_rule.specs.Noting.{NoGap, UnitFailed, DriverFell, BothSlots, IsGapNoted, AreGapEvents, gap_event, fall_events}
+use Rattle.run_acts.specs.declared.run.Run.{Run}
+use Rattle.run_acts.specs.Acting.{IsNotedIn, now_moment}
+use Rattle.run_acts.specs.Noting.{NoGap, UnitFailed, DriverFell, BothSlots, IsGapNoted, AreGapEvents, gap_event, fall_events}
 use Rattle.std.specs.Prelude.{List, [], ◌∷◌, ◌++◌, IfSome, not}
 use Rattle.tach_media.specs.Medium.{State, IsCoherent, LeavesOnly}
 use Rattle.event_model.specs.declared.kinds.TheConstants.{POWER_INTERRUPTION}
@@ -20,23 +20,23 @@ use Rattle.unit_notes.specs.Entries.{fault_bytes}
 use Rattle.unit_notes.specs.Noting.{IsEventNoted, IsNotingEvent}
 use Rattle.run_crew.specs.declared.cards.Crew.{Crew}
 use Rattle.run_notes.specs.Entries.{entry_of}
-use Rattle.acts_rule.specs.NotedEvents.{NotesEvents}
-use Rattle.acts_rule.proofs.NotedEvents.{one-noted, same-noted, then-noted}
+use Rattle.run_acts.specs.NotedEvents.{NotesEvents}
+use Rattle.run_acts.proofs.NotedEvents.{one-noted, same-noted, then-noted}
 use Rattle.log_model.specs.Log.{In}
 use Rattle.run_rule.specs.Between.{devices}
 use Rattle.run_within.specs.Within.{Beginning}
-use Rattle.acts_rule.specs.Recording.{GoesOnOrFails}
-use Rattle.acts_rule.proofs.Comings.{leaves-more}
-use Rattle.acts_rule.proofs.NoteRecorded.{unit-recorded, power-noted, unit-leaves, left-then}
+use Rattle.run_acts.specs.Recording.{GoesOnOrFails}
+use Rattle.run_acts.proofs.Comings.{leaves-more}
+use Rattle.run_acts.proofs.NoteRecorded.{unit-recorded, power-noted, unit-leaves, left-then}
 use Rattle.safety_model.specs.Safe.{breakdowns_of}
-use Rattle.acts_rule.specs.Recording.{log_of}
-use Rattle.acts_rule.specs.ActsEvented.{IsFailing}
-use Rattle.acts_rule.proofs.Kept.{moved-going}
+use Rattle.run_acts.specs.Recording.{log_of}
+use Rattle.run_acts.specs.ActsEvented.{IsFailing}
+use Rattle.run_acts.proofs.Kept.{moved-going}
 use Rattle.run_entering.proofs.Noted.{noted-ready, noted-row}
 use Rattle.run_rings.specs.Same.{LeavesRings}
 use Rattle.run_rings.proofs.Same.{rings-left, rings-moments, rings-then, table-outside}
 use Rattle.run_keeping.proofs.Later.{state-by, later-same, later-then, later-of-unit}
-use Rattle.acts_rule.proofs.RingedGap.{note-ringed}
+use Rattle.run_acts.proofs.RingedGap.{note-ringed}
 use Rattle.card_records.specs.declared.card_event.CardEvent.{CardEvent}
 use Rattle.minute_model.specs.Span.{ungiven_of}
 use Rattle.run_crew.specs.Cards.{session_of}
@@ -48,11 +48,11 @@ use Rattle.activity_codec.specs.declared.values.Slot.{Slot}
 use Rattle.log_model.specs.declared.lines.Break.{Break}
 use Rattle.run_outcome.specs.Lines.{Listed}
 use Rattle.unit_memory.specs.declared.memory.UnitFacts.{UnitFacts}
-use Rattle.acts_rule.specs.CardNotes.{NotesOn, NotesOnCards, LeavesPlaces, on_seat, gap_on}
-use Rattle.acts_rule.proofs.CardNotes.{both-cards, on-none, on-unbegun, session-noted, both-noted, first-noted}
-use Rattle.acts_rule.proofs.CardPlaces.{places-self, leaves-then}
+use Rattle.run_acts.specs.CardNotes.{NotesOn, NotesOnCards, LeavesPlaces, on_seat, gap_on}
+use Rattle.run_acts.proofs.CardNotes.{both-cards, on-none, on-unbegun, session-noted, both-noted, first-noted}
+use Rattle.run_acts.proofs.CardPlaces.{places-self, leaves-then}
 use Rattle.run_keeping.proofs.Calm.{calm-of-unit, calm-same, calm-then}
-use Rattle.acts_rule.proofs.OneCard.{none-there}
+use Rattle.run_acts.proofs.OneCard.{none-there}
 use Rattle.run_acts.proofs.gap.note_gap.Goals as goal
 
 pub note_in-requires-clause-going : goal.note_in-requires-clause-going

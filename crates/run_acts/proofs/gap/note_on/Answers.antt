@@ -15,14 +15,14 @@ use Rattle.run_keeping.proofs.Sessions.{number-set, row-set, torn-stands}
 use Rattle.run_keeping.proofs.Units.{has-row}
 use Rattle.run_keeping.proofs.CardBooked.{no-session, none-there}
 use Rattle.run_keeping.proofs.Fates.{no-lines}
-use Rattle.acts_rule.proofs.Apart.{not-both, session-back, torn-apart, noted-sizes, ready-again, session-works, fell-broken, well-broken}
+use Rattle.run_acts.proofs.Apart.{not-both, session-back, torn-apart, noted-sizes, ready-again, session-works, fell-broken, well-broken}
 use Rattle.event_model.specs.declared.kinds.TheConstants.{CARD_FAULT}
 use Rattle.unit_memory.specs.declared.format.Identity.{Identity}
 use Rattle.unit_notes.specs.Noting.{IsEventNoted, IsNotingEvent}
 use Rattle.run_notes.specs.Entries.{entry_of}
 use Rattle.run_rule.specs.Between.{devices}
 use Rattle.run_keeping.specs.Keeping.{fault_of}
-use Rattle.acts_rule.proofs.NotedEvents.{one-noted, same-noted, noted-any}
+use Rattle.run_acts.proofs.NotedEvents.{one-noted, same-noted, noted-any}
 use Rattle.run_rings.proofs.Same.{rings-left, rings-moments, table-outside}
 use Rattle.card_records.specs.declared.card_event.CardEvent.{CardEvent}
 use Rattle.card_records.specs.Noting as on
@@ -30,11 +30,11 @@ use Rattle.run_crew.specs.declared.cards.Accepted.{Accepted}
 use Rattle.run_keeping.proofs.CardBooked.{session-set}
 use Rattle.run_notes.specs.Entries.{card_entry}
 use Rattle.run_entering.specs.CardEvents.{NotesOnCard}
-use Rattle.acts_rule.specs.CardNotes.{NotesOn}
-use Rattle.acts_rule.proofs.CardNotes.{plain-gap, entry-is, noted-well, noted-cut, on-session}
-use Rattle.acts_rule.proofs.CardPlaces.{event-leaves}
-use Rattle.acts_rule.specs.Acting.{IsNotedOn, now_moment}
-use Rattle.run_state.specs.Power.{with_cabin}
+use Rattle.run_acts.specs.CardNotes.{NotesOn}
+use Rattle.run_acts.proofs.CardNotes.{plain-gap, entry-is, noted-well, noted-cut, on-session}
+use Rattle.run_acts.proofs.CardPlaces.{event-leaves}
+use Rattle.run_acts.specs.Acting.{IsNotedOn, now_moment}
+use Rattle.run_acts.specs.Power.{with_cabin}
 use Rattle.run_acts.proofs.gap.note_on.Given.{Over}
 use Rattle.run_acts.proofs.gap.note_on.Goals.{After-tear, After-set_session}
 use Rattle.run_acts.proofs.gap.note_on.Goals as goal

@@ -1,4 +1,4 @@
-use Rattle.acts_rule.proofs.EventCrews.{torn-named}
+use Rattle.run_acts.proofs.EventCrews.{torn-named}
 use Rattle.run_acts.proofs.kept_events.the_cards_behind_a_tear_are_named.Goals as goal
 
 pub returns : goal.returns

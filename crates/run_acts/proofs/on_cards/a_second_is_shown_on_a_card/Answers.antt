@@ -1,4 +1,4 @@
-use Rattle.acts_rule.proofs.OnCards.{start-shown, second-shown}
+use Rattle.run_acts.proofs.OnCards.{start-shown, second-shown}
 use Rattle.run_acts.proofs.on_cards.a_second_is_shown_on_a_card.Goals as goal
 
 pub returns-clause-starts : goal.returns-clause-starts

@@ -8,10 +8,10 @@ use Rattle.run_crew.specs.Cabin.{number_of_seat, Stands}
 use Rattle.log_model.specs.declared.lines.Break.{Break}
 use Rattle.run_outcome.specs.Lines.{Listed}
 use Rattle.run_keeping.specs.Keeping.{HasLeftMore, with_lines, CardReady, HasItsRow, UnitReady}
-use Rattle.run_state.specs.declared.run.Run.{Run}
+use Rattle.run_acts.specs.declared.run.Run.{Run}
 use Rattle.run_entering.proofs.Noted.{noted-ready, noted-row}
-use Rattle.acts_rule.specs.Acting.{noted_run, IsNotedOn, falls_by}
-use Rattle.acts_rule.proofs.Cabins.{numbered-session}
+use Rattle.run_acts.specs.Acting.{noted_run, IsNotedOn, falls_by}
+use Rattle.run_acts.proofs.Cabins.{numbered-session}
 use Rattle.std.specs.Prelude.{is_err, suc, IfSome, List, [], ◌∷◌, ◌++◌, OnOk, Result}
 use Rattle.std.proofs.lemmas.List.{append-nil}
 use Rattle.activity_codec.specs.declared.values.Slot.{Slot}
@@ -25,52 +25,52 @@ use Rattle.run_rule.specs.Between.{devices}
 use Rattle.run_outcome.specs.declared.outcome.Outcome.{Outcome}
 use Rattle.run_recorded.specs.Origin.{Origin}
 use Rattle.run_within.specs.Within.{Beginning}
-use Rattle.acts_rule.specs.Recording.{RunWithin, RunGoesOn, GoesOnOrFails, IsNow, log_of, values_of, ComesPower}
-use Rattle.acts_rule.proofs.Comings.{leaves-more, place-more}
-use Rattle.acts_rule.proofs.NoteRecorded.{noted-some, place-told, unit-recorded, unit-evented, some-evented}
+use Rattle.run_acts.specs.Recording.{RunWithin, RunGoesOn, GoesOnOrFails, IsNow, log_of, values_of, ComesPower}
+use Rattle.run_acts.proofs.Comings.{leaves-more, place-more}
+use Rattle.run_acts.proofs.NoteRecorded.{noted-some, place-told, unit-recorded, unit-evented, some-evented}
 use Rattle.trace_model.specs.declared.Card.{Card}
 use Rattle.gated_ring.specs.Change.{IsAdding}
 use Rattle.message_model.specs.Records.{unit_place_ring}
-use Rattle.acts_rule.specs.NotedEvents.{NotesEvents}
-use Rattle.acts_rule.specs.Noting.{NotesPlace, fall_events, IsNoteRecorded, NotesFall}
-use Rattle.acts_rule.proofs.NotedEvents.{same-noted, noted-any, then-noted}
-use Rattle.acts_rule.proofs.ActsNoted.{says-of, quiet-any, adding-nothing, no-place, same-fell}
+use Rattle.run_acts.specs.NotedEvents.{NotesEvents}
+use Rattle.run_acts.specs.Noting.{NotesPlace, fall_events, IsNoteRecorded, NotesFall}
+use Rattle.run_acts.proofs.NotedEvents.{same-noted, noted-any, then-noted}
+use Rattle.run_acts.proofs.ActsNoted.{says-of, quiet-any, adding-nothing, no-place, same-fell}
 use Rattle.tacho_types.specs.declared.card_number.FullCardNumber.{FullCardNumber}
 use Rattle.tach_media.specs.Medium.{State, LeavesOnly, HasBroken, HasCause}
 use Rattle.unit_notes.specs.Entries.{unit_place_bytes}
 use Rattle.slot_machine.specs.declared.seats.Seat.{Seat}
 use Rattle.run_crew.specs.declared.cards.Cards.{Cards}
 use Rattle.run_rings.proofs.Same.{rings-left}
-use Rattle.acts_rule.specs.Ringing.{WritesPlace}
-use Rattle.acts_rule.proofs.Ringing.{place-broken, place-then}
+use Rattle.run_acts.specs.Ringing.{WritesPlace}
+use Rattle.run_acts.proofs.Ringing.{place-broken, place-then}
 use Rattle.run_keeping.proofs.Later.{state-by, later-same, later-then, later-of-unit}
 use Rattle.run_evented.specs.Noting.{Acting}
 use Rattle.run_evented.specs.Bringing.{NotFound}
 use Rattle.run_evented.specs.SoFar.{EventedNow, MayFollow}
-use Rattle.acts_rule.specs.Evented.{EventsGoOn}
-use Rattle.acts_rule.proofs.FallEvented.{left-over, none-yet}
+use Rattle.run_acts.specs.Evented.{EventsGoOn}
+use Rattle.run_acts.proofs.FallEvented.{left-over, none-yet}
 use Rattle.run_crew.specs.declared.cards.Accepted.{Accepted}
 use Rattle.device_steps.specs.CardNotes.{IsNote}
-use Rattle.acts_rule.proofs.RingedPlace.{IsThere, who-enters, place-goes}
-use Rattle.acts_rule.specs.CardNotes.{NotesOn, NotesOnCards}
-use Rattle.acts_rule.proofs.CardNotes.{on-none, both-cards}
-use Rattle.acts_rule.proofs.CardActs.{place-cards}
-use Rattle.acts_rule.specs.CardWrites.{MayTakePlace, PlaceOn}
+use Rattle.run_acts.proofs.RingedPlace.{IsThere, who-enters, place-goes}
+use Rattle.run_acts.specs.CardNotes.{NotesOn, NotesOnCards}
+use Rattle.run_acts.proofs.CardNotes.{on-none, both-cards}
+use Rattle.run_acts.proofs.CardActs.{place-cards}
+use Rattle.run_acts.specs.CardWrites.{MayTakePlace, PlaceOn}
 use Rattle.tacho_types.specs.declared.places.PlaceEntry.{PlaceEntry}
 use Rattle.run_keeping.specs.declared.keeper.Moment.{Moment}
-use Rattle.acts_rule.proofs.CardPlaces.{PlaceCall, call-unbegun, call-made}
-use Rattle.acts_rule.proofs.CardWrites.{place-unit, place-bare, place-any, seat-bare}
+use Rattle.run_acts.proofs.CardPlaces.{PlaceCall, call-unbegun, call-made}
+use Rattle.run_acts.proofs.CardWrites.{place-unit, place-bare, place-any, seat-bare}
 use Rattle.run_keeping.proofs.Calm.{calm-of-unit, calm-same, calm-then}
-use Rattle.acts_rule.proofs.OneCard.{OneCard, unit-is, card-is, later-by, calm-by, keeps-by, apart-by, notes-by, known-noted, only-noted, more-noted, room-noted, calm-noted, held-noted, going-noted, none-there, on_a, on_b}
+use Rattle.run_acts.proofs.OneCard.{OneCard, unit-is, card-is, later-by, calm-by, keeps-by, apart-by, notes-by, known-noted, only-noted, more-noted, room-noted, calm-noted, held-noted, going-noted, none-there, on_a, on_b}
 use Rattle.run_keeping.specs.Later.{AreCalm, AreLater}
-use Rattle.acts_rule.specs.Devices.{AreLeftMore}
+use Rattle.run_acts.specs.Devices.{AreLeftMore}
 use Rattle.card_layout.specs.declared.command.CardState.{CardState}
-use Rattle.acts_rule.specs.RunCards.{CardsPlace}
+use Rattle.run_acts.specs.RunCards.{CardsPlace}
 use Rattle.tach_media.specs.declared.fault.Failed.{Failed}
 use Rattle.unit_model.specs.Image.{IsUnit}
 use Rattle.card_session.specs.Sessions.{IsValue}
 use Rattle.unit_notes.specs.Journal.{LeavesJournal}
-use Rattle.acts_rule.specs.RunRinged.{RingsPlace}
+use Rattle.run_acts.specs.RunRinged.{RingsPlace}
 use Rattle.run_told.specs.Told.{arranged}
 use Rattle.run_rings.specs.Same.{LeavesRings}
 use Rattle.run_acts.proofs.placing.note_place.Given.{Over}

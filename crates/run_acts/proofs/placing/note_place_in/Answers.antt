@@ -13,21 +13,21 @@ use Rattle.run_keeping.proofs.Sessions.{number-set, row-set, torn-stands}
 use Rattle.run_keeping.proofs.Units.{has-row}
 use Rattle.run_keeping.proofs.CardBooked.{no-session, none-there}
 use Rattle.run_keeping.proofs.Fates.{no-lines}
-use Rattle.acts_rule.proofs.Apart.{not-both, session-back, torn-apart, noted-sizes, ready-again, session-works, fell-broken, well-broken}
+use Rattle.run_acts.proofs.Apart.{not-both, session-back, torn-apart, noted-sizes, ready-again, session-works, fell-broken, well-broken}
 use Rattle.event_model.specs.declared.kinds.TheConstants.{CARD_FAULT}
 use Rattle.run_notes.specs.Entries.{entry_of}
 use Rattle.run_rule.specs.Between.{devices}
-use Rattle.acts_rule.proofs.NotedEvents.{one-noted, same-noted, noted-any}
+use Rattle.run_acts.proofs.NotedEvents.{one-noted, same-noted, noted-any}
 use Rattle.unit_notes.specs.Noting.{IsNotingEvent}
 use Rattle.run_rings.proofs.Same.{rings-left, rings-moments, table-outside}
-use Rattle.acts_rule.specs.CardNotes.{NotesOn}
-use Rattle.acts_rule.proofs.CardNotes.{on-session, place-noted}
+use Rattle.run_acts.specs.CardNotes.{NotesOn}
+use Rattle.run_acts.proofs.CardNotes.{on-session, place-noted}
 use Rattle.run_keeping.proofs.CardBooked.{session-set}
-use Rattle.acts_rule.specs.CardWrites.{PlaceOn}
-use Rattle.acts_rule.proofs.CardWrites.{place-well, place-fell, place-on}
-use Rattle.acts_rule.proofs.CardPlaces.{may-take}
-use Rattle.acts_rule.specs.Acting.{IsNotedOn}
-use Rattle.run_state.specs.Power.{with_cabin}
+use Rattle.run_acts.specs.CardWrites.{PlaceOn}
+use Rattle.run_acts.proofs.CardWrites.{place-well, place-fell, place-on}
+use Rattle.run_acts.proofs.CardPlaces.{may-take}
+use Rattle.run_acts.specs.Acting.{IsNotedOn}
+use Rattle.run_acts.specs.Power.{with_cabin}
 use Rattle.run_acts.proofs.placing.note_place_in.Given.{Over}
 use Rattle.run_acts.proofs.placing.note_place_in.Goals.{After-tear, After-set_session}
 use Rattle.run_acts.proofs.placing.note_place_in.Goals as goal

@@ -1,5 +1,5 @@
 use Rattle.run_rule.specs.Between.{devices}
-use Rattle.acts_rule.proofs.RoundCut.{keeping-fails}
+use Rattle.run_acts.proofs.RoundCut.{keeping-fails}
 use Rattle.run_acts.proofs.rounds.the_keeping_fails.Goals as goal
 
 pub returns : goal.returns

@@ -1,5 +1,5 @@
 use Rattle.run_rule.specs.Between.{devices}
-use Rattle.acts_rule.proofs.RoundKept.{keeping-recorded}
+use Rattle.run_acts.proofs.RoundKept.{keeping-recorded}
 use Rattle.run_acts.proofs.rounds.the_keeping_is_recorded.Goals as goal
 
 pub returns : goal.returns

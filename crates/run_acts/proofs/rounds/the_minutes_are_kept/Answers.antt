@@ -1,5 +1,5 @@
 use Rattle.run_rule.specs.Between.{devices}
-use Rattle.acts_rule.proofs.RoundWhole.{minutes-kept_so}
+use Rattle.run_acts.proofs.RoundWhole.{minutes-kept_so}
 use Rattle.run_acts.proofs.rounds.the_minutes_are_kept.Goals as goal
 
 pub returns : goal.returns

@@ -1,5 +1,5 @@
 use Rattle.run_rule.specs.Between.{devices}
-use Rattle.acts_rule.proofs.RoundBegun.{are-over}
+use Rattle.run_acts.proofs.RoundBegun.{are-over}
 use Rattle.run_acts.proofs.rounds.the_minutes_are_over.Goals as goal
 
 pub returns : goal.returns

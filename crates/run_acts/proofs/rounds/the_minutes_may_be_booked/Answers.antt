@@ -1,5 +1,5 @@
 use Rattle.run_rule.specs.Between.{devices}
-use Rattle.acts_rule.proofs.RoundBegun.{may-book}
+use Rattle.run_acts.proofs.RoundBegun.{may-book}
 use Rattle.run_acts.proofs.rounds.the_minutes_may_be_booked.Goals as goal
 
 pub returns : goal.returns

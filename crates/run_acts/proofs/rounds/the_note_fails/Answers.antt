@@ -1,5 +1,5 @@
 use Rattle.run_rule.specs.Between.{devices}
-use Rattle.acts_rule.proofs.RoundKept.{note-fails}
+use Rattle.run_acts.proofs.RoundKept.{note-fails}
 use Rattle.run_acts.proofs.rounds.the_note_fails.Goals as goal
 
 pub returns : goal.returns

@@ -1,5 +1,5 @@
 use Rattle.run_rule.specs.Between.{devices}
-use Rattle.acts_rule.proofs.RoundWhole.{leave-still}
+use Rattle.run_acts.proofs.RoundWhole.{leave-still}
 use Rattle.run_acts.proofs.rounds.they_leave_still.Goals as goal
 
 pub returns : goal.returns

@@ -3,25 +3,25 @@ use Rattle.std.specs.Prelude.{is_err}
 use Rattle.tach_media.proofs.Runs.{on_ok, ok_gives}
 use Rattle.minute_model.specs.Span.{ungiven_of, settled}
 use Rattle.run_keeping.specs.Minutes.{AreKept, Told, kept_after}
-use Rattle.run_state.specs.declared.run.Run.{Run}
-use Rattle.run_state.specs.declared.run.Power.{Power}
-use Rattle.acts_rule.specs.Room.{waiting}
-use Rattle.acts_rule.proofs.Kept.{given-ended, given-rows, kept-going, seats-less, owing-is, owing-sum}
-use Rattle.acts_rule.specs.Acting.{told_of}
-use Rattle.acts_rule.proofs.Settled.{settled-ungiven, settled-later, settled-decides}
-use Rattle.acts_rule.proofs.Bare.{all-bare}
-use Rattle.acts_rule.proofs.GoesOn.{same-left}
+use Rattle.run_acts.specs.declared.run.Run.{Run}
+use Rattle.run_acts.specs.declared.run.Power.{Power}
+use Rattle.run_acts.specs.Room.{waiting}
+use Rattle.run_acts.proofs.Kept.{given-ended, given-rows, kept-going, seats-less, owing-is, owing-sum}
+use Rattle.run_acts.specs.Acting.{told_of}
+use Rattle.run_acts.proofs.Settled.{settled-ungiven, settled-later, settled-decides}
+use Rattle.run_acts.proofs.Bare.{all-bare}
+use Rattle.run_acts.proofs.GoesOn.{same-left}
 use Rattle.run_outcome.specs.declared.outcome.Outcome.{Outcome}
-use Rattle.acts_rule.proofs.Ringing.{settling-leaves}
-use Rattle.acts_rule.proofs.Comings.{leaves-more}
-use Rattle.acts_rule.proofs.SettledRecorded.{settling-so, booked}
-use Rattle.acts_rule.proofs.SettledEvented.{settling-events}
+use Rattle.run_acts.proofs.Ringing.{settling-leaves}
+use Rattle.run_acts.proofs.Comings.{leaves-more}
+use Rattle.run_acts.proofs.SettledRecorded.{settling-so, booked}
+use Rattle.run_acts.proofs.SettledEvented.{settling-events}
 use Rattle.safety_model.specs.Safe.{Devices}
 use Rattle.run_rule.specs.Between.{devices}
-use Rattle.acts_rule.proofs.CardStays.{timed-still}
-use Rattle.acts_rule.proofs.CardPlaces.{timed-places}
-use Rattle.acts_rule.proofs.Due.{Decides}
-use Rattle.acts_rule.specs.Devices.{DevicesGoOn}
+use Rattle.run_acts.proofs.CardStays.{timed-still}
+use Rattle.run_acts.proofs.CardPlaces.{timed-places}
+use Rattle.run_acts.proofs.Due.{Decides}
+use Rattle.run_acts.specs.Devices.{DevicesGoOn}
 use Rattle.run_acts.proofs.settling.settle.Given.{Over}
 use Rattle.run_acts.proofs.settling.settle.Goals.{After-as_slice, After-keep_all}
 use Rattle.run_acts.proofs.settling.settle.Goals as goal

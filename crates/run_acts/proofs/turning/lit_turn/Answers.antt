@@ -7,30 +7,30 @@ use Rattle.run_outcome.specs.Lines.{Listed, cut_at}
 use Rattle.run_outcome.specs.declared.outcome.Outcome.{Outcome}
 use Rattle.run_keeping.specs.Keeping.{with_lines}
 use Rattle.run_keeping.specs.Minutes.{kept_after}
-use Rattle.run_state.specs.declared.run.Run.{Run}
-use Rattle.run_state.specs.declared.run.Power.{Power}
-use Rattle.run_state.specs.declared.run.Power.TheVariants.{Lit, Lost}
-use Rattle.run_state.specs.Power.{is_lit, passed, cut_run}
+use Rattle.run_acts.specs.declared.run.Run.{Run}
+use Rattle.run_acts.specs.declared.run.Power.{Power}
+use Rattle.run_acts.specs.declared.run.Power.TheVariants.{Lit, Lost}
+use Rattle.run_acts.specs.Power.{is_lit, passed, cut_run}
 use Rattle.minute_rules.specs.Kept.{Kept as Minutes}
 use Rattle.run_crew.specs.Cabin.{with_power_lost, Stands}
 use Rattle.run_keeping.proofs.Counts.{lines-length}
-use Rattle.run_state.specs.Going.{StandSomehow, IsGoing, IsLit}
-use Rattle.acts_rule.specs.Room.{falls_of, cuts_within, waiting}
-use Rattle.acts_rule.proofs.Kept.{given-ended, given-rows, seats-less, owing-sum}
-use Rattle.acts_rule.proofs.Torn.{cut-falls}
-use Rattle.acts_rule.proofs.Turned.{turn-end, turn-most, turn-decides, turned-held, turned-cut, turned-lit}
-use Rattle.acts_rule.proofs.Room.{Spends, room-lit, room-lost}
-use Rattle.acts_rule.proofs.Uncut.{turn-uncut, uncut-broke, cut-broke}
+use Rattle.run_acts.specs.Going.{StandSomehow, IsGoing, IsLit}
+use Rattle.run_acts.specs.Room.{falls_of, cuts_within, waiting}
+use Rattle.run_acts.proofs.Kept.{given-ended, given-rows, seats-less, owing-sum}
+use Rattle.run_acts.proofs.Torn.{cut-falls}
+use Rattle.run_acts.proofs.Turned.{turn-end, turn-most, turn-decides, turned-held, turned-cut, turned-lit}
+use Rattle.run_acts.proofs.Room.{Spends, room-lit, room-lost}
+use Rattle.run_acts.proofs.Uncut.{turn-uncut, uncut-broke, cut-broke}
 use Rattle.run_rule.specs.Between.{devices}
-use Rattle.acts_rule.proofs.TurnMany.{turn-events}
+use Rattle.run_acts.proofs.TurnMany.{turn-events}
 use Rattle.run_keeping.proofs.Calm.{calm-more}
 use Rattle.trace_model.specs.declared.Card.{Card}
-use Rattle.acts_rule.proofs.Due.{Decides}
+use Rattle.run_acts.proofs.Due.{Decides}
 use Rattle.safety_model.specs.Safe.{Devices}
-use Rattle.acts_rule.specs.Evented.{EventsLitTurn}
-use Rattle.acts_rule.specs.Booked.{IsBookedTurn}
-use Rattle.acts_rule.specs.Turning.{IsLitTurn, cut_breaks, cut_where}
-use Rattle.acts_rule.specs.Faults.{NotesTurn}
+use Rattle.run_acts.specs.Evented.{EventsLitTurn}
+use Rattle.run_acts.specs.Booked.{IsBookedTurn}
+use Rattle.run_acts.specs.Turning.{IsLitTurn, cut_breaks, cut_where}
+use Rattle.run_acts.specs.Faults.{NotesTurn}
 use Rattle.run_keeping.specs.declared.keeper.Keeper.{Keeper}
 use Rattle.minute_model.specs.declared.Minute.{Minute}
 use Rattle.run_acts.proofs.turning.lit_turn.Given.{Over}

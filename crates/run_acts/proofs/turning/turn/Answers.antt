@@ -3,33 +3,33 @@ use Rattle.trace_model.specs.Trace.{TraceSecond, driven}
 use Rattle.log_model.specs.Log.{In}
 use Rattle.run_rule.specs.Between.{devices}
 use Rattle.run_outcome.specs.declared.outcome.Outcome.{Outcome}
-use Rattle.run_state.specs.declared.run.Run.{Run}
-use Rattle.run_state.specs.Power.{is_lit, passed}
-use Rattle.run_state.specs.Going.{IsGoing}
-use Rattle.acts_rule.specs.Room.{HasRoom}
-use Rattle.acts_rule.proofs.Standing.{passed-at}
-use Rattle.acts_rule.specs.Turning.{IsTurnOf}
-use Rattle.acts_rule.specs.Recording.{InSecondBy, RunWithin, RunCut, RunRecorded}
-use Rattle.acts_rule.proofs.TurnRecorded.{turn-lit, turn-dark}
-use Rattle.acts_rule.proofs.Room.{room-dark}
+use Rattle.run_acts.specs.declared.run.Run.{Run}
+use Rattle.run_acts.specs.Power.{is_lit, passed}
+use Rattle.run_acts.specs.Going.{IsGoing}
+use Rattle.run_acts.specs.Room.{HasRoom}
+use Rattle.run_acts.proofs.Standing.{passed-at}
+use Rattle.run_acts.specs.Turning.{IsTurnOf}
+use Rattle.run_acts.specs.Recording.{InSecondBy, RunWithin, RunCut, RunRecorded}
+use Rattle.run_acts.proofs.TurnRecorded.{turn-lit, turn-dark}
+use Rattle.run_acts.proofs.Room.{room-dark}
 use Rattle.run_keeping.proofs.Later.{later-same}
 use Rattle.run_outcome.proofs.Broken.{broke-none}
 use Rattle.unit_course.specs.Followed.{Lost as IsLost}
 use Rattle.run_evented.specs.Noting.{Acting}
-use Rattle.run_state.specs.declared.run.Power.{Power}
-use Rattle.run_state.specs.declared.run.Power.TheVariants.{Lit, Lost}
-use Rattle.acts_rule.specs.Recording.{log_of, Supplies}
-use Rattle.acts_rule.specs.Evented.{CutEvented, WithinEvented, InSecondEventedBy, RunEvented}
-use Rattle.acts_rule.proofs.TurnMany.{at-supply, dark-events}
+use Rattle.run_acts.specs.declared.run.Power.{Power}
+use Rattle.run_acts.specs.declared.run.Power.TheVariants.{Lit, Lost}
+use Rattle.run_acts.specs.Recording.{log_of, Supplies}
+use Rattle.run_acts.specs.Evented.{CutEvented, WithinEvented, InSecondEventedBy, RunEvented}
+use Rattle.run_acts.proofs.TurnMany.{at-supply, dark-events}
 use Rattle.trace_model.specs.declared.Action.{Action}
 use Rattle.safety_model.specs.Safe.{Devices}
 use Rattle.run_recorded.specs.Origin.{Origin}
-use Rattle.acts_rule.specs.RunRinged.{RunRinged, RingsWithin, WithinRinged, CutRinged, InSecondRingedBy, TurnedRings}
-use Rattle.acts_rule.proofs.Comings.{leaves-more}
-use Rattle.acts_rule.proofs.Ringing.{turn-leaves}
-use Rattle.acts_rule.proofs.RingedTurn.{dark-ringed, seconds-ringed}
-use Rattle.acts_rule.specs.RunCards.{CardsAtBy}
-use Rattle.acts_rule.proofs.CardTurn.{dark-cards, seconds-shown}
+use Rattle.run_acts.specs.RunRinged.{RunRinged, RingsWithin, WithinRinged, CutRinged, InSecondRingedBy, TurnedRings}
+use Rattle.run_acts.proofs.Comings.{leaves-more}
+use Rattle.run_acts.proofs.Ringing.{turn-leaves}
+use Rattle.run_acts.proofs.RingedTurn.{dark-ringed, seconds-ringed}
+use Rattle.run_acts.specs.RunCards.{CardsAtBy}
+use Rattle.run_acts.proofs.CardTurn.{dark-cards, seconds-shown}
 use Rattle.run_keeping.proofs.Calm.{calm-same}
 use Rattle.run_acts.proofs.turning.turn.Goals as goal
 

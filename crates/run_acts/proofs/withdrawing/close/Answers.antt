@@ -21,25 +21,25 @@ use Rattle.run_keeping.proofs.Sessions.{number-set, row-set}
 use Rattle.run_keeping.proofs.Units.{has-row, row-beside}
 use Rattle.run_entering.proofs.Noted.{noted-ready, noted-row}
 use Rattle.run_keeping.proofs.CardDeeds.{closed-alone}
-use Rattle.acts_rule.specs.Stays.{ClosesOnCard}
-use Rattle.acts_rule.specs.Acting.{Fell, IsClosingOf, Bare, Closed, IsClosed}
-use Rattle.acts_rule.proofs.Cabins.{session-known, twice-ready}
+use Rattle.run_acts.specs.Stays.{ClosesOnCard}
+use Rattle.run_acts.specs.Acting.{Fell, IsClosingOf, Bare, Closed, IsClosed}
+use Rattle.run_acts.proofs.Cabins.{session-known, twice-ready}
 use Rattle.event_model.specs.declared.kinds.TheConstants.{CARD_FAULT}
 use Rattle.run_notes.specs.Entries.{entry_of}
 use Rattle.run_keeping.proofs.CardBooked.{none-there, no-session}
 use Rattle.run_keeping.proofs.Fates.{no-lines}
-use Rattle.acts_rule.proofs.NotedEvents.{one-noted, same-noted}
-use Rattle.acts_rule.proofs.ActsNoted.{quiet-any}
+use Rattle.run_acts.proofs.NotedEvents.{one-noted, same-noted}
+use Rattle.run_acts.proofs.ActsNoted.{quiet-any}
 use Rattle.unit_notes.specs.Noting.{IsNotingEvent}
 use Rattle.run_rings.proofs.Same.{rings-left, rings-moments, table-outside}
-use Rattle.acts_rule.specs.Ringing.{ClosesRings}
+use Rattle.run_acts.specs.Ringing.{ClosesRings}
 use Rattle.run_keeping.proofs.Later.{state-same, state-by}
-use Rattle.acts_rule.specs.CardWrites.{ClosesCard}
-use Rattle.acts_rule.proofs.CardWrites.{closes-well}
+use Rattle.run_acts.specs.CardWrites.{ClosesCard}
+use Rattle.run_acts.proofs.CardWrites.{closes-well}
 use Rattle.run_outcome.specs.Lines.{Listed}
 use Rattle.log_model.specs.declared.lines.Break.{Break}
 use Rattle.run_keeping.proofs.Calm.{card-beside, card-fell, card-rests}
-use Rattle.run_state.specs.Power.{with_cabin}
+use Rattle.run_acts.specs.Power.{with_cabin}
 use Rattle.run_acts.proofs.withdrawing.close.Given.{Over}
 use Rattle.run_acts.proofs.withdrawing.close.Goals.{In_default, In_default-sizes, After-note_withdrawal, After-tear}
 use Rattle.run_acts.proofs.withdrawing.close.Goals as goal

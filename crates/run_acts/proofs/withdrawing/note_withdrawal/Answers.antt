@@ -1,14 +1,14 @@
 use Rattle.std.proofs.Common.{◌≡◌, ◌+◌, ◌-◌, ◌≤◌, ℕ, ap, subst, arith}
 use Rattle.unit_notes.specs.Noting.{IsWithdrawing}
 use Rattle.tacho_types.specs.declared.numbers.TimeReal.{TimeReal}
-use Rattle.acts_rule.proofs.ActsNoted.{says-of, says-still, withdrawing-nothing}
+use Rattle.run_acts.proofs.ActsNoted.{says-of, says-still, withdrawing-nothing}
 use Rattle.std.specs.Prelude.{is_err}
 use Rattle.tach_media.proofs.Runs.{ok_gives}
 use Rattle.tacho_types.specs.declared.numbers.Odometer.{Odometer}
 use Rattle.message_model.specs.Records.{insertion_ring}
 use Rattle.run_ringed.specs.Ringed.{Seating}
-use Rattle.acts_rule.specs.Ringing.{odometer_of, Withdraws}
-use Rattle.acts_rule.proofs.Ringing.{withdrawal-gone, withdrawal-noted}
+use Rattle.run_acts.specs.Ringing.{odometer_of, Withdraws}
+use Rattle.run_acts.proofs.Ringing.{withdrawal-gone, withdrawal-noted}
 use Rattle.run_acts.proofs.withdrawing.note_withdrawal.Goals as goal
 
 pub returns-then-run-noted-ge-INSERTIONS-clause-quiet : goal.returns-then-run-noted-ge-INSERTIONS-clause-quiet

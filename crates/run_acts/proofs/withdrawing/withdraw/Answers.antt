@@ -20,66 +20,66 @@ use Rattle.run_keeping.specs.declared.keeper.Moment.{Moment}
 use Rattle.run_keeping.specs.Keeping.{HasLeftMore, CardReady, HasItsRow, UnitReady, tears_of}
 use Rattle.run_keeping.specs.Minutes.{Told, Reach, IsReach}
 use Rattle.run_keeping.proofs.Counts.{lines-length}
-use Rattle.run_state.specs.declared.run.Run.{Run}
-use Rattle.run_state.specs.Power.{with_cabin}
-use Rattle.run_state.specs.Going.{IsHeld, IsGoingOn, IsLit}
-use Rattle.acts_rule.specs.Room.{waiting_of, falls_of, Takes}
-use Rattle.acts_rule.proofs.Torn.{tears-without}
-use Rattle.acts_rule.specs.Behind.{BooksWithdrawn}
-use Rattle.acts_rule.proofs.Withdrawn.{withdrawn-cut, withdrawn-closed, time-before}
-use Rattle.acts_rule.specs.Acting.{Closing, told_of, IsSettled, IsWithdrawn, closed_cabin, closed_breaks, left_run, IsClosed, Closed, closed_falls}
-use Rattle.acts_rule.proofs.Leaving.{left-going, left-held, left-falls, closed-falls}
-use Rattle.acts_rule.proofs.Cabins.{cabin-only}
+use Rattle.run_acts.specs.declared.run.Run.{Run}
+use Rattle.run_acts.specs.Power.{with_cabin}
+use Rattle.run_acts.specs.Going.{IsHeld, IsGoingOn, IsLit}
+use Rattle.run_acts.specs.Room.{waiting_of, falls_of, Takes}
+use Rattle.run_acts.proofs.Torn.{tears-without}
+use Rattle.run_acts.specs.Behind.{BooksWithdrawn}
+use Rattle.run_acts.proofs.Withdrawn.{withdrawn-cut, withdrawn-closed, time-before}
+use Rattle.run_acts.specs.Acting.{Closing, told_of, IsSettled, IsWithdrawn, closed_cabin, closed_breaks, left_run, IsClosed, Closed, closed_falls}
+use Rattle.run_acts.proofs.Leaving.{left-going, left-held, left-falls, closed-falls}
+use Rattle.run_acts.proofs.Cabins.{cabin-only}
 use Rattle.log_model.specs.Log.{In}
-use Rattle.acts_rule.specs.Recording.{RunFails, GoesOnOrFails, log_of, IsNow, RunWithin}
-use Rattle.acts_rule.specs.Settling.{RecordsSettling}
-use Rattle.acts_rule.proofs.Asked.{withdraws-one}
-use Rattle.acts_rule.proofs.WithdrawnRecorded.{acting_at, moment-is, settling-cut, closing-recorded, settled-evented, closing-evented, untorn-then, sat-there, settled-still, settled-places, closed-places, closed-still}
+use Rattle.run_acts.specs.Recording.{RunFails, GoesOnOrFails, log_of, IsNow, RunWithin}
+use Rattle.run_acts.specs.Settling.{RecordsSettling}
+use Rattle.run_acts.proofs.Asked.{withdraws-one}
+use Rattle.run_acts.proofs.WithdrawnRecorded.{acting_at, moment-is, settling-cut, closing-recorded, settled-evented, closing-evented, untorn-then, sat-there, settled-still, settled-places, closed-places, closed-still}
 use Rattle.run_ringed.specs.OnCards.{PlacesStay}
-use Rattle.acts_rule.proofs.CardPlaces.{stay-then}
-use Rattle.acts_rule.specs.Faults.{NotesSettling}
-use Rattle.acts_rule.specs.Noting.{NotesWithdrawing, closed_events, NotesClosing}
-use Rattle.acts_rule.proofs.NotedEvents.{same-noted, noted-any}
-use Rattle.acts_rule.proofs.ActsNoted.{settles-these, withdrawal-cut, withdrawal-noted, closing-any, same-closing}
+use Rattle.run_acts.proofs.CardPlaces.{stay-then}
+use Rattle.run_acts.specs.Faults.{NotesSettling}
+use Rattle.run_acts.specs.Noting.{NotesWithdrawing, closed_events, NotesClosing}
+use Rattle.run_acts.proofs.NotedEvents.{same-noted, noted-any}
+use Rattle.run_acts.proofs.ActsNoted.{settles-these, withdrawal-cut, withdrawal-noted, closing-any, same-closing}
 use Rattle.run_rings.proofs.Same.{rings-left}
-use Rattle.acts_rule.specs.Ringing.{WithdrawsSo, ClosesRings, ClosesSo}
-use Rattle.acts_rule.proofs.Comings.{closes-more}
-use Rattle.acts_rule.proofs.Ringing.{settling-leaves, closes-behind}
+use Rattle.run_acts.specs.Ringing.{WithdrawsSo, ClosesRings, ClosesSo}
+use Rattle.run_acts.proofs.Comings.{closes-more}
+use Rattle.run_acts.proofs.Ringing.{settling-leaves, closes-behind}
 use Rattle.run_keeping.proofs.Later.{state-by, later-same, later-then}
 use Rattle.tach_media.specs.Medium.{State, LeavesOnly, HasBroken, HasCause}
 use Rattle.run_evented.specs.Noting.{Acting}
-use Rattle.acts_rule.specs.NotedEvents.{NotesEvents}
-use Rattle.acts_rule.specs.Evented.{EventsGoOn, EventsSettling}
+use Rattle.run_acts.specs.NotedEvents.{NotesEvents}
+use Rattle.run_acts.specs.Evented.{EventsGoOn, EventsSettling}
 use Rattle.activity_codec.specs.declared.values.Activity.{Activity}
 use Rattle.trace_model.specs.declared.Action.TheVariants.{Withdraw}
 use Rattle.card_session.specs.Sessions.{IsSession}
 use Rattle.card_session.specs.Cards.{IsCardClosing}
 use Rattle.message_model.specs.Records.{insertion_ring}
 use Rattle.run_crew.specs.declared.cards.Accepted.{Accepted}
-use Rattle.acts_rule.specs.RunRinged.{RingsGoOn, RingsWithin}
-use Rattle.acts_rule.proofs.Settled.{settled-decides}
-use Rattle.acts_rule.proofs.SettledRecorded.{same-ungiven}
-use Rattle.acts_rule.proofs.RingedSecond.{more-left}
-use Rattle.acts_rule.proofs.RingedClosed.{settling-ringed, closing-ringed, gone-told}
-use Rattle.acts_rule.specs.RunCards.{CardsSettling, PlacesSettling, StillShow, CardsGoOn, CardsIn}
-use Rattle.acts_rule.proofs.CardStays.{shows-then}
-use Rattle.acts_rule.proofs.CardActs.{TellsLines, settled-lines, closed-lines, quiet-goes}
-use Rattle.acts_rule.specs.CardWrites.{ShutsBehind, WithdrawsShut, IsShut, ShutsSo}
-use Rattle.acts_rule.proofs.CardWrites.{withdrawn-shut}
+use Rattle.run_acts.specs.RunRinged.{RingsGoOn, RingsWithin}
+use Rattle.run_acts.proofs.Settled.{settled-decides}
+use Rattle.run_acts.proofs.SettledRecorded.{same-ungiven}
+use Rattle.run_acts.proofs.RingedSecond.{more-left}
+use Rattle.run_acts.proofs.RingedClosed.{settling-ringed, closing-ringed, gone-told}
+use Rattle.run_acts.specs.RunCards.{CardsSettling, PlacesSettling, StillShow, CardsGoOn, CardsIn}
+use Rattle.run_acts.proofs.CardStays.{shows-then}
+use Rattle.run_acts.proofs.CardActs.{TellsLines, settled-lines, closed-lines, quiet-goes}
+use Rattle.run_acts.specs.CardWrites.{ShutsBehind, WithdrawsShut, IsShut, ShutsSo}
+use Rattle.run_acts.proofs.CardWrites.{withdrawn-shut}
 use Rattle.run_keeping.proofs.Calm.{calm-same, calm-then}
 use Rattle.trace_model.specs.declared.Action.{Action}
 use Rattle.run_keeping.specs.Later.{AreCalm, AreLater, IsCalm, IsLater}
-use Rattle.acts_rule.specs.Devices.{AreLeftMore}
+use Rattle.run_acts.specs.Devices.{AreLeftMore}
 use Rattle.run_keeping.specs.Decided.{BooksAll}
 use Rattle.card_layout.specs.declared.command.CardState.{CardState}
-use Rattle.acts_rule.specs.Stays.{ClosesOnCard}
+use Rattle.run_acts.specs.Stays.{ClosesOnCard}
 use Rattle.run_evented.specs.SoFar.{EventedNow}
 use Rattle.tach_media.specs.declared.fault.Failed.{Failed}
 use Rattle.run_recorded.specs.Beside.{HaveLeftMore}
 use Rattle.run_keeping.specs.Books.{HaveTime}
 use Rattle.unit_model.specs.Image.{IsUnit}
 use Rattle.unit_notes.specs.Journal.{LeavesJournal}
-use Rattle.acts_rule.proofs.OneCard.{OneCard, calm-by, keeps-by, later-by, unit-is, card-is, none-there, on_a, on_b, held-closed, going-closed}
+use Rattle.run_acts.proofs.OneCard.{OneCard, calm-by, keeps-by, later-by, unit-is, card-is, none-there, on_a, on_b, held-closed, going-closed}
 use Rattle.run_recorded.specs.Origin.{Origin}
 use Rattle.side_model.specs.Odometer.{SpanFrom}
 use Rattle.trace_model.specs.Trace.{TraceSecond}

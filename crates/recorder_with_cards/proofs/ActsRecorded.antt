@@ -1,0 +1,162 @@
+-- What an action of a second leaves of the record.
+use Rattle.std.proofs.Common.{◌≡◌, ◌∙◌, ℕ, suc, ◌+◌, ◌-◌, Bool, true, Option, Some, None, List, [], ◌∷◌, ◌++◌, length, refl, ap, sym, subst, arith, append_assoc, length-append}
+use Rattle.activity_codec.specs.declared.values.Slot.{Slot}
+use Rattle.activity_codec.specs.declared.values.Pick.{Pick}
+use Rattle.trace_model.specs.declared.Action.{Action}
+use Rattle.trace_model.specs.declared.Action.TheVariants.{Select, Manual}
+use Rattle.trace_model.specs.Trace.{TraceSecond}
+use Rattle.log_model.specs.declared.lines.SlotFault.{SlotFault}
+use Rattle.log_model.specs.Log.{In}
+use Rattle.log_model.specs.Slots.{refusal}
+use Rattle.slot_machine.specs.Calls.{logged}
+use Rattle.slot_machine.proofs.Refusing.{refuse-alike}
+use Rattle.unit_course.specs.Followed.{Lost as IsLost}
+use Rattle.unit_model.specs.Image.{odometer_at}
+use Rattle.unit_rule.specs.Odometer.{odometer_after}
+use Rattle.safety_model.specs.Safe.{Devices}
+use Rattle.run_course.proofs.Presence.{slots-agree}
+use Rattle.run_crew.specs.declared.cabin.Cabin.{Cabin}
+use Rattle.run_moments.specs.Telling.{IsLeft}
+use Rattle.run_outcome.specs.declared.outcome.Outcome.{Outcome}
+use Rattle.run_outcome.specs.Lines.{cut_at}
+use Rattle.run_recorded.specs.Origin.{Origin, start_at}
+use Rattle.run_keeping.specs.Books.{HaveTime}
+use Rattle.run_keeping.specs.Keeping.{with_lines}
+use Rattle.run_within.specs.Recorded.{Values, Recorded}
+use Rattle.run_within.specs.Within.{Beginning, course_in, told_before, cut_values, passed_values}
+use Rattle.run_within.proofs.Acting.{refusal-recorded, selection-recorded, hand-recorded}
+use Rattle.run_within.proofs.Cutting.{cut-recorded, recounted}
+use Rattle.run_acts.specs.declared.run.Run.{Run}
+use Rattle.run_acts.specs.Power.{is_lit, cut_run}
+use Rattle.run_acts.specs.Recording.{log_of, values_of, IsOrigin, RunWithin, RunCut, InSecondBy, InSecond, RunFails, RunGoesOn, IsNow}
+use Rattle.recorder_with_cards.specs.Acting.{IsSelected}
+use Rattle.recorder_with_cards.specs.Recorded.{Inside, ActsBy}
+use Rattle.log_model.specs.declared.lines.Refused.{Refused}
+use Rattle.run_course.specs.Moments.{and_refused}
+use Rattle.run_acts.specs.Closings.{notes_within}
+use Rattle.run_acts.specs.Truths.{truths_within, marked}
+use Rattle.run_acts.specs.Stays.{AllStay}
+use Rattle.run_acts.proofs.AllStay.{all-noted, log-self, no-cut}
+use Rattle.run_acts.proofs.NotesThen.{select-now, hand-now, refuse-now}
+
+-- ---- with power, or cut
+
+module _ (o : Origin) (done : List TraceSecond) (s : TraceSecond) (run : Run) (out : Outcome) (d : Devices) where
+  pub cut-in : (n : ℕ) → RunCut o done s run out d → InSecond o done s n run out d
+  cut-in n h = subst (λ (b : Bool). InSecondBy b o done s n run out d) (sym (ap is_lit h.lost)) h
+
+-- ---- one action
+
+module _ (o : Origin) (done : List TraceSecond) (s : TraceSecond) (speed : ℕ) (run : Run) (before : Outcome) (d : Devices) (now : IsNow s speed run)
+    (front : List Action) (a : Action) (rest : List Action) (are : s.actions ≡ front ++ a ∷ rest) (h : RunWithin o done s (In (length front)) [] [] run before d) where
+  -- slots and speed refuse it in the log as they do in the slots
+  pub refuses : (r : Option SlotFault) → refusal (logged run.keeper.cabin.slots.seats) speed a ≡ r → refusal (course_in h.within.b done s (In (length front)) (values_of run before).log).slots s.speed a ≡ r
+  refuses r is =
+      let w = h.within in
+      let c = course_in w.b done s (In (length front)) (values_of run before).log in
+      refuse-alike run.keeper.cabin.slots.seats c.slots s.speed a (slots-agree (start_at o) (told_before w.b done) (w.b.run.book.sure ++ w.new) c.left s.number w.from c.slots run.keeper.cabin.slots w.tells)
+      ∙ ap (λ (k : ℕ). refusal (logged run.keeper.cabin.slots.seats) k a) now.speed_is ∙ is
+
+  -- the odometer is that of the same span
+  same-odometer : (b : Beginning) → b ≡ h.within.b → run.keeper.odometer ≡ odometer_after (odometer_at o.recording.unit) b.travel.before
+  same-odometer b is = h.odometer ∙ ap (λ (x : Beginning). odometer_after (odometer_at o.recording.unit) x.travel.before) (sym is)
+
+  -- it is refused
+  pub refused : (fault : SlotFault) → refusal (logged run.keeper.cabin.slots.seats) speed a ≡ Some fault → (after : Outcome) → after ≡ record before { refused = with_lines (record { second = run.next; fault = fault; begun = suc (length front) } ∷ []) before.refused }
+      → RunGoesOn o done s (In (suc (length front))) [] run after d h.within.b
+  refused fault is after told =
+      let g = refusal-recorded d o done s (values_of run before) front a rest are h.within fault (refuses (Some fault) is) in
+      let line : Refused = record { second = s.number; fault = fault; begun = suc (length front) } in
+      subst (λ (x : Outcome). RunGoesOn o done s (In (suc (length front))) [] run x d h.within.b) (sym told)
+      (subst (λ (u : ℕ). RunGoesOn o done s (In (suc (length front))) [] run (record before { refused = with_lines (record { second = u; fault = fault; begun = suc (length front) } ∷ []) before.refused }) d h.within.b) now.number
+      (record {
+        goes = record {
+          origin = h.origin;
+          lit = h.lit;
+          within = g.within;
+          odometer = same-odometer g.within.b g.began;
+          stay = subst (λ (b : Beginning). AllStay o (marked before.marks.items (truths_within o b.run.log done s)) s.number (and_refused (log_of before) line) (notes_within b done s (In (suc (length front))) (and_refused (log_of before) line)) run.keeper.memory.registration run.keeper.cabin d) (sym g.began)
+              (all-noted o (marked before.marks.items (truths_within o h.within.b.run.log done s)) s.number (log_of before) (and_refused (log_of before) line) (notes_within h.within.b done s (In (length front)) (log_of before)) (notes_within h.within.b done s (In (suc (length front))) (and_refused (log_of before) line))
+              run.keeper.memory.registration run.keeper.cabin d (λ none. record { none = none; finds = refl; judged = refl })
+              (λ none c. refuse-now o done s front rest a are (values_of run before) d h.within fault (refuses (Some fault) is) line c) h.stay);
+        };
+        began = g.began;
+      }))
+
+  -- an activity is selected
+  pub selected : (slot : Slot) (pick : Pick) → a ≡ Select slot pick → refusal (logged run.keeper.cabin.slots.seats) speed a ≡ None → (new : Run) → IsSelected (Select slot pick) run new
+      → RunGoesOn o done s (In (suc (length front))) [] new before d h.within.b
+  selected slot pick is allowed new picks =
+      let w = h.within in
+      let c = course_in w.b done s (In (length front)) (values_of run before).log in
+      let g = selection-recorded d o done s (values_of run before) front slot pick rest (subst (λ (x : Action). s.actions ≡ front ++ x ∷ rest) is are) w
+      (subst (λ (x : Action). refusal c.slots s.speed x ≡ None) is (refuses None allowed)) new.minutes (picks.1 w.sp w.minutes) in
+      subst (λ (r : Run). RunGoesOn o done s (In (suc (length front))) [] r before d h.within.b) (sym picks.0)
+      (record {
+        goes = record {
+          origin = h.origin;
+          lit = h.lit;
+          within = g.within;
+          odometer = same-odometer g.within.b g.began;
+          stay = subst (λ (b : Beginning). AllStay o (marked before.marks.items (truths_within o b.run.log done s)) s.number (log_of before) (notes_within b done s (In (suc (length front))) (log_of before)) run.keeper.memory.registration run.keeper.cabin d) (sym g.began)
+              (all-noted o (marked before.marks.items (truths_within o h.within.b.run.log done s)) s.number (log_of before) (log_of before) (notes_within h.within.b done s (In (length front)) (log_of before)) (notes_within h.within.b done s (In (suc (length front))) (log_of before)) run.keeper.memory.registration run.keeper.cabin d
+              (log-self (log_of before)) (λ none c. select-now o done s front rest slot pick (subst (λ (x : Action). s.actions ≡ front ++ x ∷ rest) is are) (values_of run before) d h.within c) h.stay);
+        };
+        began = g.began;
+      })
+
+  -- an entry by hand is let pass
+  pub passed-by : (slot : Slot) (pick : Pick) (minute : ℕ) → a ≡ Manual slot pick minute → refusal (logged run.keeper.cabin.slots.seats) speed a ≡ None → RunGoesOn o done s (In (suc (length front))) [] run before d h.within.b
+  passed-by slot pick minute is allowed =
+      let here : s.actions ≡ front ++ Manual slot pick minute ∷ rest = subst (λ (x : Action). s.actions ≡ front ++ x ∷ rest) is are in
+      let g = hand-recorded d o done s (values_of run before) front slot pick minute rest here h.within (subst (λ (x : Action). refusal (course_in h.within.b done s (In (length front)) (values_of run before).log).slots s.speed x ≡ None) is (refuses None allowed)) in
+      record {
+        goes = record {
+          origin = h.origin;
+          lit = h.lit;
+          within = g.within;
+          odometer = same-odometer g.within.b g.began;
+          stay = subst (λ (b : Beginning). AllStay o (marked before.marks.items (truths_within o b.run.log done s)) s.number (log_of before) (notes_within b done s (In (suc (length front))) (log_of before)) run.keeper.memory.registration run.keeper.cabin d) (sym g.began)
+              (all-noted o (marked before.marks.items (truths_within o h.within.b.run.log done s)) s.number (log_of before) (log_of before) (notes_within h.within.b done s (In (length front)) (log_of before)) (notes_within h.within.b done s (In (suc (length front))) (log_of before)) run.keeper.memory.registration run.keeper.cabin d
+              (log-self (log_of before)) (λ none c. hand-now o done s front rest slot pick minute here (values_of run before) d h.within c) h.stay);
+        };
+        began = g.began;
+      }
+
+-- ---- the unit has failed: power is cut
+
+-- the actions behind this one are left
+pub left : (front rest : List Action) (a : Action) (s : TraceSecond) {begun : ℕ} → begun ≡ suc (length front) → s.actions ≡ front ++ a ∷ rest → IsLeft s (In begun) rest
+left front rest a s here are = (front ++ a ∷ [], are ∙ sym (append_assoc front (a ∷ []) rest), let long = length-append front (a ∷ []) in omega (arith, long, here))
+
+pub cut : (o : Origin) (done : List TraceSecond) (s : TraceSecond) (begun : ℕ) (rest : List Action) (run new : Run) (out after : Outcome) (d : Devices) → IsOrigin o → s.number ≡ run.next → IsLeft s (In begun) rest
+    → RunFails o done s (In begun) run out d → new ≡ cut_run run.next run → after ≡ record out { breaks = with_lines (cut_at run.next true begun ∷ []) out.breaks } → RunCut o done s new after d
+cut o done s begun rest run new out after d origin number left fails is told =
+    let v : Values = record (values_of run out) { cabin = fails.cabin; odometer = fails.odometer } in
+    let r = recounted o (done ++ s ∷ []) (cut_values s (In begun) v) d run.keeper.odometer (cut-recorded o done s (In begun) fails.waits None v d fails.within rest left) in
+    subst (λ (x : Outcome). RunCut o done s new x d) (sym told)
+    (subst (λ (x : Run). RunCut o done s x (record out { breaks = with_lines (cut_at run.next true begun ∷ []) out.breaks }) d) (sym is)
+    (subst (λ (u : ℕ). RunCut o done s (cut_run u run) (record out { breaks = with_lines (cut_at u true begun ∷ []) out.breaks }) d) number
+    (record {
+      origin = origin;
+      lost = refl;
+      recorded = subst (λ (cabin : Cabin). Recorded o (done ++ s ∷ []) IsLost
+          (passed_values s (record (values_of run (record out { breaks = with_lines (cut_at s.number true begun ∷ []) out.breaks })) { cabin = cabin })) d) fails.same r;
+      failed = λ none. no-cut (log_of out) s.number begun none;
+    })))
+
+-- ---- some actions, and then others
+
+pub actions-then : (I : Inside) (xs ys : List Action) (m n speed : ℕ) (a b c : Run) (p q r : Outcome) (d e f : Devices) → n ≡ m + length ys → b.next ≡ a.next → (HaveTime f → HaveTime e)
+    → ActsBy I xs m speed a b p q d e → ActsBy I ys n speed b c q r e f → ActsBy I (xs ++ ys) n speed a c p r d f
+actions-then I xs ys m n speed a b c p q r d e f is next earlier first later o done s now front rest are begun in_ time =
+    let many = length-append xs ys in
+    let mid : I o done s m b q e = first o done s now front (ys ++ rest) (are ∙ ap (λ (l : List Action). front ++ l) (append_assoc xs ys rest)) (omega (arith, begun, many, is)) in_ (earlier time) in
+    let at : m ≡ length (front ++ xs) = let long = length-append front xs in omega (arith, begun, many, is, long) in
+    later o done s (record { number = now.number ∙ sym next; given = now.given; speed_is = now.speed_is }) (front ++ xs) rest
+    (are ∙ ap (λ (l : List Action). front ++ l) (append_assoc xs ys rest) ∙ sym (append_assoc front xs (ys ++ rest))) (omega (arith, is, at))
+    (subst (λ (k : ℕ). I o done s k b q e) at mid) time
+
+-- no action
+pub no-action : (I : Inside) (n speed : ℕ) (run : Run) (out : Outcome) (d : Devices) → ActsBy I [] n speed run run out out d d
+no-action I n speed run out d o done s now front rest are begun in_ time = subst (λ (k : ℕ). I o done s k run out d) (let e : length front ≡ n = omega (arith, begun) in e) in_

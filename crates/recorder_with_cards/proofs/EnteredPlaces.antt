@@ -1,0 +1,229 @@
+-- A card is judged: the places of each card stay as they are, whatever becomes of it.
+use Rattle.std.proofs.Common.{◌≡◌, ◌∙◌, ◌⊎◌, inl, inr, ⊎_elim, ℕ, ◌+◌, ◌≤◌, Bool, None, List, [], ◌∷◌, ◌++◌, length, take, drop, refl, sym, ap, subst, arith}
+use Rattle.std.proofs.lemmas.List.{take-take, drop-take, take_at, length-take-le, length-append}
+use Rattle.card_layout.proofs.Images.{part_before}
+use Rattle.activity_codec.specs.declared.values.Activity.TheVariants.{Rest}
+use Rattle.activity_codec.specs.declared.entries.Entry.{Entry}
+use Rattle.trace_model.specs.declared.Card.{Card}
+use Rattle.trace_model.specs.Trace.{TraceSecond}
+use Rattle.tach_media.specs.Medium.{State, bytes_at, put}
+use Rattle.tacho_types.specs.declared.texts.Registration.{Registration}
+use Rattle.tacho_types.specs.Numbers.{time_bytes}
+use Rattle.minute_rules.specs.Kept.{Kept}
+use Rattle.card_layout.specs.declared.files.Application.{Application}
+use Rattle.card_layout.specs.declared.files.TheConstants.{LARGEST_IMAGE}
+use Rattle.card_layout.specs.Application.{IsApplication}
+use Rattle.card_layout.specs.Files.{files_of, place_of}
+use Rattle.card_layout.proofs.Sizes.{largest_image}
+use Rattle.gated_ring.specs.Ring.{size_of as ring_size}
+use Rattle.card_records.specs.Rings.{file, place_ring}
+use Rattle.card_model.specs.Days.{Day}
+use Rattle.card_image.specs.Own.{own_sizes, IsOwnValid}
+use Rattle.card_session.specs.Vehicles.{Vehicles}
+use Rattle.card_session.specs.Books.{closed}
+use Rattle.card_session.specs.Cards.{IsCard}
+use Rattle.card_session.specs.Sessions.{book_of}
+use Rattle.card_session.specs.Moments.{IsBook, IsCloseMoment}
+use Rattle.card_session.specs.Inserting.{repaired, IsRepairMoment, During, IsStill, IsRepaired, IsRepairing, IsNoted, IsNoting, IsShut, IsShutting, IsEnded, IsEnding, IsOpening, IsCardInserting, timed, registered}
+use Rattle.card_session.proofs.Ends.{inserted_moment}
+use Rattle.card_session.proofs.InsertingUse.{use_inside}
+use Rattle.device_steps.specs.Entering.{owed_on}
+use Rattle.log_model.specs.Log.{In}
+use Rattle.log_model.specs.Course.{Visit}
+use Rattle.safety_model.specs.Recording.{card_image}
+use Rattle.run_rule.specs.Found.{found_of}
+use Rattle.run_told.specs.Told.{arranged}
+use Rattle.run_told.proofs.Holders.{event-places, noted-places, card-places}
+use Rattle.run_outcome.specs.declared.outcome.Outcome.{Outcome}
+use Rattle.run_recorded.specs.Origin.{Origin}
+use Rattle.run_ringed.specs.OnCards.{HasSamePlaces, LeavesPlaces, PlacesStay}
+use Rattle.run_keeping.specs.declared.keeper.Keeper.{Keeper}
+use Rattle.run_entering.specs.declared.lines.Entering.{Entering}
+use Rattle.run_entering.specs.Entering.{Way, Unread, Unsized, Judged}
+use Rattle.run_entering.specs.Noted.{CardNote, PutIn, Shows, IsOnCard, IsComingOnCard, AreBeingDone, AreComingOnCard, card_notes_by}
+use Rattle.run_entering.specs.Entered.{IsFoundIn}
+use Rattle.run_within.specs.Within.{Within}
+use Rattle.run_acts.specs.Entered.{values_with, MayJudge, HasGone, AreSound}
+use Rattle.run_acts.specs.Recording.{IsOrigin}
+use Rattle.run_acts.specs.RunCards.{sizes_in}
+use Rattle.run_acts.proofs.CardPlaces.{file-ring}
+use Rattle.run_acts.proofs.CardStays.{valid-found}
+use Rattle.run_acts.proofs.EnteredFacts.{mine-back, each, card-run}
+use Rattle.run_acts.proofs.EnteredWhole.{found-in}
+
+-- ---- bytes
+
+-- what lies before a place stays
+front-same : (place a n : ℕ) (x c : List ℕ) → take place c ≡ take place x → a + n ≤ place → bytes_at c a n ≡ bytes_at x a n
+front-same place a n x c same le =
+    let front : take (a + n) c ≡ take (a + n) x = sym (take-take (a + n) place c le) ∙ ap (λ (l : List ℕ). take (a + n) l) same ∙ take-take (a + n) place x le in
+    sym (drop-take a n c) ∙ ap (λ (l : List ℕ). drop a l) front ∙ drop-take a n x
+
+put-reaches : (place : ℕ) (bytes x : List ℕ) → place ≤ length x → place + length bytes ≤ length (put place bytes x)
+put-reaches place bytes x le =
+    let front : length (take place x) ≡ place = length-take-le place x le in
+    let all = length-append (take place x) (bytes ++ drop (place + length bytes) x) in
+    let rest = length-append bytes (drop (place + length bytes) x) in
+    omega (arith, front, all, rest)
+
+-- ---- A CARD THAT IS INSERTED
+
+module _ (app : Application) where
+  abbrev Same : List ℕ → List ℕ → Type 0
+  Same x c = bytes_at c (place_ring app).base (ring_size (place_ring app)) ≡ bytes_at x (place_ring app).base (ring_size (place_ring app))
+
+  -- the session time lies in it
+  abbrev Room : List ℕ → Type 0
+  Room x = place_of app (file 0x0507) + 4 ≤ length x
+
+  abbrev Stays : List ℕ → List ℕ → Type 0
+  Stays x c = Room c × Same x c
+
+  abbrev Step : (List ℕ → List ℕ → Type 0) → Type 0
+  Step S = (x c : List ℕ) → Room x → S x c → Stays x c
+
+  -- the places lie before the current use
+  places-first : (place_ring app).base + ring_size (place_ring app) ≤ place_of app (file 0x0507)
+  unfolding files_of
+  places-first = omega arith
+
+  same-image : (x c : List ℕ) → c ≡ x → Same x c
+  same-image x c is = ap (λ (l : List ℕ). bytes_at l (place_ring app).base (ring_size (place_ring app))) is
+
+  same-stays : (x c : List ℕ) → Room x → c ≡ x → Stays x c
+  same-stays x c room is = (subst Room (sym is) room, same-image x c is)
+
+  then-stays : (x y c : List ℕ) → Stays x y → Stays y c → Stays x c
+  then-stays x y c first next = (next.0, next.1 ∙ first.1)
+
+  put-same : (place : ℕ) (bytes x : List ℕ) → place_of app (file 0x0507) ≤ place → place ≤ length x → Same x (put place bytes x)
+  put-same place bytes x low fits =
+      let front : length (take place x) ≡ place = length-take-le place x fits in
+      front-same place (place_ring app).base (ring_size (place_ring app)) x (put place bytes x)
+      (take_at (take place x) (bytes ++ drop (place + length bytes) x) place front) (omega (arith, low, places-first))
+
+  timed-stays : (seconds : ℕ) (x : List ℕ) → Room x → Stays x (timed app seconds x)
+  timed-stays seconds x room = (
+    (let reaches = put-reaches (place_of app (file 0x0507)) (time_bytes (record { 0 = seconds })) x (omega (arith, room)) in omega (arith, reaches)),
+    put-same (place_of app (file 0x0507)) (time_bytes (record { 0 = seconds })) x (omega arith) (omega (arith, room)),
+  )
+
+  registered-stays : (registration : Registration) (x : List ℕ) → Room x → Stays x (registered app registration x)
+  registered-stays registration x room = (
+    (let reaches = put-reaches (place_of app (file 0x0507) + 4) registration.0 x room in omega (arith, reaches)),
+    put-same (place_of app (file 0x0507) + 4) registration.0 x (omega arith) room,
+  )
+
+  card-stays : (P : List ℕ → List Day → Vehicles → Type 0) → Step (λ x c. IsCard app (P x) x c)
+  card-stays P x c room is = (let same = is.outside.same_length in omega (arith, room, same), file-ring app x c (card-places app x c (P x) is))
+
+  noted-stays : (now : ℕ) → Step (IsNoted app now)
+  noted-stays now x c room (inl held) = same-stays x c room held.1
+  noted-stays now x c room (inr noted) = (let same = noted.1.entry.outside.same_length in omega (arith, room, same), file-ring app x c (noted-places app x c _ noted.1))
+
+  noting-stays : (now : ℕ) → Step (IsNoting app now)
+  noting-stays now x c room noting = (
+    (let same : length c ≡ length x = ⊎_elim (λ same. ap (λ (l : List ℕ). length l) same) (λ changed. ⊎_elim (λ absent. absent.outside.same_length) (λ replaced. replaced.outside.same_length) changed) noting.1.entry in omega (arith, room, same)),
+    file-ring app x c (event-places app x c _ noting.1),
+  )
+
+  ended-stays : Step (IsEnded app)
+  ended-stays x c room is = subst (λ (l : List ℕ). Stays x l) (sym is) (timed-stays 0 x room)
+
+  ending-stays : Step (IsEnding app)
+  ending-stays x c room (inl same) = same-stays x c room same
+  ending-stays x c room (inr ended) = ended-stays x c room ended
+
+  during-stays : (R S R' : List ℕ → List ℕ → Type 0) → Step R → Step S → Step R' → Step (During R S R')
+  during-stays R S R' before done behind x c room (inl early) = before x c room early
+  during-stays R S R' before done behind x c room (inr late) =
+      let first = done x late.0 room late.1 in
+      then-stays x late.0 c first (behind late.0 c first.0 late.2)
+
+  module _ (registration : Registration) (odometer now : ℕ) where
+    opening-stays : Step (IsOpening app registration now)
+    opening-stays x c room (inl partly) = (
+      (let same = partly.outside.same_length in omega (arith, room, same)),
+      part_before (place_of app (file 0x0507) + 4) (length registration.0) (place_ring app).base (ring_size (place_ring app)) x c partly.outside (omega (arith, places-first)),
+    )
+    opening-stays x c room (inr (inl named)) = subst (λ (l : List ℕ). Stays x l) (sym named) (registered-stays registration x room)
+    opening-stays x c room (inr (inr opened)) =
+        let first = registered-stays registration x room in
+        subst (λ (l : List ℕ). Stays x l) (sym opened) (then-stays x (registered app registration x) (timed app now (registered app registration x)) first (timed-stays now (registered app registration x) first.0))
+
+    still : Step (IsStill app)
+    still = card-stays (λ x. IsBook (book_of app x))
+
+    shut : Step (IsShut app)
+    shut = card-stays (λ x. IsBook (closed app.activity Rest (book_of app x)))
+
+    shutting : Step (IsShutting app)
+    shutting = card-stays (λ x. IsCloseMoment app.activity Rest (book_of app x))
+
+    repaired-stays : (owed : List Entry) → Step (IsRepaired app registration odometer owed)
+    repaired-stays owed = card-stays (λ x. IsBook (repaired app.activity registration odometer owed (book_of app x)))
+
+    repairing-stays : (owed : List Entry) → Step (IsRepairing app registration odometer owed)
+    repairing-stays owed = card-stays (λ x. IsRepairMoment app.activity registration odometer owed (book_of app x))
+
+    inserting-stays : (owed : List Entry) → Step (IsCardInserting app registration odometer owed now)
+    inserting-stays owed x c room (inl shut_one) =
+        during-stays (IsStill app) (IsStill app) _ still still (during-stays (IsShutting app) (IsShut app) _ shutting shut opening-stays) x c room shut_one.1
+    inserting-stays owed x c room (inr open_one) =
+        during-stays (IsStill app) (IsStill app) _ still still
+        (during-stays (IsRepairing app registration odometer owed) (IsRepaired app registration odometer owed) _ (repairing-stays owed) (repaired-stays owed)
+        (during-stays (IsNoting app now) (IsNoted app now) _ (noting-stays now) (noted-stays now)
+        (during-stays (IsShutting app) (IsShut app) _ shutting shut (during-stays (IsEnding app) (IsEnded app) _ ending-stays ended-stays opening-stays)))) x c room open_one.1
+
+  -- with what is noted behind it
+  module _ (registration : Registration) (e : Entering) (unit : List ℕ) where
+    coming : (notes : List CardNote) (x c : List ℕ) → Room x → AreBeingDone (IsOnCard app registration e unit) (IsComingOnCard app registration e unit) notes x c → Same x c
+    coming [] x c room h = absurd h
+    coming (PutIn ∷ notes) x c room (inl moment) = (inserting-stays registration e.odometer.0 e.at.second (owed_on app unit x) x c room moment).1
+    coming (Shows event ∷ notes) x c room (inl moment) = file-ring app x c (event-places app x c event moment)
+    coming (PutIn ∷ notes) x c room (inr (z, done, rest)) =
+        let first = inserting-stays registration e.odometer.0 e.at.second (owed_on app unit x) x z room (inserted_moment app registration e.odometer.0 e.at.second (owed_on app unit x) x z done) in
+        coming notes z c first.0 rest ∙ first.1
+    coming (Shows event ∷ notes) x c room (inr (z, done, rest)) =
+        let same = done.entry.outside.same_length in
+        coming notes z c (omega (arith, room, same)) rest ∙ file-ring app x z (noted-places app x z event done)
+
+-- ---- IT IS JUDGED
+
+module _ (o : Origin) (done : List TraceSecond) (s : TraceSecond) (n : ℕ) (waits fewer : List Visit) (e : Entering) (k : Keeper) (out : Outcome) (unfound next_ begun : ℕ) (minutes : Kept) (U X Z : State) (w : Within o done s (In n) waits None [] (values_with k out unfound next_ begun minutes) (arranged e.which U X Z)) (m : MayJudge o done s n waits fewer e k out unfound next_ begun minutes U X Z w)
+    (origin : IsOrigin o) (failed : Bool) (k' : Keeper) (noted noted' : ℕ) (out' : Outcome) (W Y : State) (way : Way) (g : HasGone e failed k k' noted noted' out out' U W X Y Z way) (sound : AreSound U W X Y) (fits : LARGEST_IMAGE ≤ X.size) where
+  -- of this card, where it was valid
+  module _ (valid : IsOwnValid (card_image o.recording e.which)) where
+    there : IsOwnValid (found_of o.found e.which).image
+    there = valid-found o origin e.which valid
+
+    sizes-are : (x : List ℕ) → X.may_leave x → own_sizes x ≡ sizes_in o e.which
+    sizes-are x at = ((w.powered.go.held e.which there).now x (mine-back e.which U X Z (λ (q : State). q.may_leave x) at)).0 ∙ ap own_sizes (origin.image e.which)
+
+    room : (x : List ℕ) → X.may_leave x → place_of (sizes_in o e.which) (file 0x0507) + 4 ≤ length x
+    room x at =
+        let good : IsApplication (sizes_in o e.which) = subst (λ (l : List ℕ). IsApplication (own_sizes l)) (origin.image e.which) (w.found.sizes e.which there) in
+        let most = largest_image (sizes_in o e.which) good in
+        let long = sound.card_before.left_sized x at in
+        omega (arith, fits, most, long, use_inside (sizes_in o e.which))
+
+    was : (x : List ℕ) × X.may_leave x × IsFoundIn e.at.second U.image way x
+    was = found-in o done s n waits fewer e k out unfound next_ begun minutes U X Z w m failed k' noted noted' out' W Y way g sound
+
+    by-way : (v : Way) (u x y : List ℕ) → X.may_leave x → IsFoundIn e.at.second U.image v was.0 → AreComingOnCard v k.memory.registration e u x y → HasSamePlaces (card_image o.recording e.which) x y
+    by-way Unread u x y at found comes = absurd comes
+    by-way (Unsized field) u x y at found comes = absurd comes
+    by-way (Judged app ending) u x y at found comes =
+        let same : app ≡ sizes_in o e.which = sym found.0 ∙ sizes-are was.0 was.1 in
+        coming (sizes_in o e.which) k.memory.registration e u (card_notes_by ending k.memory.registration e) x y (room x at)
+        (subst (λ (a : Application). AreBeingDone (IsOnCard a k.memory.registration e u) (IsComingOnCard a k.memory.registration e u) (card_notes_by ending k.memory.registration e) x y) same comes)
+
+    own : LeavesPlaces (card_image o.recording e.which) X Y
+    own y left =
+        let run = card-run o done s n waits fewer e k out unfound next_ begun minutes U X Z w m failed k' noted noted' out' W Y way g sound in
+        ⊎_elim (λ before. (y, before, refl)) (λ here. (here.2.0, here.2.1, by-way way run.0 here.2.0 y here.2.1 was.2 here.2.2)) (run.1.now y left)
+
+  -- SO THE PLACES of both cards stay
+  pub judged-places : PlacesStay o (arranged e.which U X Z) (arranged e.which W Y Z)
+  judged-places c valid =
+      each e.which U W X Y Z (λ (q : Card) (a b : State). IsOwnValid (card_image o.recording q) → LeavesPlaces (card_image o.recording q) a b) (λ v. own v) (λ v y left. (y, left, refl)) c valid

@@ -1,0 +1,187 @@
+-- What the notes of a card that enters show of its events.
+use Rattle.std.proofs.Common.{◌≡◌, ◌≢◌, inl, inr, ℕ, ◌+◌, ◌^◌, ◌<◌, Bool, true, false, cond, not, nat_lt, nat_eq, Some, List, [], ◌∷◌, ◌++◌, length, Contains, refl, ap, sym, subst, ◌∙◌, arith}
+use Rattle.std.proofs.lemmas.Bool.{eq-eqb}
+use Rattle.std.proofs.lemmas.Bool.Decides.{nat_tests}
+use Rattle.card_layout.specs.Images.{SameOutside}
+use Rattle.trace_model.specs.declared.Card.{Card}
+use Rattle.log_model.specs.Log.{RunLog}
+use Rattle.log_model.specs.declared.lines.Verdict.TheVariants.{Accepted}
+use Rattle.log_model.specs.Course.{Visit}
+use Rattle.unit_model.specs.declared.layout.TheConstants.{FIRST_OVER, OVER_COUNT}
+use Rattle.unit_model.specs.Image as image
+use Rattle.event_model.specs.declared.kinds.TheConstants.{CARD_NOT_VALID, TIME_OVERLAP, INSERTION_WHILE_DRIVING, SESSION_NOT_CLOSED, CARD_FAULT, OVER_SPEEDING}
+use Rattle.event_model.specs.Events.{Event, Crew, Seen, Tearing, number_of, noted_with, crew_judged}
+use Rattle.side_model.specs.Tables.{table_in}
+use Rattle.unit_notes.specs.Entries.{fault_bytes}
+use Rattle.unit_notes.specs.Noting.{IsEventNoted, IsNotingEvent}
+use Rattle.event_course.specs.Shown.{all_kinds}
+use Rattle.event_notes.proofs.Frames.{others-same, numbers-same}
+use Rattle.run_events.specs.Shown.{by_kind, none, ShowsMore, AreNumbers, SaysNothingBut}
+use Rattle.run_events.specs.Running.{judged_notes}
+use Rattle.run_events.proofs.Shows.{more-then, nothing-more, nothing-but}
+use Rattle.run_events.proofs.Frames.{all-apart, event-more, event-but, between-nothing}
+use Rattle.run_crew.specs.declared.cabin.Cabin.{Cabin}
+use Rattle.run_crew.specs.declared.cards.Crew.{Crew as Numbers}
+use Rattle.run_crew.specs.Cabin.{torn_out, crew_of}
+use Rattle.run_notes.specs.Entries.{IsCrewOf, entry_of}
+use Rattle.run_entering.specs.declared.lines.Entering.{Entering}
+use Rattle.run_entering.specs.Entering.{Ending, Unfit, Ahead, Fell, Unasked, Unnoted, Seated, Lost, seated}
+use Rattle.run_entering.specs.Noted.{AreDone, AreBeingDone, UnitNote, Inserts, BeginsRow, Tells, IsOnUnit, IsComing, event_of, fault_of, moving_notes, unclosed_notes, notes_by}
+use Rattle.recorder_with_cards.specs.EnteredTold.{IsTold, TellEvents, AreUnsure, moving_events, unclosed_events, events_by, IsLow, AreNamed}
+
+-- what was noted leaves the other types alone
+noted-but : (kind : ℕ) → Contains all_kinds kind → (front x y : List ℕ) → IsEventNoted kind front x y → SaysNothingBut kind x y
+noted-but kind there front x y noted =
+    let numbers = numbers-same kind (all-apart kind there) x y noted.outside in
+    record { tables = λ other at ne. others-same kind (all-apart kind there) x y noted.outside other at ne; first_over = λ ne. numbers.0; over_count = λ ne. numbers.1 }
+
+module _ (number : Card → List ℕ) (long : AreNumbers number) (log : RunLog) (now : ℕ → List Event) where
+  pub same-shown : (x y : List ℕ) → y ≡ x → ShowsMore number log now none x y
+  same-shown x y is = nothing-more number log now x y (record {
+    tables = λ kind there. ap (table_in kind) is;
+    first_over = ap (λ (l : List ℕ). image.number_of l FIRST_OVER) is;
+    over_count = ap (λ (l : List ℕ). image.number_of l OVER_COUNT) is;
+  })
+
+  ring-shown : (x y : List ℕ) → SameOutside 2115044 264196 x y → ShowsMore number log now none x y
+  ring-shown x y same = nothing-more number log now x y (between-nothing 2115044 264196 x y same (omega arith) (omega arith))
+
+  rows-shown : (x y : List ℕ) → SameOutside 624 384 x y → ShowsMore number log now none x y
+  rows-shown x y same = nothing-more number log now x y (between-nothing 624 384 x y same (omega arith) (omega arith))
+
+  -- ALL WERE NOTED
+  pub told-shown : (notes : List UnitNote) (events : List Event) (x y : List ℕ) → length x ≡ 2485808 → TellEvents number notes events → AreDone IsOnUnit notes x y → ShowsMore number log now (by_kind events) x y
+  told-shown [] [] x y sized told done = same-shown x y done
+  told-shown [] (e ∷ events) x y sized told done = absurd told
+  told-shown (Inserts insertion ∷ notes) events x y sized told (z, one, rest) =
+      more-then number log now [] events x z y (ring-shown x z one.outside) (told-shown notes events z y (one.outside.same_length ∙ sized) told rest)
+  told-shown (BeginsRow card session spared ∷ notes) events x y sized told (z, one, rest) =
+      more-then number log now [] events x z y (rows-shown x z one.beginning.outside) (told-shown notes events z y (one.beginning.outside.same_length ∙ sized) told rest)
+  told-shown (Tells v ∷ notes) [] x y sized told done = absurd told
+  told-shown (Tells v ∷ notes) (e ∷ events) x y sized told (z, one, rest) =
+      let first = told.0 in
+      more-then number log now (e ∷ []) events x z y
+      (event-more number long log now e first.there x z sized v first.other first.begin first.end first.is (subst (λ (k : ℕ). IsEventNoted k (fault_bytes v) x z) first.is.kind one))
+      (told-shown notes events z y (one.outside.same_length ∙ sized) told.1 rest)
+
+  -- OR THAT WAS CUT SHORT, and of what was noted nothing is sure
+  pub told-moment : (notes : List UnitNote) (events : List Event) (x c : List ℕ) → TellEvents number notes events → AreUnsure log now events → AreBeingDone IsOnUnit IsComing notes x c → ShowsMore number log now none x c
+  told-moment [] events x c told unsure moment = absurd moment
+  told-moment (Inserts insertion ∷ notes) events x c told unsure (inl moment) = ring-shown x c moment.outside
+  told-moment (Inserts insertion ∷ notes) events x c told unsure (inr (z, one, rest)) =
+      more-then number log now [] [] x z c (ring-shown x z one.outside) (told-moment notes events z c told unsure rest)
+  told-moment (BeginsRow card session spared ∷ notes) events x c told unsure (inl moment) = rows-shown x c moment.outside
+  told-moment (BeginsRow card session spared ∷ notes) events x c told unsure (inr (z, one, rest)) =
+      more-then number log now [] [] x z c (rows-shown x z one.beginning.outside) (told-moment notes events z c told unsure rest)
+  told-moment (Tells v ∷ notes) [] x c told unsure moment = absurd told
+  told-moment (Tells v ∷ notes) (e ∷ events) x c told unsure (inl moment) =
+      let first = told.0 in
+      nothing-but number log now e.kind x c (event-but e.kind first.there (fault_bytes v) x c (subst (λ (k : ℕ). IsNotingEvent k (fault_bytes v) x c) first.is.kind moment)) unsure.0
+  told-moment (Tells v ∷ notes) (e ∷ events) x c told unsure (inr (z, one, rest)) =
+      let first = told.0 in
+      more-then number log now [] [] x z c
+      (nothing-but number log now e.kind x z (noted-but e.kind first.there (fault_bytes v) x z (subst (λ (k : ℕ). IsEventNoted k (fault_bytes v) x z) first.is.kind one)) unsure.0)
+      (told-moment notes events z c told.1 unsure.1 rest)
+
+-- WHICH EVENTS ARE TOLD
+module _ (number : Card → List ℕ) (second : ℕ) (low : second < 2 ^ 32) where
+  entry-told : (kind begin end : ℕ) (crew : Crew) (numbers : Numbers) → Contains all_kinds kind → kind ≢ OVER_SPEEDING → begin < 2 ^ 32 → end < 2 ^ 32 → IsCrewOf number crew numbers →
+      IsTold number (noted_with kind begin end crew) (entry_of kind begin end numbers numbers)
+  entry-told kind begin end crew numbers there other small large named = record {
+    is = record {
+      kind = refl;
+      purpose = refl;
+      begin = refl;
+      end = refl;
+      driver_begin = named.driver;
+      codriver_begin = named.codriver;
+      driver_end = named.driver;
+      codriver_end = named.codriver;
+      average = refl;
+    };
+    there = there;
+    other = other;
+    begin = small;
+    end = large;
+  }
+
+  invalid-there : Contains all_kinds CARD_NOT_VALID
+  invalid-there = (0, omega arith, refl)
+
+  overlap-there : Contains all_kinds TIME_OVERLAP
+  overlap-there = (1, omega arith, refl)
+
+  moving-there : Contains all_kinds INSERTION_WHILE_DRIVING
+  moving-there = (3, omega arith, refl)
+
+  unclosed-there : Contains all_kinds SESSION_NOT_CLOSED
+  unclosed-there = (4, omega arith, refl)
+
+  fault-there : Contains all_kinds CARD_FAULT
+  fault-there = (7, omega arith, refl)
+
+  differs : (a : ℕ) → nat_eq a OVER_SPEEDING ≡ false → a ≢ OVER_SPEEDING
+  differs a is e = absurd (let same : nat_eq a OVER_SPEEDING ≡ true = eq-eqb a OVER_SPEEDING e in let wrong : true ≡ false = sym same ∙ is in cc)
+
+  tell-append : (notes others : List UnitNote) (events more : List Event) → TellEvents number notes events → TellEvents number others more → TellEvents number (notes ++ others) (events ++ more)
+  tell-append [] others [] more h k = k
+  tell-append [] others (e ∷ events) more h k = absurd h
+  tell-append (Inserts insertion ∷ notes) others events more h k = tell-append notes others events more h k
+  tell-append (BeginsRow card session spared ∷ notes) others events more h k = tell-append notes others events more h k
+  tell-append (Tells v ∷ notes) others [] more h k = absurd h
+  tell-append (Tells v ∷ notes) others (e ∷ events) more h k = (h.0, tell-append notes others events more h.1 k)
+
+  module _ (e : Entering) (at : e.at.second ≡ second) where
+    now-low : e.at.second < 2 ^ 32
+    now-low = subst (λ (n : ℕ). n < 2 ^ 32) (sym at) low
+
+    moving-told : (cabin : Cabin) (crew : Crew) → IsCrewOf number crew (crew_of cabin) → TellEvents number (moving_notes e cabin) (moving_events e.speed e.at.second crew)
+    moving-told cabin crew named = by (nat_lt 0 e.speed)
+      where
+        by : (b : Bool) → TellEvents number (cond b (event_of INSERTION_WHILE_DRIVING e.at.second e.at.second cabin ∷ []) []) (cond b (noted_with INSERTION_WHILE_DRIVING e.at.second e.at.second crew ∷ []) [])
+        by true = (entry-told INSERTION_WHILE_DRIVING e.at.second e.at.second crew (crew_of cabin) moving-there (differs INSERTION_WHILE_DRIVING refl) now-low now-low named, tt)
+        by false = tt
+
+    unclosed-told : (session : ℕ) (cabin : Cabin) (crew : Crew) → session < 2 ^ 32 → IsCrewOf number crew (crew_of cabin) → TellEvents number (unclosed_notes session e cabin) (unclosed_events session e.at.second crew)
+    unclosed-told session cabin crew small named = by (nat_eq session 0)
+      where
+        by : (b : Bool) → TellEvents number (cond b [] (event_of SESSION_NOT_CLOSED session e.at.second cabin ∷ [])) (cond b [] (noted_with SESSION_NOT_CLOSED session e.at.second crew ∷ []))
+        by true = tt
+        by false = (entry-told SESSION_NOT_CLOSED session e.at.second crew (crew_of cabin) unclosed-there (differs SESSION_NOT_CLOSED refl) small now-low named, tt)
+
+    fault-told : (cabin : Cabin) (crew : Crew) → IsCrewOf number crew (crew_of (torn_out e.which e.at.second cabin)) → IsTold number (noted_with CARD_FAULT e.at.second e.at.second crew)
+        (entry_of CARD_FAULT e.at.second e.at.second (crew_of (torn_out e.which e.at.second cabin)) (crew_of (torn_out e.which e.at.second cabin)))
+    fault-told cabin crew named = entry-told CARD_FAULT e.at.second e.at.second crew (crew_of (torn_out e.which e.at.second cabin)) fault-there (differs CARD_FAULT refl) now-low now-low named
+
+    pub events-told : (ending : Ending) (noted : ℕ) (cabin : Cabin) (before accepted left : Crew) → IsLow ending → AreNamed number ending e noted cabin before accepted left →
+        TellEvents number (notes_by ending e noted cabin) (events_by ending e.speed e.at.second before accepted left)
+    events-told (Unfit fid place) noted cabin before accepted left small named =
+        (entry-told CARD_NOT_VALID e.at.second e.at.second before (crew_of cabin) invalid-there (differs CARD_NOT_VALID refl) now-low now-low named.at_first, tt)
+    events-told (Ahead stored) noted cabin before accepted left small named =
+        (entry-told TIME_OVERLAP e.at.second stored before (crew_of cabin) overlap-there (differs TIME_OVERLAP refl) now-low small named.at_first, tt)
+    events-told Fell noted cabin before accepted left small named = (fault-told cabin left named.without_it, tt)
+    events-told Unasked noted cabin before accepted left small named = tt
+    events-told (Unnoted entered clock) noted cabin before accepted left small named = tt
+    events-told (Seated entered clock entry) noted cabin before accepted left small named =
+        let now : Cabin = seated entered.look entered.session entered.row entry noted e cabin in
+        tell-append (moving_notes e now) (unclosed_notes entered.look.session e now) (moving_events e.speed e.at.second accepted) (unclosed_events entered.look.session e.at.second accepted)
+        (moving-told now accepted named.with_it) (unclosed-told entered.look.session now accepted small named.with_it)
+    events-told (Lost entered clock entry) noted cabin before accepted left small named =
+        let now : Cabin = seated entered.look entered.session entered.row entry noted e cabin in
+        tell-append (moving_notes e now) (fault_of e now ∷ unclosed_notes entered.look.session e now) (moving_events e.speed e.at.second accepted)
+        (noted_with CARD_FAULT e.at.second e.at.second left ∷ unclosed_events entered.look.session e.at.second accepted)
+        (moving-told now accepted named.with_it) (fault-told now left named.without_it, unclosed-told entered.look.session now accepted small named.with_it)
+
+-- THEY ARE THOSE OF THE RUN
+lt-eq : (n : ℕ) → nat_lt 0 n ≡ not (nat_eq n 0)
+lt-eq n = grind (arith, nat_tests)
+
+turned : (b : Bool) (es : List Event) → cond (not b) es [] ≡ cond b [] es
+turned true es = refl
+turned false es = refl
+
+pub accepted-are : (session : ℕ) (t : Tearing) (x : Seen) (v : Visit) (replayed : ℕ) → moving_events x.told.second.speed (number_of x) (crew_judged t x v (Some v.card)) ++ unclosed_events session (number_of x) (crew_judged t x v (Some v.card)) ≡ judged_notes session t x v (Accepted replayed)
+accepted-are session t x v replayed =
+    let six : Event = noted_with SESSION_NOT_CLOSED session (number_of x) (crew_judged t x v (Some v.card)) in
+    ap (λ (es : List Event). moving_events x.told.second.speed (number_of x) (crew_judged t x v (Some v.card)) ++ es)
+    (sym (ap (λ (b : Bool). cond b (six ∷ []) []) (lt-eq session) ∙ turned (nat_eq session 0) (six ∷ [])))

@@ -1,0 +1,29 @@
+-- A run whose next second has a selection more.
+use Rattle.std.proofs.Common.{ℕ, ◌-◌}
+use Rattle.activity_codec.specs.declared.values.Slot.{Slot}
+use Rattle.activity_codec.specs.declared.values.Pick.{Pick}
+use Rattle.tach_media.specs.Medium.{State}
+use Rattle.card_layout.specs.declared.command.CardState.{CardState}
+use Rattle.minute_model.specs.Span.{picked}
+use Rattle.minute_rules.specs.Kept.{StandsFor, Kept as Minutes}
+use Rattle.run_acts.specs.declared.run.Run.{Run}
+use Rattle.run_acts.specs.Going.{IsLit}
+
+module _ {U A0 B0 : State} {chip_a chip_b : CardState} (to : ℕ) (run : Run) (minutes : Minutes) (slot : Slot) (pick : Pick) where
+  pub picked-going : (g : IsLit to run U chip_a chip_b A0 B0) → StandsFor minutes (picked g.span slot pick) → IsLit to (record run { minutes = minutes }) U chip_a chip_b A0 B0
+  picked-going g stands = record {
+    ready = g.ready;
+    span = picked g.span slot pick;
+    stands = stands;
+    next = g.next;
+    low = g.low;
+    due = g.due;
+    later = g.later;
+    cabin = g.cabin;
+    ended = g.ended;
+    rows = g.rows;
+    present = g.present;
+    entries = g.entries;
+    watches = g.watches;
+    limit = g.limit;
+  }

@@ -1,0 +1,536 @@
+-- What a run promises, from what was recorded of it; and that nothing is recorded as it begins.
+use Rattle.std.proofs.Common.{◌≡◌, ◌∙◌, ◌⊎◌, inl, inr, ℕ, ◌-◌, ◌/◌, ◌<◌, ◌≤◌, true, Option, Some, None, IfSome, option_map, is_some, List, [], length, All, refl, ap, sym, subst, arith, ◌||◌}
+use Rattle.trace_model.specs.declared.Card.{Card}
+use Rattle.trace_model.specs.declared.Card.TheVariants.{A, B}
+use Rattle.tacho_types.specs.declared.texts.Registration.{Registration}
+use Rattle.trace_model.specs.declared.Item.{Item}
+use Rattle.trace_model.specs.Trace.{TraceSecond, seconds_of}
+use Rattle.tach_media.specs.Medium.{State, IsCoherent}
+use Rattle.card_layout.specs.Application.{IsApplication}
+use Rattle.card_layout.proofs.Sizes.{largest_image}
+use Rattle.card_model.specs.Days.{AreDays}
+use Rattle.card_image.specs.Fields.{card_days}
+use Rattle.card_image.specs.Own.{own_view, own_sizes, own_number, own_bad_file, IsOwnValid}
+use Rattle.card_judge.proofs.Copies.{place_shape}
+use Rattle.gated_ring.specs.Ring.{PointsInside, IsDense}
+use Rattle.device_steps.proofs.Passed.{valid-passes, pointer-passes}
+use Rattle.card_times.specs.Times.{IsTimed}
+use Rattle.card_layout.specs.declared.command.CardState.{CardState}
+use Rattle.tacho_types.specs.declared.card_number.FullCardNumber.{FullCardNumber}
+use Rattle.tacho_types.specs.CardNumber.{card_number_bytes, card_number_of}
+use Rattle.log_model.specs.Log.{RunLog}
+use Rattle.log_model.specs.Course.{went}
+use Rattle.log_model.specs.Spans.{spans_of}
+use Rattle.side_model.specs.Done.{done_of}
+use Rattle.side_model.specs.Noted.{Note, notes_of}
+use Rattle.side_model.specs.Odometer.{MayStore, HaveBases}
+use Rattle.history_model.specs.Book.{not_begun}
+use Rattle.joint_rule.specs.Rules.{Out}
+use Rattle.unit_course.specs.Followed.{Supply, Lit as IsLit, Due as IsDue, Lost as IsLost}
+use Rattle.unit_course.specs.Legs.{not_travelled}
+use Rattle.unit_model.specs.declared.layout.TheConstants.{HIGHEST_ODOMETER}
+use Rattle.unit_model.specs.Image.{recorded, last_kept, odometer_at}
+use Rattle.unit_model.specs.Decoding.{Decodes}
+use Rattle.unit_rule.specs.Odometer.{HasTravelled}
+use Rattle.unit_rule.specs.Rule.{started, IsCards}
+use Rattle.unit_rule.specs.OtherRows.{valid_number}
+use Rattle.unit_rule.proofs.OtherRows.{valid-number, keeps-rows}
+use Rattle.unit_rule.proofs.Travelling.{travelled-opened}
+use Rattle.unit_journal.proofs.Beside.{passes_beside}
+use Rattle.unit_memory.specs.declared.memory.UnitFacts.{UnitFacts}
+use Rattle.safety_model.specs.Recording.{Recording, card_image, brought, history_of, lost_of, start_of}
+use Rattle.safety_model.specs.Unit.{UnitSafe}
+use Rattle.safety_model.specs.Safe.{Devices, card_of, breakdowns_of}
+use Rattle.slot_machine.specs.Kept.{nothing_yet}
+use Rattle.run_crew.specs.declared.cards.Accepted.{Accepted}
+use Rattle.run_crew.specs.declared.cards.Known.{Known}
+use Rattle.run_crew.specs.declared.cards.Cards.{Cards}
+use Rattle.run_crew.specs.Cards.{known_of as known_in, session_of}
+use Rattle.run_rule.specs.Found.{Found, found_of}
+use Rattle.run_rule.specs.Between.{Carried, IsCarried, IsFound, devices}
+use Rattle.run_rule.specs.Opening.{BeginsAs, carried_first}
+use Rattle.run_rule.proofs.End.{lit-carried}
+use Rattle.run_brought.specs.Accounts.{so_far}
+use Rattle.run_moments.specs.Telling.{IsMore}
+use Rattle.run_told.specs.Told.{AreFoundCards, IsHeldDark, IsPowerless}
+use Rattle.run_told.proofs.Opened.{opened-wait, opened-powerless}
+use Rattle.run_recorded.specs.Origin.{Origin, rule_of, start_at}
+use Rattle.run_recorded.specs.Ends.{EndsRun}
+use Rattle.run_recorded.specs.Seconds.{empty_log}
+use Rattle.run_recorded.proofs.Ends.{ends-run}
+use Rattle.event_model.specs.Events.{Seen, seen_of}
+use Rattle.run_evented.specs.Evented.{images_in, Evented}
+use Rattle.run_evented.specs.Uses.{uses_from, use_behind, vehicle_of, use_in, insertions_on, uses_in}
+use Rattle.run_evented.proofs.Ends.{nothing-noted, events-shown}
+use Rattle.run_ringed.specs.OnCards.{places_in, HasPlaces}
+use Rattle.run_ringed.specs.Ringed.{Seating, Ringed, notes_in, since_behind}
+use Rattle.run_ringed.specs.SoFar.{AreEarlier, RingedBehind}
+use Rattle.run_ringed.specs.Stored.{StoresOff, Stores}
+use Rattle.run_ringed.proofs.Rings.{none-noted, fewer-sit}
+use Rattle.run_ringed.proofs.Shown.{rings-shown, places-shown}
+use Rattle.run_ringed.proofs.Bases.{stored-start}
+use Rattle.run_within.specs.Recorded.{Values, progress, carried, AreThere, IsHeldBy, Recorded}
+use Rattle.run_within.proofs.Going.{begun-recorded}
+use Rattle.run_opening.specs.Begun.{Begin, found_in, known_of, IsReady}
+use Rattle.run_opening.specs.Cards.{IsFoundOn, number_by}
+use Rattle.run_opening.specs.declared.opening.Opened.{Opened}
+use Rattle.run_opening.proofs.Told.{valid-known}
+use Rattle.run_outcome.specs.declared.outcome.Outcome.{Outcome}
+use Rattle.run_acts.specs.declared.run.Run.{Run}
+use Rattle.run_acts.specs.declared.run.Power.{Power}
+use Rattle.run_acts.specs.declared.run.Power.TheVariants.{Lit, Due}
+use Rattle.run_acts.specs.Power.{is_lit}
+use Rattle.run_acts.specs.Recording.{log_of, values_of, IsOrigin, Supplies, RunRecorded}
+use Rattle.run_acts.proofs.StoredRun.{end-stores}
+use Rattle.run_acts.specs.Evented.{RunEvented}
+use Rattle.run_acts.specs.Ringing.{seating_of}
+use Rattle.run_acts.specs.RunRinged.{seats_of, RunRinged}
+use Rattle.run_acts.specs.OnCards.{accepted_on, ShowsOn, AreUses}
+use Rattle.run_acts.specs.RunCards.{vehicle_in, sizes_in}
+use Rattle.run_acts.proofs.StayUses.{shown-use}
+use Rattle.run_acts.proofs.OnCards.{start-shown}
+use Rattle.run_acts.proofs.Numbers.{own-long}
+use Rattle.recorder_with_cards.specs.Carded.{RunCarded}
+use Rattle.recorder_with_cards.specs.Ends.{BeginAs, recorded_with, recording_of, opened_with, origin_of, MayRecord, EndsTrace}
+use Rattle.recorder_with_cards.specs.Side.{ShowTheSide}
+use Rattle.recorder_with_cards.proofs.SideShown.{insertions-inside, places-inside, side-shown}
+use Rattle.recorder_with_cards.proofs.Written.{are-written, keep-holders}
+use Rattle.recorder_with_cards.specs.Placed.{ShowsPlaces}
+use Rattle.recorder_with_cards.proofs.KeptAfter.{end-kept}
+use Rattle.recorder_with_cards.specs.LastKept.{TellsLast}
+use Rattle.recorder_with_cards.proofs.LastKept.{safe-last}
+use Rattle.run_acts.specs.Closings.{spells_of}
+use Rattle.run_acts.specs.Comings.{TellsMore}
+use Rattle.run_acts.proofs.Comings.{tells-none}
+use Rattle.run_acts.specs.Stays.{Stay, Coming, comings_on, registration_in, AreMerged, spells, sits_in, HasStays, ShowsStays, start_shown, AreOwed, AreJudged, is_late}
+use Rattle.recorder_with_cards.proofs.AtEnd.{noted-at-end, sits-at-end, words-so, odometers-so, owes-so}
+use Rattle.run_recorded.specs.Whole.{NothingFailed}
+use Rattle.run_crew.specs.Cabin.{Stands}
+use Rattle.std.specs.Prelude.{filter}
+use Rattle.log_model.specs.Log.{is_accepting}
+use Rattle.log_model.specs.Causes.{device_of}
+use Rattle.log_model.specs.declared.lines.Find.{Find}
+use Rattle.run_acts.proofs.Stays.{stays-start}
+use Rattle.run_acts.proofs.AllStay.{placed-bare}
+use Rattle.run_acts.specs.Owed.{IsOwed}
+
+-- what holds of either card
+pub both : (P : Card → Type 0) → P A → P B → (c : Card) → P c
+both P first second A = first
+both P first second B = second
+
+-- no card has broken down
+pub more-devices : (U V X Y Z W : State) → U.breakdowns ≤ V.breakdowns → Y.breakdowns ≡ X.breakdowns → W.breakdowns ≡ Z.breakdowns → IsMore (breakdowns_of (devices U X Z)) (breakdowns_of (devices V Y W))
+more-devices U V X Y Z W unit a b = record { unit = unit; cards = both (λ c. breakdowns_of (devices V Y W) (device_of c) ≡ breakdowns_of (devices U X Z) (device_of c)) a b }
+
+-- of two chips that of a card
+abbrev pub chip_of : CardState → CardState → Card → CardState
+chip_of a b A = a
+chip_of a b B = b
+
+-- ---- the images
+
+-- each device begins with its image, by whatever is told of the run
+pub begins-with : (x a b : List ℕ) (trace : List TraceSecond) (log : RunLog) (began : Devices) → BeginAs x a b began → Begin (recorded_with x a b trace log) began
+begins-with x a b trace log began h = record { unit = h.of_unit; card = each }
+  where
+    each : (c : Card) → BeginsAs (card_image (recorded_with x a b trace log) c) (card_of began c)
+    each A = h.of_a
+    each B = h.of_b
+
+-- what was found is so whatever the run told since
+found-by : (r : Recording) (done : List TraceSecond) (log : RunLog) (f : Found) (began : Devices) → IsFound r f began → IsFound (so_far r done log) f began
+found-by r done log f began h = record { unit = h.unit; image = image; start = start; clock = h.clock; number = number; days = days }
+  where
+    image : (c : Card) → (found_of f c).image ≡ card_image (so_far r done log) c
+    image A = h.image A
+    image B = h.image B
+
+    start : (c : Card) → (found_of f c).start ≡ brought (so_far r done log) c
+    start A = h.start A
+    start B = h.start B
+
+    number : (c : Card) → IsOwnValid (card_image (so_far r done log) c) → (found_of f c).number ≡ own_number (card_image (so_far r done log) c)
+    number A valid = h.number A valid
+    number B valid = h.number B valid
+
+    days : (c : Card) → IsOwnValid (card_image (so_far r done log) c) → AreDays 0 (card_days (own_sizes (card_image (so_far r done log) c)) (card_image (so_far r done log) c))
+    days A valid = h.days A valid
+    days B valid = h.days B valid
+
+-- ---- at the end
+
+-- the pointer of the places of a valid card is an index
+own-points : (x : List ℕ) → IsOwnValid x → PointsInside (places_in x) x
+unfolding own_bad_file
+own-points x valid = pointer-passes (places_in x) x (valid-passes (own_sizes x) x valid).places
+
+-- only a valid card has some of the one, and only a valid one some of the other
+only-both : {P Q R S : Type 0} → P ⊎ R → Q ⊎ R → (R → S) → (P × Q) ⊎ S
+only-both (inl p) (inl q) same = inl (p, q)
+only-both (inl p) (inr valid) same = inr (same valid)
+only-both (inr valid) q same = inr (same valid)
+
+-- the comings of cards with these images are those with images that are the same
+merged-by : (comings : List Coming) (vehicle : Registration) (one other : List Stay) (a b now_a now_b : List ℕ) → a ≡ now_a → b ≡ now_b → AreMerged comings (comings_on vehicle a one) (comings_on vehicle b other) → AreMerged comings (comings_on vehicle now_a one) (comings_on vehicle now_b other)
+merged-by comings vehicle one other a b now_a now_b first second h =
+    subst (λ (i : List ℕ). AreMerged comings (comings_on vehicle now_a one) (comings_on vehicle i other)) second
+    (subst (λ (i : List ℕ). AreMerged comings (comings_on vehicle i one) (comings_on vehicle b other)) first h)
+
+module _ (x a b : List ℕ) (start : ℕ) (items : List Item) (began now : Devices) where
+  abbrev r0 : Recording
+  r0 = opened_with x a b
+
+  abbrev o : Origin
+  o = origin_of x a b start began
+
+  is-carried : (done : List TraceSecond) (v : Values) (w : Carried) (supply : Supply) → IsHeldBy o done supply v w now → IsCarried o.found w now
+  is-carried done v w (IsLit span) held = lit-carried o.found w now held.powered.lit
+  is-carried done v w IsDue held = held.powerless.carried
+  is-carried done v w IsLost held = held.powerless.carried
+
+  ends-so : (done : List TraceSecond) (supply : Supply) (v : Values) → Recorded o done supply v now → IsCoherent now.unit → ((c : Card) → IsCoherent (card_of now c)) → IsFound r0 (found_in r0 began) began → Decodes x →
+      EndsRun (recorded_with x a b done v.log) v.marks began now
+  ends-so done supply v h unit_whole card_whole found decodes =
+      ends-run o done (progress v supply h.book) h.travel v.marks (carried v h.due h.book h.standing h.brought) began now h.recorded (found-by r0 done v.log (found_in r0 began) began found)
+      (is-carried done v (carried v h.due h.book h.standing h.brought) supply h.held) refl refl h.beside unit_whole card_whole decodes refl
+
+  pub promised : (run : Run) (out : Outcome) → RunCarded o (seconds_of start items) run out now → (run.power ≡ Lit → (low : ℕ) × Stands low None run.keeper.cabin) → IsCoherent now.unit → ((c : Card) → IsCoherent (card_of now c)) → MayRecord x a b start → IsFound r0 (found_in r0 began) began →
+      EndsTrace x a b start items out began now
+  promised run out carded sits unit_whole card_whole may found = record {
+    may = may;
+    ends = let safe = run-ends.safe in record run-ends { safe = record safe { unit = unit-last.0 } };
+    side = shows;
+    written = are-written o (seconds_of start items) h.evented.recorded.supply (values_of run out) began now h.evented.recorded.recorded (found-by r0 (seconds_of start items) (log_of out) (found_in r0 began) began found);
+    stays = λ none.
+        let all = h.evented.recorded.stay none in
+        record {
+          vehicle = run.keeper.memory.registration;
+          says = all.says;
+          stays = all.stays;
+          since = all.since;
+          only = λ c. only-both (all.only c) (all.lone c) (λ valid. subst IsOwnValid (of_image c) valid);
+          judged = all.judged;
+          verdicts = λ c valid. subst (λ (i : List ℕ). AreJudged run.keeper.memory.registration (own_sizes i).activity (all.stays c) (all.since c) (start_shown i)) (of_image c) (all.verdicts c (subst IsOwnValid (sym (of_image c)) valid));
+          shows = stay_shows none;
+          closed = stay_spells none;
+          entered = all.entered;
+          words = λ c. words-so r (all.stays c) (all.hold c).0;
+          odometers = λ c. odometers-so r (all.stays c) (all.hold c).0;
+          owes = λ c. owes-as c (all.stays c)
+              (subst (λ (i : List ℕ). AreOwed (IsOwed (rule_of o) (start_at o) (log_of out) (seconds_of start items) c (brought r0 c).owed) run.keeper.memory.registration (own_sizes i).activity (all.stays c) (start_shown i)) (of_image c)
+              (owes-so (IsOwed (rule_of o) (start_at o) (log_of out) (seconds_of start items) c (brought r0 c).owed) out.marks.items c run.keeper.memory.registration (own_sizes (found_of o.found c).image).activity (all.stays c) (start_shown (found_of o.found c).image) (all.hold c).1).0);
+          acknowledged = λ c.
+              (owes-so (IsOwed (rule_of o) (start_at o) (log_of out) (seconds_of start items) c (brought r0 c).owed) out.marks.items c run.keeper.memory.registration (own_sizes (found_of o.found c).image).activity (all.stays c) (start_shown (found_of o.found c).image) (all.hold c).1).1;
+          befores = record {
+            comings = all.befores.comings;
+            lines = all.befores.lines;
+            merged = merged-by all.befores.comings run.keeper.memory.registration (all.stays A) (all.stays B) (found_of o.found A).image (found_of o.found B).image (card_image r A) (card_image r B) (of_image A) (of_image B) all.befores.merged;
+            tells = λ dense. all.befores.tells (record { points = insertions-inside x may.decodes; dense = dense });
+          };
+        };
+    rows = λ y left.
+        let hr = h.evented.recorded.recorded in
+        keeps-rows x a b y ((is-carried (seconds_of start items) (values_of run out) (carried (values_of run out) hr.due hr.book hr.standing hr.brought) h.evented.recorded.supply hr.held).unit.rows y left);
+    kept = end-kept o ss run out now h.evented.recorded h.spans h.ringed.spans_are h.stored;
+    last = unit-last.1;
+    dense = record {
+      insertions = λ dense y left. (h.ringed.ringed.insertions (record { points = insertions-inside x may.decodes; dense = dense }) y left).shows.carries.dense;
+      places = λ dense y left. (h.ringed.ringed.places (record { points = places-inside x may.decodes; dense = dense }) y left).carries.dense;
+    };
+    holders = keep-holders o (seconds_of start items) h.evented.recorded.supply (values_of run out) began now h.evented.recorded.recorded (found-by r0 (seconds_of start items) (log_of out) (found_in r0 began) began found);
+    places = record { spans = h.spans; are_spans = record { spans_are = h.ringed.spans_are; bases = stores.0 }; shows = shows-places };
+    cards = λ c valid.
+        let one = carded.cards c (subst IsOwnValid (images c) valid) in
+        record {
+          uses = one.uses;
+          are = subst (λ (n : ℕ). AreUses ((card_of now c).left_since n) one.uses (accepted_on c (seen_of r.log r.trace))) (clocks c) one.are;
+          exact = λ none. one.exact none ∙ ap (λ (i : List ℕ). uses_from (vehicle_of x) (use_in i) (insertions_on c (notes_in (log_of out) (seconds_of start items)))) (sym (images c));
+          left = λ none y there.
+              shown-use run.keeper.memory.registration (card_image r c) ((h.evented.recorded.stay none).stays c) (insertions_on c (notes_in (log_of out) (seconds_of start items))) (card_of now c) (stay_spells none c valid) (stay_shows none c valid) y there
+              ∙ (λ i. use_behind (record { 0 = (h.evented.recorded.stay none).says i }) (use_in (card_image r c)) (insertions_on c (notes_in (log_of out) (seconds_of start items))));
+          shows = subst (λ (i : List ℕ). ShowsOn c (vehicle_of x) one.uses (own_sizes i) i r.log r.trace (card_of now c)) (sym (images c)) one.shows;
+        };
+  }
+    where
+      h : RunRinged o (seconds_of start items) run out now
+      h = carded.ringed
+
+      r : Recording
+      r = recording_of x a b start items out
+
+      images : (c : Card) → card_image r c ≡ card_image o.recording c
+      images = both (λ c. card_image r c ≡ card_image o.recording c) refl refl
+
+      of_image : (c : Card) → (found_of o.found c).image ≡ card_image r c
+      of_image c = found.image c ∙ sym (images c)
+
+      run-ends : EndsRun r out.marks.items began now
+      run-ends = ends-so (seconds_of start items) h.evented.recorded.supply (values_of run out) h.evented.recorded.recorded unit_whole card_whole found may.decodes
+
+      -- the unit's part of the theorem, with the last-kept minutes
+      unit-last : (s : UnitSafe (recorded x) (history_of r) (lost_of r) out.marks.items began.unit.clock now.unit) × TellsLast (last_kept x) s
+      unit-last =
+          let hr = h.evented.recorded.recorded in
+          safe-last (started x (valid_number a) (valid_number b) began.unit.clock) (history_of r) (lost_of r) hr.due hr.book out.marks.items now.unit hr.recorded.followed.follows
+          (is-carried (seconds_of start items) (values_of run out) (carried (values_of run out) hr.due hr.book hr.standing hr.brought) h.evented.recorded.supply hr.held).unit run-ends.safe.unit
+
+      -- what was owed to it at the start does not hang on the seconds
+      owes-as : (c : Card) (stays : List Stay) → AreOwed (IsOwed (rule_of o) (start_at o) (log_of out) (seconds_of start items) c (brought r0 c).owed) run.keeper.memory.registration (own_sizes (card_image r c)).activity stays (start_shown (card_image r c)) →
+          AreOwed (IsOwed r.rule (start_of r) r.log r.trace c (brought r c).owed) run.keeper.memory.registration (own_sizes (card_image r c)).activity stays (start_shown (card_image r c))
+      owes-as A stays h = h
+      owes-as B stays h = h
+
+      own : (none : NothingFailed (log_of out)) (c : Card) → IsOwnValid (card_image r c) →
+          HasStays 0 (found_of o.found c) run.keeper.memory.registration (spells_of c (notes_in (log_of out) (seconds_of start items))) (sits_in run.keeper.cabin.slots.seats c) ((h.evented.recorded.stay none).stays c) (session_of run.keeper.cabin.cards c) (card_of now c)
+      own none c valid = (h.evented.recorded.stay none).each c (subst IsOwnValid (sym (of_image c)) valid)
+
+      -- each card shows its stays, which are as they are noted
+      stay_shows : (none : NothingFailed (log_of out)) (c : Card) → IsOwnValid (card_image r c) → ShowsStays run.keeper.memory.registration (card_image r c) ((h.evented.recorded.stay none).stays c) (card_of now c)
+      stay_shows none c valid = subst (λ (i : List ℕ). ShowsStays run.keeper.memory.registration i ((h.evented.recorded.stay none).stays c) (card_of now c)) (of_image c) (own none c valid).shows
+
+      stay_spells : (none : NothingFailed (log_of out)) (c : Card) → IsOwnValid (card_image r c) → spells ((h.evented.recorded.stay none).stays c) ≡ spells_of c (notes_in (log_of out) (seconds_of start items))
+      stay_spells none c valid =
+          sym (noted-at-end 0 (session_of run.keeper.cabin.cards c) (sits_in run.keeper.cabin.slots.seats c) (spells ((h.evented.recorded.stay none).stays c)) (sits-at-end o (seconds_of start items) run out now h.evented.recorded sits c))
+          ∙ (own none c valid).spell
+
+      clocks : (c : Card) → (found_of o.found c).began ≡ (card_of began c).clock
+      clocks = both (λ c. (found_of o.found c).began ≡ (card_of began c).clock) refl refl
+
+      ss : List TraceSecond
+      ss = seconds_of start items
+
+      -- with which odometer each span began, and what each image has stored
+      stores : HaveBases (rule_of o) (log_of out) (odometer_at x) (last_kept x) [] h.spans × ((y : List ℕ) → now.unit.may_leave y → MayStore (rule_of o) (odometer_at x) (last_kept x) h.spans (last_kept y) (odometer_at y))
+      stores = end-stores o ss run out now h.evented.recorded h.spans h.ringed.spans_are h.stored
+
+      shows : ShowTheSide r began now
+      shows y left =
+          side-shown r began now y may.decodes
+          (events-shown began now o (seconds_of start items) (log_of out) run.unfound run.next h.evented.recorded.supply h.evented.evented r refl images refl refl clocks y left)
+          h.spans (record { spans_are = h.ringed.spans_are; bases = stores.0 }) (stores.1 y left)
+          (rings-shown began now (since_behind o (log_of out) (seconds_of start items)) (log_of out) h.spans (notes_in (log_of out) (seconds_of start items)) (seats_of run) h.ringed.ringed r refl images refl refl refl refl clocks y left)
+
+      -- of a card, the pointer of its ring is an index where it was valid
+      shows-places : (c : Card) → IsOwnValid (card_image r c) → IsDense (places_in (card_image r c)) (card_image r c) → (y : List ℕ) → (card_of now c).may_leave y → ShowsPlaces r h.spans c y
+      shows-places c valid dense y left =
+          let good : IsApplication (own_sizes (card_image r c)) = subst (λ (i : List ℕ). IsApplication (own_sizes i)) (of_image c) (h.evented.recorded.recorded.found.sizes c (subst IsOwnValid (sym (of_image c)) valid)) in
+          let has : HasPlaces (card_image r c) = record { valid = valid; shape = place_shape (own_sizes (card_image r c)) good; ring = record { points = own-points (card_image r c) valid; dense = dense } } in
+          record {
+            shows = places-shown began now (since_behind o (log_of out) (seconds_of start items)) (log_of out) h.spans (notes_in (log_of out) (seconds_of start items)) (seats_of run) h.ringed.ringed r images refl refl c has y left;
+            dense = (h.ringed.ringed.on_cards c (subst HasPlaces (images c) has) y left).carries.dense;
+          }
+
+-- ---- as the run begins
+
+no-spans : (log : RunLog) → spans_of (went log []).told ≡ []
+unfolding went spans_of
+no-spans log = refl
+
+no-seen : (log : RunLog) → seen_of log [] ≡ []
+unfolding seen_of went
+no-seen log = refl
+
+no-notes : (log : RunLog) → notes_in log [] ≡ []
+unfolding done_of notes_of
+no-notes log = refl
+
+due-supply : (supply : Supply) → Supplies Due supply → supply ≡ IsDue
+due-supply (IsLit span) h = absurd h
+due-supply IsDue h = refl
+due-supply IsLost h = absurd h
+
+module _ (x a b : List ℕ) (start : ℕ) (began now : Devices) (opened : Opened) (ready : IsReady (opened_with x a b) start opened began now) where
+  abbrev first-o : Origin
+  first-o = origin_of x a b start began
+
+  abbrev f : Found
+  f = found_in (opened_with x a b) began
+
+  pub may-record : MayRecord x a b start
+  may-record = record { decodes = ready.decodes; later = ready.later; numbers = (ready.may (λ s is. absurd (let none : None ≡ Some s = is in cc))).numbers }
+
+  pub is-found : IsFound (opened_with x a b) (found_in (opened_with x a b) began) began
+  is-found = ready.found
+
+  module _ (whole : (c : Card) → IsCoherent (card_of now c)) (unit_whole : IsCoherent now.unit) (on : Card → CardState) (found_on : (c : Card) → IsFoundOn (known_of opened c) (on c) (card_of now c)) (bytes : (c : Card) → All (λ n. n < 256) (card_image (opened_with x a b) c))
+      (clock : (c : Card) → (card_of now c).clock ≡ (card_of began c).clock) (more : IsMore (breakdowns_of began) (breakdowns_of now)) (low : opened.unit.journal.odometer ≤ HIGHEST_ODOMETER) where
+    sizes : (c : Card) → IsOwnValid (card_image (opened_with x a b) c) → IsApplication (own_sizes (card_image (opened_with x a b) c))
+    sizes c valid = ((found_on c).port (own_sizes (card_image (opened_with x a b) c)) (valid-known (card_image (opened_with x a b) c) (known_of opened c) (ready.told c) valid)).good
+
+    -- the number of a valid card has all its bytes
+    long : (c : Card) → IsOwnValid (card_image (opened_with x a b) c) → length (own_number (card_image (opened_with x a b) c)) ≡ 18
+    long c valid =
+        let image : List ℕ = card_image (opened_with x a b) c in
+        let port = (found_on c).port (own_sizes image) (valid-known image (known_of opened c) (ready.told c) valid) in
+        let fits = largest_image (own_sizes image) port.good in
+        let all = (whole c).sized image (ready.begins.card c).tells in
+        let size = port.size in
+        own-long image (omega (arith, fits, all, size))
+
+    is-origin : IsOrigin first-o
+    is-origin = record { rule = refl; decodes = ready.decodes; unit = refl; image = ready.found.image; start = ready.found.start; number = ready.found.number; long = long; bytes = bytes }
+
+    told : (c : Card) → IsOwnValid (card_image (opened_with x a b) c) → is_some (known_of opened c).number ≡ true
+    told c valid = ap (λ (o : Option FullCardNumber). is_some o) ((ready.told c).number ∙ ap (λ o. number_by o (card_number_of (own_number (card_image (opened_with x a b) c)))) valid)
+
+    valid-as : (c : Card) → IsOwnValid (found_of f c).image → IsOwnValid (card_image (opened_with x a b) c)
+    valid-as c valid = subst IsOwnValid (ready.found.image c) valid
+
+    -- cards as they were opened
+    module _ (cards : Cards) (same : (c : Card) → known_in cards c ≡ known_of opened c) where
+      found-cards : AreFoundCards f cards
+      found-cards = record {
+        two = ready.two;
+        named = λ c valid. subst (λ (k : Known). IfSome k.number (λ n. card_number_bytes n ≡ (found_of f c).number)) (sym (same c)) (ready.named c);
+        told = λ c valid. ap (λ (k : Known). is_some k.number) (same c) ∙ told c (valid-as c valid);
+        own = own;
+        sizes = λ c valid. subst (λ (i : List ℕ). IsApplication (own_sizes i)) (sym (ready.found.image c)) (sizes c (valid-as c valid));
+        entries = λ c valid. entries c;
+      }
+        where
+          own : (c : Card) → IsOwnValid (found_of f c).image → IsCards f.unit (found_of f c).number
+          own A valid = inl (valid-number a valid ∙ ap (λ (n : List ℕ). Some n) (sym (ready.found.number A valid)))
+          own B valid = inr (valid-number b valid ∙ ap (λ (n : List ℕ). Some n) (sym (ready.found.number B valid)))
+
+          entries : (c : Card) → (found_of f c).start.entries ≡ (own_view (found_of f c).image).held.entries
+          entries A = refl
+          entries B = refl
+
+    only : (c : Card) (y : List ℕ) → (card_of now c).left_since (found_of f c).began y → y ≡ card_image (opened_with x a b) c
+    only c y left = (ready.begins.card c).only y (subst (λ (n : ℕ). (card_of now c).left_since n y) (ready.found.clock c ∙ sym (clock c)) left)
+
+    untouched : (c : Card) (y : List ℕ) → (card_of now c).left_since (found_of f c).began y → y ≡ (found_of f c).image
+    untouched c y left = only c y left ∙ sym (ready.found.image c)
+
+    there : AreThere f now
+    there = record {
+      unit = ap is_some ready.begins.unit.tells;
+      cards = λ c. ap is_some (ready.begins.card c).tells;
+      clocks = λ c. let one = ready.found.clock c in let two = clock c in omega (arith, one, two);
+      timed = λ c valid y left. subst (λ (z : List ℕ). IsTimed (found_of f c).image z) (sym (untouched c y left)) (inl refl);
+    }
+
+    waits : (c : Card) → IsOwnValid (found_of f c).image → IsHeldDark (found_of f c) c not_begun Out (card_of now c)
+    waits c valid =
+        let v = valid-as c valid in
+        opened-wait f c x (card_image (opened_with x a b) c) (card_of now c) (whole c) (ready.begins.card c) (ready.looked c v) v (sizes c v) (ready.found.number c v) (bytes c)
+
+    first-powerless : IsPowerless f (carried_first (start / 60)) now
+    first-powerless = opened-powerless f (start / 60) now (ready.carried (start / 60) ready.later) waits
+
+    travels : HasTravelled (odometer_at x) not_begun (not_travelled x) now.unit
+    travels =
+        let is = ready.journal.odometer in
+        travelled-opened (odometer_at x) now.unit x refl (let le : odometer_at x ≤ HIGHEST_ODOMETER = omega (arith, is, low) in le) ready.journal.pointer
+        (λ y left. ready.begins.unit.only y (unit_whole.counts_now now.unit.clock y (omega arith) left))
+
+    -- its unit has one image
+    only_unit : (y : List ℕ) → now.unit.may_leave y → y ≡ x
+    only_unit y left = ready.begins.unit.only y (unit_whole.counts_now now.unit.clock y (omega arith) left)
+
+    starts-recorded : (run : Run) (out : Outcome) → run.power ≡ Due → run.next ≡ start → run.begun ≡ 0 → run.unfound ≡ 0 → run.keeper.cabin.slots ≡ nothing_yet → ((c : Card) → known_in run.keeper.cabin.cards c ≡ known_of opened c) →
+        ((c : Card) → session_of run.keeper.cabin.cards c ≡ None) → out.breaks.items ≡ [] → out.refused.items ≡ [] → out.finds.items ≡ [] → out.marks.items ≡ [] → run.keeper.memory.registration.0 ≡ registration_in x →
+        RunRecorded first-o [] run out now
+    starts-recorded run out due next begun unfound slots same bare breaks refused finds marks registered = record {
+      origin = is-origin;
+      supply = IsDue;
+      powers = subst (λ (p : Power). Supplies p IsDue) (sym due) tt;
+      recorded = begun-recorded now first-o (values_of run out) (record {
+        early = ready.later;
+        log = ap (λ bs. record { breaks = bs; refused = out.refused.items; finds = out.finds.items }) breaks ∙ ap (λ rs. record { breaks = []; refused = rs; finds = out.finds.items }) refused ∙ ap (λ fs. record { breaks = []; refused = []; finds = fs }) finds;
+        marks = marks;
+        slots = slots;
+        bare = bare;
+        unfound = unfound;
+        next = next;
+        begun = begun;
+        breakdowns = more;
+        powerless = first-powerless;
+        found = found-cards run.keeper.cabin.cards same;
+        there = there;
+        untouched = untouched;
+        travels = travels;
+      });
+      odometer = λ lit. absurd (let bad : Due ≡ Lit = sym due ∙ lit in cc);
+      stay = λ none. record {
+        says = registered;
+        stays = λ c. [];
+        befores = record {
+          comings = [];
+          lines = ap (λ (fs : List Find). filter (λ (g : Find). is_accepting g.verdict) fs) (sym finds);
+          merged = (refl, refl);
+          tells = λ stood y left. subst (TellsMore [] x) (sym (only_unit y left)) (tells-none x stood.points stood.dense);
+        };
+        only = λ c. inl refl;
+        hold = λ c. (tt, tt);
+        placed = λ c valid. placed-bare (notes_in (log_of out) []) run.keeper.cabin c (bare c);
+        since = λ c. [];
+        lone = λ c. inl refl;
+        entered = λ c. tt;
+        judged = subst (λ (fs : List Find). AreMerged (filter (λ (g : Find). is_accepting g.verdict || is_late g.verdict) fs) [] []) (sym finds) (refl, refl);
+        verdicts = λ c valid. tt;
+        waits = λ c valid some. refl;
+        each = λ c valid.
+            subst (λ (ns : List Note). HasStays 0 (found_of f c) run.keeper.memory.registration (spells_of c ns) (sits_in run.keeper.cabin.slots.seats c) [] (session_of run.keeper.cabin.cards c) (card_of now c)) (sym (no-notes (log_of out)))
+            (subst (λ (s : Option Accepted). HasStays 0 (found_of f c) run.keeper.memory.registration [] (sits_in run.keeper.cabin.slots.seats c) [] s (card_of now c)) (sym (bare c))
+            (stays-start 0 (found_of f c) run.keeper.memory.registration (sits_in run.keeper.cabin.slots.seats c) (card_of now c) (λ y left. untouched c y ((whole c).counts_now (found_of f c).began y (there.clocks c) left))));
+      };
+    }
+
+    -- and no event of it
+    pub starts-evented : (run : Run) (out : Outcome) → run.power ≡ Due → run.next ≡ start → run.begun ≡ 0 → run.unfound ≡ 0 → run.keeper.memory ≡ opened.unit.memory → run.keeper.cabin.slots ≡ nothing_yet →
+        ((c : Card) → known_in run.keeper.cabin.cards c ≡ known_of opened c) → ((c : Card) → session_of run.keeper.cabin.cards c ≡ None) → out.breaks.items ≡ [] → out.refused.items ≡ [] → out.finds.items ≡ [] → out.marks.items ≡ [] →
+        RunEvented first-o [] run out now
+    starts-evented run out due next begun unfound memory slots same bare breaks refused finds marks = record {
+      recorded = r;
+      evented = subst (λ (l : RunLog). Evented first-o [] l run.unfound run.next r.supply now) (sym log)
+          (subst (λ (n : ℕ). Evented first-o [] empty_log n run.next r.supply now) (sym unfound)
+          (subst (λ (n : ℕ). Evented first-o [] empty_log 0 n r.supply now) (sym next)
+          (subst (λ (p : Supply). Evented first-o [] empty_log 0 start p now) (sym (due-supply r.supply (subst (λ (p : Power). Supplies p r.supply) due r.powers)))
+          (nothing-noted now first-o only_unit (passes_beside x ready.decodes).overs))));
+      limit = let is = ready.memory.limit in let same : run.keeper.memory.limit ≡ opened.unit.memory.limit = ap (λ (i : UnitFacts). i.limit) memory in omega (arith, is, same);
+      watched = λ lit. absurd (let bad : Due ≡ Lit = sym due ∙ lit in cc);
+    }
+      where
+        r : RunRecorded first-o [] run out now
+        r = starts-recorded run out due next begun unfound slots same bare breaks refused finds marks (ap (λ (i : UnitFacts). i.registration.0) memory ∙ ready.memory.registration)
+
+        log : log_of out ≡ empty_log
+        log = ap (λ bs. record { breaks = bs; refused = out.refused.items; finds = out.finds.items }) breaks ∙ ap (λ rs. record { breaks = []; refused = rs; finds = out.finds.items }) refused ∙ ap (λ fs. record { breaks = []; refused = []; finds = fs }) finds
+
+    -- and nothing of its rings
+    pub starts-ringed : (run : Run) (out : Outcome) → run.power ≡ Due → run.next ≡ start → run.begun ≡ 0 → run.unfound ≡ 0 → run.keeper.memory ≡ opened.unit.memory → run.keeper.cabin.slots ≡ nothing_yet →
+        ((c : Card) → known_in run.keeper.cabin.cards c ≡ known_of opened c) → ((c : Card) → session_of run.keeper.cabin.cards c ≡ None) → out.breaks.items ≡ [] → out.refused.items ≡ [] → out.finds.items ≡ [] → out.marks.items ≡ [] →
+        run.noted ≡ 0 → RunRinged first-o [] run out now
+    starts-ringed run out due next begun unfound memory slots same bare breaks refused finds marks noted = record {
+      evented = starts-evented run out due next begun unfound memory slots same bare breaks refused finds marks;
+      spans = [];
+      base = λ lit. absurd (let bad : Due ≡ Lit = sym due ∙ lit in cc);
+      counted = omega (arith, noted);
+      ringed = rings-behind (log_of out) run.next (seats_of run) (λ c. ap (λ (session : Option Accepted). option_map (seating_of run.noted) session) (bare c));
+      stored = subst (λ (p : Power). Stores (is_lit p) first-o (log_of out) run.unfound run.keeper.odometer [] now) (sym due) (subst (λ (n : ℕ). StoresOff first-o (log_of out) n [] now) (sym unfound) (stored-start first-o (log_of out) now only_unit));
+    }
+      where
+        rings-behind : (log : RunLog) (n : ℕ) (seats : Card → Option Seating) → ((c : Card) → seats c ≡ None) → RingedBehind first-o [] log n [] seats now
+        rings-behind log n seats none = record {
+          spans_are = sym (no-spans log);
+          before = tt;
+          early = subst (AreEarlier n) (sym (no-notes log)) tt;
+          ringed = subst (λ (notes : List Note). Ringed (since_behind first-o log []) log [] notes seats now) (sym (no-notes log)) (fewer-sit now (since_behind first-o log []) log [] [] (λ c. None) seats (none-noted now (since_behind first-o log []) log [] only_unit (λ c y left. only c y ((whole c).counts_now (found_of f c).began y (there.clocks c) left))) (λ c. inl (none c)));
+        }
+
+    -- and its cards show what they held
+    pub starts-carded : (run : Run) (out : Outcome) → run.power ≡ Due → run.next ≡ start → run.begun ≡ 0 → run.unfound ≡ 0 → run.keeper.memory ≡ opened.unit.memory → run.keeper.cabin.slots ≡ nothing_yet →
+        ((c : Card) → known_in run.keeper.cabin.cards c ≡ known_of opened c) → ((c : Card) → session_of run.keeper.cabin.cards c ≡ None) → out.breaks.items ≡ [] → out.refused.items ≡ [] → out.finds.items ≡ [] → out.marks.items ≡ [] →
+        run.noted ≡ 0 → RunCarded first-o [] run out now
+    starts-carded run out due next begun unfound memory slots same bare breaks refused finds marks noted = record {
+      ringed = starts-ringed run out due next begun unfound memory slots same bare breaks refused finds marks noted;
+      vehicle = ap (λ (bs : List ℕ). record { 0 = bs }) (ap (λ (i : UnitFacts). i.registration.0) memory ∙ ready.memory.registration);
+      cards = λ c valid. record {
+        uses = [];
+        exact = λ none. ap (uses_in first-o c) (sym (no-notes (log_of out)));
+        are = subst (λ (seen : List Seen). AreUses (images_in first-o now c) [] (accepted_on c seen)) (sym (no-seen (log_of out))) tt;
+        shows = start-shown c (vehicle_in first-o) (sizes_in first-o c) (card_image first-o.recording c) (log_of out) (card_of now c) (λ y left. only c y ((whole c).counts_now (found_of f c).began y (there.clocks c) left));
+      };
+    }

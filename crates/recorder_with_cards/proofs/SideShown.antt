@@ -1,0 +1,31 @@
+-- An image that shows the events, the rings and the odometer of a recording shows its auxiliary records.
+use Rattle.std.proofs.Common.{ℕ, List}
+use Rattle.gated_ring.specs.Ring.{PointsInside}
+use Rattle.message_model.specs.Records.{insertion_ring, unit_place_ring}
+use Rattle.unit_model.specs.Decoding.{Decodes}
+use Rattle.unit_model.specs.Image.{last_kept, odometer_at}
+use Rattle.unit_journal.proofs.Beside.{passes_beside}
+use Rattle.side_model.specs.Odometer.{SpanFrom, AreSpansFrom, MayStore}
+use Rattle.safety_model.specs.Recording.{Recording, told_of}
+use Rattle.safety_model.specs.Safe.{Devices}
+use Rattle.run_evented.specs.Evented.{ShowsEventsOf}
+use Rattle.run_ringed.specs.Ringed.{ShowsRingsOf}
+use Rattle.recorder_with_cards.specs.Side.{ShowsSide}
+
+-- the pointers of a unit that decodes point inside its rings
+pub insertions-inside : (x : List ℕ) → Decodes x → PointsInside insertion_ring x
+insertions-inside x decodes = (passes_beside x decodes).insertions
+
+pub places-inside : (x : List ℕ) → Decodes x → PointsInside unit_place_ring x
+places-inside x decodes = (passes_beside x decodes).places
+
+pub side-shown : (r : Recording) (began now : Devices) (x : List ℕ) → Decodes r.unit → ShowsEventsOf r began now x → (spans : List SpanFrom) → AreSpansFrom r.rule r.log (told_of r) (odometer_at r.unit) (last_kept r.unit) spans →
+    MayStore r.rule (odometer_at r.unit) (last_kept r.unit) spans (last_kept x) (odometer_at x) → ShowsRingsOf r spans began now x → ShowsSide r began now x
+side-shown r began now x decodes events spans are stored rings = record {
+  spans = spans;
+  are_spans = are;
+  odometer = stored;
+  insertions = λ dense. rings.insertions (record { points = insertions-inside r.unit decodes; dense = dense });
+  places = λ dense. rings.places (record { points = places-inside r.unit decodes; dense = dense });
+  events = events;
+}

@@ -1,0 +1,31 @@
+-- THE EVENTS OF A RUN ON ITS CARDS: what every image that a stop may leave of a card shows of them at its end (profile).
+use Rattle.std.specs.Prelude.{◌≡◌, ℕ, List}
+use Rattle.trace_model.specs.declared.Card.{Card}
+use Rattle.tach_media.specs.Medium.{State}
+use Rattle.card_records.specs.declared.current_use.CurrentUse.{CurrentUse}
+use Rattle.card_image.specs.Fields.{current_use}
+use Rattle.card_image.specs.Own.{own_sizes, IsOwnValid}
+use Rattle.event_model.specs.Events.{seen_of}
+use Rattle.safety_model.specs.Recording.{Recording, card_image}
+use Rattle.safety_model.specs.Safe.{Devices, card_of}
+use Rattle.run_recorded.specs.Whole.{NothingFailed}
+use Rattle.run_evented.specs.Uses.{vehicle_of, uses_on, use_left}
+use Rattle.run_acts.specs.OnCards.{accepted_on, ShowsOn, AreUses}
+
+-- A CARD SHOWS ITS EVENTS: at each of its acceptances a use was found on it, which an image of it told that it might have left since a clock; and each
+-- image that it may leave shows, of each type whose events are sure, those that it had at the start with those of the run, noted one after another.
+-- Where no call failed these uses are the current one of its image at the start and those that its insertions have left, and each image tells the last.
+pub record CardShowsEvents (r : Recording) (c : Card) (since : ℕ) (card : State) : Type 0 where
+  pub uses : List CurrentUse
+  pub are : AreUses (card.left_since since) uses (accepted_on c (seen_of r.log r.trace))
+  pub exact : NothingFailed r.log → uses ≡ uses_on r c
+  pub left : NothingFailed r.log → (x : List ℕ) → card.may_leave x → current_use (own_sizes (card_image r c)) x ≡ use_left r c
+  pub shows : ShowsOn c (vehicle_of r.unit) uses (own_sizes (card_image r c)) (card_image r c) r.log r.trace card
+
+-- so does one that was valid
+abbrev pub ShowsItsEvents : Recording → Card → (since : ℕ) → State → Type 0
+ShowsItsEvents r c since card = IsOwnValid (card_image r c) → CardShowsEvents r c since card
+
+-- EACH CARD SHOWS ITS EVENTS.
+abbrev pub ShowTheirEvents : Recording → (began now : Devices) → Type 0
+ShowTheirEvents r began now = (c : Card) → ShowsItsEvents r c (card_of began c).clock (card_of now c)

@@ -1,0 +1,93 @@
+-- What a run with cards promises, over devices that began with one image each (profile).
+use Rattle.std.specs.Prelude.{◌≢◌, ◌<◌, ◌/◌, ℕ, List, [], All}
+use Rattle.trace_model.specs.declared.Item.{Item}
+use Rattle.trace_model.specs.Trace.{TraceSecond, seconds_of}
+use Rattle.log_model.specs.Log.{RunLog}
+use Rattle.unit_model.specs.Decoding.{Decodes}
+use Rattle.unit_model.specs.Image.{last_kept}
+use Rattle.unit_model.specs.Versions.{rule_of}
+use Rattle.card_image.specs.Own.{own_number, IsOwnValid}
+use Rattle.safety_model.specs.Recording.{Recording}
+use Rattle.safety_model.specs.Safe.{Devices, breakdowns_of}
+use Rattle.unit_rule.specs.OtherRows.{KeepsRows}
+use Rattle.run_rule.specs.Opening.{BeginsAs}
+use Rattle.run_recorded.specs.Origin.{Origin}
+use Rattle.run_recorded.specs.Ends.{EndsRun}
+use Rattle.run_opening.specs.Begun.{found_in}
+use Rattle.run_opening.specs.Begun.{IsRefusedBy as IsRefusedAs}
+use Rattle.run_opening.specs.Opening.{IsAsItWas}
+use Rattle.run_opening.specs.declared.fault.RunFault.{RunFault}
+use Rattle.run_outcome.specs.declared.outcome.Outcome.{Outcome}
+use Rattle.run_acts.specs.Recording.{log_of}
+use Rattle.recorder_with_cards.specs.Written.{AreWritten}
+use Rattle.recorder_with_cards.specs.Stays.{HasAllStays}
+use Rattle.recorder_with_cards.specs.Still.{StayDense, KeepTheirHolders}
+use Rattle.recorder_with_cards.specs.Side.{ShowTheSide}
+use Rattle.recorder_with_cards.specs.KeptAfter.{TellsKept}
+use Rattle.recorder_with_cards.specs.LastKept.{TellsLast}
+use Rattle.recorder_with_cards.specs.Placed.{ShowTheirPlaces}
+use Rattle.recorder_with_cards.specs.CardEvents.{ShowTheirEvents}
+
+-- each device began with this image alone, and those of the cards are bytes
+pub record BeginAs (unit card_a card_b : List ℕ) (began : Devices) : Type 0 where
+  pub of_unit : BeginsAs unit began.unit
+  pub of_a : BeginsAs card_a began.card_a
+  pub of_b : BeginsAs card_b began.card_b
+  pub bytes_a : All (λ n. n < 256) card_a
+  pub bytes_b : All (λ n. n < 256) card_b
+
+-- a run on devices with these images, by the rule of the unit's, with these seconds and this log
+abbrev pub recorded_with : (unit card_a card_b : List ℕ) → List TraceSecond → RunLog → Recording
+recorded_with unit card_a card_b trace log = record { rule = rule_of unit; unit = unit; card_a = card_a; card_b = card_b; trace = trace; log = log }
+
+-- the run of a trace, as its outcome tells it
+abbrev pub recording_of : (unit card_a card_b : List ℕ) → (start : ℕ) → List Item → Outcome → Recording
+recording_of unit card_a card_b start items out = recorded_with unit card_a card_b (seconds_of start items) (log_of out)
+
+-- before its first second
+abbrev pub opened_with : (unit card_a card_b : List ℕ) → Recording
+opened_with unit card_a card_b = recorded_with unit card_a card_b [] (record { breaks = []; refused = []; finds = [] })
+
+-- what it began with
+abbrev pub origin_of : (unit card_a card_b : List ℕ) → (start : ℕ) → (began : Devices) → Origin
+origin_of unit card_a card_b start began = record {
+  recording = opened_with unit card_a card_b;
+  found = found_in (opened_with unit card_a card_b) began;
+  from = start;
+  breakdowns = breakdowns_of began;
+}
+
+-- THE IMAGES WITH WHICH A RUN MAY BEGIN: the unit's decodes, the first second is in a later minute than its last-kept one, and the cards that
+-- are valid have two numbers.
+pub record MayRecord (unit card_a card_b : List ℕ) (start : ℕ) : Type 0 where
+  pub decodes : Decodes unit
+  pub later : last_kept unit < start / 60
+  pub numbers : IsOwnValid card_a → IsOwnValid card_b → own_number card_a ≢ own_number card_b
+
+-- WHAT A RUN PROMISES that was recorded: it could begin (`may`); the crash-safety theorem, causes and completeness hold of it (`ends`); every image that a
+-- stop may leave of the unit shows its auxiliary records: events and faults, insertions with their withdrawals, places, and the odometer (`side`); every
+-- image of a card that was valid has been written so (`written`), and where no call failed each of these shows exactly what its stays in the slots make of
+-- it (`stays`). What was found kept after its cuts was so (`kept`), and the last-kept minute of each image of the unit is that of the last minute which it
+-- shows (`last`). Rings that were dense stay dense (`dense`); each valid card stays its holder's, with all that no call writes (`holders`), and shows the
+-- places that were entered by it (`places`) and its events of the run (`cards`). The owed rows of every image of the unit since the start stand as they stood, or were taken for one
+-- of the two cards, and what is owed to any other card stays (`rows`).
+pub record EndsTrace (unit card_a card_b : List ℕ) (start : ℕ) (items : List Item) (out : Outcome) (began now : Devices) : Type 0 where
+  pub may : MayRecord unit card_a card_b start
+  pub ends : EndsRun (recording_of unit card_a card_b start items out) out.marks.items began now
+  pub side : ShowTheSide (recording_of unit card_a card_b start items out) began now
+  pub written : AreWritten (recording_of unit card_a card_b start items out) now
+  pub stays : HasAllStays (recording_of unit card_a card_b start items out) out.marks.items now
+  pub rows : (y : List ℕ) → now.unit.left_since began.unit.clock y → KeepsRows unit card_a card_b y
+  pub kept : TellsKept (recording_of unit card_a card_b start items out) began.unit.clock now.unit
+  pub last : TellsLast (last_kept unit) ends.safe.unit
+  pub dense : StayDense (recording_of unit card_a card_b start items out) now
+  pub holders : KeepTheirHolders (recording_of unit card_a card_b start items out) began now
+  pub places : ShowTheirPlaces (recording_of unit card_a card_b start items out) now
+  pub cards : ShowTheirEvents (recording_of unit card_a card_b start items out) began now
+
+-- OR IT WAS KEPT FROM BEING RECORDED: by these images, or a call that has failed in the opening; each device is as it was.
+pub record IsKeptFrom (unit card_a card_b : List ℕ) (start : ℕ) (began now : Devices) (fault : RunFault) : Type 0 where
+  pub cause : IsRefusedAs (opened_with unit card_a card_b) start began now fault
+  pub same_unit : IsAsItWas began.unit now.unit
+  pub same_a : IsAsItWas began.card_a now.card_a
+  pub same_b : IsAsItWas began.card_b now.card_b

@@ -1,0 +1,261 @@
+-- Calls that leave the places of the cards: an event is noted, minutes are kept, a session is closed; and the note of a place.
+use Rattle.std.proofs.Common.{◌≡◌, ◌∙◌, ◌⊎◌, inl, inr, ⊎_elim, ℕ, ◌+◌, ◌≤◌, Bool, true, false, Option, Some, None, IfSome, List, [], ◌∷◌, ◌++◌, length, refl, sym, ap, subst, arith}
+use Rattle.std.specs.Prelude.{Ok, filter, nat_eq, is_some}
+use Rattle.std.specs.List.{list_any}
+use Rattle.std.proofs.lemmas.Bool.Decides.{nat_tests}
+use Rattle.std.proofs.lemmas.List.Elements.{filter-append}
+use Rattle.activity_codec.specs.declared.values.Activity.{Activity}
+use Rattle.activity_codec.specs.declared.values.Slot.{Slot}
+use Rattle.trace_model.specs.declared.Card.{Card}
+use Rattle.trace_model.specs.declared.Card.TheVariants.{A, B}
+use Rattle.trace_model.specs.Trace.{TraceSecond}
+use Rattle.tacho_types.specs.declared.places.PlaceEntry.{PlaceEntry}
+use Rattle.tacho_types.specs.Places.{place_bytes}
+use Rattle.tach_media.specs.Medium.{State, IsCoherent, LeavesOnly, bytes_at}
+use Rattle.tach_media.proofs.Runs.{at_image}
+use Rattle.card_layout.specs.declared.command.CardState.{CardState}
+use Rattle.card_layout.specs.declared.files.Application.{Application}
+use Rattle.card_layout.specs.declared.files.TheConstants.{LARGEST_IMAGE}
+use Rattle.card_layout.specs.Application.{IsApplication}
+use Rattle.card_layout.specs.Files.{files_of, place_of, size_of}
+use Rattle.card_layout.proofs.Sizes.{largest_image}
+use Rattle.gated_ring.specs.Ring.{PointsInside, size_of as ring_size}
+use Rattle.card_records.specs.declared.card_event.CardEvent.{CardEvent}
+use Rattle.card_records.specs.Noting.{IsNotingEvent, IsPlaceNoted, IsNotingPlace}
+use Rattle.card_records.specs.Rings.{file, place_ring}
+use Rattle.card_image.specs.Fields.{file_bytes}
+use Rattle.card_image.specs.Own.{own_sizes, IsOwnValid}
+use Rattle.card_session.specs.Sessions.{IsSession}
+use Rattle.card_session.specs.Cards.{IsCardClosing}
+use Rattle.card_session.proofs.InsertingUse.{use_inside}
+use Rattle.minute_model.specs.declared.Minute.{Minute}
+use Rattle.log_model.specs.declared.lines.Break.{Break}
+use Rattle.log_model.specs.Causes.{has_failed, second_of}
+use Rattle.log_model.specs.Log.{RunLog, Phase}
+use Rattle.log_model.specs.Slots.{same_card}
+use Rattle.log_model.specs.Course.{Visit}
+use Rattle.side_model.specs.Noted.{PlaceNote}
+use Rattle.safety_model.specs.Recording.{card_image}
+use Rattle.safety_model.specs.Safe.{Devices, card_of}
+use Rattle.run_crew.specs.declared.cards.Accepted.{Accepted}
+use Rattle.run_crew.specs.declared.cards.Cards.{Cards}
+use Rattle.run_crew.specs.Cards.{known_of, session_of}
+use Rattle.run_rule.specs.Found.{found_of}
+use Rattle.run_rule.specs.Between.{Carried}
+use Rattle.run_told.specs.Told.{AreFoundCards, IsPowered, IsOn, arranged}
+use Rattle.run_told.proofs.Holders.{event-places, closing-places}
+use Rattle.run_told.proofs.Parts.{CardLit, parts-of}
+use Rattle.run_within.proofs.Seats.{this-or}
+use Rattle.run_outcome.specs.declared.outcome.Outcome.{Outcome}
+use Rattle.run_recorded.specs.Origin.{Origin}
+use Rattle.run_ringed.specs.OnCards.{has_call_failed_in, places_in, place_width, PlacesStay, TakesPlace, PlaceIsTaken}
+use Rattle.run_ringed.specs.OnCards.{LeavesPlaces as LeavesRing}
+use Rattle.run_keeping.specs.declared.keeper.Moment.{Moment}
+use Rattle.run_keeping.specs.Books.{AreTimedOn}
+use Rattle.run_keeping.specs.Keeping.{CardReady, tear_of}
+use Rattle.run_acts.specs.declared.run.Run.{Run}
+use Rattle.run_acts.specs.CardNotes.{LeavesPlaces, LeavePlaces}
+use Rattle.run_acts.specs.CardWrites.{MayHavePlace, MayTakePlace, PlaceOn}
+use Rattle.run_acts.specs.Recording.{IsOrigin, RunWithin}
+use Rattle.run_acts.specs.RunCards.{sizes_in}
+use Rattle.run_acts.proofs.CardSecond.{any-last}
+use Rattle.run_acts.proofs.CardStays.{valid-found, session-sizes}
+use Rattle.run_acts.proofs.EnteredFacts.{each}
+
+-- ---- one after another
+
+pub stay-then : (o : Origin) (d e f : Devices) → PlacesStay o d e → PlacesStay o e f → PlacesStay o d f
+stay-then o d e f first next c valid z left =
+    let behind = next c valid z left in
+    let was = first c valid behind.0 behind.1 in
+    (was.0, was.1, behind.2 ∙ was.2)
+
+-- the file is the ring
+ring-file : (app : Application) → size_of app (file 0x0506) ≡ ring_size (place_ring app)
+unfolding files_of
+ring-file app = omega arith
+
+pub file-ring : (app : Application) (x y : List ℕ) → file_bytes app 0x0506 y ≡ file_bytes app 0x0506 x → bytes_at y (place_ring app).base (ring_size (place_ring app)) ≡ bytes_at x (place_ring app).base (ring_size (place_ring app))
+file-ring app x y same = subst (λ (n : ℕ). bytes_at y (place_of app (file 0x0506)) n ≡ bytes_at x (place_of app (file 0x0506)) n) (ring-file app) same
+
+-- ---- MINUTES ARE KEPT
+pub timed-places : (o : Origin) → IsOrigin o → (d e : Devices) → AreTimedOn o.found d e → PlacesStay o d e
+timed-places o origin d e h c valid y left =
+    let was = (h c (valid-found o origin c valid)).1 y left in
+    (was.0, was.1, file-ring (sizes_in o c) was.0 y (subst (λ (x : List ℕ). file_bytes (own_sizes x) 0x0506 y ≡ file_bytes (own_sizes x) 0x0506 was.0) (origin.image c) was.4))
+
+-- ---- A SESSION IS CLOSED, or was about to be
+closes-places : (o : Origin) (w : Carried) (cards : Cards) (c : Card) (U X Z : State) (Y : State) → IsOrigin o → AreFoundCards o.found cards → IsCoherent X → LARGEST_IMAGE ≤ X.size → (a : Accepted) (act : Activity) → session_of cards c ≡ Some a → IsPowered o.found w cards (arranged c U X Z) →
+    LeavesOnly X Y (λ i n. IsSession a.session i → IsCardClosing a.session act i n) → IsOwnValid (card_image o.recording c) → LeavesRing (card_image o.recording c) X Y
+closes-places o w cards c U X Z Y origin found whole size a act has p run valid y left =
+    let there : IsOwnValid (found_of o.found c).image = valid-found o origin c valid in
+    let one : CardLit o.found w.book (w.standing c) (w.brought c) (Some a) c U X = subst (λ (q : Option Accepted). CardLit o.found w.book (w.standing c) (w.brought c) q c U X) has ((parts-of o.found w cards c U X Z p).mine there) in
+    let on : IsOn (found_of o.found c) one.goes.has (w.standing c) a.session X = one.goes.goes in
+    let sizes : a.session.application ≡ own_sizes (card_image o.recording c) = on.sizes ∙ ap own_sizes (origin.image c) in
+    let fits = largest_image a.session.application (subst IsApplication (sym on.sizes) (found.sizes c there)) in
+    ⊎_elim
+    (λ before. (y, before, refl))
+    (λ (x, is, closes).
+    let long = whole.sized x is in (
+      x,
+      whole.is_left x is,
+      file-ring (sizes_in o c) x y (subst (λ (app : Application). file_bytes app 0x0506 y ≡ file_bytes app 0x0506 x) sizes
+          (closing-places a.session act x y (omega (arith, fits, size, long, use_inside a.session.application)) (closes (at_image (IsSession a.session) is on.session)))),
+    ))
+    (run.now y left)
+
+pub closing-stay : {C : Type 0} (state : C → State) (o : Origin) (done : List TraceSecond) (s : TraceSecond) (at : Phase) (waits : List Visit) (rest : List Minute) (run : Run) (out : Outcome) (c : Card) (U V Z : State) (x y : C) → RunWithin o done s at waits rest run out (arranged c U (state x) Z) →
+    IsCoherent (state x) → LARGEST_IMAGE ≤ (state x).size → IfSome (session_of run.keeper.cabin.cards c) (λ s. (act : Activity) × LeavesOnly (state x) (state y) (λ i n. IsSession s.session i → IsCardClosing s.session act i n)) →
+    (session_of run.keeper.cabin.cards c ≡ None → y ≡ x) → PlacesStay o (arranged c U (state x) Z) (arranged c V (state y) Z)
+closing-stay {C = C} state o done s at waits rest run out c U V Z x y w whole size left still q0 valid =
+    each c U V (state x) (state y) Z (λ (q : Card) (a b : State). IsOwnValid (card_image o.recording q) → LeavesRing (card_image o.recording q) a b)
+    (λ v. by v (session_of run.keeper.cabin.cards c) refl left) (λ v z there. (z, there, refl)) q0 valid
+  where
+    by : IsOwnValid (card_image o.recording c) → (q : Option Accepted) → session_of run.keeper.cabin.cards c ≡ q → IfSome q (λ s. (act : Activity) × LeavesOnly (state x) (state y) (λ i n. IsSession s.session i → IsCardClosing s.session act i n)) → LeavesRing (card_image o.recording c) (state x) (state y)
+    by v None is h = subst (λ (z : C). LeavesRing (card_image o.recording c) (state x) (state z)) (sym (still is)) (λ z there. (z, there, refl))
+    by v (Some a) is h = closes-places o _ run.keeper.cabin.cards c U (state x) Z (state y) w.origin w.within.found whole size a h.0 is w.within.powered h.1 v
+
+-- ---- AN EVENT IS NOTED
+
+-- no call
+pub places-self : (session : Option Accepted) (X : State) → LeavesPlaces session X X
+places-self None X = λ c left. left
+places-self (Some a) X = λ c left. (c, left, refl)
+
+-- by the session that a card has
+pub event-leaves : (c : Card) (cards : Cards) (app : Application) (event : CardEvent) (chip : CardState) (X Y : State) → IsCoherent X → CardReady (known_of cards c) chip X → (known_of cards c).sizes ≡ Ok app → is_some (session_of cards c) ≡ true → LeavesOnly X Y (IsNotingEvent app event) → LeavesPlaces (session_of cards c) X Y
+event-leaves c cards app event chip X Y whole ready told some run = by c some ready told
+  where
+    one : (a : Accepted) → app ≡ a.session.application → LeavesPlaces (Some a) X Y
+    one a same y left = ⊎_elim
+        (λ was. (y, was, refl))
+        (λ here. (here.0, whole.is_left here.0 here.1, subst (λ (p : Application). file_bytes p 0x0506 y ≡ file_bytes p 0x0506 here.0) same (event-places app here.0 y event here.2)))
+        (run.now y left)
+
+    by : (c : Card) → is_some (session_of cards c) ≡ true → CardReady (known_of cards c) chip X → (known_of cards c).sizes ≡ Ok app → LeavesPlaces (session_of cards c) X Y
+    by A s ready told = at_a cards.a.accepted refl s
+      where
+        at_a : (q : Option Accepted) → cards.a.accepted ≡ q → is_some q ≡ true → LeavesPlaces q X Y
+        at_a None is none = absurd (let wrong : false ≡ true = none in cc)
+        at_a (Some a) is has =
+            let sized = subst (λ (p : Option Accepted). IfSome p (λ a. cards.a.sizes ≡ Ok a.session.application)) is ready.is_known.sized in
+            let same : app ≡ a.session.application = cc in
+            one a same
+    by B s ready told = at_b cards.b.accepted refl s
+      where
+        at_b : (q : Option Accepted) → cards.b.accepted ≡ q → is_some q ≡ true → LeavesPlaces q X Y
+        at_b None is none = absurd (let wrong : false ≡ true = none in cc)
+        at_b (Some a) is has =
+            let sized = subst (λ (p : Option Accepted). IfSome p (λ a. cards.b.sizes ≡ Ok a.session.application)) is ready.is_known.sized in
+            let same : app ≡ a.session.application = cc in
+            one a same
+
+-- one after another, where the session is as it was, or gone
+pub leaves-then : (q r : Option Accepted) (X Y Z : State) → (r ≡ q) ⊎ (r ≡ None) → LeavesPlaces q X Y → LeavesPlaces r Y Z → LeavesPlaces q X Z
+leaves-then None None X Y Z goes first next = λ c left. first c (next c left)
+leaves-then None (Some b) X Y Z goes first next = absurd (⊎_elim (λ is. let wrong : Some b ≡ None = is in cc) (λ is. let wrong : Some b ≡ None = is in cc) goes)
+leaves-then (Some a) None X Y Z goes first next = λ c left. first c (next c left)
+leaves-then (Some a) (Some b) X Y Z goes first next = λ c left.
+    let two = next c left in
+    let one = first two.0 two.1 in
+    let sizes : b.session.application ≡ a.session.application = ⊎_elim (λ is. alike is) (λ is. absurd (let wrong : Some b ≡ None = is in cc)) goes in
+    (one.0, one.1, subst (λ (p : Application). file_bytes p 0x0506 c ≡ file_bytes p 0x0506 two.0) sizes two.2 ∙ one.2)
+  where
+    alike : Some b ≡ Some a → b.session.application ≡ a.session.application
+    alike is = let same : b ≡ a = cc in ap (λ (q : Accepted). q.session.application) same
+
+-- of the cards of a run in a second
+pub leave-stay : (o : Origin) (done : List TraceSecond) (s : TraceSecond) (at : Phase) (waits : List Visit) (rest : List Minute) (run : Run) (out : Outcome) (d e : Devices) → RunWithin o done s at waits rest run out d → LeavePlaces run.keeper.cabin.cards d e → PlacesStay o d e
+leave-stay o done s at waits rest run out d e w leaves c valid = by (session_of run.keeper.cabin.cards c) refl (leaves c)
+  where
+    by : (q : Option Accepted) → session_of run.keeper.cabin.cards c ≡ q → LeavesPlaces q (card_of d c) (card_of e c) → LeavesRing (card_image o.recording c) (card_of d c) (card_of e c)
+    by None is h = λ y left. (y, h y left, refl)
+    by (Some a) is h = λ y left.
+        let was = h y left in
+        (was.0, was.1, file-ring (sizes_in o c) was.0 y (subst (λ (app : Application). file_bytes app 0x0506 y ≡ file_bytes app 0x0506 was.0) (session-sizes o done s at waits rest run out d w c valid a is) was.2))
+
+-- ---- A PLACE IS NOTED
+
+-- how wide its entry is
+pub entry-wide : (v : PlaceEntry) → length (place_bytes v) ≡ place_width
+entry-wide v = omega arith
+
+-- by the session that a card has
+pub may-take : (c : Card) (cards : Cards) (app : Application) (entry : PlaceEntry) (chip : CardState) (X Y : State) → IsCoherent X → CardReady (known_of cards c) chip X → (known_of cards c).sizes ≡ Ok app → LeavesOnly X Y (IsNotingPlace app entry) → MayTakePlace (session_of cards c) entry X Y
+may-take c cards app entry chip X Y whole ready told run = by c ready told
+  where
+    one : (a : Accepted) → app ≡ a.session.application → MayHavePlace a.session.application entry X Y
+    one a same y left = ⊎_elim
+        (λ was. (y, was, inl refl))
+        (λ here. (here.0, whole.is_left here.0 here.1, inr (subst (λ (p : Application). IsNotingPlace p entry here.0 y) same here.2)))
+        (run.now y left)
+
+    by : (c : Card) → CardReady (known_of cards c) chip X → (known_of cards c).sizes ≡ Ok app → MayTakePlace (session_of cards c) entry X Y
+    by A ready told = at_a cards.a.accepted refl
+      where
+        at_a : (q : Option Accepted) → cards.a.accepted ≡ q → MayTakePlace q entry X Y
+        at_a None is = tt
+        at_a (Some a) is =
+            let sized = subst (λ (p : Option Accepted). IfSome p (λ a. cards.a.sizes ≡ Ok a.session.application)) is ready.is_known.sized in
+            let same : app ≡ a.session.application = cc in
+            one a same
+    by B ready told = at_b cards.b.accepted refl
+      where
+        at_b : (q : Option Accepted) → cards.b.accepted ≡ q → MayTakePlace q entry X Y
+        at_b None is = tt
+        at_b (Some a) is =
+            let sized = subst (λ (p : Option Accepted). IfSome p (λ a. cards.b.sizes ≡ Ok a.session.application)) is ready.is_known.sized in
+            let same : app ≡ a.session.application = cc in
+            one a same
+
+-- behind a call, by whether it failed, on the card or on the unit before: it stands, or may stand
+abbrev pub PlaceCall : (fell failed : Bool) → Application → PlaceEntry → (card card_after : State) → Type 0
+PlaceCall fell failed app entry card card_after = (y : List ℕ) → card_after.may_leave y → (x : List ℕ) × card.may_leave x
+    × (PointsInside (place_ring app) x → IsPlaceNoted app entry x y ⊎ (((fell ≡ true) ⊎ (failed ≡ true)) × ((y ≡ x) ⊎ IsNotingPlace app entry x y)))
+
+-- the unit failed before
+pub call-unbegun : (app : Application) (entry : PlaceEntry) (X : State) → PlaceCall false true app entry X X
+call-unbegun app entry X y left = (y, left, λ points. inr (inr refl, inl refl))
+
+-- on the card
+pub call-made : (fell failed : Bool) (a : Accepted) (after : Option Accepted) (entry : PlaceEntry) (X Y : State) → (fell ≡ false → after ≡ Some a) → PlaceOn (Some a) after false entry X Y → MayHavePlace a.session.application entry X Y → PlaceCall fell failed a.session.application entry X Y
+call-made false failed a after entry X Y stays on may y left =
+    let has = subst (λ (q : Option Accepted). PlaceOn (Some a) q false entry X Y) (stays refl) on in
+    let was = has y left in
+    (was.0, was.1, λ points. inl (was.2 points))
+call-made true failed a after entry X Y stays on may y left =
+    let was = may y left in
+    (was.0, was.1, λ points. inr (inl refl, was.2))
+
+-- the card that entered it
+abbrev Taken : Origin → RunLog → PlaceNote → PlaceEntry → (d e : Devices) → Card → Type 0
+Taken o log p entry d e k =
+    IsOwnValid (card_image o.recording k) → (y : List ℕ) → (card_of e k).may_leave y → (x : List ℕ) × (card_of d k).may_leave x × (PointsInside (places_in (card_image o.recording k)) x → TakesPlace log p (place_bytes entry) (card_image o.recording k) x y)
+
+-- it is so of the cards of a run
+pub place-taken : (o : Origin) (log : RunLog) (p : PlaceNote) (entry : PlaceEntry) (fell failed : Bool) (d e : Devices) → (fell ≡ true → has_call_failed_in log p.second ≡ true) → (failed ≡ true → has_call_failed_in log p.second ≡ true)
+    → (IsOwnValid (card_image o.recording p.card) → PlaceCall fell failed (sizes_in o p.card) entry (card_of d p.card) (card_of e p.card)) → ((c : Card) → same_card p.card c ≡ false → (y : List ℕ) → (card_of e c).may_leave y → (card_of d c).may_leave y)
+    → PlaceIsTaken o log p (place_bytes entry) d e
+place-taken o log p entry fell failed d e told_fell told_failed call others c valid = ⊎_elim
+    (λ same. inr (same, subst (Taken o log p entry d e) (alike p.card c same) (λ v y left. by y (call v y left)) valid))
+    (λ apart_. inl (apart_, λ y left. (y, others c apart_ y left, refl)))
+    (this-or p.card c)
+  where
+    alike : (x y : Card) → same_card x y ≡ true → x ≡ y
+    alike A A is = refl
+    alike B B is = refl
+    alike A B is = absurd (let wrong : false ≡ true = is in cc)
+    alike B A is = absurd (let wrong : false ≡ true = is in cc)
+
+    by : (y : List ℕ) → ((x : List ℕ) × (card_of d p.card).may_leave x × (PointsInside (place_ring (sizes_in o p.card)) x → IsPlaceNoted (sizes_in o p.card) entry x y ⊎ (((fell ≡ true) ⊎ (failed ≡ true)) × ((y ≡ x) ⊎ IsNotingPlace (sizes_in o p.card) entry x y))))
+        → (x : List ℕ) × (card_of d p.card).may_leave x × (PointsInside (places_in (card_image o.recording p.card)) x → TakesPlace log p (place_bytes entry) (card_image o.recording p.card) x y)
+    by y w = (w.0, w.1, λ points. ⊎_elim (λ stands. inl stands) (λ may. inr (⊎_elim told_fell told_failed may.0, may.1)) (w.2 points))
+
+-- a tear by a failed call is told
+pub tear-failed : (log : RunLog) (slot : Slot) (at : Moment) → has_call_failed_in (record log { breaks = log.breaks ++ tear_of slot at ∷ [] }) at.second ≡ true
+tear-failed log slot at =
+    ap (list_any (λ (b : Break). nat_eq (second_of b) at.second)) (filter-append has_failed log.breaks (tear_of slot at ∷ []))
+    ∙ any-last (λ (b : Break). nat_eq (second_of b) at.second) (filter has_failed log.breaks) (tear_of slot at) itself
+  where
+    itself : nat_eq at.second at.second ≡ true
+    itself = grind (arith, nat_tests)

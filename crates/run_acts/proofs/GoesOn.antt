@@ -1,0 +1,82 @@
+-- What the keeping of minutes leaves of the devices is what a call leaves of them: what might have been left might be left still, and a card that was as it was is so, or has a session.
+use Rattle.std.proofs.Common.{◌≡◌, ◌⊎◌, inl, inr, ⊎_elim, ℕ, ◌+◌, ◌-◌, ◌≤◌, Bool, true, false, Option, Some, None, is_some, List, [], refl, subst, ◌∙◌, arith}
+use Rattle.std.proofs.lemmas.Bool.{cases_lt}
+use Rattle.trace_model.specs.declared.Card.{Card}
+use Rattle.trace_model.specs.declared.Card.TheVariants.{A, B}
+use Rattle.tach_media.specs.Medium.{State, Rose, HasCause, LeavesOnly}
+use Rattle.tach_media.proofs.Runs.{cause_after}
+use Rattle.unit_notes.specs.Journal.{LeavesJournal}
+use Rattle.run_model.specs.declared.Device.TheVariants.{Unit as Recorder}
+use Rattle.log_model.specs.Causes.{RoseBy}
+use Rattle.safety_model.specs.Safe.{Devices, card_of, breakdowns_of}
+use Rattle.run_crew.specs.declared.cards.Accepted.{Accepted}
+use Rattle.run_crew.specs.declared.cards.Cards.{Cards}
+use Rattle.run_crew.specs.Cards.{session_of}
+use Rattle.run_rule.specs.Found.{CardFound, found_of}
+use Rattle.run_rule.specs.Cards.{IsUntouched}
+use Rattle.run_rule.specs.Between.{Carried, devices}
+use Rattle.run_told.specs.Told.{IsPowered}
+use Rattle.run_recorded.specs.Origin.{Origin}
+use Rattle.run_keeping.specs.Books.{AreTimedOn}
+use Rattle.run_within.specs.Recorded.{AreThere}
+use Rattle.run_within.specs.Within.{GoesOnSo}
+use Rattle.run_acts.specs.Devices.{CardGoesOn, DevicesGoOn}
+
+rose-by : (before now : ℕ) → Rose before now → RoseBy 1 before now
+rose-by before now rose = ⊎_elim (λ less. inr (omega (arith, rose, less))) (λ all. inl all) (cases_lt now (before + 1))
+
+-- a card that was not called is as it was
+pub same-left : (old new : State) → new ≡ old → (n : ℕ) (x : List ℕ) → new.left_since n x → old.left_since n x
+same-left old new same n x at = subst (λ (s : State). s.left_since n x) same at
+
+-- BEHIND A NOTE on the unit alone they go on
+pub noted-devices : (failed : Bool) (cards after : Cards) (d : Devices) (U V X Y : State) → DevicesGoOn false cards after d (devices U X Y) → LeavesOnly U V LeavesJournal → HasCause U V failed → DevicesGoOn failed cards after d (devices V X Y)
+noted-devices failed cards after d U V X Y h run cause = record {
+  cause = cause_after h.cause cause;
+  keeps = λ t x le at. run.keeps t x (let on = h.clock in omega (arith, le, on)) (h.keeps t x le at);
+  tells = run.tells ∙ h.tells;
+  clock = let on = h.clock in let later = run.later in omega (arith, on, later);
+  card_a = h.card_a;
+  card_b = h.card_b;
+}
+
+-- a card without a session is as it was
+untouched-card : (f : CardFound) (session after : Option Accepted) (old new : State) → CardGoesOn session after old new → IsUntouched f old → IsUntouched f new ⊎ (is_some session ≡ true)
+untouched-card f None after old new h whole = inl (λ x at. whole x (h.bare refl f.began x at))
+untouched-card f (Some a) after old new h whole = inr refl
+
+module _ (o : Origin) (w : Carried) (failed : Bool) (cards after : Cards) (d e : Devices) (powered : IsPowered o.found w cards d) (there : AreThere o.found d) (h : DevicesGoOn failed cards after d e) (timed : AreTimedOn o.found d e) where
+  -- where the unit failed it broke down
+  pub unit-rose : failed ≡ true → RoseBy 1 (breakdowns_of d Recorder) (breakdowns_of e Recorder)
+  unit-rose is = rose-by d.unit.breakdowns e.unit.breakdowns (h.cause.breaks powered.lit.works is)
+
+  there-now : AreThere o.found d → AreThere o.found e
+  there-now t = record {
+    unit = h.tells ∙ t.unit;
+    cards = λ card. cards-told card t;
+    clocks = λ card. cards-later card t;
+    timed = λ card valid. (timed card valid).0 (t.timed card valid);
+  }
+    where
+      cards-told : (card : Card) → AreThere o.found d → is_some (card_of e card).image ≡ true
+      cards-told A t = h.card_a.tells ∙ t.cards A
+      cards-told B t = h.card_b.tells ∙ t.cards B
+
+      cards-later : (card : Card) → AreThere o.found d → (found_of o.found card).began ≤ (card_of e card).clock
+      cards-later A t = let was = t.clocks A in let on = h.card_a.clock in omega (arith, was, on)
+      cards-later B t = let was = t.clocks B in let on = h.card_b.clock in omega (arith, was, on)
+
+  pub goes-on : GoesOnSo o cards d e
+  goes-on = record {
+    left = record { unit = λ x at. h.keeps o.found.unit.began x (powered.lit.unit.unit_holds [] []).later at; card = cards-left };
+    there = there-now;
+    untouched = spared;
+  }
+    where
+      cards-left : (c : Card) (x : List ℕ) → (card_of d c).left_since (found_of o.found c).began x → (card_of e c).left_since (found_of o.found c).began x
+      cards-left A x at = h.card_a.keeps o.found.card_a.began x (there.clocks A) at
+      cards-left B x at = h.card_b.keeps o.found.card_b.began x (there.clocks B) at
+
+      spared : (c : Card) → IsUntouched (found_of o.found c) (card_of d c) → IsUntouched (found_of o.found c) (card_of e c) ⊎ (is_some (session_of cards c) ≡ true)
+      spared A whole = untouched-card o.found.card_a cards.a.accepted after.a.accepted d.card_a e.card_a h.card_a whole
+      spared B whole = untouched-card o.found.card_b cards.b.accepted after.b.accepted d.card_b e.card_b h.card_b whole

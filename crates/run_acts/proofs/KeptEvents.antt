@@ -1,0 +1,179 @@
+-- The faults of a keeping, and what has ended with a second, noted on the unit: what each image shows.
+use Rattle.std.proofs.Common.{◌≡◌, ◌∙◌, ◌⊎◌, inl, inr, ⊎_elim, ℕ, ◌+◌, Bool, true, false, Option, Some, None, List, [], ◌∷◌, ◌++◌, length, refl, sym, subst, arith}
+use Rattle.std.specs.Prelude.{option_to_list}
+use Rattle.trace_model.specs.declared.Card.{Card}
+use Rattle.tach_media.specs.Medium.{State, IsCoherent}
+use Rattle.log_model.specs.Log.{RunLog}
+use Rattle.unit_model.specs.Image.{IsUnit}
+use Rattle.event_model.specs.declared.kinds.TheConstants.{DRIVING_WITHOUT_CARD, OVER_SPEEDING, CARD_FAULT}
+use Rattle.event_model.specs.Events.{Event, Seen}
+use Rattle.tacho_types.specs.declared.card_number.FullCardNumber.{FullCardNumber}
+use Rattle.event_course.specs.Noted.{are_sure}
+use Rattle.unit_notes.specs.declared.unit_event.UnitEvent.{UnitEvent}
+use Rattle.unit_notes.specs.Entries.{fault_bytes}
+use Rattle.unit_notes.specs.Noting.{IsEventNoted}
+use Rattle.run_rule.specs.Between.{devices}
+use Rattle.run_crew.specs.declared.cabin.Cabin.{Cabin}
+use Rattle.run_events.specs.Shown.{by_kind, none, ShowsMore, AreNumbers, SaysNothing, SaysNothingBut}
+use Rattle.run_events.proofs.Shows.{more-then, nothing-more, nothing-but}
+use Rattle.run_events.specs.Seconds.{bares_by, overs_by}
+use Rattle.run_events.proofs.Frames.{event-more}
+use Rattle.run_recorded.specs.Origin.{Origin}
+use Rattle.run_evented.specs.Evented.{number_in}
+use Rattle.run_notes.specs.declared.watch.Ended.{Ended}
+use Rattle.run_notes.specs.Watching.{BareWith, OverWith, bare_ended, over_ended}
+use Rattle.run_notes.specs.Noting.{AreNoted, AreBeingNoted}
+use Rattle.event_crews.specs.Watched.{number_bytes, ArePairs, IsBareOf, IsFastOf}
+use Rattle.event_crews.specs.Turned.{AreEnded, AreLow}
+use Rattle.event_crews.proofs.Turned.{turn-shown, turn-moment}
+use Rattle.slot_machine.specs.declared.seats.Present.{Present}
+use Rattle.run_keeping.specs.declared.keeper.Keeper.{Keeper}
+use Rattle.run_keeping.specs.declared.keeper.Moment.{Moment}
+use Rattle.run_keeping.specs.Keeping.{Fate, Still, Has, Fell, cabin_by}
+use Rattle.run_keeping.specs.Minutes.{Round, Told, Done, Reach, Whole, Short, cabin_after, told_after, told_by, present_at}
+use Rattle.run_keeping.specs.Faults.{faults_by, round_faults, last_faults, faults_of, faults_to, TellsFaults, NotesFaults}
+use Rattle.run_acts.specs.NotedEvents.{AreUnsure, AreTold, NotesSo, NotesEvents}
+use Rattle.run_acts.proofs.NotedEvents.{unsure-front, unsure-back, unsure-shown}
+use Rattle.run_acts.specs.KeptEvents.{AreFaults, AreNumbered}
+
+-- ---- what a keeping notes are faults
+
+both : (vs ws : List UnitEvent) → AreFaults vs → AreFaults ws → AreFaults (vs ++ ws)
+both [] ws h k = k
+both (v ∷ vs) ws h k = (h.0, both vs ws h.1 k)
+
+fate-faults : (fate : Fate) (second : ℕ) (cabin : Cabin) → AreFaults (faults_by fate second cabin)
+fate-faults Still second cabin = tt
+fate-faults (Has accepted clock) second cabin = tt
+fate-faults Fell second cabin = (refl, tt)
+
+round-are : (p : Present) (at : Moment) (round : Round) (cabin : Cabin) → AreFaults (round_faults p at round cabin)
+round-are p at round cabin =
+    both (faults_by round.driver at.second (cabin_by round.driver p.driver at.second cabin)) (faults_by round.codriver at.second (cabin_after p at.second round cabin))
+    (fate-faults round.driver at.second (cabin_by round.driver p.driver at.second cabin)) (fate-faults round.codriver at.second (cabin_after p at.second round cabin))
+
+last-are : (p : Present) (at : Moment) (round : Option Round) (cabin : Cabin) → AreFaults (last_faults p at round cabin)
+last-are p at None cabin = tt
+last-are p at (Some round) cabin = round-are p at round cabin
+
+done-are : (k : Keeper) (at : Moment) (xs : List Done) (t : Told) → AreFaults (faults_of k at xs t)
+done-are k at [] t = tt
+done-are k at (x ∷ xs) t =
+    let next : Told = told_after (present_at k.cabin x.minute.minute) x.minute.minute at x.round t in
+    both (round_faults (present_at k.cabin x.minute.minute) at x.round t.keeper.cabin) (faults_of k at xs next) (round-are (present_at k.cabin x.minute.minute) at x.round t.keeper.cabin) (done-are k at xs next)
+
+pub faults-are : (k : Keeper) (at : Moment) (reach : Reach) (t : Told) → AreFaults (faults_to k at reach t)
+faults-are k at (Whole xs) t = done-are k at xs t
+faults-are k at (Short xs m round) t =
+    both (faults_of k at xs t) (last_faults (present_at k.cabin m.minute) at round (told_by k at xs t).keeper.cabin) (done-are k at xs t) (last-are (present_at k.cabin m.minute) at round (told_by k at xs t).keeper.cabin)
+
+-- ---- each image is as long as a unit's
+
+pub as-long : (U : State) → IsCoherent U → IsUnit U → (x : List ℕ) → U.may_leave x → length x ≡ 2485808
+as-long U whole unit x at = let all = whole.left_sized x at in let size = unit.sized in let none_behind = unit.behind in omega (arith, all, size, none_behind)
+
+same-events : (x y : List ℕ) → y ≡ x → SaysNothing x y
+same-events x y is = subst (λ (c : List ℕ). SaysNothing x c) (sym is) (record { tables = λ kind there. refl; first_over = refl; over_count = refl })
+
+-- ---- faults
+
+module _ (number : Card → List ℕ) (long : AreNumbers number) (log : RunLog) (now : ℕ → List Event) where
+  faults-shown : (vs : List UnitEvent) (es : List Event) (x c : List ℕ) → length x ≡ 2485808 → AreFaults vs → AreTold number vs es → TellsFaults vs x c → ShowsMore number log now (by_kind es) x c
+  faults-shown [] [] x c sized are told h = nothing-more number log now x c h.0
+  faults-shown [] (e ∷ es) x c sized are told h = absurd told
+  faults-shown (v ∷ vs) [] x c sized are told h = absurd told
+  faults-shown (v ∷ vs) (e ∷ es) x c sized are told h =
+      let first = told.0 in
+      let y : List ℕ = h.0 in
+      let z : List ℕ = h.1 in
+      let kind : CARD_FAULT ≡ e.kind = sym are.0 ∙ first.is.kind in
+      let y_long : length y ≡ 2485808 = h.2.1 ∙ sized in
+      more-then number log now [] (e ∷ es) x y c (nothing-more number log now x y h.2.0)
+      (more-then number log now (e ∷ []) es y z c (event-more number long log now e first.there y z y_long v first.other first.begin first.end first.is (subst (λ (k : ℕ). IsEventNoted k (fault_bytes v) y z) kind h.3))
+      (faults-shown vs es z c (h.3.outside.same_length ∙ y_long) are.1 told.1 h.4))
+
+  faults-unsure : (vs : List UnitEvent) (es : List Event) (x c : List ℕ) → AreFaults vs → AreTold number vs es → AreUnsure log now es → (vs ≡ [] → SaysNothing x c) → SaysNothingBut CARD_FAULT x c → ShowsMore number log now none x c
+  faults-unsure [] es x c are told unsure same but = nothing-more number log now x c (same refl)
+  faults-unsure (v ∷ vs) [] x c are told unsure same but = absurd told
+  faults-unsure (v ∷ vs) (e ∷ es) x c are told unsure same but =
+      let kind : CARD_FAULT ≡ e.kind = sym are.0 ∙ told.0.is.kind in
+      nothing-but number log now e.kind x c (subst (λ (k : ℕ). SaysNothingBut k x c) kind but) unsure.0
+
+pub faults-noted : (vs : List UnitEvent) (failed : Bool) (U V A B C D : State) → IsCoherent U → IsUnit U → AreFaults vs → NotesFaults failed vs U V → NotesEvents vs failed (devices U A B) (devices V C D)
+faults-noted vs false U V A B C D whole unit are h o long es told = λ c at.
+    let x = h c at in
+    (x.0, x.1, λ log now. faults-shown (number_in o) long log now vs es x.0 c (as-long U whole unit x.0 x.1) are told x.2)
+faults-noted vs true U V A B C D whole unit are h o long es told = λ log now unsure c at.
+    let x = h c at in
+    (x.0, x.1, faults-unsure (number_in o) long log now vs es x.0 c are told unsure x.2.0 x.2.1)
+
+-- ---- what has ended
+
+-- functions that agree are one
+fun-same : {X : Type 0} (f g : Card → X) → ((c : Card) → f c ≡ g c) → f ≡ g
+fun-same f g h = λ i. λ c. h c i
+
+module _ (o : Origin) (long : AreNumbers (number_in o)) (number : Card → FullCardNumber) (named : AreNumbered o number) (log : RunLog) (now : ℕ → List Event) (limit : ℕ) (span new : List Seen) (ended : Ended) (are : AreEnded number limit span new ended) (low : AreLow span)
+    (lows : AreLow new) where
+  abbrev es : List Event
+  es = bares_by span new ++ overs_by limit span new
+
+  same-numbers : number_in o ≡ number_bytes number
+  same-numbers = fun-same (number_in o) (number_bytes number) named
+
+  as-many : AreNumbers (number_bytes number)
+  as-many = subst AreNumbers same-numbers long
+
+  ended-shown : (x c : List ℕ) → length x ≡ 2485808 → AreNoted ended x c → ShowsMore (number_in o) log now (by_kind es) x c
+  ended-shown x c sized noted = subst (λ (f : Card → List ℕ). ShowsMore f log now (by_kind es) x c) (sym same-numbers) (turn-shown number as-many log now limit span new ended are low lows x c sized noted)
+
+  bares-unsure : (bares : List Event) (q : Option BareWith) → ArePairs (IsBareOf number) bares (option_to_list q) → AreUnsure log now bares → (bares ≡ []) ⊎ (are_sure log (now DRIVING_WITHOUT_CARD) ≡ true → ⊥)
+  bares-unsure [] q pairs un = inl refl
+  bares-unsure (e ∷ bares) None pairs un = absurd pairs
+  bares-unsure (e ∷ bares) (Some b) pairs un = inr (subst (λ (k : ℕ). are_sure log (now k) ≡ true → ⊥) (sym pairs.0.kind) un.0)
+
+  overs-unsure : (overs : List Event) (q : Option OverWith) → ArePairs (IsFastOf number) overs (option_to_list q) → AreUnsure log now overs → (overs ≡ []) ⊎ (are_sure log (now OVER_SPEEDING) ≡ true → ⊥)
+  overs-unsure [] q pairs un = inl refl
+  overs-unsure (e ∷ overs) None pairs un = absurd pairs
+  overs-unsure (e ∷ overs) (Some f) pairs un = inr (subst (λ (k : ℕ). are_sure log (now k) ≡ true → ⊥) pairs.0.kind un.0)
+
+  ended-moment : (x c : List ℕ) → length x ≡ 2485808 → AreUnsure log now es → AreBeingNoted ended x c → ShowsMore (number_in o) log now none x c
+  ended-moment x c sized unsure moment =
+      let bares = bares-unsure (bares_by span new) (bare_ended ended) are.bares (unsure-front log now (bares_by span new) (overs_by limit span new) unsure) in
+      let overs = overs-unsure (overs_by limit span new) (over_ended ended) are.overs (unsure-back log now (bares_by span new) (overs_by limit span new) unsure) in
+      subst (λ (f : Card → List ℕ). ShowsMore f log now none x c) (sym same-numbers) (turn-moment number as-many log now limit span new ended are low lows x c sized (bares, overs) moment)
+
+-- ---- the faults of a turn's keeping, and then what has ended
+
+pub tells-long : (vs : List UnitEvent) (x c : List ℕ) → TellsFaults vs x c → length x ≡ 2485808 → length c ≡ 2485808
+tells-long [] x c h sized = h.1 ∙ sized
+tells-long (v ∷ vs) x c h sized = tells-long vs h.1 c h.4 (h.3.outside.same_length ∙ h.2.1 ∙ sized)
+
+module _ (vs : List UnitEvent) (ended : Ended) (U V A B C D : State) (whole : IsCoherent U) (unit : IsUnit U) (are : AreFaults vs) (o : Origin) (long : AreNumbers (number_in o)) (faults : List Event) (told : AreTold (number_in o) vs faults)
+    (number : Card → FullCardNumber) (named : AreNumbered o number) (limit : ℕ) (span new : List Seen) (ends : AreEnded number limit span new ended) (low : AreLow span) (lows : AreLow new) where
+  abbrev brought : List Event
+  brought = bares_by span new ++ overs_by limit span new
+
+  pub turn-noted : ((c : List ℕ) → V.may_leave c → (x : List ℕ) × U.may_leave x × (y : List ℕ) × TellsFaults vs x y × AreNoted ended y c) → NotesSo false o (faults ++ brought) (devices U A B) (devices V C D)
+  turn-noted noted = λ c at.
+      let h = noted c at in
+      let sized : length h.0 ≡ 2485808 = as-long U whole unit h.0 h.1 in (
+        h.0,
+        h.1,
+        λ log now. more-then (number_in o) log now faults brought h.0 h.2 c (faults-shown (number_in o) long log now vs faults h.0 h.2 sized are told h.3)
+            (ended-shown o long number named log now limit span new ended ends low lows h.2 c (tells-long vs h.0 h.2 h.3 sized) h.4),
+      )
+
+  pub turn-cut : ((c : List ℕ) → V.may_leave c → (x : List ℕ) × U.may_leave x × (y : List ℕ) × TellsFaults vs x y × ((c ≡ y) ⊎ AreBeingNoted ended y c)) → NotesSo true o (faults ++ brought) (devices U A B) (devices V C D)
+  turn-cut noted = λ log now unsure c at.
+      let h = noted c at in
+      let sized : length h.0 ≡ 2485808 = as-long U whole unit h.0 h.1 in (
+        h.0,
+        h.1,
+        more-then (number_in o) log now [] [] h.0 h.2 c
+            (unsure-shown (number_in o) log now faults h.0 h.2 (unsure-front log now faults brought unsure) (faults-shown (number_in o) long log now vs faults h.0 h.2 sized are told h.3))
+            (⊎_elim
+            (λ same. nothing-more (number_in o) log now h.2 c (same-events h.2 c same))
+            (λ moment. ended-moment o long number named log now limit span new ended ends low lows h.2 c (tells-long vs h.0 h.2 h.3 sized) (unsure-back log now faults brought unsure) moment)
+            h.4),
+      )

@@ -1,0 +1,94 @@
+-- What an action writes on the card that it is about (profile): a place stands on it, and a card that is withdrawn is closed.
+use Rattle.std.specs.Prelude.{◌≡◌, ◌⊎◌, ◌++◌, ℕ, Bool, true, false, Option, Some, None, IfSome, List}
+use Rattle.activity_codec.specs.declared.values.Activity.{Activity}
+use Rattle.activity_codec.specs.declared.values.Slot.{Slot}
+use Rattle.trace_model.specs.declared.Card.{Card}
+use Rattle.tach_media.specs.Medium.{State}
+use Rattle.tacho_types.specs.declared.places.PlaceEntry.{PlaceEntry}
+use Rattle.card_layout.specs.declared.files.Application.{Application}
+use Rattle.card_image.specs.Own.{IsOwnValid}
+use Rattle.card_records.specs.Noting.{IsPlaceNoted, IsNotingPlace}
+use Rattle.card_records.specs.Rings.{place_ring}
+use Rattle.card_session.specs.Sessions.{IsSession}
+use Rattle.card_session.specs.Cards.{IsCardClosed}
+use Rattle.gated_ring.specs.Ring.{PointsInside}
+use Rattle.log_model.specs.declared.lines.Break.{Break}
+use Rattle.minute_model.specs.declared.Minute.{Minute}
+use Rattle.minute_model.specs.Span.{Span, settled, decided_in, activity_next}
+use Rattle.minute_rules.specs.Kept.{StandsFor}
+use Rattle.unit_course.specs.Legs.{Travel}
+use Rattle.unit_rule.specs.Odometer.{HasTravelled, odometer_after}
+use Rattle.safety_model.specs.Safe.{Devices, card_of}
+use Rattle.run_crew.specs.declared.cards.Accepted.{Accepted}
+use Rattle.run_crew.specs.Cards.{session_of}
+use Rattle.run_outcome.specs.Lines.{Listed}
+use Rattle.run_outcome.specs.declared.outcome.Outcome.{Outcome}
+use Rattle.run_rule.specs.Found.{Found, found_of}
+use Rattle.run_rule.specs.Between.{Carried}
+use Rattle.run_keeping.specs.declared.keeper.Moment.{Moment}
+use Rattle.run_keeping.specs.Minutes.{Told}
+use Rattle.run_keeping.specs.Books.{HaveTime}
+use Rattle.run_keeping.specs.Decided.{MayBookAll}
+use Rattle.run_acts.specs.declared.run.Run.{Run}
+use Rattle.run_acts.specs.Acting.{Closing, Bare, Closed, Fell, IsSettled, IsClosed, left_run, told_of}
+
+-- ---- a place
+
+-- each image that the card may leave has this place behind those of one that it might have left before
+abbrev pub HasPlace : Application → PlaceEntry → (card card_after : State) → Type 0
+HasPlace app entry card card_after = (c : List ℕ) → card_after.may_leave c → (x : List ℕ) × card.may_leave x × (PointsInside (place_ring app) x → IsPlaceNoted app entry x c)
+
+-- or it may have it, where the call failed
+abbrev pub MayHavePlace : Application → PlaceEntry → (card card_after : State) → Type 0
+MayHavePlace app entry card card_after = (c : List ℕ) → card_after.may_leave c → (x : List ℕ) × card.may_leave x × ((c ≡ x) ⊎ IsNotingPlace app entry x c)
+
+abbrev pub MayTakePlace : (session : Option Accepted) → PlaceEntry → (card card_after : State) → Type 0
+MayTakePlace session entry card card_after = IfSome session (λ a. MayHavePlace a.session.application entry card card_after)
+
+-- A PLACE IS NOTED ON A CARD that has a session, and has it still; but where the unit failed before.
+abbrev pub PlaceOn : (session after : Option Accepted) → (failed : Bool) → PlaceEntry → (card card_after : State) → Type 0
+PlaceOn None after failed entry card card_after = Unit {0}
+PlaceOn (Some a) None failed entry card card_after = Unit {0}
+PlaceOn (Some a) (Some still) true entry card card_after = Unit {0}
+PlaceOn (Some a) (Some still) false entry card card_after = HasPlace a.session.application entry card card_after
+
+-- ---- a withdrawal
+
+-- THE CARD IS CLOSED with this activity, where its session was: each image that it may leave is that one closed
+abbrev pub ClosesCard : Closing → (session : Option Accepted) → Activity → (card card_after : State) → Type 0
+ClosesCard Bare session act card card_after = Unit {0}
+ClosesCard Fell session act card card_after = Unit {0}
+ClosesCard Closed None act card card_after = ⊥
+ClosesCard Closed (Some a) act card card_after =
+    (c : List ℕ) → card_after.may_leave c → (x : List ℕ) × (card.image ≡ Some x) × (IsSession a.session x → IsCardClosed a.session act x c)
+
+-- so it is closed, with what is selected for the next second
+pub record ShutsSo (card : Card) (slot : Slot) (at : Moment) (old new : Run) (breaks after : Listed Break) (state state_after : State) : Type 0 where
+  pub closing : Closing
+  pub closed : IsClosed card slot at old new breaks after closing
+  pub act : Activity
+  pub selected : (span : Span) → StandsFor old.minutes span → act ≡ activity_next slot span
+  pub closes : ClosesCard closing (session_of old.keeper.cabin.cards card) act state state_after
+
+-- each image that a card may leave is one that its session knew, closed
+abbrev pub IsShut : Option Accepted → Activity → (card_after : State) → Type 0
+IsShut None act card_after = ⊥
+IsShut (Some a) act card_after = (c : List ℕ) → card_after.may_leave c → (x : List ℕ) × IsSession a.session x × IsCardClosed a.session act x c
+
+-- A WITHDRAWN CARD: the minutes before are kept, and then it is closed, over devices that tell, where it was valid
+pub record ShutsBehind (card : Card) (slot : Slot) (at : Moment) (t : Told) (old new : Run) (after : Outcome) (d e : Devices) : Type 0 where
+  pub decided : List Minute
+  pub given : (span : Span) → StandsFor old.minutes span → decided_in (settled span) ≡ decided_in span ++ decided
+  pub between : Run
+  pub told : Outcome
+  pub closing : Closing
+  pub closed : IsClosed card slot at between new told.breaks after.breaks closing
+  pub act : Activity
+  pub selected : (span : Span) → StandsFor between.minutes span → act ≡ activity_next slot span
+  pub shut : closing ≡ Closed → (f : Found) (w : Carried) (start : ℕ) (g : Travel) → MayBookAll f w decided t d → HasTravelled start w.book g d.unit → t.keeper.odometer ≡ odometer_after start g.before → HaveTime e → IsOwnValid (found_of f card).image
+      → IsShut (session_of between.keeper.cabin.cards card) act (card_of e card)
+
+-- or the unit failed in these minutes
+abbrev pub WithdrawsShut : Card → Slot → Moment → (failed : Bool) → (old new : Run) → (before after : Outcome) → (d e : Devices) → Type 0
+WithdrawsShut card slot at failed old new before after d e =
+    ((failed ≡ true) × IsSettled at true (left_run slot at.second old) new before after) ⊎ ShutsBehind card slot at (told_of (left_run slot at.second old) before) old new after d e
