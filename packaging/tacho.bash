@@ -3,8 +3,10 @@
 _tacho() {
   local word=${COMP_WORDS[COMP_CWORD]} words=
   case "$COMP_CWORD ${COMP_WORDS[*]:1:COMP_CWORD-1}" in
-    '1 ') words='minutes record serve download card view format demo help --help --version' ;;
+    '1 ') words='minutes record serve download card view match format upgrade demo help --help --version' ;;
+    '2 minutes') words=2009 ;;
     '2 serve') words=--hex ;;
+    '2 match') words=all ;;
     '2 card') words='a b' ;;
     '2 view') words=last ;;
     '2 format') words='unit a b' ;;
