@@ -9,6 +9,8 @@ use Rattle.view_model.specs.declared.CardShown.{CardShown}
 use Rattle.view_model.specs.declared.Line.{Line}
 use Rattle.card_match.specs.declared.cases.Use.{Use}
 use Rattle.card_match.specs.declared.cases.Case.{Case}
+use Rattle.card_match.specs.declared.difference.Instead.TheVariants.{NoMinute}
+use Rattle.card_match.specs.declared.difference.Difference.{Difference}
 
 abbrev pub no_entry : Entry
 no_entry = record { minute = 0; slot = Driver; crew = false; act = Rest }
@@ -27,3 +29,6 @@ no_unit_line = record { first = 0; last = 0; shown = record { driver = no_state;
 
 abbrev pub no_card_line : Line CardShown
 no_card_line = record { first = 0; last = 0; shown = record { slot = Driver; act = Rest; crew = false } }
+
+abbrev pub no_run : Line Difference
+no_run = record { first = 0; last = 0; shown = record { slot = Driver; act = Rest; instead = NoMinute } }

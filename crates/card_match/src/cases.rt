@@ -80,7 +80,7 @@ impl Case {
             shown: Difference {
                 slot: self.entry.slot,
                 act: self.entry.act,
-                instead: instead(self.entry, self.seen),
+                instead: instead_for(self.entry, self.seen),
             },
         }
     }
@@ -115,7 +115,7 @@ fn state_for(entry: Entry, shown: UnitShown) -> State
 }
 
 /// What the unit file has in place of an entry, by what was seen of its minute.
-fn instead(entry: Entry, seen: Option<UnitShown>) -> Instead
+fn instead_for(entry: Entry, seen: Option<UnitShown>) -> Instead
     ensures { result ≡ instead_seen entry seen }
 {
     match seen {

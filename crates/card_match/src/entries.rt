@@ -7,7 +7,7 @@ ghost use Rattle.card_match.specs.Differences.{AreDifferences};
 ghost use Rattle.card_match.specs.Cases.{AreRising, fresh};
 
 use crate::cases::{Case, Use, cases_of, tell_lines, tell_uses};
-use crate::verdict::{Differences, differences, first_day};
+use crate::verdict::{Differences, find_differences, first_day};
 use std::alloc::{AllocError, Global};
 use view_model::{CardShown, Line, UnitShown};
 
@@ -41,5 +41,5 @@ fn answer(
 {
     tell_uses(cases, uses);
     tell_lines(cases, unit);
-    differences(alloc, cases, first_day(unit))
+    find_differences(alloc, cases, first_day(unit))
 }

@@ -6,7 +6,7 @@ ghost use Rattle.view_model.specs.declared.Viewed.{Viewed as ViewedMinute};
 ghost use Rattle.view_model.specs.Lines.{lines_of};
 ghost use Rattle.card_match.specs.declared.difference.Difference.{Difference as How};
 ghost use Rattle.card_match.specs.Matching.{Against};
-ghost use Rattle.card_match.specs.Differences.{same_difference, AreDifferences, first_of};
+ghost use Rattle.card_match.specs.Differences.{same_difference, AreDifferences, first_in, first_of};
 ghost use Rattle.card_match.specs.Cases.{case_of, begins_by, is_from, line_from, IsSort, counted, total, is_missed, differing};
 
 use crate::cases::{Case, is_as};
@@ -48,19 +48,24 @@ impl Differences {
     pub fn first(&self) -> Matched
         ensures { result ≡ first_of self.now }
     {
-        let runs = self.runs.as_slice();
-        if runs.is_empty() {
-            return Matched::Yes {
-                tested: self.counts.tested,
-                other: self.counts.other,
-                before: self.counts.before,
-            };
-        }
-        let run = runs[0];
-        Matched::No {
+        first_in(self.runs.as_slice(), self.counts)
+    }
+}
+
+/// The first of some runs, or these counts.
+fn first_in(runs: &[Line<Difference>], counts: Counts) -> Matched
+    ensures { result ≡ first_in runs.now counts }
+{
+    match runs {
+        [] => Matched::Yes {
+            tested: counts.tested,
+            other: counts.other,
+            before: counts.before,
+        },
+        [run, ..] => Matched::No {
             minute: run.first,
             slot: run.shown.slot,
-        }
+        },
     }
 }
 
@@ -172,7 +177,7 @@ fn begins_by(first: Option<u32>, day: u32) -> bool
 }
 
 /// All that differs, by what was found out about each entry.
-pub fn differences(
+pub fn find_differences(
     alloc: Global,
     cases: &[Case],
     first: Option<u32>,

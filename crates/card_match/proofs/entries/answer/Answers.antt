@@ -12,7 +12,7 @@ returns c =
     let none : Against = record { uses = []; minutes = [] } in
     let used : Against = record { uses = c.args.uses.now; minutes = [] } in
     let all : Against = record { uses = c.args.uses.now; minutes = map minute_told (minutes_on c.args.unit.now) } in
-    IfOk-weaker c.differences.result
+    IfOk-weaker c.find_differences.result
     (λ found. (a : Against) (es : List Entry) → c.tell_lines.new.cases ≡ map (case_of a) es → ((day : ℕ) → begins_by a.minutes day ≡ is_from c.first_day.result day) → AreDifferences a es found)
     (λ found. (es : List Entry) → c.args.cases.now ≡ map fresh es → AreDifferences all es found)
-    (λ found is es are. is all es (c.tell_lines.ensures.told used es (c.tell_uses.ensures.told none es are)) c.first_day.ensures) c.differences.ensures
+    (λ found is es are. is all es (c.tell_lines.ensures.told used es (c.tell_uses.ensures.told none es are)) c.first_day.ensures) c.find_differences.ensures

@@ -4,7 +4,7 @@ use Rattle.view_model.specs.Lines.{lines_of}
 use Rattle.card_match.specs.Matching.{Against}
 use Rattle.card_match.specs.Differences.{same_difference, differences, AreCounted}
 use Rattle.card_match.specs.Cases.{case_of, begins_by, is_from, total}
-use Rattle.card_match.proofs.verdict.differences.Given as goal
+use Rattle.card_match.proofs.verdict.find_differences.Given as goal
 
 -- the cases so far
 abbrev pub invariant-loop-case : goal.invariant-loop-case

@@ -14,7 +14,7 @@ use Rattle.card_match.specs.Cases.{case_of}
 use Rattle.card_match.proofs.Empty.{no_entry, no_case}
 use Rattle.card_match.proofs.Counting.{one_more, none_counted, total_more}
 use Rattle.card_match.proofs.Seeing.{one_differs}
-use Rattle.card_match.proofs.verdict.differences.Goals as goal
+use Rattle.card_match.proofs.verdict.find_differences.Goals as goal
 
 -- the case at an index is that of the entry there
 at_index : (a : Against) (cases : List Case) (entries : List Entry) (i : ℕ) → cases ≡ map (case_of a) entries → i < length cases → (get_or cases i no_case ≡ case_of a (get_or entries i no_entry)) × (i < length entries)
