@@ -1,6 +1,6 @@
 -- The first of all differences is the answer to a match.
-use Rattle.std.proofs.Common.{◌≡◌, ◌∙◌, ◌⊎◌, inl, inr, ⊎_elim, ℕ, ◌<◌, ◌&&◌, Bool, true, false, not, List, [], ◌∷◌, ◌++◌, map, refl, ap, sym, subst}
-use Rattle.std.specs.Prelude.{filter}
+use Rattle.std.proofs.Common.{◌≡◌, ◌∙◌, ◌⊎◌, inl, inr, ⊎_elim, ℕ, ◌+◌, ◌<◌, ◌&&◌, Bool, true, false, not, List, [], ◌∷◌, ◌++◌, map, refl, ap, sym, subst}
+use Rattle.std.specs.Prelude.{filter, ◌==◌}
 use Rattle.std.specs.List.{AllByRecursion}
 use Rattle.activity_codec.proofs.ByTest.{by_test}
 use Rattle.activity_codec.specs.declared.entries.Entry.{Entry}
@@ -8,7 +8,9 @@ use Rattle.tacho_types.specs.declared.calendar.TheConstants.{DAYS}
 use Rattle.view_model.specs.declared.Viewed.{Viewed}
 use Rattle.view_model.specs.declared.Line.{Line}
 use Rattle.view_model.specs.Lines.{day_of_minute, goes_on, with_minute, lines_of}
+use Rattle.view_text.specs.Exact.{both}
 use Rattle.view_text.proofs.Texts.{lines-below}
+use Rattle.card_match.specs.Exact.{difference_exact}
 use Rattle.card_match.specs.Matching.{Against, is_tested, stands, IsMet, IsMatch}
 use Rattle.card_match.specs.Differences.{differs, difference_of, differences, same_difference, AreDifferences, first_in, first_of}
 use Rattle.card_match.specs.Files.{AnswersFiles, MatchesFiles, ComparesFiles, MatchesSource, ComparesSource}
@@ -30,15 +32,15 @@ record Found (a : Against) (es : List Entry) : Type 0 where
   unlike : differs a entry ≡ true
   first : filter (differs a) es ≡ entry ∷ rest
 
-met_by : (tested stands : Bool) → (tested && not stands) ≡ false → tested ≡ true → stands ≡ true
-met_by true true is yes = refl
-met_by true false is yes = cc
-met_by false stands is yes = cc
+met_by : (tested stood : Bool) → (tested && not stood) ≡ false → tested ≡ true → stood ≡ true
+met_by true true is seen = refl
+met_by true false is seen = cc
+met_by false stood is seen = cc
 
-unlike_by : (tested stands : Bool) → (tested && not stands) ≡ true → (tested ≡ true) × (stands ≡ false)
+unlike_by : (tested stood : Bool) → (tested && not stood) ≡ true → (tested ≡ true) × (stood ≡ false)
 unlike_by true false is = (refl, refl)
 unlike_by true true is = absurd (cc)
-unlike_by false stands is = absurd (cc)
+unlike_by false stood is = absurd (cc)
 
 -- none differs, or one is the first
 first_found : (a : Against) (es : List Entry) → ((filter (differs a) es ≡ []) × AllByRecursion (IsMet a) es) ⊎ Found a es
@@ -61,10 +63,17 @@ first_found a (e ∷ es) =
     }))
     (first_found a es))
 
+-- a minute in front of a run that it goes on with differs as the run does
+shows_run : (m : Viewed Difference) (run : Line Difference) → goes_on same_difference m run ≡ true → m.shown ≡ run.shown
+shows_run m run joined =
+    difference_exact m.shown run.shown (both (m.minute + 1 == run.first && day_of_minute m.minute == day_of_minute run.first) (same_difference m.shown run.shown) joined).1
+
 -- the first line of minutes begins with the first of them
 first_line : (m : Viewed Difference) (runs : List (Line Difference)) (c : Counts) → first_in (with_minute same_difference m runs) c ≡ No m.minute m.shown.slot
 first_line m [] c = refl
-first_line m (run ∷ runs) c = by_test (goes_on same_difference m run) (λ joined. rw joined refl) (λ apart. rw apart refl)
+first_line m (run ∷ runs) c =
+    let of : Difference → Matched = λ d. No m.minute d.slot in
+    by_test (goes_on same_difference m run) (λ joined. rw joined (ap of (sym (shows_run m run joined)))) (λ apart. rw apart refl)
 
 pub first_matches : (a : Against) (es : List Entry) (all : Differences) → AreDifferences a es all → IsMatch a es (first_of all)
 first_matches a es all are = ⊎_elim none found (first_found a es)
