@@ -66,22 +66,27 @@ fn upgrade(
     let mut unit = unit_with(alloc, image, ROOM, stops)?;
     let answer = UnitMemory::upgrade(&mut unit);
     let calls = unit.calls();
+    let ruled = loaded(&mut unit)?;
+    Ok(Upgraded {
+        answer,
+        calls,
+        ruled,
+    })
+}
+
+/// What a load tells of a unit that works again.
+fn loaded<M: Medium>(unit: &mut M) -> Result<Result<Ruled, UnitFault>, Untold> {
     unit.revive()?;
     if unit.size() != IMAGE_SIZE {
         return Err(Untold::Size);
     }
-    let ruled = match UnitMemory::load(&mut unit) {
+    Ok(match UnitMemory::load(unit) {
         Ok(memory) => Ok(Ruled {
             version: memory.version(),
             rule_byte: memory.rule_byte(),
             rule: memory.rule(),
         }),
         Err(fault) => Err(fault),
-    };
-    Ok(Upgraded {
-        answer,
-        calls,
-        ruled,
     })
 }
 
