@@ -4,7 +4,7 @@ use Rattle.tach_media.proofs.Runs.{reads_then}
 use Rattle.unit_model.specs.declared.layout.TheConstants.{INSERTIONS, PLACES, SPEEDS}
 use Rattle.unit_model.specs.Decoding.{first_failing}
 use Rattle.unit_memory.specs.Judging.{rings_of}
-use Rattle.unit_memory.proofs.Told.{carried, three_told}
+use Rattle.unit_memory.proofs.Told.{carried, three_told, err_true, reads_failed}
 use Rattle.unit_memory.proofs.judge.bad_ring.Goals as goal
 
 pub returns-clause-found : goal.returns-clause-found
@@ -22,3 +22,7 @@ returns-clause-found g c =
 
 pub returns-clause-reads : goal.returns-clause-reads
 returns-clause-reads g c = reads_then (reads_then c.in_ok-insertion.ensures.reads c.in_ok-place.ensures.reads) c.in_ok-speed.ensures.reads
+
+pub returns-in_err-speed-clause-reads : goal.returns-in_err-speed-clause-reads
+returns-in_err-speed-clause-reads g c =
+    reads_failed _ (err_true c.from_residual-in_err-speed.result c.from_residual-in_err-speed.ensures.0) (reads_then (reads_then c.in_ok-insertion.ensures.reads c.in_ok-place.ensures.reads) c.in_err-speed.ensures.reads)
