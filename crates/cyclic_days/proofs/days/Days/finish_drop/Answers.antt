@@ -1,4 +1,4 @@
-use Rattle.std.proofs.Common.{◌≡◌, ℕ, List, arith, sym, ap, subst}
+use Rattle.std.proofs.Common.{◌≡◌, inl, ℕ, List, arith, sym, ap, subst}
 use Rattle.tach_media.proofs.Runs.{weaken, where_told, turned_into, on_ok}
 use Rattle.write_plan.specs.Plan.{put_all}
 use Rattle.card_model.specs.Days.{Day}
@@ -33,6 +33,11 @@ returns-then-self-eq0-clause-knows g c =
     where_told (g.M.Medium.state c.args.medium.now).image _ (λ x y. (days : List Day) → Knows v x days → Knows v y days) (λ x y was now.
     let same : x ≡ y = cc in
     subst (λ (l : List ℕ). (days : List Day) → Knows v x days → Knows v l days) same (λ days k. k))
+
+pub returns-clause-settled : goal.returns-clause-settled
+returns-clause-settled g c = on_ok c.clear_oldest.result (λ fine some low.
+    let puts = c.clear_oldest.ensures.puts in
+    puts.settled fine (inl (omega (arith, low, puts.begun fine))) low)
 
 pub returns-clause-empty : goal.returns-clause-empty
 returns-clause-empty g c = λ none. absurd (omega (arith, none, ap (λ (h : Held). h.tail.used) c.self.view_is, c.if-self-eq0.false))
