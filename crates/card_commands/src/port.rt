@@ -253,4 +253,8 @@ impl<C: Chip> Medium for Port<C> {
         self.selected = None;
         self.chip.revive()
     }
+
+    fn holds_bytes(&self) {
+        self.chip.holds_bytes();
+    }
 }

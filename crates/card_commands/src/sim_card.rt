@@ -337,6 +337,10 @@ impl<M: Medium> Chip for SimCard<M> {
         self.works = revived.is_ok();
         revived
     }
+
+    fn holds_bytes(&self) {
+        self.medium.holds_bytes();
+    }
 }
 
 // Puts the status word behind the data.

@@ -2,8 +2,7 @@
 use Rattle.std.proofs.Common.{◌≡◌, ◌∙◌, ℕ, ◌+◌, List, [], ◌∷◌, ◌++◌, length, map, refl, ap, sym, subst, arith}
 use Rattle.std.specs.Prelude.{Option, Some, None, IfSome}
 use Rattle.std.specs.Io.KnownBytes.{Appends}
-use Rattle.card_layout.specs.Fields.{IsBytes}
-use Rattle.tach_media.specs.Medium.{State, IsCoherent}
+use Rattle.tach_media.specs.Medium.{State, IsCoherent, HoldsBytes}
 use Rattle.unit_model.specs.Days.{StoredDay}
 use Rattle.unit_model.specs.Image.{IsUnit}
 use Rattle.unit_model.specs.Decoding.{Decodes}
@@ -23,14 +22,14 @@ days-told x = omega (arith, days-of (λ d. day_message_of x d) (sent_days x) (An
 
 -- so what was downloaded was measured
 pub measured-by : (s : State) (held : List ℕ) (m : FileSize) → IsCoherent s → IsUnit s → m.bytes ≡ length held → ((messages : List Message) → IsUnitFile messages held → m.days ≡ day_count messages)
-    → IfSome s.image (λ x. Decodes x × (IsBytes x → Appends (Some []) (Some held) (unit_file x))) → IfSome s.image (λ x. IsBytes x → IsSizeOf x m)
-measured-by s held m whole unit bytes days file = by s.image refl file
+    → HoldsBytes s → IfSome s.image (λ x. Decodes x × Appends (Some []) (Some held) (unit_file x)) → IfSome s.image (λ x. IsSizeOf x m)
+measured-by s held m whole unit bytes days holds file = by s.image refl file
   where
-    by : (o : Option (List ℕ)) → s.image ≡ o → IfSome o (λ x. Decodes x × (IsBytes x → Appends (Some []) (Some held) (unit_file x))) → IfSome o (λ x. IsBytes x → IsSizeOf x m)
+    by : (o : Option (List ℕ)) → s.image ≡ o → IfSome o (λ x. Decodes x × Appends (Some []) (Some held) (unit_file x)) → IfSome o (λ x. IsSizeOf x m)
     by None is file = tt
-    by (Some x) is file = λ are.
-        let same : held ≡ unit_file x = file.1 are in
-        let good = file_good x (record { sized = whole.sized x is ∙ omega (arith, unit.sized, unit.behind); bytes = are; decodes = file.0 }) in
+    by (Some x) is file =
+        let same : held ≡ unit_file x = file.1 in
+        let good = file_good x (record { sized = whole.sized x is ∙ omega (arith, unit.sized, unit.behind); bytes = holds.told x is; decodes = file.0 }) in
         record {
           bytes = bytes ∙ ap (λ (l : List ℕ). length l) same;
           days = days (messages_of x) (subst (λ (l : List ℕ). IsUnitFile (messages_of x) l) (sym same) good) ∙ days-told x;

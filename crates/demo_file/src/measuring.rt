@@ -1,6 +1,5 @@
 //! A unit downloaded into memory, for the length of its file and its messages of a day.
 ghost use Rattle.std.specs.Prelude.{◌≡◌, ◌≤◌, [], Some, IfOk, IfErr, IfSome, IsErrOf};
-ghost use Rattle.card_layout.specs.Fields.{IsBytes};
 ghost use Rattle.unit_model.specs.Image.{IsUnit};
 ghost use Rattle.unit_model.specs.Decoding.{first_bad_place};
 ghost use Rattle.unit_journal.specs.Reading.{ReadsIfAny};
@@ -36,12 +35,13 @@ pub fn measure<U: Medium>(
     requires begun { loader.old.loading ≡ begun }
     requires room { LONGEST ≤ loader.old.room }
     requires empty { file.old.held ≡ [] }
-    ensures measured { IfOk result (λ m. IfSome (U.state unit.old).image (λ x. IsBytes x → IsSizeOf x m)) }
-    // No unit that tells its image, of bytes, gives no answer, or one that the loader refuses.
-    ensures changed { IsErrOf result DownloadFault.Changed → IfSome (U.state unit.old).image (λ x. IsBytes x → ⊥) }
+    ensures measured { IfOk result (λ m. IfSome (U.state unit.old).image (λ x. IsSizeOf x m)) }
+    // No unit that tells its image gives no answer, or one that the loader refuses.
+    ensures changed { IsErrOf result DownloadFault.Changed → IfSome (U.state unit.old).image (λ x. ⊥) }
     ensures bad { IfErr result (λ fault. IfBad fault (λ p. IfSome (U.state unit.old).image (λ x. first_bad_place x ≡ Some p))) }
     ensures unit { ReadsIfAny (U.state unit.old) (U.state unit.new) (has_failed result) }
 {
+    unit.holds_bytes();
     let mut tape = Unlisted::new();
     if let Err(fault) = exchange_all(loader, file, unit, &mut tape) {
         return Err(fault);

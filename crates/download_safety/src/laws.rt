@@ -1,5 +1,4 @@
 ghost use Rattle.std.specs.Prelude.{◌≡◌, ℕ, None, List, length};
-ghost use Rattle.card_layout.specs.Fields.{IsBytes};
 ghost use Rattle.log_model.specs.declared.lines.Mark.{Mark};
 ghost use Rattle.history_model.specs.Minutes.{HistoryMinute};
 ghost use Rattle.unit_model.specs.declared.layout.TheConstants.{IMAGE_SIZE};
@@ -18,11 +17,13 @@ pub fn a_view_shows_the_unit()
     ensures { (x : List ℕ) (shown : List UnitMinute) → IsUnitImage x → ShowsUnitFile None (unit_file x) shown → shown ≡ unit_minutes x }
 {}
 
-/// Of each image of bytes that a stop might have left of a unit that is safe, a download is a file, a view of that shows the image's
+/// Of each image that a stop might have left of a unit that is safe, a download is a file, a view of that shows the image's
 /// minutes, and these are of the start and of the history from its front, every minute among them that was acknowledged before, but
 /// for the oldest days.
 pub fn what_is_kept_is_handed_out<U: Medium>(unit: &U)
     ensures { (start : List ShownDay) (past : List HistoryMinute) (lost : List (List HistoryMinute)) (marks : List Mark) (since : ℕ) (x : List ℕ) →
-        UnitSafe start past lost marks since (U.state unit.now) → (U.state unit.now).left_since since x → length x ≡ IMAGE_SIZE → IsBytes x →
+        UnitSafe start past lost marks since (U.state unit.now) → (U.state unit.now).left_since since x → length x ≡ IMAGE_SIZE →
         IsHandedOut start past lost marks (U.state unit.now) x }
-{}
+{
+    unit.holds_bytes();
+}

@@ -1,5 +1,6 @@
 -- Rows of the crash model, computed from its definitions.
-use Rattle.std.proofs.Common.{◌≡◌, refl, List, ℕ, [], ◌∷◌, true, false, inl}
+use Rattle.std.proofs.Common.{◌≡◌, refl, List, ℕ, zero, suc, [], ◌∷◌, true, false, inl, arith}
+use Rattle.card_layout.specs.Fields.{IsBytes}
 use Rattle.tach_media.specs.Medium.{put}
 use Rattle.tach_media.specs.Counting.{failed_once}
 use Rattle.tach_media.specs.Log.{image_left, image_after, MightLeave}
@@ -37,9 +38,18 @@ after_two = refl
 since_both : (c : List ℕ) → MightLeave two_writes (7 ∷ 8 ∷ 9 ∷ []) six 2 c → c ≡ 7 ∷ 1 ∷ 2 ∷ 3 ∷ 8 ∷ 9 ∷ []
 since_both c left = left
 
+are_bytes : IsBytes (7 ∷ 1 ∷ 2 ∷ 3 ∷ 4 ∷ 5 ∷ [])
+are_bytes zero = omega arith
+are_bytes (suc zero) = omega arith
+are_bytes (suc (suc zero)) = omega arith
+are_bytes (suc (suc (suc zero))) = omega arith
+are_bytes (suc (suc (suc (suc zero)))) = omega arith
+are_bytes (suc (suc (suc (suc (suc zero))))) = omega arith
+are_bytes (suc (suc (suc (suc (suc (suc i)))))) = omega arith
+
 -- since the first had ended it might have left the image between them
 since_first : MightLeave two_writes (7 ∷ 8 ∷ 9 ∷ []) six 1 (7 ∷ 1 ∷ 2 ∷ 3 ∷ 4 ∷ 5 ∷ [])
-since_first = inl (record { outside = record { before = refl; after = refl; same_length = refl }; whole = λ short. inl refl })
+since_first = inl (record { outside = record { before = refl; after = refl; same_length = refl }; whole = λ short. inl refl }, are_bytes)
 
 -- a failure breaks what works, and only that
 first_failure : failed_once (record { works = true; faults = 2; breakdowns = 0 }) ≡ record { works = false; faults = 3; breakdowns = 1 }

@@ -1,9 +1,10 @@
 -- What a call of a medium in memory does to what it tells.
 use Rattle.std.proofs.Common.{◌≡◌, inl, inr, ⊎_elim, ℕ, ◌+◌, ◌≤◌, List, [], ◌∷◌, length, Bool, true, false, Some, refl, sym, ap, subst, arith, length-append}
 use Rattle.std.specs.Bool.{OnTrue, OnFalse}
-use Rattle.tach_media.specs.Medium.{LeavesOnly, IsPartlyWritten, IsSettled}
+use Rattle.card_layout.specs.Fields.{IsBytes}
+use Rattle.tach_media.specs.Medium.{LeavesOnly, IsPartlyWritten, IsSettled, HoldsBytes}
 use Rattle.tach_media.specs.Log.{History, image_of, image_left, bytes_of, add}
-use Rattle.tach_media.specs.LogLaws.{left_partly, image_more, might_more, might_keep, settled}
+use Rattle.tach_media.specs.LogLaws.{left_partly, image_more, might_more, might_keep, might_bytes, settled}
 use Rattle.tach_media.specs.MemMedium.{memory_state}
 use Rattle.tach_media.specs.declared.log.Entry.{Entry}
 use Rattle.tach_media.specs.declared.log.Left.{Left}
@@ -19,8 +20,8 @@ module _ (h : History) (place : ℕ) (left : Left) (bytes : List ℕ) (whole : b
   partly : IsPartlyWritten place bytes (image_of h) (image_of (add h place left bytes))
   partly = subst (λ (x : List ℕ). IsPartlyWritten place bytes (image_of h) x) (sym image_added) (left_partly left place bytes (image_of h) inside)
 
-  pub adds : (k k' : Counts) → LeavesOnly (memory_state h k) (memory_state (add h place left bytes) k') (IsPartlyWritten place bytes)
-  adds k k' = record {
+  pub adds : IsBytes (image_of h) → (k k' : Counts) → LeavesOnly (memory_state h k) (memory_state (add h place left bytes) k') (IsPartlyWritten place bytes)
+  adds fit k k' = record {
     size = partly.outside.same_length;
     behind = refl;
     writable = ap (λ (n : ℕ). (0, n) ∷ []) (partly.outside.same_length);
@@ -29,9 +30,17 @@ module _ (h : History) (place : ℕ) (left : Left) (bytes : List ℕ) (whole : b
     later = omega (arith, length-append h.entries (entry ∷ []));
     since = λ t c le was. ⊎_elim inl (λ part. inr (image_of h, refl, part))
         (might_more entry bytes refl h.entries h.written h.start t c whole le (λ x is. left_partly left place bytes x (omega (arith, inside, ap length is))) was);
-    keeps = λ t c le was. might_keep entry bytes h.entries h.written h.start t c whole le was;
+    keeps = λ t c le was. might_keep entry bytes h.entries h.written h.start t c whole le fit was;
     now = λ c is. inr (image_of h, refl, subst (λ (x : List ℕ). IsPartlyWritten place bytes (image_of h) x) (sym is) partly);
   }
+
+-- where its image is of bytes, so are all that it tells
+pub holds_bytes : (h : History) (k : Counts) → IsBytes (image_of h) → HoldsBytes (memory_state h k)
+holds_bytes h k fit = record {
+  told = λ x is. let same : x ≡ image_of h = cc in subst IsBytes (sym same) fit;
+  now = λ c is. subst IsBytes (sym is) fit;
+  since = λ t c left. might_bytes h.entries h.written h.start t c fit left;
+}
 
 pub settles : (h : History) (k : Counts) → IsSettled (memory_state h k)
 settles h k c left = ap Some (sym (settled h.entries h.written h.start c left))
@@ -40,16 +49,16 @@ pub nothing_added : (h : History) (k k' : Counts) (R : List ℕ → List ℕ →
 nothing_added h k k' R = record { size = refl; behind = refl; writable = refl; layers = refl; tells = refl; later = omega arith; since = λ t c le left. inl left; now = λ c left. inl left; keeps = λ t c le left. left }
 
 -- a write, whether or not it was begun
-writes_or_not : (h h' : History) (place : ℕ) (left : Left) (bytes : List ℕ) (begun : Bool) → bytes_of h.entries ≡ length h.written → place + length bytes ≤ length (image_of h)
+writes_or_not : (h h' : History) (place : ℕ) (left : Left) (bytes : List ℕ) (begun : Bool) → bytes_of h.entries ≡ length h.written → IsBytes (image_of h) → place + length bytes ≤ length (image_of h)
     → OnTrue begun (h' ≡ add h place left bytes) → OnFalse begun (h' ≡ h) → (k k' : Counts) → LeavesOnly (memory_state h k) (memory_state h' k') (IsPartlyWritten place bytes)
-writes_or_not h h' place left bytes true whole inside is_added is_same k k' =
-    subst (λ (x : History). LeavesOnly (memory_state h k) (memory_state x k') (IsPartlyWritten place bytes)) (sym is_added) (adds h place left bytes whole inside k k')
-writes_or_not h h' place left bytes false whole inside is_added is_same k k' =
+writes_or_not h h' place left bytes true whole fit inside is_added is_same k k' =
+    subst (λ (x : History). LeavesOnly (memory_state h k) (memory_state x k') (IsPartlyWritten place bytes)) (sym is_added) (adds h place left bytes whole inside fit k k')
+writes_or_not h h' place left bytes false whole fit inside is_added is_same k k' =
     subst (λ (x : History). LeavesOnly (memory_state h k) (memory_state x k') (IsPartlyWritten place bytes)) (sym is_same) (nothing_added h k k' (IsPartlyWritten place bytes))
 
 -- the same of a log under another name
-pub writes_seen : (h g h' : History) (place : ℕ) (left : Left) (bytes : List ℕ) (begun : Bool) → g ≡ h → bytes_of g.entries ≡ length g.written → place + length bytes ≤ length (image_of h)
+pub writes_seen : (h g h' : History) (place : ℕ) (left : Left) (bytes : List ℕ) (begun : Bool) → g ≡ h → bytes_of g.entries ≡ length g.written → IsBytes (image_of g) → place + length bytes ≤ length (image_of h)
     → OnTrue begun (h' ≡ add g place left bytes) → OnFalse begun (h' ≡ g) → (k k' : Counts) → LeavesOnly (memory_state h k) (memory_state h' k') (IsPartlyWritten place bytes)
-writes_seen h g h' place left bytes begun same whole inside is_added is_same k k' =
+writes_seen h g h' place left bytes begun same whole fit inside is_added is_same k k' =
     subst (λ (x : History). LeavesOnly (memory_state x k) (memory_state h' k') (IsPartlyWritten place bytes)) same
-    (writes_or_not g h' place left bytes begun whole (subst (λ (x : History). place + length bytes ≤ length (image_of x)) (sym same) inside) is_added is_same k k')
+    (writes_or_not g h' place left bytes begun whole fit (subst (λ (x : History). place + length bytes ≤ length (image_of x)) (sym same) inside) is_added is_same k k')

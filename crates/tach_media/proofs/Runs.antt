@@ -3,7 +3,8 @@ use Rattle.std.proofs.Common.{true, sym, ◌≡◌, inl, inr, ⊎_elim, ℕ, Boo
 use Rattle.std.specs.Prelude.{◌+◌, ◌<◌, ◌≤◌, ◌⊎◌}
 use Rattle.std.proofs.lemmas.Bool.{cases_lt}
 use Rattle.std.specs.Prelude.{Result, Ok, Err, IfOk, IsErrAnd, OnOk, is_err}
-use Rattle.tach_media.specs.Medium.{State, IsCoherent, LeavesOnly, Reads, Writes, StaysSettled, HasCause, IsSettled, Unchanged, Rose, last_count, most_writes, put, IsPartlyWritten}
+use Rattle.card_layout.specs.Fields.{IsBytes}
+use Rattle.tach_media.specs.Medium.{State, IsCoherent, LeavesOnly, Reads, Writes, StaysSettled, HasCause, IsSettled, Unchanged, Rose, last_count, most_writes, put, IsPartlyWritten, HoldsBytes}
 
 -- no call yet
 pub starts : (s : State) (R : List ℕ → List ℕ → Type 0) → LeavesOnly s s R
@@ -108,6 +109,14 @@ where_told (Some x) (Some y) R all = all x y refl refl
 -- the image that a run turned into a known one
 pub turned_into : {o p : Option (List ℕ)} (f : List ℕ → List ℕ) {x y : List ℕ} → p ≡ option_map f o → o ≡ Some x → p ≡ Some y → y ≡ f x
 turned_into {o} {p} f {x} {y} known was is = let made : p ≡ Some (f x) = known ∙ ap (option_map f) was in cc
+
+-- what holds of an image that is told, since it is of bytes
+pub bytes_told : (s : State) (P Q : List ℕ → Type 0) → HoldsBytes s → ((x : List ℕ) → IsBytes x → P x → Q x) → IfSome s.image P → IfSome s.image Q
+bytes_told s P Q holds so said = by s.image refl said
+  where
+    by : (o : Option (List ℕ)) → s.image ≡ o → IfSome o P → IfSome o Q
+    by None is said = tt
+    by (Some x) is said = so x (holds.told x is) said
 
 -- what holds of an image that is told
 pub if_told : (o : Option (List ℕ)) (P : List ℕ → Type 0) → ((x : List ℕ) → o ≡ Some x → P x) → IfSome o P

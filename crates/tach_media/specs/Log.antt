@@ -1,5 +1,6 @@
 -- The writes that a medium in memory has begun, and the images that a stop might have left.
 use Rattle.std.specs.Prelude.{◌≡◌, ◌⊎◌, ℕ, zero, suc, ◌+◌, List, [], ◌∷◌, ◌++◌, length, take, drop, replicate, Bool, ◌&&◌, if◌then◌else◌, nat_le, nat_lt}
+use Rattle.card_layout.specs.Fields.{IsBytes}
 use Rattle.tach_media.specs.Medium.{put, IsPartlyWritten}
 use Rattle.tach_media.specs.declared.log.Entry.{Entry}
 use Rattle.tach_media.specs.declared.log.Left.{Left}
@@ -41,8 +42,8 @@ add h place left bytes = record h { entries = h.entries ++ (record { place = pla
 abbrev pub has_room : History → ℕ → Bool
 has_room h len = nat_lt (length h.entries) h.most_writes && nat_le (length h.written + len) h.most_bytes
 
--- a stop might have left c at a moment after the first t of these writes had ended
+-- a stop might have left c, which is of bytes, at a moment after the first t of these writes had ended
 abbrev pub MightLeave : List Entry → List ℕ → List ℕ → ℕ → List ℕ → Type 0
 MightLeave [] bytes image t c = c ≡ image
-MightLeave (e ∷ entries) bytes image zero c = IsPartlyWritten e.place (take e.len bytes) image c ⊎ MightLeave entries (drop e.len bytes) (image_left e.left e.place (take e.len bytes) image) zero c
+MightLeave (e ∷ entries) bytes image zero c = (IsPartlyWritten e.place (take e.len bytes) image c × IsBytes c) ⊎ MightLeave entries (drop e.len bytes) (image_left e.left e.place (take e.len bytes) image) zero c
 MightLeave (e ∷ entries) bytes image (suc t) c = MightLeave entries (drop e.len bytes) (image_left e.left e.place (take e.len bytes) image) t c

@@ -2,6 +2,7 @@
 use Rattle.std.specs.Prelude.{◌≡◌, ◌⊎◌, ℕ, ◌+◌, ◌≤◌, ◌<◌, ◌^◌, ◌-◌, ◌/◌, min, max, ◌&&◌, if◌then◌else◌, Bool, true, false, not, List, [], ◌∷◌, length, Option, Some, is_some, option_map}
 use Rattle.std.specs.Borrow.{GName}
 pub use Rattle.card_layout.specs.Images.{bytes_at, put, SameOutside}
+use Rattle.card_layout.specs.Fields.{IsBytes}
 pub use Rattle.card_layout.specs.Layers.{Layer, Reference, Commands}
 
 -- A medium as far as it tells. One that doesn't tell its image tells of no image that a stop may leave.
@@ -36,6 +37,12 @@ pub record IsCoherent (s : State) : Type 0 where
   -- this moment is one of those since an earlier one
   pub counts_now : (t : ℕ) (x : List ℕ) → t ≤ s.clock → s.may_leave x → s.left_since t x
   pub earlier : (t u : ℕ) (x : List ℕ) → t ≤ u → u ≤ s.clock → s.left_since u x → s.left_since t x
+
+-- each image that it tells, and each that a stop may leave or might have left, is of bytes
+pub record HoldsBytes (s : State) : Type 0 where
+  pub told : (x : List ℕ) → s.image ≡ Some x → IsBytes x
+  pub now : (c : List ℕ) → s.may_leave c → IsBytes c
+  pub since : (t : ℕ) (c : List ℕ) → s.left_since t c → IsBytes c
 
 -- the last value of a count
 abbrev pub last_count : ℕ

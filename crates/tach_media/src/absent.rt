@@ -56,4 +56,6 @@ impl Medium for AbsentMedium {
         self.breakdowns = self.breakdowns.saturating_add(1);
         Err(Failed)
     }
+
+    fn holds_bytes(&self) {}
 }

@@ -62,4 +62,6 @@ impl Chip for AbsentChip {
         self.breakdowns = self.breakdowns.saturating_add(1);
         Err(Failed)
     }
+
+    fn holds_bytes(&self) {}
 }

@@ -1,7 +1,7 @@
 ghost use Rattle.std.specs.Prelude.{◌≡◌, ◌≤◌, ◌<◌, [], length, option_map, OnOk, OnErr, is_err};
 ghost use Rattle.std.specs.Option.{ForSome};
 ghost use Rattle.card_layout.specs.declared.command.CardState.{CardState};
-ghost use Rattle.tach_media.specs.Medium.{State, IsCoherent, LeavesOnly, IsSettled, HasCause, Unchanged, Rose, put, last_count, revivable};
+ghost use Rattle.tach_media.specs.Medium.{State, IsCoherent, HoldsBytes, LeavesOnly, IsSettled, HasCause, Unchanged, Rose, put, last_count, revivable};
 ghost use Rattle.card_layout.specs.Outcomes.{outcome_of, IsAnswered, just_issued, after_reset};
 ghost use Rattle.card_layout.specs.Issue.{IsIssued};
 ghost use Rattle.tach_media.specs.Chip.{Does};
@@ -54,6 +54,10 @@ pub trait Chip {
         ensures state { card self.new ≡ after_reset (card self.old) }
         ensures cause { HasCause (revivable (state self.old)) (state self.new) (is_err result) };
 
+    /// Each image that it tells, and each that a stop may leave or might have left, is of bytes. It does nothing.
+    fn holds_bytes(&self)
+        ensures { HoldsBytes (state self.now) };
+
     ghost coherent: { (c : Self) → IsCoherent (state c) };
 
     // Application_Identification has ten bytes.
@@ -89,5 +93,9 @@ impl<C: Chip> Chip for &mut C {
 
     fn revive(&mut self) -> Result<(), Failed> {
         (**self).revive()
+    }
+
+    fn holds_bytes(&self) {
+        (**self).holds_bytes();
     }
 }

@@ -163,6 +163,8 @@ impl<'a, R: Files<File = File>> Medium for FileMedium<'a, R> {
         self.counts.fail();
         Err(Failed)
     }
+
+    fn holds_bytes(&self) {}
 }
 
 // Opens the file, or makes it, at the first call.

@@ -26,4 +26,8 @@ impl<M: Medium> Medium for &mut M {
     fn revive(&mut self) -> Result<(), Failed> {
         (**self).revive()
     }
+
+    fn holds_bytes(&self) {
+        (**self).holds_bytes();
+    }
 }

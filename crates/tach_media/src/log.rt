@@ -1,5 +1,6 @@
 ghost use Rattle.std.specs.Prelude.{◌≡◌, ◌≤◌, ◌+◌, ◌<◌, ◌^◌, ◌++◌, ◌∷◌, [], length, vec_len, vec_capacity, IfOk};
 ghost use Rattle.std.specs.Bool.{OnTrue, OnFalse};
+ghost use Rattle.card_layout.specs.Fields.{IsBytes};
 ghost use Rattle.tach_media.specs.Medium.{bytes_at};
 ghost use Rattle.tach_media.specs.Log.{History, image_left, image_of, bytes_of, add, has_room};
 
@@ -95,6 +96,13 @@ impl Log {
         out.copy_from_slice(&self.image[from..from + out.len()]);
     }
 
+    /// The image is of bytes.
+    pub fn holds_bytes(&self)
+        ensures { IsBytes (image_of self.now) }
+    {
+        let _bytes = self.image.as_slice();
+    }
+
     /// Whether there is room for a write of so many bytes.
     pub fn has_room(&self, len: usize) -> bool
         requires { len < 2 ^ 32 }
@@ -111,7 +119,9 @@ impl Log {
         ensures begun { OnTrue result (self.new ≡ add self.old place left bytes.now) }
         ensures full { OnFalse result (self.new ≡ self.old) }
         ensures whole { bytes_of self.old.entries ≡ length self.old.written }
+        ensures bytes { IsBytes (image_of self.old) }
     {
+        self.holds_bytes();
         if !self.has_room(bytes.len()) {
             return false;
         }

@@ -1,5 +1,5 @@
 ghost use Rattle.std.specs.Prelude.{◌≡◌, ◌≤◌, ◌<◌, ◌+◌, length, OnOk, IfSome, option_map, is_err};
-ghost use Rattle.tach_media.specs.Medium.{State, IsCoherent, LiesInside, IsPartlyWritten, Unchanged, bytes_at, put, LeavesOnly, Reads, IsSettled, HasCause, Rose, last_count, most_writes, revivable};
+ghost use Rattle.tach_media.specs.Medium.{State, IsCoherent, HoldsBytes, LiesInside, IsPartlyWritten, Unchanged, bytes_at, put, LeavesOnly, Reads, IsSettled, HasCause, Rose, last_count, most_writes, revivable};
 
 use crate::Failed;
 
@@ -44,6 +44,10 @@ pub trait Medium {
         ensures moments { LeavesOnly (state self.old) (state self.new) Unchanged }
         ensures clock { (state self.new).clock ≡ (state self.old).clock }
         ensures cause { HasCause (revivable (state self.old)) (state self.new) (is_err result) };
+
+    /// Each image that it tells, and each that a stop may leave or might have left, is of bytes. It does nothing.
+    fn holds_bytes(&self)
+        ensures { HoldsBytes (state self.now) };
 
     ghost coherent: { (m : Self) → IsCoherent (state m) };
 }

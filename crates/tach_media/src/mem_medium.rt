@@ -130,6 +130,10 @@ impl Medium for MemMedium {
         self.counts.works = true;
         Ok(())
     }
+
+    fn holds_bytes(&self) {
+        self.log.holds_bytes();
+    }
 }
 
 // What is to be left of the call with this number, where it is to fail.

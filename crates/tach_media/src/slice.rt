@@ -73,4 +73,8 @@ impl<'a> Medium for SliceMedium<'a> {
     {
         Ok(())
     }
+
+    fn holds_bytes(&self) {
+        let _bytes = self.bytes;
+    }
 }

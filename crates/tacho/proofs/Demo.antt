@@ -3,7 +3,6 @@ use Rattle.std.proofs.Common.{◌≡◌, ◌∙◌, ◌≤◌, ◌⊎◌, ℕ, i
 use Rattle.std.specs.Prelude.{Result, Ok, Err, OnOk, IfErr, IfSome}
 use Rattle.std.specs.List.{flat_map}
 use Rattle.std.specs.Io.KnownBytes.{Appends, Keeps}
-use Rattle.card_layout.specs.Fields.{IsBytes}
 use Rattle.tach_media.specs.Medium.{State, IsCoherent, Rose}
 use Rattle.unit_model.specs.Decoding.{Decodes, first_bad_place}
 use Rattle.tach_media.specs.Streams.{AppendsFront}
@@ -140,20 +139,20 @@ anew-unfinished old new (Kept (run.SameCard number)) sound failed only = only
 
 -- and then its unit is downloaded
 unread-unfinished : (seed : ℕ) (old new : Outside) (outcome : Outcome) (unit : State) (b u : List ℕ) (fault : DownloadFault) → AreSound old new → (refusal_of_file fault ≡ Memory → ⊥) → old.unit.faults ≤ unit.faults → IsCoherent new.unit
-    → ReadsIfAny unit new.unit (has_failed {T = FileSize} (Err fault)) → IfBad fault (λ place. IfSome unit.image (λ x. first_bad_place x ≡ Some place)) → (fault ≡ download.Changed → IfSome unit.image (λ x. IsBytes x → ⊥))
-    → IsDemonstrated seed b old new outcome → new.unit.image ≡ Some u → IsBytes u → ⊥
-unread-unfinished seed old new outcome unit b u download.Failed sound memory before whole reads bad changed recorded told bytes = sound.unit (unread-cause old new unit download.Failed OfUnit before reads refl)
-unread-unfinished seed old new outcome unit b u (download.BadUnit place) sound memory before whole reads bad changed recorded told bytes =
+    → ReadsIfAny unit new.unit (has_failed {T = FileSize} (Err fault)) → IfBad fault (λ place. IfSome unit.image (λ x. first_bad_place x ≡ Some place)) → (fault ≡ download.Changed → IfSome unit.image (λ x. ⊥))
+    → IsDemonstrated seed b old new outcome → new.unit.image ≡ Some u → ⊥
+unread-unfinished seed old new outcome unit b u download.Failed sound memory before whole reads bad changed recorded told = sound.unit (unread-cause old new unit download.Failed OfUnit before reads refl)
+unread-unfinished seed old new outcome unit b u (download.BadUnit place) sound memory before whole reads bad changed recorded told =
     let same : unit.image ≡ Some u = sym (same-image unit new.unit false refl reads) ∙ told in
     let fails : first_bad_place u ≡ Some place = subst (λ (image : Option (List ℕ)). IfSome image (λ x. first_bad_place x ≡ Some place)) same bad in
     let decodes : Decodes u = recorded.ends.ends.safe.unit.decodes u (whole.counts_now recorded.unit_clock u recorded.unit_before (whole.is_left u told)) in
     none-bad u place decodes fails
-unread-unfinished seed old new outcome unit b u download.Changed sound memory before whole reads bad changed recorded told bytes =
+unread-unfinished seed old new outcome unit b u download.Changed sound memory before whole reads bad changed recorded told =
     let same : unit.image ≡ Some u = sym (same-image unit new.unit false refl reads) ∙ told in
-    let none = subst (λ (image : Option (List ℕ)). IfSome image (λ x. IsBytes x → ⊥)) same (changed refl) in
-    none bytes
-unread-unfinished seed old new outcome unit b u download.WriteFault sound memory before whole reads bad changed recorded told bytes = memory refl
-unread-unfinished seed old new outcome unit b u download.Memory sound memory before whole reads bad changed recorded told bytes = memory refl
+    let none = subst (λ (image : Option (List ℕ)). IfSome image (λ x. ⊥)) same (changed refl) in
+    none
+unread-unfinished seed old new outcome unit b u download.WriteFault sound memory before whole reads bad changed recorded told = memory refl
+unread-unfinished seed old new outcome unit b u download.Memory sound memory before whole reads bad changed recorded told = memory refl
 
 -- THERE WAS NO MEMORY, before a device was used
 pub demo-memory : (seed : ℕ) (old new : Outside) (outcome : Outcome) → new.sink.held ≡ old.sink.held → IsEmpty outcome → EndsDemo seed old new outcome Memory
@@ -165,7 +164,7 @@ demo-memory seed old new outcome sink empty = record {
   front = λ is. absurd (cc);
   nothing = λ undone fine. subst (λ (held : Option (List ℕ)). Keeps old.sink.held held) (sym sink) (keeps-same old.sink.held);
   changed = λ is. absurd (cc);
-  finishes = λ b u starts sound memory may told bytes. absurd (memory refl);
+  finishes = λ b u starts sound memory may told. absurd (memory refl);
 }
 
 -- THE DEVICES WERE NOT MADE NEW, or the trace was kept from being recorded
@@ -179,7 +178,7 @@ demo-refused seed old new outcome fault sink empty failed only = record {
   front = λ is. absurd (anew-refused fault (subst IsRun (sym is) tt));
   nothing = λ undone fine. subst (λ (held : Option (List ℕ)). Keeps old.sink.held held) (sym sink) (keeps-same old.sink.held);
   changed = λ is. absurd (anew-unchanged fault is);
-  finishes = λ b u starts sound memory may told bytes. absurd (anew-unfinished old new fault sound failed (only b starts may));
+  finishes = λ b u starts sound memory may told. absurd (anew-unfinished old new fault sound failed (only b starts may));
 }
 
 -- what was recorded, and then the unit was read
@@ -194,7 +193,7 @@ recorded-so seed old new outcome unit failed reads recorded b starts =
 -- THE UNIT WAS NOT DOWNLOADED
 pub demo-unread : (seed : ℕ) (old new : Outside) (outcome : Outcome) (unit : State) (fault : DownloadFault) → new.sink.held ≡ old.sink.held → ReadsIfAny unit new.unit (has_failed {T = FileSize} (Err fault))
     → ((b : List ℕ) → MayBeAnew b (devices_of old) → HaveTime (devices unit new.card_a.memory new.card_b.memory) → EndsAnew (unit_image VEHICLE) (card_image CARD) b FIRST_SECOND (demo_items seed) outcome (devices_of old) (devices unit new.card_a.memory new.card_b.memory))
-    → (fault ≡ download.Changed → IfSome unit.image (λ x. IsBytes x → ⊥))
+    → (fault ≡ download.Changed → IfSome unit.image (λ x. ⊥))
     → old.unit.faults ≤ unit.faults → IsCoherent new.unit → IfBad fault (λ place. IfSome unit.image (λ x. first_bad_place x ≡ Some place))
     → EndsDemo seed old new outcome (refusal_of_file fault)
 demo-unread seed old new outcome unit fault sink reads recorded changed before whole bad = record {
@@ -207,15 +206,15 @@ demo-unread seed old new outcome unit fault sink reads recorded changed before w
   changed = λ is.
       let of = file-changed fault is in
       let fine : has_failed {T = FileSize} (Err fault) ≡ false = subst (λ (f : DownloadFault). has_failed {T = FileSize} (Err f) ≡ false) (sym of) refl in
-      subst (λ (image : Option (List ℕ)). IfSome image (λ u. IsBytes u → ⊥)) (sym (same-image unit new.unit (has_failed {T = FileSize} (Err fault)) fine reads)) (changed of);
-  finishes = λ b u starts sound memory may told bytes.
-      absurd (unread-unfinished seed old new outcome unit b u fault sound memory before whole reads bad changed (recorded-so seed old new outcome unit (has_failed {T = FileSize} (Err fault)) reads recorded b starts) told bytes);
+      subst (λ (image : Option (List ℕ)). IfSome image (λ u. ⊥)) (sym (same-image unit new.unit (has_failed {T = FileSize} (Err fault)) fine reads)) (changed of);
+  finishes = λ b u starts sound memory may told.
+      absurd (unread-unfinished seed old new outcome unit b u fault sound memory before whole reads bad changed (recorded-so seed old new outcome unit (has_failed {T = FileSize} (Err fault)) reads recorded b starts) told);
 }
 
 -- ALL IS DONE, and the seven lines were printed or the sink failed
 pub demo-done : {T : Type 0} (seed : ℕ) (old new : Outside) (outcome : Outcome) (unit : State) (size : FileSize) (r : Result T Fault) → ReadsIfAny unit new.unit false
     → ((b : List ℕ) → MayBeAnew b (devices_of old) → HaveTime (devices unit new.card_a.memory new.card_b.memory) → EndsAnew (unit_image VEHICLE) (card_image CARD) b FIRST_SECOND (demo_items seed) outcome (devices_of old) (devices unit new.card_a.memory new.card_b.memory))
-    → IfSome unit.image (λ x. IsBytes x → IsSizeOf x size)
+    → IfSome unit.image (λ x. IsSizeOf x size)
     → OnOk r (Appends old.sink.held new.sink.held (demo_text outcome size))
     → IfErr r (λ fault. (fault ≡ WriteFault) × AppendsFront old.sink.held new.sink.held (demo_text outcome size))
     → IfErr r (λ fault. Rose old.sink.faults new.sink.faults)
@@ -224,11 +223,11 @@ demo-done seed old new outcome unit size (Ok u) reads recorded measured appends 
   ends = tt;
   run = λ b starts is. recorded-so seed old new outcome unit false reads recorded b starts;
   put_down = λ b starts. inl (recorded-so seed old new outcome unit false reads recorded b starts);
-  printed = λ is. record { size = size; puts = appends; measured = subst (λ (image : Option (List ℕ)). IfSome image (λ x. IsBytes x → IsSizeOf x size)) (sym (same-image unit new.unit false refl reads)) measured };
+  printed = λ is. record { size = size; puts = appends; measured = subst (λ (image : Option (List ℕ)). IfSome image (λ x. IsSizeOf x size)) (sym (same-image unit new.unit false refl reads)) measured };
   front = λ is. absurd (cc);
   nothing = λ undone fine. absurd (undone refl);
   changed = λ is. absurd (cc);
-  finishes = λ b v starts sound memory may told bytes. refl;
+  finishes = λ b v starts sound memory may told. refl;
 }
 demo-done seed old new outcome unit size (Err fault) reads recorded measured appends front rose =
     subst (λ (f : Fault). EndsDemo seed old new outcome f) (sym front.0) (record {
@@ -236,10 +235,10 @@ demo-done seed old new outcome unit size (Err fault) reads recorded measured app
       run = λ b starts is. recorded-so seed old new outcome unit false reads recorded b starts;
       put_down = λ b starts. inl (recorded-so seed old new outcome unit false reads recorded b starts);
       printed = λ is. absurd (cc);
-      front = λ is. record { size = size; puts = front.1; measured = subst (λ (image : Option (List ℕ)). IfSome image (λ x. IsBytes x → IsSizeOf x size)) (sym (same-image unit new.unit false refl reads)) measured };
+      front = λ is. record { size = size; puts = front.1; measured = subst (λ (image : Option (List ℕ)). IfSome image (λ x. IsSizeOf x size)) (sym (same-image unit new.unit false refl reads)) measured };
       nothing = λ undone fine. absurd (fine refl);
       changed = λ is. absurd (cc);
-      finishes = λ b v starts sound memory may told bytes. absurd (sound.sink rose);
+      finishes = λ b v starts sound memory may told. absurd (sound.sink rose);
     })
 
 never-write : (fault : DownloadFault) → refusal_of_file fault ≡ WriteFault → ⊥

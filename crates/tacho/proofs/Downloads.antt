@@ -4,7 +4,6 @@ use Rattle.std.specs.Prelude.{Result, Ok, Err, Some, IfSome, OnOk, OnErr, IfErr}
 use Rattle.std.specs.Io.KnownBytes.{Appends, Keeps}
 use Rattle.tach_media.specs.Medium.{State, Rose}
 use Rattle.tach_media.specs.Streams.{AppendsFront}
-use Rattle.card_layout.specs.Fields.{IsBytes}
 use Rattle.run_model.specs.declared.Device.{Device}
 use Rattle.run_model.specs.declared.Device.TheVariants.{Unit as OfUnit}
 use Rattle.message_model.specs.Sending.{unit_file}
@@ -100,27 +99,27 @@ of-unit old new (Err download.WriteFault) device is reads = absurd (cc)
 of-unit old new (Err download.Memory) device is reads = absurd (cc)
 
 -- where nothing failed
-finished : (old new : State) (before after : SinkTold) (r : Result (Unit {0}) DownloadFault) → (r ≡ Err download.Changed → IfSome old.image (λ x. IsBytes x → ⊥)) → (r ≡ Err download.WriteFault → Rose before.faults after.faults) → ReadsIfAny old new (has_failed r)
+finished : (old new : State) (before after : SinkTold) (r : Result (Unit {0}) DownloadFault) → (r ≡ Err download.Changed → IfSome old.image (λ x. ⊥)) → (r ≡ Err download.WriteFault → Rose before.faults after.faults) → ReadsIfAny old new (has_failed r)
     → (Rose old.faults new.faults → ⊥) → (Rose before.faults after.faults → ⊥)
-    → IfSome old.image (λ x. IsBytes x → (end_of_download r ≡ Done) ⊎ ((end_of_download r ≡ Memory) ⊎ ((place : ℕ) × (end_of_download r ≡ BadUnit place))))
+    → IfSome old.image (λ x. (end_of_download r ≡ Done) ⊎ ((end_of_download r ≡ Memory) ⊎ ((place : ℕ) × (end_of_download r ≡ BadUnit place))))
 finished old new before after r changed write reads no_unit no_sink = by old.image r changed write reads
   where
-    by : (o : Option (List ℕ)) (r : Result (Unit {0}) DownloadFault) → (r ≡ Err download.Changed → IfSome o (λ x. IsBytes x → ⊥)) → (r ≡ Err download.WriteFault → Rose before.faults after.faults) → ReadsIfAny old new (has_failed r)
-        → IfSome o (λ x. IsBytes x → (end_of_download r ≡ Done) ⊎ ((end_of_download r ≡ Memory) ⊎ ((place : ℕ) × (end_of_download r ≡ BadUnit place))))
+    by : (o : Option (List ℕ)) (r : Result (Unit {0}) DownloadFault) → (r ≡ Err download.Changed → IfSome o (λ x. ⊥)) → (r ≡ Err download.WriteFault → Rose before.faults after.faults) → ReadsIfAny old new (has_failed r)
+        → IfSome o (λ x. (end_of_download r ≡ Done) ⊎ ((end_of_download r ≡ Memory) ⊎ ((place : ℕ) × (end_of_download r ≡ BadUnit place))))
     by None r changed write reads = tt
-    by (Some x) (Ok done) changed write reads = λ bytes. inl refl
+    by (Some x) (Ok done) changed write reads = inl refl
     by (Some x) (Err download.Failed) changed write reads = absurd (no_unit (reads-rose reads))
-    by (Some x) (Err (download.BadUnit place)) changed write reads = λ bytes. inr (inr (place, refl))
-    by (Some x) (Err download.Changed) changed write reads = λ bytes. absurd (changed refl bytes)
+    by (Some x) (Err (download.BadUnit place)) changed write reads = inr (inr (place, refl))
+    by (Some x) (Err download.Changed) changed write reads = absurd (changed refl)
     by (Some x) (Err download.WriteFault) changed write reads = absurd (no_sink (write refl))
-    by (Some x) (Err download.Memory) changed write reads = λ bytes. inr (inl refl)
+    by (Some x) (Err download.Memory) changed write reads = inr (inl refl)
 
 -- so the call ends that was asked for it
 pub download-ends : (old new : Outside) (wire : List Passed) (r : Result (Unit {0}) DownloadFault)
     → IsDownload r old.unit.image wire old.sink.held new.sink.held
-    → OnOk r (IfSome old.unit.image (λ x. Decodes x × (IsBytes x → Appends old.sink.held new.sink.held (unit_file x))))
-    → OnErr r (IfSome old.unit.image (λ x. IsBytes x → AppendsFront old.sink.held new.sink.held (unit_file x)))
-    → (r ≡ Err download.Changed → IfSome old.unit.image (λ x. IsBytes x → ⊥))
+    → OnOk r (IfSome old.unit.image (λ x. Decodes x × Appends old.sink.held new.sink.held (unit_file x)))
+    → OnErr r (IfSome old.unit.image (λ x. AppendsFront old.sink.held new.sink.held (unit_file x)))
+    → (r ≡ Err download.Changed → IfSome old.unit.image (λ x. ⊥))
     → IfErr r (λ fault. IfBad fault (λ p. IfSome old.unit.image (λ x. first_bad_place x ≡ Some p)))
     → IfErr r (λ fault. IfBad fault (λ p. Keeps old.sink.held new.sink.held))
     → (r ≡ Err download.WriteFault → Rose old.sink.faults new.sink.faults)

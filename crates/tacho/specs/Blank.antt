@@ -1,9 +1,11 @@
 -- What stands for a card where a trace has no line of one: a memory of zeros (profile).
 use Rattle.std.specs.Prelude.{◌≡◌, ℕ, Bool, not, List, [], ◌∷◌, Some, length, replicate, if◌then◌else◌}
-use Rattle.std.proofs.Common.{ap, arith}
-use Rattle.std.proofs.lemmas.List.{length-replicate}
+use Rattle.std.proofs.Common.{⊎_elim, ap, subst, arith}
+use Rattle.std.proofs.lemmas.Bool.{cases_lt}
+use Rattle.std.proofs.lemmas.List.{length-replicate, get_or-replicate, get_or_past}
+use Rattle.card_layout.specs.Fields.{IsBytes}
 use Rattle.card_layout.specs.declared.files.TheConstants.{LARGEST_IMAGE}
-use Rattle.tach_media.specs.Medium.{State, IsCoherent, last_count}
+use Rattle.tach_media.specs.Medium.{State, IsCoherent, HoldsBytes, last_count}
 
 -- so many zeros
 unfoldable pub zeros : ℕ → List ℕ
@@ -32,6 +34,17 @@ blank_state broken = record {
 length-zeros : (n : ℕ) → length (zeros n) ≡ n
 unfolding zeros
 length-zeros n = length-replicate n 0
+
+zeros-bytes : (n : ℕ) → IsBytes (zeros n)
+unfolding zeros
+zeros-bytes n i = ⊎_elim (λ inside. omega (arith, get_or-replicate n i 0 0 inside)) (λ past. omega (arith, get_or_past (replicate n 0) i 0 (omega (arith, past, length-replicate {A = ℕ} n 0)))) (cases_lt i n)
+
+pub blank_bytes : (broken : Bool) → HoldsBytes (blank_state broken)
+blank_bytes broken = record {
+  told = λ x is. let same : no_image ≡ x = cc in subst IsBytes same (zeros-bytes LARGEST_IMAGE);
+  now = λ c left. subst IsBytes left (zeros-bytes LARGEST_IMAGE);
+  since = λ t c left. subst IsBytes left (zeros-bytes LARGEST_IMAGE);
+}
 
 pub blank_coherent : (broken : Bool) → IsCoherent (blank_state broken)
 blank_coherent broken = record {

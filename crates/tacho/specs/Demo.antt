@@ -1,7 +1,6 @@
 -- How `demo` ends: a unit and a card are made new, a demonstration is recorded on them, and the unit is downloaded (profile).
 use Rattle.std.specs.Prelude.{◌≡◌, ◌⊎◌, ℕ, List, ◌++◌, codes, Some, IfSome}
 use Rattle.std.specs.Io.KnownBytes.{Appends, Keeps}
-use Rattle.card_layout.specs.Fields.{IsBytes}
 use Rattle.tach_media.specs.Medium.{State}
 use Rattle.tach_media.specs.Streams.{AppendsFront}
 use Rattle.run_model.specs.declared.Device.TheVariants.{Unit as OfUnit}
@@ -65,7 +64,7 @@ IsDemonstrated seed card_b old new outcome = EndsAnew (unit_image VEHICLE) (card
 pub record TellsDemo (Puts : List ℕ → Type 0) (outcome : Outcome) (unit : State) : Type 0 where
   pub size : FileSize
   pub puts : Puts (demo_text outcome size)
-  pub measured : IfSome unit.image (λ u. IsBytes u → IsSizeOf u size)
+  pub measured : IfSome unit.image (λ u. IsSizeOf u size)
 
 -- HOW `demo` ENDS.
 pub record EndsDemo (seed : ℕ) (old new : Outside) (outcome : Outcome) (fault : Fault) : Type 0 where
@@ -78,9 +77,9 @@ pub record EndsDemo (seed : ℕ) (old new : Outside) (outcome : Outcome) (fault 
   pub printed : fault ≡ Done → TellsDemo (Appends old.sink.held new.sink.held) outcome new.unit
   pub front : fault ≡ WriteFault → TellsDemo (AppendsFront old.sink.held new.sink.held) outcome new.unit
   pub nothing : (fault ≡ Done → ⊥) → (fault ≡ WriteFault → ⊥) → Keeps old.sink.held new.sink.held
-  -- No unit that tells its image, of bytes, gives no answer, or one that the loader refuses.
-  pub changed : fault ≡ Changed → IfSome new.unit.image (λ u. IsBytes u → ⊥)
+  -- No unit that tells its image gives no answer, or one that the loader refuses.
+  pub changed : fault ≡ Changed → IfSome new.unit.image (λ u. ⊥)
   -- Where nothing failed, memory was there, a run may begin on what was made with card b, whose number is then another than the new card's, and
-  -- the unit's image is of bytes, all is done.
+  -- the unit tells its image, all is done.
   pub finishes : (card_b u : List ℕ) → StartAnew card_b old new → AreSound old new → (fault ≡ Memory → ⊥) → MayRecord (unit_image VEHICLE) (card_image CARD) card_b FIRST_SECOND
-      → new.unit.image ≡ Some u → IsBytes u → fault ≡ Done
+      → new.unit.image ≡ Some u → fault ≡ Done

@@ -3,7 +3,6 @@ use Rattle.std.specs.Prelude.{◌≡◌, ◌⊎◌, ℕ, List, Some, IfSome, Res
 use Rattle.std.specs.Io.KnownBytes.{Appends, Keeps}
 use Rattle.tach_media.specs.Medium.{Rose}
 use Rattle.tach_media.specs.Streams.{AppendsFront}
-use Rattle.card_layout.specs.Fields.{IsBytes}
 use Rattle.run_model.specs.declared.Device.TheVariants.{Unit as OfUnit}
 use Rattle.message_model.specs.Sending.{unit_file}
 use Rattle.unit_model.specs.Decoding.{Decodes, first_bad_place}
@@ -32,16 +31,16 @@ pub record EndsDownload (old new : Outside) (wire : List Passed) (fault : Fault)
   pub ended : Result (Unit {0}) DownloadFault
   pub ends : fault ≡ end_of_download ended
   pub downloaded : IsDownload ended old.unit.image wire old.sink.held new.sink.held
-  -- Done: the image decodes, and the sink gained exactly its file, of an image of bytes. Else a front of the file.
-  pub file : fault ≡ Done → IfSome old.unit.image (λ x. Decodes x × (IsBytes x → Appends old.sink.held new.sink.held (unit_file x)))
-  pub front : (fault ≡ Done → ⊥) → IfSome old.unit.image (λ x. IsBytes x → AppendsFront old.sink.held new.sink.held (unit_file x))
+  -- Done: the image decodes, and the sink gained exactly its file. Else a front of the file.
+  pub file : fault ≡ Done → IfSome old.unit.image (λ x. Decodes x × Appends old.sink.held new.sink.held (unit_file x))
+  pub front : (fault ≡ Done → ⊥) → IfSome old.unit.image (λ x. AppendsFront old.sink.held new.sink.held (unit_file x))
   -- A unit is bad at the first place of its image that fails, and nothing went to the sink.
   pub bad_unit : (place : ℕ) → fault ≡ BadUnit place → IfSome old.unit.image (λ x. first_bad_place x ≡ Some place)
   pub nothing : (place : ℕ) → fault ≡ BadUnit place → Keeps old.sink.held new.sink.held
-  -- No unit that tells its image, of bytes, gives no answer, or one that the loader refuses.
-  pub changed : fault ≡ Changed → IfSome old.unit.image (λ x. IsBytes x → ⊥)
+  -- No unit that tells its image gives no answer, or one that the loader refuses.
+  pub changed : fault ≡ Changed → IfSome old.unit.image (λ x. ⊥)
   -- Where neither the unit nor the sink failed, a unit that tells its image is downloaded, or is bad, or memory ran out.
   pub finishes : (Rose old.unit.faults new.unit.faults → ⊥) → (Rose old.sink.faults new.sink.faults → ⊥)
-      → IfSome old.unit.image (λ x. IsBytes x → (fault ≡ Done) ⊎ ((fault ≡ Memory) ⊎ ((place : ℕ) × (fault ≡ BadUnit place))))
+      → IfSome old.unit.image (λ x. (fault ≡ Done) ⊎ ((fault ≡ Memory) ⊎ ((place : ℕ) × (fault ≡ BadUnit place))))
   -- The unit is read, if at all, and never written.
   pub unit : ReadsIfAny old.unit new.unit (is_medium_fault fault)

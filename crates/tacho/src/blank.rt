@@ -52,6 +52,8 @@ impl Medium for Blank {
     fn revive(&mut self) -> Result<(), Failed> {
         self.answer()
     }
+
+    fn holds_bytes(&self) {}
 }
 
 /// No card: it tells an image of zeros, and no call has failed on it.

@@ -1,4 +1,3 @@
-ghost use Rattle.card_layout.specs.Fields.{IsBytes};
 ghost use Rattle.unit_model.specs.Image.{IsUnit};
 ghost use Rattle.std.specs.Prelude.{◌≡◌, ◌≤◌, [], List, OnOk, IfErr, OnErr, IfSome, IsErrOf, Some};
 ghost use Rattle.std.specs.Io.KnownBytes.{Appends, Keeps};
@@ -42,12 +41,12 @@ pub fn download<K: Sink, U: Medium>(
     requires fresh { wire.old ≡ [] }
     // The wire is a run of the tables of both sides, up to where the download ended; and what they put out has gone to the sink.
     ensures downloaded { IsDownload result (U.state unit.old).image wire.new (K.held sink.old) (K.held sink.new) }
-    // At the end the image decodes, and of one of bytes the sink has the file.
-    ensures file { OnOk result (IfSome (U.state unit.old).image (λ x. Decodes x × (IsBytes x → Appends (K.held sink.old) (K.held sink.new) (unit_file x)))) }
+    // At the end the image decodes, and the sink has its file.
+    ensures file { OnOk result (IfSome (U.state unit.old).image (λ x. Decodes x × Appends (K.held sink.old) (K.held sink.new) (unit_file x))) }
     // Else a front of it.
-    ensures front { OnErr result (IfSome (U.state unit.old).image (λ x. IsBytes x → AppendsFront (K.held sink.old) (K.held sink.new) (unit_file x))) }
-    // No unit that tells its image, of bytes, gives no answer, or one that the loader refuses.
-    ensures changed { IsErrOf result DownloadFault.Changed → IfSome (U.state unit.old).image (λ x. IsBytes x → ⊥) }
+    ensures front { OnErr result (IfSome (U.state unit.old).image (λ x. AppendsFront (K.held sink.old) (K.held sink.new) (unit_file x))) }
+    // No unit that tells its image gives no answer, or one that the loader refuses.
+    ensures changed { IsErrOf result DownloadFault.Changed → IfSome (U.state unit.old).image (λ x. ⊥) }
     ensures bad { IfErr result (λ fault. IfBad fault (λ p. IfSome (U.state unit.old).image (λ x. first_bad_place x ≡ Some p))) }
     ensures nothing { IfErr result (λ fault. IfBad fault (λ p. Keeps (K.held sink.old) (K.held sink.new))) }
     ensures cause { IsErrOf result DownloadFault.WriteFault → Rose (K.faults sink.old) (K.faults sink.new) }
@@ -78,12 +77,12 @@ pub fn exchange_all<K: Sink, U: Medium, T: Tape>(
     requires fresh { HasFrames (T.frames wire.old) [] }
     // The wire is a run of the tables of both sides, up to where the download ended; and what they put out has gone to the sink.
     ensures downloaded { (passed : List Passed) × HasFrames (T.frames wire.new) passed × IsDownload result (U.state unit.old).image passed (K.held sink.old) (K.held sink.new) }
-    // At the end the image decodes, and of one of bytes the sink has the file.
-    ensures file { OnOk result (IfSome (U.state unit.old).image (λ x. Decodes x × (IsBytes x → Appends (K.held sink.old) (K.held sink.new) (unit_file x)))) }
+    // At the end the image decodes, and the sink has its file.
+    ensures file { OnOk result (IfSome (U.state unit.old).image (λ x. Decodes x × Appends (K.held sink.old) (K.held sink.new) (unit_file x))) }
     // Else a front of it.
-    ensures front { OnErr result (IfSome (U.state unit.old).image (λ x. IsBytes x → AppendsFront (K.held sink.old) (K.held sink.new) (unit_file x))) }
-    // No unit that tells its image, of bytes, gives no answer, or one that the loader refuses.
-    ensures changed { IsErrOf result DownloadFault.Changed → IfSome (U.state unit.old).image (λ x. IsBytes x → ⊥) }
+    ensures front { OnErr result (IfSome (U.state unit.old).image (λ x. AppendsFront (K.held sink.old) (K.held sink.new) (unit_file x))) }
+    // No unit that tells its image gives no answer, or one that the loader refuses.
+    ensures changed { IsErrOf result DownloadFault.Changed → IfSome (U.state unit.old).image (λ x. ⊥) }
     ensures bad { IfErr result (λ fault. IfBad fault (λ p. IfSome (U.state unit.old).image (λ x. first_bad_place x ≡ Some p))) }
     ensures nothing { IfErr result (λ fault. IfBad fault (λ p. Keeps (K.held sink.old) (K.held sink.new))) }
     ensures cause { IsErrOf result DownloadFault.WriteFault → Rose (K.faults sink.old) (K.faults sink.new) }
@@ -91,6 +90,7 @@ pub fn exchange_all<K: Sink, U: Medium, T: Tape>(
     // The unit is only read, if it is called at all.
     ensures unit { ReadsIfAny (U.state unit.old) (U.state unit.new) (has_failed result) }
 {
+    unit.holds_bytes();
     let mut session = Session::new();
     while let Some(sent) = loader.next() {
         let frame = answer_to(&mut session, sent, unit, wire)?;

@@ -52,4 +52,8 @@ impl<C: Chip> Chip for Counted<C> {
     fn revive(&mut self) -> Result<(), Failed> {
         self.chip.revive()
     }
+
+    fn holds_bytes(&self) {
+        self.chip.holds_bytes();
+    }
 }

@@ -1,4 +1,5 @@
 use Rattle.std.proofs.Common.{◌∙◌, ℕ, List, [], ◌∷◌, ◌++◌, refl, sym, ap, Err, arith}
+use Rattle.tach_media.proofs.Runs.{bytes_told}
 use Rattle.unit_messages.proofs.Calls.{any_then}
 use Rattle.unit_download.specs.declared.fault.DownloadFault.TheVariants.{Changed}
 use Rattle.unit_download.specs.Wires.{of_loader, of_unit}
@@ -17,13 +18,15 @@ returns-in_err-frame-clause-downloaded g c =
     )
 
 pub returns-in_err-frame-clause-front : goal.returns-in_err-frame-clause-front
-returns-in_err-frame-clause-front g c = on_err c.from_residual.result (unanswered_front c.loop-sent.invariant.0.talking c.in-Some.sent (sym c.next.ensures.sent ∙ c.in-Some.is))
+returns-in_err-frame-clause-front g c =
+    on_err c.from_residual.result (bytes_told (g.U.Medium.state c.args.unit.now) _ _ c.holds_bytes.ensures (λ x fit front. front fit) (unanswered_front c.loop-sent.invariant.0.talking c.in-Some.sent (sym c.next.ensures.sent ∙ c.in-Some.is)))
 
 pub returns-in_err-frame-clause-changed : goal.returns-in_err-frame-clause-changed
 returns-in_err-frame-clause-changed g c = λ is.
     let e = c.in_err-frame.ensures in
-    unanswered_untold c.loop-sent.invariant.0.talking c.in-Some.sent (sym c.next.ensures.sent ∙ c.in-Some.is) c.in_err-frame.field-0.0 e.stops.0 e.stops.2 (λ f. e.found (ap Err f))
-    (fault_is c.from_residual.result c.in_err-frame.field-0.0 Changed c.from_residual.ensures.1 is)
+    bytes_told (g.U.Medium.state c.args.unit.now) _ _ c.holds_bytes.ensures (λ x fit none. none fit)
+    (unanswered_untold c.loop-sent.invariant.0.talking c.in-Some.sent (sym c.next.ensures.sent ∙ c.in-Some.is) c.in_err-frame.field-0.0 e.stops.0 e.stops.2 (λ f. e.found (ap Err f))
+    (fault_is c.from_residual.result c.in_err-frame.field-0.0 Changed c.from_residual.ensures.1 is))
 
 pub returns-in_err-frame-clause-unit : goal.returns-in_err-frame-clause-unit
 returns-in_err-frame-clause-unit g c =
@@ -59,16 +62,17 @@ returns-in_err-take-clause-downloaded g c =
 pub returns-in_err-take-clause-front : goal.returns-in_err-take-clause-front
 returns-in_err-take-clause-front g c =
     let f = c.in_ok-frame.ensures in
-    on_err c.from_residual-in_err-take.result
+    on_err c.from_residual-in_err-take.result (bytes_told (g.U.Medium.state c.args.unit.now) _ _ c.holds_bytes.ensures (λ x fit front. front fit)
     (untaken_front c.loop-sent.invariant.0.talking c.in-Some.sent (sym c.next.ensures.sent ∙ c.in-Some.is) c.in_err-take.field-0.0 c.answer_to.new.session (g.U.Medium.state c.answer_to.new.unit) (g.K.Sink.held c.take.new.sink) c.in_ok-frame.frame
-    (record { answers = f.answered; knows = f.knows; judged = f.judged; reads = f.unit }) c.in_err-take.ensures.stops)
+    (record { answers = f.answered; knows = f.knows; judged = f.judged; reads = f.unit }) c.in_err-take.ensures.stops))
 
 pub returns-in_err-take-clause-changed : goal.returns-in_err-take-clause-changed
 returns-in_err-take-clause-changed g c = λ is.
     let f = c.in_ok-frame.ensures in
-    untaken_untold c.loop-sent.invariant.0.talking c.in-Some.sent (sym c.next.ensures.sent ∙ c.in-Some.is) c.in_err-take.field-0.0 c.answer_to.new.session (g.U.Medium.state c.answer_to.new.unit) (g.K.Sink.held c.take.new.sink) c.in_ok-frame.frame
+    bytes_told (g.U.Medium.state c.args.unit.now) _ _ c.holds_bytes.ensures (λ x fit none. none fit)
+    (untaken_untold c.loop-sent.invariant.0.talking c.in-Some.sent (sym c.next.ensures.sent ∙ c.in-Some.is) c.in_err-take.field-0.0 c.answer_to.new.session (g.U.Medium.state c.answer_to.new.unit) (g.K.Sink.held c.take.new.sink) c.in_ok-frame.frame
     (record { answers = f.answered; knows = f.knows; judged = f.judged; reads = f.unit }) c.in_err-take.ensures.stops
-    (fault_is c.from_residual-in_err-take.result c.in_err-take.field-0.0 Changed c.from_residual-in_err-take.ensures.1 is)
+    (fault_is c.from_residual-in_err-take.result c.in_err-take.field-0.0 Changed c.from_residual-in_err-take.ensures.1 is))
 
 pub returns-in_err-take-clause-unit : goal.returns-in_err-take-clause-unit
 returns-in_err-take-clause-unit g c =
@@ -79,7 +83,8 @@ pub returns-clause-downloaded : goal.returns-clause-downloaded
 returns-clause-downloaded g c = let v = c.loop-sent.invariant.0 in (v.wire, v.has, talking_done tt v.talking c.in_default.ensures.none)
 
 pub returns-clause-file : goal.returns-clause-file
-returns-clause-file g c = talking_file c.loop-sent.invariant.0.talking c.in_default.ensures.none
+returns-clause-file g c =
+    bytes_told (g.U.Medium.state c.args.unit.now) _ _ c.holds_bytes.ensures (λ x fit file. (file.0, file.1 fit)) (talking_file c.loop-sent.invariant.0.talking c.in_default.ensures.none)
 
 pub loop-sent-init : goal.loop-sent-init
 loop-sent-init g c =

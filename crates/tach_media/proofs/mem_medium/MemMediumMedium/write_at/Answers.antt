@@ -11,13 +11,13 @@ pub returns-then-is_some-clause-moments : goal.returns-then-is_some-clause-momen
 returns-then-is_some-clause-moments c =
     let begun = c.write-begun.ensures in
     writes_seen c.args.self.now.log c.self.inside.log c.write-begun.new.self c.args.place c.unwrap_or.result c.args.bytes.now c.write-begun.result (ap (λ (m : MemView). m.log) c.self.view_is)
-    begun.whole c.requires.inside begun.begun begun.full c.args.self.now.counts c.fail-then-is_some.new.self
+    begun.whole begun.bytes c.requires.inside begun.begun begun.full c.args.self.now.counts c.fail-then-is_some.new.self
 
 pub returns-clause-moments : goal.returns-clause-moments
 returns-clause-moments c =
     let begun = c.write-begun.ensures in
     writes_seen c.args.self.now.log c.self.inside.log c.write-begun.new.self c.args.place c.unwrap_or.result c.args.bytes.now c.write-begun.result (ap (λ (m : MemView). m.log) c.self.view_is)
-    begun.whole c.requires.inside begun.begun begun.full c.args.self.now.counts c.self.inside.counts
+    begun.whole begun.bytes c.requires.inside begun.begun begun.full c.args.self.now.counts c.self.inside.counts
 
 pub returns-clause-written : goal.returns-clause-written
 returns-clause-written c =
