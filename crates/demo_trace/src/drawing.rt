@@ -5,7 +5,7 @@ ghost use Rattle.demo_trace.specs.Demo.{next_drawn, pick_numbered};
 use activity_codec::Pick;
 
 /// The number that is drawn behind another.
-pub(crate) fn next_drawn(x: u32) -> u32
+pub fn next_drawn(x: u32) -> u32
     ensures { result ≡ next_drawn x }
 {
     ((u64::from(x) * 1103515245 + 12345) % 2147483648) as u32

@@ -24,11 +24,11 @@ use Rattle.noisy_link.specs.Sides.{download_sides, fresh_download, puts_of}
 use Rattle.noisy_link.proofs.Talking.{at, stays, exchanged, from_fresh}
 
 -- nothing was asked of the unit, or it was judged
-abbrev IsKnown : (image : Option (List ℕ)) → SessionView → Talk → Type 0
+abbrev pub IsKnown : (image : Option (List ℕ)) → SessionView → Talk → Type 0
 IsKnown image s talk = IfSome image (Knows s) × ((is_judged s ≡ true) ⊎ Begins talk)
 
 module _ (image : Option (List ℕ)) where
-  known : (u : SessionView) (l : Load) (took : List Taken) (v : SessionView) (m : Load) (out : List ℕ) → Talks (download_sides image) u l took v m → IsKnown image u (at u l out) → IsKnown image v (at v m (out ++ puts_of took))
+  pub known : (u : SessionView) (l : Load) (took : List Taken) (v : SessionView) (m : Load) (out : List ℕ) → Talks (download_sides image) u l took v m → IsKnown image u (at u l out) → IsKnown image v (at v m (out ++ puts_of took))
   known u l [] v m out talks is = (subst (λ (s : SessionView). IfSome image (Knows s)) (sym talks.0) is.0, by is.1)
     where
       by : (is_judged u ≡ true) ⊎ Begins (at u l out) → (is_judged v ≡ true) ⊎ Begins (at v m (out ++ []))

@@ -33,7 +33,7 @@ use Rattle.noisy_link.specs.Sides.{asked, download_sides, fresh_download, puts_o
 use Rattle.noisy_link.proofs.Talking.{from_fresh}
 
 -- a new request has a frame, and the number behind the last one
-new_is : (last number : ℕ) (o : Option (List ℕ)) (request : List ℕ) → arrival_by last number o ≡ New request → (o ≡ Some request) × (number ≡ last + 1)
+pub new_is : (last number : ℕ) (o : Option (List ℕ)) (request : List ℕ) → arrival_by last number o ≡ New request → (o ≡ Some request) × (number ≡ last + 1)
 new_is last number None request is = absurd (cc)
 new_is last number (Some frame) request is = by (number == last + 1) refl (number == last && nat_lt 0 last) is
   where

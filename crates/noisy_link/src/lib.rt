@@ -17,4 +17,4 @@ pub use loader_end::LoaderEnd;
 pub use noisy_model::{Event, Packet};
 pub use packets::{read_packet, write_packet};
 pub use unit_end::UnitEnd;
-pub use world::World;
+pub use world::{MOST_PACKETS, World};

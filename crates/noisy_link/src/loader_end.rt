@@ -6,6 +6,7 @@ ghost use Rattle.downloader.specs.Loading.{begun, left_by, with_piece, LeavesSin
 ghost use Rattle.noisy_model.specs.Ends.{Taken, request_of, brought};
 ghost use Rattle.noisy_link.specs.Sides.{asked, is_over, TakesPacket, LeavesEnd, number_left};
 
+use crate::unit_end::copy_of_any;
 use downloader::{Downloader, LoadFault};
 use link_frames::Frame;
 use noisy_model::Packet;
@@ -42,6 +43,13 @@ impl LoaderEnd {
         }
     }
 
+    /// The number of its request.
+    pub fn number(&self) -> u64
+        ensures { result ≡ self.now.number }
+    {
+        self.number
+    }
+
     /// Whether no more is sent or taken: the download is over.
     pub fn is_finished(&self) -> bool
         ensures { result ≡ is_over self.now.side }
@@ -76,6 +84,16 @@ impl LoaderEnd {
             }),
             None => None,
         }
+    }
+
+    /// The frame that a packet brings: one with its number, while it asks.
+    pub fn brings(&self, packet: &Packet) -> Option<Frame>
+        ensures { result ≡ brought asked self.now packet.now }
+    {
+        if self.send().is_none() || packet.number != self.number {
+            return None;
+        }
+        copy_of_any(&packet.frame)
     }
 
     /// Takes a packet that comes, if it brings the answer that is wanted; else nothing changes.

@@ -113,13 +113,20 @@ pub fn copy_of(frame: &Frame) -> Frame
     Frame::new(frame.bytes())
 }
 
+/// The same of a frame that there may be.
+pub fn copy_of_any(frame: &Option<Frame>) -> Option<Frame>
+    ensures { result ≡ frame.now }
+{
+    match frame {
+        Some(frame) => Some(copy_of(frame)),
+        None => None,
+    }
+}
+
 /// A packet of this number, with a copy of this frame.
 pub fn packet_of(number: u64, frame: &Option<Frame>) -> Packet
     ensures { result ≡ packet number frame.now }
 {
-    let frame = match frame {
-        Some(frame) => Some(copy_of(frame)),
-        None => None,
-    };
+    let frame = copy_of_any(frame);
     Packet { number, frame }
 }

@@ -1,28 +1,30 @@
 ghost use Rattle.unit_model.specs.declared.layout.TheConstants.{IMAGE_SIZE};
-ghost use Rattle.std.specs.Prelude.{◌≡◌, ◌≤◌, ◌<◌, ◌++◌, ℕ, List, Some, None, IfOk, OnOk, OnErr, IfErr, IfSome, IsErrOf, option_to_list, length, slice_get, false};
-ghost use Rattle.std.specs.Io.KnownBytes.{Appends, Keeps};
+ghost use Rattle.std.specs.Prelude.{false, ◌≡◌, ◌≤◌, ◌<◌, ◌-◌, ◌++◌, ◌==◌, ◌&&◌, not, is_none, ℕ, Some, OnOk, IfOk, IfErr, IfSome, IsErrOf, option_to_list, length, slice_get};
 ghost use Rattle.tach_media.specs.Medium.{Rose};
-ghost use Rattle.unit_model.specs.Decoding.{first_bad_place};
 ghost use Rattle.unit_journal.specs.Reading.{ReadsIfAny};
-ghost use Rattle.transfer_session.specs.Told.{Knows, is_judged, fresh};
+ghost use Rattle.unit_messages.specs.declared.joining.TheConstants.{LONGEST};
+ghost use Rattle.transfer_session.specs.Told.{Knows, fresh};
 ghost use Rattle.link_model.specs.Answers.{Idle};
-ghost use Rattle.downloader.specs.Loading.{begun};
-ghost use Rattle.unit_download.specs.Ending.{IfBad, has_failed};
-ghost use Rattle.noisy_model.specs.declared.packet.Packet.{Packet as Sent};
-ghost use Rattle.downloader.specs.Loading.{Load};
-ghost use Rattle.noisy_model.specs.Ends.{Taken, request_of};
-ghost use Rattle.noisy_model.specs.Worlds.{Happens, fresh_world};
-ghost use Rattle.noisy_link.specs.Sides.{asked, is_over, download_sides, puts_of};
-ghost use Rattle.noisy_link.specs.Steps.{IfDone, IfUndone, IsRefusal, EndHears, EndTakes, IsSilent};
+ghost use Rattle.downloader.specs.Loading.{Load, begun};
+ghost use Rattle.unit_download.specs.Ending.{has_failed};
+ghost use Rattle.noisy_model.specs.Ends.{request_of};
+ghost use Rattle.noisy_model.specs.Worlds.{fresh_world};
+ghost use Rattle.noisy_link.specs.Sides.{asked, is_over};
+ghost use Rattle.noisy_link.specs.Steps.{frame_of, brought_by, IsHearing, IsTaking, IsStep};
 
 use crate::loader_end::LoaderEnd;
 use crate::unit_end::UnitEnd;
 use downloader::LoadFault;
+use link_frames::Frame;
 use noisy_model::{Event, Packet};
 use std::alloc::Global;
 use std::marker::Model;
 use tach_media::{Medium, Memory, Sink};
+use transfer_session::AnswerFault;
 use unit_download::DownloadFault;
+
+/// As many packets as go each way at most.
+pub const MOST_PACKETS: u32 = 2147483648;
 
 /// A download over a noisy link: the packets that were sent, the answers that were given, and both ends.
 #[derive(Drop)]
@@ -34,6 +36,7 @@ pub struct World {
 }
 
 impl Model for World {
+    ghost use Rattle.std.specs.Prelude.{◌≤◌, length};
     ghost use Rattle.transfer_session.specs.Told.{SessionView};
     ghost use Rattle.downloader.specs.Loading.{Load};
     ghost use Rattle.noisy_model.specs.Worlds.{World as NoisyWorld};
@@ -41,6 +44,8 @@ impl Model for World {
     ghost Value = { NoisyWorld SessionView Load };
 
     ghost view = { λ w. record { sent = w.sent.items; answers = w.answers.items; unit = w.unit; loader = w.loader } };
+
+    ghost invariant = { λ w. (length w.sent.items ≤ 2147483648) × (length w.answers.items ≤ 2147483648) };
 }
 
 impl World {
@@ -56,26 +61,96 @@ impl World {
         }
     }
 
+    /// The same, with room for the longest message of a unit.
+    ///
+    /// # Errors
+    ///
+    /// `Memory`.
+    pub fn with_room(alloc: Global) -> Result<World, Memory>
+        ensures { IfOk result (λ world. (load : Load) × (load.loading ≡ begun) × (LONGEST ≤ load.room) × (world ≡ fresh_world (fresh Idle) load)) }
+    {
+        let mut loader = LoaderEnd::new(alloc);
+        loader.reserve()?;
+        Ok(World {
+            sent: Vec::new(alloc),
+            answers: Vec::new(alloc),
+            unit: UnitEnd::new(),
+            loader,
+        })
+    }
+
     /// Whether the download is over.
-    pub fn is_finished(&self) -> bool
+    pub fn finished(&self) -> bool
         ensures { result ≡ is_over self.now.loader.side }
     {
         self.loader.is_finished()
     }
 
-    /// How many packets were sent, and how many answers were given.
-    pub fn counts(&self) -> (usize, usize)
-        ensures { result ≡ (length self.now.sent, length self.now.answers) }
+    /// How many packets were sent.
+    pub fn sent(&self) -> u32
+        ensures { result ≡ length self.now.sent }
     {
-        (self.sent.len(), self.answers.len())
+        self.sent.len() as u32
     }
 
-    /// What an event does.
+    /// How many answers were given.
+    pub fn answered(&self) -> u32
+        ensures { result ≡ length self.now.answers }
+    {
+        self.answers.len() as u32
+    }
+
+    /// How many answers the loader's end took: at each its number went on.
+    pub fn taken(&self) -> u64
+        ensures { result ≡ self.now.loader.number - 1 }
+    {
+        self.loader.number().saturating_sub(1)
+    }
+
+    /// The packet of this place in the order of sending, from 0.
+    pub fn packet(&self, place: u32) -> &Packet
+        requires { place < length self.now.sent }
+        ensures { slice_get self.now.sent place ≡ Some result.now }
+    {
+        &self.sent[place as usize]
+    }
+
+    /// The answer of this place.
+    pub fn reply(&self, place: u32) -> &Packet
+        requires { place < length self.now.answers }
+        ensures { slice_get self.now.answers place ≡ Some result.now }
+    {
+        &self.answers[place as usize]
+    }
+
+    /// The frame that the loader's end sends, if it has anything to send.
+    pub fn request(&self) -> Option<Frame>
+        ensures { result ≡ frame_of (request_of asked self.now.loader) }
+    {
+        match self.loader.send() {
+            Some(packet) => packet.frame,
+            None => None,
+        }
+    }
+
+    /// The frame that the answer of this place brings the loader's end, if there is one.
+    pub fn brought(&self, place: u32) -> Option<Frame>
+        ensures { result ≡ brought_by self.now (slice_get self.now.answers place) }
+    {
+        let place = place as usize;
+        if place >= self.answers.len() {
+            return None;
+        }
+        self.loader.brings(&self.answers[place])
+    }
+
+    /// What an event does. It reads the unit, and never writes it.
     ///
     /// # Errors
     ///
-    /// `Failed` and `BadUnit` where a new request came whose answer hangs on the unit, and it failed or is bad, and `Memory`: nothing has
-    /// changed. `Changed` where the session has no answer to a new request, or the loader refuses what is brought, and `WriteFault`.
+    /// `Failed` and `BadUnit` where a new request came whose answer hangs on the unit, and it failed or is bad, and `Memory`, as where
+    /// 2147483648 packets were sent or given: nothing has changed. `Changed` where the session has no answer to a new request, or the
+    /// loader refuses what is brought, and `WriteFault`: the event is done.
     pub fn step<M: Medium, K: Sink>(
         &mut self,
         unit: &mut M,
@@ -84,18 +159,15 @@ impl World {
     ) -> Result<(), DownloadFault>
         requires unit { (M.state unit.old).size ≡ IMAGE_SIZE }
         requires knows { IfSome (M.state unit.old).image (Knows self.old.unit.side) }
-        ensures happens { OnOk result ((took : List Taken) × Happens (download_sides (M.state unit.old).image) self.old event.now self.new took × Appends (K.held sink.old) (K.held sink.new) (puts_of took)) }
-        ensures knows { OnOk result (IfSome (M.state unit.old).image (Knows self.new.unit.side)) }
-        ensures same { IfUndone result (self.new ≡ self.old) }
-        ensures later { K.faults sink.old ≤ K.faults sink.new }
+        ensures stepped { IsStep result (M.state unit.old).image self.old event.now self.new (K.held sink.old) (K.held sink.new) }
+        ensures knows { IfSome (M.state unit.old).image (Knows self.new.unit.side) }
+        ensures room { self.old.loader.side.room ≤ self.new.loader.side.room }
+        ensures counts { K.faults sink.old ≤ K.faults sink.new }
         ensures cause { IsErrOf result DownloadFault.WriteFault → Rose (K.faults sink.old) (K.faults sink.new) }
         ensures reads { ReadsIfAny (M.state unit.old) (M.state unit.new) (has_failed result) }
     {
         match *event {
-            Event::Send => {
-                send(&self.loader, &mut self.sent)?;
-                Ok(())
-            }
+            Event::Send => send(&self.loader, &mut self.sent),
             Event::ToUnit(place) => come_to_unit(
                 &mut self.unit,
                 unit,
@@ -114,15 +186,17 @@ impl World {
 }
 
 // The loader's end sends, if it has anything to send.
-fn send(loader: &LoaderEnd, sent: &mut Vec<Packet>) -> Result<(), Memory>
+fn send(loader: &LoaderEnd, sent: &mut Vec<Packet>) -> Result<(), DownloadFault>
+    requires few { length sent.old.items ≤ 2147483648 }
     ensures sent { OnOk result (sent.new.items ≡ sent.old.items ++ option_to_list (request_of asked loader.now)) }
-    ensures same { OnErr result (sent.new.items ≡ sent.old.items) }
+    ensures memory { IfErr result (λ fault. (fault ≡ DownloadFault.Memory) × (sent.new.items ≡ sent.old.items)) }
+    ensures few { length sent.new.items ≤ 2147483648 }
 {
     let Some(packet) = loader.send() else {
         return Ok(());
     };
-    if sent.push(packet).is_err() {
-        return Err(Memory);
+    if sent.len() >= MOST_PACKETS as usize || sent.push(packet).is_err() {
+        return Err(DownloadFault::Memory);
     }
     Ok(())
 }
@@ -137,31 +211,40 @@ fn come_to_unit<M: Medium>(
 ) -> Result<(), DownloadFault>
     requires unit { (M.state unit.old).size ≡ IMAGE_SIZE }
     requires knows { IfSome (M.state unit.old).image (Knows end.old.side) }
-    ensures heard { IfDone result (EndHears (M.state unit.old).image end.old (slice_get sent.now place) end.new answers.old.items answers.new.items) }
-    ensures knows { IfDone result (IfSome (M.state unit.old).image (Knows end.new.side)) }
-    ensures same { IfUndone result ((end.new ≡ end.old) × (answers.new.items ≡ answers.old.items)) }
-    ensures unsunk { IsErrOf result DownloadFault.WriteFault → ⊥ }
-    ensures bad { IfErr result (λ fault. IfBad fault (λ p. (is_judged end.old.side ≡ false) × IfSome (M.state unit.old).image (λ x. first_bad_place x ≡ Some p))) }
+    requires few { length answers.old.items ≤ 2147483648 }
+    ensures heard { IsHearing result (M.state unit.old).image end.old (slice_get sent.now place) end.new answers.old.items answers.new.items }
+    ensures knows { IfSome (M.state unit.old).image (Knows end.new.side) }
+    ensures few { length answers.new.items ≤ 2147483648 }
     ensures reads { ReadsIfAny (M.state unit.old) (M.state unit.new) (has_failed result) }
 {
     let place = place as usize;
     if place >= sent.len() {
         return Ok(());
     }
-    if answers.reserve(1).is_err() {
+    if answers.len() >= MOST_PACKETS as usize || answers.reserve(1).is_err() {
         return Err(DownloadFault::Memory);
     }
-    let packet = &sent[place];
-    let again = packet.number == end.last();
-    let Some(answer) = end.take(unit, packet)? else {
-        return Ok(());
-    };
-    let silent = answer.frame.is_none();
-    let _ = answers.push(answer);
-    if silent && !again {
-        return Err(DownloadFault::Changed);
+    let last = end.last();
+    match end.take(unit, &sent[place]) {
+        Ok(None) => Ok(()),
+        Ok(Some(answer)) => {
+            let silent = is_silence(&answer, last);
+            let _ = answers.push(answer);
+            if silent {
+                return Err(DownloadFault::Changed);
+            }
+            Ok(())
+        }
+        Err(AnswerFault::Failed) => Err(DownloadFault::Failed),
+        Err(AnswerFault::BadUnit(bad)) => Err(DownloadFault::BadUnit(bad)),
     }
-    Ok(())
+}
+
+// Whether a packet that goes back says that there is no answer, to another request than the last one before.
+fn is_silence(answer: &Packet, last: u64) -> bool
+    ensures { result ≡ (is_none answer.now.frame && not (answer.now.number == last)) }
+{
+    answer.frame.is_none() && answer.number != last
 }
 
 // The answer of this place, if there is one, comes to the loader's end.
@@ -171,11 +254,11 @@ fn come_to_loader<K: Sink>(
     place: u32,
     sink: &mut K,
 ) -> Result<(), DownloadFault>
-    ensures taken { OnOk result (EndTakes end.old (slice_get answers.now place) end.new (K.held sink.old) (K.held sink.new)) }
-    ensures refused { IfErr result (λ fault. (p : Sent) × (slice_get answers.now place ≡ Some p) × IsRefusal fault end.old p end.new (K.held sink.old) (K.held sink.new)) }
-    ensures same { IsErrOf result DownloadFault.Memory → end.new ≡ end.old }
-    ensures later { K.faults sink.old ≤ K.faults sink.new }
+    ensures taken { IsTaking result end.old (slice_get answers.now place) end.new (K.held sink.old) (K.held sink.new) }
+    ensures room { end.old.side.room ≤ end.new.side.room }
+    ensures counts { K.faults sink.old ≤ K.faults sink.new }
     ensures cause { IsErrOf result DownloadFault.WriteFault → Rose (K.faults sink.old) (K.faults sink.new) }
+    ensures unfailed { has_failed result ≡ false }
 {
     let place = place as usize;
     if place >= answers.len() {
