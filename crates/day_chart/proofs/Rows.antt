@@ -1,0 +1,29 @@
+-- Worked rows, computed by the checker: a bar of driving, one without a card, and minutes that were not recorded.
+use Rattle.std.proofs.Common.{◌≡◌, ℕ, ◌+◌, Bool, true, false, refl}
+use Rattle.std.specs.Prelude.{codes}
+use Rattle.std.specs.Fmt.{digits}
+use Rattle.activity_codec.specs.declared.values.Activity.{Activity}
+use Rattle.activity_codec.specs.declared.values.Activity.TheVariants.{Rest, Driving}
+use Rattle.view_model.specs.declared.Line.{Line}
+use Rattle.slot_bars.specs.declared.seen.Seen.{Seen}
+use Rattle.day_chart.specs.Bars.{bar_text}
+
+-- minutes of 2010-03-01
+abbrev bar : (first last : ℕ) → Activity → (present crew known : Bool) → Line Seen
+bar first last act present crew known =
+    record { first = 21123360 + first; last = 21123360 + last; shown = record { act = act; present = present; crew = crew; known = known } }
+
+driven : bar_text (codes "2010-03-01") (codes "driver") (bar 435 704 Driving true true true)
+    ≡ codes "<rect x=\"277.5\" width=\"135\" y=\"2\" height=\"24\" fill=\"#0072b2\" stroke=\"#000\" stroke-width=\"0.6\"><title>2010-03-01 07:15-11:44 driver drive, crew</title></rect>\n"
+unfolding digits
+driven = refl
+
+without_card : bar_text (codes "2010-03-01") (codes "driver") (bar 0 419 Rest false false true)
+    ≡ codes "<rect x=\"60\" width=\"210\" y=\"20\" height=\"6\" fill=\"none\" stroke=\"#777\" stroke-width=\"0.6\" stroke-dasharray=\"2 2\"><title>2010-03-01 00:00-06:59 driver rest, no card</title></rect>\n"
+unfolding digits
+without_card = refl
+
+unrecorded : bar_text (codes "2010-03-01") (codes "codriver") (bar 1439 1439 Rest false false false)
+    ≡ codes "<rect x=\"779.5\" width=\"0.5\" y=\"2\" height=\"24\" fill=\"#ddd\"><title>2010-03-01 23:59-23:59 codriver unknown</title></rect>\n"
+unfolding digits
+unrecorded = refl

@@ -1,0 +1,31 @@
+use Rattle.std.proofs.Common.{◌≡◌, ◌∙◌, ℕ, ◌+◌, ◌*◌, List, ◌++◌, map, ap, subst}
+use Rattle.std.specs.Prelude.{codes}
+use Rattle.tacho_types.specs.Calendar.{IsDateText}
+use Rattle.view_model.specs.declared.Viewed.{Viewed}
+use Rattle.history_view.specs.Histories.{minutes_on}
+use Rattle.slot_bars.specs.declared.seen.Seen.{Seen}
+use Rattle.slot_bars.specs.Seeing.{card_seen}
+use Rattle.day_totals.proofs.Counting.{bars_few}
+use Rattle.day_chart.specs.Chart.{band_head, lane_text}
+use Rattle.day_chart.proofs.Joining.{three_pieces}
+use Rattle.day_chart.proofs.chart.write_card_band.Goals as goal
+
+pub write_lane-requires : goal.write_lane-requires
+write_lane-requires c = rw c.as_slice-3.ensures.value (bars_few card_seen (minutes_on c.args.lines.now) c.in_ok-bars.bars.items c.in_ok-bars.ensures c.requires.few)
+
+pub returns : goal.returns
+returns c =
+    let date : List ℕ = c.day_text-date.result.items in
+    let head : c.write_band_head.new.text.items ≡ c.args.text.now.items ++ band_head (66 + 62 * c.args.place) date =
+    subst (λ (d : List ℕ). c.write_band_head.new.text.items ≡ c.args.text.now.items ++ band_head (66 + 62 * c.args.place) d) c.as_slice.ensures.value c.in_ok-write_band_head.ensures in
+    let minutes : List (Viewed Seen) = map card_seen (minutes_on c.args.lines.now) in
+    let lane : c.write_lane.new.text.items ≡ c.write_band_head.new.text.items ++ lane_text date (codes "holder") minutes =
+    subst (λ (d : List ℕ). c.write_lane.new.text.items ≡ c.write_band_head.new.text.items ++ lane_text d (codes "holder") minutes) c.as_slice-2.ensures.value (c.in_ok-write_lane.ensures minutes (c.as_slice-3.ensures.value ∙ c.in_ok-bars.ensures)) in
+    let holder : List ℕ = lane_text date (codes "holder") minutes in
+    let end : List ℕ = codes "<use xlink:href=\"#axis\"/></g>\n" in (
+      c.day_text-date.result.items,
+      subst (λ (day : ℕ). IsDateText day c.day_text-date.result.items) c.day_number.ensures.day c.day_text-date.ensures,
+      c.in_ok-extend_from_slice.ensures.items
+          ∙ ap (λ (l : List ℕ). l ++ end) (lane ∙ ap (λ (l : List ℕ). l ++ holder) head)
+          ∙ three_pieces c.args.text.now.items (band_head (66 + 62 * c.args.place) date) holder end,
+    )

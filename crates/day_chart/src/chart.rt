@@ -1,0 +1,103 @@
+//! The picture of the days of a unit, and of a card.
+ghost use Rattle.std.specs.Prelude.{◌≡◌, ◌++◌, IfOk, OnOk, ℕ, List};
+ghost use Rattle.tacho_types.specs.Calendar.{IsDateText};
+ghost use Rattle.view_model.specs.Lines.{same_unit, same_card};
+ghost use Rattle.history_view.specs.Histories.{AreLines, minutes_on};
+ghost use Rattle.slot_bars.specs.DayLines.{IsOneDay};
+ghost use Rattle.slot_bars.specs.DaysOf.{day_of};
+ghost use Rattle.day_chart.specs.Chart.{IsUnitChart, IsCardChart, unit_band, card_band};
+
+use crate::band::{write_band_head, write_lane};
+use crate::frame::framed;
+use activity_codec::Slot;
+use slot_bars::{Gap, card_bars, day_number, first_day, unit_bars};
+use std::alloc::{AllocError, Global};
+use tacho_types::day_text;
+use view_model::{CardShown, Line, UnitShown};
+
+/// The picture of a unit, by the lines of its view; its text are the totals.
+pub fn unit_chart(
+    alloc: Global,
+    lines: &[Line<UnitShown>],
+    gaps: &[Gap],
+    totals: &[u8],
+) -> Result<Vec<u8>, AllocError>
+    requires { AreLines same_unit lines.now }
+    ensures { IfOk result (λ text. IsUnitChart gaps.now totals.now (minutes_on lines.now) text.items) }
+{
+    let mut bands = Vec::new(alloc);
+    let mut place = 0u64;
+    let mut rest = lines;
+    'days: while rest.len() > 0 {
+        let (day, behind) = rest.split_at(first_day(rest));
+        write_unit_band(alloc, &mut bands, day, gaps, place)?;
+        place += 1;
+        rest = behind;
+    }
+    let text = framed(alloc, 80 + 92 * place as u128, totals, bands.as_slice())?;
+    Ok(text)
+}
+
+/// The picture of a card, by the lines of its view; its text are the totals.
+pub fn card_chart(
+    alloc: Global,
+    lines: &[Line<CardShown>],
+    totals: &[u8],
+) -> Result<Vec<u8>, AllocError>
+    requires { AreLines same_card lines.now }
+    ensures { IfOk result (λ text. IsCardChart totals.now (minutes_on lines.now) text.items) }
+{
+    let mut bands = Vec::new(alloc);
+    let mut place = 0u64;
+    let mut rest = lines;
+    'days: while rest.len() > 0 {
+        let (day, behind) = rest.split_at(first_day(rest));
+        write_card_band(alloc, &mut bands, day, place)?;
+        place += 1;
+        rest = behind;
+    }
+    let text = framed(alloc, 80 + 62 * place as u128, totals, bands.as_slice())?;
+    Ok(text)
+}
+
+/// Adds the band of a day of a unit.
+fn write_unit_band(
+    alloc: Global,
+    text: &mut Vec<u8>,
+    lines: &[Line<UnitShown>],
+    gaps: &[Gap],
+    place: u64,
+) -> Result<(), AllocError>
+    requires { IsOneDay lines.now }
+    ensures { OnOk result ((date : List ℕ) × IsDateText (day_of (minutes_on lines.now)) date
+        × (text.new.items ≡ text.old.items ++ unit_band gaps.now place date (minutes_on lines.now))) }
+{
+    let date = day_text(day_number(lines));
+    write_band_head(text, 66 + 92 * place as u128, date.as_slice())?;
+    let driver = unit_bars(alloc, lines, gaps, Slot::Driver)?;
+    write_lane(text, date.as_slice(), b"driver", driver.as_slice())?;
+    let codriver = unit_bars(alloc, lines, gaps, Slot::CoDriver)?;
+    text.extend_from_slice(b"<g transform=\"translate(0 30)\">\n")?;
+    write_lane(text, date.as_slice(), b"codriver", codriver.as_slice())?;
+    text.extend_from_slice(b"<use xlink:href=\"#axis\"/></g></g>\n")?;
+    Ok(())
+}
+
+/// Adds the band of a day of a card.
+fn write_card_band(
+    alloc: Global,
+    text: &mut Vec<u8>,
+    lines: &[Line<CardShown>],
+    place: u64,
+) -> Result<(), AllocError>
+    requires { IsOneDay lines.now }
+    ensures { OnOk result ((date : List ℕ) × IsDateText (day_of (minutes_on lines.now)) date
+        × (text.new.items ≡ text.old.items ++ card_band place date (minutes_on lines.now))) }
+{
+    let date = day_text(day_number(lines));
+    write_band_head(text, 66 + 62 * place as u128, date.as_slice())?;
+    let bars = card_bars(alloc, lines)?;
+    write_lane(text, date.as_slice(), b"holder", bars.as_slice())?;
+    text.extend_from_slice(b"<use xlink:href=\"#axis\"/></g>\n")?;
+    Ok(())
+}

@@ -1,0 +1,4 @@
+pub mod AddUp
+pub mod Counting
+pub mod Joining
+mod Rows

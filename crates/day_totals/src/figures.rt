@@ -1,0 +1,97 @@
+//! What is counted of the minutes of a day.
+ghost use Rattle.std.specs.Prelude.{◌≡◌, ◌≤◌, ◌==◌, length};
+ghost use Rattle.history_view.specs.Histories.{minutes_on};
+ghost use Rattle.day_totals.specs.Figures.{counts, is_with_card, figure_name, total, line_total, distance_on};
+
+use activity_codec::Activity;
+use slot_bars::Seen;
+use view_model::Line;
+
+/// What is counted: an activity with a card in the slot, minutes that were not recorded, or minutes with a card in the slot.
+#[derive(Clone, Copy, Debug, PartialEq, Eq)]
+pub enum Figure {
+    Drive,
+    Work,
+    Available,
+    Rest,
+    Unknown,
+    In,
+}
+
+/// The distance of a day, in kilometres.
+#[derive(Clone, Copy, Debug, Default, PartialEq, Eq)]
+pub struct Distance {
+    /// The day's number since 1970-01-01.
+    pub day: u32,
+    pub km: u32,
+}
+
+impl Figure {
+    /// Its name in text.
+    pub fn name(self) -> &'static [u8]
+        ensures { result.now ≡ figure_name self }
+    {
+        match self {
+            Figure::Drive => b"drive",
+            Figure::Work => b"work",
+            Figure::Available => b"available",
+            Figure::Rest => b"rest",
+            Figure::Unknown => b"unknown",
+            Figure::In => b"in",
+        }
+    }
+
+    /// Whether a minute counts.
+    fn counts(self, seen: Seen) -> bool
+        ensures { result ≡ counts self seen }
+    {
+        match self {
+            Figure::Drive => is_with_card(seen, Activity::Driving),
+            Figure::Work => is_with_card(seen, Activity::Work),
+            Figure::Available => is_with_card(seen, Activity::Available),
+            Figure::Rest => is_with_card(seen, Activity::Rest),
+            Figure::Unknown => !seen.known,
+            Figure::In => seen.present,
+        }
+    }
+}
+
+/// Whether a minute has this activity, with a card in the slot.
+fn is_with_card(seen: Seen, act: Activity) -> bool
+    ensures { result ≡ is_with_card act seen }
+{
+    seen.present && seen.act == act
+}
+
+/// How many minutes of bars count.
+pub fn minutes_in(bars: &[Line<Seen>], figure: Figure) -> u32
+    requires { length (minutes_on bars.now) ≤ 1440 }
+    ensures total { result ≡ total figure (minutes_on bars.now) }
+    ensures few { result ≤ 1440 }
+{
+    let mut sum = 0u64;
+    for bar in bars {
+        sum += line_total(figure, *bar);
+    }
+    sum as u32
+}
+
+/// How many minutes of a bar count.
+fn line_total(figure: Figure, bar: Line<Seen>) -> u64
+    ensures { result ≡ line_total figure bar }
+{
+    if !figure.counts(bar.shown) {
+        return 0;
+    }
+    (bar.last as u64 + 1).saturating_sub(bar.first as u64)
+}
+
+/// The distance of a day, where one is told.
+pub fn distance_on(distances: &[Distance], day: u32) -> Option<u32>
+    ensures { result ≡ distance_on distances.now day }
+{
+    distances
+        .iter()
+        .find(|distance| distance.day == day)
+        .map(|distance| distance.km)
+}

@@ -1,0 +1,12 @@
+//! The totals of each day of a view, a line a day and slot (profile).
+#![tactic(auto)]
+
+mod days;
+mod figures;
+mod laws;
+mod line;
+
+pub use days::{card_days_text, unit_days_text};
+pub use figures::{Distance, Figure, distance_on, minutes_in};
+pub use laws::figures_add_up;
+pub use line::write_duration;

@@ -1,0 +1,5 @@
+pub mod Empty
+pub mod Runs
+pub mod DayRuns
+pub mod EachDay
+mod Rows

@@ -1,0 +1,8 @@
+use Rattle.std.proofs.Common.{◌≡◌, take, map}
+use Rattle.history_view.specs.Histories.{minutes_on}
+use Rattle.slot_bars.specs.Seeing.{bars_of, card_seen}
+use Rattle.slot_bars.proofs.bars.card_bars.Given as goal
+
+-- the bars of the lines so far
+abbrev pub invariant-loop-line : goal.invariant-loop-line
+invariant-loop-line l = l.bars.items ≡ bars_of (map card_seen (minutes_on (take l.line-index l.lines)))

@@ -1,0 +1,5 @@
+pub mod Exact
+pub mod Seeing
+pub mod Runs
+pub mod DaysOf
+pub mod DayLines

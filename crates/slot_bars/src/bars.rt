@@ -1,0 +1,155 @@
+//! The bars of a slot, of the lines of a view.
+ghost use Rattle.std.specs.Prelude.{◌≡◌, ◌++◌, true, List, map, IfOk, OnOk};
+ghost use Rattle.view_model.specs.declared.Viewed.{Viewed as ViewedMinute};
+ghost use Rattle.history_view.specs.Histories.{line_minutes, minutes_on};
+ghost use Rattle.slot_bars.specs.Seeing.{bars_of, slot_seen, card_seen, state_in};
+ghost use Rattle.slot_bars.specs.Runs.{is_run, is_plain, seen_run, with_last, as_unit};
+ghost use Rattle.slot_bars.specs.declared.seen.Seen.{Seen as MinuteSeen};
+
+use crate::seen::{Gap, Seen, meets_gap, slot_seen, state_in};
+use activity_codec::{Activity, Slot};
+use std::alloc::{AllocError, Global};
+use view_model::{CardShown, Line, State, UnitShown, Viewed};
+use view_text::add_minute;
+
+/// The bars of a slot of a unit, by the lines of its view. A line goes in at once, but for one without a card that meets a gap,
+/// which goes in minute by minute.
+pub fn unit_bars(
+    alloc: Global,
+    lines: &[Line<UnitShown>],
+    gaps: &[Gap],
+    slot: Slot,
+) -> Result<Vec<Line<Seen>>, AllocError>
+    ensures { IfOk result (λ bars. bars.items ≡ bars_of (map (slot_seen gaps.now slot) (minutes_on lines.now))) }
+{
+    let mut bars = Vec::new(alloc);
+    for line in lines {
+        add_line(&mut bars, *line, gaps, slot)?;
+    }
+    Ok(bars)
+}
+
+/// The bars of the card of a card file, by the lines of its view.
+pub fn card_bars(alloc: Global, lines: &[Line<CardShown>]) -> Result<Vec<Line<Seen>>, AllocError>
+    ensures { IfOk result (λ bars. bars.items ≡ bars_of (map card_seen (minutes_on lines.now))) }
+{
+    let mut bars = Vec::new(alloc);
+    for line in lines {
+        add_card_line(&mut bars, *line)?;
+    }
+    Ok(bars)
+}
+
+/// Adds the minutes of a line, as a slot is seen in them.
+fn add_line(
+    bars: &mut Vec<Line<Seen>>,
+    line: Line<UnitShown>,
+    gaps: &[Gap],
+    slot: Slot,
+) -> Result<(), AllocError>
+    ensures { (minutes : List (ViewedMinute MinuteSeen)) → bars.old.items ≡ bars_of minutes
+        → OnOk result (bars.new.items ≡ bars_of (minutes ++ map (slot_seen gaps.now slot) (line_minutes line))) }
+{
+    if is_plain(line, gaps, slot) {
+        add_run(bars, seen_run(line, gaps, slot))?;
+        return Ok(());
+    }
+    for minute in line.first as u64..line.last as u64 + 1 {
+        let viewed = viewed_at(line, minute as u32);
+        add_minute(bars, slot_seen(gaps, slot, viewed))?;
+    }
+    Ok(())
+}
+
+/// Adds the minutes of a line of a card, which a unit would show with the card in its driver slot.
+fn add_card_line(bars: &mut Vec<Line<Seen>>, line: Line<CardShown>) -> Result<(), AllocError>
+    ensures { (minutes : List (ViewedMinute MinuteSeen)) → bars.old.items ≡ bars_of minutes
+        → OnOk result (bars.new.items ≡ bars_of (minutes ++ map card_seen (line_minutes line))) }
+{
+    add_line(bars, as_unit(line), &[], Slot::Driver)?;
+    Ok(())
+}
+
+/// A line of a card as a unit would show it.
+fn as_unit(line: Line<CardShown>) -> Line<UnitShown>
+    ensures { result ≡ as_unit line }
+{
+    Line {
+        first: line.first,
+        last: line.last,
+        shown: UnitShown {
+            driver: State {
+                act: line.shown.act,
+                present: true,
+            },
+            codriver: State {
+                act: Activity::Rest,
+                present: false,
+            },
+            crew: line.shown.crew,
+        },
+    }
+}
+
+/// A minute of a line.
+fn viewed_at(line: Line<UnitShown>, minute: u32) -> Viewed<UnitShown>
+    ensures { result ≡ record { minute = minute; shown = line.shown } }
+{
+    Viewed {
+        minute,
+        shown: line.shown,
+    }
+}
+
+/// Whether minutes from one to another are some, and of one day.
+fn is_run(first: u32, last: u32) -> bool
+    ensures { result ≡ is_run first last }
+{
+    first <= last && first / 1440 == last / 1440
+}
+
+/// Whether the same is seen of a slot in each minute of a line, which are some, and of one day.
+fn is_plain(line: Line<UnitShown>, gaps: &[Gap], slot: Slot) -> bool
+    ensures { result ≡ is_plain gaps.now slot line }
+{
+    is_run(line.first, line.last)
+        && (state_in(slot, line.shown).present || !meets_gap(gaps, line.first, line.last))
+}
+
+/// A line as a slot is seen in its first minute.
+fn seen_run(line: Line<UnitShown>, gaps: &[Gap], slot: Slot) -> Line<Seen>
+    ensures { result ≡ seen_run gaps.now slot line }
+{
+    let first = slot_seen(gaps, slot, viewed_at(line, line.first));
+    Line {
+        first: line.first,
+        last: line.last,
+        shown: first.shown,
+    }
+}
+
+/// Adds minutes in a row of one day in which the same is seen.
+fn add_run(bars: &mut Vec<Line<Seen>>, run: Line<Seen>) -> Result<(), AllocError>
+    requires { is_run run.first run.last ≡ true }
+    ensures { (minutes : List (ViewedMinute MinuteSeen)) → bars.old.items ≡ bars_of minutes
+        → OnOk result (bars.new.items ≡ bars_of (minutes ++ line_minutes run)) }
+{
+    let first = Viewed {
+        minute: run.first,
+        shown: run.shown,
+    };
+    add_minute(bars, first)?;
+    stretch(bars.as_mut_slice(), run.last);
+    Ok(())
+}
+
+/// Lets the last bar end with a later minute.
+fn stretch(bars: &mut [Line<Seen>], last: u32)
+    ensures { bars.new ≡ with_last last bars.old }
+{
+    let count = bars.len();
+    if count == 0 {
+        return;
+    }
+    bars[count - 1].last = last;
+}

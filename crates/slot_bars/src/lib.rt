@@ -1,0 +1,13 @@
+//! The minutes of a view by days, and those of one slot as bars: the longest runs of minutes of which the same is seen (profile).
+#![tactic(auto)]
+
+mod bars;
+mod days;
+mod seen;
+
+pub use bars::{card_bars, unit_bars};
+pub use days::{day_number, first_day};
+pub use seen::{Gap, Seen};
+
+#[cfg(test)]
+mod tests;
