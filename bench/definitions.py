@@ -241,7 +241,7 @@ def bad_card(image):
     return None if place is None else (0x0504, place)
 
 
-# Files: history_view/specs/UnitFiles, CardFiles; message_model/specs/Messages
+# Files: file_view/specs/UnitFiles, CardFiles; message_model/specs/Messages
 
 
 class Short(Exception):

@@ -14,7 +14,7 @@ use Rattle.card_model.specs.Days.{Day}
 use Rattle.card_model.specs.Walk.{days_of}
 use Rattle.card_model.specs.Checks.{first_bad}
 use Rattle.card_retention.specs.Entries.{entries_up_to}
-use Rattle.card_records.specs.Vehicles.{vehicle_of}
+use Rattle.card_files.specs.Vehicles.{vehicle_of}
 use Rattle.gated_ring.specs.Ring.{pointer, PointsInside, indices}
 use Rattle.gated_ring.proofs.Listing.{indices_below}
 use Rattle.gated_ring.proofs.Orders.{Each}
@@ -22,8 +22,8 @@ use Rattle.card_image.specs.Fields.{file, file_bytes, day_string, vehicle_ring, 
 use Rattle.card_image.specs.View.{card_view}
 use Rattle.card_image.specs.Own.{own_sizes, own_view}
 use Rattle.card_image.specs.CardFile.{FileEntry, IsFileEntry, IsCardFile, entries_of, card_file, values_of, string_alone, vehicles_alone, last_minute, shown_entries}
-use Rattle.history_view.specs.CardFiles.{mark_of, newest, last_entries}
-use Rattle.history_view.specs.Showing.{ShowsCardFile, entries_told}
+use Rattle.file_view.specs.CardFiles.{mark_of, newest, last_entries}
+use Rattle.file_view.specs.Showing.{ShowsCardFile, entries_told}
 use Rattle.card_download.specs.Written.{file_of, bad_field}
 use Rattle.card_download.specs.Readable.{HasAllFiles, IsReadable, image_entries}
 use Rattle.card_download.proofs.Moved.{days_alone, bad_alone, pointer_alone, entry_alone, indices_alone}

@@ -7,7 +7,7 @@ use Rattle.card_retention.specs.Entries.{entries_up_to}
 use Rattle.gated_ring.specs.Ring.{PointsInside}
 use Rattle.card_image.specs.Fields.{day_string, vehicle_ring, card_days}
 use Rattle.card_image.specs.Own.{own_sizes, own_view}
-use Rattle.history_view.specs.CardFiles.{newest}
+use Rattle.file_view.specs.CardFiles.{newest}
 use Rattle.card_download.specs.Written.{bad_field}
 
 -- the image reaches to the end of the last file

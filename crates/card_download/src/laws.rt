@@ -4,7 +4,7 @@ ghost use Rattle.card_layout.specs.declared.files.Application.{Application};
 ghost use Rattle.card_image.specs.CardFile.{FileEntry, IsCardFile, entries_of};
 ghost use Rattle.card_image.specs.Fields.{file_bytes};
 ghost use Rattle.card_image.specs.Own.{own_sizes};
-ghost use Rattle.history_view.specs.Showing.{ShowsCardFile};
+ghost use Rattle.file_view.specs.Showing.{ShowsCardFile};
 ghost use Rattle.card_download.specs.Written.{file_of, bad_field};
 ghost use Rattle.card_download.specs.Readable.{HasAllFiles, IsReadable, image_entries};
 

@@ -1,2 +1,5 @@
 mod ReadingLemmas
 mod NewCardLemmas
+pub mod Changes
+mod Parts
+pub mod Sets

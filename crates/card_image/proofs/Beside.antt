@@ -7,8 +7,8 @@ use Rattle.card_layout.specs.declared.files.Application.{Application}
 use Rattle.card_layout.specs.Application.{IsApplication, first_bad_field, place_of_field}
 use Rattle.card_layout.specs.Files.{place_of, size_of, files_of}
 use Rattle.tach_media.specs.Medium.{bytes_at, SameOutside}
-use Rattle.card_records.specs.Vehicles.{vehicle_of}
-use Rattle.card_records.specs.CurrentUses.{current_use_of}
+use Rattle.card_files.specs.Vehicles.{vehicle_of}
+use Rattle.card_files.specs.CurrentUses.{current_use_of}
 use Rattle.card_model.specs.Days.{Day}
 use Rattle.card_model.specs.Image.{oldest_pointer}
 use Rattle.card_model.specs.Checks.{first_failing, first_bad}

@@ -12,7 +12,7 @@ use Rattle.card_model.specs.Image.{StringShape}
 use Rattle.card_model.specs.Walk.{days_of}
 use Rattle.card_model.specs.Checks.{first_bad}
 use Rattle.card_retention.specs.Entries.{entries_up_to}
-use Rattle.card_records.specs.Vehicles.{vehicle_of}
+use Rattle.card_files.specs.Vehicles.{vehicle_of}
 use Rattle.gated_ring.specs.Ring.{Shape, PointsInside, indices, entry_at}
 use Rattle.card_image.specs.Fields.{vehicle_ring, last_of}
 

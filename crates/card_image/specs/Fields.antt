@@ -3,11 +3,11 @@ use Rattle.std.specs.Prelude.{ℕ, ◌/◌, Option, Some, None, List, [], ◌∷
 use Rattle.card_layout.specs.declared.files.Application.{Application}
 use Rattle.card_layout.specs.Files.{place_of, size_of}
 use Rattle.tach_media.specs.Medium.{bytes_at}
-use Rattle.card_records.specs.declared.vehicle.Vehicle.{Vehicle}
-use Rattle.card_records.specs.Vehicles.{vehicle_of}
-use Rattle.card_records.specs.declared.current_use.CurrentUse.{CurrentUse}
-use Rattle.card_records.specs.CurrentUses.{current_use_of}
-pub use Rattle.card_records.specs.Rings.{file, vehicle_ring, place_ring}
+use Rattle.card_files.specs.declared.vehicle.Vehicle.{Vehicle}
+use Rattle.card_files.specs.Vehicles.{vehicle_of}
+use Rattle.card_files.specs.declared.current_use.CurrentUse.{CurrentUse}
+use Rattle.card_files.specs.CurrentUses.{current_use_of}
+pub use Rattle.card_files.specs.Rings.{file, vehicle_ring, place_ring}
 use Rattle.card_model.specs.Days.{Day}
 use Rattle.card_model.specs.Image.{StringShape}
 use Rattle.card_model.specs.Walk.{days_of}

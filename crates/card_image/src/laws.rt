@@ -2,7 +2,7 @@ ghost use Rattle.std.specs.Prelude.{◌≡◌, ℕ, max, List};
 ghost use Rattle.card_layout.specs.declared.files.Application.{Application};
 ghost use Rattle.card_layout.specs.Application.{IsApplication};
 ghost use Rattle.tach_media.specs.Medium.{SameOutside};
-ghost use Rattle.card_records.specs.Vehicles.{vehicle_of};
+ghost use Rattle.card_files.specs.Vehicles.{vehicle_of};
 ghost use Rattle.card_model.specs.Days.{Day, AreDays};
 ghost use Rattle.card_retention.specs.Entries.{entries_up_to, last_entry, closed_at};
 ghost use Rattle.gated_ring.specs.Ring.{PointsInside, IsLast, entry_at};

@@ -10,7 +10,7 @@ use Rattle.view_model.specs.declared.Viewed.{Viewed}
 use Rattle.view_model.specs.declared.Line.{Line}
 use Rattle.view_model.specs.Lines.{day_of_minute}
 use Rattle.unit_model.specs.Days.{UnitMinute}
-use Rattle.history_view.specs.Histories.{minute_told, line_minutes, minutes_on}
+use Rattle.file_view.specs.Histories.{minute_told, line_minutes, minutes_on}
 use Rattle.card_match.specs.Cases.{begins_by, line_from}
 use Rattle.card_match.proofs.Lines.{unit_more}
 

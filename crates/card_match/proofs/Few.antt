@@ -13,8 +13,8 @@ use Rattle.view_model.specs.declared.Viewed.{Viewed}
 use Rattle.view_model.specs.declared.Line.{Line}
 use Rattle.view_model.specs.Lines.{same_card, day_of_minute, goes_on, with_minute, lines_of}
 use Rattle.view_text.specs.Exact.{both}
-use Rattle.history_view.specs.Histories.{AreLines, minutes_on, entry_told}
-use Rattle.history_view.proofs.Lines.{all_low}
+use Rattle.file_view.specs.Histories.{AreLines, minutes_on, entry_told}
+use Rattle.file_view.proofs.Lines.{all_low}
 use Rattle.card_match.proofs.Rising.{rise_few}
 
 equal : (a b : ℕ) → (a == b) ≡ true → a ≡ b

@@ -9,7 +9,7 @@ use Rattle.view_model.specs.declared.CardShown.{CardShown}
 use Rattle.view_model.specs.declared.Viewed.{Viewed}
 use Rattle.view_model.specs.declared.Line.{Line}
 use Rattle.unit_model.specs.Days.{UnitMinute}
-use Rattle.history_view.specs.Histories.{minute_told, entry_told, line_minutes, minutes_on}
+use Rattle.file_view.specs.Histories.{minute_told, entry_told, line_minutes, minutes_on}
 use Rattle.card_match.specs.Cases.{fresh}
 use Rattle.card_match.specs.declared.cases.Case.{Case}
 

@@ -7,11 +7,11 @@ use Rattle.card_image.specs.CardFile.{FileEntry, entry_bytes}
 use Rattle.tacho_types.specs.declared.texts.Registration.{Registration}
 use Rattle.message_model.specs.Messages.{Message, message_bytes, IsMessage, IsUnitFile}
 use Rattle.message_model.proofs.Reading.{one_way}
-use Rattle.history_view.specs.CardFiles.{IsBadCardFile}
-use Rattle.history_view.specs.UnitFiles.{IsBadUnitFile}
-use Rattle.history_view.specs.Fronts.{registration_in, registration_bytes, begins_message, Leads, IsFront, IsBadFront}
-use Rattle.history_view.specs.declared.front.FrontRead.{FrontRead}
-use Rattle.history_view.proofs.UnitOneWay.{unit_does_not_fail}
+use Rattle.file_view.specs.CardFiles.{IsBadCardFile}
+use Rattle.file_view.specs.UnitFiles.{IsBadUnitFile}
+use Rattle.file_view.specs.Fronts.{registration_in, registration_bytes, begins_message, Leads, IsFront, IsBadFront}
+use Rattle.file_view.specs.declared.front.FrontRead.{FrontRead}
+use Rattle.file_view.proofs.UnitOneWay.{unit_does_not_fail}
 use Rattle.card_match.specs.Files.{LacksOverview, HasOverview, IsBadUnit, AreParts}
 
 all_rest : (m : Message) (ms : List Message) → All IsMessage (m ∷ ms) → All IsMessage ms

@@ -12,7 +12,7 @@ use Rattle.view_model.specs.declared.Line.{Line}
 use Rattle.card_match.specs.declared.cases.Use.{Use}
 use Rattle.card_match.specs.declared.cases.Case.{Case}
 use Rattle.unit_model.specs.Days.{UnitMinute}
-use Rattle.history_view.specs.Histories.{minute_told, line_minutes}
+use Rattle.file_view.specs.Histories.{minute_told, line_minutes}
 use Rattle.card_match.specs.Matching.{Against, is_within, is_own, minute_at}
 use Rattle.card_match.specs.Cases.{minute_of, shown_of, case_of, with_use, with_line, line_use, first_seen}
 

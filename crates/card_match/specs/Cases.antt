@@ -8,7 +8,7 @@ use Rattle.view_model.specs.declared.Viewed.{Viewed}
 use Rattle.view_model.specs.declared.Line.{Line}
 use Rattle.view_model.specs.Lines.{day_of_minute}
 use Rattle.unit_model.specs.Days.{UnitMinute}
-use Rattle.history_view.specs.Histories.{minute_shown, minute_told}
+use Rattle.file_view.specs.Histories.{minute_shown, minute_told}
 use Rattle.card_match.specs.Matching.{Against, is_within, is_own, minute_at, is_before, is_tested, stands}
 use Rattle.card_match.specs.Differences.{instead_of}
 use Rattle.card_match.specs.declared.cases.Use.{Use}

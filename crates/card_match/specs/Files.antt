@@ -1,14 +1,14 @@
 -- A card file against a unit file, by the bytes of both (profile).
 use Rattle.std.specs.Prelude.{◌≡◌, ◌⊎◌, ℕ, ◌+◌, ◌/◌, Bool, false, Option, Some, None, List, ◌++◌, length, map, filter, bytes_eq}
 use Rattle.activity_codec.specs.declared.entries.Entry.{Entry}
-use Rattle.card_records.specs.declared.vehicle.Vehicle.{Vehicle}
+use Rattle.card_files.specs.declared.vehicle.Vehicle.{Vehicle}
 use Rattle.unit_model.specs.Days.{UnitMinute}
 use Rattle.message_model.specs.Messages.{Message, IsUnitFile}
 use Rattle.message_model.specs.Showing.{minutes_in}
-use Rattle.history_view.specs.CardFiles.{IsBadCardFile}
-use Rattle.history_view.specs.UnitFiles.{IsBadUnitFile}
-use Rattle.history_view.specs.Fronts.{registration_in, begins_message, IsBadFront}
-use Rattle.history_view.specs.Vehicles.{ShowsCard}
+use Rattle.file_view.specs.CardFiles.{IsBadCardFile}
+use Rattle.file_view.specs.UnitFiles.{IsBadUnitFile}
+use Rattle.file_view.specs.Fronts.{registration_in, begins_message, IsBadFront}
+use Rattle.file_view.specs.Vehicles.{ShowsCard}
 use Rattle.card_match.specs.Matching.{Against, IsMatch}
 use Rattle.card_match.specs.Differences.{AreDifferences}
 use Rattle.card_match.specs.declared.cases.Use.{Use}

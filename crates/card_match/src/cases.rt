@@ -1,7 +1,7 @@
 //! The entries of a card file, and what the vehicle uses and the unit file say of each.
 ghost use Rattle.std.specs.Prelude.{◌≡◌, ◌+◌, ◌<◌, ◌≤◌, ◌++◌, ℕ, Some, List, length, map, IfOk, OnOk, slice_index_or};
 ghost use Rattle.activity_codec.specs.declared.entries.Entry.{Entry as CardEntry};
-ghost use Rattle.history_view.specs.Histories.{entry_told, minute_told, line_minutes, minutes_on};
+ghost use Rattle.file_view.specs.Histories.{entry_told, minute_told, line_minutes, minutes_on};
 ghost use Rattle.card_match.specs.Matching.{Against, is_within, is_as, state_in};
 ghost use Rattle.card_match.specs.Cases.{fresh, case_of, with_use, with_line, AreRising, minute_of, first_seen, minute_of_case, instead_seen, difference_in};
 

@@ -1,6 +1,6 @@
 //! The match of a card's entries against a unit's minutes.
 ghost use Rattle.std.specs.Prelude.{◌≡◌, ◌<◌, ◌^◌, List, map, IfOk, length};
-ghost use Rattle.history_view.specs.Histories.{entry_told, minute_told, minutes_on};
+ghost use Rattle.file_view.specs.Histories.{entry_told, minute_told, minutes_on};
 ghost use Rattle.card_retention.specs.Retains.{Rise};
 ghost use Rattle.activity_codec.specs.declared.entries.Entry.{Entry as CardEntry};
 ghost use Rattle.card_match.specs.Differences.{AreDifferences};

@@ -1,7 +1,7 @@
 //! A card file against a unit file.
 ghost use Rattle.std.specs.Prelude.{◌≡◌, ◌<◌, ◌≤◌, ◌^◌, Some, List, length, IfOk, IfErr};
 ghost use Rattle.message_model.specs.Messages.{Message, IsUnitFile};
-ghost use Rattle.history_view.specs.Fronts.{registration_in};
+ghost use Rattle.file_view.specs.Fronts.{registration_in};
 ghost use Rattle.card_match.specs.Files.{is_of, use_of, uses_of, MatchesFiles, ComparesFiles, IsBadUnit, IsMatchFault, MatchesSource, ComparesSource, IsBadSource};
 ghost use Rattle.card_match.specs.Faults.{IfBadSource};
 ghost use Rattle.card_match.specs.Text.{IsDated, AreDatedRuns};
@@ -9,8 +9,8 @@ ghost use Rattle.card_match.specs.Text.{IsDated, AreDatedRuns};
 use crate::cases::Use;
 use crate::entries::compare_entries;
 use crate::verdict::{Differences, Matched};
-use card_records::Vehicle;
-use history_view::{ViewFault, read_card, read_download, read_front};
+use card_files::Vehicle;
+use file_view::{ViewFault, read_card, read_download, read_front};
 use std::alloc::{AllocError, Global};
 use tacho_types::Registration;
 

@@ -1,7 +1,7 @@
 //! The answer to a match, once each entry was looked at.
 ghost use Rattle.std.specs.Prelude.{◌≡◌, ◌+◌, ◌||◌, ◌++◌, ◌<◌, ◌^◌, ℕ, true, false, List, length, map, IfOk, OnOk};
 ghost use Rattle.activity_codec.specs.declared.entries.Entry.{Entry as CardEntry};
-ghost use Rattle.history_view.specs.Histories.{minute_told, minutes_on};
+ghost use Rattle.file_view.specs.Histories.{minute_told, minutes_on};
 ghost use Rattle.view_model.specs.declared.Viewed.{Viewed as ViewedMinute};
 ghost use Rattle.view_model.specs.Lines.{lines_of};
 ghost use Rattle.card_match.specs.declared.difference.Difference.{Difference as How};

@@ -11,10 +11,10 @@ use Rattle.card_model.specs.Changes.{Remain, OnNewest, TakesWord, AreStrict, IsL
 use Rattle.card_model.specs.Image.{StringShape, Holds, newest_pointer}
 use Rattle.card_model.proofs.Retention.{remain_some, remain_fitting}
 use Rattle.gated_ring.specs.Ring.{PointsInside, IsNewest}
-use Rattle.cyclic_days.specs.declared.head.Tail.{Tail}
-use Rattle.cyclic_days.specs.Held.{Held, Knows, tail_in}
-use Rattle.cyclic_days.specs.Moments.{IfKnown, IsDayBeginning, IsDayBegun, KnowsBegun}
-use Rattle.cyclic_days.specs.Plans.{most_drops}
+use Rattle.card_days.specs.declared.head.Tail.{Tail}
+use Rattle.card_days.specs.Held.{Held, Knows, tail_in}
+use Rattle.card_days.specs.Moments.{IfKnown, IsDayBeginning, IsDayBegun, KnowsBegun}
+use Rattle.card_days.specs.Plans.{most_drops}
 use Rattle.card_retention.specs.Expected.{is_newest}
 use Rattle.card_retention.specs.Shown.{sizes, EndsAbsent}
 use Rattle.card_retention.specs.Entries.{EndsBy, newest_word}

@@ -13,7 +13,7 @@ use Rattle.card_model.proofs.Ascending.{words_below}
 use Rattle.card_retention.specs.Expected.{is_newest}
 use Rattle.card_retention.specs.Shown.{sizes, is_open, entry_state}
 use Rattle.card_retention.specs.Entries.{EndsBy, newest_word}
-use Rattle.cyclic_days.specs.Held.{tail_by}
+use Rattle.card_days.specs.Held.{tail_by}
 use Rattle.card_session.specs.Books.{closing_word, entry_word, bare_word, day_words, latest_of, tells_state, km_after, travelled}
 use Rattle.card_session.specs.Telling.{closing_at, gap_word, is_newest_day, entry_change, km_told}
 use Rattle.card_session.specs.Sessions.{EndsStrictly}

@@ -9,9 +9,9 @@ use Rattle.tacho_types.specs.Numbers.{time_bytes}
 use Rattle.card_layout.specs.declared.files.Application.{Application}
 use Rattle.card_layout.specs.Files.{files_of, place_of, size_of}
 use Rattle.tach_media.specs.Medium.{SameOutside, bytes_at}
-use Rattle.card_records.specs.Rings.{event_ring}
+use Rattle.card_files.specs.Rings.{event_ring}
 use Rattle.card_model.specs.Days.{Day}
-use Rattle.card_records.proofs.Sets.{set_inside}
+use Rattle.card_files.proofs.Sets.{set_inside}
 use Rattle.gated_ring.specs.Ring.{place_of as entry_place}
 use Rattle.gated_ring.proofs.Places.{place_high}
 use Rattle.card_image.specs.Fields.{file, day_string, place_ring, card_number}

@@ -9,17 +9,17 @@ use Rattle.tacho_types.specs.declared.texts.Registration.{Registration}
 use Rattle.card_layout.specs.declared.files.Application.{Application}
 use Rattle.card_layout.specs.Files.{files_of, place_of, size_of}
 use Rattle.tach_media.specs.Medium.{bytes_at, SameOutside}
-use Rattle.card_records.specs.CurrentUses.{current_use_of}
-use Rattle.card_records.specs.Rings.{event_ring}
-use Rattle.card_records.proofs.Sets.{set_inside}
+use Rattle.card_files.specs.CurrentUses.{current_use_of}
+use Rattle.card_files.specs.Rings.{event_ring}
+use Rattle.card_files.proofs.Sets.{set_inside}
 use Rattle.card_model.specs.Days.{Day}
 use Rattle.card_model.specs.Image.{StringShape}
 use Rattle.card_model.proofs.Elsewhere.{days_elsewhere}
 use Rattle.gated_ring.specs.Ring.{Shape, PointsInside, place_of as entry_place, size_of as ring_size}
 use Rattle.gated_ring.proofs.Places.{place_high}
 use Rattle.gated_ring.proofs.Elsewhere.{points_elsewhere, newest_elsewhere}
-use Rattle.cyclic_days.specs.Held.{Knows}
-use Rattle.cyclic_days.proofs.Elsewhere.{knows_elsewhere}
+use Rattle.card_days.specs.Held.{Knows}
+use Rattle.card_days.proofs.Elsewhere.{knows_elsewhere}
 use Rattle.card_image.specs.Fields.{file, day_string, vehicle_ring, current_use, card_days}
 use Rattle.card_image.specs.Beside.{HaveSameDays, HaveSameVehicles, HaveSameSession}
 use Rattle.card_session.specs.Vehicles.{Vehicles}

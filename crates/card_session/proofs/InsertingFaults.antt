@@ -2,11 +2,11 @@
 use Rattle.std.proofs.Common.{◌≡◌, ℕ, false, Result, Err}
 use Rattle.std.specs.Prelude.{IfErr, IsErrAnd}
 use Rattle.tach_media.specs.Medium.{State, Reads}
-use Rattle.card_judge.specs.declared.fault.InsertFault.{InsertFault}
-use Rattle.card_judge.specs.declared.fault.InsertFault.TheVariants.{Failed, NotValid, TimeOverlap}
-use Rattle.card_judge.specs.declared.files.Judged.{Judged}
-use Rattle.card_judge.specs.Faults.{IfNotValid, IfTimeOverlap, has_failed}
-use Rattle.card_judge.proofs.Faults.{passed}
+use Rattle.card_validity.specs.declared.fault.InsertFault.{InsertFault}
+use Rattle.card_validity.specs.declared.fault.InsertFault.TheVariants.{Failed, NotValid, TimeOverlap}
+use Rattle.card_validity.specs.declared.files.Judged.{Judged}
+use Rattle.card_validity.specs.Faults.{IfNotValid, IfTimeOverlap, has_failed}
+use Rattle.card_validity.proofs.Faults.{passed}
 
 overlap_none : (fault : InsertFault) (P : ℕ → ℕ → Type 0) → IfTimeOverlap fault (λ stored now. ⊥) → IfTimeOverlap fault P
 overlap_none Failed P none = tt

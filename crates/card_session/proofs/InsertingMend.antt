@@ -5,7 +5,7 @@ use Rattle.tacho_types.specs.declared.texts.Registration.{Registration}
 use Rattle.card_layout.specs.declared.files.Application.{Application}
 use Rattle.tach_media.specs.Medium.{State}
 use Rattle.tach_media.proofs.Runs.{where_told, at_image}
-use Rattle.card_records.specs.declared.current_use.CurrentUse.{CurrentUse}
+use Rattle.card_files.specs.declared.current_use.CurrentUse.{CurrentUse}
 use Rattle.card_model.specs.Days.{Day}
 use Rattle.card_image.specs.Fields.{current_use}
 use Rattle.card_session.specs.declared.words.TheConstants.{LATEST_MINUTE}

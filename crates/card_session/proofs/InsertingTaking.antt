@@ -6,13 +6,13 @@ use Rattle.tacho_types.specs.declared.texts.Registration.{Registration}
 use Rattle.tacho_types.specs.declared.numbers.Odometer.{Odometer}
 use Rattle.card_layout.specs.declared.files.Application.{Application}
 use Rattle.tach_media.specs.Medium.{State}
-use Rattle.card_records.specs.declared.vehicle.Vehicle.{Vehicle}
-use Rattle.card_records.specs.declared.current_use.CurrentUse.{CurrentUse}
+use Rattle.card_files.specs.declared.vehicle.Vehicle.{Vehicle}
+use Rattle.card_files.specs.declared.current_use.CurrentUse.{CurrentUse}
 use Rattle.card_model.specs.Days.{Day, total}
 use Rattle.card_model.specs.Image.{newest_pointer}
 use Rattle.card_retention.specs.Entries.{newest_word}
-use Rattle.cyclic_days.specs.declared.head.Tail.{Tail}
-use Rattle.cyclic_days.specs.Held.{Held, Knows, tail_in, tail_by}
+use Rattle.card_days.specs.declared.head.Tail.{Tail}
+use Rattle.card_days.specs.Held.{Held, Knows, tail_in, tail_by}
 use Rattle.gated_ring.specs.Ring.{Shape}
 use Rattle.card_image.specs.Fields.{last_use_of, session_time}
 use Rattle.card_session.specs.Books.{Book}

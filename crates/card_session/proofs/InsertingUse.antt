@@ -8,8 +8,8 @@ use Rattle.tach_media.proofs.Runs.{weaken, after_reads, goes_by, where_told, at_
 use Rattle.tach_media.proofs.Ranges.{lies_part}
 use Rattle.tacho_types.specs.declared.texts.Registration.{Registration}
 use Rattle.tacho_types.specs.Numbers.{time_bytes}
-use Rattle.card_records.specs.declared.current_use.CurrentUse.{CurrentUse}
-use Rattle.card_records.specs.Noting.{HoldsEvent, IsNotingEvent, IsEventNoted}
+use Rattle.card_files.specs.declared.current_use.CurrentUse.{CurrentUse}
+use Rattle.card_files.specs.Noting.{HoldsEvent, IsNotingEvent, IsEventNoted}
 use Rattle.card_image.specs.Fields.{file, current_use}
 use Rattle.card_session.proofs.OnCard.{may_still}
 use Rattle.card_session.specs.Inserting.{MayInsert, HoldsUnclosed, IsNoted, IsNoting, unclosed, timed, registered, IsOpening}

@@ -15,9 +15,9 @@ use Rattle.card_model.proofs.Trims.{are_trimmed}
 use Rattle.card_retention.specs.Entries.{EndsBy}
 use Rattle.card_image.specs.Fields.{day_string, vehicle_ring, place_ring, card_days, end_mark, session_time}
 use Rattle.card_image.specs.Judging.{PlacedWord, minute_at, words_placed, days_placed, tells_none, leaves_gap, closing_checks, words_behind_mark, newest_rises, word_checks, file_check, first_bad_of, pointer_bad}
-use Rattle.card_judge.specs.Words.{first_of}
-use Rattle.card_judge.specs.Judged.{first_bad_behind}
-use Rattle.card_judge.proofs.Checking.{checks_open, checks_closed}
+use Rattle.card_validity.specs.Words.{first_of}
+use Rattle.card_validity.specs.Judged.{first_bad_behind}
+use Rattle.card_validity.proofs.Checking.{checks_open, checks_closed}
 use Rattle.card_session.specs.Sessions.{EndsStrictly}
 use Rattle.card_session.proofs.Valid.{passes_strict}
 

@@ -1,7 +1,7 @@
 -- The closing word of an insertion, which is not written where the end mark is the last minute.
 use Rattle.std.proofs.Common.{◌≡◌, ℕ, ◌/◌, Bool, false, List, Option, ap, ◌∙◌, arith}
 use Rattle.tach_media.specs.Medium.{State}
-use Rattle.card_records.specs.declared.vehicle.Vehicle.{Vehicle}
+use Rattle.card_files.specs.declared.vehicle.Vehicle.{Vehicle}
 use Rattle.card_model.specs.Days.{Day}
 use Rattle.card_image.specs.Fields.{last_use_of}
 use Rattle.card_session.specs.declared.words.TheConstants.{LATEST_MINUTE}

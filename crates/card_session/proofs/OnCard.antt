@@ -14,7 +14,7 @@ use Rattle.tach_media.proofs.Ranges.{lies_part}
 use Rattle.gated_ring.proofs.Places.{place_high}
 use Rattle.gated_ring.proofs.Elsewhere.{points_elsewhere, newest_elsewhere}
 use Rattle.card_image.specs.Fields.{day_string, vehicle_ring, vehicle_at, newest_vehicle, last_of, card_days}
-use Rattle.card_records.specs.declared.vehicle.Vehicle.{Vehicle}
+use Rattle.card_files.specs.declared.vehicle.Vehicle.{Vehicle}
 use Rattle.card_session.specs.Vehicles.{Vehicles, ring_round, on_newest, renewed}
 use Rattle.card_session.specs.Sessions.{MayKeep, book_of}
 use Rattle.card_session.specs.Cards.{IsCard, days_and_vehicles}

@@ -10,9 +10,9 @@ use Rattle.card_model.specs.Days.{Day}
 use Rattle.card_model.specs.Changes.{Remain, fitting, with_newest, with_word, with_km, IsNext, new_day, date_of}
 use Rattle.card_model.specs.Image.{StringShape, Holds}
 use Rattle.gated_ring.specs.Ring.{PointsInside, IsNewest}
-use Rattle.cyclic_days.specs.Held.{Knows}
-use Rattle.cyclic_days.specs.Moments.{IfKnown, IsChanging, IsChanged, KnowsChanged, IsDayBeginning, IsDayBegun, KnowsBegun}
-use Rattle.cyclic_days.specs.Steps.{IsMeasured, IsMeasuring, KnowsMeasured}
+use Rattle.card_days.specs.Held.{Knows}
+use Rattle.card_days.specs.Moments.{IfKnown, IsChanging, IsChanged, KnowsChanged, IsDayBeginning, IsDayBegun, KnowsBegun}
+use Rattle.card_days.specs.Steps.{IsMeasured, IsMeasuring, KnowsMeasured}
 use Rattle.card_image.specs.Fields.{day_string, vehicle_ring}
 use Rattle.card_session.specs.Vehicles.{Vehicles}
 use Rattle.card_session.specs.Books.{Book, with_change, with_new_day, day_words}

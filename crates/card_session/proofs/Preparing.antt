@@ -14,8 +14,8 @@ use Rattle.card_retention.specs.Shown.{sizes, is_open}
 use Rattle.card_retention.specs.Entries.{EndsBy, newest_word}
 use Rattle.card_retention.proofs.Entering.{last_append, date_newest}
 use Rattle.card_retention.proofs.Stops.{are_left}
-use Rattle.cyclic_days.proofs.Lists.{longer_day}
-use Rattle.card_records.specs.declared.vehicle.Vehicle.{Vehicle}
+use Rattle.card_days.proofs.Lists.{longer_day}
+use Rattle.card_files.specs.declared.vehicle.Vehicle.{Vehicle}
 use Rattle.card_session.specs.Vehicles.{Vehicles, with_vehicle, on_newest, last_use_in}
 use Rattle.card_session.specs.Books.{Book, mark_of, latest_of, closing_word, with_change, entry_word, bare_word, day_words, tells_state, entered_days, with_new_day, travelled, goes_on_in, used_until, begun_vehicle, vehicle_counter, vehicles_with, goes_on_with}
 use Rattle.card_session.specs.Sessions.{EndsStrictly, IsOpenBook, newest_in}

@@ -8,7 +8,7 @@ use Rattle.tacho_types.specs.declared.texts.Registration.{Registration}
 use Rattle.card_model.specs.Days.{Day, IsDay, AreDays}
 use Rattle.card_model.specs.Changes.{Remain, TakesWord, IsLater, fitting, new_day, date_of, trimmed}
 use Rattle.card_model.proofs.Retention.{remain_fitting, remain_some}
-use Rattle.cyclic_days.proofs.Beginning.{new_is}
+use Rattle.card_days.proofs.Beginning.{new_is}
 use Rattle.card_retention.specs.Expected.{Counted, is_newest, with_entry as counted_with}
 use Rattle.card_retention.specs.Entries.{newest_word}
 use Rattle.card_retention.specs.Shown.{Bound, Fits, Rests, Lives, sizes}

@@ -27,8 +27,8 @@ use Rattle.card_image.specs.Beside.{HaveSameDays, HaveSameVehicles, HaveSameSize
 use Rattle.card_image.specs.Judging.{PlacedWord, minute_at, words_placed, days_placed, tells_none, leaves_gap, closing_checks, words_behind_mark, newest_rises, IsValid}
 use Rattle.card_image.proofs.Beside.{days_same, session_same as session_beside}
 use Rattle.card_image.proofs.DaysBeside.{bad_elsewhere}
-use Rattle.card_judge.specs.Words.{first_of}
-use Rattle.card_judge.proofs.Checking.{checks_open, checks_closed}
+use Rattle.card_validity.specs.Words.{first_of}
+use Rattle.card_validity.proofs.Checking.{checks_open, checks_closed}
 use Rattle.card_session.specs.Vehicles.{Vehicles, last_use_in}
 use Rattle.card_session.specs.Books.{Book, mark_of, with_entry, closed}
 use Rattle.card_session.specs.Sessions.{EndsStrictly, IsOpenBook, book_of}

@@ -5,8 +5,8 @@ use Rattle.std.proofs.lemmas.Bool.{cases_eq}
 use Rattle.std.proofs.lemmas.Bool.Decides.{nat_tests}
 use Rattle.std.proofs.lemmas.List.{map-append}
 use Rattle.card_layout.specs.declared.files.Application.{Application}
-use Rattle.card_records.specs.declared.vehicle.Vehicle.{Vehicle}
-use Rattle.card_records.specs.Vehicles.{vehicle_of}
+use Rattle.card_files.specs.declared.vehicle.Vehicle.{Vehicle}
+use Rattle.card_files.specs.Vehicles.{vehicle_of}
 use Rattle.tach_media.specs.Medium.{put, bytes_at}
 use Rattle.gated_ring.specs.Ring.{Shape, IsShape, PointsInside, IsLast, pointer, indices, ring_list, entry_at, is_there, next, order, taken, with_head, size_of as ring_size}
 use Rattle.gated_ring.specs.Change.{SameOthers, IsSet, IsExtended}

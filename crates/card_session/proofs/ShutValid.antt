@@ -20,8 +20,8 @@ use Rattle.card_image.specs.Fields.{file, day_string, last_of, card_days, end_ma
 use Rattle.card_image.specs.Beside.{HaveSameSizes, HaveSamePlacePointer}
 use Rattle.card_image.specs.Judging.{PlacedWord, minute_at, words_placed, days_placed, tells_none, leaves_gap, closing_checks, words_behind_mark, newest_rises, word_checks, IsValid}
 use Rattle.card_image.proofs.Beside.{days_same}
-use Rattle.card_judge.specs.Words.{first_of}
-use Rattle.card_judge.proofs.Checking.{checks_closed}
+use Rattle.card_validity.specs.Words.{first_of}
+use Rattle.card_validity.proofs.Checking.{checks_closed}
 use Rattle.card_session.specs.Books.{Book, mark_of}
 use Rattle.card_session.specs.Sessions.{EndsStrictly, book_of}
 use Rattle.card_session.specs.Moments.{IsBook, IsCloseMoment}

@@ -23,13 +23,13 @@ use Rattle.card_layout.specs.Files.{files_of, image_size_of, place_of}
 use Rattle.card_layout.specs.Images.{big_number}
 use Rattle.card_layout.proofs.Images.{part_before, part_put, put_outside}
 use Rattle.tach_media.proofs.Images.{part_in}
-use Rattle.card_records.specs.CurrentUses.{current_use_of}
+use Rattle.card_files.specs.CurrentUses.{current_use_of}
 use Rattle.tach_media.specs.Medium.{SameOutside, bytes_at}
 use Rattle.gated_ring.specs.Ring.{PointsInside, size_of as ring_size}
 use Rattle.card_image.specs.Fields.{file, day_string, vehicle_ring, card_days, end_mark, current_use, session_time, last_use_of}
 use Rattle.card_image.specs.Beside.{HaveSameDays, HaveSameVehicles}
 use Rattle.card_image.proofs.Beside.{days_same, last_use_same}
-use Rattle.card_records.specs.declared.vehicle.Vehicle.{Vehicle}
+use Rattle.card_files.specs.declared.vehicle.Vehicle.{Vehicle}
 use Rattle.card_session.specs.Vehicles.{Vehicles, last_use_in}
 use Rattle.card_session.specs.Books.{Book, mark_of, latest_of, closing_word, gap_closed, closed_days, closed, last_used, entered_days, travelled, with_entry, used}
 use Rattle.card_session.specs.Sessions.{Session, IsSession, book_of}

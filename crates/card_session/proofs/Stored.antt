@@ -4,16 +4,16 @@ use Rattle.std.specs.Prelude.{nat_eq, nat_lt}
 use Rattle.std.proofs.lemmas.Bool.{lt-ltb, le-ltb}
 use Rattle.activity_codec.specs.declared.entries.Entry.{Entry}
 use Rattle.card_layout.specs.declared.files.Application.{Application}
-use Rattle.card_records.specs.declared.current_use.CurrentUse.{CurrentUse}
+use Rattle.card_files.specs.declared.current_use.CurrentUse.{CurrentUse}
 use Rattle.card_model.specs.Days.{total}
 use Rattle.card_model.specs.Image.{newest_pointer}
 use Rattle.card_retention.specs.Entries.{newest_word}
-use Rattle.cyclic_days.specs.declared.head.Tail.{Tail}
-use Rattle.cyclic_days.specs.Held.{tail_in}
+use Rattle.card_days.specs.declared.head.Tail.{Tail}
+use Rattle.card_days.specs.Held.{tail_in}
 use Rattle.card_image.specs.Fields.{last_use_of, last_use, session_time, card_days}
 use Rattle.card_image.specs.View.{card_view}
-use Rattle.card_judge.specs.declared.files.Judged.{Judged}
-use Rattle.card_judge.specs.Judged.{IsKnown}
+use Rattle.card_validity.specs.declared.files.Judged.{Judged}
+use Rattle.card_validity.specs.Judged.{IsKnown}
 use Rattle.card_session.specs.Telling.{minute_told}
 use Rattle.card_session.specs.Inserting.{lacked}
 use Rattle.card_session.proofs.InsertingLoop.{this, rest_is}

@@ -8,13 +8,13 @@ use Rattle.tacho_types.specs.declared.texts.Registration.{Registration}
 use Rattle.tacho_types.specs.declared.numbers.Odometer.{Odometer}
 use Rattle.tach_media.specs.Medium.{State}
 use Rattle.card_layout.specs.declared.files.Application.{Application}
-use Rattle.card_records.specs.declared.vehicle.Vehicle.{Vehicle}
+use Rattle.card_files.specs.declared.vehicle.Vehicle.{Vehicle}
 use Rattle.card_model.specs.Days.{Day, total}
 use Rattle.card_model.specs.Changes.{with_newest, with_km}
 use Rattle.card_model.specs.Image.{StringShape, Holds, newest_pointer}
 use Rattle.gated_ring.specs.Ring.{Shape, IsNewest}
-use Rattle.cyclic_days.specs.declared.head.Tail.{Tail}
-use Rattle.cyclic_days.specs.Held.{Held, Knows, tail_in}
+use Rattle.card_days.specs.declared.head.Tail.{Tail}
+use Rattle.card_days.specs.Held.{Held, Knows, tail_in}
 use Rattle.card_retention.specs.Expected.{is_newest}
 use Rattle.card_retention.specs.Shown.{sizes, is_open}
 use Rattle.card_image.specs.Fields.{day_string, vehicle_ring, last_use_of}

@@ -9,7 +9,7 @@ use Rattle.tacho_types.specs.declared.texts.Registration.{Registration}
 use Rattle.tacho_types.specs.declared.decimal.Bcd2.{Bcd2}
 use Rattle.tacho_types.specs.declared.decimal.BadValue.{BadValue}
 use Rattle.tacho_types.specs.Decimal.{bcd2_of, bcd2_bytes}
-use Rattle.card_records.specs.declared.vehicle.Vehicle.{Vehicle}
+use Rattle.card_files.specs.declared.vehicle.Vehicle.{Vehicle}
 use Rattle.card_model.specs.Days.{Day, last_word}
 use Rattle.card_model.specs.Changes.{date_of, fitting, with_newest, with_word, with_km, new_day, counter_after}
 use Rattle.card_retention.specs.Expected.{is_newest}

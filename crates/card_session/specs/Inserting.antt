@@ -7,9 +7,9 @@ use Rattle.card_layout.specs.Files.{place_of, size_of}
 use Rattle.tach_media.specs.Medium.{State, LiesInside, IsPartlyWritten, put}
 use Rattle.tacho_types.specs.declared.texts.Registration.{Registration}
 use Rattle.tacho_types.specs.Numbers.{time_bytes}
-use Rattle.card_records.specs.declared.card_event.CardEvent.{CardEvent}
-use Rattle.card_records.specs.declared.current_use.CurrentUse.{CurrentUse}
-use Rattle.card_records.specs.Noting.{HoldsEvent, IsNotingEvent, IsEventNoted}
+use Rattle.card_files.specs.declared.card_event.CardEvent.{CardEvent}
+use Rattle.card_files.specs.declared.current_use.CurrentUse.{CurrentUse}
+use Rattle.card_files.specs.Noting.{HoldsEvent, IsNotingEvent, IsEventNoted}
 use Rattle.card_model.specs.Days.{Day}
 use Rattle.card_model.specs.Changes.{Shorter, date_of, trimmed}
 use Rattle.card_image.specs.Fields.{file, current_use, session_time}

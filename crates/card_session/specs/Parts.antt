@@ -7,7 +7,7 @@ use Rattle.card_model.specs.Days.{Day}
 use Rattle.card_model.specs.Changes.{Remain, OnNewest, TakesWord, IsNext, date_of}
 use Rattle.card_retention.specs.Entries.{newest_word}
 use Rattle.tacho_types.specs.declared.texts.Registration.{Registration}
-use Rattle.cyclic_days.specs.Steps.{IsIdle}
+use Rattle.card_days.specs.Steps.{IsIdle}
 use Rattle.card_session.specs.Books.{Book, mark_of, with_change, with_new_day, day_words, gap_closed, entered_days, travelled, used, vehicles_with, with_entry, measured_to, last_used, begun_vehicle, vehicle_counter}
 use Rattle.card_session.specs.Sessions.{Session, KnowsCard, IsOpenBook, EndsStrictly, newest_in, book_of}
 use Rattle.card_session.specs.Moments.{IsBook, IsBeforeGap, IsBeforeWords, IsBeforeUse}

@@ -5,7 +5,7 @@ use Rattle.activity_codec.specs.declared.values.Activity.TheVariants.{Rest}
 use Rattle.activity_codec.specs.declared.entries.Entry.{Entry}
 use Rattle.activity_codec.specs.Words.{word_minute, word_absent}
 use Rattle.card_model.specs.Changes.{date_of}
-use Rattle.cyclic_days.specs.declared.head.Tail.{Tail}
+use Rattle.card_days.specs.declared.head.Tail.{Tail}
 use Rattle.card_session.specs.Books.{closing_word, entry_word}
 
 -- The word that closes at the minute after the mark, where the latest word is an entry's and that minute lies in the newest day.

@@ -1,8 +1,8 @@
 -- The vehicle entries of a card, all of them, in their order; and how one changes, or a new one comes (profile).
 use Rattle.std.specs.Prelude.{ℕ, Bool, true, false, Option, Some, None, option_map, List, [], ◌∷◌, ◌++◌, map, if◌then◌else◌}
 use Rattle.card_layout.specs.declared.files.Application.{Application}
-use Rattle.card_records.specs.declared.vehicle.Vehicle.{Vehicle}
-use Rattle.card_records.specs.Vehicles.{vehicle_of}
+use Rattle.card_files.specs.declared.vehicle.Vehicle.{Vehicle}
+use Rattle.card_files.specs.Vehicles.{vehicle_of}
 use Rattle.gated_ring.specs.Ring.{is_there, entry_at, order, taken}
 use Rattle.card_image.specs.Fields.{vehicle_ring, newest_vehicle, last_use_of}
 

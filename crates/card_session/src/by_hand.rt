@@ -10,7 +10,7 @@ ghost use Rattle.card_session.specs.ByHand.{IsCardByHand, IsCardEntering, IsByHa
 use crate::session::CardSession;
 use crate::words::{DAY_MINUTES, bare_word, is_newest_day};
 use activity_codec::Manual;
-use card_judge::date_of;
+use card_validity::date_of;
 use hand_model::manual_word;
 use tach_media::{Failed, Medium};
 use tacho_types::TimeReal;

@@ -9,7 +9,7 @@ ghost use Rattle.card_model.specs.Changes.{trimmed};
 ghost use Rattle.card_retention.specs.Expected.{Counted, with_entry};
 ghost use Rattle.card_retention.specs.Shown.{Bound, AllUpTo, is_open};
 ghost use Rattle.card_retention.specs.Entries.{newest_minute, newest_word, closed_at};
-ghost use Rattle.card_records.specs.Vehicles.{vehicle_of};
+ghost use Rattle.card_files.specs.Vehicles.{vehicle_of};
 ghost use Rattle.gated_ring.specs.Ring.{PointsInside, ring_list};
 ghost use Rattle.card_image.specs.Fields.{file_bytes, vehicle_ring, last_of, card_days, card_number, end_mark, session_time};
 ghost use Rattle.card_image.specs.Judging.{IsValid};

@@ -3,8 +3,8 @@
 ghost use Rattle.std.specs.Prelude.{◌≡◌, ◌⊎◌, ◌≤◌, ◌<◌, ◌+◌, ◌*◌, ◌/◌, ◌^◌, true, false, Some, None, List, ℕ, IfSome, IfNone, OnOk, is_err, max};
 ghost use Rattle.card_layout.specs.Application.{IsApplication};
 ghost use Rattle.tach_media.specs.Medium.{LeavesOnly, HasCause, IsSettled, last_count};
-ghost use Rattle.cyclic_days.specs.Held.{tail_of};
-ghost use Rattle.cyclic_days.specs.Plans.{most_drops};
+ghost use Rattle.card_days.specs.Held.{tail_of};
+ghost use Rattle.card_days.specs.Plans.{most_drops};
 ghost use Rattle.card_image.specs.Fields.{file, day_string, vehicle_ring, last_use_of};
 ghost use Rattle.card_session.specs.Books.{goes_on_in, goes_on_with, measured, closed};
 ghost use Rattle.card_session.specs.declared.words.TheConstants.{LATEST_MINUTE};
@@ -21,11 +21,10 @@ use crate::words::{
     DAY_MINUTES, bare_word, closing, distance, entry_change, entry_word, gap_word, is_newest_day,
 };
 use activity_codec::{Activity, Entry, Pick, WORD_MINUTES};
-use card_files::file_range;
-use card_judge::date_of;
+use card_files::{Vehicle, file_range, write_vehicle};
+use card_validity::date_of;
 use card_layout::{Application, Fid};
-use card_records::{Vehicle, write_vehicle};
-use cyclic_days::{Days, Tail};
+use card_days::{Days, Tail};
 use gated_ring::Ring;
 use std::marker::Model;
 use tach_media::{Failed, Medium};

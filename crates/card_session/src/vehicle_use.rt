@@ -5,7 +5,7 @@ ghost use Rattle.card_image.specs.Fields.{last_use_of};
 ghost use Rattle.card_session.specs.declared.words.TheConstants.{LATEST_MINUTE};
 
 use crate::words::{DAY_MINUTES, DAY_SECONDS};
-use card_records::Vehicle;
+use card_files::Vehicle;
 use tacho_types::{Bcd2, Odometer, Registration, TimeReal, read_bcd2, write_bcd2};
 
 /// When a vehicle was last used, in seconds since 1970-01-01; 0 without one.

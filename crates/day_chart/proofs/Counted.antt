@@ -2,7 +2,7 @@
 use Rattle.std.proofs.Common.{◌≡◌, ◌∙◌, ℕ, ◌+◌, List, [], ◌∷◌, ◌++◌, length, ap, sym, arith, append_assoc, append-nil}
 use Rattle.view_model.specs.declared.Viewed.{Viewed}
 use Rattle.view_model.specs.declared.Line.{Line}
-use Rattle.history_view.specs.Histories.{minutes_on}
+use Rattle.file_view.specs.Histories.{minutes_on}
 use Rattle.slot_bars.specs.declared.seen.Seen.{Seen}
 use Rattle.slot_bars.specs.DaysOf.{days_of}
 use Rattle.day_chart.specs.Bars.{bar_text, bars_text}

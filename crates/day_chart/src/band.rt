@@ -3,7 +3,7 @@ ghost use Rattle.std.specs.Prelude.{◌≡◌, ◌≤◌, ◌++◌, OnOk, List, 
 ghost use Rattle.view_model.specs.declared.Viewed.{Viewed as ViewedMinute};
 ghost use Rattle.slot_bars.specs.declared.seen.Seen.{Seen as MinuteSeen};
 ghost use Rattle.slot_bars.specs.Seeing.{bars_of};
-ghost use Rattle.history_view.specs.Histories.{minutes_on};
+ghost use Rattle.file_view.specs.Histories.{minutes_on};
 ghost use Rattle.day_chart.specs.Bars.{bars_text};
 ghost use Rattle.day_chart.specs.Chart.{sums_text, lane_text, band_head};
 

@@ -2,7 +2,7 @@
 ghost use Rattle.std.specs.Prelude.{◌≡◌, ◌++◌, IfOk, OnOk, ℕ, List};
 ghost use Rattle.tacho_types.specs.Calendar.{IsDateText};
 ghost use Rattle.view_model.specs.Lines.{same_unit, same_card};
-ghost use Rattle.history_view.specs.Histories.{AreLines, minutes_on};
+ghost use Rattle.file_view.specs.Histories.{AreLines, minutes_on};
 ghost use Rattle.slot_bars.specs.DayLines.{IsOneDay};
 ghost use Rattle.slot_bars.specs.DaysOf.{day_of};
 ghost use Rattle.day_chart.specs.Chart.{IsUnitChart, IsCardChart, unit_band, card_band};

@@ -6,8 +6,8 @@ use Rattle.std.proofs.lemmas.List.Sums.{sum_by-cons, sum_by-append, count_by-le-
 use Rattle.activity_codec.proofs.ByTest.{by_test}
 use Rattle.view_model.specs.declared.Viewed.{Viewed}
 use Rattle.view_model.specs.declared.Line.{Line}
-use Rattle.history_view.specs.Histories.{line_minutes, minutes_on}
-use Rattle.history_view.proofs.Lines.{minutes_back}
+use Rattle.file_view.specs.Histories.{line_minutes, minutes_on}
+use Rattle.file_view.proofs.Lines.{minutes_back}
 use Rattle.slot_bars.specs.declared.seen.Seen.{Seen}
 use Rattle.slot_bars.specs.Seeing.{same_seen, bars_of}
 use Rattle.slot_bars.specs.Exact.{seen_exact}

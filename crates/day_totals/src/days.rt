@@ -1,6 +1,6 @@
 //! The totals of days, one after the other.
 ghost use Rattle.std.specs.Prelude.{◌≡◌, ◌≤◌, ◌<◌, ◌++◌, IfOk, OnOk, ℕ, List, length};
-ghost use Rattle.history_view.specs.Histories.{AreLines, minutes_on};
+ghost use Rattle.file_view.specs.Histories.{AreLines, minutes_on};
 ghost use Rattle.view_model.specs.Lines.{same_unit, same_card};
 ghost use Rattle.slot_bars.specs.DayLines.{IsOneDay};
 ghost use Rattle.slot_bars.specs.DaysOf.{day_of};

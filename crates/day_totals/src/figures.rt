@@ -1,6 +1,6 @@
 //! What is counted of the minutes of a day.
 ghost use Rattle.std.specs.Prelude.{◌≡◌, ◌≤◌, ◌==◌, length};
-ghost use Rattle.history_view.specs.Histories.{minutes_on};
+ghost use Rattle.file_view.specs.Histories.{minutes_on};
 ghost use Rattle.day_totals.specs.Figures.{counts, is_with_card, figure_name, total, line_total, distance_on};
 
 use activity_codec::Activity;

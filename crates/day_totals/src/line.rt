@@ -1,6 +1,6 @@
 //! The line of totals of a day.
 ghost use Rattle.std.specs.Prelude.{◌≡◌, ◌≤◌, ◌++◌, OnOk, length};
-ghost use Rattle.history_view.specs.Histories.{minutes_on};
+ghost use Rattle.file_view.specs.Histories.{minutes_on};
 ghost use Rattle.day_totals.specs.Text.{duration_text, figure_text, distance_text, totals_text};
 
 use crate::figures::{Figure, minutes_in};

@@ -5,8 +5,8 @@ use Rattle.std.proofs.lemmas.Bool.Decides.{nat_tests}
 use Rattle.std.proofs.lemmas.List.{length-take-le, take-append-drop}
 use Rattle.tach_media.specs.Medium.{State, LeavesOnly, Reads, put, IsPartlyWritten}
 use Rattle.tach_media.proofs.Runs.{weaken, after_reads, at_image, if_told}
-use Rattle.write_plan.specs.Plan.{Piece, piece, put_all, IsPartway, PutsAll, PutsBy}
-use Rattle.write_plan.proofs.Plans.{put_all-append, partway_either, puts_by}
+use Rattle.tach_media.specs.Plan.{Piece, piece, put_all, IsPartway, PutsAll, PutsBy}
+use Rattle.tach_media.proofs.Plans.{put_all-append, partway_either, puts_by}
 use Rattle.gated_ring.specs.declared.room.Room.{Room}
 use Rattle.gated_ring.specs.Ring.{Shape, IsShape, size_of, place_of, gate_of, pointer, PointsInside, is_there, taken, gate_bytes, gate_number, number_at}
 use Rattle.gated_ring.specs.Change.{IsAdding, IsAdded, IsReplaced, IsReplacingEntry, pointer_writes, adding_writes}

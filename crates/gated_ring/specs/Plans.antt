@@ -1,7 +1,7 @@
 -- The writes of the calls on a ring, in their order.
 use Rattle.std.specs.Prelude.{ℕ, ◌+◌, ◌-◌, Bool, List, [], ◌∷◌, ◌++◌, length, take, drop, replicate, if◌then◌else◌, ◌==◌}
 use Rattle.std.specs.Int.{to_be_bytes, w32}
-use Rattle.write_plan.specs.Plan.{Piece, piece}
+use Rattle.tach_media.specs.Plan.{Piece, piece}
 use Rattle.gated_ring.specs.declared.room.Room.{Room}
 use Rattle.gated_ring.specs.Ring.{Shape, place_of, gate_of, pointer, is_there, taken, gate_bytes}
 

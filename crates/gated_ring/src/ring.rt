@@ -1,7 +1,7 @@
 ghost use Rattle.std.specs.Prelude.{◌≡◌, ◌≢◌, ◌≤◌, ◌<◌, ◌+◌, ◌^◌, min, length, take, drop, IfOk, OnOk, IfSome, is_err, true, IsTrue, IsFalse, IfErr, IsOk, ◌⊎◌, ◌*◌, ◌-◌};
 ghost use Rattle.std.specs.List.{range_with_len};
 ghost use Rattle.tach_media.specs.Medium.{bytes_at, LeavesOnly, Reads, HasCause, LiesInside, IsSettled, Rose, last_count};
-ghost use Rattle.write_plan.specs.Plan.{PutsAll, PutsBy, more};
+ghost use Rattle.tach_media.specs.Plan.{PutsAll, PutsBy, more};
 ghost use Rattle.gated_ring.specs.Ring.{IsShape, FitsIn, size_of, is_pointer_width, place_of, gate_of, gate_bytes, gate_number, is_there, IsNewest, pointer, PointsInside, number_at, next, taken};
 ghost use Rattle.gated_ring.specs.Change.{adding_writes, replacing_writes, IsAdding, IsAdded, IsReplaced, IsReplacingEntry, IsClosed, IsSet, OrUnwritten};
 ghost use Rattle.gated_ring.specs.Plans.{some_piece, shut_pieces, body_pieces, pointer_pieces, gate_pieces, placing_pieces, adding_pieces, exchanging_pieces, replacing_pieces};
@@ -9,8 +9,7 @@ ghost use Rattle.gated_ring.specs.Searching.{IsNewestOf};
 
 use crate::{RingFault, Room};
 use std::marker::Model;
-use tach_media::{Failed, Medium, read_number};
-use write_plan::{Plan, put_pieces};
+use tach_media::{Failed, Medium, Plan, put_pieces, read_number};
 
 /// A place and a shape inside a medium: a pointer, which may be absent, and then `count` places of `width` bytes.
 /// An entry is there where its gate, a number of four bytes, is not 0. Such are the card's files with a pointer to the

@@ -1,1 +1,5 @@
 pub mod Turns
+pub mod Pieces
+pub mod Checking
+pub mod Runs
+pub mod Parts

@@ -8,10 +8,10 @@ use Rattle.tach_media.specs.Medium.{State}
 use Rattle.unit_messages.specs.declared.joining.TheConstants.{LONGEST}
 use Rattle.link_model.specs.Answers.{Idle}
 use Rattle.unit_model.specs.Decoding.{first_bad_place}
-use Rattle.transfer_session.specs.Told.{SessionView, Knows, is_judged, fresh}
-use Rattle.downloader.specs.declared.fault.LoadFault.{LoadFault}
-use Rattle.downloader.specs.declared.fault.LoadFault.TheVariants as load
-use Rattle.downloader.specs.Loading.{Load, IsRefused, LeavesSink}
+use Rattle.link_session.specs.Told.{SessionView, Knows, is_judged, fresh}
+use Rattle.link_loader.specs.declared.fault.LoadFault.{LoadFault}
+use Rattle.link_loader.specs.declared.fault.LoadFault.TheVariants as load
+use Rattle.link_loader.specs.Loading.{Load, IsRefused, LeavesSink}
 use Rattle.unit_download.specs.declared.wire.Passed.{Passed}
 use Rattle.unit_download.specs.declared.fault.DownloadFault.{DownloadFault}
 use Rattle.unit_download.specs.declared.fault.DownloadFault.TheVariants.{Failed, BadUnit, Changed, WriteFault, Memory}

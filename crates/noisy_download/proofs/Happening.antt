@@ -2,8 +2,8 @@
 use Rattle.std.proofs.Common.{◌≡◌, ◌∙◌, ℕ, ◌≤◌, Bool, true, false, List, [], ◌∷◌, ◌++◌, Option, Some, None, IfSome, Result, Ok, Err, refl, sym, ap, subst}
 use Rattle.std.specs.Prelude.{IsErrAnd}
 use Rattle.tach_media.specs.Medium.{State}
-use Rattle.transfer_session.specs.Told.{SessionView, Knows}
-use Rattle.downloader.specs.Loading.{Load}
+use Rattle.link_session.specs.Told.{SessionView, Knows}
+use Rattle.link_loader.specs.Loading.{Load}
 use Rattle.unit_download.specs.declared.wire.Passed.{Passed}
 use Rattle.unit_download.specs.declared.fault.DownloadFault.{DownloadFault}
 use Rattle.unit_download.specs.declared.fault.DownloadFault.TheVariants.{Memory}

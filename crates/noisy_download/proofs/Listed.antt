@@ -1,8 +1,8 @@
 -- A talk over a link that keeps all, with the exchanges that have passed in it.
 use Rattle.std.proofs.Common.{◌≡◌, ◌∙◌, ℕ, List, [], ◌∷◌, ◌++◌, Option, Some, refl, sym, ap, subst, append_assoc, append-nil}
-use Rattle.transfer_session.specs.Told.{SessionView}
-use Rattle.downloader.specs.Loading.{Load}
-use Rattle.downloader.specs.Talking.{Talk, fresh_talk}
+use Rattle.link_session.specs.Told.{SessionView}
+use Rattle.link_loader.specs.Loading.{Load}
+use Rattle.link_loader.specs.Talking.{Talk, fresh_talk}
 use Rattle.unit_download.specs.declared.wire.Passed.{Passed}
 use Rattle.unit_download.specs.Wires.{of_loader, of_unit, Runs}
 use Rattle.unit_download.proofs.Linked.{runs_on}

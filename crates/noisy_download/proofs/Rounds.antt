@@ -6,9 +6,9 @@ use Rattle.tach_media.proofs.Runs.{err_is}
 use Rattle.unit_memory.proofs.Told.{told_all}
 use Rattle.unit_messages.specs.declared.joining.TheConstants.{LONGEST}
 use Rattle.link_model.specs.Answers.{Idle}
-use Rattle.transfer_session.specs.Told.{SessionView, Knows, fresh}
-use Rattle.downloader.specs.Stages.{sent_at}
-use Rattle.downloader.specs.Loading.{Loading, Load, begun}
+use Rattle.link_session.specs.Told.{SessionView, Knows, fresh}
+use Rattle.link_loader.specs.Stages.{sent_at}
+use Rattle.link_loader.specs.Loading.{Loading, Load, begun}
 use Rattle.unit_download.specs.declared.wire.Passed.{Passed}
 use Rattle.unit_download.specs.declared.fault.DownloadFault.{DownloadFault}
 use Rattle.unit_download.specs.declared.fault.DownloadFault.TheVariants.{Memory}

@@ -13,14 +13,14 @@ use Rattle.unit_messages.proofs.Calls.{no_call}
 use Rattle.link_model.specs.declared.request.Request.{Request}
 use Rattle.link_model.specs.Frames.{Right}
 use Rattle.link_model.specs.Answers.{LinkState, Idle}
-use Rattle.answer_table.specs.Asking.{asks_unit}
-use Rattle.transfer_session.specs.Told.{SessionView, Knows, is_judged, fresh}
-use Rattle.downloader.specs.declared.stage.Stage.{Stage}
-use Rattle.downloader.specs.declared.stage.Stage.TheVariants.{Start, Diagnostic, Upload, Asked, Acknowledged, Exit, Stop, Finished}
-use Rattle.downloader.specs.declared.fault.LoadFault.{LoadFault}
-use Rattle.downloader.specs.declared.fault.LoadFault.TheVariants as load
-use Rattle.downloader.specs.Stages.{sent_at}
-use Rattle.downloader.specs.Loading.{Loading, Load, IsRefused, LeavesSink}
+use Rattle.link_frames.specs.Asking.{asks_unit}
+use Rattle.link_session.specs.Told.{SessionView, Knows, is_judged, fresh}
+use Rattle.link_loader.specs.declared.stage.Stage.{Stage}
+use Rattle.link_loader.specs.declared.stage.Stage.TheVariants.{Start, Diagnostic, Upload, Asked, Acknowledged, Exit, Stop, Finished}
+use Rattle.link_loader.specs.declared.fault.LoadFault.{LoadFault}
+use Rattle.link_loader.specs.declared.fault.LoadFault.TheVariants as load
+use Rattle.link_loader.specs.Stages.{sent_at}
+use Rattle.link_loader.specs.Loading.{Loading, Load, IsRefused, LeavesSink}
 use Rattle.unit_download.specs.declared.wire.Passed.{Passed}
 use Rattle.unit_download.specs.declared.fault.DownloadFault.{DownloadFault}
 use Rattle.unit_download.specs.declared.fault.DownloadFault.TheVariants.{Failed, BadUnit, Changed, WriteFault, Memory}

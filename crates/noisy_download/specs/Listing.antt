@@ -4,8 +4,8 @@ use Rattle.std.specs.List.{AllByRecursion}
 use Rattle.std.specs.Io.KnownBytes.{Appends}
 use Rattle.unit_messages.specs.declared.joining.TheConstants.{LONGEST}
 use Rattle.link_model.specs.Answers.{Idle}
-use Rattle.transfer_session.specs.Told.{SessionView, Knows, fresh}
-use Rattle.downloader.specs.Loading.{Load, Takes, begun}
+use Rattle.link_session.specs.Told.{SessionView, Knows, fresh}
+use Rattle.link_loader.specs.Loading.{Load, Takes, begun}
 use Rattle.unit_download.specs.declared.wire.Passed.{Passed}
 use Rattle.unit_download.specs.declared.fault.DownloadFault.{DownloadFault}
 use Rattle.unit_download.specs.Wires.{of_loader, of_unit}

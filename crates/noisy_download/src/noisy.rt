@@ -2,8 +2,8 @@ ghost use Rattle.std.specs.Prelude.{◌≡◌, ◌≤◌, [], ℕ, List, Option,
 ghost use Rattle.tach_media.specs.Medium.{Rose};
 ghost use Rattle.unit_model.specs.declared.layout.TheConstants.{IMAGE_SIZE};
 ghost use Rattle.unit_model.specs.Image.{IsUnit};
-ghost use Rattle.unit_journal.specs.Reading.{ReadsIfAny};
-ghost use Rattle.transfer_session.specs.Told.{Knows};
+ghost use Rattle.unit_minutes.specs.Reading.{ReadsIfAny};
+ghost use Rattle.link_session.specs.Told.{Knows};
 ghost use Rattle.unit_download.specs.Ending.{has_failed};
 ghost use Rattle.noisy_model.specs.Ends.{request_of};
 ghost use Rattle.noisy_link.specs.Sides.{asked};
@@ -12,7 +12,7 @@ ghost use Rattle.noisy_download.specs.Ending.{IsDownloaded};
 ghost use Rattle.noisy_download.specs.Listing.{Goes, IsListed, RequestIsListed, AnswerIsListed, IsUnderway};
 
 use crate::draws::drawn_event;
-use demo_trace::next_drawn;
+use trace_text::next_drawn;
 use link_frames::End;
 use noisy_link::{MOST_PACKETS, World};
 use noisy_model::Event;

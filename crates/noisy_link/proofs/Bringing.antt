@@ -3,8 +3,8 @@ use Rattle.std.proofs.Common.{◌≡◌, ◌∙◌, ℕ, ◌+◌, ◌<◌, Bool,
 use Rattle.std.specs.Prelude.{◌==◌, ◌&&◌, nat_lt, is_none, is_some, option_map, if◌then◌else◌, not}
 use Rattle.std.specs.Io.KnownBytes.{Appends}
 use Rattle.std.proofs.lemmas.Bool.Decides.{nat_tests}
-use Rattle.downloader.specs.Loading.{Load, Takes}
-use Rattle.downloader.specs.declared.fault.LoadFault.{LoadFault}
+use Rattle.link_loader.specs.Loading.{Load, Takes}
+use Rattle.link_loader.specs.declared.fault.LoadFault.{LoadFault}
 use Rattle.noisy_model.specs.declared.packet.Packet.{Packet}
 use Rattle.noisy_model.specs.Ends.{LoaderEnd, Taken, TakesBy, packet, no_number, brought}
 use Rattle.noisy_link.specs.Sides.{asked, Loads, TakesPacket}

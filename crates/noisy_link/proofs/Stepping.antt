@@ -6,13 +6,13 @@ use Rattle.std.proofs.KnownBytes.{Appends-nil, Appends-kept, Keeps-refl}
 use Rattle.std.proofs.lemmas.Bool.Decides.{nat_tests}
 use Rattle.link_model.specs.declared.request.Request.{Request}
 use Rattle.link_model.specs.Frames.{Right}
-use Rattle.answer_table.specs.Asking.{asks_unit}
-use Rattle.transfer_session.specs.Told.{SessionView, is_judged}
-use Rattle.downloader.specs.declared.kind.Kind.TheVariants.{Piece}
-use Rattle.downloader.specs.declared.fault.LoadFault.{LoadFault}
-use Rattle.downloader.specs.declared.fault.LoadFault.TheVariants as load
-use Rattle.downloader.specs.Coming.{kind_of}
-use Rattle.downloader.specs.Loading.{Load, IsRefused, LeavesSink, with_piece}
+use Rattle.link_frames.specs.Asking.{asks_unit}
+use Rattle.link_session.specs.Told.{SessionView, is_judged}
+use Rattle.link_loader.specs.declared.kind.Kind.TheVariants.{Piece}
+use Rattle.link_loader.specs.declared.fault.LoadFault.{LoadFault}
+use Rattle.link_loader.specs.declared.fault.LoadFault.TheVariants as load
+use Rattle.link_loader.specs.Coming.{kind_of}
+use Rattle.link_loader.specs.Loading.{Load, IsRefused, LeavesSink, with_piece}
 use Rattle.unit_download.specs.declared.fault.DownloadFault.{DownloadFault}
 use Rattle.unit_download.specs.declared.fault.DownloadFault.TheVariants.{Failed, BadUnit, Changed, WriteFault, Memory}
 use Rattle.noisy_model.specs.declared.packet.Packet.{Packet}

@@ -3,9 +3,9 @@ use Rattle.std.proofs.Common.{◌≡◌, ◌∙◌, ℕ, List, [], ◌∷◌, �
 use Rattle.link_model.specs.Frames.{Right}
 use Rattle.link_model.specs.Answers.{LinkState, Idle, answered}
 use Rattle.message_model.specs.Sending.{content_sent}
-use Rattle.transfer_session.specs.Told.{SessionView, fresh}
-use Rattle.downloader.specs.Loading.{Loading, Load, begun}
-use Rattle.downloader.specs.Talking.{Talk, fresh_talk}
+use Rattle.link_session.specs.Told.{SessionView, fresh}
+use Rattle.link_loader.specs.Loading.{Loading, Load, begun}
+use Rattle.link_loader.specs.Talking.{Talk, fresh_talk}
 use Rattle.unit_download.specs.declared.wire.Passed.{Passed}
 use Rattle.unit_download.specs.Wires.{of_loader, of_unit, talk_of, Exchanged, Runs}
 use Rattle.noisy_model.specs.Ends.{Taken}

@@ -8,13 +8,13 @@ use Rattle.unit_model.specs.Decoding.{Decodes}
 use Rattle.unit_memory.proofs.Told.{told_all}
 use Rattle.link_model.specs.Answers.{Idle}
 use Rattle.message_model.specs.Sending.{unit_file}
-use Rattle.transfer_session.specs.Told.{SessionView, Knows, is_judged, fresh}
-use Rattle.downloader.specs.declared.stage.Stage.TheVariants.{Finished}
-use Rattle.downloader.specs.Loading.{Loading, Load, begun}
-use Rattle.downloader.specs.Talking.{Talk}
+use Rattle.link_session.specs.Told.{SessionView, Knows, is_judged, fresh}
+use Rattle.link_loader.specs.declared.stage.Stage.TheVariants.{Finished}
+use Rattle.link_loader.specs.Loading.{Loading, Load, begun}
+use Rattle.link_loader.specs.Talking.{Talk}
 use Rattle.unit_download.specs.Wires.{of_loader, of_unit, talk_of}
 use Rattle.unit_download.proofs.Opening.{Opens, Begins, begins_next, judged_next}
-use Rattle.unit_download.proofs.Told.{Sized, whole_told, front_told}
+use Rattle.unit_download.proofs.ToldUnit.{Sized, whole_told, front_told}
 use Rattle.unit_download.proofs.Talking.{fresh_knows, known_by}
 use Rattle.noisy_model.specs.declared.event.Event.{Event}
 use Rattle.noisy_model.specs.Ends.{Taken}

@@ -10,14 +10,14 @@ use Rattle.link_model.specs.Answers.{Idle, LinkState, Reply, answered}
 use Rattle.message_model.specs.Messages.{Message, IsMessage, message_bytes}
 use Rattle.message_model.specs.Sending.{content_sent, messages_of, unit_file}
 use Rattle.message_model.proofs.Reading.{one_way}
-use Rattle.transfer_session.specs.Told.{SessionView, fresh}
-use Rattle.downloader.specs.declared.stage.Stage.TheVariants.{Finished}
-use Rattle.downloader.specs.Stages.{sent_at}
-use Rattle.downloader.specs.declared.fault.LoadFault.{LoadFault}
-use Rattle.downloader.specs.Loading.{Loading, Load, begun, Takes, IsRefused}
-use Rattle.downloader.specs.Talking.{fresh_talk, Talks as FrameTalks, IsUnitImage}
-use Rattle.downloader.proofs.Downloading.{whole_file, front_of_file, talk_goes_on}
-use Rattle.downloader.proofs.ImageMessages.{can_be_loaded, file_good}
+use Rattle.link_session.specs.Told.{SessionView, fresh}
+use Rattle.link_loader.specs.declared.stage.Stage.TheVariants.{Finished}
+use Rattle.link_loader.specs.Stages.{sent_at}
+use Rattle.link_loader.specs.declared.fault.LoadFault.{LoadFault}
+use Rattle.link_loader.specs.Loading.{Loading, Load, begun, Takes, IsRefused}
+use Rattle.link_loader.specs.Talking.{fresh_talk, Talks as FrameTalks, IsUnitImage}
+use Rattle.link_loader.proofs.Downloading.{whole_file, front_of_file, talk_goes_on}
+use Rattle.link_loader.proofs.ImageMessages.{can_be_loaded, file_good}
 use Rattle.unit_download.specs.Wires.{talk_of}
 use Rattle.unit_download.specs.Ending.{IsOfFrame}
 use Rattle.unit_download.proofs.Linked.{answers_in, talks}

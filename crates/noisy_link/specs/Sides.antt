@@ -5,13 +5,13 @@ use Rattle.std.specs.Io.KnownBytes.{Appends}
 use Rattle.link_model.specs.Frames.{Right}
 use Rattle.link_model.specs.declared.request.Request.{Request}
 use Rattle.link_model.specs.Answers.{LinkState, Idle, answered}
-use Rattle.answer_table.specs.Asking.{asks_unit}
-use Rattle.transfer_session.specs.Told.{SessionView, Knows, is_judged, fresh}
-use Rattle.downloader.specs.Stages.{sent_at}
-use Rattle.downloader.specs.Loading.{Load, Takes, left_by}
+use Rattle.link_frames.specs.Asking.{asks_unit}
+use Rattle.link_session.specs.Told.{SessionView, Knows, is_judged, fresh}
+use Rattle.link_loader.specs.Stages.{sent_at}
+use Rattle.link_loader.specs.Loading.{Load, Takes, left_by}
 use Rattle.unit_download.specs.Wires.{Replies}
-use Rattle.downloader.specs.declared.fault.LoadFault.{LoadFault}
-use Rattle.downloader.specs.declared.fault.LoadFault.TheVariants.{Memory}
+use Rattle.link_loader.specs.declared.fault.LoadFault.{LoadFault}
+use Rattle.link_loader.specs.declared.fault.LoadFault.TheVariants.{Memory}
 use Rattle.noisy_model.specs.declared.packet.Packet.{Packet}
 use Rattle.noisy_model.specs.Ends.{Sides, LoaderEnd, Taken, TakesBy, brought}
 use Rattle.noisy_model.specs.Worlds.{World, fresh_world}

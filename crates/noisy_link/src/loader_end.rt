@@ -2,12 +2,12 @@ ghost use Rattle.std.specs.Prelude.{◌≡◌, ◌≤◌, ◌+◌, ◌<◌, ◌^
 ghost use Rattle.std.specs.Io.KnownBytes.{Appends};
 ghost use Rattle.tach_media.specs.Medium.{Rose};
 ghost use Rattle.unit_messages.specs.declared.joining.TheConstants.{LONGEST};
-ghost use Rattle.downloader.specs.Loading.{begun, left_by, with_piece, LeavesSink, IsRefused};
+ghost use Rattle.link_loader.specs.Loading.{begun, left_by, with_piece, LeavesSink, IsRefused};
 ghost use Rattle.noisy_model.specs.Ends.{Taken, request_of, brought};
 ghost use Rattle.noisy_link.specs.Sides.{asked, is_over, TakesPacket, LeavesEnd, number_left};
 
 use crate::unit_end::copy_of_any;
-use downloader::{Downloader, LoadFault};
+use link_loader::{Downloader, LoadFault};
 use link_frames::Frame;
 use noisy_model::Packet;
 use std::alloc::Global;
@@ -24,7 +24,7 @@ pub struct LoaderEnd {
 
 impl Model for LoaderEnd {
     ghost use Rattle.noisy_model.specs.Ends.{LoaderEnd as Asking};
-    ghost use Rattle.downloader.specs.Loading.{Load};
+    ghost use Rattle.link_loader.specs.Loading.{Load};
 
     ghost Value = { Asking Load };
 

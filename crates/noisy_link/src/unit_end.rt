@@ -3,9 +3,9 @@ ghost use Rattle.std.specs.Prelude.{◌≡◌, ◌+◌, ◌==◌, ℕ, List, tru
 ghost use Rattle.link_model.specs.Answers.{Idle};
 ghost use Rattle.link_model.specs.Frames.{Right};
 ghost use Rattle.unit_model.specs.Decoding.{first_bad_place};
-ghost use Rattle.unit_journal.specs.Reading.{ReadsIfAny};
-ghost use Rattle.answer_table.specs.Asking.{asks_unit};
-ghost use Rattle.transfer_session.specs.Told.{Knows, is_judged, fresh, IfBadUnit, has_failed};
+ghost use Rattle.unit_minutes.specs.Reading.{ReadsIfAny};
+ghost use Rattle.link_frames.specs.Asking.{asks_unit};
+ghost use Rattle.link_session.specs.Told.{Knows, is_judged, fresh, IfBadUnit, has_failed};
 ghost use Rattle.noisy_model.specs.Ends.{Hears, New, packet, arrival_by};
 ghost use Rattle.link_frames.specs.Seen.{meant};
 ghost use Rattle.noisy_link.specs.Sides.{IsReply};
@@ -14,7 +14,7 @@ use link_frames::{Frame, Seen};
 use noisy_model::Packet;
 use std::marker::Model;
 use tach_media::Medium;
-use transfer_session::{AnswerFault, Session};
+use link_session::{AnswerFault, Session};
 
 /// The end of a noisy link that a unit has. It answers each new request once, by a session, and the last one that comes again by the
 /// answer that it keeps.
@@ -27,7 +27,7 @@ pub struct UnitEnd {
 
 impl Model for UnitEnd {
     ghost use Rattle.noisy_model.specs.Ends.{UnitEnd as Answering};
-    ghost use Rattle.transfer_session.specs.Told.{SessionView};
+    ghost use Rattle.link_session.specs.Told.{SessionView};
 
     ghost Value = { Answering SessionView };
 

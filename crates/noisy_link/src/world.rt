@@ -1,11 +1,11 @@
 ghost use Rattle.unit_model.specs.declared.layout.TheConstants.{IMAGE_SIZE};
 ghost use Rattle.std.specs.Prelude.{false, ◌≡◌, ◌≤◌, ◌<◌, ◌-◌, ◌++◌, ◌==◌, ◌&&◌, not, is_none, ℕ, Some, OnOk, IfOk, IfErr, IfSome, IsErrOf, option_to_list, length, slice_get};
 ghost use Rattle.tach_media.specs.Medium.{Rose};
-ghost use Rattle.unit_journal.specs.Reading.{ReadsIfAny};
+ghost use Rattle.unit_minutes.specs.Reading.{ReadsIfAny};
 ghost use Rattle.unit_messages.specs.declared.joining.TheConstants.{LONGEST};
-ghost use Rattle.transfer_session.specs.Told.{Knows, fresh};
+ghost use Rattle.link_session.specs.Told.{Knows, fresh};
 ghost use Rattle.link_model.specs.Answers.{Idle};
-ghost use Rattle.downloader.specs.Loading.{Load, begun};
+ghost use Rattle.link_loader.specs.Loading.{Load, begun};
 ghost use Rattle.unit_download.specs.Ending.{has_failed};
 ghost use Rattle.noisy_model.specs.Ends.{request_of};
 ghost use Rattle.noisy_model.specs.Worlds.{fresh_world};
@@ -14,13 +14,13 @@ ghost use Rattle.noisy_link.specs.Steps.{frame_of, brought_by, IsHearing, IsTaki
 
 use crate::loader_end::LoaderEnd;
 use crate::unit_end::UnitEnd;
-use downloader::LoadFault;
+use link_loader::LoadFault;
 use link_frames::Frame;
 use noisy_model::{Event, Packet};
 use std::alloc::Global;
 use std::marker::Model;
 use tach_media::{Medium, Memory, Sink};
-use transfer_session::AnswerFault;
+use link_session::AnswerFault;
 use unit_download::DownloadFault;
 
 /// As many packets as go each way at most.
@@ -37,8 +37,8 @@ pub struct World {
 
 impl Model for World {
     ghost use Rattle.std.specs.Prelude.{◌≤◌, length};
-    ghost use Rattle.transfer_session.specs.Told.{SessionView};
-    ghost use Rattle.downloader.specs.Loading.{Load};
+    ghost use Rattle.link_session.specs.Told.{SessionView};
+    ghost use Rattle.link_loader.specs.Loading.{Load};
     ghost use Rattle.noisy_model.specs.Worlds.{World as NoisyWorld};
 
     ghost Value = { NoisyWorld SessionView Load };

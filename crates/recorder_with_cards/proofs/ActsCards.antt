@@ -13,25 +13,25 @@ use Rattle.log_model.specs.declared.lines.SlotFault.{SlotFault}
 use Rattle.log_model.specs.Log.{RunLog, In, cut_in, is_torn_in, found_in}
 use Rattle.log_model.specs.Slots.{refusal}
 use Rattle.log_model.specs.Course.{Before, Course, went}
-use Rattle.slot_machine.specs.Calls.{seat_in, card_in, logged}
+use Rattle.card_slots.specs.Calls.{seat_in, card_in, logged}
 use Rattle.safety_model.specs.Safe.{Devices}
 use Rattle.run_rings.specs.Notes.{course_behind}
 use Rattle.run_course.specs.Moments.{and_break, and_refused}
 use Rattle.run_course.proofs.Lookups.{break-more, refusal-more}
-use Rattle.run_moments.specs.Reached.{course_at}
-use Rattle.run_evented.specs.Uses.{notes_now, uses_in}
-use Rattle.run_evented.proofs.Exact.{fewer-none}
-use Rattle.run_ringed.proofs.SoFar.{left-itself, failed-more}
-use Rattle.run_keeping.specs.Keeping.{with_lines}
+use Rattle.run_course.specs.Reached.{course_at}
+use Rattle.run_note_record.specs.Uses.{notes_now, uses_in}
+use Rattle.run_note_record.proofs.Exact.{fewer-none}
+use Rattle.run_note_record.proofs.SoFar.{left-itself, failed-more}
+use Rattle.run_minutes.specs.Keeping.{with_lines}
 use Rattle.run_outcome.specs.declared.outcome.Outcome.{Outcome}
-use Rattle.run_recorded.specs.Origin.{Origin}
-use Rattle.run_within.specs.Within.{Beginning}
+use Rattle.run_promise.specs.Origin.{Origin}
+use Rattle.run_record.specs.Within.{Beginning}
 use Rattle.run_acts.specs.declared.run.Run.{Run}
 use Rattle.run_acts.specs.Acting.{pulled_breaks}
 use Rattle.run_acts.specs.Recording.{log_of, values_of, RunWithin, RunGoesOn, IsNow}
 use Rattle.run_acts.specs.RunCards.{CardsBehind, CardsIn, CardsAction}
-use Rattle.unit_course.specs.Lines.{cut_at}
-use Rattle.run_ringed.specs.SoFar.{GoesBehind}
+use Rattle.run_unit_course.specs.Lines.{cut_at}
+use Rattle.run_note_record.specs.RingsSoFar.{GoesBehind}
 use Rattle.run_acts.specs.RunRinged.{with_cut}
 use Rattle.run_acts.proofs.Asked.{pulls-one}
 use Rattle.run_acts.proofs.RingedSecond.{cut-is, here-append, power-here}

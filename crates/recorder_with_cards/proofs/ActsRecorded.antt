@@ -8,24 +8,24 @@ use Rattle.trace_model.specs.Trace.{TraceSecond}
 use Rattle.log_model.specs.declared.lines.SlotFault.{SlotFault}
 use Rattle.log_model.specs.Log.{In}
 use Rattle.log_model.specs.Slots.{refusal}
-use Rattle.slot_machine.specs.Calls.{logged}
-use Rattle.slot_machine.proofs.Refusing.{refuse-alike}
-use Rattle.unit_course.specs.Followed.{Lost as IsLost}
+use Rattle.card_slots.specs.Calls.{logged}
+use Rattle.card_slots.proofs.Refusing.{refuse-alike}
+use Rattle.run_unit_course.specs.Followed.{Lost as IsLost}
 use Rattle.unit_model.specs.Image.{odometer_at}
 use Rattle.unit_rule.specs.Odometer.{odometer_after}
 use Rattle.safety_model.specs.Safe.{Devices}
 use Rattle.run_course.proofs.Presence.{slots-agree}
 use Rattle.run_crew.specs.declared.cabin.Cabin.{Cabin}
-use Rattle.run_moments.specs.Telling.{IsLeft}
+use Rattle.run_course.specs.Telling.{IsLeft}
 use Rattle.run_outcome.specs.declared.outcome.Outcome.{Outcome}
 use Rattle.run_outcome.specs.Lines.{cut_at}
-use Rattle.run_recorded.specs.Origin.{Origin, start_at}
-use Rattle.run_keeping.specs.Books.{HaveTime}
-use Rattle.run_keeping.specs.Keeping.{with_lines}
-use Rattle.run_within.specs.Recorded.{Values, Recorded}
-use Rattle.run_within.specs.Within.{Beginning, course_in, told_before, cut_values, passed_values}
-use Rattle.run_within.proofs.Acting.{refusal-recorded, selection-recorded, hand-recorded}
-use Rattle.run_within.proofs.Cutting.{cut-recorded, recounted}
+use Rattle.run_promise.specs.Origin.{Origin, start_at}
+use Rattle.run_minutes.specs.Books.{HaveTime}
+use Rattle.run_minutes.specs.Keeping.{with_lines}
+use Rattle.run_record.specs.Recorded.{Values, Recorded}
+use Rattle.run_record.specs.Within.{Beginning, course_in, told_before, cut_values, passed_values}
+use Rattle.run_record.proofs.Acting.{refusal-recorded, selection-recorded, hand-recorded}
+use Rattle.run_record.proofs.Cutting.{cut-recorded, recounted}
 use Rattle.run_acts.specs.declared.run.Run.{Run}
 use Rattle.run_acts.specs.Power.{is_lit, cut_run}
 use Rattle.run_acts.specs.Recording.{log_of, values_of, IsOrigin, RunWithin, RunCut, InSecondBy, InSecond, RunFails, RunGoesOn, IsNow}

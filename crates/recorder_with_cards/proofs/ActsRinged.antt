@@ -16,9 +16,9 @@ use Rattle.log_model.specs.declared.lines.SlotFault.{SlotFault}
 use Rattle.log_model.specs.Log.{RunLog, In}
 use Rattle.log_model.specs.Slots.{refusal}
 use Rattle.log_model.specs.Course.{Before, Course, Told, went}
-use Rattle.slot_machine.specs.Calls.{seat_in, card_in, logged}
-use Rattle.unit_course.specs.Lines.{cut_at}
-use Rattle.side_model.specs.Odometer.{SpanFrom}
+use Rattle.card_slots.specs.Calls.{seat_in, card_in, logged}
+use Rattle.run_unit_course.specs.Lines.{cut_at}
+use Rattle.note_model.specs.Odometer.{SpanFrom}
 use Rattle.safety_model.specs.Safe.{Devices}
 use Rattle.run_rings.specs.Notes.{NotesMore, course_behind}
 use Rattle.run_rings.specs.Spans.{with_second}
@@ -26,23 +26,23 @@ use Rattle.run_rings.proofs.Actions.{selections, pulls, entries, refusals}
 use Rattle.run_rings.proofs.Same.{rings-left}
 use Rattle.run_acts.proofs.NotesThen.{behind-refused}
 use Rattle.run_course.specs.Moments.{and_break, and_refused}
-use Rattle.run_moments.specs.Reached.{course_at}
-use Rattle.run_moments.specs.Telling.{IsLeft}
+use Rattle.run_course.specs.Reached.{course_at}
+use Rattle.run_course.specs.Telling.{IsLeft}
 use Rattle.unit_model.specs.Image.{odometer_at}
 use Rattle.unit_rule.specs.Odometer.{odometer_after}
-use Rattle.run_keeping.specs.Keeping.{with_lines}
+use Rattle.run_minutes.specs.Keeping.{with_lines}
 use Rattle.run_outcome.specs.declared.outcome.Outcome.{Outcome}
-use Rattle.run_recorded.specs.Origin.{Origin}
+use Rattle.run_promise.specs.Origin.{Origin}
 use Rattle.run_crew.specs.Cabin.{torn_out}
-use Rattle.run_within.specs.Within.{Beginning}
-use Rattle.run_evented.specs.Noting.{Acting}
-use Rattle.run_evented.specs.SoFar.{EventedNow}
-use Rattle.run_ringed.specs.SoFar.{RingedBehind, RingedIn}
-use Rattle.run_ringed.specs.Steps.{GoesOnTo, nobody, spans_cut}
-use Rattle.run_ringed.specs.Stored.{StoresOn, StoresOff}
-use Rattle.run_ringed.proofs.OnCards.{places-itself}
-use Rattle.run_ringed.proofs.SoFar.{left-itself}
-use Rattle.run_ringed.proofs.Steps.{passes}
+use Rattle.run_record.specs.Within.{Beginning}
+use Rattle.run_note_record.specs.Noting.{Acting}
+use Rattle.run_note_record.specs.EventsSoFar.{EventedNow}
+use Rattle.run_note_record.specs.RingsSoFar.{RingedBehind, RingedIn}
+use Rattle.run_note_record.specs.Steps.{GoesOnTo, nobody, spans_cut}
+use Rattle.run_note_record.specs.Stored.{StoresOn, StoresOff}
+use Rattle.run_note_record.proofs.OnCards.{places-itself}
+use Rattle.run_note_record.proofs.SoFar.{left-itself}
+use Rattle.run_note_record.proofs.RingSteps.{passes}
 use Rattle.run_acts.specs.declared.run.Run.{Run}
 use Rattle.run_acts.specs.declared.run.Power.TheVariants.{Lit}
 use Rattle.run_acts.specs.Power.{with_cabin, cut_run}

@@ -11,15 +11,14 @@ use Rattle.log_model.specs.Causes.{device_of}
 use Rattle.history_model.specs.Completeness.{IsMarked}
 use Rattle.tacho_types.specs.declared.texts.Registration.{Registration}
 use Rattle.safety_model.specs.Safe.{Devices}
-use Rattle.unit_course.specs.Followed.{Supply}
-use Rattle.unit_course.specs.Followed.{Lit as IsLit, Due as IsDue, Lost as IsLost}
+use Rattle.run_unit_course.specs.Followed.{Supply, Lit as IsLit, Due as IsDue, Lost as IsLost}
 use Rattle.run_crew.specs.declared.cards.Accepted.{Accepted}
 use Rattle.run_crew.specs.Cards.{session_of}
 use Rattle.run_crew.specs.Cabin.{Stands}
 use Rattle.run_outcome.specs.declared.outcome.Outcome.{Outcome}
-use Rattle.run_recorded.specs.Origin.{Origin}
-use Rattle.run_rule.specs.Between.{Carried}
-use Rattle.run_within.specs.Recorded.{IsHeldBy, carried}
+use Rattle.run_promise.specs.Origin.{Origin}
+use Rattle.run_promise.specs.Between.{Carried}
+use Rattle.run_record.specs.Recorded.{IsHeldBy, carried}
 use Rattle.run_acts.specs.declared.run.Run.{Run}
 use Rattle.run_acts.specs.declared.run.Power.{Power}
 use Rattle.run_acts.specs.declared.run.Power.TheVariants.{Lit, Due, Lost}

@@ -4,7 +4,7 @@ use Rattle.trace_model.specs.declared.Card.{Card}
 use Rattle.minute_model.specs.declared.Rule.{Rule}
 use Rattle.minute_model.specs.Span.{begin}
 use Rattle.minute_rules.specs.Kept.{StandsFor, Kept as Minutes}
-use Rattle.slot_machine.specs.declared.seats.Seat.{Seat}
+use Rattle.card_slots.specs.declared.seats.Seat.{Seat}
 use Rattle.run_crew.specs.declared.cards.Accepted.{Accepted}
 use Rattle.run_crew.specs.declared.cards.Cards.{Cards}
 use Rattle.run_crew.specs.Cards.{session_of}

@@ -6,20 +6,20 @@ use Rattle.card_layout.specs.declared.command.CardState.{CardState}
 use Rattle.log_model.specs.Log.{RunLog, In}
 use Rattle.log_model.specs.Course.{Told, went}
 use Rattle.event_model.specs.Events.{Seen, seen_of, seen_spans}
-use Rattle.unit_course.specs.Turn.{begins_with}
+use Rattle.run_unit_course.specs.Turn.{begins_with}
 use Rattle.unit_memory.specs.declared.memory.UnitFacts.{UnitFacts}
 use Rattle.safety_model.specs.Safe.{Devices}
 use Rattle.run_course.specs.Followed.{Progress}
 use Rattle.run_course.proofs.Told.{lit-told}
 use Rattle.run_events.specs.Seconds.{last_of}
 use Rattle.run_outcome.specs.declared.outcome.Outcome.{Outcome}
-use Rattle.run_recorded.specs.Origin.{Origin}
-use Rattle.run_within.specs.Recorded.{progress}
-use Rattle.run_evented.specs.Evented.{EventedBy}
-use Rattle.run_evented.specs.Noting.{Acting, stage_of}
-use Rattle.run_evented.specs.SoFar.{BeginsNow, EventedNow}
-use Rattle.run_evented.proofs.Adding.{second-begins_now, power-now, starts-now}
-use Rattle.run_notes.specs.declared.watch.Watch.{Watch}
+use Rattle.run_promise.specs.Origin.{Origin}
+use Rattle.run_record.specs.Recorded.{progress}
+use Rattle.run_note_record.specs.Evented.{EventedBy}
+use Rattle.run_note_record.specs.Noting.{Acting, stage_of}
+use Rattle.run_note_record.specs.EventsSoFar.{BeginsNow, EventedNow}
+use Rattle.run_note_record.proofs.Adding.{second-begins_now, power-now, starts-now}
+use Rattle.run_events.specs.declared.watch.Watch.{Watch}
 use Rattle.run_acts.specs.declared.run.Run.{Run}
 use Rattle.run_acts.specs.declared.run.Power.TheVariants.{Lit}
 use Rattle.run_acts.specs.Power.{over_by, minute_over}

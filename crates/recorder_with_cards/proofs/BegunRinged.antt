@@ -6,19 +6,18 @@ use Rattle.tach_media.specs.Medium.{State}
 use Rattle.card_layout.specs.declared.command.CardState.{CardState}
 use Rattle.log_model.specs.Log.{RunLog}
 use Rattle.log_model.specs.Course.{Told, Before, has_power, second_told, went}
-use Rattle.unit_course.specs.Followed.{Supply}
-use Rattle.unit_course.specs.Followed.{Lit as IsLitBy, Due as IsDueBy, Lost as IsLostBy}
+use Rattle.run_unit_course.specs.Followed.{Supply, Lit as IsLitBy, Due as IsDueBy, Lost as IsLostBy}
 use Rattle.safety_model.specs.Safe.{Devices}
 use Rattle.run_course.specs.Followed.{IsSupplied, IsGoing}
 use Rattle.run_course.proofs.Told.{going-power}
 use Rattle.run_outcome.specs.declared.outcome.Outcome.{Outcome}
-use Rattle.run_recorded.specs.Origin.{Origin}
+use Rattle.run_promise.specs.Origin.{Origin}
 use Rattle.run_rings.specs.Spans.{with_second}
-use Rattle.run_ringed.specs.Ringed.{Seating}
-use Rattle.run_ringed.specs.SoFar.{RingedBehind, IsSecond, RingedIn}
-use Rattle.run_ringed.specs.Stored.{StoresOn, Stores}
-use Rattle.run_ringed.proofs.SoFar.{second-begins}
-use Rattle.run_ringed.proofs.Bases.{stored-next}
+use Rattle.run_note_record.specs.Ringed.{Seating}
+use Rattle.run_note_record.specs.RingsSoFar.{RingedBehind, IsSecond, RingedIn}
+use Rattle.run_note_record.specs.Stored.{StoresOn, Stores}
+use Rattle.run_note_record.proofs.SoFar.{second-begins}
+use Rattle.run_note_record.proofs.Bases.{stored-next}
 use Rattle.run_acts.specs.declared.run.Run.{Run}
 use Rattle.run_acts.specs.declared.run.Power.{Power}
 use Rattle.run_acts.specs.declared.run.Power.TheVariants.{Lit}

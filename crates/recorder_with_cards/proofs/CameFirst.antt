@@ -21,19 +21,19 @@ use Rattle.log_model.specs.Course.{Told, Visit, Before, Course, Moved, Went, car
 use Rattle.event_model.specs.Events.{course_by}
 use Rattle.safety_model.specs.Recording.{card_image}
 use Rattle.safety_model.specs.Cards.{entered as often_entered}
-use Rattle.run_moments.specs.Lines.{times_of}
-use Rattle.run_moments.specs.Reached.{course_at}
-use Rattle.run_moments.proofs.Reached.{at-by}
-use Rattle.run_told.specs.Told.{arranged}
+use Rattle.run_course.specs.Lines.{times_of}
+use Rattle.run_course.specs.Reached.{course_at}
+use Rattle.run_course.proofs.Reached.{at-by}
+use Rattle.run_devices.specs.Told.{arranged}
 use Rattle.run_outcome.specs.declared.outcome.Outcome.{Outcome}
-use Rattle.run_recorded.specs.Origin.{Origin}
-use Rattle.run_recorded.specs.Ends.{recording_by}
-use Rattle.run_recorded.proofs.Beside.{before-next}
-use Rattle.run_recorded.proofs.Unentered.{IsOut, StaysOut, stays-out, others-told, entered-then}
-use Rattle.run_within.specs.Within.{course_in, MayBeWrittenSo, Within}
-use Rattle.run_evented.specs.Opened.{came_in, puts_in, times_put, HasComeBefore}
-use Rattle.run_keeping.specs.declared.keeper.Keeper.{Keeper}
-use Rattle.run_entering.specs.declared.lines.Entering.{Entering}
+use Rattle.run_promise.specs.Origin.{Origin}
+use Rattle.run_promise.specs.Ends.{recording_by}
+use Rattle.run_promise.proofs.Beside.{before-next}
+use Rattle.run_promise.proofs.Unentered.{IsOut, StaysOut, stays-out, others-told, entered-then}
+use Rattle.run_record.specs.Within.{course_in, MayBeWrittenSo, Within}
+use Rattle.run_note_record.specs.Opened.{came_in, puts_in, times_put, HasComeBefore}
+use Rattle.run_minutes.specs.declared.keeper.Keeper.{Keeper}
+use Rattle.run_insertion.specs.declared.lines.Entering.{Entering}
 use Rattle.run_acts.specs.Entered.{values_with, MayJudge}
 use Rattle.run_acts.proofs.CardCourse.{slot-entered}
 use Rattle.run_acts.proofs.EnteredNewest.{written-or}

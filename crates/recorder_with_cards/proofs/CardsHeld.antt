@@ -9,18 +9,18 @@ use Rattle.log_model.specs.declared.lines.Break.{Break}
 use Rattle.log_model.specs.Log.{RunLog, Phase, kept_after}
 use Rattle.log_model.specs.Course.{Visit, Went}
 use Rattle.std.specs.List.{AllByRecursion}
-use Rattle.side_model.specs.Done.{done_by}
-use Rattle.side_model.specs.Noted.{Note, noted_in}
+use Rattle.note_model.specs.Done.{done_by}
+use Rattle.note_model.specs.Noted.{Note, noted_in}
 use Rattle.safety_model.specs.Safe.{Devices}
 use Rattle.run_events.specs.Seconds.{gap_by}
 use Rattle.run_events.proofs.Later.{seen-same}
-use Rattle.run_evented.specs.Uses.{notes_now, uses_in}
-use Rattle.run_evented.proofs.Noted.{notes-alike}
+use Rattle.run_note_record.specs.Uses.{notes_now, uses_in}
+use Rattle.run_note_record.proofs.Noted.{notes-alike}
 use Rattle.run_rings.specs.Notes.{course_behind}
-use Rattle.run_recorded.specs.Origin.{Origin}
+use Rattle.run_promise.specs.Origin.{Origin}
 use Rattle.run_outcome.specs.declared.outcome.Outcome.{Outcome}
-use Rattle.run_within.specs.Recorded.{Values}
-use Rattle.run_within.specs.Within.{Within}
+use Rattle.run_record.specs.Recorded.{Values}
+use Rattle.run_record.specs.Within.{Within}
 use Rattle.run_acts.specs.declared.run.Run.{Run}
 use Rattle.run_acts.specs.Power.{is_lit}
 use Rattle.run_acts.specs.OnCards.{as_accepted}

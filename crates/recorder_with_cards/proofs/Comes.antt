@@ -5,19 +5,19 @@ use Rattle.activity_codec.specs.declared.values.Slot.TheVariants.{Driver, CoDriv
 use Rattle.trace_model.specs.declared.Card.{Card}
 use Rattle.trace_model.specs.declared.Card.TheVariants.{A, B}
 use Rattle.log_model.specs.Slots.{same_card, other_slot}
-use Rattle.joint_rule.specs.Views.{other}
-use Rattle.slot_machine.specs.declared.seats.Seat.{Seat}
-use Rattle.slot_machine.specs.Calls.{Seats, seat_in, card_in, is_card}
+use Rattle.device_rule.specs.Views.{other}
+use Rattle.card_slots.specs.declared.seats.Seat.{Seat}
+use Rattle.card_slots.specs.Calls.{Seats, seat_in, card_in, is_card}
 use Rattle.card_layout.specs.declared.files.Application.{Application}
 use Rattle.tacho_types.specs.declared.texts.Registration.{Registration}
 use Rattle.tach_media.specs.Medium.{State}
 use Rattle.run_outcome.specs.declared.outcome.Outcome.{Outcome}
-use Rattle.run_keeping.specs.declared.keeper.Keeper.{Keeper}
-use Rattle.run_keeping.specs.Keeping.{tears_of}
-use Rattle.run_entering.specs.declared.lines.Entering.{Entering}
-use Rattle.run_entering.specs.Entering.{Ending, Unfit, Ahead, Fell, Unasked, Unnoted, Seated, Lost, Way, Unread, Unsized, Judged, breaks_by, cabin_by, noted_by, and_one, ending_of, measured}
-use Rattle.run_entering.specs.Entered.{IsEnding, IsWay, IsLeft}
-use Rattle.run_entering.specs.declared.waking.TheConstants.{UNTOLD}
+use Rattle.run_minutes.specs.declared.keeper.Keeper.{Keeper}
+use Rattle.run_minutes.specs.Keeping.{tears_of}
+use Rattle.run_insertion.specs.declared.lines.Entering.{Entering}
+use Rattle.run_insertion.specs.Entering.{Ending, Unfit, Ahead, Fell, Unasked, Unnoted, Seated, Lost, Way, Unread, Unsized, Judged, breaks_by, cabin_by, noted_by, and_one, ending_of, measured}
+use Rattle.run_insertion.specs.Entered.{IsEnding, IsWay, IsLeft}
+use Rattle.run_insertion.specs.declared.waking.TheConstants.{UNTOLD}
 use Rattle.run_crew.specs.declared.cards.Accepted.{Accepted}
 use Rattle.run_crew.specs.declared.cabin.Cabin.{Cabin}
 use Rattle.run_crew.specs.Cards.{known_of, session_of}

@@ -2,15 +2,15 @@
 use Rattle.std.proofs.Common.{◌≡◌, ℕ, suc, true, List, [], ◌∷◌, ◌++◌, length, refl, subst}
 use Rattle.trace_model.specs.Trace.{TraceSecond}
 use Rattle.log_model.specs.Log.{In}
-use Rattle.unit_course.specs.Followed.{Lost}
-use Rattle.unit_course.specs.Lines.{cut_at}
+use Rattle.run_unit_course.specs.Followed.{Lost}
+use Rattle.run_unit_course.specs.Lines.{cut_at}
 use Rattle.safety_model.specs.Safe.{Devices}
 use Rattle.run_crew.specs.Cabin.{with_power_lost}
 use Rattle.run_course.specs.Moments.{and_break}
 use Rattle.run_outcome.specs.declared.outcome.Outcome.{Outcome}
-use Rattle.run_recorded.specs.Origin.{Origin}
-use Rattle.run_within.specs.Recorded.{Recorded}
-use Rattle.run_within.specs.Within.{cut_values}
+use Rattle.run_promise.specs.Origin.{Origin}
+use Rattle.run_record.specs.Recorded.{Recorded}
+use Rattle.run_record.specs.Within.{cut_values}
 use Rattle.run_acts.specs.declared.run.Run.{Run}
 use Rattle.run_acts.specs.Power.{cut_run}
 use Rattle.run_acts.specs.Recording.{IsOrigin, log_of, values_of, RunCut}

@@ -5,8 +5,8 @@ use Rattle.log_model.specs.declared.lines.Break.{Break}
 use Rattle.run_crew.specs.Cabin.{Stands}
 use Rattle.run_outcome.specs.Lines.{Listed, cut_at}
 use Rattle.run_outcome.specs.declared.outcome.Outcome.{Outcome}
-use Rattle.run_keeping.specs.Keeping.{with_lines}
-use Rattle.run_keeping.proofs.Counts.{lines-length}
+use Rattle.run_minutes.specs.Keeping.{with_lines}
+use Rattle.run_minutes.proofs.Counts.{lines-length}
 use Rattle.run_acts.specs.declared.run.Run.{Run}
 use Rattle.run_acts.specs.declared.run.Power.{Power}
 use Rattle.run_acts.specs.declared.run.Power.TheVariants.{Lit, Due, Lost}

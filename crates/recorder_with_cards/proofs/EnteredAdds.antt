@@ -12,9 +12,9 @@ use Rattle.trace_model.specs.Trace.{TraceSecond}
 use Rattle.run_model.specs.declared.Device.{Device}
 use Rattle.run_model.specs.declared.Device.TheVariants.{Unit as Recorder}
 use Rattle.log_model.specs.Causes.{RoseBy}
-use Rattle.unit_course.specs.Lines.{cut_at}
-use Rattle.unit_course.specs.Followed.{Lost as IsLost}
-use Rattle.run_recorded.specs.Beside.{HaveLeftMore}
+use Rattle.run_unit_course.specs.Lines.{cut_at}
+use Rattle.run_unit_course.specs.Followed.{Lost as IsLost}
+use Rattle.run_promise.specs.Beside.{HaveLeftMore}
 use Rattle.log_model.specs.declared.lines.Break.{Break}
 use Rattle.log_model.specs.declared.lines.Break.TheVariants.{Tear}
 use Rattle.log_model.specs.declared.lines.Find.{Find}
@@ -28,46 +28,46 @@ use Rattle.event_model.specs.Events.{Event, Crew, crew_of, with_card, noted_with
 use Rattle.card_layout.specs.declared.files.Application.{Application}
 use Rattle.card_image.specs.Fields.{session_time}
 use Rattle.card_image.specs.Own.{own_sizes}
-use Rattle.card_judge.specs.declared.looking.CardLook.{CardLook}
-use Rattle.card_judge.specs.Judged.{IsLook}
+use Rattle.card_validity.specs.declared.looking.CardLook.{CardLook}
+use Rattle.card_validity.specs.Judged.{IsLook}
 use Rattle.safety_model.specs.Recording.{card_image}
 use Rattle.safety_model.specs.Safe.{Devices, card_of}
-use Rattle.run_rule.specs.Found.{found_of}
-use Rattle.event_course.specs.Shown.{all_kinds}
+use Rattle.run_promise.specs.Found.{found_of}
+use Rattle.unit_events.specs.Shown.{all_kinds}
 use Rattle.run_course.specs.Moments.{and_break, and_find, finds_here}
 use Rattle.run_course.specs.Within.{IsFoundOf}
 use Rattle.run_course.proofs.Lookups.{find-more}
 use Rattle.run_course.proofs.Moments.{later-lines}
 use Rattle.run_course.specs.Followed.{Progress}
-use Rattle.run_moments.specs.Moment.{Moment}
-use Rattle.run_moments.specs.Telling.{IsMore, IsLeft, IsOneOut, BrokeDown, WaitBut}
-use Rattle.run_moments.proofs.Telling.{card-torn, card-judged}
-use Rattle.run_moments.specs.Reached.{Reaches, moved_with, course_at, moved_at, IsTearAt, IsFindAt}
-use Rattle.run_moments.proofs.Reached.{lines-reached}
-use Rattle.run_moments.proofs.Lines.{who-sits, find-seen}
+use Rattle.run_course.specs.Moment.{Moment}
+use Rattle.run_course.specs.Telling.{IsMore, IsLeft, IsOneOut, BrokeDown, WaitBut}
+use Rattle.run_course.proofs.Telling.{card-torn, card-judged}
+use Rattle.run_course.specs.Reached.{Reaches, moved_with, course_at, moved_at, IsTearAt, IsFindAt}
+use Rattle.run_course.proofs.Reached.{lines-reached}
+use Rattle.run_course.proofs.Lines.{who-sits, find-seen}
 use Rattle.run_events.specs.Shown.{by_kind}
-use Rattle.run_recorded.specs.Origin.{Origin}
-use Rattle.run_evented.specs.Opened.{session_in, HasComeBefore}
-use Rattle.run_evented.specs.Evented.{Evented}
-use Rattle.run_evented.specs.Uses.{FindsMore}
-use Rattle.run_evented.specs.Noting.{Ended, NotesThese}
-use Rattle.run_evented.specs.SoFar.{puts_into, Adds, EventedNow, NotesUnsure, BeginsNow, AreBare, ComesInTurn, IsOpenWith, stage_in, fault_with, judged_with, crew_at}
-use Rattle.run_evented.proofs.Cutting.{failure-cuts}
-use Rattle.run_evented.proofs.Adding.{call-notes, steps-follow, adds-nothing, adds-as}
-use Rattle.run_evented.proofs.Falling.{tear-adds}
-use Rattle.run_evented.proofs.Finding.{find-adds}
-use Rattle.run_evented.proofs.Tearing.{and-none, slot-apart}
-use Rattle.run_evented.proofs.Waking.{waking-tear_adds}
-use Rattle.run_evented.proofs.Noting.{by-more}
-use Rattle.run_keeping.specs.Keeping.{tear_of}
-use Rattle.run_entering.specs.declared.lines.Entering.{Entering}
-use Rattle.run_entering.specs.Entered.{IsFound}
-use Rattle.run_entering.specs.Entering.{Ending, Unfit, Ahead, Fell, Unasked, Unnoted, Seated, Lost, find_of, finds_by, breaks_by, falls_of}
+use Rattle.run_promise.specs.Origin.{Origin}
+use Rattle.run_note_record.specs.Opened.{session_in, HasComeBefore}
+use Rattle.run_note_record.specs.Evented.{Evented}
+use Rattle.run_note_record.specs.Uses.{FindsMore}
+use Rattle.run_note_record.specs.Noting.{Ended, NotesThese}
+use Rattle.run_note_record.specs.EventsSoFar.{puts_into, Adds, EventedNow, NotesUnsure, BeginsNow, AreBare, ComesInTurn, IsOpenWith, stage_in, fault_with, judged_with, crew_at}
+use Rattle.run_note_record.proofs.Cutting.{failure-cuts}
+use Rattle.run_note_record.proofs.Adding.{call-notes, steps-follow, adds-nothing, adds-as}
+use Rattle.run_note_record.proofs.Falling.{tear-adds}
+use Rattle.run_note_record.proofs.Finding.{find-adds}
+use Rattle.run_note_record.proofs.Tearing.{and-none, slot-apart}
+use Rattle.run_note_record.proofs.EventsWaking.{waking-tear_adds}
+use Rattle.run_note_record.proofs.Noting.{by-more}
+use Rattle.run_minutes.specs.Keeping.{tear_of}
+use Rattle.run_insertion.specs.declared.lines.Entering.{Entering}
+use Rattle.run_insertion.specs.Entered.{IsFound}
+use Rattle.run_insertion.specs.Entering.{Ending, Unfit, Ahead, Fell, Unasked, Unnoted, Seated, Lost, find_of, finds_by, breaks_by, falls_of}
 use Rattle.run_acts.specs.NotedEvents.{AreTold, NotesSo}
 use Rattle.run_acts.specs.ActsEvented.{IsFailing}
 use Rattle.run_crew.specs.declared.cabin.Cabin.{Cabin}
-use Rattle.run_entering.specs.Noted.{UnitNote, Inserts, BeginsRow, Tells, notes_by}
-use Rattle.event_course.specs.Noted.{are_sure}
+use Rattle.run_insertion.specs.Noted.{UnitNote, Inserts, BeginsRow, Tells, notes_by}
+use Rattle.unit_events.specs.Noted.{are_sure}
 use Rattle.recorder_with_cards.specs.EnteredEvents.{events_in}
 use Rattle.recorder_with_cards.specs.EnteredTold.{TellEvents, moving_events, unclosed_events, events_by, IsLow, AreNamed}
 use Rattle.recorder_with_cards.proofs.EnteredTold.{events-told}

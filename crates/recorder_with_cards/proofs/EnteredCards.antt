@@ -13,11 +13,11 @@ use Rattle.minute_rules.specs.Kept.{Kept}
 use Rattle.card_layout.specs.declared.files.Application.{Application}
 use Rattle.card_image.specs.Fields.{current_use, session_time}
 use Rattle.card_image.specs.Own.{own_sizes, IsOwnValid}
-use Rattle.card_records.specs.declared.card_event.CardEvent.{CardEvent}
-use Rattle.card_records.specs.declared.current_use.CurrentUse.{CurrentUse}
+use Rattle.card_files.specs.declared.card_event.CardEvent.{CardEvent}
+use Rattle.card_files.specs.declared.current_use.CurrentUse.{CurrentUse}
 use Rattle.card_session.specs.Inserting.{unclosed}
 use Rattle.event_model.specs.declared.kinds.TheConstants.{INSERTION_WHILE_DRIVING, SESSION_NOT_CLOSED, POWER_INTERRUPTION}
-use Rattle.joint_rule.specs.Views.{other}
+use Rattle.device_rule.specs.Views.{other}
 use Rattle.log_model.specs.declared.lines.Find.{Find}
 use Rattle.log_model.specs.declared.lines.Verdict.{Verdict}
 use Rattle.log_model.specs.declared.lines.Verdict.TheVariants as verdict
@@ -25,25 +25,25 @@ use Rattle.log_model.specs.Log.{RunLog, In, is_torn_in, found_in}
 use Rattle.log_model.specs.Slots.{same_card}
 use Rattle.log_model.specs.Course.{Visit}
 use Rattle.safety_model.specs.Recording.{card_image}
-use Rattle.run_rule.specs.Found.{found_of}
-use Rattle.run_told.specs.Told.{arranged}
+use Rattle.run_promise.specs.Found.{found_of}
+use Rattle.run_devices.specs.Told.{arranged}
 use Rattle.run_outcome.specs.declared.outcome.Outcome.{Outcome}
-use Rattle.run_recorded.specs.Origin.{Origin}
-use Rattle.run_recorded.specs.Beside.{HaveLeftMore}
-use Rattle.run_recorded.specs.Whole.{NothingFailed}
-use Rattle.run_evented.specs.Evented.{images_in}
-use Rattle.run_evented.specs.Uses.{uses_from, insertions_at, notes_now, uses_in, use_now}
-use Rattle.run_keeping.specs.declared.keeper.Keeper.{Keeper}
-use Rattle.run_keeping.specs.declared.keeper.Moment.{Moment as KeepingAt}
-use Rattle.run_keeping.specs.Keeping.{tear_of}
-use Rattle.run_entering.specs.declared.lines.Entering.{Entering}
-use Rattle.run_entering.specs.Entering.{Ending, Unfit, Ahead, Fell, Unasked, Unnoted, Seated, Lost, Way, Unread, Unsized, Judged, ending_of, finds_by}
-use Rattle.run_entering.specs.Entered.{IsWay}
-use Rattle.run_entering.specs.Noted.{moving_event}
-use Rattle.run_entering.specs.CardEvents.{events_in, all_noted, AreBeingNoted, of_type, ShowsMore, ShowsThese, unclosed_on}
-use Rattle.run_entering.specs.CardBrought.{moving_on, brought_on, is_cut_short, BringsOnCard}
-use Rattle.run_entering.proofs.CardBrought.{IsSitting}
-use Rattle.run_within.specs.Within.{Within}
+use Rattle.run_promise.specs.Origin.{Origin}
+use Rattle.run_promise.specs.Beside.{HaveLeftMore}
+use Rattle.run_promise.specs.Whole.{NothingFailed}
+use Rattle.run_note_record.specs.Evented.{images_in}
+use Rattle.run_note_record.specs.Uses.{uses_from, insertions_at, notes_now, uses_in, use_now}
+use Rattle.run_minutes.specs.declared.keeper.Keeper.{Keeper}
+use Rattle.run_minutes.specs.declared.keeper.Moment.{Moment as KeepingAt}
+use Rattle.run_minutes.specs.Keeping.{tear_of}
+use Rattle.run_insertion.specs.declared.lines.Entering.{Entering}
+use Rattle.run_insertion.specs.Entering.{Ending, Unfit, Ahead, Fell, Unasked, Unnoted, Seated, Lost, Way, Unread, Unsized, Judged, ending_of, finds_by}
+use Rattle.run_insertion.specs.Entered.{IsWay}
+use Rattle.run_insertion.specs.Noted.{moving_event}
+use Rattle.run_insertion.specs.CardEvents.{events_in, all_noted, AreBeingNoted, of_type, ShowsMore, ShowsThese, unclosed_on}
+use Rattle.run_insertion.specs.CardBrought.{moving_on, brought_on, is_cut_short, BringsOnCard}
+use Rattle.run_insertion.proofs.CardBrought.{IsSitting}
+use Rattle.run_record.specs.Within.{Within}
 use Rattle.run_acts.specs.Closings.{notes_within}
 use Rattle.run_acts.specs.Entered.{values_with, MayJudge, HasGone, AreSound}
 use Rattle.run_acts.specs.Recording.{IsOrigin, log_of}

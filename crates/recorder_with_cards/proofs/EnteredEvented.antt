@@ -15,42 +15,42 @@ use Rattle.minute_rules.specs.Kept.{Kept}
 use Rattle.card_layout.specs.declared.files.Application.{Application}
 use Rattle.card_image.specs.Own.{IsOwnValid}
 use Rattle.log_model.specs.Log.{RunLog, In}
-use Rattle.joint_rule.specs.Rules.{Out}
+use Rattle.device_rule.specs.Rules.{Out}
 use Rattle.log_model.specs.Slots.{Slots, in_slot}
 use Rattle.log_model.specs.Course.{Told, Visit, Course, went}
 use Rattle.event_model.specs.declared.kinds.TheConstants.{CARD_FAULT, INSERTION_WHILE_DRIVING, SESSION_NOT_CLOSED}
 use Rattle.event_model.specs.Events.{Event, Crew, accepted_card, with_card, noted_with}
 use Rattle.event_model.specs.Events as events
-use Rattle.slot_machine.specs.declared.seats.Seat.{Seat}
-use Rattle.slot_machine.specs.Calls.{is_card}
+use Rattle.card_slots.specs.declared.seats.Seat.{Seat}
+use Rattle.card_slots.specs.Calls.{is_card}
 use Rattle.safety_model.specs.Recording.{card_image}
 use Rattle.safety_model.specs.Safe.{Devices, card_of, breakdowns_of}
 use Rattle.run_crew.specs.declared.cabin.Cabin.{Cabin}
 use Rattle.run_crew.specs.declared.cards.Cards.{Cards}
 use Rattle.run_crew.specs.Cards.{known_of, with_sizes, accepted_number}
 use Rattle.run_crew.specs.Cabin.{Stands, with_sizes_of, number_of_seat, crew_of}
-use Rattle.run_notes.specs.Entries.{number_or_no_card, IsCrewOf}
-use Rattle.run_rule.specs.Found.{Found, found_of}
-use Rattle.run_rule.specs.Between.{Carried}
-use Rattle.run_moments.specs.Reached.{Reaches}
-use Rattle.run_moments.specs.Telling.{BrokeDown, IsLeft}
-use Rattle.run_moments.proofs.Moment.{reaches-of}
-use Rattle.run_told.specs.Told.{arranged, with_standing}
+use Rattle.run_events.specs.Entries.{number_or_no_card, IsCrewOf}
+use Rattle.run_promise.specs.Found.{Found, found_of}
+use Rattle.run_promise.specs.Between.{Carried}
+use Rattle.run_course.specs.Reached.{Reaches}
+use Rattle.run_course.specs.Telling.{BrokeDown, IsLeft}
+use Rattle.run_course.proofs.Moment.{reaches-of}
+use Rattle.run_devices.specs.Told.{arranged, with_standing}
 use Rattle.run_outcome.specs.declared.outcome.Outcome.{Outcome}
-use Rattle.run_recorded.specs.Origin.{Origin, start_at}
-use Rattle.run_recorded.specs.Beside.{HaveLeftMore}
-use Rattle.run_keeping.specs.declared.keeper.Keeper.{Keeper}
-use Rattle.run_keeping.specs.declared.keeper.Moment.{Moment as KeepingAt}
-use Rattle.run_entering.specs.declared.lines.Entering.{Entering}
-use Rattle.run_entering.specs.Entering.{Ending, Unfit, Ahead, Fell, Unasked, Unnoted, Seated, Lost, Way, Unread, Unsized, Judged, ending_of, sizes_by, measured, falls_of}
-use Rattle.run_entering.specs.Entered.{IsFoundIn, IsWay}
-use Rattle.run_entering.specs.Noted.{notes_by}
-use Rattle.run_entering.specs.Told.{IsToldOf}
-use Rattle.run_within.specs.Recorded.{Values}
-use Rattle.run_within.specs.Within.{Within, course_in, told_before}
-use Rattle.run_evented.specs.Opened.{HasComeBefore}
-use Rattle.run_evented.specs.Evented.{number_in}
-use Rattle.run_evented.specs.SoFar.{EventedNow, BeginsNow, stage_in}
+use Rattle.run_promise.specs.Origin.{Origin, start_at}
+use Rattle.run_promise.specs.Beside.{HaveLeftMore}
+use Rattle.run_minutes.specs.declared.keeper.Keeper.{Keeper}
+use Rattle.run_minutes.specs.declared.keeper.Moment.{Moment as KeepingAt}
+use Rattle.run_insertion.specs.declared.lines.Entering.{Entering}
+use Rattle.run_insertion.specs.Entering.{Ending, Unfit, Ahead, Fell, Unasked, Unnoted, Seated, Lost, Way, Unread, Unsized, Judged, ending_of, sizes_by, measured, falls_of}
+use Rattle.run_insertion.specs.Entered.{IsFoundIn, IsWay}
+use Rattle.run_insertion.specs.Noted.{notes_by}
+use Rattle.run_insertion.specs.Told.{IsToldOf}
+use Rattle.run_record.specs.Recorded.{Values}
+use Rattle.run_record.specs.Within.{Within, course_in, told_before}
+use Rattle.run_note_record.specs.Opened.{HasComeBefore}
+use Rattle.run_note_record.specs.Evented.{number_in}
+use Rattle.run_note_record.specs.EventsSoFar.{EventedNow, BeginsNow, stage_in}
 use Rattle.run_acts.specs.Closings.{notes_within}
 use Rattle.run_acts.specs.Entered.{values_with, MayJudge, HasGone, AreSound}
 use Rattle.run_acts.specs.EventCrews.{AreKnownBy}

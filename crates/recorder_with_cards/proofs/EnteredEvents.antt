@@ -4,9 +4,9 @@ use Rattle.trace_model.specs.declared.Card.{Card}
 use Rattle.tach_media.specs.Medium.{State, IsCoherent}
 use Rattle.event_model.specs.Events.{Event}
 use Rattle.unit_model.specs.Image.{IsUnit}
-use Rattle.run_rule.specs.Between.{devices}
-use Rattle.run_evented.specs.Evented.{number_in}
-use Rattle.run_entering.specs.Noted.{UnitNote, Inserts, BeginsRow, Tells, IsOnUnit, IsComing, AreDone, HasNoted}
+use Rattle.run_promise.specs.Between.{devices}
+use Rattle.run_note_record.specs.Evented.{number_in}
+use Rattle.run_insertion.specs.Noted.{UnitNote, Inserts, BeginsRow, Tells, IsOnUnit, IsComing, AreDone, HasNoted}
 use Rattle.recorder_with_cards.specs.EnteredTold.{TellEvents}
 use Rattle.run_acts.specs.NotedEvents.{AreTold, NotesEvents}
 use Rattle.recorder_with_cards.specs.EnteredEvents.{events_in}

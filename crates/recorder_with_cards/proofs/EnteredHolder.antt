@@ -16,29 +16,29 @@ use Rattle.tacho_types.specs.CardNumber.{card_number_bytes}
 use Rattle.tacho_types.specs.Numbers.{time_bytes, time_of}
 use Rattle.card_layout.specs.declared.files.Application.{Application}
 use Rattle.card_layout.specs.Files.{place_of, size_of}
-use Rattle.card_records.specs.declared.vehicle.Vehicle.{Vehicle}
+use Rattle.card_files.specs.declared.vehicle.Vehicle.{Vehicle}
 use Rattle.card_image.specs.Fields.{file, file_bytes, newest_vehicle}
 use Rattle.card_image.specs.Own.{own_sizes, IsOwnValid}
-use Rattle.card_judge.specs.declared.looking.CardLook.{CardLook}
-use Rattle.card_judge.specs.Judged.{IsLook, identification_field}
+use Rattle.card_validity.specs.declared.looking.CardLook.{CardLook}
+use Rattle.card_validity.specs.Judged.{IsLook, identification_field}
 use Rattle.log_model.specs.Log.{RunLog}
 use Rattle.log_model.specs.Course.{Told}
 use Rattle.unit_notes.specs.Fields.{InsertionFits}
 use Rattle.unit_notes.specs.Entries.{insertion_bytes}
-use Rattle.side_model.specs.Odometer.{SpanFrom, odometer_at}
-use Rattle.side_model.specs.Noted.{Acceptance}
+use Rattle.note_model.specs.Odometer.{SpanFrom, odometer_at}
+use Rattle.note_model.specs.Noted.{Acceptance}
 use Rattle.safety_model.specs.Recording.{Recording, card_image}
 use Rattle.safety_model.specs.Safe.{Devices, card_of}
 use Rattle.safety_model.specs.Side.{identification_widths, TellsVehicle}
-use Rattle.run_rule.specs.Found.{found_of}
-use Rattle.run_strung.specs.Strung.{identification_of, HasSameHolder}
-use Rattle.run_recorded.specs.Origin.{Origin}
-use Rattle.run_evented.specs.Opened.{HasComeBefore}
-use Rattle.run_ringed.specs.Ringed.{Since, holder_in, TellsIn, IsInsertionIn}
-use Rattle.run_ringed.proofs.Bytes.{IsInsertionTold, insertion-is}
-use Rattle.run_entering.specs.declared.lines.Entering.{Entering}
-use Rattle.run_entering.specs.Entering.{slot_number, previous_of, previous_time_of, insertion_of}
-use Rattle.run_entering.specs.Entered.{FitsInsertion}
+use Rattle.run_promise.specs.Found.{found_of}
+use Rattle.run_devices.specs.Strung.{identification_of, HasSameHolder}
+use Rattle.run_promise.specs.Origin.{Origin}
+use Rattle.run_note_record.specs.Opened.{HasComeBefore}
+use Rattle.run_note_record.specs.Ringed.{Since, holder_in, TellsIn, IsInsertionIn}
+use Rattle.run_note_record.proofs.Bytes.{IsInsertionTold, insertion-is}
+use Rattle.run_insertion.specs.declared.lines.Entering.{Entering}
+use Rattle.run_insertion.specs.Entering.{slot_number, previous_of, previous_time_of, insertion_of}
+use Rattle.run_insertion.specs.Entered.{FitsInsertion}
 use Rattle.run_acts.specs.Recording.{IsOrigin}
 use Rattle.recorder_with_cards.specs.JudgedRings.{IsInsertionNow}
 

@@ -15,11 +15,11 @@ use Rattle.log_model.specs.Slots.{other_slot}
 use Rattle.log_model.specs.Course.{begins}
 use Rattle.run_course.specs.Moments.{and_break, and_find, finds_here}
 use Rattle.run_course.proofs.Lookups.{break-more, find-more}
-use Rattle.run_evented.proofs.Tearing.{and-none, slot-apart}
+use Rattle.run_note_record.proofs.Tearing.{and-none, slot-apart}
 use Rattle.run_rings.specs.Notes.{TellSameTo}
-use Rattle.run_keeping.specs.Keeping.{tear_of}
-use Rattle.run_entering.specs.declared.lines.Entering.{Entering}
-use Rattle.run_entering.specs.Entering.{Ending, Unfit, Ahead, Fell, Unasked, Unnoted, Seated, Lost, find_of, finds_by, breaks_by}
+use Rattle.run_minutes.specs.Keeping.{tear_of}
+use Rattle.run_insertion.specs.declared.lines.Entering.{Entering}
+use Rattle.run_insertion.specs.Entering.{Ending, Unfit, Ahead, Fell, Unasked, Unnoted, Seated, Lost, find_of, finds_by, breaks_by}
 use Rattle.recorder_with_cards.specs.JudgedRings.{TellsHere}
 use Rattle.recorder_with_cards.proofs.EnteredAdds.{log_with}
 

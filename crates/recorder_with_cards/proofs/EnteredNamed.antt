@@ -8,18 +8,18 @@ use Rattle.tacho_types.specs.CardNumber.{card_number_bytes}
 use Rattle.tacho_types.specs.declared.card_number.FullCardNumber.{FullCardNumber}
 use Rattle.log_model.specs.Slots.{same_card, other_slot}
 use Rattle.event_model.specs.Events as events
-use Rattle.slot_machine.specs.declared.seats.Seat.{Seat}
-use Rattle.slot_machine.specs.Calls.{seat_in, is_card}
+use Rattle.card_slots.specs.declared.seats.Seat.{Seat}
+use Rattle.card_slots.specs.Calls.{seat_in, is_card}
 use Rattle.run_crew.specs.declared.cabin.Cabin.{Cabin}
 use Rattle.run_crew.specs.declared.cards.Accepted.{Accepted}
 use Rattle.run_crew.specs.declared.cards.Cards.{Cards}
 use Rattle.run_crew.specs.Cards.{known_of, with_session, with_number, accepted_number}
 use Rattle.run_crew.specs.Cabin.{with_accepted, number_of_seat, slot_with, left_from, torn_out, crew_of}
-use Rattle.run_notes.specs.Entries.{number_or_no_card, IsCrewOf}
+use Rattle.run_events.specs.Entries.{number_or_no_card, IsCrewOf}
 use Rattle.run_acts.specs.NotedEvents.{AreTold}
-use Rattle.run_entering.specs.declared.lines.Entering.{Entering}
-use Rattle.run_entering.specs.Entering.{Ending, Unfit, Ahead, Fell, Unasked, Unnoted, Seated, Lost, and_one}
-use Rattle.run_entering.specs.Noted.{notes_by}
+use Rattle.run_insertion.specs.declared.lines.Entering.{Entering}
+use Rattle.run_insertion.specs.Entering.{Ending, Unfit, Ahead, Fell, Unasked, Unnoted, Seated, Lost, and_one}
+use Rattle.run_insertion.specs.Noted.{notes_by}
 use Rattle.recorder_with_cards.specs.EnteredEvents.{events_in}
 use Rattle.recorder_with_cards.specs.EnteredTold.{events_by, IsLow, cabin_of, AreNamed}
 use Rattle.recorder_with_cards.proofs.EnteredAdds.{ending-told}

@@ -16,7 +16,7 @@ use Rattle.card_layout.specs.Application.{IsApplication}
 use Rattle.card_layout.specs.Files.{files_of, place_of}
 use Rattle.card_layout.proofs.Sizes.{largest_image}
 use Rattle.gated_ring.specs.Ring.{size_of as ring_size}
-use Rattle.card_records.specs.Rings.{file, place_ring}
+use Rattle.card_files.specs.Rings.{file, place_ring}
 use Rattle.card_model.specs.Days.{Day}
 use Rattle.card_image.specs.Own.{own_sizes, IsOwnValid}
 use Rattle.card_session.specs.Vehicles.{Vehicles}
@@ -27,22 +27,22 @@ use Rattle.card_session.specs.Moments.{IsBook, IsCloseMoment}
 use Rattle.card_session.specs.Inserting.{repaired, IsRepairMoment, During, IsStill, IsRepaired, IsRepairing, IsNoted, IsNoting, IsShut, IsShutting, IsEnded, IsEnding, IsOpening, IsCardInserting, timed, registered}
 use Rattle.card_session.proofs.Ends.{inserted_moment}
 use Rattle.card_session.proofs.InsertingUse.{use_inside}
-use Rattle.device_steps.specs.Entering.{owed_on}
+use Rattle.device_calls.specs.Entering.{owed_on}
 use Rattle.log_model.specs.Log.{In}
 use Rattle.log_model.specs.Course.{Visit}
 use Rattle.safety_model.specs.Recording.{card_image}
-use Rattle.run_rule.specs.Found.{found_of}
-use Rattle.run_told.specs.Told.{arranged}
-use Rattle.run_told.proofs.Holders.{event-places, noted-places, card-places}
+use Rattle.run_promise.specs.Found.{found_of}
+use Rattle.run_devices.specs.Told.{arranged}
+use Rattle.run_devices.proofs.Holders.{event-places, noted-places, card-places}
 use Rattle.run_outcome.specs.declared.outcome.Outcome.{Outcome}
-use Rattle.run_recorded.specs.Origin.{Origin}
-use Rattle.run_ringed.specs.OnCards.{HasSamePlaces, LeavesPlaces, PlacesStay}
-use Rattle.run_keeping.specs.declared.keeper.Keeper.{Keeper}
-use Rattle.run_entering.specs.declared.lines.Entering.{Entering}
-use Rattle.run_entering.specs.Entering.{Way, Unread, Unsized, Judged}
-use Rattle.run_entering.specs.Noted.{CardNote, PutIn, Shows, IsOnCard, IsComingOnCard, AreBeingDone, AreComingOnCard, card_notes_by}
-use Rattle.run_entering.specs.Entered.{IsFoundIn}
-use Rattle.run_within.specs.Within.{Within}
+use Rattle.run_promise.specs.Origin.{Origin}
+use Rattle.run_note_record.specs.OnCards.{HasSamePlaces, LeavesPlaces, PlacesStay}
+use Rattle.run_minutes.specs.declared.keeper.Keeper.{Keeper}
+use Rattle.run_insertion.specs.declared.lines.Entering.{Entering}
+use Rattle.run_insertion.specs.Entering.{Way, Unread, Unsized, Judged}
+use Rattle.run_insertion.specs.Noted.{CardNote, PutIn, Shows, IsOnCard, IsComingOnCard, AreBeingDone, AreComingOnCard, card_notes_by}
+use Rattle.run_insertion.specs.Entered.{IsFoundIn}
+use Rattle.run_record.specs.Within.{Within}
 use Rattle.run_acts.specs.Entered.{values_with, MayJudge, HasGone, AreSound}
 use Rattle.run_acts.specs.Recording.{IsOrigin}
 use Rattle.run_acts.specs.RunCards.{sizes_in}

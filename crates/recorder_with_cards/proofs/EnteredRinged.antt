@@ -11,9 +11,9 @@ use Rattle.minute_rules.specs.Kept.{Kept}
 use Rattle.card_layout.specs.declared.files.Application.{Application}
 use Rattle.card_layout.specs.declared.files.TheConstants.{LARGEST_IMAGE}
 use Rattle.card_image.specs.Own.{own_sizes, IsOwnValid}
-use Rattle.card_judge.specs.declared.looking.CardLook.{CardLook}
-use Rattle.card_judge.specs.Judged.{IsLook}
-use Rattle.joint_rule.specs.Rules.{Out}
+use Rattle.card_validity.specs.declared.looking.CardLook.{CardLook}
+use Rattle.card_validity.specs.Judged.{IsLook}
+use Rattle.device_rule.specs.Rules.{Out}
 use Rattle.log_model.specs.declared.lines.Find.{Find}
 use Rattle.log_model.specs.declared.lines.Verdict.{Verdict}
 use Rattle.log_model.specs.declared.lines.Verdict.TheVariants as verdict
@@ -21,8 +21,8 @@ use Rattle.log_model.specs.Log.{RunLog, In, cut_in, found_in}
 use Rattle.log_model.specs.Slots.{other_slot}
 use Rattle.log_model.specs.Course.{Visit, went}
 use Rattle.unit_notes.specs.Entries.{insertion_bytes}
-use Rattle.side_model.specs.Odometer.{SpanFrom, odometer_at}
-use Rattle.side_model.specs.Noted.{Acceptance}
+use Rattle.note_model.specs.Odometer.{SpanFrom, odometer_at}
+use Rattle.note_model.specs.Noted.{Acceptance}
 use Rattle.safety_model.specs.Recording.{card_image}
 use Rattle.safety_model.specs.Safe.{Devices}
 use Rattle.run_crew.specs.declared.cards.Accepted.{Accepted}
@@ -30,26 +30,26 @@ use Rattle.run_crew.specs.declared.cards.Cards.{Cards}
 use Rattle.run_crew.specs.declared.cabin.Cabin.{Cabin}
 use Rattle.run_crew.specs.Cards.{session_of}
 use Rattle.run_crew.specs.Cabin.{torn_out, with_accepted, with_sizes_of}
-use Rattle.run_evented.specs.Opened.{HasComeBefore}
+use Rattle.run_note_record.specs.Opened.{HasComeBefore}
 use Rattle.recorder_with_cards.proofs.CameFirst.{came-first}
-use Rattle.run_rule.specs.Found.{found_of}
-use Rattle.run_rule.specs.Between.{Carried}
-use Rattle.run_strung.specs.Strung.{HasSameHolder}
+use Rattle.run_promise.specs.Found.{found_of}
+use Rattle.run_promise.specs.Between.{Carried}
+use Rattle.run_devices.specs.Strung.{HasSameHolder}
 use Rattle.run_rings.specs.Notes.{TellSameTo}
-use Rattle.run_told.specs.Told.{arranged, with_standing}
+use Rattle.run_devices.specs.Told.{arranged, with_standing}
 use Rattle.run_outcome.specs.declared.outcome.Outcome.{Outcome}
-use Rattle.run_recorded.specs.Origin.{Origin}
-use Rattle.run_recorded.specs.Beside.{HaveLeftMore}
-use Rattle.run_ringed.specs.Ringed.{Seating, one_behind, Since, since_in}
-use Rattle.run_ringed.specs.OnCards.{PlacesStay}
-use Rattle.run_ringed.specs.SoFar.{AreFewer}
-use Rattle.run_keeping.specs.declared.keeper.Keeper.{Keeper}
-use Rattle.run_keeping.specs.declared.keeper.Moment.{Moment as KeepingAt}
-use Rattle.run_entering.specs.declared.lines.Entering.{Entering}
-use Rattle.run_entering.specs.Entering.{Ending, Unfit, Ahead, Fell, Unasked, Unnoted, Seated, Lost, Way, Unread, Unsized, Judged, ending_of, sizes_by, measured, cabin_by, noted_by, and_one, insertion_of, find_of, finds_by}
-use Rattle.run_entering.specs.Entered.{FitsInsertion, IsFoundIn, IsWay}
-use Rattle.run_entering.specs.Told.{IsToldOf}
-use Rattle.run_within.specs.Within.{Within}
+use Rattle.run_promise.specs.Origin.{Origin}
+use Rattle.run_promise.specs.Beside.{HaveLeftMore}
+use Rattle.run_note_record.specs.Ringed.{Seating, one_behind, Since, since_in}
+use Rattle.run_note_record.specs.OnCards.{PlacesStay}
+use Rattle.run_note_record.specs.RingsSoFar.{AreFewer}
+use Rattle.run_minutes.specs.declared.keeper.Keeper.{Keeper}
+use Rattle.run_minutes.specs.declared.keeper.Moment.{Moment as KeepingAt}
+use Rattle.run_insertion.specs.declared.lines.Entering.{Entering}
+use Rattle.run_insertion.specs.Entering.{Ending, Unfit, Ahead, Fell, Unasked, Unnoted, Seated, Lost, Way, Unread, Unsized, Judged, ending_of, sizes_by, measured, cabin_by, noted_by, and_one, insertion_of, find_of, finds_by}
+use Rattle.run_insertion.specs.Entered.{FitsInsertion, IsFoundIn, IsWay}
+use Rattle.run_insertion.specs.Told.{IsToldOf}
+use Rattle.run_record.specs.Within.{Within}
 use Rattle.run_acts.specs.Entered.{values_with, MayJudge, HasGone, AreSound}
 use Rattle.run_acts.specs.Recording.{IsOrigin, log_of}
 use Rattle.run_acts.specs.Ringing.{seating_of}

@@ -9,14 +9,14 @@ use Rattle.message_model.specs.Records.{insertion_ring}
 use Rattle.unit_notes.specs.declared.insertion.Insertion.{Insertion}
 use Rattle.unit_notes.specs.Entries.{insertion_bytes}
 use Rattle.run_crew.specs.declared.cabin.Cabin.{Cabin}
-use Rattle.run_told.proofs.Parts.{told-one}
-use Rattle.run_keeping.specs.declared.keeper.Keeper.{Keeper}
+use Rattle.run_devices.proofs.Parts.{told-one}
+use Rattle.run_minutes.specs.declared.keeper.Keeper.{Keeper}
 use Rattle.run_outcome.specs.declared.outcome.Outcome.{Outcome}
-use Rattle.run_entering.specs.declared.lines.Entering.{Entering}
-use Rattle.run_entering.specs.Entering.{Ending, Way, Unread, Unsized, Judged, Unfit, Ahead, Fell, Unasked, Unnoted, Seated, Lost, ending_of, insertion_of, seated, measured}
-use Rattle.run_entering.specs.Noted.{AreDone, AreBeingDone, HasNoted, UnitNote, Inserts, BeginsRow, Tells, IsOnUnit, IsComing, fault_of, moving_notes, unclosed_notes, notes_with, row_of}
-use Rattle.run_entering.specs.Entered.{IsPlace, HasEntered}
-use Rattle.run_ringed.specs.Ringed.{HasSameRings, LeavesRings, WritesImages, Around, MayBeAdded}
+use Rattle.run_insertion.specs.declared.lines.Entering.{Entering}
+use Rattle.run_insertion.specs.Entering.{Ending, Way, Unread, Unsized, Judged, Unfit, Ahead, Fell, Unasked, Unnoted, Seated, Lost, ending_of, insertion_of, seated, measured}
+use Rattle.run_insertion.specs.Noted.{AreDone, AreBeingDone, HasNoted, UnitNote, Inserts, BeginsRow, Tells, IsOnUnit, IsComing, fault_of, moving_notes, unclosed_notes, notes_with, row_of}
+use Rattle.run_insertion.specs.Entered.{IsPlace, HasEntered}
+use Rattle.run_note_record.specs.Ringed.{HasSameRings, LeavesRings, WritesImages, Around, MayBeAdded}
 use Rattle.run_rings.proofs.Same.{same-rings, then-same, outside-both, table-outside, rings-then}
 use Rattle.run_acts.proofs.Ringing.{added-moment, leaves-writes}
 use Rattle.recorder_with_cards.specs.EnteredRings.{InsertsAt, WritesBy, AcceptWrites}

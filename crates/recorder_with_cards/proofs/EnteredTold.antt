@@ -11,11 +11,11 @@ use Rattle.unit_model.specs.declared.layout.TheConstants.{FIRST_OVER, OVER_COUNT
 use Rattle.unit_model.specs.Image as image
 use Rattle.event_model.specs.declared.kinds.TheConstants.{CARD_NOT_VALID, TIME_OVERLAP, INSERTION_WHILE_DRIVING, SESSION_NOT_CLOSED, CARD_FAULT, OVER_SPEEDING}
 use Rattle.event_model.specs.Events.{Event, Crew, Seen, Tearing, number_of, noted_with, crew_judged}
-use Rattle.side_model.specs.Tables.{table_in}
+use Rattle.note_model.specs.Tables.{table_in}
 use Rattle.unit_notes.specs.Entries.{fault_bytes}
 use Rattle.unit_notes.specs.Noting.{IsEventNoted, IsNotingEvent}
-use Rattle.event_course.specs.Shown.{all_kinds}
-use Rattle.event_notes.proofs.Frames.{others-same, numbers-same}
+use Rattle.unit_events.specs.Shown.{all_kinds}
+use Rattle.unit_events.proofs.NoteFrames.{others-same, numbers-same}
 use Rattle.run_events.specs.Shown.{by_kind, none, ShowsMore, AreNumbers, SaysNothingBut}
 use Rattle.run_events.specs.Running.{judged_notes}
 use Rattle.run_events.proofs.Shows.{more-then, nothing-more, nothing-but}
@@ -23,10 +23,10 @@ use Rattle.run_events.proofs.Frames.{all-apart, event-more, event-but, between-n
 use Rattle.run_crew.specs.declared.cabin.Cabin.{Cabin}
 use Rattle.run_crew.specs.declared.cards.Crew.{Crew as Numbers}
 use Rattle.run_crew.specs.Cabin.{torn_out, crew_of}
-use Rattle.run_notes.specs.Entries.{IsCrewOf, entry_of}
-use Rattle.run_entering.specs.declared.lines.Entering.{Entering}
-use Rattle.run_entering.specs.Entering.{Ending, Unfit, Ahead, Fell, Unasked, Unnoted, Seated, Lost, seated}
-use Rattle.run_entering.specs.Noted.{AreDone, AreBeingDone, UnitNote, Inserts, BeginsRow, Tells, IsOnUnit, IsComing, event_of, fault_of, moving_notes, unclosed_notes, notes_by}
+use Rattle.run_events.specs.Entries.{IsCrewOf, entry_of}
+use Rattle.run_insertion.specs.declared.lines.Entering.{Entering}
+use Rattle.run_insertion.specs.Entering.{Ending, Unfit, Ahead, Fell, Unasked, Unnoted, Seated, Lost, seated}
+use Rattle.run_insertion.specs.Noted.{AreDone, AreBeingDone, UnitNote, Inserts, BeginsRow, Tells, IsOnUnit, IsComing, event_of, fault_of, moving_notes, unclosed_notes, notes_by}
 use Rattle.recorder_with_cards.specs.EnteredTold.{IsTold, TellEvents, AreUnsure, moving_events, unclosed_events, events_by, IsLow, AreNamed}
 
 -- what was noted leaves the other types alone

@@ -18,33 +18,33 @@ use Rattle.event_model.specs.Spans.{gap_of}
 use Rattle.event_model.specs.Events.{Event, Crew, Seen, crew_of as sitting_crew, accepted_card, noted_with, with_card, seen_of, seen_spans}
 use Rattle.unit_notes.specs.declared.unit_event.UnitEvent.{UnitEvent}
 use Rattle.safety_model.specs.Safe.{Devices, breakdowns_of}
-use Rattle.slot_machine.specs.Calls.{Seats, seat_in, card_in, is_card}
+use Rattle.card_slots.specs.Calls.{Seats, seat_in, card_in, is_card}
 use Rattle.run_crew.specs.declared.cabin.Cabin.{Cabin}
 use Rattle.run_crew.specs.declared.cards.Cards.{Cards}
 use Rattle.run_crew.specs.Cards.{session_of, with_session}
 use Rattle.run_crew.specs.Cabin.{Stands, left_from, torn_out, crew_of}
-use Rattle.run_notes.specs.Entries.{IsCrewOf}
+use Rattle.run_events.specs.Entries.{IsCrewOf}
 use Rattle.run_course.specs.Followed.{Progress}
 use Rattle.run_course.specs.Moments.{and_break}
-use Rattle.run_moments.specs.Reached.{course_at, Reaches, IsTearAt}
-use Rattle.run_moments.proofs.Lines.{who-sits, tear-seen}
-use Rattle.run_moments.proofs.Moment.{reaches-of}
+use Rattle.run_course.specs.Reached.{course_at, Reaches, IsTearAt}
+use Rattle.run_course.proofs.Lines.{who-sits, tear-seen}
+use Rattle.run_course.proofs.Moment.{reaches-of}
 use Rattle.run_outcome.specs.Lines.{Listed}
 use Rattle.run_outcome.specs.declared.outcome.Outcome.{Outcome}
-use Rattle.run_recorded.specs.Origin.{Origin, start_at}
-use Rattle.run_recorded.specs.Beside.{HaveLeftMore}
-use Rattle.run_keeping.specs.Keeping.{Fell, tear_of}
-use Rattle.run_keeping.proofs.Fates.{no-lines}
-use Rattle.run_within.specs.Within.{told_before}
-use Rattle.run_within.proofs.Pulling.{sitting-now}
-use Rattle.run_within.proofs.Seats.{card-seated}
-use Rattle.run_evented.specs.Evented.{number_in}
-use Rattle.run_evented.specs.Noting.{Waking, Acting}
-use Rattle.run_evented.specs.SoFar.{Adds, EventedNow, BeginsNow, AreBare, FallsAt, crew_at, fault_with, interruption}
-use Rattle.run_evented.specs.Kept.{interruption_of}
-use Rattle.run_evented.proofs.Adding.{call-notes}
-use Rattle.run_evented.proofs.Cutting.{failure-cuts}
-use Rattle.run_evented.proofs.Waking.{interruption-adds}
+use Rattle.run_promise.specs.Origin.{Origin, start_at}
+use Rattle.run_promise.specs.Beside.{HaveLeftMore}
+use Rattle.run_minutes.specs.Keeping.{Fell, tear_of}
+use Rattle.run_minutes.proofs.Fates.{no-lines}
+use Rattle.run_record.specs.Within.{told_before}
+use Rattle.run_record.proofs.Pulling.{sitting-now}
+use Rattle.run_record.proofs.Seats.{card-seated}
+use Rattle.run_note_record.specs.Evented.{number_in}
+use Rattle.run_note_record.specs.Noting.{Waking, Acting}
+use Rattle.run_note_record.specs.EventsSoFar.{Adds, EventedNow, BeginsNow, AreBare, FallsAt, crew_at, fault_with, interruption}
+use Rattle.run_note_record.specs.Kept.{interruption_of}
+use Rattle.run_note_record.proofs.Adding.{call-notes}
+use Rattle.run_note_record.proofs.Cutting.{failure-cuts}
+use Rattle.run_note_record.proofs.EventsWaking.{interruption-adds}
 use Rattle.run_acts.specs.declared.run.Run.{Run}
 use Rattle.run_acts.specs.Acting.{IsNotedOn, IsNotedIn, now_moment}
 use Rattle.run_acts.specs.Noting.{GapReach, NoGap, UnitFailed, DriverFell, BothSlots, AreGapEvents, fall_events, gap_event}

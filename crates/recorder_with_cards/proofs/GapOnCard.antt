@@ -7,14 +7,14 @@ use Rattle.trace_model.specs.declared.Card.{Card}
 use Rattle.tach_media.specs.Medium.{State}
 use Rattle.tacho_types.specs.declared.texts.Registration.{Registration}
 use Rattle.card_layout.specs.declared.files.Application.{Application}
-use Rattle.card_records.specs.declared.card_event.CardEvent.{CardEvent}
+use Rattle.card_files.specs.declared.card_event.CardEvent.{CardEvent}
 use Rattle.event_model.specs.declared.entries.Span.{Span}
 use Rattle.event_model.specs.declared.kinds.TheConstants.{INSERTION_WHILE_DRIVING, SESSION_NOT_CLOSED, POWER_INTERRUPTION}
 use Rattle.event_model.specs.Events.{Event, Seen, number_of}
 use Rattle.log_model.specs.Log.{RunLog}
-use Rattle.side_model.specs.Done.{has_failed_in}
+use Rattle.note_model.specs.Done.{has_failed_in}
 use Rattle.run_crew.specs.declared.cards.Accepted.{Accepted}
-use Rattle.run_entering.specs.CardEvents.{events_in, all_noted, of_type, ShowsThese, ShowsMore}
+use Rattle.run_insertion.specs.CardEvents.{events_in, all_noted, of_type, ShowsThese, ShowsMore}
 use Rattle.run_acts.specs.CardNotes.{NotesOn, gap_on}
 use Rattle.run_acts.specs.OnCards.{events_by, gaps_on, enters, falls, may_note, is_clear, is_sure_in, NotesThem}
 

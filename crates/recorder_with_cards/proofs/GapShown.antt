@@ -16,12 +16,12 @@ use Rattle.log_model.specs.Causes.{second_of}
 use Rattle.log_model.specs.Log.{RunLog, Phase, In, cut_in, is_torn_in, found_in, tears_here}
 use Rattle.log_model.specs.Slots.{in_slot, same_card}
 use Rattle.log_model.specs.Course.{fresh, unmoved, went}
-use Rattle.side_model.specs.Done.{has_failed_in}
-use Rattle.slot_machine.specs.Calls.{seat_in, card_in}
+use Rattle.note_model.specs.Done.{has_failed_in}
+use Rattle.card_slots.specs.Calls.{seat_in, card_in}
 use Rattle.tacho_types.specs.declared.texts.Registration.{Registration}
 use Rattle.safety_model.specs.Safe.{Devices, card_of}
-use Rattle.unit_course.specs.Followed.{Supply, MayPower}
-use Rattle.unit_course.specs.Lines.{cut_at}
+use Rattle.run_unit_course.specs.Followed.{Supply, MayPower}
+use Rattle.run_unit_course.specs.Lines.{cut_at}
 use Rattle.run_crew.specs.declared.cards.Cards.{Cards}
 use Rattle.run_crew.specs.declared.cards.Accepted.{Accepted}
 use Rattle.run_crew.specs.declared.cabin.Cabin.{Cabin}
@@ -31,22 +31,22 @@ use Rattle.run_course.specs.Followed.{Progress, Followed}
 use Rattle.run_course.specs.Moments.{and_break}
 use Rattle.run_course.specs.Seconds.{GoesOnBy}
 use Rattle.run_course.proofs.Lookups.{break-more}
-use Rattle.run_keeping.specs.Keeping.{with_lines, tear_of}
-use Rattle.run_keeping.specs.declared.keeper.Moment.{Moment}
+use Rattle.run_minutes.specs.Keeping.{with_lines, tear_of}
+use Rattle.run_minutes.specs.declared.keeper.Moment.{Moment}
 use Rattle.run_outcome.specs.Lines.{Listed}
 use Rattle.run_outcome.specs.declared.outcome.Outcome.{Outcome}
-use Rattle.run_recorded.specs.Origin.{Origin, rule_of, start_at, first_of}
-use Rattle.run_recorded.specs.Beside.{HaveLeftMore}
-use Rattle.run_recorded.specs.Seconds.{found_again}
-use Rattle.run_within.specs.Recorded.{Values, Recorded, progress}
-use Rattle.run_within.proofs.Pulling.{sitting-now}
-use Rattle.run_within.proofs.Seats.{card-seated}
-use Rattle.run_evented.specs.Evented.{NotesNothing, Evented}
-use Rattle.run_evented.specs.SoFar.{AreBare, interruption}
-use Rattle.run_evented.specs.Kept.{interruption_of}
-use Rattle.run_evented.proofs.Exact.{fewer-none}
-use Rattle.run_ringed.specs.SoFar.{HasMoreBreaks}
-use Rattle.run_ringed.proofs.SoFar.{failed-more}
+use Rattle.run_promise.specs.Origin.{Origin, rule_of, start_at, first_of}
+use Rattle.run_promise.specs.Beside.{HaveLeftMore}
+use Rattle.run_promise.specs.Seconds.{found_again}
+use Rattle.run_record.specs.Recorded.{Values, Recorded, progress}
+use Rattle.run_record.proofs.Pulling.{sitting-now}
+use Rattle.run_record.proofs.Seats.{card-seated}
+use Rattle.run_note_record.specs.Evented.{NotesNothing, Evented}
+use Rattle.run_note_record.specs.EventsSoFar.{AreBare, interruption}
+use Rattle.run_note_record.specs.Kept.{interruption_of}
+use Rattle.run_note_record.proofs.Exact.{fewer-none}
+use Rattle.run_note_record.specs.RingsSoFar.{HasMoreBreaks}
+use Rattle.run_note_record.proofs.SoFar.{failed-more}
 use Rattle.run_acts.specs.declared.run.Run.{Run}
 use Rattle.run_acts.specs.Acting.{IsNotedIn, now_moment}
 use Rattle.run_acts.specs.Noting.{GapReach, NoGap, UnitFailed, DriverFell, BothSlots, IsGapNoted}

@@ -10,22 +10,21 @@ use Rattle.minute_rules.specs.Kept.{StandsFor, Kept as Minutes}
 use Rattle.log_model.specs.Log.{In}
 use Rattle.log_model.specs.Course.{Told}
 use Rattle.history_model.specs.Presence.{card_start}
-use Rattle.unit_course.specs.Followed.{Supply}
-use Rattle.unit_course.specs.Followed.{Lit as IsLitBy, Due as IsDueBy, Lost as IsLostBy}
-use Rattle.unit_course.specs.Turn.{span_at, begins_with}
+use Rattle.run_unit_course.specs.Followed.{Supply, Lit as IsLitBy, Due as IsDueBy, Lost as IsLostBy}
+use Rattle.run_unit_course.specs.Turn.{span_at, begins_with}
 use Rattle.unit_model.specs.Image.{odometer_at}
 use Rattle.unit_rule.specs.Odometer.{odometer_after}
 use Rattle.safety_model.specs.Safe.{Devices}
-use Rattle.run_rule.specs.Found.{found_of}
+use Rattle.run_promise.specs.Found.{found_of}
 use Rattle.run_crew.specs.declared.cabin.Cabin.{Cabin}
 use Rattle.run_crew.specs.Cabin.{Stands, with_minute_ended}
 use Rattle.run_outcome.specs.declared.outcome.TheConstants.{MOST_OWED}
 use Rattle.run_outcome.specs.declared.outcome.Outcome.{Outcome}
-use Rattle.run_recorded.specs.Origin.{Origin, rule_of, start_at}
+use Rattle.run_promise.specs.Origin.{Origin, rule_of, start_at}
 use Rattle.history_model.specs.Book.{Book}
-use Rattle.run_within.specs.Recorded.{progress, Recorded}
-use Rattle.run_within.specs.Within.{Beginning, GoesOn, begun_behind, undecided_from}
-use Rattle.run_within.proofs.Beginning.{second-begins, minute-over}
+use Rattle.run_record.specs.Recorded.{progress, Recorded}
+use Rattle.run_record.specs.Within.{Beginning, GoesOn, begun_behind, undecided_from}
+use Rattle.run_record.proofs.Beginning.{second-begins, minute-over}
 use Rattle.run_acts.specs.declared.run.Run.{Run}
 use Rattle.run_acts.specs.declared.run.Power.{Power}
 use Rattle.run_acts.specs.declared.run.Power.TheVariants.{Lit}
@@ -36,8 +35,8 @@ use Rattle.run_acts.specs.Recording.{log_of, IsOrigin, Supplies, values_of, RunR
 use Rattle.run_acts.proofs.Kept.{owing-sum}
 use Rattle.minute_model.proofs.Counted.{ahead-most}
 use Rattle.recorder_with_cards.proofs.AwakeRooms.{is-due}
-use Rattle.side_model.specs.Noted.{Note}
-use Rattle.run_ringed.specs.Ringed.{notes_in}
+use Rattle.note_model.specs.Noted.{Note}
+use Rattle.run_note_record.specs.Ringed.{notes_in}
 use Rattle.run_acts.specs.Closings.{notes_within}
 use Rattle.run_acts.specs.Truths.{truths_of, truths_within, marked}
 use Rattle.run_acts.specs.Stays.{AllStay}

@@ -17,27 +17,27 @@ use Rattle.log_model.specs.Slots.{refusal, other_slot, same_card}
 use Rattle.log_model.specs.Course.{Visit}
 use Rattle.unit_model.specs.Image.{odometer_at}
 use Rattle.unit_rule.specs.Odometer.{odometer_by, odometer_after}
-use Rattle.side_model.specs.Odometer.{SpanFrom}
-use Rattle.side_model.specs.Odometer as side
+use Rattle.note_model.specs.Odometer.{SpanFrom}
+use Rattle.note_model.specs.Odometer as side
 use Rattle.safety_model.specs.Safe.{Devices}
-use Rattle.slot_machine.specs.Calls.{Seats, seat_in, is_card, logged}
-use Rattle.run_moments.specs.Moment.{entering_by}
+use Rattle.card_slots.specs.Calls.{Seats, seat_in, is_card, logged}
+use Rattle.run_course.specs.Moment.{entering_by}
 use Rattle.run_outcome.specs.declared.outcome.Outcome.{Outcome}
-use Rattle.run_ringed.specs.Ringed.{since_in}
-use Rattle.run_recorded.specs.Origin.{Origin}
-use Rattle.run_keeping.specs.declared.keeper.Moment.{Moment}
-use Rattle.run_keeping.specs.Books.{HaveTime}
-use Rattle.run_keeping.specs.Keeping.{Fate, Still, Has, Fell, breaks_by, tear_of}
-use Rattle.run_keeping.specs.Minutes.{Told, AreKept, none, more}
-use Rattle.run_within.specs.Within.{Beginning}
-use Rattle.run_within.specs.Taking.{IsPut, AreTearsAt, MayBeJudged}
-use Rattle.run_within.proofs.Putting.{card-put, entered-next}
+use Rattle.run_note_record.specs.Ringed.{since_in}
+use Rattle.run_promise.specs.Origin.{Origin}
+use Rattle.run_minutes.specs.declared.keeper.Moment.{Moment}
+use Rattle.run_minutes.specs.Books.{HaveTime}
+use Rattle.run_minutes.specs.Keeping.{Fate, Still, Has, Fell, breaks_by, tear_of}
+use Rattle.run_minutes.specs.Minutes.{Told, AreKept, none, more}
+use Rattle.run_record.specs.Within.{Beginning}
+use Rattle.run_record.specs.Taking.{IsPut, AreTearsAt, MayBeJudged}
+use Rattle.run_record.proofs.Putting.{card-put, entered-next}
 use Rattle.run_acts.specs.declared.run.Run.{Run}
 use Rattle.run_crew.specs.Cabin.{SitsThere, Stands, with_card_in}
 use Rattle.run_crew.specs.Cards.{session_of}
 use Rattle.run_crew.specs.declared.cards.Accepted.{Accepted}
-use Rattle.side_model.specs.Noted.{Note}
-use Rattle.slot_machine.specs.declared.seats.Seat.{Seat}
+use Rattle.note_model.specs.Noted.{Note}
+use Rattle.card_slots.specs.declared.seats.Seat.{Seat}
 use Rattle.run_acts.specs.Closings.{spells_of, last_slot, notes_within}
 use Rattle.run_acts.specs.Truths.{truths_within, marked}
 use Rattle.run_acts.specs.Stays.{sits_in, IsPlaced, AllStay}
@@ -45,8 +45,8 @@ use Rattle.run_acts.proofs.AllStay.{Moves, moves-bare, moves-same, placed-bare, 
 use Rattle.run_acts.proofs.SeatsThen.{same-as, put-other, filled-slot}
 use Rattle.run_acts.proofs.NotesThen.{put-now}
 use Rattle.recorder_with_cards.proofs.Allowed.{insert-empty, insert-elsewhere}
-use Rattle.run_evented.specs.Noting.{Acting}
-use Rattle.run_evented.specs.SoFar.{EventedNow, puts_into}
+use Rattle.run_note_record.specs.Noting.{Acting}
+use Rattle.run_note_record.specs.EventsSoFar.{EventedNow, puts_into}
 use Rattle.run_acts.specs.Acting.{IsSettled, IsBareIn, told_of}
 use Rattle.run_acts.specs.Evented.{EventsGoOn, EventsSettling, IsUntold}
 use Rattle.run_acts.specs.Recording.{log_of, values_of, RunWithin, RunFails, GoesOnOrFails, IsNow}

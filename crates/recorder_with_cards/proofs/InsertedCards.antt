@@ -11,8 +11,8 @@ use Rattle.trace_model.specs.Trace.{TraceSecond}
 use Rattle.tach_media.specs.Medium.{State}
 use Rattle.tacho_types.specs.declared.texts.Registration.{Registration}
 use Rattle.card_layout.specs.declared.files.Application.{Application}
-use Rattle.card_records.specs.declared.card_event.CardEvent.{CardEvent}
-use Rattle.card_records.specs.declared.current_use.CurrentUse.{CurrentUse}
+use Rattle.card_files.specs.declared.card_event.CardEvent.{CardEvent}
+use Rattle.card_files.specs.declared.current_use.CurrentUse.{CurrentUse}
 use Rattle.event_model.specs.declared.kinds.TheConstants.{INSERTION_WHILE_DRIVING, SESSION_NOT_CLOSED, POWER_INTERRUPTION}
 use Rattle.event_model.specs.Events.{Seen, number_of}
 use Rattle.log_model.specs.declared.lines.Break.{Break}
@@ -23,19 +23,19 @@ use Rattle.log_model.specs.Slots.{Sitting, in_slot, refusal, same_card}
 use Rattle.log_model.specs.Course.{Course, Before, Moved, Visit, visits, leaves, with_slot, carried_out, answered, moved_by, slot_told, both_told, begins, acted, card_in, went}
 use Rattle.safety_model.specs.Safe.{Devices, card_of}
 use Rattle.run_outcome.specs.declared.outcome.Outcome.{Outcome}
-use Rattle.side_model.specs.Done.{has_failed_in}
-use Rattle.run_recorded.specs.Origin.{Origin}
-use Rattle.run_recorded.specs.Beside.{HaveLeftMore}
-use Rattle.run_recorded.specs.Whole.{NothingFailed}
-use Rattle.run_evented.specs.Evented.{images_in}
-use Rattle.run_evented.specs.Uses.{notes_now, uses_in}
-use Rattle.run_evented.proofs.Exact.{fewer-none, no-cut}
-use Rattle.run_entering.specs.CardEvents.{events_in, all_noted}
+use Rattle.note_model.specs.Done.{has_failed_in}
+use Rattle.run_promise.specs.Origin.{Origin}
+use Rattle.run_promise.specs.Beside.{HaveLeftMore}
+use Rattle.run_promise.specs.Whole.{NothingFailed}
+use Rattle.run_note_record.specs.Evented.{images_in}
+use Rattle.run_note_record.specs.Uses.{notes_now, uses_in}
+use Rattle.run_note_record.proofs.Exact.{fewer-none, no-cut}
+use Rattle.run_insertion.specs.CardEvents.{events_in, all_noted}
 use Rattle.run_rings.specs.Notes.{TellSameTo, course_behind}
-use Rattle.run_ringed.specs.SoFar.{HasMoreBreaks}
-use Rattle.run_ringed.specs.Steps.{GoesOnTo, IsCutIn}
-use Rattle.run_ringed.proofs.SoFar.{failed-more}
-use Rattle.run_within.specs.Within.{course_in}
+use Rattle.run_note_record.specs.RingsSoFar.{HasMoreBreaks}
+use Rattle.run_note_record.specs.Steps.{GoesOnTo, IsCutIn}
+use Rattle.run_note_record.proofs.SoFar.{failed-more}
+use Rattle.run_record.specs.Within.{course_in}
 use Rattle.run_acts.specs.declared.run.Run.{Run}
 use Rattle.run_acts.specs.Recording.{log_of, values_of, RunWithin}
 use Rattle.run_acts.specs.RunRinged.{with_cut}

@@ -12,23 +12,23 @@ use Rattle.log_model.specs.declared.lines.Verdict.{Verdict}
 use Rattle.log_model.specs.Log.{RunLog, In, cut_in, found_in, is_accepting}
 use Rattle.log_model.specs.Slots.{refusal}
 use Rattle.log_model.specs.Course.{Told, Before, Visit, begins, went}
-use Rattle.side_model.specs.Odometer.{SpanFrom, odometer_at}
-use Rattle.side_model.specs.Noted.{Note, Accepts}
+use Rattle.note_model.specs.Odometer.{SpanFrom, odometer_at}
+use Rattle.note_model.specs.Noted.{Note, Accepts}
 use Rattle.safety_model.specs.Safe.{Devices}
 use Rattle.unit_rule.specs.Odometer.{odometer_by}
 use Rattle.run_outcome.specs.declared.outcome.Outcome.{Outcome}
-use Rattle.run_recorded.specs.Origin.{Origin}
-use Rattle.run_recorded.specs.Beside.{HaveLeftMore}
+use Rattle.run_promise.specs.Origin.{Origin}
+use Rattle.run_promise.specs.Beside.{HaveLeftMore}
 use Rattle.run_rings.specs.Notes.{TellSameTo, NotesMore, accepts_by, course_behind}
 use Rattle.run_rings.specs.Spans.{with_second}
 use Rattle.run_rings.proofs.Actions.{insertions}
-use Rattle.run_ringed.specs.Ringed.{StaysInRings, since_in}
-use Rattle.run_ringed.specs.OnCards.{PlacesStay}
-use Rattle.run_ringed.specs.SoFar.{RingedBehind, RingedIn, AreFewer, HasMoreBreaks}
-use Rattle.run_ringed.specs.Steps.{GoesOnTo, IsCutIn, nobody, spans_cut}
-use Rattle.run_ringed.proofs.SoFar.{go-on-in}
-use Rattle.run_ringed.proofs.Steps.{passes, action-cut, card-accepted, acceptance-is-cut}
-use Rattle.run_within.specs.Within.{Beginning, course_in}
+use Rattle.run_note_record.specs.Ringed.{StaysInRings, since_in}
+use Rattle.run_note_record.specs.OnCards.{PlacesStay}
+use Rattle.run_note_record.specs.RingsSoFar.{RingedBehind, RingedIn, AreFewer, HasMoreBreaks}
+use Rattle.run_note_record.specs.Steps.{GoesOnTo, IsCutIn, nobody, spans_cut}
+use Rattle.run_note_record.proofs.SoFar.{go-on-in}
+use Rattle.run_note_record.proofs.RingSteps.{passes, action-cut, card-accepted, acceptance-is-cut}
+use Rattle.run_record.specs.Within.{Beginning, course_in}
 use Rattle.run_acts.specs.declared.run.Run.{Run}
 use Rattle.run_acts.specs.Recording.{log_of, values_of, RunWithin}
 use Rattle.run_acts.specs.RunRinged.{seats_of, IsLastFrom, RingsWithin, with_cut, RingsGoOn}

@@ -9,25 +9,25 @@ use Rattle.log_model.specs.Course.{Visit}
 use Rattle.unit_rule.specs.Rule.{Started}
 use Rattle.unit_rule.specs.Odometer.{odometer_after}
 use Rattle.safety_model.specs.Safe.{Devices}
-use Rattle.run_told.specs.Told.{arranged}
+use Rattle.run_devices.specs.Told.{arranged}
 use Rattle.run_outcome.specs.declared.outcome.Outcome.{Outcome}
-use Rattle.run_recorded.specs.Origin.{Origin}
-use Rattle.run_keeping.specs.Books.{HaveTime}
+use Rattle.run_promise.specs.Origin.{Origin}
+use Rattle.run_minutes.specs.Books.{HaveTime}
 use Rattle.run_acts.specs.Entered.{IsFoundBy, GoesOnOrIsCut}
-use Rattle.run_within.specs.Within.{Beginning}
+use Rattle.run_record.specs.Within.{Beginning}
 use Rattle.run_acts.specs.declared.run.Run.{Run}
 use Rattle.run_acts.specs.declared.run.Power.TheVariants.{Lit}
 use Rattle.run_acts.specs.Recording.{log_of, IsOrigin, values_of, RunWithin}
 use Rattle.activity_codec.specs.declared.values.Slot.{Slot}
 use Rattle.unit_model.specs.Image.{IsUnit, odometer_at}
 use Rattle.unit_notes.specs.declared.unit_event.UnitEvent.{UnitEvent}
-use Rattle.run_rule.specs.Between.{devices}
-use Rattle.run_keeping.specs.declared.keeper.Moment.{Moment}
-use Rattle.run_entering.specs.declared.lines.Entering.{Entering}
-use Rattle.run_entering.specs.Entering.{Way, ending_of, measured}
-use Rattle.run_keeping.specs.declared.keeper.Keeper.{Keeper}
+use Rattle.run_promise.specs.Between.{devices}
+use Rattle.run_minutes.specs.declared.keeper.Moment.{Moment}
+use Rattle.run_insertion.specs.declared.lines.Entering.{Entering}
+use Rattle.run_insertion.specs.Entering.{Way, ending_of, measured}
+use Rattle.run_minutes.specs.declared.keeper.Keeper.{Keeper}
 use Rattle.recorder_with_cards.specs.EnteredEvents.{events_in}
-use Rattle.run_entering.specs.Noted.{UnitNote, IsOnUnit, IsComing, HasNoted, notes_by}
+use Rattle.run_insertion.specs.Noted.{UnitNote, IsOnUnit, IsComing, HasNoted, notes_by}
 use Rattle.run_acts.specs.NotedEvents.{NotesEvents}
 use Rattle.run_acts.proofs.NotedEvents.{quiet-noted}
 use Rattle.recorder_with_cards.proofs.EnteredEvents.{entered-noted}

@@ -14,21 +14,20 @@ use Rattle.log_model.specs.Spans.{go_on, spans_with, spans_of, first_in}
 use Rattle.log_model.proofs.Growth.{went-more}
 use Rattle.log_model.proofs.Spanning.{spans-more, spans-new, spans-on}
 use Rattle.history_model.specs.History.{cut_second}
-use Rattle.side_model.specs.Done.{has_failed_in}
-use Rattle.side_model.specs.Odometer.{SpanFrom}
+use Rattle.note_model.specs.Done.{has_failed_in}
+use Rattle.note_model.specs.Odometer.{SpanFrom}
 use Rattle.safety_model.specs.Safe.{Devices}
-use Rattle.unit_course.specs.Lines.{log_of, tells_cut}
-use Rattle.unit_course.specs.Followed.{Supply}
-use Rattle.unit_course.specs.Followed.{Lit as IsLit, Due as IsDue, Lost as IsLost}
-use Rattle.run_recorded.specs.Origin.{Origin}
-use Rattle.run_recorded.specs.Ends.{AreFound}
-use Rattle.run_ringed.specs.Stored.{IsFoundEnd, IsOpenEnd, StoresOn, StoresOff, Stores}
+use Rattle.run_unit_course.specs.Lines.{log_of, tells_cut}
+use Rattle.run_unit_course.specs.Followed.{Supply, Lit as IsLit, Due as IsDue, Lost as IsLost}
+use Rattle.run_promise.specs.Origin.{Origin}
+use Rattle.run_promise.specs.Ends.{AreFound}
+use Rattle.run_note_record.specs.Stored.{IsFoundEnd, IsOpenEnd, StoresOn, StoresOff, Stores}
 use Rattle.run_outcome.specs.declared.outcome.Outcome.{Outcome}
 use Rattle.run_acts.specs.declared.run.Run.{Run}
 use Rattle.run_acts.specs.declared.run.Power.{Power}
 use Rattle.run_acts.specs.declared.run.Power.TheVariants.{Lit, Due, Lost}
 use Rattle.run_acts.specs.Power.{is_lit}
-use Rattle.run_within.specs.Recorded.{Recorded}
+use Rattle.run_record.specs.Recorded.{Recorded}
 use Rattle.run_acts.specs.Recording.{log_of as log_in, values_of, Supplies, RunRecorded}
 use Rattle.recorder_with_cards.specs.KeptAfter.{WasKept, IsFoundAfter, AreFoundAfter}
 

@@ -8,9 +8,9 @@ use Rattle.unit_model.specs.Image.{last_kept}
 use Rattle.log_model.specs.declared.lines.Mark.{Mark}
 use Rattle.history_model.specs.Minutes.{HistoryMinute}
 use Rattle.history_model.specs.Book.{Book, IsNext, IsMark, Follows}
-use Rattle.joint_rule.specs.Views.{unit_view}
-use Rattle.joint_rule.specs.Rules.{Showed}
-use Rattle.joint_rule.specs.Filling.{FillsDays}
+use Rattle.device_rule.specs.Views.{unit_view}
+use Rattle.device_rule.specs.Rules.{Showed}
+use Rattle.device_rule.specs.Filling.{FillsDays}
 use Rattle.safety_model.specs.Recording.{MayCome}
 use Rattle.safety_model.specs.Unit.{UnitShows, UnitSafe, marks_of}
 use Rattle.safety_model.proofs.Giving.{passed-reached}

@@ -4,14 +4,14 @@ use Rattle.activity_codec.specs.declared.values.Slot.{Slot}
 use Rattle.activity_codec.specs.declared.values.Slot.TheVariants.{Driver, CoDriver}
 use Rattle.trace_model.specs.declared.Card.{Card}
 use Rattle.minute_model.specs.declared.Minute.{Minute}
-use Rattle.slot_machine.specs.declared.seats.Present.{Present}
+use Rattle.card_slots.specs.declared.seats.Present.{Present}
 use Rattle.run_outcome.specs.declared.outcome.Outcome.{Outcome}
-use Rattle.run_keeping.specs.declared.keeper.Moment.{Moment}
-use Rattle.run_keeping.specs.Keeping.{breaks_by, with_lines}
-use Rattle.run_keeping.specs.Minutes.{Round, Told, AreKept, none, more, AreKeptUpTo, told_after, present_at}
-use Rattle.run_keeping.proofs.Counts.{lines-length}
-use Rattle.run_entering.specs.declared.lines.Entering.{Entering}
-use Rattle.run_entering.specs.Entering.{ending_of, breaks_by as entered_breaks}
+use Rattle.run_minutes.specs.declared.keeper.Moment.{Moment}
+use Rattle.run_minutes.specs.Keeping.{breaks_by, with_lines}
+use Rattle.run_minutes.specs.Minutes.{Round, Told, AreKept, none, more, AreKeptUpTo, told_after, present_at}
+use Rattle.run_minutes.proofs.Counts.{lines-length}
+use Rattle.run_insertion.specs.declared.lines.Entering.{Entering}
+use Rattle.run_insertion.specs.Entering.{ending_of, breaks_by as entered_breaks}
 use Rattle.run_acts.specs.declared.run.Run.{Run}
 use Rattle.run_acts.specs.Acting.{IsSettled}
 use Rattle.recorder_with_cards.specs.Accepting.{IsAccepted, IsInserted}

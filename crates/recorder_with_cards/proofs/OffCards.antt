@@ -12,24 +12,24 @@ use Rattle.event_model.specs.Events.{Seen, number_of, seen_of, seen_spans, gap_e
 use Rattle.log_model.specs.Log.{RunLog, Keeping, cut_in, is_torn_in, kept_after, is_accepting}
 use Rattle.log_model.specs.Slots.{same_card}
 use Rattle.log_model.specs.Course.{Told, Course, Visit, Went, has_power, second_told, went, leaves, visits, slot_told, both_told, unmoved, all_acted, cut_told, lit_course}
-use Rattle.side_model.specs.Done.{course_powered}
-use Rattle.unit_course.specs.Lines.{cut_at}
-use Rattle.unit_course.specs.Followed.{Lit}
+use Rattle.note_model.specs.Done.{course_powered}
+use Rattle.run_unit_course.specs.Lines.{cut_at}
+use Rattle.run_unit_course.specs.Followed.{Lit}
 use Rattle.safety_model.specs.Safe.{Devices, card_of}
 use Rattle.run_course.specs.Moments.{and_break}
 use Rattle.run_course.specs.Followed.{Progress, Followed, HadActions}
 use Rattle.run_course.proofs.Lookups.{break-more}
 use Rattle.run_course.proofs.Told.{lit-told}
-use Rattle.run_recorded.specs.Origin.{Origin}
+use Rattle.run_promise.specs.Origin.{Origin}
 use Rattle.run_events.specs.Seconds.{gap_by, seen_next}
 use Rattle.run_events.specs.Choice.{AreEarlier}
 use Rattle.run_events.proofs.Growing.{seen-more}
 use Rattle.run_events.proofs.Later.{told-number, seen-same}
-use Rattle.run_evented.proofs.Brought.{lit-course, told-speed}
-use Rattle.run_evented.specs.Uses.{notes_in, uses_in}
-use Rattle.run_evented.proofs.Lines.{early}
-use Rattle.run_evented.proofs.Exact.{fewer-none}
-use Rattle.run_ringed.proofs.SoFar.{failed-more}
+use Rattle.run_note_record.proofs.Brought.{lit-course, told-speed}
+use Rattle.run_note_record.specs.Uses.{notes_in, uses_in}
+use Rattle.run_note_record.proofs.Lines.{early}
+use Rattle.run_note_record.proofs.Exact.{fewer-none}
+use Rattle.run_note_record.proofs.SoFar.{failed-more}
 use Rattle.run_acts.specs.OnCards.{as_accepted, accepted_in, gaps_on}
 use Rattle.run_acts.specs.RunCards.{vehicle_in, sizes_in, CardShown, CardsBehind}
 use Rattle.run_acts.proofs.OnCards.{gaps-next, still-same}

@@ -17,12 +17,12 @@ use Rattle.log_model.specs.Spans.{seconds_in, AreInOrder}
 use Rattle.log_model.specs.Course.{Told, Before, Went, begins, has_power, second_told, went}
 use Rattle.log_model.proofs.Growth.{went-more}
 use Rattle.log_model.proofs.Spanning.{order-parts}
-use Rattle.side_model.specs.Odometer.{SpanFrom, odometer_before, has_second, odometer_at}
-use Rattle.side_model.specs.Noted.{Note}
-use Rattle.unit_course.specs.Lines.{cut_at}
-use Rattle.unit_course.specs.Followed.{Lit}
-use Rattle.unit_course.specs.Turn.{cut_last}
-use Rattle.unit_course.proofs.Spans.{cut_spans, cut-spans-last}
+use Rattle.note_model.specs.Odometer.{SpanFrom, odometer_before, has_second, odometer_at}
+use Rattle.note_model.specs.Noted.{Note}
+use Rattle.run_unit_course.specs.Lines.{cut_at}
+use Rattle.run_unit_course.specs.Followed.{Lit}
+use Rattle.run_unit_course.specs.Turn.{cut_last}
+use Rattle.run_unit_course.proofs.Spans.{cut_spans, cut-spans-last}
 use Rattle.safety_model.specs.Safe.{Devices}
 use Rattle.run_course.specs.Moments.{and_break}
 use Rattle.run_course.specs.Followed.{Progress, Followed, HadActions}
@@ -33,18 +33,18 @@ use Rattle.run_course.proofs.Told.{told-lit}
 use Rattle.event_model.specs.Events.{Seen}
 use Rattle.run_events.specs.Running.{IsCutOff}
 use Rattle.run_events.proofs.Offs.{seen-off}
-use Rattle.run_evented.proofs.Opened.{come-as}
+use Rattle.run_note_record.proofs.Opened.{come-as}
 use Rattle.run_rings.specs.Notes.{notes_to, TellSameTo}
 use Rattle.run_rings.specs.Spans.{AreBefore, AreAllBefore}
 use Rattle.run_rings.proofs.Notes.{later-lines, second-noted}
 use Rattle.run_rings.proofs.Same.{rings-left}
-use Rattle.run_recorded.specs.Origin.{Origin}
-use Rattle.run_ringed.specs.Ringed.{Seating, Ringed, notes_in, noted_next, since_behind}
-use Rattle.run_ringed.specs.SoFar.{AreEarlier, RingedBehind, AreFewer}
-use Rattle.run_evented.proofs.Noted.{second-notes}
-use Rattle.run_ringed.proofs.OnCards.{call-failed-more, places-itself}
-use Rattle.run_ringed.proofs.Rings.{fewer-sit, rings-stay, come-before}
-use Rattle.run_ringed.proofs.SoFar.{failed-more, goes-alike, left-itself}
+use Rattle.run_promise.specs.Origin.{Origin}
+use Rattle.run_note_record.specs.Ringed.{Seating, Ringed, notes_in, noted_next, since_behind}
+use Rattle.run_note_record.specs.RingsSoFar.{AreEarlier, RingedBehind, AreFewer}
+use Rattle.run_note_record.proofs.Noted.{second-notes}
+use Rattle.run_note_record.proofs.OnCards.{call-failed-more, places-itself}
+use Rattle.run_note_record.proofs.Rings.{fewer-sit, rings-stay, come-before}
+use Rattle.run_note_record.proofs.SoFar.{failed-more, goes-alike, left-itself}
 use Rattle.run_acts.specs.Truths.{Grow, truths_of}
 use Rattle.run_acts.proofs.TruthsThen.{truths-end}
 

@@ -11,23 +11,23 @@ use Rattle.card_layout.proofs.Sizes.{largest_image}
 use Rattle.card_model.specs.Days.{AreDays}
 use Rattle.card_image.specs.Fields.{card_days}
 use Rattle.card_image.specs.Own.{own_view, own_sizes, own_number, own_bad_file, IsOwnValid}
-use Rattle.card_judge.proofs.Copies.{place_shape}
+use Rattle.card_validity.proofs.Copies.{place_shape}
 use Rattle.gated_ring.specs.Ring.{PointsInside, IsDense}
-use Rattle.device_steps.proofs.Passed.{valid-passes, pointer-passes}
-use Rattle.card_times.specs.Times.{IsTimed}
+use Rattle.device_calls.proofs.Passed.{valid-passes, pointer-passes}
+use Rattle.device_calls.specs.Times.{IsTimed}
 use Rattle.card_layout.specs.declared.command.CardState.{CardState}
 use Rattle.tacho_types.specs.declared.card_number.FullCardNumber.{FullCardNumber}
 use Rattle.tacho_types.specs.CardNumber.{card_number_bytes, card_number_of}
-use Rattle.log_model.specs.Log.{RunLog}
+use Rattle.log_model.specs.Log.{RunLog, is_accepting}
 use Rattle.log_model.specs.Course.{went}
 use Rattle.log_model.specs.Spans.{spans_of}
-use Rattle.side_model.specs.Done.{done_of}
-use Rattle.side_model.specs.Noted.{Note, notes_of}
-use Rattle.side_model.specs.Odometer.{MayStore, HaveBases}
+use Rattle.note_model.specs.Done.{done_of}
+use Rattle.note_model.specs.Noted.{Note, notes_of}
+use Rattle.note_model.specs.Odometer.{MayStore, HaveBases}
 use Rattle.history_model.specs.Book.{not_begun}
-use Rattle.joint_rule.specs.Rules.{Out}
-use Rattle.unit_course.specs.Followed.{Supply, Lit as IsLit, Due as IsDue, Lost as IsLost}
-use Rattle.unit_course.specs.Legs.{not_travelled}
+use Rattle.device_rule.specs.Rules.{Out}
+use Rattle.run_unit_course.specs.Followed.{Supply, Lit as IsLit, Due as IsDue, Lost as IsLost}
+use Rattle.run_unit_course.specs.Legs.{not_travelled}
 use Rattle.unit_model.specs.declared.layout.TheConstants.{HIGHEST_ODOMETER}
 use Rattle.unit_model.specs.Image.{recorded, last_kept, odometer_at}
 use Rattle.unit_model.specs.Decoding.{Decodes}
@@ -36,41 +36,41 @@ use Rattle.unit_rule.specs.Rule.{started, IsCards}
 use Rattle.unit_rule.specs.OtherRows.{valid_number}
 use Rattle.unit_rule.proofs.OtherRows.{valid-number, keeps-rows}
 use Rattle.unit_rule.proofs.Travelling.{travelled-opened}
-use Rattle.unit_journal.proofs.Beside.{passes_beside}
+use Rattle.unit_minutes.proofs.Beside.{passes_beside}
 use Rattle.unit_memory.specs.declared.memory.UnitFacts.{UnitFacts}
 use Rattle.safety_model.specs.Recording.{Recording, card_image, brought, history_of, lost_of, start_of}
 use Rattle.safety_model.specs.Unit.{UnitSafe}
 use Rattle.safety_model.specs.Safe.{Devices, card_of, breakdowns_of}
-use Rattle.slot_machine.specs.Kept.{nothing_yet}
+use Rattle.card_slots.specs.Kept.{nothing_yet}
 use Rattle.run_crew.specs.declared.cards.Accepted.{Accepted}
 use Rattle.run_crew.specs.declared.cards.Known.{Known}
 use Rattle.run_crew.specs.declared.cards.Cards.{Cards}
 use Rattle.run_crew.specs.Cards.{known_of as known_in, session_of}
-use Rattle.run_rule.specs.Found.{Found, found_of}
-use Rattle.run_rule.specs.Between.{Carried, IsCarried, IsFound, devices}
-use Rattle.run_rule.specs.Opening.{BeginsAs, carried_first}
-use Rattle.run_rule.proofs.End.{lit-carried}
-use Rattle.run_brought.specs.Accounts.{so_far}
-use Rattle.run_moments.specs.Telling.{IsMore}
-use Rattle.run_told.specs.Told.{AreFoundCards, IsHeldDark, IsPowerless}
-use Rattle.run_told.proofs.Opened.{opened-wait, opened-powerless}
-use Rattle.run_recorded.specs.Origin.{Origin, rule_of, start_at}
-use Rattle.run_recorded.specs.Ends.{EndsRun}
-use Rattle.run_recorded.specs.Seconds.{empty_log}
-use Rattle.run_recorded.proofs.Ends.{ends-run}
+use Rattle.run_promise.specs.Found.{Found, found_of}
+use Rattle.run_promise.specs.Between.{Carried, IsCarried, IsFound, devices}
+use Rattle.run_promise.specs.Opening.{BeginsAs, carried_first}
+use Rattle.run_promise.proofs.End.{lit-carried}
+use Rattle.run_promise.specs.Accounts.{so_far}
+use Rattle.run_course.specs.Telling.{IsMore}
+use Rattle.run_devices.specs.Told.{AreFoundCards, IsHeldDark, IsPowerless}
+use Rattle.run_devices.proofs.Opened.{opened-wait, opened-powerless}
+use Rattle.run_promise.specs.Origin.{Origin, rule_of, start_at}
+use Rattle.run_promise.specs.Ends.{EndsRun}
+use Rattle.run_promise.specs.Seconds.{empty_log}
+use Rattle.run_promise.proofs.RecordEnds.{ends-run}
 use Rattle.event_model.specs.Events.{Seen, seen_of}
-use Rattle.run_evented.specs.Evented.{images_in, Evented}
-use Rattle.run_evented.specs.Uses.{uses_from, use_behind, vehicle_of, use_in, insertions_on, uses_in}
-use Rattle.run_evented.proofs.Ends.{nothing-noted, events-shown}
-use Rattle.run_ringed.specs.OnCards.{places_in, HasPlaces}
-use Rattle.run_ringed.specs.Ringed.{Seating, Ringed, notes_in, since_behind}
-use Rattle.run_ringed.specs.SoFar.{AreEarlier, RingedBehind}
-use Rattle.run_ringed.specs.Stored.{StoresOff, Stores}
-use Rattle.run_ringed.proofs.Rings.{none-noted, fewer-sit}
-use Rattle.run_ringed.proofs.Shown.{rings-shown, places-shown}
-use Rattle.run_ringed.proofs.Bases.{stored-start}
-use Rattle.run_within.specs.Recorded.{Values, progress, carried, AreThere, IsHeldBy, Recorded}
-use Rattle.run_within.proofs.Going.{begun-recorded}
+use Rattle.run_note_record.specs.Evented.{images_in, Evented}
+use Rattle.run_note_record.specs.Uses.{uses_from, use_behind, vehicle_of, use_in, insertions_on, uses_in}
+use Rattle.run_note_record.proofs.Ends.{nothing-noted, events-shown}
+use Rattle.run_note_record.specs.OnCards.{places_in, HasPlaces}
+use Rattle.run_note_record.specs.Ringed.{Seating, Ringed, notes_in, since_behind}
+use Rattle.run_note_record.specs.RingsSoFar.{AreEarlier, RingedBehind}
+use Rattle.run_note_record.specs.Stored.{StoresOff, Stores}
+use Rattle.run_note_record.proofs.Rings.{none-noted, fewer-sit}
+use Rattle.run_note_record.proofs.Shown.{rings-shown, places-shown}
+use Rattle.run_note_record.proofs.Bases.{stored-start}
+use Rattle.run_record.specs.Recorded.{Values, progress, carried, AreThere, IsHeldBy, Recorded}
+use Rattle.run_record.proofs.Going.{begun-recorded}
 use Rattle.run_opening.specs.Begun.{Begin, found_in, known_of, IsReady}
 use Rattle.run_opening.specs.Cards.{IsFoundOn, number_by}
 use Rattle.run_opening.specs.declared.opening.Opened.{Opened}
@@ -104,10 +104,9 @@ use Rattle.run_acts.specs.Comings.{TellsMore}
 use Rattle.run_acts.proofs.Comings.{tells-none}
 use Rattle.run_acts.specs.Stays.{Stay, Coming, comings_on, registration_in, AreMerged, spells, sits_in, HasStays, ShowsStays, start_shown, AreOwed, AreJudged, is_late}
 use Rattle.recorder_with_cards.proofs.AtEnd.{noted-at-end, sits-at-end, words-so, odometers-so, owes-so}
-use Rattle.run_recorded.specs.Whole.{NothingFailed}
+use Rattle.run_promise.specs.Whole.{NothingFailed}
 use Rattle.run_crew.specs.Cabin.{Stands}
 use Rattle.std.specs.Prelude.{filter}
-use Rattle.log_model.specs.Log.{is_accepting}
 use Rattle.log_model.specs.Causes.{device_of}
 use Rattle.log_model.specs.declared.lines.Find.{Find}
 use Rattle.run_acts.proofs.Stays.{stays-start}

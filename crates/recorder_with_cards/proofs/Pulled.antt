@@ -6,16 +6,16 @@ use Rattle.trace_model.specs.declared.Card.TheVariants.{A, B}
 use Rattle.tach_media.specs.Medium.{State}
 use Rattle.card_layout.specs.declared.command.CardState.{CardState}
 use Rattle.minute_model.specs.Span.{ungiven_of}
-use Rattle.slot_machine.specs.Calls.{seat_in, card_in}
+use Rattle.card_slots.specs.Calls.{seat_in, card_in}
 use Rattle.run_crew.specs.declared.cards.Cards.{Cards}
 use Rattle.run_crew.specs.Cards.{with_session}
 use Rattle.run_crew.specs.Cabin.{Stands, torn_out}
 use Rattle.run_outcome.specs.declared.outcome.Outcome.{Outcome}
-use Rattle.run_keeping.specs.declared.keeper.Moment.{Moment}
-use Rattle.run_keeping.specs.Keeping.{CardReady, with_lines}
-use Rattle.run_keeping.proofs.Counts.{lines-length}
-use Rattle.run_keeping.proofs.Sessions.{number-set, row-set}
-use Rattle.run_keeping.proofs.Units.{has-row}
+use Rattle.run_minutes.specs.declared.keeper.Moment.{Moment}
+use Rattle.run_minutes.specs.Keeping.{CardReady, with_lines}
+use Rattle.run_minutes.proofs.Counts.{lines-length}
+use Rattle.run_minutes.proofs.Sessions.{number-set, row-set}
+use Rattle.run_minutes.proofs.Units.{has-row}
 use Rattle.run_acts.specs.declared.run.Run.{Run}
 use Rattle.run_acts.specs.Going.{CardAt, IsHeld, IsLit}
 use Rattle.run_acts.specs.Room.{Takes}

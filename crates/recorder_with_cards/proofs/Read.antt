@@ -6,34 +6,33 @@ use Rattle.tach_media.specs.Medium.{State, IsCoherent, LeavesOnly, Unchanged}
 use Rattle.log_model.specs.declared.lines.Break.{Break}
 use Rattle.log_model.specs.Course.{went}
 use Rattle.history_model.specs.Book.{all, IsMark}
-use Rattle.joint_rule.specs.Views.{unit_view}
+use Rattle.device_rule.specs.Views.{unit_view}
 use Rattle.unit_model.specs.Image.{last_kept, odometer_at}
 use Rattle.unit_model.specs.Decoding.{Check, checks, first_failing, first_bad_place, Decodes}
 use Rattle.unit_model.specs.Versions.{rule_by, rule_of}
 use Rattle.unit_memory.specs.declared.memory.UnitFacts.{UnitFacts}
 use Rattle.unit_memory.specs.Identified.{AreFacts}
 use Rattle.minute_model.specs.declared.Rule.{Rule}
-use Rattle.unit_course.specs.Followed.{Supply, MayPower}
-use Rattle.unit_course.specs.Followed.{Lit as IsLit, Due as IsDue, Lost as IsLost}
+use Rattle.run_unit_course.specs.Followed.{Supply, MayPower, Lit as IsLit, Due as IsDue, Lost as IsLost}
 use Rattle.safety_model.specs.Unit.{issued_bytes}
 use Rattle.unit_rule.proofs.Moves.{shown-last}
 use Rattle.unit_rule.proofs.Travelling.{travelled-read}
 use Rattle.safety_model.specs.Safe.{Devices, breakdowns_of}
-use Rattle.run_rule.specs.Between.{Carried, devices}
+use Rattle.run_promise.specs.Between.{Carried, devices}
 use Rattle.run_course.specs.Followed.{Progress}
-use Rattle.run_told.proofs.Power.{unread-powerless}
+use Rattle.run_devices.proofs.Power.{unread-powerless}
 use Rattle.run_outcome.specs.Lines.{Listed, found_from}
 use Rattle.run_outcome.specs.declared.outcome.Outcome.{Outcome}
-use Rattle.run_recorded.specs.Origin.{Origin}
-use Rattle.run_recorded.specs.Beside.{TellsMore, cards_of, HaveLeftMore}
-use Rattle.run_recorded.specs.Ends.{AreVerdicts, AreSpared}
-use Rattle.run_recorded.proofs.Seconds.{more-recorded}
-use Rattle.run_recorded.proofs.Beside.{found-tells, idle-verdicts, idle-spared, kept-later}
-use Rattle.run_within.specs.Recorded.{Values, progress, carried, IsOff, IsHeldBy, Recorded}
-use Rattle.run_within.specs.Powering.{GoOn, read_values}
-use Rattle.run_within.proofs.Powering.{off-of}
-use Rattle.run_within.proofs.Known.{before-due}
-use Rattle.run_within.proofs.Calls.{goes-on}
+use Rattle.run_promise.specs.Origin.{Origin}
+use Rattle.run_promise.specs.Beside.{TellsMore, cards_of, HaveLeftMore}
+use Rattle.run_promise.specs.Ends.{AreVerdicts, AreSpared}
+use Rattle.run_promise.proofs.Seconds.{more-recorded}
+use Rattle.run_promise.proofs.Beside.{found-tells, idle-verdicts, idle-spared, kept-later}
+use Rattle.run_record.specs.Recorded.{Values, progress, carried, IsOff, IsHeldBy, Recorded}
+use Rattle.run_record.specs.Powering.{GoOn, read_values}
+use Rattle.run_record.proofs.Powering.{off-of}
+use Rattle.run_record.proofs.Known.{before-due}
+use Rattle.run_record.proofs.Calls.{goes-on}
 use Rattle.run_acts.specs.declared.run.Run.{Run}
 use Rattle.run_acts.specs.declared.run.Power.{Power}
 use Rattle.run_acts.specs.declared.run.Power.TheVariants.{Lit, Due, Lost}

@@ -24,54 +24,54 @@ use Rattle.log_model.specs.Course.{Visit, Went, went, fresh, visits, card_in as 
 use Rattle.history_model.specs.Minutes.{HistoryMinute}
 use Rattle.history_model.specs.Presence.{Start}
 use Rattle.history_model.specs.Book.{Book, found}
-use Rattle.joint_rule.specs.Rules.{Standing}
+use Rattle.device_rule.specs.Rules.{Standing}
 use Rattle.unit_model.specs.declared.layout.TheConstants.{HIGHEST_ODOMETER}
 use Rattle.unit_model.specs.Image.{last_kept, odometer_at}
-use Rattle.unit_journal.specs.declared.notes.Notes.{Notes}
-use Rattle.unit_journal.specs.Image.{Agrees, IsFoundBy}
-use Rattle.unit_journal.specs.Mends.{IsMending}
-use Rattle.unit_course.specs.Lines.{found_from}
-use Rattle.unit_course.specs.Followed.{Supply, MayPower}
-use Rattle.unit_course.specs.Legs.{Travel, resumed}
-use Rattle.unit_course.specs.Turn.{span_at}
+use Rattle.unit_minutes.specs.declared.notes.Notes.{Notes}
+use Rattle.unit_minutes.specs.Image.{Agrees, IsFoundBy}
+use Rattle.unit_minutes.specs.Mends.{IsMending}
+use Rattle.run_unit_course.specs.Lines.{found_from}
+use Rattle.run_unit_course.specs.Followed.{Supply, MayPower}
+use Rattle.run_unit_course.specs.Legs.{Travel, resumed}
+use Rattle.run_unit_course.specs.Turn.{span_at}
 use Rattle.unit_rule.specs.Rule.{Started}
 use Rattle.unit_rule.specs.Marks.{Holds}
 use Rattle.unit_rule.specs.Odometer.{odometer_by, odometer_after, ShowsOdometer, HasTravelled}
 use Rattle.unit_rule.proofs.Travelling.{odometer-sum}
-use Rattle.device_steps.specs.Rule.{Both, CardRests, IsTakenUp, IsHeldMended}
-use Rattle.side_model.specs.Odometer.{SpanFrom}
+use Rattle.device_calls.specs.Rule.{Both, CardRests, IsTakenUp, IsHeldMended}
+use Rattle.note_model.specs.Odometer.{SpanFrom}
 use Rattle.safety_model.specs.Safe.{Devices, card_of, breakdowns_of}
-use Rattle.slot_machine.specs.declared.seats.Seat.{Seat}
-use Rattle.slot_machine.specs.Calls.{card_in}
-use Rattle.slot_machine.specs.Kept.{Kept}
+use Rattle.card_slots.specs.declared.seats.Seat.{Seat}
+use Rattle.card_slots.specs.Calls.{card_in}
+use Rattle.card_slots.specs.Kept.{Kept}
 use Rattle.run_crew.specs.declared.cabin.Cabin.{Cabin}
-use Rattle.run_rule.specs.Between.{devices}
+use Rattle.run_promise.specs.Between.{devices}
 use Rattle.run_course.specs.Moments.{and_find}
 use Rattle.run_course.specs.Presence.{SitsAs}
 use Rattle.run_course.specs.Followed.{Progress, Followed}
 use Rattle.run_course.proofs.Logs.{found_log}
-use Rattle.run_moments.specs.Telling.{IsMore}
-use Rattle.run_ringed.specs.Stored.{StandsOn, StoresOff}
-use Rattle.run_ringed.proofs.Bases.{stays-stored}
-use Rattle.run_recorded.specs.Beside.{HaveLeftMore}
-use Rattle.run_recorded.specs.Seconds.{found_again}
-use Rattle.run_recorded.proofs.Seconds.{found-recorded}
+use Rattle.run_course.specs.Telling.{IsMore}
+use Rattle.run_note_record.specs.Stored.{StandsOn, StoresOff}
+use Rattle.run_note_record.proofs.Bases.{stays-stored}
+use Rattle.run_promise.specs.Beside.{HaveLeftMore}
+use Rattle.run_promise.specs.Seconds.{found_again}
+use Rattle.run_promise.proofs.Seconds.{found-recorded}
 use Rattle.run_model.specs.declared.Device.TheVariants.{Unit as Recorder}
 use Rattle.log_model.specs.Causes.{RoseBy}
 use Rattle.run_outcome.specs.declared.outcome.Outcome.{Outcome}
-use Rattle.run_recorded.specs.Origin.{Origin, rule_of, start_at, first_of}
-use Rattle.run_keeping.specs.declared.keeper.Keeper.{Keeper}
-use Rattle.run_keeping.specs.declared.keeper.Moment.{Moment}
-use Rattle.run_keeping.specs.Books.{HaveTime}
-use Rattle.run_entering.specs.declared.lines.Entering.{Entering}
-use Rattle.run_entering.specs.Entering.{Ending, Unfit, Ahead, Fell, Unasked, Unnoted, Seated, Lost, ending_of, find_of, finds_by}
-use Rattle.run_within.specs.Recorded.{Values, progress, carried, slots_of, IsOff, Recorded}
-use Rattle.run_within.specs.Within.{Beginning, CutWithin}
-use Rattle.run_within.specs.Powering.{odometer_found, counted_from, read_values, begun_values, begun_again, IsBack, IsOnlyRead}
-use Rattle.run_within.specs.Waking.{IsWaking, both_slots}
-use Rattle.run_within.proofs.Powering.{off-of, power-wakes, mending-fails}
-use Rattle.run_within.proofs.Calls.{is-back, only-read}
-use Rattle.run_within.proofs.Waking.{but-first, next-waking, find-other}
+use Rattle.run_promise.specs.Origin.{Origin, rule_of, start_at, first_of}
+use Rattle.run_minutes.specs.declared.keeper.Keeper.{Keeper}
+use Rattle.run_minutes.specs.declared.keeper.Moment.{Moment}
+use Rattle.run_minutes.specs.Books.{HaveTime}
+use Rattle.run_insertion.specs.declared.lines.Entering.{Entering}
+use Rattle.run_insertion.specs.Entering.{Ending, Unfit, Ahead, Fell, Unasked, Unnoted, Seated, Lost, ending_of, find_of, finds_by}
+use Rattle.run_record.specs.Recorded.{Values, progress, carried, slots_of, IsOff, Recorded}
+use Rattle.run_record.specs.Within.{Beginning, CutWithin}
+use Rattle.run_record.specs.Powering.{odometer_found, counted_from, read_values, begun_values, begun_again, IsBack, IsOnlyRead}
+use Rattle.run_record.specs.Waking.{IsWaking, both_slots}
+use Rattle.run_record.proofs.Powering.{off-of, power-wakes, mending-fails}
+use Rattle.run_record.proofs.Calls.{is-back, only-read}
+use Rattle.run_record.proofs.Waking.{but-first, next-waking, find-other}
 use Rattle.run_acts.specs.declared.run.Run.{Run}
 use Rattle.run_acts.specs.declared.run.Power.TheVariants.{Lit}
 use Rattle.run_acts.specs.Power.{IsSpanBegun, is_lit}
@@ -82,8 +82,8 @@ use Rattle.recorder_with_cards.specs.Accepting.{IsBare, IsAnew}
 use Rattle.recorder_with_cards.specs.Judged.{moment_in, RunNext, RunBehind, JudgedTo, JudgesAnew}
 use Rattle.recorder_with_cards.proofs.Read.{unit-tells, unit-issued, image-of, at-image}
 use Rattle.recorder_with_cards.proofs.StoredCalls.{mend-stays}
-use Rattle.side_model.specs.Noted.{Note}
-use Rattle.run_ringed.specs.Ringed.{notes_in}
+use Rattle.note_model.specs.Noted.{Note}
+use Rattle.run_note_record.specs.Ringed.{notes_in}
 use Rattle.run_acts.specs.Closings.{spells_of, notes_within}
 use Rattle.run_crew.specs.declared.cards.Accepted.{Accepted}
 use Rattle.run_crew.specs.Cards.{session_of}

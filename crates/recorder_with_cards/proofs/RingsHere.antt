@@ -12,22 +12,22 @@ use Rattle.log_model.specs.declared.lines.Find.{Find}
 use Rattle.log_model.specs.Causes.{second_of}
 use Rattle.log_model.specs.Log.{RunLog, Phase, In, cut_in}
 use Rattle.log_model.specs.Course.{Before, Visit, begins, all_acted}
-use Rattle.side_model.specs.Done.{course_powered}
+use Rattle.note_model.specs.Done.{course_powered}
 use Rattle.safety_model.specs.Safe.{Devices}
-use Rattle.unit_course.specs.Lines.{cut_at}
+use Rattle.run_unit_course.specs.Lines.{cut_at}
 use Rattle.run_course.specs.Moments.{SameUpTo}
 use Rattle.run_course.specs.Seconds.{GoesOnBy}
 use Rattle.run_course.proofs.Moments.{later-lines}
 use Rattle.run_course.proofs.Steps.{went-same_}
-use Rattle.run_moments.specs.Reached.{course_at}
-use Rattle.run_moments.proofs.Reached.{at-by}
-use Rattle.run_recorded.specs.Origin.{Origin, rule_of, start_at, first_of}
+use Rattle.run_course.specs.Reached.{course_at}
+use Rattle.run_course.proofs.Reached.{at-by}
+use Rattle.run_promise.specs.Origin.{Origin, rule_of, start_at, first_of}
 use Rattle.run_rings.specs.Notes.{TellSameTo, course_behind}
-use Rattle.run_ringed.specs.SoFar.{GoesBehind, HasMoreBreaks}
-use Rattle.run_ringed.specs.Steps.{GoesOnTo, IsCutIn}
-use Rattle.run_evented.proofs.Lines.{same-before}
-use Rattle.run_within.specs.Recorded.{Values}
-use Rattle.run_within.specs.Within.{Within}
+use Rattle.run_note_record.specs.RingsSoFar.{GoesBehind, HasMoreBreaks}
+use Rattle.run_note_record.specs.Steps.{GoesOnTo, IsCutIn}
+use Rattle.run_note_record.proofs.Lines.{same-before}
+use Rattle.run_record.specs.Recorded.{Values}
+use Rattle.run_record.specs.Within.{Within}
 use Rattle.run_acts.specs.RunRinged.{with_cut}
 use Rattle.run_acts.proofs.RingedSecond.{cut-is, cut-torn, cut-found, cut-failed, power-here}
 use Rattle.recorder_with_cards.specs.JudgedRings.{TellsHere}

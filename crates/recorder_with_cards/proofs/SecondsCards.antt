@@ -5,9 +5,8 @@ use Rattle.trace_model.specs.Trace.{TraceSecond, driven, dark}
 use Rattle.log_model.specs.declared.lines.Refused.{Refused}
 use Rattle.log_model.specs.Log.{RunLog, In}
 use Rattle.log_model.specs.Course.{Before, Went, has_power, went}
-use Rattle.unit_course.specs.Followed.{Supply}
-use Rattle.unit_course.specs.Followed.{Lit as IsLit, Due as IsDue, Lost as IsLost}
-use Rattle.unit_course.specs.Lines.{cut_at}
+use Rattle.run_unit_course.specs.Followed.{Supply, Lit as IsLit, Due as IsDue, Lost as IsLost}
+use Rattle.run_unit_course.specs.Lines.{cut_at}
 use Rattle.unit_memory.specs.declared.memory.UnitFacts.{UnitFacts}
 use Rattle.safety_model.specs.Safe.{Devices}
 use Rattle.run_course.specs.Moments.{and_break}
@@ -19,12 +18,12 @@ use Rattle.run_course.proofs.Told.{lost-dark, lit-power}
 use Rattle.run_outcome.specs.declared.outcome.Outcome.{Outcome}
 use Rattle.run_outcome.specs.Lines.{Listed}
 use Rattle.log_model.specs.declared.lines.Break.{Break}
-use Rattle.run_keeping.specs.Keeping.{with_lines}
-use Rattle.run_keeping.proofs.Fates.{no-lines}
-use Rattle.run_recorded.specs.Origin.{Origin, rule_of, start_at, first_of}
-use Rattle.run_within.specs.Recorded.{progress}
-use Rattle.run_evented.proofs.Lines.{early-before}
-use Rattle.run_evented.proofs.Unlit.{acted-last, off-last, behind-more}
+use Rattle.run_minutes.specs.Keeping.{with_lines}
+use Rattle.run_minutes.proofs.Fates.{no-lines}
+use Rattle.run_promise.specs.Origin.{Origin, rule_of, start_at, first_of}
+use Rattle.run_record.specs.Recorded.{progress}
+use Rattle.run_note_record.proofs.Lines.{early-before}
+use Rattle.run_note_record.proofs.Unlit.{acted-last, off-last, behind-more}
 use Rattle.run_acts.specs.declared.run.Run.{Run}
 use Rattle.run_acts.specs.declared.run.Power.{Power}
 use Rattle.run_acts.specs.declared.run.Power.TheVariants.{Lit, Due, Lost}

@@ -5,17 +5,16 @@ use Rattle.trace_model.specs.declared.Action.{Action}
 use Rattle.trace_model.specs.Trace.{TraceSecond, driven, dark}
 use Rattle.log_model.specs.declared.lines.Break.{Break}
 use Rattle.log_model.specs.declared.lines.Refused.{Refused}
-use Rattle.unit_course.specs.Followed.{Supply, IsDark}
-use Rattle.unit_course.specs.Followed.{Lit as IsLit, Due as IsDue, Lost as IsLost}
+use Rattle.run_unit_course.specs.Followed.{Supply, IsDark, Lit as IsLit, Due as IsDue, Lost as IsLost}
 use Rattle.safety_model.specs.Safe.{Devices}
 use Rattle.run_course.specs.Followed.{Progress}
 use Rattle.run_outcome.specs.declared.outcome.Outcome.{Outcome}
 use Rattle.run_outcome.specs.Lines.{Listed}
-use Rattle.run_keeping.specs.Keeping.{with_lines}
-use Rattle.run_recorded.specs.Origin.{Origin}
-use Rattle.run_within.specs.Recorded.{progress}
-use Rattle.run_evented.specs.Evented.{Evented}
-use Rattle.run_evented.proofs.Unlit.{dark-seconds, off-line, off-line_cuts}
+use Rattle.run_minutes.specs.Keeping.{with_lines}
+use Rattle.run_promise.specs.Origin.{Origin}
+use Rattle.run_record.specs.Recorded.{progress}
+use Rattle.run_note_record.specs.Evented.{Evented}
+use Rattle.run_note_record.proofs.Unlit.{dark-seconds, off-line, off-line_cuts}
 use Rattle.unit_memory.specs.declared.memory.UnitFacts.{UnitFacts}
 use Rattle.run_acts.specs.declared.run.Run.{Run}
 use Rattle.run_acts.specs.declared.run.Power.{Power}
@@ -24,7 +23,7 @@ use Rattle.run_crew.specs.Cabin.{Stands}
 use Rattle.run_acts.specs.Power.{is_lit, has_power, darkened, off_run, off_cut, passed}
 use Rattle.run_acts.specs.Recording.{log_of, values_of, Supplies, RunRecorded}
 use Rattle.run_acts.specs.Evented.{RunEvented, LastAt}
-use Rattle.run_keeping.proofs.Fates.{no-lines}
+use Rattle.run_minutes.proofs.Fates.{no-lines}
 use Rattle.recorder_with_cards.proofs.SecondsRecorded.{refused_dark, lost-away, lost-supply, dark-run, off-seconds}
 
 due-supply : (p : Power) (supply : Supply) → p ≡ Due → Supplies p supply → supply ≡ IsDue

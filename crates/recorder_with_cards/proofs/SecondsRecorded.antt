@@ -11,17 +11,16 @@ use Rattle.log_model.specs.declared.lines.Break.{Break}
 use Rattle.log_model.specs.declared.lines.Refused.{Refused}
 use Rattle.log_model.specs.declared.lines.SlotFault.{SlotFault}
 use Rattle.log_model.specs.declared.lines.SlotFault.TheVariants.{NoPower}
-use Rattle.unit_course.specs.Followed.{Supply}
-use Rattle.unit_course.specs.Followed.{Lit as IsLit, Due as IsDue, Lost as IsLost}
+use Rattle.run_unit_course.specs.Followed.{Supply, Lit as IsLit, Due as IsDue, Lost as IsLost}
 use Rattle.safety_model.specs.Safe.{Devices}
 use Rattle.run_opening.specs.declared.fault.RunFault.{RunFault}
 use Rattle.run_outcome.specs.declared.outcome.Outcome.{Outcome}
 use Rattle.run_outcome.specs.Lines.{Listed, cut_at}
-use Rattle.run_keeping.specs.Keeping.{with_lines}
-use Rattle.run_recorded.specs.Origin.{Origin}
-use Rattle.run_within.specs.Recorded.{Recorded}
-use Rattle.run_within.specs.Going.{off_values}
-use Rattle.run_within.proofs.Going.{dark-recorded, off-recorded, off-cut-recorded}
+use Rattle.run_minutes.specs.Keeping.{with_lines}
+use Rattle.run_promise.specs.Origin.{Origin, rule_of, start_at, first_of}
+use Rattle.run_record.specs.Recorded.{Recorded, progress}
+use Rattle.run_record.specs.Going.{off_values}
+use Rattle.run_record.proofs.Going.{dark-recorded, off-recorded, off-cut-recorded}
 use Rattle.run_acts.specs.declared.run.Run.{Run}
 use Rattle.run_acts.specs.declared.run.Power.{Power}
 use Rattle.run_acts.specs.declared.run.Power.TheVariants.{Lit, Due, Lost}
@@ -38,10 +37,8 @@ use Rattle.run_crew.specs.Cards.{session_of}
 use Rattle.run_crew.specs.Cabin.{Stands, with_power_lost}
 use Rattle.log_model.specs.Causes.{refusals_at, refusal_told}
 use Rattle.log_model.specs.Course.{Told, went, without_power}
-use Rattle.side_model.specs.Noted.{Note}
-use Rattle.run_recorded.specs.Origin.{rule_of, start_at, first_of}
-use Rattle.run_ringed.specs.Ringed.{notes_in}
-use Rattle.run_within.specs.Recorded.{progress}
+use Rattle.note_model.specs.Noted.{Note}
+use Rattle.run_note_record.specs.Ringed.{notes_in}
 use Rattle.run_acts.specs.Closings.{spells_of}
 use Rattle.run_acts.specs.Truths.{truths_of, marked}
 use Rattle.run_acts.specs.Stays.{sits_in, AllStay}

@@ -10,31 +10,29 @@ use Rattle.log_model.specs.declared.lines.Refused.{Refused}
 use Rattle.log_model.specs.Log.{RunLog}
 use Rattle.log_model.specs.Same.{SameAt}
 use Rattle.log_model.specs.Course.{Told, Went, has_power, went}
-use Rattle.side_model.specs.Odometer.{SpanFrom}
-use Rattle.unit_course.specs.Followed.{Supply}
-use Rattle.unit_course.specs.Followed.{Lit as IsLit, Due as IsDue, Lost as IsLost}
-use Rattle.unit_course.specs.Lines.{cut_at}
-use Rattle.unit_course.specs.Turn.{cut_last}
+use Rattle.note_model.specs.Odometer.{SpanFrom}
+use Rattle.run_unit_course.specs.Followed.{Supply, Lit as IsLit, Due as IsDue, Lost as IsLost}
+use Rattle.run_unit_course.specs.Lines.{cut_at}
+use Rattle.run_unit_course.specs.Turn.{cut_last}
 use Rattle.safety_model.specs.Safe.{Devices}
 use Rattle.run_course.specs.Moments.{and_break}
-use Rattle.run_course.specs.Followed.{Progress, Followed}
-use Rattle.run_course.specs.Followed.{IsLost as HasLost}
+use Rattle.run_course.specs.Followed.{Progress, Followed, IsLost as HasLost}
 use Rattle.run_course.proofs.Dark.{lost-are-told}
 use Rattle.run_course.proofs.Logs.{refused-at, went-refused}
 use Rattle.run_course.proofs.Steps.{with-supply}
 use Rattle.run_course.proofs.Told.{lost-dark}
 use Rattle.run_outcome.specs.declared.outcome.Outcome.{Outcome}
 use Rattle.run_outcome.specs.Lines.{Listed}
-use Rattle.run_keeping.specs.Keeping.{with_lines}
-use Rattle.run_keeping.proofs.Fates.{no-lines}
-use Rattle.run_recorded.specs.Origin.{Origin, rule_of, start_at, first_of}
-use Rattle.run_within.specs.Recorded.{progress}
-use Rattle.run_evented.proofs.Unlit.{acted-last, off-last, behind-more}
-use Rattle.run_ringed.specs.Ringed.{Seating}
-use Rattle.run_ringed.specs.SoFar.{RingedBehind, GoesBehind}
-use Rattle.run_ringed.specs.Stored.{StoresOff, Stores}
-use Rattle.run_ringed.proofs.SoFar.{dark-ends}
-use Rattle.run_ringed.proofs.Bases.{stored-dark}
+use Rattle.run_minutes.specs.Keeping.{with_lines}
+use Rattle.run_minutes.proofs.Fates.{no-lines}
+use Rattle.run_promise.specs.Origin.{Origin, rule_of, start_at, first_of}
+use Rattle.run_record.specs.Recorded.{progress}
+use Rattle.run_note_record.proofs.Unlit.{acted-last, off-last, behind-more}
+use Rattle.run_note_record.specs.Ringed.{Seating}
+use Rattle.run_note_record.specs.RingsSoFar.{RingedBehind, GoesBehind}
+use Rattle.run_note_record.specs.Stored.{StoresOff, Stores}
+use Rattle.run_note_record.proofs.SoFar.{dark-ends}
+use Rattle.run_note_record.proofs.Bases.{stored-dark}
 use Rattle.run_acts.specs.declared.run.Run.{Run}
 use Rattle.run_acts.specs.declared.run.Power.{Power}
 use Rattle.run_acts.specs.declared.run.Power.TheVariants.{Lit, Due, Lost}

@@ -4,12 +4,12 @@ use Rattle.gated_ring.specs.Ring.{PointsInside}
 use Rattle.message_model.specs.Records.{insertion_ring, unit_place_ring}
 use Rattle.unit_model.specs.Decoding.{Decodes}
 use Rattle.unit_model.specs.Image.{last_kept, odometer_at}
-use Rattle.unit_journal.proofs.Beside.{passes_beside}
-use Rattle.side_model.specs.Odometer.{SpanFrom, AreSpansFrom, MayStore}
+use Rattle.unit_minutes.proofs.Beside.{passes_beside}
+use Rattle.note_model.specs.Odometer.{SpanFrom, AreSpansFrom, MayStore}
 use Rattle.safety_model.specs.Recording.{Recording, told_of}
 use Rattle.safety_model.specs.Safe.{Devices}
-use Rattle.run_evented.specs.Evented.{ShowsEventsOf}
-use Rattle.run_ringed.specs.Ringed.{ShowsRingsOf}
+use Rattle.run_note_record.specs.Evented.{ShowsEventsOf}
+use Rattle.run_note_record.specs.Ringed.{ShowsRingsOf}
 use Rattle.recorder_with_cards.specs.Side.{ShowsSide}
 
 -- the pointers of a unit that decodes point inside its rings

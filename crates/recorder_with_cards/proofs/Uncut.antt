@@ -4,19 +4,19 @@ use Rattle.activity_codec.specs.declared.values.Slot.{Slot}
 use Rattle.trace_model.specs.declared.Card.{Card}
 use Rattle.trace_model.specs.declared.Action.{Action}
 use Rattle.trace_model.specs.declared.Action.TheVariants.{Select, Insert, Withdraw, Tear, Place, Manual}
-use Rattle.slot_machine.specs.Calls.{seat_in, card_in}
+use Rattle.card_slots.specs.Calls.{seat_in, card_in}
 use Rattle.run_outcome.specs.Broken.{failed_cuts}
 use Rattle.run_outcome.specs.declared.outcome.Outcome.{Outcome}
-use Rattle.run_keeping.specs.declared.keeper.Moment.{Moment}
-use Rattle.run_entering.specs.declared.lines.Entering.{Entering}
-use Rattle.run_entering.specs.Entering.{Ending, Unfit, Ahead, Fell, Unasked, Unnoted, Seated, Lost, breaks_by, ending_of}
+use Rattle.run_minutes.specs.declared.keeper.Moment.{Moment}
+use Rattle.run_insertion.specs.declared.lines.Entering.{Entering}
+use Rattle.run_insertion.specs.Entering.{Ending, Unfit, Ahead, Fell, Unasked, Unnoted, Seated, Lost, breaks_by, ending_of}
 use Rattle.run_acts.specs.declared.run.Run.{Run}
 use Rattle.run_acts.specs.Power.{off_cut}
 use Rattle.run_acts.specs.Acting.{pulled_breaks}
 use Rattle.run_acts.proofs.Uncut.{more-uncut, settled-uncut, withdrawn-uncut, pulled-uncut, placed-uncut}
 use Rattle.recorder_with_cards.specs.Accepting.{IsAccepted, IsAnew, IsInserted}
 use Rattle.recorder_with_cards.specs.Acting.{IsDone}
-use Rattle.run_keeping.specs.Later.{failed_tears}
+use Rattle.run_minutes.specs.Later.{failed_tears}
 
 -- ---- a card that enters
 

@@ -17,28 +17,28 @@ use Rattle.log_model.specs.Same.{SameAt}
 use Rattle.log_model.specs.Spans.{AreInOrder}
 use Rattle.log_model.specs.Slots.{in_slot}
 use Rattle.log_model.specs.Course.{Visit, has_power, fresh, unmoved, went}
-use Rattle.slot_machine.specs.Calls.{card_in}
-use Rattle.unit_course.specs.Lines.{cut_at}
+use Rattle.card_slots.specs.Calls.{card_in}
+use Rattle.run_unit_course.specs.Lines.{cut_at}
 use Rattle.safety_model.specs.Safe.{Devices, card_of}
 use Rattle.run_course.specs.Followed.{Progress, Followed, Comes}
 use Rattle.run_course.specs.Seconds.{GoesOnBy}
 use Rattle.run_course.proofs.Logs.{all-before, found_log, same-found, kept-found}
 use Rattle.run_events.specs.Gaps.{AreKnownGaps}
 use Rattle.run_events.proofs.Later.{seen-same}
-use Rattle.run_evented.specs.Uses.{notes_in, uses_in}
-use Rattle.run_evented.proofs.Lines.{early-before}
-use Rattle.run_evented.proofs.Noted.{notes-alike}
-use Rattle.run_evented.proofs.Exact.{no-cut, found-none}
+use Rattle.run_note_record.specs.Uses.{notes_in, uses_in}
+use Rattle.run_note_record.proofs.Lines.{early-before}
+use Rattle.run_note_record.proofs.Noted.{notes-alike}
+use Rattle.run_note_record.proofs.Exact.{no-cut, found-none}
 use Rattle.run_outcome.specs.declared.outcome.Outcome.{Outcome}
-use Rattle.run_keeping.specs.declared.keeper.Moment.{Moment}
-use Rattle.run_keeping.specs.Books.{HaveTime}
-use Rattle.run_recorded.specs.Origin.{Origin, rule_of, start_at, first_of}
-use Rattle.run_rule.specs.Between.{devices}
-use Rattle.run_ringed.proofs.SoFar.{failed-more, left-itself}
-use Rattle.run_ringed.proofs.Waking.{still-failed}
-use Rattle.run_within.specs.Recorded.{Values}
-use Rattle.run_within.specs.Within.{Beginning, Within}
-use Rattle.run_within.specs.Waking.{both_slots}
+use Rattle.run_minutes.specs.declared.keeper.Moment.{Moment}
+use Rattle.run_minutes.specs.Books.{HaveTime}
+use Rattle.run_promise.specs.Origin.{Origin, rule_of, start_at, first_of}
+use Rattle.run_promise.specs.Between.{devices}
+use Rattle.run_note_record.proofs.SoFar.{failed-more, left-itself}
+use Rattle.run_note_record.proofs.RingsWaking.{still-failed}
+use Rattle.run_record.specs.Recorded.{Values}
+use Rattle.run_record.specs.Within.{Beginning, Within}
+use Rattle.run_record.specs.Waking.{both_slots}
 use Rattle.run_acts.specs.declared.run.Run.{Run}
 use Rattle.run_acts.specs.Recording.{log_of, values_of}
 use Rattle.run_acts.specs.RunRinged.{with_cut}

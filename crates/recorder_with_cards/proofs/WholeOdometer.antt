@@ -25,16 +25,16 @@ use Rattle.history_model.proofs.Decided.{decided-after, nothing-was-lost}
 use Rattle.unit_model.specs.declared.layout.TheConstants.{DAY_SLOTS, HIGHEST_ODOMETER}
 use Rattle.unit_model.specs.Days.{UnitMinute, ShownDay, StoredDay, day_of, minute_at, minutes_shown, day_shown, days_shown, padded, with_minute, day_from, filled, newest_days, minutes_of}
 use Rattle.unit_model.specs.Image.{last_kept, odometer_at, recorded, unit_days}
-use Rattle.joint_rule.specs.Filling.{seen_by_unit, filled_with}
-use Rattle.unit_course.specs.Followed.{IsKnown}
-use Rattle.unit_course.specs.Legs.{kilometres_of, AreWhole, whole_legs}
-use Rattle.unit_course.proofs.Legs.{legs-whole, short-decides}
+use Rattle.device_rule.specs.Filling.{seen_by_unit, filled_with}
+use Rattle.run_unit_course.specs.Followed.{IsKnown}
+use Rattle.run_unit_course.specs.Legs.{kilometres_of, AreWhole, whole_legs}
+use Rattle.run_unit_course.proofs.Legs.{legs-whole, short-decides}
 use Rattle.unit_rule.specs.Odometer.{OdometerSafe}
 use Rattle.safety_model.specs.Recording.{Recording, start_of, told_of, history_of}
 use Rattle.safety_model.specs.Unit.{HasEachDecided, IsFilled}
 use Rattle.safety_model.specs.Safe.{Devices}
-use Rattle.run_recorded.specs.Days.{IsBegunIn}
-use Rattle.run_recorded.specs.Whole.{NothingFailed}
+use Rattle.run_promise.specs.Days.{IsBegunIn}
+use Rattle.run_promise.specs.Whole.{NothingFailed}
 use Rattle.run_outcome.specs.declared.outcome.Outcome.{Outcome}
 use Rattle.run_acts.specs.Recording.{log_of}
 use Rattle.recorder_with_cards.specs.Ends.{recording_of, EndsTrace}

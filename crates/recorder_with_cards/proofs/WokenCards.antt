@@ -1,16 +1,15 @@
 -- Power comes with a second, and so the events of the cards go on: each card in a slot is judged; or the unit failed in that, and power is cut at once.
 use Rattle.std.proofs.Common.{◌≡◌, ◌∙◌, ℕ, Bool, true, false, cond, not, ◌||◌, Option, Some, None, option_map, List, [], ◌∷◌, ◌++◌, map, refl, ap, sym, subst, option_to_list}
-use Rattle.std.specs.Prelude.{◌==◌, ◌&&◌, nat_lt}
+use Rattle.std.specs.Prelude.{◌==◌, ◌&&◌, nat_lt, filter}
 use Rattle.std.specs.List.{list_any}
 use Rattle.activity_codec.specs.declared.values.Slot.{Slot}
 use Rattle.activity_codec.specs.declared.values.Slot.TheVariants.{Driver, CoDriver}
 use Rattle.trace_model.specs.declared.Card.{Card}
 use Rattle.trace_model.specs.Trace.{TraceSecond}
 use Rattle.tacho_types.specs.declared.texts.Registration.{Registration}
-use Rattle.card_records.specs.declared.card_event.CardEvent.{CardEvent}
+use Rattle.card_files.specs.declared.card_event.CardEvent.{CardEvent}
 use Rattle.event_model.specs.declared.kinds.TheConstants.{INSERTION_WHILE_DRIVING, SESSION_NOT_CLOSED, POWER_INTERRUPTION}
 use Rattle.event_model.specs.Events.{Event, Seen, seen_of, seen_spans, seen_by, noted_with, last_number, first_card, standing}
-use Rattle.std.specs.Prelude.{filter}
 use Rattle.log_model.specs.declared.lines.Verdict.{Verdict}
 use Rattle.log_model.specs.Log.{RunLog, Phase, In, cut_in, is_torn_in, found_in, kept_after, tears_here}
 use Rattle.log_model.specs.Slots.{Sitting, in_slot, same_card, other_slot}
@@ -18,18 +17,18 @@ use Rattle.log_model.specs.Course.{Course, Visit, Before, has_power, lit_course,
 use Rattle.event_model.specs.declared.entries.Span.{Span}
 use Rattle.event_model.specs.Spans.{gap_of}
 use Rattle.run_events.specs.Seconds.{gap_before}
-use Rattle.run_evented.proofs.Brought.{lit-course}
-use Rattle.run_entering.specs.CardEvents.{events_in, all_noted}
-use Rattle.side_model.specs.Done.{has_failed_in, course_powered}
+use Rattle.run_note_record.proofs.Brought.{lit-course}
+use Rattle.run_insertion.specs.CardEvents.{events_in, all_noted}
+use Rattle.note_model.specs.Done.{has_failed_in, course_powered}
 use Rattle.safety_model.specs.Safe.{Devices, card_of}
 use Rattle.run_outcome.specs.declared.outcome.Outcome.{Outcome}
-use Rattle.run_recorded.specs.Origin.{Origin}
-use Rattle.run_recorded.specs.Whole.{NothingFailed}
-use Rattle.run_evented.specs.Uses.{notes_now, uses_in}
-use Rattle.run_evented.proofs.Exact.{fewer-none, no-cut}
-use Rattle.run_ringed.specs.SoFar.{HasMoreBreaks}
-use Rattle.run_ringed.specs.Waking.{NoneFound, IsFoundAnew}
-use Rattle.run_ringed.proofs.SoFar.{left-itself, failed-more}
+use Rattle.run_promise.specs.Origin.{Origin}
+use Rattle.run_promise.specs.Whole.{NothingFailed}
+use Rattle.run_note_record.specs.Uses.{notes_now, uses_in}
+use Rattle.run_note_record.proofs.Exact.{fewer-none, no-cut}
+use Rattle.run_note_record.specs.RingsSoFar.{HasMoreBreaks}
+use Rattle.run_note_record.specs.Waking.{NoneFound, IsFoundAnew}
+use Rattle.run_note_record.proofs.SoFar.{left-itself, failed-more}
 use Rattle.run_acts.specs.Recording.{log_of}
 use Rattle.run_acts.specs.RunRinged.{with_cut}
 use Rattle.run_acts.specs.OnCards.{is_card, has_card, as_accepted, events_by, accepts, gap_entry, gaps_on, enters, falls, may_note, is_sure_in}

@@ -13,51 +13,51 @@ use Rattle.log_model.specs.Course.{Visit, Went, fresh, went}
 use Rattle.event_model.specs.Events.{Crew, Seen, crew_of as sitting_crew, seen_of, seen_spans}
 use Rattle.event_model.specs.Spans.{gap_of}
 use Rattle.unit_notes.specs.declared.unit_event.UnitEvent.{UnitEvent}
-use Rattle.unit_journal.specs.declared.notes.Notes.{Notes}
-use Rattle.unit_course.specs.Lines.{cut_at, found_from}
-use Rattle.unit_course.specs.Followed.{Supply, Due, Lit, Lost as IsLost, MayPower, IsDark}
+use Rattle.unit_minutes.specs.declared.notes.Notes.{Notes}
+use Rattle.run_unit_course.specs.Lines.{cut_at, found_from}
+use Rattle.run_unit_course.specs.Followed.{Supply, Due, Lit, Lost as IsLost, MayPower, IsDark}
 use Rattle.safety_model.specs.Safe.{Devices, breakdowns_of}
-use Rattle.slot_machine.specs.Calls.{seat_in, card_in}
+use Rattle.card_slots.specs.Calls.{seat_in, card_in}
 use Rattle.run_crew.specs.Cabin.{Stands}
 use Rattle.run_course.specs.Followed.{Progress, Followed}
 use Rattle.run_course.specs.Moments.{and_break}
 use Rattle.run_course.specs.Seconds.{GoesOnBy}
 use Rattle.run_course.proofs.Logs.{went-found}
 use Rattle.run_course.proofs.Told.{lit-told}
-use Rattle.run_moments.specs.Moment.{goes_on}
-use Rattle.run_moments.specs.Reached.{course_at}
-use Rattle.run_moments.proofs.Moment.{moment-begins}
-use Rattle.run_moments.proofs.Reached.{nothing-told}
+use Rattle.run_course.specs.Moment.{goes_on}
+use Rattle.run_course.specs.Reached.{course_at}
+use Rattle.run_course.proofs.Moment.{moment-begins}
+use Rattle.run_course.proofs.Reached.{nothing-told}
 use Rattle.run_events.specs.Shown.{SaysNothing}
 use Rattle.run_events.specs.Seconds.{span_before, seen_next}
 use Rattle.run_events.proofs.Shows.{nothing-more}
 use Rattle.run_outcome.specs.Lines.{Listed}
 use Rattle.run_outcome.specs.declared.outcome.Outcome.{Outcome}
-use Rattle.run_recorded.specs.Origin.{Origin, rule_of, start_at, first_of}
-use Rattle.run_recorded.specs.Beside.{HaveLeftMore}
-use Rattle.run_recorded.specs.Seconds.{found_again}
-use Rattle.run_keeping.specs.declared.keeper.Moment.{Moment}
-use Rattle.run_keeping.specs.declared.keeper.Keeper.{Keeper}
-use Rattle.run_keeping.specs.Books.{HaveTime}
-use Rattle.run_within.specs.Recorded.{Values, progress, carried, IsOff, Recorded}
-use Rattle.run_within.specs.Within.{Beginning}
-use Rattle.run_within.specs.Waking.{both_slots}
-use Rattle.run_within.proofs.Powering.{off-of}
-use Rattle.run_evented.specs.Evented.{number_in, limit_in, NotesNothing, Evented}
-use Rattle.run_evented.specs.Noting.{Stage, Waking, Acting}
-use Rattle.run_evented.specs.SoFar.{EventedNow, BeginsNow, AreBare, ComesInTurn, interruption}
-use Rattle.run_evented.specs.Kept.{interruption_of}
-use Rattle.run_evented.proofs.Adding.{adds-nothing, second-begins_now, power-now, starts-now}
-use Rattle.run_evented.proofs.Cutting.{failure-cuts}
-use Rattle.run_evented.proofs.Kept.{interruption-found, no-break_no-span}
-use Rattle.run_evented.proofs.Seconds.{events-found}
+use Rattle.run_promise.specs.Origin.{Origin, rule_of, start_at, first_of}
+use Rattle.run_promise.specs.Beside.{HaveLeftMore}
+use Rattle.run_promise.specs.Seconds.{found_again}
+use Rattle.run_minutes.specs.declared.keeper.Moment.{Moment}
+use Rattle.run_minutes.specs.declared.keeper.Keeper.{Keeper}
+use Rattle.run_minutes.specs.Books.{HaveTime}
+use Rattle.run_record.specs.Recorded.{Values, progress, carried, IsOff, Recorded}
+use Rattle.run_record.specs.Within.{Beginning}
+use Rattle.run_record.specs.Waking.{both_slots}
+use Rattle.run_record.proofs.Powering.{off-of}
+use Rattle.run_note_record.specs.Evented.{number_in, limit_in, NotesNothing, Evented}
+use Rattle.run_note_record.specs.Noting.{Stage, Waking, Acting}
+use Rattle.run_note_record.specs.EventsSoFar.{EventedNow, BeginsNow, AreBare, ComesInTurn, interruption}
+use Rattle.run_note_record.specs.Kept.{interruption_of}
+use Rattle.run_note_record.proofs.Adding.{adds-nothing, second-begins_now, power-now, starts-now}
+use Rattle.run_note_record.proofs.Cutting.{failure-cuts}
+use Rattle.run_note_record.proofs.Kept.{interruption-found, no-break_no-span}
+use Rattle.run_note_record.proofs.Seconds.{events-found}
 use Rattle.run_acts.specs.declared.run.Run.{Run}
 use Rattle.run_acts.specs.NotedEvents.{NotesEvents}
 use Rattle.run_acts.specs.Acting.{IsNotedIn, now_moment}
 use Rattle.run_acts.specs.Noting.{GapReach, NoGap, UnitFailed, DriverFell, BothSlots, IsGapNoted, AreGapEvents}
 use Rattle.event_model.specs.declared.entries.Span.{Span}
 use Rattle.run_acts.specs.Power.{IsSpanBegun, cut_run}
-use Rattle.run_keeping.specs.Keeping.{with_lines}
+use Rattle.run_minutes.specs.Keeping.{with_lines}
 use Rattle.run_acts.specs.Recording.{IsOrigin, log_of, RunWithin, RunCut, GoesOnOrFails}
 use Rattle.run_acts.specs.Evented.{IsWatching, span_seen, CutEvented, EventsGoOn}
 use Rattle.run_acts.specs.ActsEvented.{IsFailing}

@@ -9,56 +9,54 @@ use Rattle.trace_model.specs.declared.Card.{Card}
 use Rattle.trace_model.specs.declared.Card.TheVariants.{A, B}
 use Rattle.trace_model.specs.Trace.{TraceSecond}
 use Rattle.tach_media.specs.Medium.{State, IsCoherent, LeavesOnly, Unchanged}
-use Rattle.unit_journal.specs.declared.notes.Notes.{Notes}
-use Rattle.unit_journal.specs.Mends.{IsMending}
+use Rattle.unit_minutes.specs.declared.notes.Notes.{Notes}
+use Rattle.unit_minutes.specs.Mends.{IsMending}
 use Rattle.minute_model.specs.Span.{travelled_of}
 use Rattle.log_model.specs.declared.lines.Verdict.{Verdict}
 use Rattle.log_model.specs.Log.{RunLog, Phase, In, cut_in, is_torn_in, found_in, is_accepting}
 use Rattle.log_model.specs.Slots.{Slots, Sitting, in_slot, other_slot}
 use Rattle.log_model.specs.Course.{Course, fresh, unmoved, with_slot, Told, Before, Moved, Visit, Went, visits, leaves, slot_told, both_told, has_power, went, second_told}
-use Rattle.side_model.specs.Odometer.{SpanFrom, odometer_at}
+use Rattle.note_model.specs.Odometer.{SpanFrom, odometer_at}
 use Rattle.safety_model.specs.Safe.{Devices}
 use Rattle.unit_rule.specs.Odometer.{odometer_by, odometer_after}
-use Rattle.unit_course.specs.Lines.{cut_at}
-use Rattle.slot_machine.specs.Calls.{card_in}
-use Rattle.run_rule.specs.Between.{devices}
-use Rattle.run_course.specs.Followed.{Progress, Followed, Comes}
+use Rattle.run_unit_course.specs.Lines.{cut_at}
+use Rattle.card_slots.specs.Calls.{card_in}
+use Rattle.run_promise.specs.Between.{devices}
+use Rattle.run_course.specs.Followed.{Progress, Followed, Comes, IsSupplied}
 use Rattle.run_course.specs.Seconds.{GoesOnBy}
 use Rattle.run_course.proofs.Steps.{went-same_}
-use Rattle.run_course.specs.Followed.{IsSupplied}
 use Rattle.log_model.specs.Spans.{AreInOrder, spans_of}
 use Rattle.unit_model.specs.Image.{odometer_at as odometer_at_start}
 use Rattle.run_course.proofs.Logs.{all-before, found_log, same-found, went-found}
 use Rattle.run_course.proofs.Told.{comes-power, lost-comes}
-use Rattle.unit_course.specs.Followed.{Supply, MayPower, Lit, Due}
-use Rattle.unit_course.specs.Followed.{Lost as IsLost}
+use Rattle.run_unit_course.specs.Followed.{Supply, MayPower, Lit, Due, Lost as IsLost}
 use Rattle.log_model.specs.Same.{SameAt}
 use Rattle.run_events.proofs.Later.{told-number}
-use Rattle.run_moments.proofs.Reached.{TellsNothing, nothing-told}
-use Rattle.run_evented.proofs.Lines.{same-before}
+use Rattle.run_course.proofs.Reached.{TellsNothing, nothing-told}
+use Rattle.run_note_record.proofs.Lines.{same-before}
 use Rattle.run_course.specs.Moments.{and_break}
-use Rattle.run_keeping.specs.Keeping.{with_lines}
+use Rattle.run_minutes.specs.Keeping.{with_lines}
 use Rattle.run_outcome.specs.Lines.{cut_at as cut_line}
 use Rattle.run_outcome.specs.declared.outcome.Outcome.{Outcome}
-use Rattle.run_keeping.specs.declared.keeper.Moment.{Moment}
-use Rattle.run_keeping.specs.Books.{HaveTime}
-use Rattle.run_recorded.specs.Origin.{Origin, rule_of, start_at, first_of}
+use Rattle.run_minutes.specs.declared.keeper.Moment.{Moment}
+use Rattle.run_minutes.specs.Books.{HaveTime}
+use Rattle.run_promise.specs.Origin.{Origin, rule_of, start_at, first_of}
 use Rattle.run_rings.specs.Spans.{with_second}
 use Rattle.run_rings.specs.Same.{LeavesRings}
 use Rattle.run_rings.proofs.Same.{behind-same, rings-left, rings-moments}
-use Rattle.run_ringed.specs.OnCards.{PlacesStay}
-use Rattle.run_ringed.specs.Ringed.{Seating, IsInsertionIn, since_in}
-use Rattle.run_ringed.specs.SoFar.{RingedBehind, IsSecond, RingedIn, HasMoreBreaks, GoesBehind}
-use Rattle.run_ringed.specs.Steps.{nobody, spans_cut}
-use Rattle.run_ringed.specs.Waking.{NoneFound, IsFoundAnew}
-use Rattle.run_ringed.specs.Stored.{StandsOn, StoresOn, StoresOff}
-use Rattle.run_ringed.proofs.Bases.{stored-first}
-use Rattle.run_ringed.proofs.OnCards.{places-itself}
-use Rattle.run_ringed.proofs.SoFar.{left-itself, go-on-in, cut-ends}
-use Rattle.run_ringed.proofs.Waking.{behind-alike, still-failed, still-call-failed, power-begins, passed-anew, accepted-anew, cut-anew}
-use Rattle.run_within.specs.Recorded.{Values, Recorded}
-use Rattle.run_within.specs.Within.{Beginning}
-use Rattle.run_within.specs.Waking.{both_slots}
+use Rattle.run_note_record.specs.OnCards.{PlacesStay}
+use Rattle.run_note_record.specs.Ringed.{Seating, IsInsertionIn, since_in}
+use Rattle.run_note_record.specs.RingsSoFar.{RingedBehind, IsSecond, RingedIn, HasMoreBreaks, GoesBehind}
+use Rattle.run_note_record.specs.Steps.{nobody, spans_cut}
+use Rattle.run_note_record.specs.Waking.{NoneFound, IsFoundAnew}
+use Rattle.run_note_record.specs.Stored.{StandsOn, StoresOn, StoresOff}
+use Rattle.run_note_record.proofs.Bases.{stored-first}
+use Rattle.run_note_record.proofs.OnCards.{places-itself}
+use Rattle.run_note_record.proofs.SoFar.{left-itself, go-on-in, cut-ends}
+use Rattle.run_note_record.proofs.RingsWaking.{behind-alike, still-failed, still-call-failed, power-begins, passed-anew, accepted-anew, cut-anew}
+use Rattle.run_record.specs.Recorded.{Values, Recorded}
+use Rattle.run_record.specs.Within.{Beginning}
+use Rattle.run_record.specs.Waking.{both_slots}
 use Rattle.run_acts.specs.declared.run.Run.{Run}
 use Rattle.run_acts.specs.Power.{is_lit, cut_run}
 use Rattle.run_acts.specs.declared.run.Power.TheVariants.{Lit as HasPower}

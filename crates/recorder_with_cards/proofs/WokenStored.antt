@@ -7,10 +7,10 @@ use Rattle.unit_model.specs.Image.{last_kept, odometer_at}
 use Rattle.log_model.specs.Log.{cut_in}
 use Rattle.log_model.specs.Course.{Told, Went, has_power, went, second_told}
 use Rattle.history_model.specs.History.{cut_second}
-use Rattle.unit_course.specs.Lines.{cut_at, tells_cut}
-use Rattle.unit_course.specs.Followed.{Supply, Lit, Due, Lost, cuts_from}
-use Rattle.unit_course.proofs.Lines.{tells-here}
-use Rattle.side_model.specs.Odometer.{SpanFrom, MayStore}
+use Rattle.run_unit_course.specs.Lines.{cut_at, tells_cut}
+use Rattle.run_unit_course.specs.Followed.{Supply, Lit, Due, Lost, cuts_from}
+use Rattle.run_unit_course.proofs.Lines.{tells-here}
+use Rattle.note_model.specs.Odometer.{SpanFrom, MayStore}
 use Rattle.safety_model.specs.Safe.{Devices}
 use Rattle.run_course.specs.Followed.{Progress, Followed, Comes}
 use Rattle.run_course.specs.Seconds.{GoesOnBy}
@@ -18,12 +18,12 @@ use Rattle.run_course.proofs.Logs.{tells-none, breaks-front}
 use Rattle.run_course.proofs.Steps.{went-same_}
 use Rattle.run_course.proofs.Told.{comes-power}
 use Rattle.run_events.proofs.Later.{told-number}
-use Rattle.run_moments.proofs.Reached.{TellsNothing, nothing-told}
-use Rattle.run_recorded.specs.Origin.{Origin, rule_of, start_at, first_of}
-use Rattle.run_ringed.specs.Stored.{StandsOn, StoresOff}
-use Rattle.run_ringed.specs.Steps.{spans_cut}
-use Rattle.run_ringed.proofs.Stored.{may-more}
-use Rattle.run_ringed.proofs.Bases.{with-first, stored-ends, failed-here, stored-unread}
+use Rattle.run_course.proofs.Reached.{TellsNothing, nothing-told}
+use Rattle.run_promise.specs.Origin.{Origin, rule_of, start_at, first_of}
+use Rattle.run_note_record.specs.Stored.{StandsOn, StoresOff}
+use Rattle.run_note_record.specs.Steps.{spans_cut}
+use Rattle.run_note_record.proofs.Stored.{may-more}
+use Rattle.run_note_record.proofs.Bases.{with-first, stored-ends, failed-here, stored-unread}
 use Rattle.run_acts.specs.RunRinged.{with_cut}
 use Rattle.run_acts.proofs.RingedSecond.{cut-is}
 

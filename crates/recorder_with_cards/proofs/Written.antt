@@ -7,27 +7,27 @@ use Rattle.trace_model.specs.declared.Card.{Card}
 use Rattle.trace_model.specs.Trace.{TraceSecond}
 use Rattle.card_layout.specs.Application.{IsApplication}
 use Rattle.card_image.specs.Own.{own_view, own_sizes, IsOwnValid, KeepsOf}
-use Rattle.card_steps.specs.Deeds.{IsMade}
-use Rattle.card_steps.specs.Since.{all_since, HoldsSince}
-use Rattle.card_steps.proofs.Deeds.{made_more}
-use Rattle.card_steps.proofs.Kept.{holds_counted, holds_kept}
+use Rattle.card_string.specs.Deeds.{IsMade}
+use Rattle.card_string.specs.Since.{all_since, HoldsSince}
+use Rattle.card_string.proofs.Deeds.{made_more}
+use Rattle.card_string.proofs.Kept.{holds_counted, holds_kept}
 use Rattle.history_model.specs.Minutes.{HistoryMinute, card_history}
 use Rattle.history_model.specs.Presence.{CardStart}
 use Rattle.history_model.specs.Book.{Book, all}
 use Rattle.history_model.proofs.Books.{history-append}
-use Rattle.unit_course.specs.Followed.{Supply, Lit, Due, Lost}
+use Rattle.run_unit_course.specs.Followed.{Supply, Lit, Due, Lost}
 use Rattle.safety_model.specs.Recording.{Recording, card_image, brought, history_of, expected_of}
 use Rattle.safety_model.specs.Safe.{Devices, card_of}
-use Rattle.run_rule.specs.Found.{found_of}
-use Rattle.run_rule.specs.Cards.{brought_by}
-use Rattle.run_rule.specs.Between.{IsFound}
-use Rattle.run_rule.proofs.CardEnd.{started}
-use Rattle.run_brought.proofs.Ends.{ends-follow}
-use Rattle.run_strung.specs.Strung.{HasSameHolder}
-use Rattle.run_told.specs.Told.{sure_of}
-use Rattle.run_recorded.specs.Origin.{Origin, first_of}
-use Rattle.run_recorded.specs.Ends.{recording_by}
-use Rattle.run_within.specs.Recorded.{Values, progress, carried, IsHeldBy, Recorded}
+use Rattle.run_promise.specs.Found.{found_of}
+use Rattle.run_promise.specs.Cards.{brought_by}
+use Rattle.run_promise.specs.Between.{IsFound}
+use Rattle.run_promise.proofs.CardEnd.{started}
+use Rattle.run_promise.proofs.AccountsEnd.{ends-follow}
+use Rattle.run_devices.specs.Strung.{HasSameHolder}
+use Rattle.run_devices.specs.Told.{sure_of}
+use Rattle.run_promise.specs.Origin.{Origin, first_of}
+use Rattle.run_promise.specs.Ends.{recording_by}
+use Rattle.run_record.specs.Recorded.{Values, progress, carried, IsHeldBy, Recorded}
 use Rattle.recorder_with_cards.specs.Written.{IsWritten, AreWritten}
 use Rattle.recorder_with_cards.specs.Still.{KeepTheirHolders}
 

@@ -5,7 +5,7 @@ use Rattle.activity_codec.specs.declared.entries.Entry.{Entry}
 use Rattle.card_session.specs.Vehicles.{Vehicles}
 use Rattle.card_session.specs.Books.{Book}
 use Rattle.card_session.proofs.Rows.{day, this_vehicle, using, work}
-use Rattle.card_steps.specs.Deeds.{Keep, Close, Step, Done, Broken, MadeBy, kept_in, AreNext}
+use Rattle.card_string.specs.Deeds.{Keep, Close, Step, Done, Broken, MadeBy, kept_in, AreNext}
 
 -- the keep of a minute of the day, with this odometer and so many km behind the one before
 abbrev keep : (odometer km minute : ℕ) → Step

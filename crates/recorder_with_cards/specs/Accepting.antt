@@ -8,15 +8,15 @@ use Rattle.card_layout.specs.declared.command.CardState.{CardState}
 use Rattle.minute_model.specs.Span.{Span, travelled_of}
 use Rattle.minute_rules.specs.Kept.{StandsFor}
 use Rattle.message_model.specs.Records.{insertion_ring}
-use Rattle.slot_machine.specs.declared.seats.Seat.{Seat}
+use Rattle.card_slots.specs.declared.seats.Seat.{Seat}
 use Rattle.run_crew.specs.declared.cards.Accepted.{Accepted}
 use Rattle.run_crew.specs.Cabin.{with_card_in}
-use Rattle.run_keeping.specs.declared.keeper.Moment.{Moment}
-use Rattle.run_keeping.specs.Minutes.{odometer_by}
+use Rattle.run_minutes.specs.declared.keeper.Moment.{Moment}
+use Rattle.run_minutes.specs.Minutes.{odometer_by}
 use Rattle.run_outcome.specs.declared.outcome.Outcome.{Outcome}
-use Rattle.run_entering.specs.declared.lines.Entering.{Entering}
-use Rattle.run_entering.specs.Entering.{Way, ending_of, measured}
-use Rattle.run_entering.specs.Entered.{IsLeft}
+use Rattle.run_insertion.specs.declared.lines.Entering.{Entering}
+use Rattle.run_insertion.specs.Entering.{Way, ending_of, measured}
+use Rattle.run_insertion.specs.Entered.{IsLeft}
 use Rattle.run_acts.specs.declared.run.Run.{Run}
 use Rattle.run_acts.specs.Power.{with_cabin}
 use Rattle.run_acts.specs.Acting.{IsSettled}

@@ -10,11 +10,11 @@ use Rattle.log_model.specs.declared.lines.Refused.{Refused}
 use Rattle.log_model.specs.declared.lines.SlotFault.{SlotFault}
 use Rattle.log_model.specs.declared.lines.SlotFault.TheVariants.{NoPower}
 use Rattle.log_model.specs.Slots.{refusal}
-use Rattle.slot_machine.specs.Calls.{Seats, logged, seat_in, card_in}
+use Rattle.card_slots.specs.Calls.{Seats, logged, seat_in, card_in}
 use Rattle.run_outcome.specs.Lines.{cut_at}
 use Rattle.run_outcome.specs.declared.outcome.Outcome.{Outcome}
-use Rattle.run_keeping.specs.declared.keeper.Moment.{Moment}
-use Rattle.run_keeping.specs.Keeping.{with_lines}
+use Rattle.run_minutes.specs.declared.keeper.Moment.{Moment}
+use Rattle.run_minutes.specs.Keeping.{with_lines}
 use Rattle.run_acts.specs.declared.run.Run.{Run}
 use Rattle.run_acts.specs.Power.{is_lit, cut_run}
 use Rattle.run_acts.specs.Going.{largest_number}

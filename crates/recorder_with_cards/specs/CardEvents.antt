@@ -2,14 +2,14 @@
 use Rattle.std.specs.Prelude.{◌≡◌, ℕ, List}
 use Rattle.trace_model.specs.declared.Card.{Card}
 use Rattle.tach_media.specs.Medium.{State}
-use Rattle.card_records.specs.declared.current_use.CurrentUse.{CurrentUse}
+use Rattle.card_files.specs.declared.current_use.CurrentUse.{CurrentUse}
 use Rattle.card_image.specs.Fields.{current_use}
 use Rattle.card_image.specs.Own.{own_sizes, IsOwnValid}
 use Rattle.event_model.specs.Events.{seen_of}
 use Rattle.safety_model.specs.Recording.{Recording, card_image}
 use Rattle.safety_model.specs.Safe.{Devices, card_of}
-use Rattle.run_recorded.specs.Whole.{NothingFailed}
-use Rattle.run_evented.specs.Uses.{vehicle_of, uses_on, use_left}
+use Rattle.run_promise.specs.Whole.{NothingFailed}
+use Rattle.run_note_record.specs.Uses.{vehicle_of, uses_on, use_left}
 use Rattle.run_acts.specs.OnCards.{accepted_on, ShowsOn, AreUses}
 
 -- A CARD SHOWS ITS EVENTS: at each of its acceptances a use was found on it, which an image of it told that it might have left since a clock; and each

@@ -10,11 +10,10 @@ use Rattle.card_image.specs.Own.{own_number, IsOwnValid}
 use Rattle.safety_model.specs.Recording.{Recording}
 use Rattle.safety_model.specs.Safe.{Devices, breakdowns_of}
 use Rattle.unit_rule.specs.OtherRows.{KeepsRows}
-use Rattle.run_rule.specs.Opening.{BeginsAs}
-use Rattle.run_recorded.specs.Origin.{Origin}
-use Rattle.run_recorded.specs.Ends.{EndsRun}
-use Rattle.run_opening.specs.Begun.{found_in}
-use Rattle.run_opening.specs.Begun.{IsRefusedBy as IsRefusedAs}
+use Rattle.run_promise.specs.Opening.{BeginsAs}
+use Rattle.run_promise.specs.Origin.{Origin}
+use Rattle.run_promise.specs.Ends.{EndsRun}
+use Rattle.run_opening.specs.Begun.{found_in, IsRefusedBy as IsRefusedAs}
 use Rattle.run_opening.specs.Opening.{IsAsItWas}
 use Rattle.run_opening.specs.declared.fault.RunFault.{RunFault}
 use Rattle.run_outcome.specs.declared.outcome.Outcome.{Outcome}

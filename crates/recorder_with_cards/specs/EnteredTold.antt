@@ -6,10 +6,10 @@ use Rattle.event_model.specs.Events.{Event, Crew, noted_with}
 pub use Rattle.run_acts.specs.NotedEvents.{IsTold, AreUnsure}
 use Rattle.run_crew.specs.declared.cabin.Cabin.{Cabin}
 use Rattle.run_crew.specs.Cabin.{torn_out, crew_of}
-use Rattle.run_notes.specs.Entries.{IsCrewOf}
-use Rattle.run_entering.specs.declared.lines.Entering.{Entering}
-use Rattle.run_entering.specs.Entering.{Ending, Unfit, Ahead, Fell, Unasked, Unnoted, Seated, Lost, seated}
-use Rattle.run_entering.specs.Noted.{UnitNote, Inserts, BeginsRow, Tells}
+use Rattle.run_events.specs.Entries.{IsCrewOf}
+use Rattle.run_insertion.specs.declared.lines.Entering.{Entering}
+use Rattle.run_insertion.specs.Entering.{Ending, Unfit, Ahead, Fell, Unasked, Unnoted, Seated, Lost, seated}
+use Rattle.run_insertion.specs.Noted.{UnitNote, Inserts, BeginsRow, Tells}
 
 -- these notes tell these events, in order; insertions and rows tell none
 abbrev pub TellEvents : (Card → List ℕ) → List UnitNote → List Event → Type 0

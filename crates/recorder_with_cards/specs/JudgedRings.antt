@@ -14,19 +14,19 @@ use Rattle.log_model.specs.Causes.{second_of}
 use Rattle.log_model.specs.Log.{RunLog, In, cut_in, found_in, is_accepting}
 use Rattle.log_model.specs.Slots.{same_card, other_slot}
 use Rattle.log_model.specs.Course.{Visit}
-use Rattle.side_model.specs.Odometer.{SpanFrom, odometer_at}
-use Rattle.side_model.specs.Noted.{Acceptance}
+use Rattle.note_model.specs.Odometer.{SpanFrom, odometer_at}
+use Rattle.note_model.specs.Noted.{Acceptance}
 use Rattle.safety_model.specs.Safe.{Devices}
 use Rattle.run_rings.specs.Notes.{TellSameTo}
 use Rattle.run_outcome.specs.declared.outcome.Outcome.{Outcome}
-use Rattle.run_recorded.specs.Origin.{Origin}
-use Rattle.run_recorded.specs.Beside.{HaveLeftMore}
-use Rattle.run_ringed.specs.Ringed.{Seating, one_behind, StaysInRings, WritesRing, IsInsertionIn, IsAddedAt, MayBeAdded, Since, since_in}
-use Rattle.run_ringed.specs.OnCards.{PlacesStay}
-use Rattle.run_ringed.specs.SoFar.{AreFewer}
-use Rattle.run_keeping.specs.declared.keeper.Moment.{Moment}
-use Rattle.run_keeping.specs.Minutes.{odometer_by}
-use Rattle.run_keeping.specs.Books.{HaveTime}
+use Rattle.run_promise.specs.Origin.{Origin}
+use Rattle.run_promise.specs.Beside.{HaveLeftMore}
+use Rattle.run_note_record.specs.Ringed.{Seating, one_behind, StaysInRings, WritesRing, IsInsertionIn, IsAddedAt, MayBeAdded, Since, since_in}
+use Rattle.run_note_record.specs.OnCards.{PlacesStay}
+use Rattle.run_note_record.specs.RingsSoFar.{AreFewer}
+use Rattle.run_minutes.specs.declared.keeper.Moment.{Moment}
+use Rattle.run_minutes.specs.Minutes.{odometer_by}
+use Rattle.run_minutes.specs.Books.{HaveTime}
 use Rattle.run_acts.specs.declared.run.Run.{Run}
 use Rattle.run_acts.specs.Recording.{log_of}
 use Rattle.run_acts.specs.RunRinged.{seats_of}

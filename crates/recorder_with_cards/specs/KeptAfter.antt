@@ -8,7 +8,7 @@ use Rattle.log_model.specs.Log.{RunLog, kept_after}
 use Rattle.log_model.specs.Course.{Told}
 use Rattle.log_model.specs.Spans.{spans_of, first_in}
 use Rattle.history_model.specs.History.{cut_second}
-use Rattle.side_model.specs.Done.{has_failed_in}
+use Rattle.note_model.specs.Done.{has_failed_in}
 use Rattle.safety_model.specs.Recording.{Recording, told_of}
 
 -- an image of the unit has this last-kept minute

@@ -3,24 +3,24 @@ use Rattle.std.specs.Prelude.{◌≡◌, ℕ, ◌<◌, Bool, true, false, Option
 use Rattle.activity_codec.specs.declared.values.Slot.{Slot}
 use Rattle.activity_codec.specs.declared.values.Slot.TheVariants.{Driver, CoDriver}
 use Rattle.event_model.specs.Spans.{gap_of}
-use Rattle.slot_machine.specs.Calls.{seat_in, card_in}
-use Rattle.unit_journal.specs.declared.notes.Notes.{Notes}
+use Rattle.card_slots.specs.Calls.{seat_in, card_in}
+use Rattle.unit_minutes.specs.declared.notes.Notes.{Notes}
 use Rattle.trace_model.specs.declared.Card.{Card}
 use Rattle.trace_model.specs.declared.Action.{Action}
 use Rattle.trace_model.specs.declared.Action.TheVariants.{Select, Insert, Withdraw, Tear, Place, Manual}
 use Rattle.unit_notes.specs.declared.unit_event.UnitEvent.{UnitEvent}
 use Rattle.safety_model.specs.Safe.{Devices}
-use Rattle.run_keeping.specs.declared.keeper.Moment.{Moment}
+use Rattle.run_minutes.specs.declared.keeper.Moment.{Moment}
 use Rattle.run_outcome.specs.declared.outcome.Outcome.{Outcome}
-use Rattle.run_entering.specs.declared.lines.Entering.{Entering}
-use Rattle.run_entering.specs.Entering.{Way, ending_of, measured}
-use Rattle.run_entering.specs.Noted.{notes_by}
+use Rattle.run_insertion.specs.declared.lines.Entering.{Entering}
+use Rattle.run_insertion.specs.Entering.{Way, ending_of, measured}
+use Rattle.run_insertion.specs.Noted.{notes_by}
 use Rattle.recorder_with_cards.specs.EnteredEvents.{events_in}
 use Rattle.run_acts.specs.NotedEvents.{NotesEvents}
 use Rattle.run_acts.specs.declared.run.Run.{Run}
-use Rattle.unit_course.specs.Lines.{found_from}
+use Rattle.run_unit_course.specs.Lines.{found_from}
 use Rattle.run_outcome.specs.Lines.{cut_at}
-use Rattle.run_keeping.specs.Keeping.{with_lines}
+use Rattle.run_minutes.specs.Keeping.{with_lines}
 use Rattle.minute_model.specs.declared.Rule.{Rule}
 use Rattle.run_acts.specs.Power.{IsSpanBegun, cut_run}
 use Rattle.run_acts.specs.Acting.{now_moment}

@@ -4,14 +4,14 @@ use Rattle.trace_model.specs.declared.Card.{Card}
 use Rattle.tach_media.specs.Medium.{State}
 use Rattle.gated_ring.specs.Ring.{IsDense}
 use Rattle.card_image.specs.Own.{IsOwnValid}
-use Rattle.side_model.specs.Odometer.{SpanFrom, AreSpansFrom}
-use Rattle.side_model.specs.Noted.{places_of}
-use Rattle.side_model.specs.Rings.{RingShows}
+use Rattle.note_model.specs.Odometer.{SpanFrom, AreSpansFrom}
+use Rattle.note_model.specs.Noted.{places_of}
+use Rattle.note_model.specs.Rings.{RingShows}
 use Rattle.unit_model.specs.Image.{last_kept, odometer_at}
 use Rattle.safety_model.specs.Recording.{Recording, card_image, told_of}
 use Rattle.safety_model.specs.Safe.{Devices, card_of}
 use Rattle.safety_model.specs.Side.{notes_in}
-use Rattle.run_ringed.specs.OnCards.{places_in, places_on, IsPlaceOn, is_sure_on}
+use Rattle.run_note_record.specs.OnCards.{places_in, places_on, IsPlaceOn, is_sure_on}
 
 -- an image of a card shows the places that this card entered, behind those at the start, in their order; and its ring is dense, so that of the next
 -- run it is said again

@@ -3,16 +3,16 @@ use Rattle.std.specs.Prelude.{List, ℕ}
 use Rattle.gated_ring.specs.Ring.{IsDense}
 use Rattle.unit_model.specs.Image.{last_kept, odometer_at}
 use Rattle.message_model.specs.Records.{insertion_ring, unit_place_ring}
-use Rattle.side_model.specs.Noted.{insertions_of, places_of}
-use Rattle.side_model.specs.Odometer.{SpanFrom, AreSpansFrom, MayStore}
-use Rattle.side_model.specs.Rings.{RingShows, IsPlace, is_sure_insertion, is_sure_place}
+use Rattle.note_model.specs.Noted.{insertions_of, places_of}
+use Rattle.note_model.specs.Odometer.{SpanFrom, AreSpansFrom, MayStore}
+use Rattle.note_model.specs.Rings.{RingShows, IsPlace, is_sure_insertion, is_sure_place}
 use Rattle.safety_model.specs.Recording.{Recording, told_of}
 use Rattle.safety_model.specs.Safe.{Devices}
 use Rattle.safety_model.specs.Side.{holder_of, notes_in}
-use Rattle.run_evented.specs.Evented.{ShowsEventsOf}
-pub use Rattle.run_evented.specs.Opened.{HasComeBefore}
-use Rattle.run_ringed.specs.Ringed.{IsInsertionOf}
-pub use Rattle.run_ringed.specs.Ringed.{TellsAtStart}
+use Rattle.run_note_record.specs.Evented.{ShowsEventsOf}
+pub use Rattle.run_note_record.specs.Opened.{HasComeBefore}
+use Rattle.run_note_record.specs.Ringed.{IsInsertionOf}
+pub use Rattle.run_note_record.specs.Ringed.{TellsAtStart}
 
 -- an image of the unit shows the run's auxiliary records
 pub record ShowsSide (r : Recording) (began now : Devices) (x : List ℕ) : Type 0 where

@@ -13,11 +13,11 @@ use Rattle.history_model.specs.Completeness.{IsMarked}
 use Rattle.gated_ring.specs.Ring.{IsDense}
 use Rattle.message_model.specs.Records.{insertion_ring}
 use Rattle.card_image.specs.Own.{own_sizes, IsOwnValid}
-use Rattle.side_model.specs.Done.{done_of}
-use Rattle.side_model.specs.Noted.{notes_of}
+use Rattle.note_model.specs.Done.{done_of}
+use Rattle.note_model.specs.Noted.{notes_of}
 use Rattle.safety_model.specs.Recording.{Recording, card_image, brought, start_of}
 use Rattle.safety_model.specs.Safe.{Devices, card_of}
-use Rattle.run_recorded.specs.Whole.{NothingFailed}
+use Rattle.run_promise.specs.Whole.{NothingFailed}
 use Rattle.unit_model.specs.Image.{odometer_at}
 use Rattle.card_session.specs.declared.session.Kept.{Kept}
 use Rattle.run_acts.specs.Closings.{spells_of}

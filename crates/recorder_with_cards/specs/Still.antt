@@ -7,7 +7,7 @@ use Rattle.message_model.specs.Records.{insertion_ring, unit_place_ring}
 use Rattle.card_image.specs.Own.{IsOwnValid}
 use Rattle.safety_model.specs.Recording.{Recording, card_image}
 use Rattle.safety_model.specs.Safe.{Devices, card_of}
-use Rattle.run_strung.specs.Strung.{HasSameHolder}
+use Rattle.run_devices.specs.Strung.{HasSameHolder}
 
 -- a ring that was dense at the start is dense in each image of the unit that a stop may leave
 abbrev pub StaysDense : Shape → (start : List ℕ) → (now : Devices) → Type 0

@@ -7,11 +7,11 @@ use Rattle.log_model.specs.Spans.{spans_of}
 use Rattle.unit_model.specs.declared.layout.TheConstants.{HIGHEST_ODOMETER}
 use Rattle.history_model.specs.History.{decided_of}
 use Rattle.unit_model.specs.Image.{odometer_at}
-use Rattle.unit_journal.specs.DayOdometers.{RecordsDay}
-use Rattle.unit_course.specs.Legs.{kilometres_of, whole_legs}
+use Rattle.unit_minutes.specs.DayOdometers.{RecordsDay}
+use Rattle.run_unit_course.specs.Legs.{kilometres_of, whole_legs}
 use Rattle.safety_model.specs.Recording.{Recording, told_of}
 use Rattle.safety_model.specs.Safe.{Devices}
-use Rattle.run_recorded.specs.Whole.{IsWhole}
+use Rattle.run_promise.specs.Whole.{IsWhole}
 
 -- an image's odometer is that of the start and the whole kilometres of each time with power, up to the last minute that it decided
 abbrev pub HasWholeOdometer : Rule → List Told → (odometer : ℕ) → List ℕ → Type 0

@@ -4,29 +4,29 @@ use Rattle.trace_model.specs.declared.Card.{Card}
 use Rattle.trace_model.specs.Trace.{TraceSecond}
 use Rattle.log_model.specs.Log.{RunLog, In}
 use Rattle.log_model.specs.Course.{Told}
-use Rattle.side_model.specs.Odometer.{SpanFrom}
-use Rattle.unit_course.specs.Lines.{cut_at}
-use Rattle.unit_course.specs.Followed.{Supply, Lost, MayPower}
+use Rattle.note_model.specs.Odometer.{SpanFrom}
+use Rattle.run_unit_course.specs.Lines.{cut_at}
+use Rattle.run_unit_course.specs.Followed.{Supply, Lost, MayPower}
 use Rattle.safety_model.specs.Safe.{Devices}
 use Rattle.run_course.specs.Moments.{and_break}
-use Rattle.run_keeping.specs.Books.{HaveTime}
+use Rattle.run_minutes.specs.Books.{HaveTime}
 use Rattle.run_opening.specs.declared.fault.RunFault.{RunFault}
 use Rattle.run_outcome.specs.declared.outcome.Outcome.{Outcome}
-use Rattle.run_recorded.specs.Origin.{Origin}
-use Rattle.run_within.specs.Recorded.{Values, Recorded}
-use Rattle.run_within.specs.Powering.{read_values}
-use Rattle.run_evented.specs.Evented.{limit_in, Evented}
-use Rattle.run_evented.specs.Noting.{Acting}
+use Rattle.run_promise.specs.Origin.{Origin}
+use Rattle.run_record.specs.Recorded.{Values, Recorded}
+use Rattle.run_record.specs.Powering.{read_values}
+use Rattle.run_note_record.specs.Evented.{limit_in, Evented}
+use Rattle.run_note_record.specs.Noting.{Acting}
 use Rattle.run_acts.specs.declared.run.Run.{Run}
 use Rattle.run_acts.specs.Power.{has_power}
 use Rattle.run_acts.specs.Recording.{IsOrigin, log_of, values_of, RunRecorded, InSecond, GoesOnOrCut, IsNow}
 use Rattle.run_acts.specs.Evented.{WithinEvented, InSecondEvented, RunEvented}
 use Rattle.run_acts.specs.RunRinged.{RunRinged, RingsWithin, InSecondRinged, with_cut}
-use Rattle.run_ringed.specs.Ringed.{Seating, notes_in}
-use Rattle.run_ringed.specs.SoFar.{RingedBehind}
-use Rattle.run_ringed.specs.Steps.{nobody}
+use Rattle.run_note_record.specs.Ringed.{Seating, notes_in}
+use Rattle.run_note_record.specs.RingsSoFar.{RingedBehind}
+use Rattle.run_note_record.specs.Steps.{nobody}
 use Rattle.run_rings.specs.Spans.{with_second}
-use Rattle.run_ringed.specs.Stored.{StoresOn, StoresOff}
+use Rattle.run_note_record.specs.Stored.{StoresOn, StoresOff}
 use Rattle.run_acts.specs.Truths.{truths_of, marked}
 use Rattle.run_acts.specs.Stays.{AllStay}
 

@@ -2,7 +2,7 @@
 use Rattle.std.specs.Prelude.{ℕ, ◌++◌, List}
 use Rattle.trace_model.specs.declared.Card.{Card}
 use Rattle.card_image.specs.Own.{own_sizes, IsOwnValid}
-use Rattle.card_steps.specs.Deeds.{IsMade}
+use Rattle.card_string.specs.Deeds.{IsMade}
 use Rattle.safety_model.specs.Recording.{Recording, card_image}
 use Rattle.safety_model.specs.Cards.{CardShows}
 use Rattle.safety_model.specs.Safe.{Devices, card_of}

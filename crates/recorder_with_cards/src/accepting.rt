@@ -2,9 +2,9 @@
 ghost use Rattle.std.specs.Prelude.{◌≡◌, ◌+◌, ◌*◌, ◌/◌, ◌<◌, ◌≤◌, ◌^◌, None, Some, OnOk, length, is_err};
 ghost use Rattle.tach_media.specs.Medium.{HasCause};
 ghost use Rattle.log_model.specs.Slots.{other_slot};
-ghost use Rattle.slot_machine.specs.Calls.{seat_in, card_in};
+ghost use Rattle.card_slots.specs.Calls.{seat_in, card_in};
 ghost use Rattle.run_acts.specs.declared.run.Power.TheVariants.{Lit};
-ghost use Rattle.run_keeping.specs.Later.{IsLater, AreLater, AreCalm, IsCalm};
+ghost use Rattle.run_minutes.specs.Later.{IsLater, AreLater, AreCalm, IsCalm};
 ghost use Rattle.run_acts.specs.Going.{first_second, end_of_seconds, IsHeld, IsLit};
 ghost use Rattle.run_acts.specs.Room.{falls_of, bare_count, Takes};
 ghost use Rattle.recorder_with_cards.specs.Accepting.{chip_a_of, chip_b_of, a_of, b_of, IsAccepted, IsOdometerNow, IsEnteringNow, IsAnew, IsBare};
@@ -13,15 +13,15 @@ ghost use Rattle.recorder_with_cards.specs.Noting.{IsJudgedNoting, NotesJudging,
 ghost use Rattle.recorder_with_cards.specs.JudgedRings.{RingsEntering, RingsJudged, RingsJudgedAnew};
 ghost use Rattle.recorder_with_cards.specs.JudgedCards.{CardsJudged, CardsAnew};
 ghost use Rattle.recorder_with_cards.specs.EnteredRings.{IsJudgedRinging, RingsJudging, RingsAnew};
-ghost use Rattle.run_entering.specs.declared.lines.Entering.{Entering as Enters};
+ghost use Rattle.run_insertion.specs.declared.lines.Entering.{Entering as Enters};
 ghost use Rattle.run_outcome.specs.declared.outcome.TheConstants.{MOST_OWED};
-ghost use Rattle.run_rule.specs.Between.{devices};
-ghost use Rattle.run_told.specs.Told.{arranged};
+ghost use Rattle.run_promise.specs.Between.{devices};
+ghost use Rattle.run_devices.specs.Told.{arranged};
 
 use activity_codec::Slot;
 use run_acts::Run;
-use run_entering::{Entering, accept};
-use run_keeping::Moment;
+use run_insertion::{Entering, accept};
+use run_minutes::Moment;
 use run_outcome::Outcome;
 use tach_media::{Chip, Failed, Medium};
 use trace_model::Card;

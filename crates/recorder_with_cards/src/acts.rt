@@ -3,12 +3,12 @@ ghost use Rattle.std.specs.Prelude.{◌≡◌, ℕ, ◌+◌, ◌-◌, ◌/◌, �
 ghost use Rattle.std.specs.Result.{result_err};
 ghost use Rattle.tach_media.specs.Medium.{HasCause};
 ghost use Rattle.log_model.specs.Slots.{refusal};
-ghost use Rattle.slot_machine.specs.Calls.{logged};
-ghost use Rattle.run_keeping.specs.Keeping.{with_lines};
-ghost use Rattle.run_keeping.specs.Books.{HaveTime};
-ghost use Rattle.run_keeping.specs.Later.{AreLater, AreCalm};
+ghost use Rattle.card_slots.specs.Calls.{logged};
+ghost use Rattle.run_minutes.specs.Keeping.{with_lines};
+ghost use Rattle.run_minutes.specs.Books.{HaveTime};
+ghost use Rattle.run_minutes.specs.Later.{AreLater, AreCalm};
 ghost use Rattle.run_outcome.specs.Broken.{BreaksDown};
-ghost use Rattle.run_rule.specs.Between.{devices};
+ghost use Rattle.run_promise.specs.Between.{devices};
 ghost use Rattle.run_acts.specs.declared.run.Power.TheVariants.{Lit};
 ghost use Rattle.run_acts.specs.Power.{is_lit};
 ghost use Rattle.run_acts.specs.Going.{largest_number, IsHeld, IsLit, IsWithin};

@@ -1,8 +1,8 @@
 //! Seconds at one speed.
 ghost use Rattle.std.specs.Prelude.{◌≡◌, ℕ, ◌+◌, ◌-◌, ◌%◌, ◌<◌, ◌≤◌, OnOk, length};
-ghost use Rattle.run_rule.specs.Between.{devices};
-ghost use Rattle.run_keeping.specs.Books.{HaveTime};
-ghost use Rattle.run_keeping.specs.Later.{AreLater, AreCalm};
+ghost use Rattle.run_promise.specs.Between.{devices};
+ghost use Rattle.run_minutes.specs.Books.{HaveTime};
+ghost use Rattle.run_minutes.specs.Later.{AreLater, AreCalm};
 ghost use Rattle.run_outcome.specs.Broken.{BreaksDown};
 ghost use Rattle.run_acts.specs.Going.{largest_number, end_of_seconds, IsGoing};
 ghost use Rattle.run_acts.specs.Room.{HasRoom};

@@ -8,9 +8,9 @@ ghost use Rattle.event_model.specs.Events.{Event, Crew, Seen, Tearing, number_of
 ghost use Rattle.run_events.specs.Shown.{by_kind, none, ShowsMore, AreNumbers};
 ghost use Rattle.run_events.specs.Running.{judged_notes};
 ghost use Rattle.run_crew.specs.declared.cabin.Cabin.{Cabin};
-ghost use Rattle.run_entering.specs.declared.lines.Entering.{Entering};
-ghost use Rattle.run_entering.specs.Entering.{Ending};
-ghost use Rattle.run_entering.specs.Noted.{AreDone, AreBeingDone, UnitNote, IsOnUnit, IsComing, notes_by};
+ghost use Rattle.run_insertion.specs.declared.lines.Entering.{Entering};
+ghost use Rattle.run_insertion.specs.Entering.{Ending};
+ghost use Rattle.run_insertion.specs.Noted.{AreDone, AreBeingDone, UnitNote, IsOnUnit, IsComing, notes_by};
 ghost use Rattle.recorder_with_cards.specs.EnteredTold.{TellEvents, AreUnsure, moving_events, unclosed_events, events_by, IsLow, AreNamed};
 
 /// Notes of the unit that tell these events show them more, once all are done; at a moment of them nothing more is shown, where of the types

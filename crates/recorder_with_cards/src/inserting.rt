@@ -2,9 +2,9 @@
 ghost use Rattle.std.specs.Prelude.{◌≡◌, ◌+◌, ◌*◌, ◌/◌, ◌<◌, ◌≤◌, None, OnOk, true, false, length, is_some, is_err};
 ghost use Rattle.tach_media.specs.Medium.{HasCause};
 ghost use Rattle.log_model.specs.Slots.{other_slot};
-ghost use Rattle.slot_machine.specs.Calls.{seat_in, is_card};
+ghost use Rattle.card_slots.specs.Calls.{seat_in, is_card};
 ghost use Rattle.run_acts.specs.declared.run.Power.TheVariants.{Lit};
-ghost use Rattle.run_keeping.specs.Later.{AreLater, AreCalm};
+ghost use Rattle.run_minutes.specs.Later.{AreLater, AreCalm};
 ghost use Rattle.run_acts.specs.Going.{first_second, end_of_seconds, IsHeld, IsLit};
 ghost use Rattle.run_acts.specs.Room.{falls_of, Takes};
 ghost use Rattle.recorder_with_cards.specs.Accepting.{IsInserted};
@@ -15,13 +15,13 @@ ghost use Rattle.run_acts.specs.Evented.{EventsAction};
 ghost use Rattle.run_acts.specs.RunRinged.{RingsAction};
 ghost use Rattle.run_acts.specs.RunCards.{CardsAction};
 ghost use Rattle.run_outcome.specs.declared.outcome.TheConstants.{MOST_OWED};
-ghost use Rattle.run_rule.specs.Between.{devices};
+ghost use Rattle.run_promise.specs.Between.{devices};
 ghost use Rattle.trace_model.specs.declared.Action.TheVariants.{Insert};
 
 use crate::accepting::accept_in;
 use activity_codec::Slot;
 use run_acts::{Run, settle};
-use run_keeping::Moment;
+use run_minutes::Moment;
 use run_outcome::Outcome;
 use tach_media::{Chip, Failed, Medium};
 use trace_model::Card;

@@ -5,7 +5,7 @@ ghost use Rattle.unit_model.specs.Image.{IsUnit};
 ghost use Rattle.unit_model.specs.Versions.{rule_of};
 ghost use Rattle.run_opening.specs.Units.{IsLoaded};
 ghost use Rattle.run_acts.specs.declared.run.Power.TheVariants.{Lit};
-ghost use Rattle.run_keeping.specs.Later.{AreLater, AreCalm};
+ghost use Rattle.run_minutes.specs.Later.{AreLater, AreCalm};
 ghost use Rattle.run_outcome.specs.Broken.{failed_cuts, BreaksDown};
 ghost use Rattle.run_acts.specs.Power.{is_lit, has_power, minute_over};
 ghost use Rattle.run_acts.specs.Going.{IsHeld, IsLit, IsGoing, IsWithin, IsFoundLater};
@@ -17,17 +17,17 @@ ghost use Rattle.recorder_with_cards.specs.Carded.{BeginsCarded};
 ghost use Rattle.recorder_with_cards.specs.CardsWoken.{CardsResuming, CardsPowering};
 ghost use Rattle.recorder_with_cards.specs.Noting.{NotesWaking, NotesFound, NotesPowerOn};
 ghost use Rattle.run_outcome.specs.declared.outcome.TheConstants.{MOST_OWED};
-ghost use Rattle.run_rule.specs.Between.{devices};
+ghost use Rattle.run_promise.specs.Between.{devices};
 
 use crate::accepting::accept_anew;
 use activity_codec::Slot;
-use device_steps::mend;
+use device_calls::mend;
 use minute_rules::Rule;
 use run_acts::{Run, note_gap};
 use run_opening::{RunFault, judge_clock, open_unit};
 use run_outcome::Outcome;
 use tach_media::{Chip, Failed, Medium};
-use unit_journal::{Journal, UnitFault};
+use unit_minutes::{Journal, UnitFault};
 
 /// A second begins to which the trace gives power: where it is due, power is back. Whether the second has power, at its beginning at
 /// least.

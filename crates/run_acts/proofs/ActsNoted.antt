@@ -12,20 +12,20 @@ use Rattle.unit_model.specs.Image.{IsUnit}
 use Rattle.unit_notes.specs.declared.unit_event.UnitEvent.{UnitEvent}
 use Rattle.unit_notes.specs.Noting.{IsWithdrawing}
 use Rattle.safety_model.specs.Safe.{Devices}
-use Rattle.run_rule.specs.Between.{devices}
+use Rattle.run_promise.specs.Between.{devices}
 use Rattle.run_events.specs.Shown.{SaysNothing}
 use Rattle.run_events.proofs.Shows.{nothing-more}
 use Rattle.run_events.proofs.Frames.{between-nothing}
 use Rattle.run_outcome.specs.Lines.{Listed}
 use Rattle.run_outcome.specs.declared.outcome.Outcome.{Outcome}
 use Rattle.log_model.specs.declared.lines.Break.{Break}
-use Rattle.run_keeping.specs.declared.keeper.Moment.{Moment}
-use Rattle.run_keeping.specs.Faults.{faults_to}
-use Rattle.run_keeping.proofs.Fates.{no-lines}
-use Rattle.run_evented.specs.Evented.{number_in}
+use Rattle.run_minutes.specs.declared.keeper.Moment.{Moment}
+use Rattle.run_minutes.specs.Faults.{faults_to}
+use Rattle.run_minutes.proofs.Fates.{no-lines}
+use Rattle.run_note_record.specs.Evented.{number_in}
 use Rattle.run_acts.specs.declared.run.Run.{Run}
 use Rattle.run_acts.specs.Acting.{IsNotedOn, Closing, Bare, Closed, Fell, IsClosed, closed_breaks, closed_falls, told_of, left_run}
-use Rattle.run_keeping.specs.Keeping.{tear_of, with_lines}
+use Rattle.run_minutes.specs.Keeping.{tear_of, with_lines}
 use Rattle.run_acts.specs.Faults.{NotesSettling}
 use Rattle.run_acts.specs.NotedEvents.{NotesEvents}
 use Rattle.run_acts.specs.Noting.{SaysNoMore, NotesPlace, SettlesThese, closed_events, NotesClosing, NotesWithdrawing}

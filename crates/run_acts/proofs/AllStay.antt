@@ -17,33 +17,33 @@ use Rattle.log_model.specs.declared.lines.Find.{Find}
 use Rattle.log_model.specs.declared.lines.Break.{Break}
 use Rattle.log_model.specs.declared.lines.Mark.{Mark}
 use Rattle.log_model.specs.declared.lines.Break.TheVariants.{Cut, Tear}
-use Rattle.unit_course.specs.Lines.{cut_at, with_kept, found_from}
+use Rattle.run_unit_course.specs.Lines.{cut_at, with_kept, found_from}
 use Rattle.card_image.specs.Own.{own_sizes, IsOwnValid}
 use Rattle.card_session.specs.declared.session.Kept.{Kept}
-use Rattle.joint_rule.specs.Views.{other}
-use Rattle.side_model.specs.Noted.{Note}
+use Rattle.device_rule.specs.Views.{other}
+use Rattle.note_model.specs.Noted.{Note}
 use Rattle.safety_model.specs.Safe.{Devices, card_of}
-use Rattle.slot_machine.specs.declared.seats.Present.{Present}
-use Rattle.slot_machine.specs.Kept.{Kept as SlotsKept}
+use Rattle.card_slots.specs.declared.seats.Present.{Present}
+use Rattle.card_slots.specs.Kept.{Kept as SlotsKept}
 use Rattle.run_crew.specs.declared.cards.Accepted.{Accepted}
 use Rattle.run_crew.specs.declared.cards.Cards.{Cards}
 use Rattle.run_crew.specs.declared.cabin.Cabin.{Cabin}
 use Rattle.run_crew.specs.Cards.{session_of, with_session}
-use Rattle.run_rule.specs.Found.{CardFound, found_of}
-use Rattle.run_rule.specs.Between.{devices}
-use Rattle.run_told.specs.Told.{arranged}
-use Rattle.run_recorded.specs.Origin.{Origin}
-use Rattle.run_recorded.specs.Whole.{NothingFailed}
-use Rattle.run_keeping.specs.declared.keeper.Keeper.{Keeper}
-use Rattle.run_keeping.specs.declared.keeper.Moment.{Moment}
-use Rattle.run_keeping.specs.Keeping.{Fate, Still, Has, Fell, has_fallen, cabin_by, breaks_by, marks_by, tear_of}
+use Rattle.run_promise.specs.Found.{CardFound, found_of}
+use Rattle.run_promise.specs.Between.{devices}
+use Rattle.run_devices.specs.Told.{arranged}
+use Rattle.run_promise.specs.Origin.{Origin}
+use Rattle.run_promise.specs.Whole.{NothingFailed}
+use Rattle.run_minutes.specs.declared.keeper.Keeper.{Keeper}
+use Rattle.run_minutes.specs.declared.keeper.Moment.{Moment}
+use Rattle.run_minutes.specs.Keeping.{Fate, Still, Has, Fell, has_fallen, cabin_by, breaks_by, marks_by, tear_of}
 use Rattle.minute_model.specs.declared.Minute.{Minute}
-use Rattle.run_keeping.specs.Minutes.{Told, Done, Reach, Whole, Short, IsReach, told_after, told_by, unit_mark, present_at}
-use Rattle.run_keeping.specs.Deeds.{KeepsOn, AllKeep}
-use Rattle.slot_machine.specs.Calls.{Seats, seat_in, card_in}
+use Rattle.run_minutes.specs.Minutes.{Told, Done, Reach, Whole, Short, IsReach, told_after, told_by, unit_mark, present_at}
+use Rattle.run_minutes.specs.Deeds.{KeepsOn, AllKeep}
+use Rattle.card_slots.specs.Calls.{Seats, seat_in, card_in}
 use Rattle.run_acts.specs.Closings.{Spell, spells_of, with_last_shut, last_slot}
 use Rattle.message_model.specs.Records.{insertion_ring}
-use Rattle.run_ringed.specs.OnCards.{HasRing}
+use Rattle.run_note_record.specs.OnCards.{HasRing}
 use Rattle.run_acts.specs.Comings.{VehicleTold, told_of, TellsMore, TellMore}
 use Rattle.run_acts.proofs.Comings.{tells-none, tells-then}
 use Rattle.run_acts.specs.Truths.{Truths, Grow}

@@ -8,15 +8,15 @@ use Rattle.tach_media.proofs.Breakdowns.{none_broken, call_broken, fewer_broken}
 use Rattle.card_layout.specs.declared.command.CardState.{CardState}
 use Rattle.card_layout.specs.declared.files.Application.{Application}
 use Rattle.card_commands.specs.Ports.{IsPort}
-use Rattle.device_steps.specs.CardNotes.{IsNote}
+use Rattle.device_calls.specs.CardNotes.{IsNote}
 use Rattle.run_crew.specs.declared.cards.Accepted.{Accepted}
 use Rattle.run_crew.specs.declared.cards.Known.{Known}
 use Rattle.run_crew.specs.declared.cards.Cards.{Cards}
 use Rattle.run_crew.specs.declared.cabin.Cabin.{Cabin}
 use Rattle.run_crew.specs.Cards.{known_of, session_of, with_session}
 use Rattle.run_crew.specs.Cabin.{torn_out, left_from, slot_with}
-use Rattle.run_keeping.specs.Keeping.{CardReady}
-use Rattle.run_keeping.proofs.Sessions.{session-twice}
+use Rattle.run_minutes.specs.Keeping.{CardReady}
+use Rattle.run_minutes.proofs.Sessions.{session-twice}
 use Rattle.run_acts.specs.Acting.{falls_by}
 
 pub some-one : (o : Option Accepted) → is_some o ≡ true → (a : Accepted) × (o ≡ Some a)

@@ -10,13 +10,13 @@ use Rattle.log_model.specs.Log.{Phase}
 use Rattle.log_model.specs.Slots.{refusal}
 use Rattle.log_model.specs.Course.{Visit}
 use Rattle.safety_model.specs.Safe.{Devices}
-use Rattle.slot_machine.specs.declared.seats.Seat.{Seat}
-use Rattle.slot_machine.specs.Calls.{Seats, seat_in, card_in, logged}
-use Rattle.slot_machine.proofs.Refusing.{refuse-alike}
+use Rattle.card_slots.specs.declared.seats.Seat.{Seat}
+use Rattle.card_slots.specs.Calls.{Seats, seat_in, card_in, logged}
+use Rattle.card_slots.proofs.Refusing.{refuse-alike}
 use Rattle.run_course.proofs.Presence.{slots-agree}
-use Rattle.run_recorded.specs.Origin.{Origin, start_at}
-use Rattle.run_within.specs.Recorded.{Values}
-use Rattle.run_within.specs.Within.{told_before, course_in, Within}
+use Rattle.run_promise.specs.Origin.{Origin, start_at}
+use Rattle.run_record.specs.Recorded.{Values}
+use Rattle.run_record.specs.Within.{told_before, course_in, Within}
 
 pub allowed-in : (o : Origin) (done : List TraceSecond) (s : TraceSecond) (at : Phase) (waits : List Visit) (speed : Option ℕ) (rest : List Minute) (v : Values) (d : Devices) (w : Within o done s at waits speed rest v d) (now : ℕ) (a : Action) → s.speed ≡ now →
     refusal (logged v.cabin.slots.seats) now a ≡ None → refusal (course_in w.b done s at v.log).slots s.speed a ≡ None

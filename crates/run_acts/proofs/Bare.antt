@@ -6,20 +6,20 @@ use Rattle.trace_model.specs.declared.Card.{Card}
 use Rattle.trace_model.specs.declared.Card.TheVariants.{A, B}
 use Rattle.minute_model.specs.declared.Minute.{Minute}
 use Rattle.card_session.specs.declared.session.Kept.{Kept}
-use Rattle.unit_journal.specs.declared.kept.KeptMinute.{KeptMinute}
+use Rattle.unit_minutes.specs.declared.kept.KeptMinute.{KeptMinute}
 use Rattle.log_model.specs.Slots.{same_card}
-use Rattle.slot_machine.specs.declared.seats.Seat.{Seat}
-use Rattle.slot_machine.specs.declared.seats.Present.{Present}
-use Rattle.slot_machine.specs.Calls.{seat_in, is_card}
-use Rattle.slot_machine.specs.Kept.{Kept as Slots}
+use Rattle.card_slots.specs.declared.seats.Seat.{Seat}
+use Rattle.card_slots.specs.declared.seats.Present.{Present}
+use Rattle.card_slots.specs.Calls.{seat_in, is_card}
+use Rattle.card_slots.specs.Kept.{Kept as Slots}
 use Rattle.run_crew.specs.declared.cards.Accepted.{Accepted}
 use Rattle.run_crew.specs.declared.cards.Cards.{Cards}
 use Rattle.run_crew.specs.declared.cabin.Cabin.{Cabin}
 use Rattle.run_crew.specs.Cards.{session_of, with_session}
 use Rattle.run_crew.specs.Cabin.{left_from, slot_with}
-use Rattle.run_keeping.specs.declared.keeper.Moment.{Moment}
-use Rattle.run_keeping.specs.Keeping.{Fate, Still, Has, Fell, IsFateOf, cabin_by, session_at, kept_in}
-use Rattle.run_keeping.specs.Minutes.{Round, IsRound, Told, AreKept, none, more, present_at, minute_of, cabin_after}
+use Rattle.run_minutes.specs.declared.keeper.Moment.{Moment}
+use Rattle.run_minutes.specs.Keeping.{Fate, Still, Has, Fell, IsFateOf, cabin_by, session_at, kept_in}
+use Rattle.run_minutes.specs.Minutes.{Round, IsRound, Told, AreKept, none, more, present_at, minute_of, cabin_after}
 use Rattle.run_acts.specs.Acting.{IsBareIn}
 
 two-cards : (a b : Card) (cards : Cards) → session_of cards a ≡ None → is_some (session_of cards b) ≡ true → same_card a b ≡ false

@@ -13,13 +13,13 @@ use Rattle.run_crew.specs.declared.cards.Accepted.{Accepted}
 use Rattle.run_crew.specs.declared.cards.Cards.{Cards}
 use Rattle.run_crew.specs.declared.cabin.Cabin.{Cabin}
 use Rattle.tacho_types.specs.declared.card_number.FullCardNumber.{FullCardNumber}
-use Rattle.slot_machine.specs.declared.seats.Seat.{Seat}
-use Rattle.slot_machine.specs.Calls.{card_in}
+use Rattle.card_slots.specs.declared.seats.Seat.{Seat}
+use Rattle.card_slots.specs.Calls.{card_in}
 use Rattle.run_crew.specs.Cards.{known_of, session_of, with_session, accepted_number}
 use Rattle.run_crew.specs.Cabin.{Stands, number_of_seat}
-use Rattle.run_keeping.specs.declared.keeper.Moment.{Moment}
-use Rattle.run_keeping.specs.Keeping.{UnitReady, CardReady, HasItsRow, SessionsGoOn, tears_of}
-use Rattle.run_keeping.proofs.Seats.{sessions-none}
+use Rattle.run_minutes.specs.declared.keeper.Moment.{Moment}
+use Rattle.run_minutes.specs.Keeping.{UnitReady, CardReady, HasItsRow, SessionsGoOn, tears_of}
+use Rattle.run_minutes.proofs.Seats.{sessions-none}
 use Rattle.run_acts.specs.declared.run.Run.{Run}
 use Rattle.run_acts.specs.Power.{with_cabin}
 use Rattle.run_acts.specs.Going.{CardAt, StandSomehow, IsHeld, IsGoingOn}

@@ -9,13 +9,13 @@ use Rattle.log_model.specs.Log.{RunLog, In}
 use Rattle.safety_model.specs.Safe.{Devices}
 use Rattle.run_outcome.specs.Lines.{Listed}
 use Rattle.run_outcome.specs.declared.outcome.Outcome.{Outcome}
-use Rattle.run_keeping.specs.declared.keeper.Moment.{Moment}
-use Rattle.run_keeping.specs.Keeping.{with_lines}
-use Rattle.run_recorded.specs.Origin.{Origin}
-use Rattle.run_recorded.specs.Beside.{HaveLeftMore}
-use Rattle.run_recorded.specs.Whole.{NothingFailed}
-use Rattle.run_evented.proofs.Exact.{no-cut}
-use Rattle.run_ringed.proofs.SoFar.{failed-more}
+use Rattle.run_minutes.specs.declared.keeper.Moment.{Moment}
+use Rattle.run_minutes.specs.Keeping.{with_lines}
+use Rattle.run_promise.specs.Origin.{Origin}
+use Rattle.run_promise.specs.Beside.{HaveLeftMore}
+use Rattle.run_promise.specs.Whole.{NothingFailed}
+use Rattle.run_note_record.proofs.Exact.{no-cut}
+use Rattle.run_note_record.proofs.SoFar.{failed-more}
 use Rattle.run_acts.specs.declared.run.Run.{Run}
 use Rattle.run_acts.specs.Acting.{IsSettled, Closing, closed_breaks, noted_breaks, told_of}
 use Rattle.run_acts.specs.CardNotes.{NotesOnCards}

@@ -15,24 +15,24 @@ use Rattle.log_model.specs.Log.{RunLog, In, Keeping, cut_in, found_in, kept_afte
 use Rattle.log_model.specs.Slots.{same_card}
 use Rattle.log_model.specs.Course.{Course, Visit, Before, Told, Went, begins, both_told, unmoved, fresh, all_acted, cut_told, lit_course, second_told, has_power, went}
 use Rattle.event_model.specs.Events.{Event, Seen, number_of, seen_of, seen_spans, gap_events, gaps_between, last_number, first_card}
-use Rattle.side_model.specs.Done.{course_powered, done_by}
-use Rattle.side_model.specs.Noted.{Note, noted_in}
+use Rattle.note_model.specs.Done.{course_powered, done_by}
+use Rattle.note_model.specs.Noted.{Note, noted_in}
 use Rattle.safety_model.specs.Safe.{Devices, card_of}
 use Rattle.run_course.proofs.Told.{lit-told, dark-told}
 use Rattle.run_events.specs.Seconds.{gap_by, gap_before, seen_next}
 use Rattle.run_events.specs.Choice.{AreEarlier}
 use Rattle.run_events.proofs.Growing.{seen-more}
 use Rattle.run_events.proofs.Later.{told-number, seen-same}
-use Rattle.run_evented.proofs.Brought.{lit-course, told-speed}
+use Rattle.run_note_record.proofs.Brought.{lit-course, told-speed}
 use Rattle.run_rings.specs.Notes.{notes_to, TellSameTo, course_behind, sits_accepted}
 use Rattle.run_rings.proofs.Actions.{power-notes}
-use Rattle.run_recorded.specs.Origin.{Origin}
-use Rattle.run_recorded.specs.Beside.{HaveLeftMore}
-use Rattle.run_evented.specs.Uses.{notes_in, noted_next, notes_now, uses_in}
-use Rattle.run_evented.proofs.Noted.{second-notes}
-use Rattle.run_evented.proofs.Exact.{fewer-none, next-notes, idle-notes, dark-notes}
-use Rattle.run_ringed.specs.SoFar.{GoesBehind}
-use Rattle.run_ringed.proofs.SoFar.{failed-more}
+use Rattle.run_promise.specs.Origin.{Origin}
+use Rattle.run_promise.specs.Beside.{HaveLeftMore}
+use Rattle.run_note_record.specs.Uses.{notes_in, noted_next, notes_now, uses_in}
+use Rattle.run_note_record.proofs.Noted.{second-notes}
+use Rattle.run_note_record.proofs.Exact.{fewer-none, next-notes, idle-notes, dark-notes}
+use Rattle.run_note_record.specs.RingsSoFar.{GoesBehind}
+use Rattle.run_note_record.proofs.SoFar.{failed-more}
 use Rattle.run_acts.specs.OnCards.{as_accepted, accepted_in, gaps_on}
 use Rattle.run_acts.specs.RunCards.{vehicle_in, sizes_in, CardShown, CardsBehind, seen_behind, gap_behind, CardsIn, CardsWaking, StillShow}
 use Rattle.run_acts.proofs.OnCards.{gaps-next, still-same}

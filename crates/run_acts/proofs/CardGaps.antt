@@ -16,21 +16,20 @@ use Rattle.log_model.specs.declared.lines.Break.TheVariants.{Cut, Tear}
 use Rattle.log_model.specs.declared.lines.Verdict.{Verdict}
 use Rattle.log_model.specs.Causes.{second_of}
 use Rattle.log_model.specs.Log.{RunLog, Phase, In, Keeping, same_phase, cut_in, found_in, kept_by, kept_after, is_accepting}
-use Rattle.log_model.specs.Slots.{Sitting, same_card, in_slot}
+use Rattle.log_model.specs.Slots.{Sitting, same_card, in_slot, refusal}
 use Rattle.log_model.specs.Course.{Course, Visit, Before, Moved, card_in, visits, both_told, unmoved, all_acted, acted, answered, moved_by, begins, is_settling, cut_told, lit_course, slot_told, second_told, has_power, dark_course, Told, not_begun}
-use Rattle.log_model.specs.Slots.{refusal}
 use Rattle.log_model.specs.declared.lines.SlotFault.{SlotFault}
 use Rattle.event_model.specs.declared.entries.Span.{Span}
 use Rattle.event_model.specs.declared.kinds.TheConstants.{POWER_INTERRUPTION}
 use Rattle.event_model.specs.Spans.{gap_of}
 use Rattle.event_model.specs.Events.{Event, Crew, Seen, Tearing, Watched, number_of, seen_of, seen_on, seen_with, seen_spans, seen_by, watched_on, noted_with, last_number, gap_event, gaps_between, gap_events, first_card, standing}
-use Rattle.side_model.specs.Done.{has_failed_in, course_powered}
-use Rattle.unit_course.specs.Lines.{tells_cut}
+use Rattle.note_model.specs.Done.{has_failed_in, course_powered}
+use Rattle.run_unit_course.specs.Lines.{tells_cut}
 use Rattle.run_events.specs.Seconds.{gap_before}
 use Rattle.run_events.specs.Gaps.{IsKnownGap, AreKnownGaps}
 use Rattle.run_course.proofs.Lookups.{break-more}
 use Rattle.run_course.proofs.Told.{lit-told}
-use Rattle.run_evented.proofs.Brought.{lit-course}
+use Rattle.run_note_record.proofs.Brought.{lit-course}
 use Rattle.run_acts.specs.OnCards.{is_card, has_card, as_accepted, gaps_on, gap_entry, enters, falls, is_sure_in, are_sure_on}
 use Rattle.run_acts.proofs.OnCards.{and-first, and-second, gaps-append}
 use Rattle.run_acts.proofs.CardCourse.{Finding, findings, IsPowered, sitting_at, powered-quiet, powered-as, slot-found, slot-entered}

@@ -12,16 +12,16 @@ use Rattle.tach_media.specs.Medium.{State, IsCoherent, LeavesOnly}
 use Rattle.tach_media.proofs.Runs.{at_image}
 use Rattle.card_layout.specs.declared.command.CardState.{CardState}
 use Rattle.card_layout.specs.declared.files.Application.{Application}
-use Rattle.card_records.specs.declared.card_event.CardEvent.{CardEvent}
+use Rattle.card_files.specs.declared.card_event.CardEvent.{CardEvent}
 use Rattle.card_layout.proofs.Images.{part_before}
 use Rattle.tacho_types.specs.declared.places.PlaceEntry.{PlaceEntry}
 use Rattle.tacho_types.specs.declared.card_number.FullCardNumber.{FullCardNumber}
 use Rattle.card_layout.specs.Files.{files_of, place_of, size_of}
 use Rattle.gated_ring.specs.Ring.{size_of as ring_size}
-use Rattle.card_records.specs.Noting.{IsNotingEvent, IsEventNoted, IsNotingPlace}
-use Rattle.card_records.specs.Rings.{file, place_ring}
-use Rattle.slot_machine.specs.declared.seats.Seat.{Seat}
-use Rattle.slot_machine.specs.Calls.{is_card, card_in, seat_in}
+use Rattle.card_files.specs.Noting.{IsNotingEvent, IsEventNoted, IsNotingPlace}
+use Rattle.card_files.specs.Rings.{file, place_ring}
+use Rattle.card_slots.specs.declared.seats.Seat.{Seat}
+use Rattle.card_slots.specs.Calls.{is_card, card_in, seat_in}
 use Rattle.run_crew.specs.declared.cards.Accepted.{Accepted}
 use Rattle.run_crew.specs.declared.cards.Known.{Known}
 use Rattle.run_crew.specs.declared.cards.Cards.{Cards}
@@ -29,19 +29,19 @@ use Rattle.run_crew.specs.declared.cabin.Cabin.{Cabin}
 use Rattle.run_crew.specs.Cards.{known_of, session_of, accepted_number, IsKnown}
 use Rattle.run_crew.specs.Cabin.{Stands, AreTwo, left_from, slot_with, number_of_seat}
 use Rattle.run_outcome.specs.Lines.{Listed}
-use Rattle.run_keeping.specs.declared.keeper.Moment.{Moment}
-use Rattle.run_keeping.specs.Keeping.{CardReady}
+use Rattle.run_minutes.specs.declared.keeper.Moment.{Moment}
+use Rattle.run_minutes.specs.Keeping.{CardReady}
 use Rattle.safety_model.specs.Safe.{Devices, card_of}
 use Rattle.tacho_types.specs.declared.texts.Registration.{Registration}
 use Rattle.unit_memory.specs.declared.format.Identity.{Identity}
 use Rattle.unit_memory.specs.declared.memory.UnitFacts.{UnitFacts}
 use Rattle.unit_notes.specs.declared.unit_event.UnitEvent.{UnitEvent}
-use Rattle.run_notes.specs.Entries.{card_entry}
+use Rattle.run_events.specs.Entries.{card_entry}
 use Rattle.event_model.specs.declared.kinds.TheConstants.{POWER_INTERRUPTION, SESSION_NOT_CLOSED}
-use Rattle.run_entering.specs.CardEvents.{ShowsMore, NotesOnCard, IsPlain}
-use Rattle.run_entering.proofs.CardTables.{all-shown, all-showing, same-file}
-use Rattle.run_entering.proofs.CardInserted.{shows-nothing, shows-unbegun, shows-whole, shows-by}
-use Rattle.run_entering.proofs.CardBrought.{shows-both, shows-first}
+use Rattle.run_insertion.specs.CardEvents.{ShowsMore, NotesOnCard, IsPlain}
+use Rattle.run_insertion.proofs.CardTables.{all-shown, all-showing, same-file}
+use Rattle.run_insertion.proofs.CardInserted.{shows-nothing, shows-unbegun, shows-whole, shows-by}
+use Rattle.run_insertion.proofs.CardBrought.{shows-both, shows-first}
 use Rattle.run_acts.specs.declared.run.Run.{Run}
 use Rattle.run_acts.specs.Acting.{noted_run, IsNotedIn}
 use Rattle.run_acts.specs.CardNotes.{NotesOn, NotesOnCards, on_seat}

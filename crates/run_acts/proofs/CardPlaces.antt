@@ -20,9 +20,9 @@ use Rattle.card_layout.specs.Application.{IsApplication}
 use Rattle.card_layout.specs.Files.{files_of, place_of, size_of}
 use Rattle.card_layout.proofs.Sizes.{largest_image}
 use Rattle.gated_ring.specs.Ring.{PointsInside, size_of as ring_size}
-use Rattle.card_records.specs.declared.card_event.CardEvent.{CardEvent}
-use Rattle.card_records.specs.Noting.{IsNotingEvent, IsPlaceNoted, IsNotingPlace}
-use Rattle.card_records.specs.Rings.{file, place_ring}
+use Rattle.card_files.specs.declared.card_event.CardEvent.{CardEvent}
+use Rattle.card_files.specs.Noting.{IsNotingEvent, IsPlaceNoted, IsNotingPlace}
+use Rattle.card_files.specs.Rings.{file, place_ring}
 use Rattle.card_image.specs.Fields.{file_bytes}
 use Rattle.card_image.specs.Own.{own_sizes, IsOwnValid}
 use Rattle.card_session.specs.Sessions.{IsSession}
@@ -34,25 +34,24 @@ use Rattle.log_model.specs.Causes.{has_failed, second_of}
 use Rattle.log_model.specs.Log.{RunLog, Phase}
 use Rattle.log_model.specs.Slots.{same_card}
 use Rattle.log_model.specs.Course.{Visit}
-use Rattle.side_model.specs.Noted.{PlaceNote}
+use Rattle.note_model.specs.Noted.{PlaceNote}
 use Rattle.safety_model.specs.Recording.{card_image}
 use Rattle.safety_model.specs.Safe.{Devices, card_of}
 use Rattle.run_crew.specs.declared.cards.Accepted.{Accepted}
 use Rattle.run_crew.specs.declared.cards.Cards.{Cards}
 use Rattle.run_crew.specs.Cards.{known_of, session_of}
-use Rattle.run_rule.specs.Found.{found_of}
-use Rattle.run_rule.specs.Between.{Carried}
-use Rattle.run_told.specs.Told.{AreFoundCards, IsPowered, IsOn, arranged}
-use Rattle.run_told.proofs.Holders.{event-places, closing-places}
-use Rattle.run_told.proofs.Parts.{CardLit, parts-of}
-use Rattle.run_within.proofs.Seats.{this-or}
+use Rattle.run_promise.specs.Found.{found_of}
+use Rattle.run_promise.specs.Between.{Carried}
+use Rattle.run_devices.specs.Told.{AreFoundCards, IsPowered, IsOn, arranged}
+use Rattle.run_devices.proofs.Holders.{event-places, closing-places}
+use Rattle.run_devices.proofs.Parts.{CardLit, parts-of}
+use Rattle.run_record.proofs.Seats.{this-or}
 use Rattle.run_outcome.specs.declared.outcome.Outcome.{Outcome}
-use Rattle.run_recorded.specs.Origin.{Origin}
-use Rattle.run_ringed.specs.OnCards.{has_call_failed_in, places_in, place_width, PlacesStay, TakesPlace, PlaceIsTaken}
-use Rattle.run_ringed.specs.OnCards.{LeavesPlaces as LeavesRing}
-use Rattle.run_keeping.specs.declared.keeper.Moment.{Moment}
-use Rattle.run_keeping.specs.Books.{AreTimedOn}
-use Rattle.run_keeping.specs.Keeping.{CardReady, tear_of}
+use Rattle.run_promise.specs.Origin.{Origin}
+use Rattle.run_note_record.specs.OnCards.{has_call_failed_in, places_in, place_width, PlacesStay, TakesPlace, PlaceIsTaken, LeavesPlaces as LeavesRing}
+use Rattle.run_minutes.specs.declared.keeper.Moment.{Moment}
+use Rattle.run_minutes.specs.Books.{AreTimedOn}
+use Rattle.run_minutes.specs.Keeping.{CardReady, tear_of}
 use Rattle.run_acts.specs.declared.run.Run.{Run}
 use Rattle.run_acts.specs.CardNotes.{LeavesPlaces, LeavePlaces}
 use Rattle.run_acts.specs.CardWrites.{MayHavePlace, MayTakePlace, PlaceOn}

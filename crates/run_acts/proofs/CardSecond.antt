@@ -11,8 +11,8 @@ use Rattle.trace_model.specs.declared.Action.{Action}
 use Rattle.trace_model.specs.declared.Action.TheVariants.{Insert}
 use Rattle.trace_model.specs.Trace.{TraceSecond}
 use Rattle.tacho_types.specs.declared.texts.Registration.{Registration}
-use Rattle.card_records.specs.declared.card_event.CardEvent.{CardEvent}
-use Rattle.card_records.specs.declared.current_use.CurrentUse.{CurrentUse}
+use Rattle.card_files.specs.declared.card_event.CardEvent.{CardEvent}
+use Rattle.card_files.specs.declared.current_use.CurrentUse.{CurrentUse}
 use Rattle.card_image.specs.Own.{IsOwnValid}
 use Rattle.log_model.specs.declared.lines.SlotFault.{SlotFault}
 use Rattle.log_model.specs.declared.lines.Verdict.{Verdict}
@@ -23,12 +23,12 @@ use Rattle.event_model.specs.Events.{Event, Seen, number_of, seen_of, seen_spans
 use Rattle.safety_model.specs.Recording.{card_image}
 use Rattle.safety_model.specs.Safe.{Devices, card_of}
 use Rattle.run_events.specs.Seconds.{gap_by}
-use Rattle.run_evented.specs.Evented.{images_in}
-use Rattle.run_evented.specs.Uses.{notes_now, uses_in}
-use Rattle.run_evented.proofs.Bringing.{before-as}
+use Rattle.run_note_record.specs.Evented.{images_in}
+use Rattle.run_note_record.specs.Uses.{notes_now, uses_in}
+use Rattle.run_note_record.proofs.Bringing.{before-as}
 use Rattle.run_rings.specs.Notes.{TellSameTo, course_behind}
-use Rattle.run_recorded.specs.Origin.{Origin}
-use Rattle.run_recorded.specs.Beside.{HaveLeftMore}
+use Rattle.run_promise.specs.Origin.{Origin}
+use Rattle.run_promise.specs.Beside.{HaveLeftMore}
 use Rattle.run_acts.specs.OnCards.{as_accepted, accepted_in, accepted_on, unclosed_by, events_by, accepts, moving_at, movings, moved_in, gaps_on, enters, is_sure_in, NotesThem, StillShows, AreUses}
 use Rattle.run_acts.specs.RunCards.{vehicle_in, sizes_in, CardShown, so_far, seen_behind, gap_behind, CardsIn, StillShow}
 use Rattle.run_acts.proofs.OnCards.{flat-one}

@@ -5,17 +5,17 @@ use Rattle.std.specs.List.{AllByRecursion}
 use Rattle.std.proofs.lemmas.Bool.{eqb-true}
 use Rattle.trace_model.specs.declared.Card.{Card}
 use Rattle.tacho_types.specs.declared.texts.Registration.{Registration}
-use Rattle.card_records.specs.declared.card_event.CardEvent.{CardEvent}
-use Rattle.card_records.specs.declared.current_use.CurrentUse.{CurrentUse}
+use Rattle.card_files.specs.declared.card_event.CardEvent.{CardEvent}
+use Rattle.card_files.specs.declared.current_use.CurrentUse.{CurrentUse}
 use Rattle.log_model.specs.Log.{RunLog}
 use Rattle.event_model.specs.declared.kinds.TheConstants.{INSERTION_WHILE_DRIVING, SESSION_NOT_CLOSED, POWER_INTERRUPTION}
 use Rattle.event_model.specs.Events.{Event, Seen, number_of}
-use Rattle.side_model.specs.Done.{has_failed_in}
+use Rattle.note_model.specs.Done.{has_failed_in}
 use Rattle.safety_model.specs.Recording.{card_image}
 use Rattle.safety_model.specs.Safe.{Devices, card_of}
-use Rattle.run_evented.specs.Evented.{images_in}
-use Rattle.run_recorded.specs.Origin.{Origin}
-use Rattle.run_recorded.specs.Whole.{NothingFailed}
+use Rattle.run_note_record.specs.Evented.{images_in}
+use Rattle.run_promise.specs.Origin.{Origin}
+use Rattle.run_promise.specs.Whole.{NothingFailed}
 use Rattle.run_acts.specs.OnCards.{unclosed_by, events_by, accepted_in, accepted_on, moving_at, moved_in, gaps_on, enters, falls, may_note, is_sure_in, are_sure_on, NotesThem, StillShows, AreUses}
 use Rattle.run_acts.specs.RunCards.{vehicle_in, sizes_in, CardShown}
 use Rattle.run_acts.proofs.OnCards.{all-append, and-first, and-second, and-both, uses-append, uses-still, uses-long, unclosed-append, events-append, them-more, notes-still, flat-one}

@@ -16,23 +16,23 @@ use Rattle.card_session.proofs.InsertingUse.{use_inside}
 use Rattle.minute_model.specs.declared.Minute.{Minute}
 use Rattle.log_model.specs.Log.{Phase}
 use Rattle.log_model.specs.Course.{Visit}
-use Rattle.joint_rule.specs.Views.{other}
+use Rattle.device_rule.specs.Views.{other}
 use Rattle.safety_model.specs.Recording.{card_image}
 use Rattle.safety_model.specs.Safe.{Devices, card_of}
 use Rattle.run_crew.specs.declared.cards.Accepted.{Accepted}
 use Rattle.run_crew.specs.declared.cards.Cards.{Cards}
 use Rattle.run_crew.specs.Cards.{session_of}
-use Rattle.run_rule.specs.Found.{found_of}
-use Rattle.run_rule.specs.Between.{Carried}
-use Rattle.run_told.specs.Told.{AreFoundCards, IsPowered, IsOn, GoesWith, arranged}
-use Rattle.run_told.proofs.Parts.{CardLit, parts-of}
+use Rattle.run_promise.specs.Found.{found_of}
+use Rattle.run_promise.specs.Between.{Carried}
+use Rattle.run_devices.specs.Told.{AreFoundCards, IsPowered, IsOn, GoesWith, arranged}
+use Rattle.run_devices.proofs.Parts.{CardLit, parts-of}
 use Rattle.run_outcome.specs.declared.outcome.Outcome.{Outcome}
-use Rattle.run_recorded.specs.Origin.{Origin}
-use Rattle.run_keeping.specs.CardEvents.{LeavesEvents}
-use Rattle.run_keeping.specs.Books.{AreTimedOn}
-use Rattle.run_entering.specs.CardEvents.{events_in, ShowsMore}
-use Rattle.run_entering.proofs.CardTables.{same-file}
-use Rattle.run_entering.proofs.CardInserted.{closing-shown}
+use Rattle.run_promise.specs.Origin.{Origin}
+use Rattle.run_minutes.specs.CardEvents.{LeavesEvents}
+use Rattle.run_minutes.specs.Books.{AreTimedOn}
+use Rattle.run_insertion.specs.CardEvents.{events_in, ShowsMore}
+use Rattle.run_insertion.proofs.CardTables.{same-file}
+use Rattle.run_insertion.proofs.CardInserted.{closing-shown}
 use Rattle.run_acts.specs.declared.run.Run.{Run}
 use Rattle.run_acts.specs.CardNotes.{NotesOn, NotesOnCards}
 use Rattle.run_acts.specs.Recording.{IsOrigin, RunWithin}

@@ -12,24 +12,24 @@ use Rattle.log_model.specs.Log.{RunLog, Phase, In, Keeping, cut_in}
 use Rattle.log_model.specs.Course.{Visit, Before, Went, begins, has_power, went, second_told}
 use Rattle.log_model.proofs.Growth.{went-more}
 use Rattle.safety_model.specs.Safe.{Devices, card_of}
-use Rattle.unit_course.specs.Lines.{cut_at}
-use Rattle.unit_course.specs.Followed.{Lit as IsLit}
+use Rattle.run_unit_course.specs.Lines.{cut_at}
+use Rattle.run_unit_course.specs.Followed.{Lit as IsLit}
 use Rattle.run_course.specs.Moments.{and_break}
 use Rattle.run_course.specs.Followed.{Progress, IsGoing, IsLost as HasLost}
 use Rattle.run_course.proofs.Told.{lit-power, lost-dark, next-dark, dark-told}
 use Rattle.run_course.proofs.Quiet.{quiet-are-told}
 use Rattle.run_outcome.specs.declared.outcome.Outcome.{Outcome}
-use Rattle.run_keeping.specs.declared.keeper.Moment.{Moment}
-use Rattle.run_keeping.specs.Books.{HaveTime, AreTimedOn}
+use Rattle.run_minutes.specs.declared.keeper.Moment.{Moment}
+use Rattle.run_minutes.specs.Books.{HaveTime, AreTimedOn}
 use Rattle.run_rings.specs.Notes.{TellSameTo}
-use Rattle.run_recorded.specs.Origin.{Origin, rule_of, start_at, first_of}
-use Rattle.run_recorded.specs.Beside.{HaveLeftMore}
-use Rattle.run_evented.proofs.Lines.{early-before}
-use Rattle.run_ringed.proofs.SoFar.{failed-more, left-itself}
-use Rattle.run_within.specs.Recorded.{Values, progress}
-use Rattle.run_within.specs.Within.{Beginning, Within}
-use Rattle.run_within.specs.Turning.{last_of, before_last, BehindFirst, IsTurned}
-use Rattle.run_within.proofs.Turning.{turn-ends}
+use Rattle.run_promise.specs.Origin.{Origin, rule_of, start_at, first_of}
+use Rattle.run_promise.specs.Beside.{HaveLeftMore}
+use Rattle.run_note_record.proofs.Lines.{early-before}
+use Rattle.run_note_record.proofs.SoFar.{failed-more, left-itself}
+use Rattle.run_record.specs.Recorded.{Values, progress}
+use Rattle.run_record.specs.Within.{Beginning, Within}
+use Rattle.run_record.specs.Turning.{last_of, before_last, BehindFirst, IsTurned}
+use Rattle.run_record.proofs.Turning.{turn-ends}
 use Rattle.run_acts.specs.declared.run.Run.{Run}
 use Rattle.run_acts.specs.declared.run.Power.TheVariants.{Lit}
 use Rattle.run_acts.specs.Booked.{IsBookedTurn}
@@ -43,8 +43,8 @@ use Rattle.run_acts.proofs.RingedLines.{AreTears, TellsBeside, TellsTears, tears
 use Rattle.run_acts.proofs.RingedSecond.{cut-is, cut-torn, cut-found, here-append, tears-here_, goes-by, goes-behind, power-here, more-left}
 use Rattle.run_acts.proofs.CardEnds.{IsLater, second-begins, ends-shown, whole-quiet, plain-same}
 use Rattle.run_acts.proofs.CardStays.{timed-still}
-use Rattle.run_recorded.specs.Whole.{NothingFailed}
-use Rattle.run_evented.proofs.Exact.{no-cut}
+use Rattle.run_promise.specs.Whole.{NothingFailed}
+use Rattle.run_note_record.proofs.Exact.{no-cut}
 use Rattle.run_acts.proofs.CardUses.{FoundTo, tears-none, lines-still, untold-to}
 
 -- lines of a second more

@@ -7,28 +7,28 @@ use Rattle.activity_codec.specs.declared.values.Slot.TheVariants.{Driver, CoDriv
 use Rattle.trace_model.specs.declared.Card.{Card}
 use Rattle.trace_model.specs.declared.Action.{Action}
 use Rattle.trace_model.specs.Trace.{TraceSecond}
-use Rattle.card_records.specs.declared.current_use.CurrentUse.{CurrentUse}
+use Rattle.card_files.specs.declared.current_use.CurrentUse.{CurrentUse}
 use Rattle.log_model.specs.declared.lines.Break.{Break}
 use Rattle.log_model.specs.declared.lines.SlotFault.{SlotFault}
 use Rattle.log_model.specs.declared.lines.Verdict.{Verdict}
 use Rattle.log_model.specs.Log.{RunLog, Phase, In, cut_in, found_in}
 use Rattle.log_model.specs.Slots.{Sitting, same_card, refusal}
 use Rattle.log_model.specs.Course.{Course, Visit, Before, Moved, visits, answered, moved_by, slot_told, both_told, begins, is_settling, acted, has_power, went}
-use Rattle.side_model.specs.Done.{CarriedOut}
-use Rattle.side_model.specs.Noted.{Note, noted_by}
+use Rattle.note_model.specs.Done.{CarriedOut}
+use Rattle.note_model.specs.Noted.{Note, noted_by}
 use Rattle.safety_model.specs.Recording.{card_image}
 use Rattle.run_rings.specs.Notes.{accepted_in, noted_if, action_notes, notes_from, notes_to, TellSameTo, course_behind, accepts_by, sits_accepted}
 use Rattle.run_rings.proofs.Notes.{answered-found, action-notes, later-lines, second-noted}
 use Rattle.run_rings.proofs.Actions.{none-ahead, power-notes}
-use Rattle.run_recorded.specs.Origin.{Origin, rule_of, start_at, first_of}
-use Rattle.run_recorded.specs.Whole.{NothingFailed}
+use Rattle.run_promise.specs.Origin.{Origin, rule_of, start_at, first_of}
+use Rattle.run_promise.specs.Whole.{NothingFailed}
 use Rattle.run_course.specs.Followed.{Progress, Followed}
-use Rattle.run_moments.proofs.Reached.{nothing-told}
-use Rattle.run_keeping.specs.declared.keeper.Moment.{Moment}
-use Rattle.run_keeping.specs.Keeping.{tear_of}
-use Rattle.run_evented.specs.Uses.{uses_from, insertions_on, insertions_at, notes_in, notes_now, vehicle_in, use_in, uses_in, use_now}
-use Rattle.run_evented.proofs.Uses.{NotAccepted, uses-append, uses-quiet, accepted-insertions, accepts-other, card-is, card-turned}
-use Rattle.run_evented.proofs.Exact.{failed_tear, back-none, by-quiet}
+use Rattle.run_course.proofs.Reached.{nothing-told}
+use Rattle.run_minutes.specs.declared.keeper.Moment.{Moment}
+use Rattle.run_minutes.specs.Keeping.{tear_of}
+use Rattle.run_note_record.specs.Uses.{uses_from, insertions_on, insertions_at, notes_in, notes_now, vehicle_in, use_in, uses_in, use_now}
+use Rattle.run_note_record.proofs.Uses.{NotAccepted, uses-append, uses-quiet, accepted-insertions, accepts-other, card-is, card-turned}
+use Rattle.run_note_record.proofs.Exact.{failed_tear, back-none, by-quiet}
 use Rattle.run_acts.proofs.CardCourse.{findings, no-verdicts, slot-found}
 use Rattle.run_acts.proofs.CardShown.{FindsStill}
 use Rattle.run_acts.proofs.RingedLines.{AreTears}

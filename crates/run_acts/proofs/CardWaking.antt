@@ -7,21 +7,21 @@ use Rattle.activity_codec.specs.declared.values.Slot.TheVariants.{Driver, CoDriv
 use Rattle.trace_model.specs.declared.Card.{Card}
 use Rattle.trace_model.specs.Trace.{TraceSecond}
 use Rattle.card_image.specs.Own.{IsOwnValid}
-use Rattle.card_records.specs.declared.card_event.CardEvent.{CardEvent}
-use Rattle.card_records.specs.declared.current_use.CurrentUse.{CurrentUse}
+use Rattle.card_files.specs.declared.card_event.CardEvent.{CardEvent}
+use Rattle.card_files.specs.declared.current_use.CurrentUse.{CurrentUse}
 use Rattle.log_model.specs.declared.lines.Verdict.{Verdict}
 use Rattle.log_model.specs.Log.{RunLog, In, is_torn_in, found_in, is_accepting}
 use Rattle.log_model.specs.Slots.{Sitting, in_slot, same_card}
 use Rattle.log_model.specs.Course.{Course, Visit, Before, went}
 use Rattle.event_model.specs.Events.{Seen, seen_of, gap_events}
-use Rattle.side_model.specs.Done.{course_powered}
+use Rattle.note_model.specs.Done.{course_powered}
 use Rattle.safety_model.specs.Recording.{card_image}
 use Rattle.safety_model.specs.Safe.{Devices, card_of}
-use Rattle.run_recorded.specs.Origin.{Origin}
-use Rattle.run_recorded.specs.Beside.{HaveLeftMore}
-use Rattle.run_evented.specs.Evented.{images_in}
-use Rattle.run_evented.specs.Uses.{notes_now, uses_in}
-use Rattle.run_ringed.specs.Waking.{IsFoundAnew}
+use Rattle.run_promise.specs.Origin.{Origin}
+use Rattle.run_promise.specs.Beside.{HaveLeftMore}
+use Rattle.run_note_record.specs.Evented.{images_in}
+use Rattle.run_note_record.specs.Uses.{notes_now, uses_in}
+use Rattle.run_note_record.specs.Waking.{IsFoundAnew}
 use Rattle.run_acts.specs.OnCards.{as_accepted, unclosed_by, events_by, accepts, movings, accepted_in, accepted_on, moved_in, gaps_on, enters, is_sure_in, NotesThem, StillShows, AreUses}
 use Rattle.run_acts.specs.RunCards.{vehicle_in, sizes_in, CardShown, so_far, seen_behind, gap_behind, CardsIn, CardsWaking, StillShow}
 use Rattle.run_acts.proofs.OnCards.{flat-one, gaps-append}

@@ -11,32 +11,32 @@ use Rattle.activity_codec.specs.declared.values.Activity.{Activity}
 use Rattle.card_layout.specs.declared.command.CardState.{CardState}
 use Rattle.card_layout.specs.declared.files.Application.{Application}
 use Rattle.card_image.specs.Own.{IsOwnValid}
-use Rattle.card_records.specs.Noting.{IsNotingPlace, IsPlaceNoted}
-use Rattle.card_records.specs.Rings.{place_ring}
+use Rattle.card_files.specs.Noting.{IsNotingPlace, IsPlaceNoted}
+use Rattle.card_files.specs.Rings.{place_ring}
 use Rattle.card_session.specs.Sessions.{IsSession}
 use Rattle.card_session.specs.Cards.{IsCardClosed}
 use Rattle.gated_ring.specs.Ring.{PointsInside}
 use Rattle.minute_model.specs.declared.Minute.{Minute}
 use Rattle.unit_notes.specs.Journal.{LeavesJournal}
-use Rattle.unit_course.specs.Legs.{Travel}
+use Rattle.run_unit_course.specs.Legs.{Travel}
 use Rattle.unit_rule.specs.Odometer.{HasTravelled, odometer_after}
 use Rattle.safety_model.specs.Safe.{Devices}
-use Rattle.slot_machine.specs.declared.seats.Seat.{Seat}
-use Rattle.slot_machine.specs.Calls.{card_in}
+use Rattle.card_slots.specs.declared.seats.Seat.{Seat}
+use Rattle.card_slots.specs.Calls.{card_in}
 use Rattle.run_crew.specs.declared.cards.Accepted.{Accepted}
 use Rattle.run_crew.specs.declared.cards.Known.{Known}
 use Rattle.run_crew.specs.declared.cards.Cards.{Cards}
 use Rattle.run_crew.specs.Cards.{known_of, session_of, accepted_number, IsKnown}
 use Rattle.run_crew.specs.Cabin.{number_of_seat}
-use Rattle.run_rule.specs.Found.{Found, found_of}
-use Rattle.run_rule.specs.Between.{Carried}
-use Rattle.run_told.specs.Told.{IsPowered, IsOn, arranged}
-use Rattle.run_told.proofs.Parts.{CardLit, parts-of}
-use Rattle.run_keeping.specs.declared.keeper.Moment.{Moment}
-use Rattle.run_keeping.specs.Keeping.{CardReady}
-use Rattle.run_keeping.specs.Minutes.{Told, Reach, Whole, Short, IsReach}
-use Rattle.run_keeping.specs.Books.{HaveTime}
-use Rattle.run_keeping.specs.Decided.{BooksAll, MayBookAll, carried_by}
+use Rattle.run_promise.specs.Found.{Found, found_of}
+use Rattle.run_promise.specs.Between.{Carried}
+use Rattle.run_devices.specs.Told.{IsPowered, IsOn, arranged}
+use Rattle.run_devices.proofs.Parts.{CardLit, parts-of}
+use Rattle.run_minutes.specs.declared.keeper.Moment.{Moment}
+use Rattle.run_minutes.specs.Keeping.{CardReady}
+use Rattle.run_minutes.specs.Minutes.{Told, Reach, Whole, Short, IsReach}
+use Rattle.run_minutes.specs.Books.{HaveTime}
+use Rattle.run_minutes.specs.Decided.{BooksAll, MayBookAll, carried_by}
 use Rattle.run_acts.specs.Acting.{Closing, Closed}
 use Rattle.run_acts.specs.CardWrites.{HasPlace, PlaceOn, ClosesCard, IsShut}
 use Rattle.run_acts.proofs.Withdrawn.{time-before}

@@ -15,8 +15,8 @@ use Rattle.card_layout.proofs.Sizes.{largest_image}
 use Rattle.card_image.specs.Own.{own_sizes, IsOwnValid}
 use Rattle.card_session.specs.Sessions.{IsSession}
 use Rattle.card_session.specs.Cards.{IsCardClosing}
-use Rattle.card_times.specs.Times.{AreTimedSince}
-use Rattle.card_times.proofs.Calls.{closing-timed}
+use Rattle.device_calls.specs.Times.{AreTimedSince}
+use Rattle.device_calls.proofs.TimedCalls.{closing-timed}
 use Rattle.minute_model.specs.Span.{Span, end_of}
 use Rattle.minute_rules.specs.Kept.{StandsFor}
 use Rattle.log_model.specs.declared.lines.Break.{Break}
@@ -26,31 +26,31 @@ use Rattle.log_model.specs.Course.{went}
 use Rattle.unit_notes.specs.Journal.{LeavesJournal}
 use Rattle.unit_model.specs.Image.{odometer_at}
 use Rattle.unit_rule.specs.Odometer.{HasTravelled}
-use Rattle.unit_course.specs.Legs.{all_travelled}
+use Rattle.run_unit_course.specs.Legs.{all_travelled}
 use Rattle.safety_model.specs.Safe.{Devices, breakdowns_of}
 use Rattle.run_crew.specs.declared.cards.Accepted.{Accepted}
 use Rattle.run_crew.specs.declared.cards.Cards.{Cards}
 use Rattle.run_crew.specs.declared.cabin.Cabin.{Cabin}
 use Rattle.run_crew.specs.Cards.{session_of, with_session}
 use Rattle.run_crew.specs.Cabin.{torn_out, with_session_of, Stands, crew_of}
-use Rattle.run_rule.specs.Found.{Found, found_of}
-use Rattle.run_rule.specs.Between.{Carried}
+use Rattle.run_promise.specs.Found.{Found, found_of}
+use Rattle.run_promise.specs.Between.{Carried}
 use Rattle.run_course.specs.Seconds.{kept_all}
-use Rattle.run_told.specs.Told.{AreFoundCards, IsOn, IsPowered, arranged}
-use Rattle.run_told.proofs.Parts.{CardLit, parts-of}
-use Rattle.run_told.proofs.Travelled.{travelled-noted}
-use Rattle.run_moments.specs.Reached.{IsTearAt}
+use Rattle.run_devices.specs.Told.{AreFoundCards, IsOn, IsPowered, arranged}
+use Rattle.run_devices.proofs.Parts.{CardLit, parts-of}
+use Rattle.run_devices.proofs.Travelled.{travelled-noted}
+use Rattle.run_course.specs.Reached.{IsTearAt}
 use Rattle.run_outcome.specs.Lines.{Listed}
 use Rattle.run_outcome.specs.declared.outcome.Outcome.{Outcome}
-use Rattle.run_keeping.specs.declared.keeper.Moment.{Moment}
-use Rattle.run_keeping.specs.Keeping.{tear_of, with_lines}
-use Rattle.run_keeping.proofs.Fates.{no-lines}
-use Rattle.run_keeping.proofs.CardBooked.{session-unset}
-use Rattle.run_recorded.specs.Origin.{Origin, rule_of}
-use Rattle.run_within.specs.Recorded.{Values, carried}
-use Rattle.run_within.specs.Within.{IsLeaving, GoesOnSo, GoesOn, CutWithin}
-use Rattle.run_within.specs.Taking.{IsCalledLeaving, fallen_values}
-use Rattle.run_within.proofs.Closing.{session-closed, closing-fails, leaving-torn, leaving-tear_fails}
+use Rattle.run_minutes.specs.declared.keeper.Moment.{Moment}
+use Rattle.run_minutes.specs.Keeping.{tear_of, with_lines}
+use Rattle.run_minutes.proofs.Fates.{no-lines}
+use Rattle.run_minutes.proofs.CardBooked.{session-unset}
+use Rattle.run_promise.specs.Origin.{Origin, rule_of}
+use Rattle.run_record.specs.Recorded.{Values, carried}
+use Rattle.run_record.specs.Within.{IsLeaving, GoesOnSo, GoesOn, CutWithin}
+use Rattle.run_record.specs.Taking.{IsCalledLeaving, fallen_values}
+use Rattle.run_record.proofs.Closing.{session-closed, closing-fails, leaving-torn, leaving-tear_fails}
 use Rattle.run_acts.specs.declared.run.Run.{Run}
 use Rattle.run_acts.specs.Power.{with_cabin}
 use Rattle.run_acts.specs.Acting.{Closing, Bare, Closed, Fell, closed_cabin, closed_breaks, closed_falls, IsClosingOf, IsClosed}
@@ -60,17 +60,17 @@ use Rattle.log_model.specs.Slots.{other_slot}
 use Rattle.trace_model.specs.declared.Action.{Action}
 use Rattle.trace_model.specs.declared.Action.TheVariants.{Withdraw}
 use Rattle.event_model.specs.declared.kinds.TheConstants.{CARD_FAULT}
-use Rattle.run_notes.specs.Entries.{entry_of}
+use Rattle.run_events.specs.Entries.{entry_of}
 use Rattle.run_course.specs.Moments.{and_break}
-use Rattle.run_moments.specs.Telling.{IsLeft}
-use Rattle.run_moments.proofs.Telling.{card-torn}
-use Rattle.run_moments.proofs.Reached.{leaves-first}
-use Rattle.run_evented.specs.Noting.{Acting}
-use Rattle.run_evented.specs.Bringing.{NotFound}
-use Rattle.run_evented.specs.SoFar.{EventedNow, MayFollow}
-use Rattle.run_evented.proofs.Adding.{call-notes}
-use Rattle.run_evented.proofs.Cutting.{failure-cuts}
-use Rattle.run_evented.proofs.Falling.{tear-adds}
+use Rattle.run_course.specs.Telling.{IsLeft}
+use Rattle.run_course.proofs.Telling.{card-torn}
+use Rattle.run_course.proofs.Reached.{leaves-first}
+use Rattle.run_note_record.specs.Noting.{Acting}
+use Rattle.run_note_record.specs.Bringing.{NotFound}
+use Rattle.run_note_record.specs.EventsSoFar.{EventedNow, MayFollow}
+use Rattle.run_note_record.proofs.Adding.{call-notes}
+use Rattle.run_note_record.proofs.Cutting.{failure-cuts}
+use Rattle.run_note_record.proofs.Falling.{tear-adds}
 use Rattle.run_acts.specs.NotedEvents.{NotesEvents}
 use Rattle.run_acts.specs.Noting.{closed_events}
 use Rattle.run_acts.specs.Evented.{EventsGoOn}
@@ -78,15 +78,15 @@ use Rattle.run_acts.proofs.RoundFaults.{none-added}
 use Rattle.run_acts.proofs.FallEvented.{call-evented, begins-now, leaving-out, leaving-falls}
 use Rattle.run_acts.proofs.Withdrawn.{closed-any}
 use Rattle.run_acts.proofs.NoteRecorded.{goes-as, any-evented, card-goes, unit-any, unit-of, to-unit, rose-by, rose-on}
-use Rattle.run_keeping.specs.Later.{IsCalm, failed_tears}
-use Rattle.run_keeping.proofs.Calm.{none-told}
+use Rattle.run_minutes.specs.Later.{IsCalm, failed_tears}
+use Rattle.run_minutes.proofs.Calm.{none-told}
 use Rattle.run_acts.proofs.Rising.{card-more, card-fell}
-use Rattle.run_keeping.specs.CardDeeds.{ClosesOn}
-use Rattle.run_keeping.proofs.CardDeeds.{does-close}
-use Rattle.side_model.specs.Noted.{Note}
-use Rattle.run_recorded.specs.Whole.{NothingFailed}
+use Rattle.run_minutes.specs.CardDeeds.{ClosesOn}
+use Rattle.run_minutes.proofs.CardDeeds.{does-close}
+use Rattle.note_model.specs.Noted.{Note}
+use Rattle.run_promise.specs.Whole.{NothingFailed}
 use Rattle.run_acts.specs.Closings.{spells_of, with_last_shut, last_slot, notes_within}
-use Rattle.joint_rule.specs.Views.{other}
+use Rattle.device_rule.specs.Views.{other}
 use Rattle.run_acts.specs.Truths.{past_of, IsWordIn, truths_within, marked}
 use Rattle.run_acts.specs.Stays.{Shut, Stay, spells, sits_in, as_noted, ClosesOnCard, HasStays, AreTrue, AreStays, start_shown, acceptances_told, judged_told}
 use Rattle.run_acts.specs.Comings.{TellMore}

@@ -25,10 +25,10 @@ use Rattle.unit_model.specs.Image.{IsUnit}
 use Rattle.run_crew.specs.declared.cards.Accepted.{Accepted}
 use Rattle.run_rings.specs.Carried.{Carries}
 use Rattle.run_rings.proofs.Carried.{carries-none, carries-more, carries-same}
-use Rattle.run_ringed.specs.Ringed.{HasSameRings, LeavesRings, WritesImages, Seating, IsAddedAt}
-use Rattle.run_ringed.proofs.OnCards.{whole-head}
-use Rattle.run_ringed.proofs.Rings.{insertion_shape}
-use Rattle.run_keeping.specs.declared.keeper.Moment.{Moment}
+use Rattle.run_note_record.specs.Ringed.{HasSameRings, LeavesRings, WritesImages, Seating, IsAddedAt}
+use Rattle.run_note_record.proofs.OnCards.{whole-head}
+use Rattle.run_note_record.proofs.Rings.{insertion_shape}
+use Rattle.run_minutes.specs.declared.keeper.Moment.{Moment}
 use Rattle.run_acts.specs.declared.run.Run.{Run}
 use Rattle.run_acts.specs.Acting.{Closing, Bare, Closed, Fell}
 use Rattle.run_acts.specs.Ringing.{Withdraws, ClosesRings, seating_of, odometer_of}

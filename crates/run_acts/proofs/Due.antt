@@ -5,7 +5,7 @@ use Rattle.std.proofs.lemmas.List.Elements.{All-nil, All-cons, All-weaker}
 use Rattle.minute_model.specs.declared.Minute.{Minute}
 use Rattle.minute_model.specs.Span.{Span, count_from, end_of, ungiven_of, decided_in, AreNumbered, AreSettled}
 use Rattle.minute_model.proofs.Counted.{count_from-parts, decided-minutes, ungiven-most}
-use Rattle.run_keeping.specs.Minutes.{AreDue, kept_after}
+use Rattle.run_minutes.specs.Minutes.{AreDue, kept_after}
 use Rattle.run_acts.specs.Going.{first_second, end_of_seconds}
 
 -- these minutes come one after another from one on: what that says of them

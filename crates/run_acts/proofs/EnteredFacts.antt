@@ -10,38 +10,38 @@ use Rattle.tach_media.proofs.Runs.{at_image}
 use Rattle.run_model.specs.declared.Device.TheVariants.{Unit as Recorder}
 use Rattle.minute_rules.specs.Kept.{Kept}
 use Rattle.card_image.specs.Own.{IsOwnValid}
-use Rattle.card_times.specs.Times.{AreTimedSince}
+use Rattle.device_calls.specs.Times.{AreTimedSince}
 use Rattle.log_model.specs.Log.{In}
 use Rattle.log_model.specs.Causes.{RoseBy}
 use Rattle.log_model.specs.Course.{Visit}
-use Rattle.joint_rule.specs.Rules.{Out}
-use Rattle.joint_rule.specs.Views.{other}
-use Rattle.unit_course.specs.Legs.{all_travelled}
+use Rattle.device_rule.specs.Rules.{Out}
+use Rattle.device_rule.specs.Views.{other}
+use Rattle.run_unit_course.specs.Legs.{all_travelled}
 use Rattle.unit_model.specs.Image.{odometer_at}
 use Rattle.unit_rule.specs.Odometer.{HasTravelled}
 use Rattle.safety_model.specs.Safe.{card_of, breakdowns_of}
-use Rattle.run_rule.specs.Found.{found_of}
-use Rattle.run_rule.specs.Cards.{IsUntouched}
-use Rattle.run_rule.specs.Between.{Carried}
+use Rattle.run_promise.specs.Found.{found_of}
+use Rattle.run_promise.specs.Cards.{IsUntouched}
+use Rattle.run_promise.specs.Between.{Carried}
 use Rattle.run_course.specs.Seconds.{kept_all}
-use Rattle.run_moments.specs.Telling.{IsMore, BrokeDown}
-use Rattle.run_told.specs.Told.{arranged, for_card, with_standing}
-use Rattle.run_told.proofs.Parts.{told-one, AreParts, parts-of}
+use Rattle.run_course.specs.Telling.{IsMore, BrokeDown}
+use Rattle.run_devices.specs.Told.{arranged, for_card, with_standing}
+use Rattle.run_devices.proofs.Parts.{told-one, AreParts, parts-of}
 use Rattle.run_outcome.specs.declared.outcome.Outcome.{Outcome}
-use Rattle.run_recorded.specs.Origin.{Origin}
-use Rattle.run_recorded.specs.Beside.{HaveLeftMore}
-use Rattle.run_keeping.specs.declared.keeper.Keeper.{Keeper}
-use Rattle.run_keeping.specs.declared.keeper.Moment.{Moment as KeepingAt}
-use Rattle.run_entering.specs.declared.lines.Entering.{Entering}
-use Rattle.run_entering.specs.Entering.{Ending, Unfit, Ahead, Fell, Unasked, Unnoted, Seated, Lost, Way, ending_of, breaks_by, falls_of}
-use Rattle.run_entering.specs.Noted.{AreComingOnCard}
-use Rattle.run_entering.specs.Told.{MayEnter, IsEnteredOn, MayHaveWritten}
-use Rattle.run_within.specs.Recorded.{carried, AreThere}
-use Rattle.run_within.specs.Within.{Within}
+use Rattle.run_promise.specs.Origin.{Origin}
+use Rattle.run_promise.specs.Beside.{HaveLeftMore}
+use Rattle.run_minutes.specs.declared.keeper.Keeper.{Keeper}
+use Rattle.run_minutes.specs.declared.keeper.Moment.{Moment as KeepingAt}
+use Rattle.run_insertion.specs.declared.lines.Entering.{Entering}
+use Rattle.run_insertion.specs.Entering.{Ending, Unfit, Ahead, Fell, Unasked, Unnoted, Seated, Lost, Way, ending_of, breaks_by, falls_of}
+use Rattle.run_insertion.specs.Noted.{AreComingOnCard}
+use Rattle.run_insertion.specs.Told.{MayEnter, IsEnteredOn, MayHaveWritten}
+use Rattle.run_record.specs.Recorded.{carried, AreThere}
+use Rattle.run_record.specs.Within.{Within}
 use Rattle.run_acts.specs.Entered.{values_with, MayJudge, HasGone, AreSound}
 use Rattle.run_acts.proofs.EnteredTravelled.{travelled-entered}
-use Rattle.run_keeping.specs.Later.{failed_tears}
-use Rattle.run_keeping.proofs.Calm.{none-told}
+use Rattle.run_minutes.specs.Later.{failed_tears}
+use Rattle.run_minutes.proofs.Calm.{none-told}
 use Rattle.run_acts.proofs.Rising.{card-more, card-fell}
 
 -- ---- three devices, by the card that a call is about

@@ -19,26 +19,26 @@ use Rattle.history_model.specs.Completeness.{IsMarked}
 use Rattle.history_model.specs.Presence.{CardStart}
 use Rattle.history_model.specs.Book.{Book, all}
 use Rattle.history_model.proofs.Filters.{all-front, all-back}
-use Rattle.joint_rule.specs.Rules.{Out, Meets}
-use Rattle.joint_rule.specs.Views.{UnitView, unit_view, owed}
-use Rattle.joint_rule.proofs.Pairs.{owed-above}
+use Rattle.device_rule.specs.Rules.{Out, Meets}
+use Rattle.device_rule.specs.Views.{UnitView, unit_view, owed}
+use Rattle.device_rule.proofs.Pairs.{owed-above}
 use Rattle.safety_model.specs.Recording.{Recording, card_image, unit_seen, brought}
 use Rattle.safety_model.specs.Cards.{entered as often_entered}
 use Rattle.safety_model.specs.Safe.{entered_by}
-use Rattle.run_rule.specs.Found.{found_of, AnyKept}
+use Rattle.run_promise.specs.Found.{found_of, AnyKept}
 use Rattle.run_course.specs.Seconds.{kept_all}
-use Rattle.run_moments.specs.Lines.{times_of}
-use Rattle.run_told.specs.Told.{arranged, with_standing, card_marks}
+use Rattle.run_course.specs.Lines.{times_of}
+use Rattle.run_devices.specs.Told.{arranged, with_standing, card_marks}
 use Rattle.run_outcome.specs.declared.outcome.Outcome.{Outcome}
-use Rattle.run_recorded.specs.Origin.{Origin, rule_of, start_at}
-use Rattle.run_recorded.specs.Ends.{recording_by, IsAllOwed}
-use Rattle.run_recorded.proofs.Beside.{before-next}
-use Rattle.run_recorded.proofs.Unentered.{IsBare, StaysOut, stays-out, others-told, entered-then, entered-at, minutes-bare, unit-bare, up-bare, bare-history}
-use Rattle.run_keeping.specs.declared.keeper.Keeper.{Keeper}
-use Rattle.device_steps.specs.declared.entering.Entered.{Entered}
-use Rattle.run_entering.specs.declared.lines.Entering.{Entering}
-use Rattle.run_entering.specs.Told.{IsToldSo}
-use Rattle.run_within.specs.Within.{course_in, often, BringsBy, MayBeWrittenSo, Within}
+use Rattle.run_promise.specs.Origin.{Origin, rule_of, start_at}
+use Rattle.run_promise.specs.Ends.{recording_by, IsAllOwed}
+use Rattle.run_promise.proofs.Beside.{before-next}
+use Rattle.run_promise.proofs.Unentered.{IsBare, StaysOut, stays-out, others-told, entered-then, entered-at, minutes-bare, unit-bare, up-bare, bare-history}
+use Rattle.run_minutes.specs.declared.keeper.Keeper.{Keeper}
+use Rattle.device_calls.specs.declared.entering.Entered.{Entered}
+use Rattle.run_insertion.specs.declared.lines.Entering.{Entering}
+use Rattle.run_insertion.specs.Told.{IsToldSo}
+use Rattle.run_record.specs.Within.{course_in, often, BringsBy, MayBeWrittenSo, Within}
 use Rattle.log_model.specs.declared.lines.Verdict.TheVariants.{Accepted}
 use Rattle.run_acts.specs.Entered.{values_with, MayJudge}
 use Rattle.run_acts.proofs.EnteredFacts.{before, was}

@@ -19,33 +19,33 @@ use Rattle.card_image.specs.View.{CardView}
 use Rattle.card_image.specs.Own.{own_sizes, own_view, IsOwnValid}
 use Rattle.card_session.proofs.NewestStays.{view_word}
 use Rattle.card_session.proofs.Renewing.{stored_least, stored_open, stored_shut}
-use Rattle.card_times.specs.Times.{own_use, IsTimed}
-use Rattle.card_times.proofs.Calls.{use-is}
-use Rattle.device_steps.proofs.OnCard.{own-is, session-is, mark-is}
+use Rattle.device_calls.specs.Times.{own_use, IsTimed}
+use Rattle.device_calls.proofs.TimedCalls.{use-is}
+use Rattle.device_calls.proofs.OnCard.{own-is, session-is, mark-is}
 use Rattle.log_model.specs.Log.{In}
 use Rattle.log_model.specs.Slots.{same_card}
 use Rattle.log_model.specs.Course.{Told, Visit}
 use Rattle.history_model.specs.Minutes.{card_history, up_to}
 use Rattle.history_model.specs.Presence.{CardStart, closed_at}
 use Rattle.history_model.specs.Book.{all}
-use Rattle.joint_rule.specs.Rules.{Meets}
-use Rattle.joint_rule.specs.Views.{UnitView, unit_view, owed, newest_with, beyond}
-use Rattle.joint_rule.proofs.Pairs.{mark-newest}
+use Rattle.device_rule.specs.Rules.{Meets}
+use Rattle.device_rule.specs.Views.{UnitView, unit_view, owed, newest_with, beyond}
+use Rattle.device_rule.proofs.Pairs.{mark-newest}
 use Rattle.safety_model.specs.Recording.{Recording, card_image, told_of}
 use Rattle.safety_model.specs.Safe.{entered_by}
-use Rattle.run_rule.specs.Found.{found_of, AnyKept}
-use Rattle.run_rule.proofs.Behind.{own-marked}
+use Rattle.run_promise.specs.Found.{found_of, AnyKept}
+use Rattle.run_promise.proofs.Behind.{own-marked}
 use Rattle.run_course.specs.Seconds.{kept_all}
-use Rattle.run_moments.specs.Lines.{times_of}
-use Rattle.run_told.specs.Told.{arranged}
-use Rattle.run_told.proofs.Opened.{owed-none}
-use Rattle.run_told.proofs.Parts.{CardLit}
+use Rattle.run_course.specs.Lines.{times_of}
+use Rattle.run_devices.specs.Told.{arranged}
+use Rattle.run_devices.proofs.Opened.{owed-none}
+use Rattle.run_devices.proofs.Parts.{CardLit}
 use Rattle.run_outcome.specs.declared.outcome.Outcome.{Outcome}
-use Rattle.run_recorded.specs.Origin.{Origin}
-use Rattle.run_recorded.specs.Ends.{recording_by}
-use Rattle.run_keeping.specs.declared.keeper.Keeper.{Keeper}
-use Rattle.run_entering.specs.declared.lines.Entering.{Entering}
-use Rattle.run_within.specs.Within.{course_in, often, MayBeWrittenSo, Within}
+use Rattle.run_promise.specs.Origin.{Origin}
+use Rattle.run_promise.specs.Ends.{recording_by}
+use Rattle.run_minutes.specs.declared.keeper.Keeper.{Keeper}
+use Rattle.run_insertion.specs.declared.lines.Entering.{Entering}
+use Rattle.run_record.specs.Within.{course_in, often, MayBeWrittenSo, Within}
 use Rattle.run_acts.specs.Entered.{values_with, MayJudge}
 use Rattle.run_acts.proofs.EnteredFacts.{mine, was, now-is, unit-told, card-began}
 use Rattle.run_acts.proofs.EnteredNewest.{trimmed-most, closed-up, mark-low, beyond-low, brought-part, few-now}

@@ -13,14 +13,14 @@ use Rattle.log_model.specs.declared.lines.Refused.{Refused}
 use Rattle.log_model.specs.Causes.{device_of}
 use Rattle.history_model.specs.Completeness.{IsMarked}
 use Rattle.run_crew.specs.declared.cabin.Cabin.{Cabin}
-use Rattle.run_told.specs.Told.{card_marks}
+use Rattle.run_devices.specs.Told.{card_marks}
 use Rattle.run_outcome.specs.Lines.{Listed}
 use Rattle.run_outcome.specs.declared.outcome.Outcome.{Outcome}
-use Rattle.run_keeping.specs.declared.keeper.Keeper.{Keeper}
-use Rattle.run_keeping.specs.Keeping.{with_lines}
-use Rattle.run_entering.specs.Entering.{Ending, Unfit, Ahead, Fell, Unasked, Unnoted, Seated, Lost, and_mark, and_marks, last_of, outcome_by}
-use Rattle.run_entering.specs.declared.lines.Entering.{Entering}
-use Rattle.run_within.specs.Recorded.{Values}
+use Rattle.run_minutes.specs.declared.keeper.Keeper.{Keeper}
+use Rattle.run_minutes.specs.Keeping.{with_lines}
+use Rattle.run_insertion.specs.Entering.{Ending, Unfit, Ahead, Fell, Unasked, Unnoted, Seated, Lost, and_mark, and_marks, last_of, outcome_by}
+use Rattle.run_insertion.specs.declared.lines.Entering.{Entering}
+use Rattle.run_record.specs.Recorded.{Values}
 use Rattle.run_acts.specs.Entered.{values_with}
 
 -- ---- the marks of entries, where there is room

@@ -18,7 +18,7 @@ use Rattle.card_image.specs.View.{CardView}
 use Rattle.card_image.specs.Own.{own_sizes, own_view, IsOwnValid}
 use Rattle.card_session.proofs.NewestStays.{view_word}
 use Rattle.card_session.proofs.Renewing.{stored_least, stored_shut}
-use Rattle.device_steps.proofs.OnCard.{own-is, session-is, mark-is}
+use Rattle.device_calls.proofs.OnCard.{own-is, session-is, mark-is}
 use Rattle.log_model.specs.Log.{In}
 use Rattle.log_model.specs.Slots.{other_slot}
 use Rattle.log_model.specs.Course.{Visit}
@@ -27,28 +27,28 @@ use Rattle.history_model.specs.Presence.{CardStart, card_start, expected_entries
 use Rattle.history_model.specs.Book.{Book, all, Ordered}
 use Rattle.history_model.proofs.Books.{all-none, history-append, history-one, history-none, on_card-minute}
 use Rattle.history_model.proofs.Filters.{filter-whole}
-use Rattle.joint_rule.specs.Rules.{Out}
-use Rattle.joint_rule.specs.Views.{beyond}
+use Rattle.device_rule.specs.Rules.{Out}
+use Rattle.device_rule.specs.Views.{beyond}
 use Rattle.unit_rule.proofs.Moves.{shown-last}
-use Rattle.slot_machine.specs.declared.seats.Seat.{Seat}
-use Rattle.slot_machine.specs.Calls.{seat_in, is_card}
-use Rattle.slot_machine.specs.Kept.{Kept as SlotsKept, is_minute, left_in, left_of}
+use Rattle.card_slots.specs.declared.seats.Seat.{Seat}
+use Rattle.card_slots.specs.Calls.{seat_in, is_card}
+use Rattle.card_slots.specs.Kept.{Kept as SlotsKept, is_minute, left_in, left_of}
 use Rattle.safety_model.specs.Recording.{Recording, card_image, brought, start_of, unit_seen}
-use Rattle.run_rule.specs.Found.{found_of}
-use Rattle.run_rule.specs.Cards.{IsUntouched, brought_by}
-use Rattle.run_rule.proofs.Behind.{owed-until}
+use Rattle.run_promise.specs.Found.{found_of}
+use Rattle.run_promise.specs.Cards.{IsUntouched, brought_by}
+use Rattle.run_promise.proofs.Behind.{owed-until}
 use Rattle.run_course.specs.Presence.{IsNewestAt}
 use Rattle.run_course.specs.Seconds.{kept_all}
-use Rattle.run_brought.proofs.Going.{sure-kept}
-use Rattle.run_told.specs.Told.{arranged, with_standing}
+use Rattle.run_promise.proofs.Going.{sure-kept}
+use Rattle.run_devices.specs.Told.{arranged, with_standing}
 use Rattle.run_outcome.specs.declared.outcome.Outcome.{Outcome}
-use Rattle.run_recorded.specs.Origin.{Origin, start_at, first_of}
-use Rattle.run_keeping.specs.declared.keeper.Keeper.{Keeper}
-use Rattle.device_steps.specs.declared.entering.Entered.{Entered}
-use Rattle.run_entering.specs.declared.lines.Entering.{Entering}
-use Rattle.run_entering.specs.Told.{IsToldSo}
-use Rattle.run_within.specs.Recorded.{SitsAccepted, LeftSince}
-use Rattle.run_within.specs.Within.{course_in, MayBeWrittenSo, Within}
+use Rattle.run_promise.specs.Origin.{Origin, start_at, first_of}
+use Rattle.run_minutes.specs.declared.keeper.Keeper.{Keeper}
+use Rattle.device_calls.specs.declared.entering.Entered.{Entered}
+use Rattle.run_insertion.specs.declared.lines.Entering.{Entering}
+use Rattle.run_insertion.specs.Told.{IsToldSo}
+use Rattle.run_record.specs.Recorded.{SitsAccepted, LeftSince}
+use Rattle.run_record.specs.Within.{course_in, MayBeWrittenSo, Within}
 use Rattle.run_acts.specs.Entered.{values_with, MayJudge}
 use Rattle.run_acts.proofs.EnteredFacts.{mine, before, was, now-is, card-began}
 

@@ -22,44 +22,44 @@ use Rattle.log_model.specs.declared.lines.Find.{Find}
 use Rattle.log_model.specs.declared.lines.Verdict.TheVariants.{Accepted as AcceptedWith, NotValid, TimeOverlap}
 use Rattle.card_image.specs.View.{CardView, card_view}
 use Rattle.card_image.specs.Own.{own_sizes, IsOwnValid}
-use Rattle.device_steps.proofs.OnCard.{own-is}
+use Rattle.device_calls.proofs.OnCard.{own-is}
 use Rattle.tacho_types.specs.declared.texts.Registration.{Registration}
-use Rattle.run_keeping.specs.CardDeeds.{DoesOn}
+use Rattle.run_minutes.specs.CardDeeds.{DoesOn}
 use Rattle.card_layout.specs.declared.files.Application.{Application}
-use Rattle.joint_rule.specs.Views.{other}
-use Rattle.side_model.specs.Noted.{Note}
+use Rattle.device_rule.specs.Views.{other}
+use Rattle.note_model.specs.Noted.{Note}
 use Rattle.safety_model.specs.Safe.{Devices}
-use Rattle.slot_machine.specs.declared.seats.Seat.{Seat}
-use Rattle.slot_machine.specs.Calls.{seat_in, card_in, is_card}
-use Rattle.slot_machine.specs.Kept.{Kept as SlotsKept}
+use Rattle.card_slots.specs.declared.seats.Seat.{Seat}
+use Rattle.card_slots.specs.Calls.{seat_in, card_in, is_card}
+use Rattle.card_slots.specs.Kept.{Kept as SlotsKept}
 use Rattle.run_course.specs.Moments.{and_find}
-use Rattle.run_moments.specs.Reached.{IsFindAt, moved_at}
-use Rattle.run_within.specs.Recorded.{Values}
-use Rattle.run_within.specs.Within.{Within}
-use Rattle.run_within.specs.Judging.{IsNext}
-use Rattle.run_keeping.specs.declared.keeper.Moment.{Moment}
+use Rattle.run_course.specs.Reached.{IsFindAt, moved_at}
+use Rattle.run_record.specs.Recorded.{Values}
+use Rattle.run_record.specs.Within.{Within}
+use Rattle.run_record.specs.Judging.{IsNext}
+use Rattle.run_minutes.specs.declared.keeper.Moment.{Moment}
 use Rattle.run_crew.specs.declared.cards.Accepted.{Accepted}
 use Rattle.run_crew.specs.declared.cabin.Cabin.{Cabin}
 use Rattle.run_crew.specs.Cards.{session_of}
-use Rattle.run_rule.specs.Found.{CardFound, found_of}
-use Rattle.run_rule.specs.Between.{Carried}
-use Rattle.run_told.specs.Told.{arranged, card_marks}
-use Rattle.run_told.proofs.Known.{session-sized}
-use Rattle.run_recorded.specs.Origin.{Origin}
-use Rattle.run_recorded.specs.Whole.{NothingFailed}
+use Rattle.run_promise.specs.Found.{CardFound, found_of}
+use Rattle.run_promise.specs.Between.{Carried}
+use Rattle.run_devices.specs.Told.{arranged, card_marks}
+use Rattle.run_devices.proofs.Known.{session-sized}
+use Rattle.run_promise.specs.Origin.{Origin}
+use Rattle.run_promise.specs.Whole.{NothingFailed}
 use Rattle.run_outcome.specs.declared.outcome.Outcome.{Outcome}
-use Rattle.run_keeping.specs.declared.keeper.Keeper.{Keeper}
-use Rattle.run_entering.specs.declared.lines.Entering.{Entering}
-use Rattle.run_entering.specs.Entering.{Ending, Unfit, Ahead, Fell, Unasked, Unnoted, Seated, Lost, Way, Unread, Unsized, Judged, ending_of, sizes_by, measured, cabin_by, breaks_by, outcome_by, find_of, and_one, most_owed}
-use Rattle.device_steps.specs.declared.entering.Entered.{Entered}
-use Rattle.run_entering.specs.Entered.{HasEntered, IsEnding, IsWay}
-use Rattle.run_entering.specs.Told.{IsEnteredOn, IsToldOf, OpensSo, IsToldSo}
-use Rattle.run_entering.proofs.Carried.{has-session}
+use Rattle.run_minutes.specs.declared.keeper.Keeper.{Keeper}
+use Rattle.run_insertion.specs.declared.lines.Entering.{Entering}
+use Rattle.run_insertion.specs.Entering.{Ending, Unfit, Ahead, Fell, Unasked, Unnoted, Seated, Lost, Way, Unread, Unsized, Judged, ending_of, sizes_by, measured, cabin_by, breaks_by, outcome_by, find_of, and_one, most_owed}
+use Rattle.device_calls.specs.declared.entering.Entered.{Entered}
+use Rattle.run_insertion.specs.Entered.{HasEntered, IsEnding, IsWay}
+use Rattle.run_insertion.specs.Told.{IsEnteredOn, IsToldOf, OpensSo, IsToldSo}
+use Rattle.run_insertion.proofs.Carried.{has-session}
 use Rattle.run_acts.proofs.EnteredLines.{own-marks, marks-are}
 use Rattle.run_acts.specs.Recording.{log_of}
 use Rattle.run_acts.specs.Closings.{spells_of, last_slot, notes_within}
 use Rattle.run_acts.specs.Truths.{Truths}
-use Rattle.card_records.specs.declared.vehicle.Vehicle.{Vehicle}
+use Rattle.card_files.specs.declared.vehicle.Vehicle.{Vehicle}
 use Rattle.card_session.specs.Books.{Book, mark_of}
 use Rattle.card_session.specs.Sessions.{book_of}
 use Rattle.run_acts.specs.Comings.{told_of, TellMore}

@@ -16,40 +16,40 @@ use Rattle.log_model.specs.declared.lines.Verdict.TheVariants.{Accepted}
 use Rattle.log_model.specs.Log.{In}
 use Rattle.log_model.specs.Slots.{other_slot}
 use Rattle.log_model.specs.Course.{Visit}
-use Rattle.unit_journal.specs.Image.{Agrees}
+use Rattle.unit_minutes.specs.Image.{Agrees}
 use Rattle.unit_model.specs.Image.{last_kept}
-use Rattle.joint_rule.specs.Rules.{Standing, Out, In as IsIn, Torn}
-use Rattle.slot_machine.specs.Calls.{seat_in, is_card}
-use Rattle.slot_machine.specs.Kept.{Kept as SlotsKept, put_in, taken}
+use Rattle.device_rule.specs.Rules.{Standing, Out, In as IsIn, Torn}
+use Rattle.card_slots.specs.Calls.{seat_in, is_card}
+use Rattle.card_slots.specs.Kept.{Kept as SlotsKept, put_in, taken}
 use Rattle.safety_model.specs.Safe.{card_of}
 use Rattle.run_crew.specs.declared.cabin.Cabin.{Cabin}
 use Rattle.run_crew.specs.declared.cards.Cards.{Cards}
 use Rattle.run_crew.specs.declared.cards.Accepted.{Accepted as Session}
 use Rattle.run_crew.specs.Cards.{session_of, with_sizes, with_session, with_number}
 use Rattle.run_crew.specs.Cabin.{slot_with, left_from, torn_out, with_sizes_of, with_power_lost}
-use Rattle.run_rule.specs.Found.{found_of}
+use Rattle.run_promise.specs.Found.{found_of}
 use Rattle.run_course.specs.Presence.{IsNewestAt}
 use Rattle.run_course.specs.Seconds.{kept_all}
-use Rattle.run_brought.specs.Going.{IsTakenAt}
-use Rattle.run_present.specs.Presence.{IsSeated}
-use Rattle.run_told.specs.Told.{AreFoundCards, IsPowerless, arranged, for_card, card_marks, with_marks, with_standing}
-use Rattle.run_told.proofs.Known.{session-sized, early-accepted}
+use Rattle.run_promise.specs.Going.{IsTakenAt}
+use Rattle.run_devices.specs.Presence.{IsSeated}
+use Rattle.run_devices.specs.Told.{AreFoundCards, IsPowerless, arranged, for_card, card_marks, with_marks, with_standing}
+use Rattle.run_devices.proofs.Known.{session-sized, early-accepted}
 use Rattle.run_outcome.specs.declared.outcome.Outcome.{Outcome}
-use Rattle.run_recorded.specs.Origin.{Origin, start_at, first_of}
-use Rattle.run_keeping.specs.declared.keeper.Keeper.{Keeper}
-use Rattle.run_keeping.specs.declared.keeper.Moment.{Moment as KeepingAt}
-use Rattle.run_keeping.specs.Keeping.{tear_of}
-use Rattle.device_steps.specs.declared.entering.Entered.{Entered}
-use Rattle.run_entering.specs.declared.lines.Entering.{Entering}
-use Rattle.run_entering.specs.Entering.{Way, ending_of, falls_of, find_of, seated, and_one, Unnoted, Seated, Lost}
-use Rattle.run_entering.specs.Told.{IsTakenOn, IsToldSo}
-use Rattle.run_within.specs.Recorded.{Values, carried}
-use Rattle.run_within.specs.Within.{course_in, often, VerdictBy, AreOld, Within, CutWithin}
-use Rattle.run_within.specs.Judging.{IsJudged, judged_values}
-use Rattle.run_within.specs.Losing.{lost_values, IsLostSo}
-use Rattle.run_within.proofs.Known.{cut-same, taken-now, kept-before}
-use Rattle.run_within.proofs.Judging.{judged-so, judging-fails}
-use Rattle.run_within.proofs.Losing.{card-lost, losing-fails}
+use Rattle.run_promise.specs.Origin.{Origin, start_at, first_of}
+use Rattle.run_minutes.specs.declared.keeper.Keeper.{Keeper}
+use Rattle.run_minutes.specs.declared.keeper.Moment.{Moment as KeepingAt}
+use Rattle.run_minutes.specs.Keeping.{tear_of}
+use Rattle.device_calls.specs.declared.entering.Entered.{Entered}
+use Rattle.run_insertion.specs.declared.lines.Entering.{Entering}
+use Rattle.run_insertion.specs.Entering.{Way, ending_of, falls_of, find_of, seated, and_one, Unnoted, Seated, Lost}
+use Rattle.run_insertion.specs.Told.{IsTakenOn, IsToldSo}
+use Rattle.run_record.specs.Recorded.{Values, carried}
+use Rattle.run_record.specs.Within.{course_in, often, VerdictBy, AreOld, Within, CutWithin}
+use Rattle.run_record.specs.Judging.{IsJudged, judged_values}
+use Rattle.run_record.specs.Losing.{lost_values, IsLostSo}
+use Rattle.run_record.proofs.Known.{cut-same, taken-now, kept-before}
+use Rattle.run_record.proofs.Judging.{judged-so, judging-fails}
+use Rattle.run_record.proofs.Losing.{card-lost, losing-fails}
 use Rattle.run_acts.specs.Entered.{values_with, MayJudge, HasGone, AreSound, IsCut, GoesOnOrIsCut}
 use Rattle.run_acts.proofs.EnteredFacts.{unit-back, for-own, for-other, before, now-is, unit-told, left, there, breakdowns, broke-once, unit-broke, travels, untouched}
 use Rattle.run_acts.proofs.EnteredTurned.{not-keeping, own-card, slot-there}

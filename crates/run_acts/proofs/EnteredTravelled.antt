@@ -4,15 +4,15 @@ use Rattle.card_layout.specs.Images.{SameOutside}
 use Rattle.tach_media.specs.Medium.{State, IsCoherent, LeavesOnly}
 use Rattle.gated_ring.specs.Ring.{size_of}
 use Rattle.message_model.specs.Records.{insertion_ring}
-use Rattle.side_model.specs.Tables.{table_of}
+use Rattle.note_model.specs.Tables.{table_of}
 use Rattle.history_model.specs.Book.{Book}
-use Rattle.unit_course.specs.Legs.{Travel}
-use Rattle.unit_journal.specs.Beside.{SameJournal}
-use Rattle.unit_journal.proofs.Beside.{beside, beside_then}
+use Rattle.run_unit_course.specs.Legs.{Travel}
+use Rattle.unit_minutes.specs.Beside.{SameJournal}
+use Rattle.unit_minutes.proofs.Beside.{beside, beside_then}
 use Rattle.unit_notes.proofs.Types.{table_inside}
 use Rattle.unit_rule.specs.Odometer.{HasTravelled}
 use Rattle.unit_rule.proofs.Elsewhere.{rows-elsewhere, travelled-elsewhere}
-use Rattle.run_entering.specs.Noted.{UnitNote, Inserts, BeginsRow, Tells, IsOnUnit, IsComing, AreBeingDone}
+use Rattle.run_insertion.specs.Noted.{UnitNote, Inserts, BeginsRow, Tells, IsOnUnit, IsComing, AreBeingDone}
 
 -- a write behind what the journal reads
 insertion-behind : (x c : List ℕ) → SameOutside insertion_ring.base (size_of insertion_ring) x c → SameJournal x c

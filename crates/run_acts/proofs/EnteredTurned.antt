@@ -14,34 +14,34 @@ use Rattle.log_model.specs.declared.lines.Verdict.{Verdict}
 use Rattle.log_model.specs.Log.{Phase, In, Keeping, is_accepting}
 use Rattle.log_model.specs.Slots.{other_slot}
 use Rattle.log_model.specs.Course.{Visit}
-use Rattle.joint_rule.specs.Rules.{Out}
-use Rattle.slot_machine.specs.Calls.{Seats, seat_in, is_card}
-use Rattle.slot_machine.specs.Kept.{taken}
+use Rattle.device_rule.specs.Rules.{Out}
+use Rattle.card_slots.specs.Calls.{Seats, seat_in, is_card}
+use Rattle.card_slots.specs.Kept.{taken}
 use Rattle.safety_model.specs.Recording.{card_image}
 use Rattle.safety_model.specs.Safe.{Devices, card_of}
-use Rattle.slot_machine.specs.declared.seats.Seat.{Seat}
+use Rattle.card_slots.specs.declared.seats.Seat.{Seat}
 use Rattle.run_crew.specs.declared.cards.Accepted.{Accepted}
 use Rattle.run_crew.specs.declared.cards.Cards.{Cards}
 use Rattle.run_crew.specs.Cards.{session_of, with_sizes, with_session}
 use Rattle.run_crew.specs.Cabin.{slot_with, left_from, torn_out, with_sizes_of}
-use Rattle.run_rule.specs.Found.{found_of}
-use Rattle.run_rule.specs.Cards.{IsUntouched}
-use Rattle.run_told.specs.Told.{AreFoundCards, arranged, for_card, with_standing}
-use Rattle.run_told.proofs.Known.{session-sized}
+use Rattle.run_promise.specs.Found.{found_of}
+use Rattle.run_promise.specs.Cards.{IsUntouched}
+use Rattle.run_devices.specs.Told.{AreFoundCards, arranged, for_card, with_standing}
+use Rattle.run_devices.proofs.Known.{session-sized}
 use Rattle.run_outcome.specs.declared.outcome.Outcome.{Outcome}
-use Rattle.run_recorded.specs.Origin.{Origin}
-use Rattle.run_keeping.specs.declared.keeper.Keeper.{Keeper}
-use Rattle.run_keeping.specs.declared.keeper.Moment.{Moment as KeepingAt}
-use Rattle.run_keeping.specs.Keeping.{tear_of}
-use Rattle.run_entering.specs.declared.lines.Entering.{Entering}
-use Rattle.run_entering.specs.Entering.{Way, ending_of, falls_of, find_of}
-use Rattle.run_entering.specs.Told.{IsCarriedOn, MayHaveWritten}
-use Rattle.run_within.specs.Recorded.{Values}
-use Rattle.run_within.specs.Within.{course_in, often, VerdictBy, AreOld, Within, CutWithin}
-use Rattle.run_within.specs.Judging.{IsSeatedBy, IsJudged, MayBeWrittenBy, IsTornNext, judged_values, torn_values}
-use Rattle.run_within.proofs.Steps.{failure-recorded}
-use Rattle.run_within.proofs.Judging.{judged-so, judging-fails}
-use Rattle.run_within.proofs.Tearing.{torn-next, tearing-fails}
+use Rattle.run_promise.specs.Origin.{Origin}
+use Rattle.run_minutes.specs.declared.keeper.Keeper.{Keeper}
+use Rattle.run_minutes.specs.declared.keeper.Moment.{Moment as KeepingAt}
+use Rattle.run_minutes.specs.Keeping.{tear_of}
+use Rattle.run_insertion.specs.declared.lines.Entering.{Entering}
+use Rattle.run_insertion.specs.Entering.{Way, ending_of, falls_of, find_of}
+use Rattle.run_insertion.specs.Told.{IsCarriedOn, MayHaveWritten}
+use Rattle.run_record.specs.Recorded.{Values}
+use Rattle.run_record.specs.Within.{course_in, often, VerdictBy, AreOld, Within, CutWithin}
+use Rattle.run_record.specs.Judging.{IsSeatedBy, IsJudged, MayBeWrittenBy, IsTornNext, judged_values, torn_values}
+use Rattle.run_record.proofs.Steps.{failure-recorded}
+use Rattle.run_record.proofs.Judging.{judged-so, judging-fails}
+use Rattle.run_record.proofs.Tearing.{torn-next, tearing-fails}
 use Rattle.run_acts.specs.Entered.{values_with, MayJudge, HasGone, AreSound, IsCut, GoesOnOrIsCut}
 use Rattle.run_acts.proofs.EnteredFacts.{each, for-other, before, now-is, left, there, breakdowns, broke-once, unit-broke, travels, untouched}
 

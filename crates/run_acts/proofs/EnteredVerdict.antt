@@ -13,26 +13,26 @@ use Rattle.card_layout.specs.Files.{files_of}
 use Rattle.card_image.specs.Judging.{first_bad_file, first_bad_of, file_check, file_checks, IsValid}
 use Rattle.card_image.specs.View.{CardView, card_view}
 use Rattle.card_image.specs.Own.{own_sizes, own_view, own_number, own_bad_file, IsOwnValid}
-use Rattle.device_steps.proofs.OnCard.{own-is}
+use Rattle.device_calls.proofs.OnCard.{own-is}
 use Rattle.log_model.specs.declared.lines.Verdict.TheVariants.{Accepted, NotValid, TimeOverlap}
 use Rattle.log_model.specs.Log.{In}
 use Rattle.log_model.specs.Course.{Visit}
-use Rattle.joint_rule.specs.Rules.{Out}
-use Rattle.joint_rule.specs.Views.{unit_view, owed}
+use Rattle.device_rule.specs.Rules.{Out}
+use Rattle.device_rule.specs.Views.{unit_view, owed}
 use Rattle.safety_model.specs.Recording.{card_image, unit_seen}
 use Rattle.safety_model.specs.Safe.{card_of}
-use Rattle.run_rule.specs.Found.{found_of}
-use Rattle.run_told.specs.Told.{arranged, with_standing, card_marks}
-use Rattle.run_told.proofs.OnCards.{valid-own}
+use Rattle.run_promise.specs.Found.{found_of}
+use Rattle.run_devices.specs.Told.{arranged, with_standing, card_marks}
+use Rattle.run_devices.proofs.OnCards.{valid-own}
 use Rattle.run_outcome.specs.declared.outcome.Outcome.{Outcome}
-use Rattle.run_recorded.specs.Origin.{Origin}
-use Rattle.run_recorded.specs.Beside.{HaveLeftMore}
-use Rattle.run_keeping.specs.declared.keeper.Keeper.{Keeper}
-use Rattle.device_steps.specs.declared.entering.Entered.{Entered}
-use Rattle.run_entering.specs.declared.lines.Entering.{Entering}
-use Rattle.run_entering.specs.Entering.{APPLICATION_FILE}
-use Rattle.run_entering.specs.Told.{IsToldSo}
-use Rattle.run_within.specs.Within.{course_in, often, VerdictBy, Within}
+use Rattle.run_promise.specs.Origin.{Origin}
+use Rattle.run_promise.specs.Beside.{HaveLeftMore}
+use Rattle.run_minutes.specs.declared.keeper.Keeper.{Keeper}
+use Rattle.device_calls.specs.declared.entering.Entered.{Entered}
+use Rattle.run_insertion.specs.declared.lines.Entering.{Entering}
+use Rattle.run_insertion.specs.Entering.{APPLICATION_FILE}
+use Rattle.run_insertion.specs.Told.{IsToldSo}
+use Rattle.run_record.specs.Within.{course_in, often, VerdictBy, Within}
 use Rattle.run_acts.specs.Entered.{values_with, MayJudge}
 use Rattle.run_acts.proofs.EnteredFacts.{mine-back, unit-back, before, was, now-is, unit-began, card-began}
 use Rattle.run_acts.proofs.EnteredNewest.{written-or, in-time}

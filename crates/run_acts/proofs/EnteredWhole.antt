@@ -14,30 +14,30 @@ use Rattle.log_model.specs.declared.lines.Verdict.TheVariants.{Accepted, NotVali
 use Rattle.log_model.specs.Log.{In}
 use Rattle.log_model.specs.Causes.{device_of}
 use Rattle.log_model.specs.Course.{Visit}
-use Rattle.joint_rule.specs.Rules.{Out}
+use Rattle.device_rule.specs.Rules.{Out}
 use Rattle.safety_model.specs.Recording.{card_image}
 use Rattle.run_crew.specs.declared.cards.Cards.{Cards}
 use Rattle.run_crew.specs.Cards.{with_session}
 use Rattle.run_crew.specs.Cabin.{torn_out, with_sizes_of}
-use Rattle.run_rule.specs.Found.{Found, found_of}
-use Rattle.run_rule.specs.Cards.{IsUntouched}
-use Rattle.run_told.specs.Told.{AreFoundCards, arranged, card_marks, with_marks, with_standing}
-use Rattle.run_told.proofs.Known.{found-still}
-use Rattle.run_told.proofs.Parts.{told-one}
-use Rattle.run_told.proofs.Woken.{untouched-read}
+use Rattle.run_promise.specs.Found.{Found, found_of}
+use Rattle.run_promise.specs.Cards.{IsUntouched}
+use Rattle.run_devices.specs.Told.{AreFoundCards, arranged, card_marks, with_marks, with_standing}
+use Rattle.run_devices.proofs.Known.{found-still}
+use Rattle.run_devices.proofs.Parts.{told-one}
+use Rattle.run_devices.proofs.Woken.{untouched-read}
 use Rattle.run_outcome.specs.declared.outcome.Outcome.{Outcome}
-use Rattle.run_recorded.specs.Origin.{Origin}
-use Rattle.run_keeping.specs.declared.keeper.Keeper.{Keeper}
-use Rattle.run_keeping.specs.Keeping.{tear_of}
-use Rattle.device_steps.specs.declared.entering.Entered.{Entered}
-use Rattle.run_entering.specs.declared.lines.Entering.{Entering}
-use Rattle.run_entering.specs.declared.waking.TheConstants.{UNTOLD}
-use Rattle.run_entering.specs.Entering.{Way, Unread, Unsized, Judged, Unfit, Ahead, Fell, Unasked, Unnoted, Seated, Lost, APPLICATION_FILE, ending_of, measured, cabin_by, outcome_by, find_of, seated, and_marks, last_of}
-use Rattle.run_entering.specs.Noted.{AreOnCard, is_cut}
-use Rattle.run_entering.specs.Entered.{IsFoundIn}
-use Rattle.run_entering.specs.Told.{IsCarriedOn, IsTakenOn, IsToldSo}
-use Rattle.run_entering.proofs.Carried.{number-still}
-use Rattle.run_within.specs.Within.{Within}
+use Rattle.run_promise.specs.Origin.{Origin}
+use Rattle.run_minutes.specs.declared.keeper.Keeper.{Keeper}
+use Rattle.run_minutes.specs.Keeping.{tear_of}
+use Rattle.device_calls.specs.declared.entering.Entered.{Entered}
+use Rattle.run_insertion.specs.declared.lines.Entering.{Entering}
+use Rattle.run_insertion.specs.declared.waking.TheConstants.{UNTOLD}
+use Rattle.run_insertion.specs.Entering.{Way, Unread, Unsized, Judged, Unfit, Ahead, Fell, Unasked, Unnoted, Seated, Lost, APPLICATION_FILE, ending_of, measured, cabin_by, outcome_by, find_of, seated, and_marks, last_of}
+use Rattle.run_insertion.specs.Noted.{AreOnCard, is_cut}
+use Rattle.run_insertion.specs.Entered.{IsFoundIn}
+use Rattle.run_insertion.specs.Told.{IsCarriedOn, IsTakenOn, IsToldSo}
+use Rattle.run_insertion.proofs.Carried.{number-still}
+use Rattle.run_record.specs.Within.{Within}
 use Rattle.run_acts.specs.Entered.{values_with, MayJudge, HasGone, AreSound, GoesOnOrIsCut}
 use Rattle.run_acts.proofs.EnteredFacts.{before, now-is, card-tells, card-began, known, left}
 use Rattle.run_acts.proofs.EnteredLines.{lined-as, marks-are, values-as}

@@ -15,25 +15,25 @@ use Rattle.event_model.specs.declared.kinds.TheConstants.{CARD_FAULT}
 use Rattle.event_model.specs.Events as events
 use Rattle.event_model.specs.Events.{noted_with}
 use Rattle.card_image.specs.Own.{IsOwnValid}
-use Rattle.run_rule.specs.Found.{Found, found_of}
-use Rattle.run_told.specs.Told.{AreFoundCards}
-use Rattle.run_keeping.specs.Keeping.{Fate, Still, Has, Fell}
-use Rattle.run_keeping.specs.Faults.{fault_entry, faults_by}
+use Rattle.run_promise.specs.Found.{Found, found_of}
+use Rattle.run_devices.specs.Told.{AreFoundCards}
+use Rattle.run_minutes.specs.Keeping.{Fate, Still, Has, Fell}
+use Rattle.run_minutes.specs.Faults.{fault_entry, faults_by}
 use Rattle.run_acts.specs.NotedEvents.{IsTold, AreTold}
-use Rattle.side_model.specs.Tables.{number_or_none}
-use Rattle.slot_machine.specs.declared.seats.Seat.{Seat}
-use Rattle.slot_machine.specs.Calls.{Seats, seat_in, is_card}
-use Rattle.slot_machine.specs.Kept.{Kept}
+use Rattle.note_model.specs.Tables.{number_or_none}
+use Rattle.card_slots.specs.declared.seats.Seat.{Seat}
+use Rattle.card_slots.specs.Calls.{Seats, seat_in, is_card}
+use Rattle.card_slots.specs.Kept.{Kept}
 use Rattle.run_course.specs.Presence.{SlotsTell, SitsAs, IsNewest}
 use Rattle.run_crew.specs.declared.cabin.Cabin.{Cabin}
 use Rattle.run_crew.specs.declared.cards.Accepted.{Accepted}
 use Rattle.run_crew.specs.declared.cards.Cards.{Cards}
 use Rattle.run_crew.specs.Cards.{known_of, session_of, with_session, accepted_number}
 use Rattle.run_crew.specs.Cabin.{Stands, AnswersTo, SeatAnswers, SitsNowhere, number_of_seat, slot_with, left_from, torn_out, crew_of}
-use Rattle.run_within.proofs.Seats.{nowhere-none}
-use Rattle.run_notes.specs.Entries.{number_or_no_card, IsCrewOf}
+use Rattle.run_record.proofs.Seats.{nowhere-none}
+use Rattle.run_events.specs.Entries.{number_or_no_card, IsCrewOf}
 use Rattle.run_crew.specs.declared.cards.Crew.{Crew}
-use Rattle.event_crews.specs.Watched.{named}
+use Rattle.run_events.specs.Watched.{named}
 use Rattle.run_acts.specs.EventCrews.{AreKnownBy, AreKnownAs, fault_events}
 
 -- ---- one card

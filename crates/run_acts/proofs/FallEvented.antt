@@ -15,29 +15,29 @@ use Rattle.event_model.specs.Events.{with_card}
 use Rattle.event_model.specs.Events as events
 use Rattle.unit_notes.specs.declared.unit_event.UnitEvent.{UnitEvent}
 use Rattle.safety_model.specs.Safe.{Devices, breakdowns_of}
-use Rattle.slot_machine.specs.Calls.{seat_in, card_in}
+use Rattle.card_slots.specs.Calls.{seat_in, card_in}
 use Rattle.run_crew.specs.declared.cabin.Cabin.{Cabin}
 use Rattle.run_crew.specs.Cards.{session_of}
 use Rattle.run_crew.specs.Cabin.{Stands, torn_out, with_session_of, crew_of}
-use Rattle.run_notes.specs.Entries.{IsCrewOf, entry_of}
+use Rattle.run_events.specs.Entries.{IsCrewOf, entry_of}
 use Rattle.run_course.specs.Moments.{and_break}
 use Rattle.run_course.specs.Followed.{Progress}
-use Rattle.run_moments.specs.Reached.{moved_at, Reaches, IsTearAt}
-use Rattle.run_moments.specs.Telling.{IsOneOut, IsLeft}
-use Rattle.run_moments.proofs.Lines.{who-sits}
-use Rattle.run_moments.proofs.Moment.{reaches-of}
-use Rattle.run_keeping.specs.Keeping.{Fell}
-use Rattle.run_recorded.specs.Origin.{Origin, start_at}
-use Rattle.run_recorded.specs.Beside.{HaveLeftMore}
-use Rattle.run_within.specs.Recorded.{Values}
-use Rattle.run_within.specs.Within.{Within, course_in, told_before, IsLeaving}
-use Rattle.run_within.proofs.Moved.{not-leaving}
-use Rattle.run_within.proofs.Pulling.{sitting-now}
-use Rattle.run_within.proofs.Seats.{card-seated, none-sits, seat-tells}
-use Rattle.run_evented.specs.Evented.{number_in}
-use Rattle.run_evented.specs.Noting.{Acting}
-use Rattle.run_evented.specs.Bringing.{NotFound}
-use Rattle.run_evented.specs.SoFar.{EventedNow, Adds, BeginsNow, MayFollow, crew_at, fault_with, ACallNotes, AFailureCuts, ATearAdds}
+use Rattle.run_course.specs.Reached.{moved_at, Reaches, IsTearAt}
+use Rattle.run_course.specs.Telling.{IsOneOut, IsLeft}
+use Rattle.run_course.proofs.Lines.{who-sits}
+use Rattle.run_course.proofs.Moment.{reaches-of}
+use Rattle.run_minutes.specs.Keeping.{Fell}
+use Rattle.run_promise.specs.Origin.{Origin, start_at}
+use Rattle.run_promise.specs.Beside.{HaveLeftMore}
+use Rattle.run_record.specs.Recorded.{Values}
+use Rattle.run_record.specs.Within.{Within, course_in, told_before, IsLeaving}
+use Rattle.run_record.proofs.Moved.{not-leaving}
+use Rattle.run_record.proofs.Pulling.{sitting-now}
+use Rattle.run_record.proofs.Seats.{card-seated, none-sits, seat-tells}
+use Rattle.run_note_record.specs.Evented.{number_in}
+use Rattle.run_note_record.specs.Noting.{Acting}
+use Rattle.run_note_record.specs.Bringing.{NotFound}
+use Rattle.run_note_record.specs.EventsSoFar.{EventedNow, Adds, BeginsNow, MayFollow, crew_at, fault_with, ACallNotes, AFailureCuts, ATearAdds}
 use Rattle.run_acts.specs.Recording.{IsOrigin}
 use Rattle.run_acts.specs.NotedEvents.{NotesEvents}
 use Rattle.run_acts.specs.EventCrews.{AreKnownBy}

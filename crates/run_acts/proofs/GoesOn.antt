@@ -12,14 +12,14 @@ use Rattle.safety_model.specs.Safe.{Devices, card_of, breakdowns_of}
 use Rattle.run_crew.specs.declared.cards.Accepted.{Accepted}
 use Rattle.run_crew.specs.declared.cards.Cards.{Cards}
 use Rattle.run_crew.specs.Cards.{session_of}
-use Rattle.run_rule.specs.Found.{CardFound, found_of}
-use Rattle.run_rule.specs.Cards.{IsUntouched}
-use Rattle.run_rule.specs.Between.{Carried, devices}
-use Rattle.run_told.specs.Told.{IsPowered}
-use Rattle.run_recorded.specs.Origin.{Origin}
-use Rattle.run_keeping.specs.Books.{AreTimedOn}
-use Rattle.run_within.specs.Recorded.{AreThere}
-use Rattle.run_within.specs.Within.{GoesOnSo}
+use Rattle.run_promise.specs.Found.{CardFound, found_of}
+use Rattle.run_promise.specs.Cards.{IsUntouched}
+use Rattle.run_promise.specs.Between.{Carried, devices}
+use Rattle.run_devices.specs.Told.{IsPowered}
+use Rattle.run_promise.specs.Origin.{Origin}
+use Rattle.run_minutes.specs.Books.{AreTimedOn}
+use Rattle.run_record.specs.Recorded.{AreThere}
+use Rattle.run_record.specs.Within.{GoesOnSo}
 use Rattle.run_acts.specs.Devices.{CardGoesOn, DevicesGoOn}
 
 rose-by : (before now : ℕ) → Rose before now → RoseBy 1 before now

@@ -11,20 +11,20 @@ use Rattle.minute_model.specs.declared.Minute.{Minute}
 use Rattle.minute_model.specs.Span.{Span, end_of, ungiven_of}
 use Rattle.minute_rules.specs.Kept.{StandsFor, Kept as Minutes}
 use Rattle.minute_model.proofs.Counted.{ungiven-most}
-use Rattle.slot_machine.specs.declared.seats.Present.{Present}
-use Rattle.slot_machine.specs.declared.seats.Ended.{Ended}
-use Rattle.slot_machine.specs.declared.seats.Seat.{Seat}
-use Rattle.slot_machine.specs.Calls.{Seats, present_in}
+use Rattle.card_slots.specs.declared.seats.Present.{Present}
+use Rattle.card_slots.specs.declared.seats.Ended.{Ended}
+use Rattle.card_slots.specs.declared.seats.Seat.{Seat}
+use Rattle.card_slots.specs.Calls.{Seats, present_in}
 use Rattle.run_crew.specs.declared.cards.Accepted.{Accepted}
 use Rattle.run_crew.specs.declared.cards.Cards.{Cards}
 use Rattle.run_crew.specs.Cards.{session_of}
 use Rattle.run_crew.specs.Cabin.{Stands}
 use Rattle.run_crew.proofs.Ended.{ended-known, ended-later, ended-same}
-use Rattle.run_notes.specs.declared.watch.Watch.{Watch}
-use Rattle.run_notes.specs.Watching.{Watches}
-use Rattle.run_keeping.specs.Keeping.{IsReady, HasItsRow, HaveRows, AreEmptied, GoesOnFrom, SessionsGoOn}
-use Rattle.run_keeping.specs.Minutes.{kept_after}
-use Rattle.run_keeping.proofs.Decided.{rows-on}
+use Rattle.run_events.specs.declared.watch.Watch.{Watch}
+use Rattle.run_events.specs.Watching.{Watches}
+use Rattle.run_minutes.specs.Keeping.{IsReady, HasItsRow, HaveRows, AreEmptied, GoesOnFrom, SessionsGoOn}
+use Rattle.run_minutes.specs.Minutes.{kept_after}
+use Rattle.run_minutes.proofs.Decided.{rows-on}
 use Rattle.run_acts.specs.declared.run.Run.{Run}
 use Rattle.run_acts.specs.Going.{IsGoingOn}
 use Rattle.run_acts.specs.Room.{bare_count, bare_seats}

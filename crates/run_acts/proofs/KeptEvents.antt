@@ -8,30 +8,30 @@ use Rattle.unit_model.specs.Image.{IsUnit}
 use Rattle.event_model.specs.declared.kinds.TheConstants.{DRIVING_WITHOUT_CARD, OVER_SPEEDING, CARD_FAULT}
 use Rattle.event_model.specs.Events.{Event, Seen}
 use Rattle.tacho_types.specs.declared.card_number.FullCardNumber.{FullCardNumber}
-use Rattle.event_course.specs.Noted.{are_sure}
+use Rattle.unit_events.specs.Noted.{are_sure}
 use Rattle.unit_notes.specs.declared.unit_event.UnitEvent.{UnitEvent}
 use Rattle.unit_notes.specs.Entries.{fault_bytes}
 use Rattle.unit_notes.specs.Noting.{IsEventNoted}
-use Rattle.run_rule.specs.Between.{devices}
+use Rattle.run_promise.specs.Between.{devices}
 use Rattle.run_crew.specs.declared.cabin.Cabin.{Cabin}
 use Rattle.run_events.specs.Shown.{by_kind, none, ShowsMore, AreNumbers, SaysNothing, SaysNothingBut}
 use Rattle.run_events.proofs.Shows.{more-then, nothing-more, nothing-but}
 use Rattle.run_events.specs.Seconds.{bares_by, overs_by}
 use Rattle.run_events.proofs.Frames.{event-more}
-use Rattle.run_recorded.specs.Origin.{Origin}
-use Rattle.run_evented.specs.Evented.{number_in}
-use Rattle.run_notes.specs.declared.watch.Ended.{Ended}
-use Rattle.run_notes.specs.Watching.{BareWith, OverWith, bare_ended, over_ended}
-use Rattle.run_notes.specs.Noting.{AreNoted, AreBeingNoted}
-use Rattle.event_crews.specs.Watched.{number_bytes, ArePairs, IsBareOf, IsFastOf}
-use Rattle.event_crews.specs.Turned.{AreEnded, AreLow}
-use Rattle.event_crews.proofs.Turned.{turn-shown, turn-moment}
-use Rattle.slot_machine.specs.declared.seats.Present.{Present}
-use Rattle.run_keeping.specs.declared.keeper.Keeper.{Keeper}
-use Rattle.run_keeping.specs.declared.keeper.Moment.{Moment}
-use Rattle.run_keeping.specs.Keeping.{Fate, Still, Has, Fell, cabin_by}
-use Rattle.run_keeping.specs.Minutes.{Round, Told, Done, Reach, Whole, Short, cabin_after, told_after, told_by, present_at}
-use Rattle.run_keeping.specs.Faults.{faults_by, round_faults, last_faults, faults_of, faults_to, TellsFaults, NotesFaults}
+use Rattle.run_promise.specs.Origin.{Origin}
+use Rattle.run_note_record.specs.Evented.{number_in}
+use Rattle.run_events.specs.declared.watch.Ended.{Ended}
+use Rattle.run_events.specs.Watching.{BareWith, OverWith, bare_ended, over_ended}
+use Rattle.run_events.specs.Noting.{AreNoted, AreBeingNoted}
+use Rattle.run_events.specs.Watched.{number_bytes, ArePairs, IsBareOf, IsFastOf}
+use Rattle.run_events.specs.Turned.{AreEnded, AreLow}
+use Rattle.run_events.proofs.Turned.{turn-shown, turn-moment}
+use Rattle.card_slots.specs.declared.seats.Present.{Present}
+use Rattle.run_minutes.specs.declared.keeper.Keeper.{Keeper}
+use Rattle.run_minutes.specs.declared.keeper.Moment.{Moment}
+use Rattle.run_minutes.specs.Keeping.{Fate, Still, Has, Fell, cabin_by}
+use Rattle.run_minutes.specs.Minutes.{Round, Told, Done, Reach, Whole, Short, cabin_after, told_after, told_by, present_at}
+use Rattle.run_minutes.specs.Faults.{faults_by, round_faults, last_faults, faults_of, faults_to, TellsFaults, NotesFaults}
 use Rattle.run_acts.specs.NotedEvents.{AreUnsure, AreTold, NotesSo, NotesEvents}
 use Rattle.run_acts.proofs.NotedEvents.{unsure-front, unsure-back, unsure-shown}
 use Rattle.run_acts.specs.KeptEvents.{AreFaults, AreNumbered}

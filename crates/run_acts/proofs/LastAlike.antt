@@ -12,9 +12,9 @@ use Rattle.event_model.specs.Runs.{runs_behind}
 use Rattle.event_model.specs.Events.{Event, Seen, course_by, seen_of, seen_spans, is_bare, bare_event, over_event}
 use Rattle.run_course.proofs.Told.{lit-told, dark-told}
 use Rattle.run_events.specs.Seconds.{last_of, span_before, seen_next, bares_by, overs_by, is_fast}
-use Rattle.run_evented.proofs.Brought.{told-speed}
-use Rattle.run_evented.proofs.Tearing.{told_slot, both-slot}
-use Rattle.run_evented.proofs.Quiet.{ends-nothing}
+use Rattle.run_note_record.proofs.Brought.{told-speed}
+use Rattle.run_note_record.proofs.Tearing.{told_slot, both-slot}
+use Rattle.run_note_record.proofs.Quiet.{ends-nothing}
 use Rattle.run_acts.specs.Evented.{LastAt}
 use Rattle.run_acts.proofs.SeenSpan.{span-more}
 

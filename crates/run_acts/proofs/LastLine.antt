@@ -16,18 +16,18 @@ use Rattle.log_model.specs.declared.lines.Verdict.{Verdict}
 use Rattle.log_model.specs.Log.{In, is_accepting}
 use Rattle.log_model.specs.Course.{Visit, went}
 use Rattle.log_model.specs.Spans.{AreInOrder}
-use Rattle.joint_rule.specs.Views.{other}
+use Rattle.device_rule.specs.Views.{other}
 use Rattle.tacho_types.specs.declared.texts.Registration.{Registration}
 use Rattle.safety_model.specs.Safe.{Devices}
-use Rattle.run_keeping.specs.declared.keeper.Moment.{Moment}
-use Rattle.run_entering.specs.declared.lines.Entering.{Entering}
-use Rattle.run_entering.specs.Entering.{find_of}
-use Rattle.run_recorded.specs.Origin.{Origin}
-use Rattle.run_within.specs.Recorded.{Values}
-use Rattle.run_within.specs.Within.{Within}
-use Rattle.run_within.specs.Judging.{IsNext}
+use Rattle.run_minutes.specs.declared.keeper.Moment.{Moment}
+use Rattle.run_insertion.specs.declared.lines.Entering.{Entering}
+use Rattle.run_insertion.specs.Entering.{find_of}
+use Rattle.run_promise.specs.Origin.{Origin}
+use Rattle.run_record.specs.Recorded.{Values}
+use Rattle.run_record.specs.Within.{Within}
+use Rattle.run_record.specs.Judging.{IsNext}
 use Rattle.run_course.proofs.Logs.{all-before}
-use Rattle.run_ringed.proofs.Stored.{AtEnd, nothing, push, at-end}
+use Rattle.run_note_record.proofs.Stored.{AtEnd, nothing, push, at-end}
 use Rattle.run_acts.specs.Words.{withdraws, begun_in}
 use Rattle.run_acts.specs.Truths.{PutsIn, IsLineOf}
 use Rattle.run_acts.specs.Stays.{Stay, Shown, Coming, comings_of, lines_of, after_stay, AreMerged, judged_in}

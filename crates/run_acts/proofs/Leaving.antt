@@ -11,9 +11,9 @@ use Rattle.run_crew.specs.declared.cards.Accepted.{Accepted}
 use Rattle.run_crew.specs.declared.cabin.Cabin.{Cabin}
 use Rattle.run_crew.specs.Cards.{session_of, with_session}
 use Rattle.run_crew.specs.Cabin.{Stands, with_session_of, with_slot_left}
-use Rattle.run_keeping.specs.declared.keeper.Moment.{Moment}
-use Rattle.run_keeping.specs.Keeping.{SessionsGoOn, tears_of}
-use Rattle.run_keeping.proofs.Seats.{sessions-none, sessions-then}
+use Rattle.run_minutes.specs.declared.keeper.Moment.{Moment}
+use Rattle.run_minutes.specs.Keeping.{SessionsGoOn, tears_of}
+use Rattle.run_minutes.proofs.Seats.{sessions-none, sessions-then}
 use Rattle.run_acts.specs.declared.run.Run.{Run}
 use Rattle.run_acts.specs.Going.{IsHeld, IsGoingOn, IsLit}
 use Rattle.run_acts.specs.Room.{falls_of}

@@ -23,18 +23,18 @@ use Rattle.history_model.specs.Growth.{as_span, picking}
 use Rattle.history_model.specs.History.{decided_of}
 use Rattle.history_model.proofs.Deciding.{counted, span-settled}
 use Rattle.history_model.proofs.Growing.{apart-last}
-use Rattle.unit_course.specs.Followed.{Lit as IsLit, as_spans}
-use Rattle.unit_course.specs.Turn.{span_at}
+use Rattle.run_unit_course.specs.Followed.{Lit as IsLit, as_spans}
+use Rattle.run_unit_course.specs.Turn.{span_at}
 use Rattle.safety_model.specs.Safe.{Devices}
 use Rattle.run_course.specs.Followed.{Followed, IsSupplied}
 use Rattle.run_course.specs.Seconds.{next_told}
 use Rattle.run_course.proofs.Steps.{with-supply, span-end}
 use Rattle.run_course.proofs.Told.{IsLitAs, lit-told, lit-starts, spans-lit}
-use Rattle.run_moments.specs.Kept.{settled_times, fed_where}
-use Rattle.run_recorded.specs.Origin.{Origin, rule_of, start_at, first_of}
-use Rattle.run_ringed.proofs.Stored.{mapped, travelled-is}
-use Rattle.run_within.specs.Recorded.{Values}
-use Rattle.run_within.specs.Within.{Within, course_in}
+use Rattle.run_course.specs.Kept.{settled_times, fed_where}
+use Rattle.run_promise.specs.Origin.{Origin, rule_of, start_at, first_of}
+use Rattle.run_note_record.proofs.Stored.{mapped, travelled-is}
+use Rattle.run_record.specs.Recorded.{Values}
+use Rattle.run_record.specs.Within.{Within, course_in}
 use Rattle.run_acts.specs.Truths.{driven_in}
 use Rattle.run_acts.proofs.RingedSecond.{power-here}
 

@@ -6,19 +6,19 @@ use Rattle.trace_model.specs.declared.Card.{Card}
 use Rattle.card_image.specs.Own.{IsOwnValid}
 use Rattle.log_model.specs.Slots.{Sitting}
 use Rattle.log_model.specs.Course.{Told, Course}
-use Rattle.joint_rule.specs.Rules.{Standing}
+use Rattle.device_rule.specs.Rules.{Standing}
 use Rattle.event_model.specs.Events.{Event, Crew, accepted_card, crew_of, with_card}
-use Rattle.run_rule.specs.Found.{found_of}
+use Rattle.run_promise.specs.Found.{found_of}
 use Rattle.run_crew.specs.declared.cabin.Cabin.{Cabin}
-use Rattle.run_present.specs.Presence.{PresentStand, sits}
-use Rattle.run_recorded.specs.Origin.{Origin}
+use Rattle.run_devices.specs.Presence.{PresentStand, sits}
+use Rattle.run_promise.specs.Origin.{Origin}
 use Rattle.card_layout.specs.Fields.{number_in as field_number, field_at}
 use Rattle.tacho_types.specs.declared.card_number.FullCardNumber.{FullCardNumber}
 use Rattle.tacho_types.specs.CardNumber.{card_number_widths, card_number_bytes, card_number_of}
-use Rattle.run_told.specs.Told.{AreFoundCards}
+use Rattle.run_devices.specs.Told.{AreFoundCards}
 use Rattle.run_crew.specs.declared.cards.Cards.{Cards}
 use Rattle.run_crew.specs.Cards.{known_of, session_of}
-use Rattle.run_evented.specs.Evented.{number_in}
+use Rattle.run_note_record.specs.Evented.{number_in}
 use Rattle.run_acts.specs.EventCrews.{AreKnownAs}
 use Rattle.run_acts.specs.KeptEvents.{AreNumbered}
 use Rattle.run_acts.specs.Recording.{IsOrigin}

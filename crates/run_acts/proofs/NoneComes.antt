@@ -4,13 +4,13 @@ use Rattle.activity_codec.specs.declared.values.Slot.TheVariants.{Driver, CoDriv
 use Rattle.trace_model.specs.declared.Card.{Card}
 use Rattle.minute_model.specs.declared.Minute.{Minute}
 use Rattle.card_session.specs.declared.session.Kept.{Kept}
-use Rattle.unit_journal.specs.declared.kept.KeptMinute.{KeptMinute}
-use Rattle.slot_machine.specs.declared.seats.Present.{Present}
+use Rattle.unit_minutes.specs.declared.kept.KeptMinute.{KeptMinute}
+use Rattle.card_slots.specs.declared.seats.Present.{Present}
 use Rattle.run_crew.specs.declared.cabin.Cabin.{Cabin}
 use Rattle.run_crew.specs.Cards.{session_of}
-use Rattle.run_keeping.specs.declared.keeper.Moment.{Moment}
-use Rattle.run_keeping.specs.Keeping.{Fate, Still, Has, Fell, cabin_by, session_at, kept_in, IsFateOf}
-use Rattle.run_keeping.specs.Minutes.{Told, Round, AreKept, none, more, IsRound, minute_of, present_at, cabin_after}
+use Rattle.run_minutes.specs.declared.keeper.Moment.{Moment}
+use Rattle.run_minutes.specs.Keeping.{Fate, Still, Has, Fell, cabin_by, session_at, kept_in, IsFateOf}
+use Rattle.run_minutes.specs.Minutes.{Told, Round, AreKept, none, more, IsRound, minute_of, present_at, cabin_after}
 use Rattle.run_acts.proofs.Bare.{gone, has-one, stays-none}
 
 module _ (c : Card) where

@@ -14,62 +14,62 @@ use Rattle.tach_media.specs.Medium.{State, IsCoherent, LeavesOnly, HasCause, Has
 use Rattle.card_layout.specs.declared.files.TheConstants.{LARGEST_IMAGE}
 use Rattle.card_session.specs.Sessions.{IsValue}
 use Rattle.card_image.specs.Own.{IsOwnValid}
-use Rattle.card_times.specs.Times.{AreTimedSince}
+use Rattle.device_calls.specs.Times.{AreTimedSince}
 use Rattle.minute_model.specs.declared.Minute.{Minute}
 use Rattle.minute_model.specs.Span.{Span, end_of, ungiven_of}
 use Rattle.minute_model.proofs.Counted.{ungiven-most}
 use Rattle.minute_rules.specs.Kept.{Kept, StandsFor}
 use Rattle.log_model.specs.declared.lines.Break.{Break}
 use Rattle.log_model.specs.declared.lines.Break.TheVariants.{Tear}
-use Rattle.log_model.specs.Log.{Phase, In, phase_of}
+use Rattle.log_model.specs.Log.{Phase, In, phase_of, RunLog}
 use Rattle.log_model.specs.Causes.{RoseBy, second_of}
 use Rattle.log_model.specs.Course.{Visit, Went, went}
 use Rattle.unit_notes.specs.Journal.{LeavesJournal}
 use Rattle.unit_model.specs.Image.{odometer_at}
 use Rattle.unit_rule.specs.Odometer.{odometer_after, HasTravelled}
-use Rattle.unit_course.specs.Legs.{all_travelled}
+use Rattle.run_unit_course.specs.Legs.{all_travelled}
 use Rattle.safety_model.specs.Safe.{Devices, card_of, breakdowns_of}
-use Rattle.log_model.specs.Slots.{refusal}
-use Rattle.slot_machine.specs.Calls.{seat_in, card_in, logged}
-use Rattle.device_steps.specs.CardNotes.{IsNote}
+use Rattle.log_model.specs.Slots.{refusal, other_slot}
+use Rattle.card_slots.specs.Calls.{seat_in, card_in, logged}
+use Rattle.device_calls.specs.CardNotes.{IsNote}
 use Rattle.run_crew.specs.declared.cards.Accepted.{Accepted}
 use Rattle.run_crew.specs.declared.cards.Cards.{Cards}
 use Rattle.run_crew.specs.Cards.{session_of, with_session}
 use Rattle.event_model.specs.declared.kinds.TheConstants.{CARD_FAULT}
-use Rattle.run_notes.specs.Entries.{entry_of}
+use Rattle.run_events.specs.Entries.{entry_of}
 use Rattle.run_crew.specs.declared.cabin.Cabin.{Cabin}
 use Rattle.run_crew.specs.Cabin.{Stands, torn_out, crew_of}
-use Rattle.run_rule.specs.Found.{found_of}
-use Rattle.run_rule.specs.Cards.{IsUntouched}
-use Rattle.run_rule.specs.Between.{Carried, devices}
+use Rattle.run_promise.specs.Found.{found_of}
+use Rattle.run_promise.specs.Cards.{IsUntouched}
+use Rattle.run_promise.specs.Between.{Carried, devices}
 use Rattle.run_course.specs.Followed.{Followed}
 use Rattle.run_course.specs.Seconds.{kept_all}
 use Rattle.run_course.proofs.Logs.{went-later}
 use Rattle.run_course.proofs.Steps.{went-same_}
-use Rattle.run_moments.specs.Moment.{goes_on}
-use Rattle.run_told.specs.Told.{arranged, with_standing}
-use Rattle.run_told.proofs.Parts.{parts-of}
-use Rattle.run_told.proofs.Noted.{noted-powered, noted-powerless}
-use Rattle.run_told.proofs.Travelled.{travelled-noted}
+use Rattle.run_course.specs.Moment.{goes_on}
+use Rattle.run_devices.specs.Told.{arranged, with_standing}
+use Rattle.run_devices.proofs.Parts.{parts-of}
+use Rattle.run_devices.proofs.Noted.{noted-powered, noted-powerless}
+use Rattle.run_devices.proofs.Travelled.{travelled-noted}
 use Rattle.run_outcome.specs.Lines.{Listed}
 use Rattle.run_outcome.specs.declared.outcome.Outcome.{Outcome}
-use Rattle.run_recorded.specs.Origin.{Origin, rule_of, start_at, first_of}
-use Rattle.run_keeping.specs.declared.keeper.Moment.{Moment}
-use Rattle.run_keeping.specs.Keeping.{tear_of, with_lines}
-use Rattle.run_keeping.proofs.Fates.{no-lines}
-use Rattle.run_within.specs.Recorded.{Values, AreThere, carried}
-use Rattle.run_within.specs.Within.{Beginning, GoesOnSo, Within, CutWithin, GoesOn}
-use Rattle.run_within.specs.Judging.{torn_values}
-use Rattle.run_within.specs.Taking.{fallen, IsCalledSeated}
-use Rattle.run_within.proofs.Steps.{call-recorded, failure-recorded}
-use Rattle.run_within.proofs.Acting.{place-recorded}
-use Rattle.run_within.proofs.Seated.{seated-torn, seated-tear_fails}
+use Rattle.run_promise.specs.Origin.{Origin, rule_of, start_at, first_of}
+use Rattle.run_minutes.specs.declared.keeper.Moment.{Moment}
+use Rattle.run_minutes.specs.Keeping.{tear_of, with_lines}
+use Rattle.run_minutes.proofs.Fates.{no-lines}
+use Rattle.run_record.specs.Recorded.{Values, AreThere, carried}
+use Rattle.run_record.specs.Within.{Beginning, GoesOnSo, Within, CutWithin, GoesOn}
+use Rattle.run_record.specs.Judging.{torn_values}
+use Rattle.run_record.specs.Taking.{fallen, IsCalledSeated}
+use Rattle.run_record.proofs.Steps.{call-recorded, failure-recorded}
+use Rattle.run_record.proofs.Acting.{place-recorded}
+use Rattle.run_record.proofs.Seated.{seated-torn, seated-tear_fails}
 use Rattle.run_acts.specs.declared.run.Run.{Run}
 use Rattle.run_acts.specs.Power.{with_cabin}
 use Rattle.run_acts.specs.Acting.{IsNotedOn, IsNotedIn, now_moment, falls_by}
 use Rattle.run_acts.specs.Behind.{IsPoweredOrOff}
 use Rattle.run_acts.specs.Recording.{log_of, values_of, RunWithin, ComesPower, RunGoesOn, GoesOnOrFails, GoesOnOrCut, IsNow}
-use Rattle.run_acts.specs.Noting.{carried_noted, IsNoteRecorded}
+use Rattle.run_acts.specs.Noting.{carried_noted, IsNoteRecorded, fall_events}
 use Rattle.run_acts.proofs.Cabins.{noted_cabin}
 use Rattle.run_acts.proofs.Apart.{some-one}
 use Rattle.run_acts.proofs.Asked.{allowed-in}
@@ -77,30 +77,26 @@ use Rattle.run_acts.specs.Closings.{spells_of, notes_within}
 use Rattle.run_acts.specs.Comings.{TellMore}
 use Rattle.run_acts.specs.Truths.{truths_within, marked}
 use Rattle.run_acts.specs.Stays.{sits_in, AllStay}
-use Rattle.side_model.specs.Noted.{Note}
+use Rattle.note_model.specs.Noted.{Note}
 use Rattle.run_acts.proofs.Stays.{stays-still}
 use Rattle.run_acts.proofs.AllStay.{turns-so, all-unit, all-one, all-noted, log-self, no-tear}
 use Rattle.run_acts.proofs.NotesThen.{place-now}
 use Rattle.run_acts.proofs.NotedOn.{noted-books, noted-timed, noted-does}
-use Rattle.log_model.specs.Log.{RunLog}
-use Rattle.log_model.specs.Slots.{other_slot}
-use Rattle.run_moments.proofs.Telling.{card-torn}
-use Rattle.run_moments.specs.Telling.{IsLeft}
+use Rattle.run_course.proofs.Telling.{card-torn}
+use Rattle.run_course.specs.Telling.{IsLeft, IsMore}
 use Rattle.run_course.specs.Moments.{and_break}
-use Rattle.run_evented.specs.Noting.{Acting}
-use Rattle.run_evented.specs.Bringing.{NotFound}
-use Rattle.run_evented.specs.SoFar.{EventedNow, MayFollow}
-use Rattle.run_evented.proofs.Adding.{call-notes}
-use Rattle.run_evented.proofs.Cutting.{failure-cuts}
-use Rattle.run_evented.proofs.Falling.{tear-adds}
+use Rattle.run_note_record.specs.Noting.{Acting}
+use Rattle.run_note_record.specs.Bringing.{NotFound}
+use Rattle.run_note_record.specs.EventsSoFar.{EventedNow, MayFollow}
+use Rattle.run_note_record.proofs.Adding.{call-notes}
+use Rattle.run_note_record.proofs.Cutting.{failure-cuts}
+use Rattle.run_note_record.proofs.Falling.{tear-adds}
 use Rattle.run_acts.specs.NotedEvents.{NotesEvents}
-use Rattle.run_acts.specs.Noting.{fall_events}
 use Rattle.run_acts.specs.Evented.{EventsGoOn}
 use Rattle.run_acts.proofs.RoundFaults.{none-added}
 use Rattle.run_acts.specs.ActsEvented.{IsFailing}
-use Rattle.run_recorded.specs.Beside.{HaveLeftMore}
+use Rattle.run_promise.specs.Beside.{HaveLeftMore}
 use Rattle.run_acts.proofs.FallEvented.{call-evented, begins-now, seated-untorn, seated-out, seated-falls}
-use Rattle.run_moments.specs.Telling.{IsMore}
 use Rattle.run_acts.proofs.Rising.{unit-more, card-more, card-fell}
 
 -- ---- the devices

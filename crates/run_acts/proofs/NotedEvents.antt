@@ -6,22 +6,22 @@ use Rattle.tach_media.specs.Medium.{State, IsCoherent, LeavesOnly}
 use Rattle.log_model.specs.Log.{RunLog}
 use Rattle.event_model.specs.declared.kinds.TheConstants.{OVER_SPEEDING}
 use Rattle.event_model.specs.Events.{Event}
-use Rattle.event_course.specs.Noted.{are_sure}
-use Rattle.event_course.specs.Shown.{first_on, count_on}
-use Rattle.side_model.specs.Tables.{table_in, AreNoted}
+use Rattle.unit_events.specs.Noted.{are_sure}
+use Rattle.unit_events.specs.Shown.{first_on, count_on}
+use Rattle.note_model.specs.Tables.{table_in, AreNoted}
 use Rattle.unit_model.specs.declared.layout.TheConstants.{FIRST_OVER, OVER_COUNT}
 use Rattle.unit_model.specs.Image.{IsUnit, number_of}
 use Rattle.unit_notes.specs.declared.unit_event.UnitEvent.{UnitEvent}
 use Rattle.safety_model.specs.Safe.{Devices}
-use Rattle.run_rule.specs.Between.{devices}
+use Rattle.run_promise.specs.Between.{devices}
 use Rattle.run_events.specs.Shown.{by_kind, none, ShowsMore, SaysNothing}
 use Rattle.run_events.proofs.Shows.{more-then, nothing-more, nothing-but}
 use Rattle.run_events.proofs.Frames.{event-more, event-but}
 use Rattle.unit_notes.specs.Entries.{fault_bytes}
 use Rattle.unit_notes.specs.Noting.{IsEventNoted, IsNotingEvent}
-use Rattle.run_recorded.specs.Origin.{Origin}
-use Rattle.run_evented.specs.Evented.{number_in}
-use Rattle.run_evented.specs.Noting.{NotesThese}
+use Rattle.run_promise.specs.Origin.{Origin}
+use Rattle.run_note_record.specs.Evented.{number_in}
+use Rattle.run_note_record.specs.Noting.{NotesThese}
 use Rattle.run_acts.specs.NotedEvents.{AreUnsure, AreTold, IsSplit, NotesSo, NotesEvents}
 
 -- ---- lists of events

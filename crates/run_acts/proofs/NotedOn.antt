@@ -10,31 +10,31 @@ use Rattle.card_layout.specs.Files.{image_size_of}
 use Rattle.card_layout.proofs.Sizes.{largest_image}
 use Rattle.card_image.specs.Judging.{IsValid}
 use Rattle.card_image.specs.Own.{own_sizes, IsOwnValid}
-use Rattle.card_times.specs.Times.{AreTimedSince}
-use Rattle.card_times.proofs.Calls.{noting-timed}
+use Rattle.device_calls.specs.Times.{AreTimedSince}
+use Rattle.device_calls.proofs.TimedCalls.{noting-timed}
 use Rattle.card_session.specs.Sessions.{IsValue}
 use Rattle.unit_notes.specs.Journal.{LeavesJournal}
-use Rattle.joint_rule.specs.Views.{other}
-use Rattle.joint_rule.specs.Rules.{Standing, Torn}
-use Rattle.device_steps.specs.CardNotes.{IsNote}
+use Rattle.device_rule.specs.Views.{other}
+use Rattle.device_rule.specs.Rules.{Standing, Torn}
+use Rattle.device_calls.specs.CardNotes.{IsNote}
 use Rattle.run_crew.specs.declared.cards.Accepted.{Accepted}
 use Rattle.run_crew.specs.declared.cards.Cards.{Cards}
 use Rattle.run_crew.specs.Cards.{session_of, with_session}
-use Rattle.run_rule.specs.Found.{Found, found_of}
-use Rattle.run_rule.specs.Between.{Carried}
-use Rattle.run_told.specs.Told.{AreFoundCards, IsOn, IsPowered, arranged, with_standing, for_card}
-use Rattle.run_told.proofs.OnCards.{valid-or, no-marks, own-valid}
-use Rattle.run_told.proofs.Parts.{CardLit, AreParts, parts-of, powered-of, at-other}
-use Rattle.run_told.proofs.Noted.{noted-on, noted-off}
-use Rattle.run_keeping.proofs.Brought.{found-session}
-use Rattle.run_within.specs.Taking.{fallen}
+use Rattle.run_promise.specs.Found.{Found, found_of}
+use Rattle.run_promise.specs.Between.{Carried}
+use Rattle.run_devices.specs.Told.{AreFoundCards, IsOn, IsPowered, arranged, with_standing, for_card}
+use Rattle.run_devices.proofs.OnCards.{valid-or, no-marks, own-valid}
+use Rattle.run_devices.proofs.Parts.{CardLit, AreParts, parts-of, powered-of, at-other}
+use Rattle.run_devices.proofs.Noted.{noted-on, noted-off}
+use Rattle.run_minutes.proofs.Brought.{found-session}
+use Rattle.run_record.specs.Taking.{fallen}
 use Rattle.run_acts.specs.declared.run.Run.{Run}
 use Rattle.run_acts.specs.Behind.{IsPoweredOrOff}
 use Rattle.run_acts.specs.Noting.{carried_noted, BooksNoted}
 use Rattle.run_acts.proofs.Cabins.{noted_cabin}
 use Rattle.run_acts.proofs.Withdrawn.{noted-here, noted-cut}
-use Rattle.run_keeping.specs.CardDeeds.{DoesOn}
-use Rattle.run_entering.proofs.Opening.{does-note}
+use Rattle.run_minutes.specs.CardDeeds.{DoesOn}
+use Rattle.run_insertion.proofs.Opening.{does-note}
 
 -- a call that went well was made on what works
 worked : (b : Bool) → (b ≡ false → false ≡ true) → b ≡ true

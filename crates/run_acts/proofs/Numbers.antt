@@ -15,13 +15,13 @@ use Rattle.event_model.specs.declared.kinds.TheConstants.{OVER_SPEEDING}
 use Rattle.event_model.specs.Events.{Event, Crew}
 use Rattle.log_model.specs.Log.{RunLog}
 use Rattle.event_model.specs.Places.{day_place, place_of, similar_after}
-use Rattle.side_model.specs.Tables.{number_or_none, HasRest, IsEntry, similar_field, similar_at, held_of, held_in, table_in, IsNotedAt, AreNoted}
+use Rattle.note_model.specs.Tables.{number_or_none, HasRest, IsEntry, similar_field, similar_at, held_of, held_in, table_in, IsNotedAt, AreNoted}
 use Rattle.unit_notes.specs.declared.unit_event.UnitEvent.{UnitEvent}
 use Rattle.safety_model.specs.Recording.{card_image}
 use Rattle.safety_model.specs.Safe.{Devices}
 use Rattle.run_events.specs.Shown.{by_kind, none, ShowsMore, AreNumbers}
-use Rattle.run_recorded.specs.Origin.{Origin}
-use Rattle.run_evented.specs.Evented.{number_in}
+use Rattle.run_promise.specs.Origin.{Origin}
+use Rattle.run_note_record.specs.Evented.{number_in}
 use Rattle.run_acts.specs.NotedEvents.{AreTold, NotesSo, NotesEvents}
 use Rattle.run_acts.specs.Named.{ValidHere, NamesValid, spare, by_fault, image_or, named_as}
 

@@ -10,15 +10,15 @@ use Rattle.trace_model.specs.Trace.{TraceSecond}
 use Rattle.tach_media.specs.Medium.{State}
 use Rattle.tacho_types.specs.declared.texts.Registration.{Registration}
 use Rattle.card_layout.specs.declared.files.Application.{Application}
-use Rattle.card_records.specs.declared.card_event.CardEvent.{CardEvent}
-use Rattle.card_records.specs.declared.current_use.CurrentUse.{CurrentUse}
+use Rattle.card_files.specs.declared.card_event.CardEvent.{CardEvent}
+use Rattle.card_files.specs.declared.current_use.CurrentUse.{CurrentUse}
 use Rattle.log_model.specs.Log.{RunLog}
 use Rattle.event_model.specs.declared.kinds.TheConstants.{INSERTION_WHILE_DRIVING, SESSION_NOT_CLOSED, POWER_INTERRUPTION}
 use Rattle.event_model.specs.Events.{Event, Seen, seen_of, seen_spans, gap_events}
 use Rattle.run_events.specs.Seconds.{gap_by, seen_next}
 use Rattle.run_events.proofs.Growing.{seen-more, second-brings}
-use Rattle.run_entering.specs.CardEvents.{events_in, all_noted}
-use Rattle.run_entering.proofs.CardBrought.{noted-both}
+use Rattle.run_insertion.specs.CardEvents.{events_in, all_noted}
+use Rattle.run_insertion.proofs.CardBrought.{noted-both}
 use Rattle.run_acts.specs.OnCards.{has_card, as_accepted, unclosed_at, unclosed_by, events_by, accepted_in, accepted_on, moved_in, gap_entry, gaps_on, events_on, is_sure_in, are_sure_on, ShowsThem, ShowsOn, NotesThem, StillShows, AreUses}
 
 -- ---- tests

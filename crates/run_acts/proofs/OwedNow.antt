@@ -16,7 +16,7 @@ use Rattle.card_image.specs.View.{CardView, card_view}
 use Rattle.card_image.specs.Own.{own_view, own_sizes}
 use Rattle.card_session.specs.Books.{mark_of}
 use Rattle.card_session.specs.Sessions.{book_of}
-use Rattle.device_steps.proofs.OnCard.{own-is}
+use Rattle.device_calls.proofs.OnCard.{own-is}
 use Rattle.log_model.specs.Log.{RunLog, In}
 use Rattle.log_model.specs.declared.lines.Break.{Break}
 use Rattle.log_model.specs.declared.lines.Find.{Find}
@@ -34,37 +34,37 @@ use Rattle.history_model.proofs.Books.{all-none, up_to-whole, history-append, hi
 use Rattle.history_model.proofs.Closing.{minutes-parts}
 use Rattle.history_model.proofs.Decided.{after-decided, unit-decided}
 use Rattle.history_model.proofs.Filters.{all-back, filter-none, filter-whole}
-use Rattle.joint_rule.specs.Rules.{Meets, Out}
-use Rattle.joint_rule.specs.Views.{UnitView, unit_view, owed}
-use Rattle.joint_rule.proofs.Pairs.{owed-above}
-use Rattle.unit_course.specs.Legs.{AreWhole}
-use Rattle.unit_course.specs.Turn.{span_at}
+use Rattle.device_rule.specs.Rules.{Meets, Out}
+use Rattle.device_rule.specs.Views.{UnitView, unit_view, owed}
+use Rattle.device_rule.proofs.Pairs.{owed-above}
+use Rattle.run_unit_course.specs.Legs.{AreWhole}
+use Rattle.run_unit_course.specs.Turn.{span_at}
 use Rattle.safety_model.specs.Recording.{brought}
 use Rattle.safety_model.specs.Unit.{marks_of}
 use Rattle.safety_model.proofs.Whole.{mark-of, no-failure}
-use Rattle.run_rule.specs.Cards.{IsCardHeld, CardMarksHold}
-use Rattle.run_rule.specs.Found.{found_of, AnyKept}
-use Rattle.run_rule.proofs.Entries.{all-by}
+use Rattle.run_promise.specs.Cards.{IsCardHeld, CardMarksHold}
+use Rattle.run_promise.specs.Found.{found_of, AnyKept}
+use Rattle.run_promise.proofs.Entries.{all-by}
 use Rattle.run_course.specs.Seconds.{kept_all}
-use Rattle.run_moments.specs.Kept.{BrokenSince, settled_times}
+use Rattle.run_course.specs.Kept.{BrokenSince, settled_times}
 use Rattle.run_course.proofs.Told.{lit-starts}
-use Rattle.run_told.specs.Told.{arranged, with_standing}
+use Rattle.run_devices.specs.Told.{arranged, with_standing}
 use Rattle.run_outcome.specs.declared.outcome.Outcome.{Outcome}
-use Rattle.run_recorded.specs.Origin.{Origin, rule_of, start_at}
-use Rattle.run_recorded.specs.Whole.{NothingFailed}
-use Rattle.run_keeping.specs.declared.keeper.Keeper.{Keeper}
-use Rattle.run_keeping.specs.declared.keeper.Moment.{Moment}
-use Rattle.device_steps.specs.declared.entering.Entered.{Entered}
-use Rattle.run_entering.specs.declared.lines.Entering.{Entering}
-use Rattle.run_entering.specs.Entering.{find_of}
-use Rattle.run_entering.specs.Told.{IsToldSo}
-use Rattle.run_within.specs.Within.{Within, course_in}
+use Rattle.run_promise.specs.Origin.{Origin, rule_of, start_at}
+use Rattle.run_promise.specs.Whole.{NothingFailed}
+use Rattle.run_minutes.specs.declared.keeper.Keeper.{Keeper}
+use Rattle.run_minutes.specs.declared.keeper.Moment.{Moment}
+use Rattle.device_calls.specs.declared.entering.Entered.{Entered}
+use Rattle.run_insertion.specs.declared.lines.Entering.{Entering}
+use Rattle.run_insertion.specs.Entering.{find_of}
+use Rattle.run_insertion.specs.Told.{IsToldSo}
+use Rattle.run_record.specs.Within.{Within, course_in}
 use Rattle.run_acts.specs.Entered.{values_with, MayJudge}
 use Rattle.run_acts.specs.Owed.{IsPulledBefore, IsPulledHere, IsOwed, runs_on}
 use Rattle.run_acts.proofs.PulledBy.{none-torn, none-torn-in, tears-none, pulled-alone}
 use Rattle.run_acts.proofs.TruthsThen.{began-none}
 use Rattle.run_acts.proofs.EnteredFacts.{mine, before, was}
-use Rattle.run_ringed.proofs.Stored.{AtEnd, nothing, push, at-end}
+use Rattle.run_note_record.proofs.Stored.{AtEnd, nothing, push, at-end}
 use Rattle.run_acts.proofs.EnteredNewest.{past-is}
 use Rattle.run_acts.proofs.MinuteEnds.{fresh-low, followed-lit}
 use Rattle.run_acts.proofs.WholeLegs.{whole-before, book-is}

@@ -16,9 +16,9 @@ use Rattle.log_model.proofs.Growth.{went-more}
 use Rattle.history_model.specs.Minutes.{card_history}
 use Rattle.history_model.specs.Presence.{Start}
 use Rattle.history_model.specs.History.{minutes_after, decided_of}
-use Rattle.unit_course.specs.Turn.{span_at}
-use Rattle.run_moments.specs.Kept.{settled_times}
-use Rattle.run_ringed.proofs.Stored.{AtEnd, nothing, push, at-end}
+use Rattle.run_unit_course.specs.Turn.{span_at}
+use Rattle.run_course.specs.Kept.{settled_times}
+use Rattle.run_note_record.proofs.Stored.{AtEnd, nothing, push, at-end}
 use Rattle.run_acts.specs.Owed.{IsPulledBefore, IsPulledHere, IsOwed, runs_on}
 
 -- ---- what is told of the first of some seconds

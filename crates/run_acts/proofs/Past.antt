@@ -1,19 +1,18 @@
 -- Who was present in the minutes that have ended.
-use Rattle.std.proofs.Common.{◌≡◌, ℕ, zero, suc, ◌-◌, ◌≤◌, Bool, true, false, not, ◌&&◌, cond, Option, Some, None, IfSome, List, [], ◌∷◌, All, take, is_some, refl, arith}
+use Rattle.std.proofs.Common.{◌≡◌, ℕ, zero, suc, ◌-◌, ◌≤◌, Bool, true, false, not, ◌&&◌, cond, Option, Some, None, IfSome, List, [], ◌∷◌, All, take, is_some, refl, arith, eqb-true}
 use Rattle.std.specs.Prelude.{nat_eq}
-use Rattle.std.proofs.Common.{eqb-true}
 use Rattle.std.proofs.lemmas.List.Elements.{All-head, All-tail}
 use Rattle.trace_model.specs.declared.Card.{Card}
 use Rattle.tach_media.specs.Medium.{State}
-use Rattle.slot_machine.specs.declared.seats.Seat.{Seat}
-use Rattle.slot_machine.specs.declared.seats.Ended.{Ended}
-use Rattle.slot_machine.specs.declared.seats.Present.{Present}
-use Rattle.slot_machine.specs.Calls.{Seats, present_in, present_of, is_earlier, ending}
+use Rattle.card_slots.specs.declared.seats.Seat.{Seat}
+use Rattle.card_slots.specs.declared.seats.Ended.{Ended}
+use Rattle.card_slots.specs.declared.seats.Present.{Present}
+use Rattle.card_slots.specs.Calls.{Seats, present_in, present_of, is_earlier, ending}
 use Rattle.run_crew.specs.declared.cards.Accepted.{Accepted}
 use Rattle.run_crew.specs.declared.cards.Cards.{Cards}
 use Rattle.run_crew.specs.Cards.{session_of}
 use Rattle.run_crew.specs.Cabin.{AnswersTo, SeatAnswers, EndedStands}
-use Rattle.run_keeping.specs.Keeping.{HasItsRow, HaveRows}
+use Rattle.run_minutes.specs.Keeping.{HasItsRow, HaveRows}
 
 -- a minute that is not earlier than all that have ended is none of them
 pub none-later : (P : Present → Type 0) (from before m : ℕ) (cards : Cards) (past : List Ended) → before ≤ m → All (EndedStands from before cards) past → IfSome (present_in past m) P

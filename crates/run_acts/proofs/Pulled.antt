@@ -9,19 +9,19 @@ use Rattle.log_model.specs.declared.lines.Break.TheVariants.{Tear}
 use Rattle.log_model.specs.Log.{In}
 use Rattle.log_model.specs.Slots.{same_card}
 use Rattle.safety_model.specs.Safe.{Devices}
-use Rattle.slot_machine.specs.Calls.{seat_in, card_in}
+use Rattle.card_slots.specs.Calls.{seat_in, card_in}
 use Rattle.run_crew.specs.Cabin.{Stands, torn_out}
 use Rattle.run_outcome.specs.declared.outcome.Outcome.{Outcome}
-use Rattle.run_keeping.specs.Keeping.{with_lines}
-use Rattle.run_recorded.specs.Origin.{Origin}
-use Rattle.run_within.proofs.Pulling.{pulled-out}
+use Rattle.run_minutes.specs.Keeping.{with_lines}
+use Rattle.run_promise.specs.Origin.{Origin}
+use Rattle.run_record.proofs.Pulling.{pulled-out}
 use Rattle.run_acts.specs.declared.run.Run.{Run}
 use Rattle.run_acts.specs.Power.{with_cabin}
 use Rattle.run_acts.specs.Acting.{pulled_run, pulled_breaks}
 use Rattle.run_acts.specs.Recording.{log_of, values_of, RunWithin, RunGoesOn, RecordsAction}
 use Rattle.run_acts.proofs.Asked.{pulls-one}
 use Rattle.run_acts.proofs.NoteRecorded.{goes-as}
-use Rattle.side_model.specs.Noted.{Note}
+use Rattle.note_model.specs.Noted.{Note}
 use Rattle.run_crew.specs.declared.cards.Accepted.{Accepted}
 use Rattle.run_crew.specs.Cards.{session_of, with_session}
 use Rattle.run_acts.specs.Closings.{Spell, spells_of, last_slot, notes_within}

@@ -20,11 +20,11 @@ use Rattle.log_model.specs.Causes.{is_cut, has_failed, tears, places, visit_plac
 use Rattle.log_model.specs.Slots.{Slots, Sitting, in_slot, other_slot, same_card, holds, refusal}
 use Rattle.log_model.specs.Course.{Told, Course, Visit, Moved, Before, card_in, visits, with_slot, leaves, answered, moved_by, slot_told, both_told, begins, is_settling, acted, all_acted, unmoved, fresh}
 use Rattle.event_model.specs.Events.{course_by}
-use Rattle.side_model.specs.Done.{course_powered}
-use Rattle.unit_course.specs.Lines.{log_of}
-use Rattle.run_moments.specs.Reached.{course_at}
-use Rattle.run_moments.proofs.Reached.{at-by}
-use Rattle.run_recorded.specs.Whole.{NothingFailed}
+use Rattle.note_model.specs.Done.{course_powered}
+use Rattle.run_unit_course.specs.Lines.{log_of}
+use Rattle.run_course.specs.Reached.{course_at}
+use Rattle.run_course.proofs.Reached.{at-by}
+use Rattle.run_promise.specs.Whole.{NothingFailed}
 use Rattle.run_acts.specs.Owed.{unlogged}
 
 -- ---- LINES pull none out

@@ -15,9 +15,9 @@ use Rattle.log_model.specs.declared.lines.Break.{Break}
 use Rattle.log_model.specs.Log.{RunLog, In, is_torn_in}
 use Rattle.log_model.specs.Slots.{refusal}
 use Rattle.log_model.specs.Course.{Told}
-use Rattle.side_model.specs.Odometer.{SpanFrom}
+use Rattle.note_model.specs.Odometer.{SpanFrom}
 use Rattle.safety_model.specs.Safe.{Devices}
-use Rattle.slot_machine.specs.Calls.{seat_in, card_in, logged}
+use Rattle.card_slots.specs.Calls.{seat_in, card_in, logged}
 use Rattle.run_crew.specs.declared.cabin.Cabin.{Cabin}
 use Rattle.run_crew.specs.declared.cards.Accepted.{Accepted}
 use Rattle.run_crew.specs.declared.cards.Cards.{Cards}
@@ -26,16 +26,16 @@ use Rattle.run_crew.specs.Cabin.{Stands}
 use Rattle.run_crew.proofs.Sessions.{session_set}
 use Rattle.run_outcome.specs.Lines.{Listed}
 use Rattle.run_outcome.specs.declared.outcome.Outcome.{Outcome}
-use Rattle.run_keeping.specs.declared.keeper.Moment.{Moment}
-use Rattle.run_keeping.specs.Keeping.{GoesOnFrom, SessionsGoOn, tear_of}
-use Rattle.run_keeping.specs.Minutes.{AreKept}
-use Rattle.run_keeping.proofs.Seats.{sessions-then}
-use Rattle.run_recorded.specs.Origin.{Origin}
-use Rattle.run_recorded.specs.Beside.{HaveLeftMore}
-use Rattle.run_ringed.specs.OnCards.{PlacesStay}
-use Rattle.run_ringed.specs.Ringed.{Seating, LeavesRings}
-use Rattle.run_ringed.specs.SoFar.{RingedBehind, AreFewer}
-use Rattle.run_ringed.specs.Steps.{nobody, spans_cut}
+use Rattle.run_minutes.specs.declared.keeper.Moment.{Moment}
+use Rattle.run_minutes.specs.Keeping.{GoesOnFrom, SessionsGoOn, tear_of}
+use Rattle.run_minutes.specs.Minutes.{AreKept}
+use Rattle.run_minutes.proofs.Seats.{sessions-then}
+use Rattle.run_promise.specs.Origin.{Origin}
+use Rattle.run_promise.specs.Beside.{HaveLeftMore}
+use Rattle.run_note_record.specs.OnCards.{PlacesStay}
+use Rattle.run_note_record.specs.Ringed.{Seating, LeavesRings}
+use Rattle.run_note_record.specs.RingsSoFar.{RingedBehind, AreFewer}
+use Rattle.run_note_record.specs.Steps.{nobody, spans_cut}
 use Rattle.run_acts.specs.declared.run.Run.{Run}
 use Rattle.run_acts.specs.Acting.{Closing, Bare, Closed, Fell, IsClosingOf, IsClosed, IsSettled, closed_cabin, closed_breaks, left_run, told_of}
 use Rattle.run_acts.specs.Recording.{log_of, values_of, RunWithin}

@@ -8,30 +8,30 @@ use Rattle.event_model.specs.declared.entries.Span.{Span}
 use Rattle.log_model.specs.declared.lines.Break.{Break}
 use Rattle.log_model.specs.Log.{RunLog, In, cut_in, found_in}
 use Rattle.log_model.specs.Course.{Told, Before, Went, went}
-use Rattle.side_model.specs.Odometer.{SpanFrom}
-use Rattle.side_model.specs.Noted.{Note}
+use Rattle.note_model.specs.Odometer.{SpanFrom}
+use Rattle.note_model.specs.Noted.{Note}
 use Rattle.safety_model.specs.Safe.{Devices}
-use Rattle.slot_machine.specs.Calls.{seat_in, card_in}
-use Rattle.unit_course.specs.Lines.{cut_at}
+use Rattle.card_slots.specs.Calls.{seat_in, card_in}
+use Rattle.run_unit_course.specs.Lines.{cut_at}
 use Rattle.run_outcome.specs.Lines.{Listed}
 use Rattle.run_outcome.specs.declared.outcome.Outcome.{Outcome}
-use Rattle.run_keeping.specs.declared.keeper.Moment.{Moment}
-use Rattle.run_keeping.specs.Keeping.{SessionsGoOn}
-use Rattle.run_keeping.proofs.Seats.{sessions-none, sessions-then}
+use Rattle.run_minutes.specs.declared.keeper.Moment.{Moment}
+use Rattle.run_minutes.specs.Keeping.{SessionsGoOn}
+use Rattle.run_minutes.proofs.Seats.{sessions-none, sessions-then}
 use Rattle.run_rings.specs.Notes.{notes_to, sits_accepted}
 use Rattle.run_rings.specs.Spans.{with_second}
 use Rattle.run_rings.proofs.Actions.{power-notes}
-use Rattle.run_recorded.specs.Origin.{Origin}
-use Rattle.run_recorded.specs.Beside.{HaveLeftMore}
-use Rattle.run_ringed.specs.Ringed.{Ringed, LeavesRings, notes_in, since_in}
-use Rattle.run_ringed.specs.SoFar.{RingedBehind, RingedIn, AreFewer, HasMoreBreaks, GoesBehind, notes_so_far}
-use Rattle.run_ringed.specs.Steps.{nobody, spans_cut}
-use Rattle.run_ringed.specs.OnCards.{PlacesStay}
+use Rattle.run_promise.specs.Origin.{Origin}
+use Rattle.run_promise.specs.Beside.{HaveLeftMore}
+use Rattle.run_note_record.specs.Ringed.{Ringed, LeavesRings, notes_in, since_in}
+use Rattle.run_note_record.specs.RingsSoFar.{RingedBehind, RingedIn, AreFewer, HasMoreBreaks, GoesBehind, notes_so_far}
+use Rattle.run_note_record.specs.Steps.{nobody, spans_cut}
+use Rattle.run_note_record.specs.OnCards.{PlacesStay}
 use Rattle.run_acts.specs.CardNotes.{LeavePlaces}
 use Rattle.run_acts.proofs.CardPlaces.{leave-stay}
-use Rattle.run_ringed.proofs.OnCards.{call-failed-more}
-use Rattle.run_ringed.proofs.Rings.{fewer-sit, rings-stay}
-use Rattle.run_ringed.proofs.SoFar.{failed-more, goes-alike, cut-ends}
+use Rattle.run_note_record.proofs.OnCards.{call-failed-more}
+use Rattle.run_note_record.proofs.Rings.{fewer-sit, rings-stay}
+use Rattle.run_note_record.proofs.SoFar.{failed-more, goes-alike, cut-ends}
 use Rattle.run_acts.specs.declared.run.Run.{Run}
 use Rattle.run_acts.specs.Acting.{IsNotedOn, IsNotedIn, now_moment, noted_run, noted_breaks}
 use Rattle.run_acts.specs.ActsEvented.{NoteLeaves}

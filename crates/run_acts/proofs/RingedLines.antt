@@ -12,20 +12,20 @@ use Rattle.trace_model.specs.declared.Card.TheVariants.{A, B}
 use Rattle.minute_model.specs.declared.Minute.{Minute}
 use Rattle.log_model.specs.declared.lines.Break.{Break}
 use Rattle.log_model.specs.Log.{RunLog, Phase, In, Keeping, same_phase, cut_in, phase_of, tears_here, is_torn_in, found_in}
-use Rattle.slot_machine.specs.declared.seats.Present.{Present}
-use Rattle.slot_machine.specs.declared.seats.Ended.{Ended}
-use Rattle.slot_machine.specs.Calls.{present_in}
+use Rattle.card_slots.specs.declared.seats.Present.{Present}
+use Rattle.card_slots.specs.declared.seats.Ended.{Ended}
+use Rattle.card_slots.specs.Calls.{present_in}
 use Rattle.run_course.specs.Moments.{and_break}
 use Rattle.run_course.proofs.Lookups.{break-more, torn-by}
 use Rattle.run_crew.specs.declared.cards.Accepted.{Accepted}
 use Rattle.run_crew.specs.declared.cards.Cards.{Cards}
 use Rattle.run_crew.specs.declared.cabin.Cabin.{Cabin}
 use Rattle.run_crew.specs.Cards.{session_of}
-use Rattle.run_keeping.specs.declared.keeper.Moment.{Moment}
-use Rattle.run_keeping.specs.Keeping.{Fate, Still, Has, Fell, cabin_by, breaks_by, tear_of, GoesOnFrom, SessionsGoOn}
-use Rattle.run_keeping.specs.Minutes.{Told, Round, AreKept, none, more, AreKeptUpTo, IsRound, minute_of, or_nobody, present_at, cabin_after, told_after}
-use Rattle.run_keeping.proofs.Seats.{sessions-none, sessions-then}
-use Rattle.run_keeping.proofs.Counts.{past-by}
+use Rattle.run_minutes.specs.declared.keeper.Moment.{Moment}
+use Rattle.run_minutes.specs.Keeping.{Fate, Still, Has, Fell, cabin_by, breaks_by, tear_of, GoesOnFrom, SessionsGoOn}
+use Rattle.run_minutes.specs.Minutes.{Told, Round, AreKept, none, more, AreKeptUpTo, IsRound, minute_of, or_nobody, present_at, cabin_after, told_after}
+use Rattle.run_minutes.proofs.Seats.{sessions-none, sessions-then}
+use Rattle.run_minutes.proofs.Counts.{past-by}
 use Rattle.run_acts.specs.Ringing.{seating_of}
 use Rattle.run_acts.proofs.RoundBroken.{round-on}
 

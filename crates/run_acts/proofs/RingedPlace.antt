@@ -21,37 +21,37 @@ use Rattle.log_model.specs.declared.lines.SlotFault.TheVariants.{NoCard}
 use Rattle.log_model.specs.Log.{RunLog, In}
 use Rattle.log_model.specs.Slots.{Sitting, in_slot, is_accepted, refusal, same_card}
 use Rattle.log_model.specs.Course.{Told}
-use Rattle.side_model.specs.Odometer.{SpanFrom, odometer_at}
-use Rattle.side_model.specs.Noted.{PlaceNote}
+use Rattle.note_model.specs.Odometer.{SpanFrom, odometer_at}
+use Rattle.note_model.specs.Noted.{PlaceNote}
 use Rattle.safety_model.specs.Recording.{card_image}
 use Rattle.safety_model.specs.Safe.{Devices, card_of}
-use Rattle.slot_machine.specs.declared.seats.Seat.{Seat}
-use Rattle.slot_machine.specs.Calls.{Seats, seat_in, card_in, sitting_of, logged}
+use Rattle.card_slots.specs.declared.seats.Seat.{Seat}
+use Rattle.card_slots.specs.Calls.{Seats, seat_in, card_in, sitting_of, logged}
 use Rattle.run_crew.specs.declared.cards.Accepted.{Accepted}
 use Rattle.run_crew.specs.declared.cards.Cards.{Cards}
 use Rattle.run_crew.specs.declared.cards.Known.{Known}
 use Rattle.run_crew.specs.declared.cabin.Cabin.{Cabin}
 use Rattle.run_crew.specs.Cards.{known_of, session_of, accepted_number, IsKnown}
 use Rattle.run_crew.specs.Cabin.{Stands, AnswersTo, SeatAnswers, number_of_seat}
-use Rattle.run_notes.specs.Entries.{number_or_no_card}
+use Rattle.run_events.specs.Entries.{number_or_no_card}
 use Rattle.run_outcome.specs.Lines.{Listed}
 use Rattle.run_outcome.specs.declared.outcome.Outcome.{Outcome}
 use Rattle.run_rings.specs.Spans.{with_second}
-use Rattle.run_keeping.specs.declared.keeper.Moment.{Moment}
-use Rattle.run_keeping.specs.Keeping.{with_lines}
-use Rattle.run_recorded.specs.Origin.{Origin}
-use Rattle.run_recorded.specs.Beside.{HaveLeftMore}
-use Rattle.run_ringed.specs.Ringed.{IsPlaceIn, holder_in}
-use Rattle.run_ringed.specs.SoFar.{RingedBehind, RingedIn, AreFewer}
-use Rattle.run_ringed.specs.Steps.{nobody, spans_cut}
-use Rattle.run_ringed.specs.OnCards.{has_call_failed_in, IsPlaceOn, PlaceIsTaken}
-use Rattle.run_ringed.proofs.OnCards.{call-failed, call-failed-more}
-use Rattle.run_ringed.proofs.Bytes.{IsPlaceTold, place-is}
-use Rattle.run_ringed.proofs.Steps.{place-entered, place-is-cut}
-use Rattle.run_within.specs.Recorded.{Values}
-use Rattle.run_within.specs.Within.{course_in}
-use Rattle.run_within.proofs.Pulling.{sitting-now}
-use Rattle.run_within.proofs.Seats.{answers-in}
+use Rattle.run_minutes.specs.declared.keeper.Moment.{Moment}
+use Rattle.run_minutes.specs.Keeping.{with_lines}
+use Rattle.run_promise.specs.Origin.{Origin}
+use Rattle.run_promise.specs.Beside.{HaveLeftMore}
+use Rattle.run_note_record.specs.Ringed.{IsPlaceIn, holder_in}
+use Rattle.run_note_record.specs.RingsSoFar.{RingedBehind, RingedIn, AreFewer}
+use Rattle.run_note_record.specs.Steps.{nobody, spans_cut}
+use Rattle.run_note_record.specs.OnCards.{has_call_failed_in, IsPlaceOn, PlaceIsTaken}
+use Rattle.run_note_record.proofs.OnCards.{call-failed, call-failed-more}
+use Rattle.run_note_record.proofs.Bytes.{IsPlaceTold, place-is}
+use Rattle.run_note_record.proofs.RingSteps.{place-entered, place-is-cut}
+use Rattle.run_record.specs.Recorded.{Values}
+use Rattle.run_record.specs.Within.{course_in}
+use Rattle.run_record.proofs.Pulling.{sitting-now}
+use Rattle.run_record.proofs.Seats.{answers-in}
 use Rattle.run_acts.specs.declared.run.Run.{Run}
 use Rattle.run_acts.specs.Acting.{IsNotedOn, noted_run, noted_breaks}
 use Rattle.run_acts.specs.Devices.{AreLeftMore}
@@ -61,7 +61,7 @@ use Rattle.run_acts.specs.RunCards.{sizes_in}
 use Rattle.run_acts.specs.RunRinged.{seats_of, IsLastFrom, RingsWithin, with_cut, RingsGoOn, RingsPlace}
 use Rattle.run_acts.specs.Ringing.{IsPlaceNow, WritesPlace}
 use Rattle.run_acts.proofs.Cabins.{session-known, noted-sessions}
-use Rattle.unit_course.specs.Lines.{cut_at}
+use Rattle.run_unit_course.specs.Lines.{cut_at}
 use Rattle.run_acts.proofs.CardStays.{session-sizes}
 use Rattle.run_acts.proofs.CardPlaces.{PlaceCall, entry-wide, place-taken, tear-failed}
 use Rattle.run_acts.proofs.FallEvented.{known}

@@ -21,16 +21,16 @@ use Rattle.log_model.specs.Log.{RunLog, Phase, In, same_phase, cut_in, is_torn_i
 use Rattle.log_model.specs.Slots.{Sitting, in_slot}
 use Rattle.log_model.specs.Course.{Told, Before, Visit, Course, begins, has_power, all_acted, went}
 use Rattle.log_model.specs.Spans.{seconds_in, spans_of}
-use Rattle.event_course.proofs.Failing.{failed-here}
-use Rattle.side_model.specs.Done.{course_powered, has_failed_in}
-use Rattle.side_model.specs.Odometer.{SpanFrom, odometer_at}
-use Rattle.unit_course.specs.Lines.{cut_at}
-use Rattle.unit_course.specs.Followed.{Lit as IsLit, as_spans}
-use Rattle.unit_course.specs.Turn.{begins_with, span_at}
+use Rattle.unit_events.proofs.Failing.{failed-here}
+use Rattle.note_model.specs.Done.{course_powered, has_failed_in}
+use Rattle.note_model.specs.Odometer.{SpanFrom, odometer_at}
+use Rattle.run_unit_course.specs.Lines.{cut_at}
+use Rattle.run_unit_course.specs.Followed.{Lit as IsLit, as_spans}
+use Rattle.run_unit_course.specs.Turn.{begins_with, span_at}
 use Rattle.safety_model.specs.Safe.{Devices, card_of}
-use Rattle.slot_machine.specs.declared.seats.Seat.{Seat}
-use Rattle.slot_machine.specs.Kept.{Kept as SlotsKept}
-use Rattle.slot_machine.specs.Calls.{card_in}
+use Rattle.card_slots.specs.declared.seats.Seat.{Seat}
+use Rattle.card_slots.specs.Kept.{Kept as SlotsKept}
+use Rattle.card_slots.specs.Calls.{card_in}
 use Rattle.history_model.specs.Presence.{Start}
 use Rattle.history_model.specs.Minutes.{HistoryMinute}
 use Rattle.run_crew.specs.declared.cards.Accepted.{Accepted}
@@ -45,21 +45,21 @@ use Rattle.run_course.proofs.Lookups.{break-more}
 use Rattle.run_course.proofs.Moments.{later-lines}
 use Rattle.run_course.proofs.Steps.{with-supply, went-same_}
 use Rattle.run_course.proofs.Told.{lit-power, lit-starts}
-use Rattle.run_moments.specs.Kept.{settled_times}
-use Rattle.run_moments.proofs.Reached.{at-by}
-use Rattle.run_rule.specs.Found.{found_of}
-use Rattle.run_keeping.specs.Keeping.{HasLeftMore}
+use Rattle.run_course.specs.Kept.{settled_times}
+use Rattle.run_course.proofs.Reached.{at-by}
+use Rattle.run_promise.specs.Found.{found_of}
+use Rattle.run_minutes.specs.Keeping.{HasLeftMore}
 use Rattle.run_rings.specs.Notes.{course_behind}
 use Rattle.run_rings.specs.Spans.{go_on_from, with_second, odometer_on, AreAllBefore}
 use Rattle.run_rings.proofs.Spans.{odometer-now}
-use Rattle.run_recorded.specs.Origin.{Origin, rule_of, start_at, first_of}
-use Rattle.run_recorded.specs.Beside.{HaveLeftMore}
-use Rattle.run_evented.proofs.Lines.{same-before}
-use Rattle.run_ringed.specs.Ringed.{Seating}
-use Rattle.run_ringed.specs.SoFar.{GoesBehind, RingedIn, HasMoreBreaks}
-use Rattle.run_ringed.specs.Steps.{GoesOnTo, IsCutIn}
-use Rattle.run_within.specs.Recorded.{Values}
-use Rattle.run_within.specs.Within.{Within, course_in}
+use Rattle.run_promise.specs.Origin.{Origin, rule_of, start_at, first_of}
+use Rattle.run_promise.specs.Beside.{HaveLeftMore}
+use Rattle.run_note_record.proofs.Lines.{same-before}
+use Rattle.run_note_record.specs.Ringed.{Seating}
+use Rattle.run_note_record.specs.RingsSoFar.{GoesBehind, RingedIn, HasMoreBreaks}
+use Rattle.run_note_record.specs.Steps.{GoesOnTo, IsCutIn}
+use Rattle.run_record.specs.Recorded.{Values}
+use Rattle.run_record.specs.Within.{Within, course_in}
 use Rattle.run_acts.specs.Devices.{AreLeftMore}
 use Rattle.run_acts.specs.RunRinged.{IsLastFrom, with_cut}
 use Rattle.run_acts.proofs.RingedLines.{AreTears, TellsBeside, tears-beside}

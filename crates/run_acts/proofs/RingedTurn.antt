@@ -15,32 +15,32 @@ use Rattle.log_model.specs.Log.{RunLog, In, Keeping, cut_in}
 use Rattle.log_model.specs.Same.{SameAt}
 use Rattle.log_model.specs.Course.{Told, Before, Went, begins, has_power, went, second_told}
 use Rattle.log_model.proofs.Growth.{went-more}
-use Rattle.side_model.specs.Odometer.{SpanFrom}
+use Rattle.note_model.specs.Odometer.{SpanFrom}
 use Rattle.safety_model.specs.Safe.{Devices}
-use Rattle.unit_course.specs.Lines.{cut_at}
+use Rattle.run_unit_course.specs.Lines.{cut_at}
 use Rattle.run_course.specs.Moments.{and_break}
 use Rattle.run_course.specs.Followed.{IsGoing, IsLost as HasLost}
 use Rattle.run_course.proofs.Told.{IsLitAs, lit-told, dark-told, lit-power, lost-dark, next-dark}
 use Rattle.run_crew.specs.declared.cards.Accepted.{Accepted}
 use Rattle.run_outcome.specs.declared.outcome.Outcome.{Outcome}
-use Rattle.run_keeping.specs.declared.keeper.Moment.{Moment}
-use Rattle.run_keeping.specs.Keeping.{SessionsGoOn}
-use Rattle.run_keeping.specs.Books.{HaveTime}
+use Rattle.run_minutes.specs.declared.keeper.Moment.{Moment}
+use Rattle.run_minutes.specs.Keeping.{SessionsGoOn}
+use Rattle.run_minutes.specs.Books.{HaveTime}
 use Rattle.run_rings.specs.Notes.{TellSameTo}
 use Rattle.run_rings.specs.Spans.{with_second}
-use Rattle.run_recorded.specs.Origin.{Origin, first_of}
-use Rattle.run_recorded.specs.Beside.{HaveLeftMore}
-use Rattle.run_ringed.specs.Ringed.{Seating, LeavesRings, notes_in, since_behind}
-use Rattle.run_ringed.specs.SoFar.{RingedBehind, RingedIn, IsSecond, AreFewer, HasMoreBreaks, GoesBehind}
-use Rattle.run_ringed.specs.Steps.{nobody, spans_cut}
-use Rattle.run_ringed.specs.Stored.{StoresOn, StoresOff, Stores}
-use Rattle.run_ringed.proofs.Bases.{stored-later, stored-next, stored-alike}
-use Rattle.run_ringed.proofs.Rings.{fewer-sit}
-use Rattle.run_ringed.proofs.SoFar.{second-begins, go-on-in, second-ends, dark-ends}
-use Rattle.run_within.specs.Recorded.{Values}
-use Rattle.run_within.specs.Within.{Beginning, Within, CutWithin}
-use Rattle.run_within.specs.Turning.{last_of, before_last, BehindFirst, IsTurned}
-use Rattle.run_within.proofs.Turning.{turn-ends}
+use Rattle.run_promise.specs.Origin.{Origin, first_of}
+use Rattle.run_promise.specs.Beside.{HaveLeftMore}
+use Rattle.run_note_record.specs.Ringed.{Seating, LeavesRings, notes_in, since_behind}
+use Rattle.run_note_record.specs.RingsSoFar.{RingedBehind, RingedIn, IsSecond, AreFewer, HasMoreBreaks, GoesBehind}
+use Rattle.run_note_record.specs.Steps.{nobody, spans_cut}
+use Rattle.run_note_record.specs.Stored.{StoresOn, StoresOff, Stores}
+use Rattle.run_note_record.proofs.Bases.{stored-later, stored-next, stored-alike}
+use Rattle.run_note_record.proofs.Rings.{fewer-sit}
+use Rattle.run_note_record.proofs.SoFar.{second-begins, go-on-in, second-ends, dark-ends}
+use Rattle.run_record.specs.Recorded.{Values}
+use Rattle.run_record.specs.Within.{Beginning, Within, CutWithin}
+use Rattle.run_record.specs.Turning.{last_of, before_last, BehindFirst, IsTurned}
+use Rattle.run_record.proofs.Turning.{turn-ends}
 use Rattle.run_acts.specs.declared.run.Run.{Run}
 use Rattle.run_acts.specs.declared.run.Power.{Power}
 use Rattle.run_acts.specs.declared.run.Power.TheVariants.{Lit, Lost}
@@ -51,7 +51,7 @@ use Rattle.run_acts.specs.Rounds.{told_values}
 use Rattle.run_acts.specs.Recording.{log_of, values_of, IsNow, RunWithin, RunCut}
 use Rattle.run_acts.specs.RunRinged.{seats_of, IsLastFrom, RingsWithin, TurnedRings}
 use Rattle.run_acts.specs.Turning.{late_moment, told_of, cut_where, cut_breaks, IsLitTurn}
-use Rattle.run_ringed.specs.OnCards.{PlacesStay}
+use Rattle.run_note_record.specs.OnCards.{PlacesStay}
 use Rattle.run_acts.proofs.CardPlaces.{timed-places}
 use Rattle.run_acts.proofs.TurnRecorded.{last-actions, last-number, turned, fails-last, timed-last}
 use Rattle.run_acts.proofs.StoredRun.{found-first, cut-stored}

@@ -19,9 +19,9 @@ use Rattle.log_model.specs.declared.lines.SlotFault.TheVariants.{Moving, Empty}
 use Rattle.log_model.specs.Log.{RunLog, In, cut_in, is_torn_in}
 use Rattle.log_model.specs.Slots.{Sitting, same_card, in_slot, refusal}
 use Rattle.log_model.specs.Course.{Told, Before, begins, went}
-use Rattle.side_model.specs.Odometer.{SpanFrom, odometer_at}
+use Rattle.note_model.specs.Odometer.{SpanFrom, odometer_at}
 use Rattle.safety_model.specs.Safe.{Devices}
-use Rattle.slot_machine.specs.Calls.{seat_in, card_in, logged}
+use Rattle.card_slots.specs.Calls.{seat_in, card_in, logged}
 use Rattle.run_crew.specs.declared.cards.Accepted.{Accepted}
 use Rattle.run_crew.specs.Cards.{session_of}
 use Rattle.run_crew.specs.Cabin.{Stands}
@@ -30,17 +30,17 @@ use Rattle.run_rings.specs.Notes.{NotesMore, course_behind}
 use Rattle.run_rings.specs.Spans.{with_second}
 use Rattle.run_rings.proofs.Actions.{withdrawals}
 use Rattle.run_rings.proofs.Same.{same-rings}
-use Rattle.run_recorded.specs.Origin.{Origin, start_at}
-use Rattle.run_recorded.specs.Beside.{HaveLeftMore}
-use Rattle.run_ringed.specs.Ringed.{Seating, LeavesRings, WritesRing, MayBeWithdrawn}
-use Rattle.run_ringed.specs.SoFar.{RingedBehind, RingedIn, AreFewer}
-use Rattle.run_ringed.specs.Steps.{GoesOnTo, IsCutIn, nobody, spans_cut}
-use Rattle.run_ringed.specs.OnCards.{PlacesStay}
-use Rattle.run_ringed.proofs.Steps.{passes, action-cut, card-withdrawn, withdrawal-is-cut}
-use Rattle.run_within.specs.Recorded.{Values}
-use Rattle.run_within.specs.Within.{told_before, course_in}
-use Rattle.run_within.proofs.Pulling.{sitting-now}
-use Rattle.run_within.proofs.Seats.{this-or, seat-tells, answers-in}
+use Rattle.run_promise.specs.Origin.{Origin, start_at}
+use Rattle.run_promise.specs.Beside.{HaveLeftMore}
+use Rattle.run_note_record.specs.Ringed.{Seating, LeavesRings, WritesRing, MayBeWithdrawn}
+use Rattle.run_note_record.specs.RingsSoFar.{RingedBehind, RingedIn, AreFewer}
+use Rattle.run_note_record.specs.Steps.{GoesOnTo, IsCutIn, nobody, spans_cut}
+use Rattle.run_note_record.specs.OnCards.{PlacesStay}
+use Rattle.run_note_record.proofs.RingSteps.{passes, action-cut, card-withdrawn, withdrawal-is-cut}
+use Rattle.run_record.specs.Recorded.{Values}
+use Rattle.run_record.specs.Within.{told_before, course_in}
+use Rattle.run_record.proofs.Pulling.{sitting-now}
+use Rattle.run_record.proofs.Seats.{this-or, seat-tells, answers-in}
 use Rattle.run_acts.specs.declared.run.Run.{Run}
 use Rattle.run_acts.specs.Recording.{log_of, values_of, RunWithin}
 use Rattle.run_acts.specs.RunRinged.{seats_of, IsLastFrom, RingsWithin, with_cut}

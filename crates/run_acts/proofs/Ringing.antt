@@ -10,19 +10,19 @@ use Rattle.minute_model.specs.declared.Minute.{Minute}
 use Rattle.unit_notes.specs.declared.unit_event.UnitEvent.{UnitEvent}
 use Rattle.unit_notes.specs.Noting.{IsEventNoted, IsNotingEvent, IsOverNoted, IsNotingOver, IsWithdrawn, IsWithdrawing, with_first, with_one_more}
 use Rattle.event_model.specs.declared.kinds.TheConstants.{OVER_SPEEDING, DRIVING_WITHOUT_CARD}
-use Rattle.event_notes.proofs.Frames.{first-outside, more-outside}
+use Rattle.unit_events.proofs.NoteFrames.{first-outside, more-outside}
 use Rattle.unit_model.specs.Image.{IsUnit}
 use Rattle.run_crew.specs.declared.cards.Accepted.{Accepted}
-use Rattle.run_notes.specs.declared.watch.Ended.{Ended}
-use Rattle.run_notes.specs.Noting.{IsBareNoted, IsNotingBare, IsFastNoted, IsNotingFast, AreNoted, AreBeingNoted}
-use Rattle.run_notes.specs.Watching.{BareWith, OverWith, bare_ended, over_ended}
+use Rattle.run_events.specs.declared.watch.Ended.{Ended}
+use Rattle.run_events.specs.Noting.{IsBareNoted, IsNotingBare, IsFastNoted, IsNotingFast, AreNoted, AreBeingNoted}
+use Rattle.run_events.specs.Watching.{BareWith, OverWith, bare_ended, over_ended}
 use Rattle.run_outcome.specs.declared.outcome.Outcome.{Outcome}
 use Rattle.run_rings.proofs.Same.{same-rings, then-same, outside-both, table-outside, rings-then}
-use Rattle.run_ringed.specs.Ringed.{HasSameRings, LeavesRings, WritesImages, Seating, MayBeAdded, IsWithdrawnAt, MayBeWithdrawn}
-use Rattle.run_told.proofs.Parts.{told-one}
-use Rattle.run_keeping.specs.declared.keeper.Moment.{Moment}
-use Rattle.run_keeping.specs.Faults.{faults_to}
-use Rattle.run_keeping.proofs.Faults.{tells-rings, faults-leave}
+use Rattle.run_note_record.specs.Ringed.{HasSameRings, LeavesRings, WritesImages, Seating, MayBeAdded, IsWithdrawnAt, MayBeWithdrawn}
+use Rattle.run_devices.proofs.Parts.{told-one}
+use Rattle.run_minutes.specs.declared.keeper.Moment.{Moment}
+use Rattle.run_minutes.specs.Faults.{faults_to}
+use Rattle.run_minutes.proofs.Faults.{tells-rings, faults-leave}
 use Rattle.run_acts.specs.declared.run.Run.{Run}
 use Rattle.run_acts.specs.Turning.{late_moment, told_of}
 use Rattle.run_acts.specs.Faults.{NotesSettling, EndsTo, NotesKeeping, NotesTurn}

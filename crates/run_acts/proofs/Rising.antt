@@ -9,11 +9,11 @@ use Rattle.log_model.specs.Causes.{device_of, RoseBy}
 use Rattle.safety_model.specs.Safe.{Devices, breakdowns_of}
 use Rattle.run_crew.specs.declared.cards.Cards.{Cards}
 use Rattle.run_crew.specs.Cards.{session_of}
-use Rattle.run_rule.specs.Between.{devices}
-use Rattle.run_told.specs.Told.{arranged}
-use Rattle.run_moments.specs.Telling.{IsMore, BrokeDown}
-use Rattle.run_keeping.specs.Keeping.{tears_of}
-use Rattle.run_keeping.specs.Later.{RestBy}
+use Rattle.run_promise.specs.Between.{devices}
+use Rattle.run_devices.specs.Told.{arranged}
+use Rattle.run_course.specs.Telling.{IsMore, BrokeDown}
+use Rattle.run_minutes.specs.Keeping.{tears_of}
+use Rattle.run_minutes.specs.Later.{RestBy}
 use Rattle.run_acts.specs.Rounds.{StandsOrFell}
 
 -- ---- a call on the unit alone

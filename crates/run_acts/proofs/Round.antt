@@ -18,10 +18,10 @@ use Rattle.log_model.specs.Course.{Told as Seconds, Course, Visit}
 use Rattle.history_model.specs.Minutes.{HistoryMinute, Seat as HistorySeat, is_crew, entry_in, on_card}
 use Rattle.history_model.specs.History.{seated}
 use Rattle.history_model.specs.Completeness.{IsMarked}
-use Rattle.joint_rule.specs.Rules.{Standing}
-use Rattle.slot_machine.specs.declared.seats.Present.{Present}
-use Rattle.slot_machine.specs.declared.seats.Ended.{Ended}
-use Rattle.slot_machine.specs.Calls.{present_in}
+use Rattle.device_rule.specs.Rules.{Standing}
+use Rattle.card_slots.specs.declared.seats.Present.{Present}
+use Rattle.card_slots.specs.declared.seats.Ended.{Ended}
+use Rattle.card_slots.specs.Calls.{present_in}
 use Rattle.run_crew.specs.declared.cards.Accepted.{Accepted}
 use Rattle.run_crew.specs.declared.cabin.Cabin.{Cabin}
 use Rattle.run_crew.specs.Cards.{session_of}
@@ -29,20 +29,20 @@ use Rattle.run_crew.specs.Cabin.{AreTwo}
 use Rattle.run_crew.proofs.Sessions.{same_is, session_apart}
 use Rattle.run_course.specs.Presence.{present_at as present_by}
 use Rattle.run_course.proofs.Presence.{minutes-kept}
-use Rattle.run_moments.specs.Kept.{BrokenSince, StaysOut, AreMarkedSoFar}
-use Rattle.run_moments.proofs.Kept.{one-marked, marks-stay}
-use Rattle.run_present.specs.Presence.{StandsIn, IsIn}
-use Rattle.run_present.proofs.Presence.{step-leaves}
-use Rattle.run_recorded.specs.Origin.{Origin, start_at}
-use Rattle.run_keeping.specs.declared.keeper.Keeper.{Keeper}
-use Rattle.run_keeping.specs.Keeping.{Fate, Still, Has, Fell, is_this, cabin_by, breaks_by, marks_by, session_at, kept_in, IsFateOf}
-use Rattle.run_keeping.specs.Minutes.{Round, IsRound, Told, cabin_after, unit_mark, or_nobody, present_at, minute_of}
-use Rattle.run_keeping.specs.Books.{standing_by, fate_of}
-use Rattle.run_keeping.specs.Decided.{decided_minute}
-use Rattle.run_keeping.proofs.Counts.{past-by}
-use Rattle.run_within.specs.Within.{Beginning, told_before, course_in}
+use Rattle.run_course.specs.Kept.{BrokenSince, StaysOut, AreMarkedSoFar}
+use Rattle.run_course.proofs.Kept.{one-marked, marks-stay}
+use Rattle.run_devices.specs.Presence.{StandsIn, IsIn}
+use Rattle.run_devices.proofs.Presence.{step-leaves}
+use Rattle.run_promise.specs.Origin.{Origin, start_at}
+use Rattle.run_minutes.specs.declared.keeper.Keeper.{Keeper}
+use Rattle.run_minutes.specs.Keeping.{Fate, Still, Has, Fell, is_this, cabin_by, breaks_by, marks_by, session_at, kept_in, IsFateOf}
+use Rattle.run_minutes.specs.Minutes.{Round, IsRound, Told, cabin_after, unit_mark, or_nobody, present_at, minute_of}
+use Rattle.run_minutes.specs.Books.{standing_by, fate_of}
+use Rattle.run_minutes.specs.Decided.{decided_minute}
+use Rattle.run_minutes.proofs.Counts.{past-by}
+use Rattle.run_record.specs.Within.{Beginning, told_before, course_in}
 use Rattle.run_acts.specs.Rounds.{Point, Outset, moment_of, standing_card, and_breaks, Slate, OnlyTears, HasBrokenDown}
-use Rattle.run_within.proofs.Seats.{no-both}
+use Rattle.run_record.proofs.Seats.{no-both}
 use Rattle.run_acts.proofs.RoundFates.{fate-behind, Behind}
 
 ext : (f g : Card → Standing) → ((c : Card) → f c ≡ g c) → f ≡ g

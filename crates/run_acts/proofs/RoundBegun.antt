@@ -12,29 +12,29 @@ use Rattle.log_model.specs.Course.{Told as Second, Course, went}
 use Rattle.history_model.specs.Minutes.{HistoryMinute, on_card}
 use Rattle.history_model.specs.History.{decided_of}
 use Rattle.card_image.specs.Own.{IsOwnValid}
-use Rattle.joint_rule.specs.Rules.{Standing, In, IsPresent}
-use Rattle.unit_course.specs.Turn.{begins_with}
+use Rattle.device_rule.specs.Rules.{Standing, In, IsPresent}
+use Rattle.run_unit_course.specs.Turn.{begins_with}
 use Rattle.safety_model.specs.Safe.{Devices, card_of, breakdowns_of}
 use Rattle.tach_media.specs.Medium.{State}
-use Rattle.slot_machine.specs.declared.seats.Present.{Present}
-use Rattle.slot_machine.specs.Calls.{present_in}
+use Rattle.card_slots.specs.declared.seats.Present.{Present}
+use Rattle.card_slots.specs.Calls.{present_in}
 use Rattle.run_crew.specs.declared.cards.Accepted.{Accepted}
-use Rattle.run_rule.specs.Found.{CardFound, found_of}
+use Rattle.run_promise.specs.Found.{CardFound, found_of}
 use Rattle.run_course.specs.Followed.{Progress, Followed}
 use Rattle.run_course.specs.Seconds.{GoesOnBy, AreNew, next_told}
 use Rattle.run_course.proofs.New.{are-new}
-use Rattle.run_moments.specs.Moment.{goes_on}
-use Rattle.run_moments.specs.Telling.{told_with}
-use Rattle.run_moments.proofs.Telling.{second-ends_told}
-use Rattle.run_moments.proofs.Kept.{second-decided}
-use Rattle.run_present.specs.Presence.{SessionsStand}
-use Rattle.run_present.proofs.Presence.{minute-says}
-use Rattle.run_told.specs.Told.{GoesWith}
-use Rattle.run_recorded.specs.Origin.{Origin, rule_of, start_at, first_of}
-use Rattle.run_keeping.specs.Minutes.{Told, or_nobody, present_at}
-use Rattle.run_keeping.specs.Decided.{MayBookAll, decided_minute}
-use Rattle.run_within.specs.Recorded.{Values}
-use Rattle.run_within.specs.Within.{told_before, course_in}
+use Rattle.run_course.specs.Moment.{goes_on}
+use Rattle.run_course.specs.Telling.{told_with}
+use Rattle.run_course.proofs.Telling.{second-ends_told}
+use Rattle.run_course.proofs.Kept.{second-decided}
+use Rattle.run_devices.specs.Presence.{SessionsStand}
+use Rattle.run_devices.proofs.Presence.{minute-says}
+use Rattle.run_devices.specs.Told.{GoesWith}
+use Rattle.run_promise.specs.Origin.{Origin, rule_of, start_at, first_of}
+use Rattle.run_minutes.specs.Minutes.{Told, or_nobody, present_at}
+use Rattle.run_minutes.specs.Decided.{MayBookAll, decided_minute}
+use Rattle.run_record.specs.Recorded.{Values}
+use Rattle.run_record.specs.Within.{told_before, course_in}
 use Rattle.run_acts.specs.Rounds.{Point, Outset, told_values, keeping_of, SoFar}
 use Rattle.run_acts.specs.RoundLaws.{InRounds, carried_at, KeepsSo}
 

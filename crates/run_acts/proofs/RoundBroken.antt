@@ -7,17 +7,17 @@ use Rattle.run_model.specs.declared.Device.{Device}
 use Rattle.log_model.specs.Causes.{device_of, RoseBy}
 use Rattle.minute_model.specs.declared.Minute.{Minute}
 use Rattle.card_session.specs.declared.session.Kept.{Kept}
-use Rattle.slot_machine.specs.declared.seats.Present.{Present}
+use Rattle.card_slots.specs.declared.seats.Present.{Present}
 use Rattle.run_crew.specs.declared.cards.Accepted.{Accepted}
 use Rattle.run_crew.specs.declared.cards.Cards.{Cards}
 use Rattle.run_crew.specs.declared.cabin.Cabin.{Cabin}
 use Rattle.run_crew.specs.Cards.{session_of}
 use Rattle.run_crew.proofs.Sessions.{session_set}
-use Rattle.run_keeping.specs.declared.keeper.Keeper.{Keeper}
-use Rattle.run_keeping.specs.declared.keeper.Moment.{Moment}
-use Rattle.run_keeping.specs.Keeping.{Fate, Still, Has, Fell, cabin_by, session_at, kept_in, IsFateOf, GoesOnFrom, SessionsGoOn}
-use Rattle.run_keeping.specs.Minutes.{Round, IsRound, Told, Done, AreRounds, told_after, told_by, present_at, minute_of}
-use Rattle.run_keeping.proofs.Seats.{sessions-none, sessions-then, brought-sessions}
+use Rattle.run_minutes.specs.declared.keeper.Keeper.{Keeper}
+use Rattle.run_minutes.specs.declared.keeper.Moment.{Moment}
+use Rattle.run_minutes.specs.Keeping.{Fate, Still, Has, Fell, cabin_by, session_at, kept_in, IsFateOf, GoesOnFrom, SessionsGoOn}
+use Rattle.run_minutes.specs.Minutes.{Round, IsRound, Told, Done, AreRounds, told_after, told_by, present_at, minute_of}
+use Rattle.run_minutes.proofs.Seats.{sessions-none, sessions-then, brought-sessions}
 use Rattle.run_acts.specs.Rounds.{HasBrokenDown, HaveBroken}
 use Rattle.run_acts.specs.RoundLaws.{HasBrokenLast, AreGone}
 

@@ -11,24 +11,24 @@ use Rattle.log_model.specs.Course.{Course}
 use Rattle.history_model.specs.Minutes.{HistoryMinute}
 use Rattle.history_model.specs.History.{seated}
 use Rattle.history_model.specs.Book.{Book, kept, broken}
-use Rattle.unit_course.specs.Legs.{Travel, travelled, stranded, all_travelled, stranded_at}
+use Rattle.run_unit_course.specs.Legs.{Travel, travelled, stranded, all_travelled, stranded_at}
 use Rattle.unit_model.specs.Image.{odometer_at}
 use Rattle.unit_rule.specs.Odometer.{HasTravelled}
 use Rattle.safety_model.specs.Safe.{Devices, breakdowns_of}
-use Rattle.run_rule.specs.Between.{Carried}
+use Rattle.run_promise.specs.Between.{Carried}
 use Rattle.run_course.specs.Seconds.{kept_all, broken_at}
-use Rattle.run_moments.proofs.Kept.{one-travelled}
-use Rattle.run_told.specs.Told.{IsPowerless, AreEarly}
-use Rattle.run_recorded.specs.Origin.{Origin, start_at}
-use Rattle.run_keeping.specs.Minutes.{Round, Told, Done, AreRounds, IsLast, told_by, told_after, present_at}
-use Rattle.run_keeping.specs.Books.{carried_after, carried_broken}
-use Rattle.run_keeping.specs.Decided.{carried_by, decided_minute}
-use Rattle.run_keeping.proofs.MarksBooked.{marks-by, marks-one}
-use Rattle.run_within.specs.Recorded.{Values, carried}
-use Rattle.run_within.specs.Within.{told_before, course_in, CutWithin, lost_minute}
+use Rattle.run_course.proofs.Kept.{one-travelled}
+use Rattle.run_devices.specs.Told.{IsPowerless, AreEarly}
+use Rattle.run_promise.specs.Origin.{Origin, start_at}
+use Rattle.run_minutes.specs.Minutes.{Round, Told, Done, AreRounds, IsLast, told_by, told_after, present_at}
+use Rattle.run_minutes.specs.Books.{carried_after, carried_broken}
+use Rattle.run_minutes.specs.Decided.{carried_by, decided_minute}
+use Rattle.run_minutes.proofs.MarksBooked.{marks-by, marks-one}
+use Rattle.run_record.specs.Recorded.{Values, carried}
+use Rattle.run_record.specs.Within.{told_before, course_in, CutWithin, lost_minute}
 use Rattle.run_acts.specs.Rounds.{Point, told_values, moment_of, HaveBroken, Slate, SoFar}
 use Rattle.run_acts.specs.RoundLaws.{InRounds, carried_at, KeepsSo, travelled_at, HasBrokenLast, TheKeepingFails}
-use Rattle.run_keeping.specs.Later.{RestBy}
+use Rattle.run_minutes.specs.Later.{RestBy}
 use Rattle.run_acts.proofs.Rising.{fell-more}
 use Rattle.run_acts.proofs.RoundReached.{Through, one-on, first-number}
 use Rattle.run_acts.proofs.Round.{minute-is}

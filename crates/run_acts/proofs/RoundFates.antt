@@ -17,41 +17,41 @@ use Rattle.log_model.specs.Course.{Told, Course, Visit, Before, visits, card_in,
 use Rattle.history_model.specs.Minutes.{HistoryMinute}
 use Rattle.card_image.specs.Own.{IsOwnValid}
 use Rattle.card_session.specs.declared.session.Kept.{Kept}
-use Rattle.joint_rule.specs.Rules.{Standing, In}
-use Rattle.slot_machine.specs.declared.seats.Seat.{Seat}
-use Rattle.slot_machine.specs.declared.seats.Present.{Present}
-use Rattle.slot_machine.specs.Calls.{seat_in, is_card, present_in}
-use Rattle.slot_machine.specs.Kept.{Kept as Slate_, SitsSince, SitStill, with_left, left_of, taken}
-use Rattle.slot_machine.proofs.Newest.{found_sits}
+use Rattle.device_rule.specs.Rules.{Standing, In}
+use Rattle.card_slots.specs.declared.seats.Seat.{Seat}
+use Rattle.card_slots.specs.declared.seats.Present.{Present}
+use Rattle.card_slots.specs.Calls.{seat_in, is_card, present_in}
+use Rattle.card_slots.specs.Kept.{Kept as Slate_, SitsSince, SitStill, with_left, left_of, taken}
+use Rattle.card_slots.proofs.Newest.{found_sits}
 use Rattle.run_crew.specs.declared.cards.Accepted.{Accepted}
 use Rattle.run_crew.specs.declared.cards.Cards.{Cards}
 use Rattle.run_crew.specs.declared.cabin.Cabin.{Cabin}
 use Rattle.run_crew.specs.Cards.{session_of, with_session}
 use Rattle.run_crew.specs.Cabin.{SitsNowhere, left_from, torn_out}
 use Rattle.run_crew.proofs.Sessions.{same_self, same_is, session_set, session_apart}
-use Rattle.run_rule.specs.Found.{found_of}
+use Rattle.run_promise.specs.Found.{found_of}
 use Rattle.run_course.specs.Moments.{and_break}
 use Rattle.run_course.specs.Presence.{SlotsTell}
 use Rattle.run_course.specs.Within.{IsTornFrom}
 use Rattle.run_course.proofs.Within.{tear-tells}
-use Rattle.run_moments.specs.Reached.{moved_at, IsTearAt}
-use Rattle.run_moments.specs.Lines.{IsTornAt}
-use Rattle.run_moments.specs.Moment.{Moment}
-use Rattle.run_moments.specs.Telling.{BrokeDown}
-use Rattle.run_moments.specs.Kept.{StaysOut}
-use Rattle.run_moments.proofs.Lines.{who-sits}
-use Rattle.run_moments.proofs.Telling.{card-torn}
-use Rattle.run_present.specs.Presence.{SessionsStand, StaysSo, HasMore, IsTornOut, sits}
-use Rattle.run_present.proofs.Presence.{step-leaves}
-use Rattle.run_recorded.specs.Origin.{Origin, start_at}
-use Rattle.run_keeping.specs.Keeping.{Fate, Still, Has, Fell, is_this, cabin_by, breaks_by, tear_of, session_at, card_in as present_of, IsFateOf, tears_of}
-use Rattle.run_keeping.specs.Books.{standing_by}
-use Rattle.run_within.specs.Within.{Beginning, told_before, course_in, IsLeaving}
-use Rattle.run_within.specs.Recorded.{GoesOnIn}
-use Rattle.run_within.proofs.Back.{low-too}
-use Rattle.run_within.proofs.Moved.{not-leaving}
-use Rattle.run_within.proofs.Seats.{no-both, this-or, seat-tells, none-sits, sits-there, sits-back, which-slot, one-slot, emptied, empty-still, nowhere-none, nowhere-not, left-other, tells-still}
-use Rattle.run_within.proofs.Stays.{goes-taken, goes-still}
+use Rattle.run_course.specs.Reached.{moved_at, IsTearAt}
+use Rattle.run_course.specs.Lines.{IsTornAt}
+use Rattle.run_course.specs.Moment.{Moment}
+use Rattle.run_course.specs.Telling.{BrokeDown}
+use Rattle.run_course.specs.Kept.{StaysOut}
+use Rattle.run_course.proofs.Lines.{who-sits}
+use Rattle.run_course.proofs.Telling.{card-torn}
+use Rattle.run_devices.specs.Presence.{SessionsStand, StaysSo, HasMore, IsTornOut, sits}
+use Rattle.run_devices.proofs.Presence.{step-leaves}
+use Rattle.run_promise.specs.Origin.{Origin, start_at}
+use Rattle.run_minutes.specs.Keeping.{Fate, Still, Has, Fell, is_this, cabin_by, breaks_by, tear_of, session_at, card_in as present_of, IsFateOf, tears_of}
+use Rattle.run_minutes.specs.Books.{standing_by}
+use Rattle.run_record.specs.Within.{Beginning, told_before, course_in, IsLeaving}
+use Rattle.run_record.specs.Recorded.{GoesOnIn}
+use Rattle.run_record.proofs.Back.{low-too}
+use Rattle.run_record.proofs.Moved.{not-leaving}
+use Rattle.run_record.proofs.Seats.{no-both, this-or, seat-tells, none-sits, sits-there, sits-back, which-slot, one-slot, emptied, empty-still, nowhere-none, nowhere-not, left-other, tells-still}
+use Rattle.run_record.proofs.Stays.{goes-taken, goes-still}
 use Rattle.run_acts.specs.Rounds.{Point, Outset, moment_of, standing_card, and_breaks, StandsOrFell, Slate, OnlyTears, HasBrokenDown}
 use Rattle.run_acts.proofs.RoundLeaving.{unseated, nowhere-still, leaving-on, torn-apart, moves-still}
 

@@ -1,6 +1,6 @@
 -- What the tears of a keeping add to the events of its second: the faults of the cards.
 use Rattle.std.proofs.Common.{◌≡◌, ◌∙◌, ◌⊎◌, inl, inr, ⊎_elim, ℕ, zero, suc, ◌+◌, ◌/◌, ◌^◌, ◌≤◌, ◌<◌, Bool, true, false, Option, Some, None, IfSome, List, [], ◌∷◌, ◌++◌, length, map, refl, ap, sym, subst, arith, append-nil}
-use Rattle.std.specs.Prelude.{slice_get}
+use Rattle.std.specs.Prelude.{slice_get, take, drop}
 use Rattle.std.proofs.lemmas.List.Elements.{All-head}
 use Rattle.activity_codec.specs.declared.values.Slot.{Slot}
 use Rattle.activity_codec.specs.declared.values.Slot.TheVariants.{Driver, CoDriver}
@@ -20,77 +20,66 @@ use Rattle.log_model.specs.Log.{RunLog, Phase, In, Keeping, is_torn_in, found_in
 use Rattle.log_model.specs.Slots.{Slots, other_slot}
 use Rattle.log_model.specs.Course.{Course, Before, moved_by, went}
 use Rattle.history_model.specs.Minutes.{HistoryMinute}
-use Rattle.joint_rule.specs.Rules.{Standing}
-use Rattle.slot_machine.specs.declared.seats.Present.{Present}
-use Rattle.slot_machine.specs.declared.seats.Seat.{Seat}
-use Rattle.slot_machine.specs.Calls.{seat_in, is_card, present_in}
-use Rattle.event_model.specs.Events.{Event}
+use Rattle.device_rule.specs.Rules.{Standing}
+use Rattle.card_slots.specs.declared.seats.Present.{Present}
+use Rattle.card_slots.specs.declared.seats.Seat.{Seat}
+use Rattle.card_slots.specs.Calls.{seat_in, is_card, present_in}
+use Rattle.event_model.specs.Events.{Event, course_by, with_card, crew_of as events_crew_of}
 use Rattle.safety_model.specs.Safe.{Devices, breakdowns_of}
 use Rattle.unit_notes.specs.declared.unit_event.UnitEvent.{UnitEvent}
-use Rattle.run_rule.specs.Found.{found_of}
-use Rattle.run_rule.specs.Between.{Carried}
+use Rattle.run_promise.specs.Found.{found_of}
+use Rattle.run_promise.specs.Between.{Carried}
 use Rattle.run_crew.specs.declared.cards.Accepted.{Accepted}
 use Rattle.run_crew.specs.declared.cards.Cards.{Cards}
 use Rattle.run_crew.specs.declared.cabin.Cabin.{Cabin}
 use Rattle.run_crew.specs.Cards.{session_of}
-use Rattle.run_crew.specs.Cabin.{AreTwo, torn_out}
-use Rattle.run_moments.specs.Moment.{goes_on}
-use Rattle.run_moments.specs.Reached.{moved_at, moved_with, Reaches, IsTearAt}
+use Rattle.run_crew.specs.Cabin.{AreTwo, torn_out, crew_of}
+use Rattle.run_course.specs.Moment.{goes_on, Moment}
+use Rattle.run_course.specs.Reached.{moved_at, moved_with, Reaches, IsTearAt, IsMoment}
 use Rattle.run_course.specs.Moments.{and_break}
 use Rattle.run_course.proofs.Lookups.{break-more}
-use Rattle.run_recorded.specs.Origin.{Origin, start_at}
-use Rattle.run_within.specs.Recorded.{Values}
-use Rattle.run_within.specs.Within.{Beginning, told_before, course_in, IsLeaving}
-use Rattle.run_within.proofs.Seats.{no-both}
-use Rattle.run_evented.specs.Evented.{number_in}
-use Rattle.run_evented.specs.Noting.{Acting}
-use Rattle.run_evented.specs.Bringing.{NotFound}
-use Rattle.run_evented.specs.SoFar.{Adds, BeginsNow, MayFollow, puts_into, fault_with, crew_at}
-use Rattle.run_evented.proofs.Adding.{steps-follow, adds-nothing}
-use Rattle.run_evented.proofs.Falling.{tear-adds}
-use Rattle.run_keeping.specs.declared.keeper.Keeper.{Keeper}
-use Rattle.run_keeping.specs.Keeping.{Fate, Still, Has, Fell, IsFateOf, cabin_by, breaks_by, tear_of, session_at, kept_in, card_in as present_of}
-use Rattle.run_keeping.specs.Minutes.{Round, IsRound, Told, Done, Reach, Whole, Short, AreRounds, IsReach, told_after, told_by, cabin_after, present_at, minute_of}
-use Rattle.run_keeping.specs.Faults.{faults_by, round_faults, faults_of, faults_to}
+use Rattle.run_promise.specs.Origin.{Origin, start_at}
+use Rattle.run_record.specs.Recorded.{Values}
+use Rattle.run_record.specs.Within.{Beginning, told_before, course_in, IsLeaving}
+use Rattle.run_record.proofs.Seats.{no-both}
+use Rattle.run_note_record.specs.Evented.{number_in, Evented}
+use Rattle.run_note_record.specs.Noting.{Acting, Stage, Ended}
+use Rattle.run_note_record.specs.Bringing.{NotFound}
+use Rattle.run_note_record.specs.EventsSoFar.{Adds, BeginsNow, MayFollow, puts_into, fault_with, crew_at, EventedNow}
+use Rattle.run_note_record.proofs.Adding.{steps-follow, adds-nothing}
+use Rattle.run_note_record.proofs.Falling.{tear-adds}
+use Rattle.run_minutes.specs.declared.keeper.Keeper.{Keeper}
+use Rattle.run_minutes.specs.Keeping.{Fate, Still, Has, Fell, IsFateOf, cabin_by, breaks_by, tear_of, session_at, kept_in, card_in as present_of}
+use Rattle.run_minutes.specs.Minutes.{Round, IsRound, Told, Done, Reach, Whole, Short, AreRounds, IsReach, told_after, told_by, cabin_after, present_at, minute_of}
+use Rattle.run_minutes.specs.Faults.{faults_by, round_faults, faults_of, faults_to, NotesFaults}
 use Rattle.activity_codec.specs.Activity.{same_slot}
 use Rattle.tacho_types.specs.declared.card_number.FullCardNumber.{FullCardNumber}
 use Rattle.tacho_types.specs.CardNumber.{card_number_bytes}
-use Rattle.event_model.specs.Events.{course_by, with_card, crew_of as events_crew_of}
 use Rattle.log_model.specs.Causes.{device_of, RoseBy}
 use Rattle.history_model.specs.History.{seated}
-use Rattle.run_notes.specs.Entries.{number_or_no_card, IsCrewOf}
-use Rattle.run_crew.specs.Cabin.{crew_of}
+use Rattle.run_events.specs.Entries.{number_or_no_card, IsCrewOf}
 use Rattle.run_crew.proofs.Sessions.{same_is}
-use Rattle.run_present.specs.Presence.{IsIn}
-use Rattle.run_keeping.specs.declared.keeper.Moment.{Moment as KeepingAt}
-use Rattle.run_keeping.specs.Books.{carried_after}
-use Rattle.run_keeping.specs.Decided.{decided_minute, carried_by}
-use Rattle.run_acts.specs.Rounds.{standing_card}
-use Rattle.std.specs.Prelude.{take, drop}
+use Rattle.run_devices.specs.Presence.{IsIn}
+use Rattle.run_minutes.specs.declared.keeper.Moment.{Moment as KeepingAt}
+use Rattle.run_minutes.specs.Books.{carried_after}
+use Rattle.run_minutes.specs.Decided.{decided_minute, carried_by}
+use Rattle.run_acts.specs.Rounds.{standing_card, Point, Outset, told_values, moment_of, and_breaks, StandsOrFell, Slate, HasBrokenDown, HaveBroken, SoFar}
 use Rattle.std.proofs.lemmas.List.{take-append-drop, length-take-le}
 use Rattle.run_model.specs.declared.Device.TheVariants.{Unit as Recorder}
 use Rattle.tach_media.specs.Medium.{IsCoherent}
 use Rattle.unit_model.specs.Image.{IsUnit}
-use Rattle.unit_course.specs.Lines.{cut_at}
-use Rattle.unit_course.specs.Followed.{Lost as IsLost}
-use Rattle.run_moments.specs.Moment.{Moment}
-use Rattle.run_moments.specs.Reached.{IsMoment}
-use Rattle.run_moments.specs.Telling.{IsMore, begun_by, IsLeft}
-use Rattle.run_evented.specs.Evented.{Evented}
-use Rattle.run_evented.specs.Noting.{Stage, Ended}
-use Rattle.run_evented.specs.SoFar.{EventedNow}
-use Rattle.run_evented.proofs.Cutting.{failure-cuts}
-use Rattle.run_keeping.specs.Faults.{NotesFaults}
-use Rattle.run_acts.specs.NotedEvents.{NotesSo}
+use Rattle.run_unit_course.specs.Lines.{cut_at}
+use Rattle.run_unit_course.specs.Followed.{Lost as IsLost}
+use Rattle.run_course.specs.Telling.{IsMore, begun_by, IsLeft}
+use Rattle.run_note_record.proofs.Cutting.{failure-cuts}
+use Rattle.run_acts.specs.NotedEvents.{NotesSo, AreTold}
 use Rattle.run_acts.specs.KeptEvents.{AreFaults}
 use Rattle.run_acts.proofs.KeptEvents.{faults-noted}
 use Rattle.run_acts.proofs.Numbers.{notes-at}
 use Rattle.run_acts.specs.Acting.{IsBareIn}
-use Rattle.run_acts.specs.NotedEvents.{AreTold}
 use Rattle.run_acts.specs.EventCrews.{AreKnownBy}
 use Rattle.run_acts.specs.Evented.{IsUntold}
 use Rattle.run_acts.specs.Recording.{IsOrigin}
-use Rattle.run_acts.specs.Rounds.{Point, Outset, told_values, moment_of, and_breaks, StandsOrFell, Slate, HasBrokenDown, HaveBroken, SoFar}
 use Rattle.run_acts.specs.RoundLaws.{InRounds, KeepsSo, HaveBrokenOff, AreGone, carried_at}
 use Rattle.run_acts.proofs.Bare.{fate-bare}
 use Rattle.run_acts.proofs.EventCrews.{AllSitWell, torn-sits, torn-leaves, sessions-known, faults-told}
@@ -100,7 +89,7 @@ use Rattle.run_acts.proofs.Sitting.{SameNumbers, fate-well, fate-numbers}
 use Rattle.run_acts.proofs.RoundLeaving.{slots-or, torn-apart}
 use Rattle.run_acts.proofs.RoundFates.{IsOut, out-is}
 use Rattle.run_acts.proofs.Round.{unit-slate, there, stands, first-fate, second-is, there1}
-use Rattle.run_keeping.specs.Later.{RestBy}
+use Rattle.run_minutes.specs.Later.{RestBy}
 use Rattle.run_acts.proofs.Rising.{fell-more}
 use Rattle.run_acts.proofs.RoundReached.{first-number, one-on}
 use Rattle.run_acts.proofs.RoundBegun.{outset, begun-so}

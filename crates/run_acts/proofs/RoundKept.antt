@@ -8,14 +8,14 @@ use Rattle.minute_model.specs.declared.Minute.{Minute}
 use Rattle.log_model.specs.Causes.{RoseBy}
 use Rattle.safety_model.specs.Safe.{Devices, breakdowns_of}
 use Rattle.run_crew.specs.declared.cards.Accepted.{Accepted}
-use Rattle.run_keeping.specs.Keeping.{tears_of}
-use Rattle.run_keeping.specs.Minutes.{Told, Done, Whole, Short, told_by}
-use Rattle.run_keeping.specs.Books.{AreBooked}
-use Rattle.run_keeping.specs.Decided.{carried_by}
-use Rattle.run_within.specs.Within.{CutWithin}
+use Rattle.run_minutes.specs.Keeping.{tears_of}
+use Rattle.run_minutes.specs.Minutes.{Told, Done, Whole, Short, told_by}
+use Rattle.run_minutes.specs.Books.{AreBooked}
+use Rattle.run_minutes.specs.Decided.{carried_by}
+use Rattle.run_record.specs.Within.{CutWithin}
 use Rattle.run_acts.specs.Rounds.{told_values, moment_of}
 use Rattle.run_acts.specs.RoundLaws.{GoOn, carried_at, LeaveStill, AreGone, HaveBrokenOff, TheKeepingIsRecorded, TheNoteFails}
-use Rattle.run_keeping.specs.Later.{RestBy}
+use Rattle.run_minutes.specs.Later.{RestBy}
 use Rattle.run_acts.proofs.RoundWhole.{minutes-kept_so, leave-still}
 use Rattle.run_acts.proofs.RoundCut.{keeping-fails, cut-behind}
 use Rattle.run_acts.proofs.RoundBroken.{cards-broken, cards-broken_last}

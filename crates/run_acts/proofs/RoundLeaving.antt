@@ -8,14 +8,14 @@ use Rattle.log_model.specs.declared.lines.Break.{Break}
 use Rattle.log_model.specs.Log.{RunLog, Phase, is_torn_in}
 use Rattle.log_model.specs.Slots.{other_slot}
 use Rattle.log_model.specs.Course.{Before, Moved}
-use Rattle.slot_machine.specs.declared.seats.Ended.{Ended}
-use Rattle.slot_machine.specs.Calls.{Seats, seat_in, with_seat, present_in}
+use Rattle.card_slots.specs.declared.seats.Ended.{Ended}
+use Rattle.card_slots.specs.Calls.{Seats, seat_in, with_seat, present_in}
 use Rattle.run_crew.specs.declared.cabin.Cabin.{Cabin}
 use Rattle.run_crew.specs.Cabin.{SitsNowhere}
 use Rattle.run_course.specs.Moments.{and_break}
-use Rattle.run_moments.specs.Reached.{moved_at, IsUpTo, IsTearAt}
-use Rattle.run_moments.proofs.Lines.{tear-begun, tear-other}
-use Rattle.run_within.specs.Within.{IsLeaving}
+use Rattle.run_course.specs.Reached.{moved_at, IsUpTo, IsTearAt}
+use Rattle.run_course.proofs.Lines.{tear-begun, tear-other}
+use Rattle.run_record.specs.Within.{IsLeaving}
 
 -- ---- two slots
 pub slots-or : (a b : Slot) → (a ≡ b) ⊎ (b ≡ other_slot a)

@@ -13,21 +13,21 @@ use Rattle.log_model.specs.Course.{Course}
 use Rattle.history_model.specs.Minutes.{HistoryMinute}
 use Rattle.history_model.specs.History.{seated}
 use Rattle.history_model.specs.Book.{Book, kept}
-use Rattle.unit_course.specs.Legs.{all_travelled}
-use Rattle.slot_machine.specs.declared.seats.Present.{Present}
+use Rattle.run_unit_course.specs.Legs.{all_travelled}
+use Rattle.card_slots.specs.declared.seats.Present.{Present}
 use Rattle.run_crew.specs.Cabin.{AreTwo}
-use Rattle.run_rule.specs.Between.{Carried}
+use Rattle.run_promise.specs.Between.{Carried}
 use Rattle.run_course.specs.Seconds.{kept_all}
-use Rattle.run_moments.specs.Kept.{HasDecided, AreMarkedSoFar}
-use Rattle.run_moments.proofs.Kept.{minute-kept, nothing-else, one-travelled}
-use Rattle.run_recorded.specs.Origin.{Origin, rule_of, start_at}
-use Rattle.run_keeping.specs.declared.keeper.Keeper.{Keeper}
-use Rattle.run_keeping.specs.Keeping.{cabin_by, session_at, kept_in, IsFateOf}
-use Rattle.run_keeping.specs.Minutes.{Round, IsRound, Told, Done, AreRounds, told_after, told_by, present_at, minute_of}
-use Rattle.run_keeping.specs.Books.{carried_after}
-use Rattle.run_keeping.specs.Decided.{decided_minute, carried_by}
-use Rattle.run_within.specs.Recorded.{Values}
-use Rattle.run_within.specs.Within.{Beginning, told_before, course_in}
+use Rattle.run_course.specs.Kept.{HasDecided, AreMarkedSoFar}
+use Rattle.run_course.proofs.Kept.{minute-kept, nothing-else, one-travelled}
+use Rattle.run_promise.specs.Origin.{Origin, rule_of, start_at}
+use Rattle.run_minutes.specs.declared.keeper.Keeper.{Keeper}
+use Rattle.run_minutes.specs.Keeping.{cabin_by, session_at, kept_in, IsFateOf}
+use Rattle.run_minutes.specs.Minutes.{Round, IsRound, Told, Done, AreRounds, told_after, told_by, present_at, minute_of}
+use Rattle.run_minutes.specs.Books.{carried_after}
+use Rattle.run_minutes.specs.Decided.{decided_minute, carried_by}
+use Rattle.run_record.specs.Recorded.{Values}
+use Rattle.run_record.specs.Within.{Beginning, told_before, course_in}
 use Rattle.run_acts.specs.Rounds.{Point, Outset, told_values, moment_of, Slate, OnlyTears, HasBrokenDown, HaveBroken, SoFar}
 use Rattle.run_acts.proofs.RoundFound.{found-after}
 use Rattle.run_acts.proofs.Round.{minute-is, round-slate, round-same, round-past, round-marked, marks-on, tears-on}

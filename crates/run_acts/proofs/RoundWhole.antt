@@ -10,33 +10,33 @@ use Rattle.log_model.specs.Log.{RunLog, Phase}
 use Rattle.log_model.specs.Course.{Course, Visit, Before, went}
 use Rattle.history_model.specs.Minutes.{HistoryMinute}
 use Rattle.history_model.specs.Book.{Book}
-use Rattle.unit_course.specs.Legs.{Travel, all_travelled}
+use Rattle.run_unit_course.specs.Legs.{Travel, all_travelled}
 use Rattle.unit_model.specs.Image.{odometer_at}
 use Rattle.unit_rule.specs.Odometer.{HasTravelled}
 use Rattle.safety_model.specs.Safe.{Devices, card_of, breakdowns_of}
-use Rattle.slot_machine.specs.Kept.{Kept as Slate_, left_of}
+use Rattle.card_slots.specs.Kept.{Kept as Slate_, left_of}
 use Rattle.run_crew.specs.declared.cabin.Cabin.{Cabin}
-use Rattle.run_rule.specs.Found.{found_of}
-use Rattle.run_rule.specs.Between.{Carried}
+use Rattle.run_promise.specs.Found.{found_of}
+use Rattle.run_promise.specs.Between.{Carried}
 use Rattle.run_course.specs.Seconds.{kept_all}
-use Rattle.run_brought.specs.Going.{IsTakenAt}
-use Rattle.run_moments.specs.Lines.{times_of}
-use Rattle.run_moments.proofs.Telling.{breakdowns-only}
-use Rattle.run_told.specs.Told.{IsPowered}
-use Rattle.run_recorded.specs.Origin.{Origin, first_of}
-use Rattle.run_recorded.specs.Ends.{AreVerdicts}
-use Rattle.run_recorded.proofs.Beside.{kept-later}
-use Rattle.run_keeping.specs.Minutes.{Told, Done, AreRounds, told_by}
-use Rattle.run_keeping.specs.Books.{AreBooked}
-use Rattle.run_keeping.specs.Decided.{carried_by}
-use Rattle.run_within.specs.Recorded.{Values, carried, GoesOnIn}
-use Rattle.run_within.specs.Within.{course_in, IsFoundSo, MayBeWrittenSo, IsSparedSo, IsLeaving}
-use Rattle.run_within.proofs.Back.{low-too}
-use Rattle.run_within.proofs.Left.{verdict-left, seen-left}
-use Rattle.run_within.proofs.Written.{written-on, spared-called}
+use Rattle.run_promise.specs.Going.{IsTakenAt}
+use Rattle.run_course.specs.Lines.{times_of}
+use Rattle.run_course.proofs.Telling.{breakdowns-only}
+use Rattle.run_devices.specs.Told.{IsPowered}
+use Rattle.run_promise.specs.Origin.{Origin, first_of}
+use Rattle.run_promise.specs.Ends.{AreVerdicts}
+use Rattle.run_promise.proofs.Beside.{kept-later}
+use Rattle.run_minutes.specs.Minutes.{Told, Done, AreRounds, told_by}
+use Rattle.run_minutes.specs.Books.{AreBooked}
+use Rattle.run_minutes.specs.Decided.{carried_by}
+use Rattle.run_record.specs.Recorded.{Values, carried, GoesOnIn}
+use Rattle.run_record.specs.Within.{course_in, IsFoundSo, MayBeWrittenSo, IsSparedSo, IsLeaving}
+use Rattle.run_record.proofs.Back.{low-too}
+use Rattle.run_record.proofs.Left.{verdict-left, seen-left}
+use Rattle.run_record.proofs.Written.{written-on, spared-called}
 use Rattle.run_acts.specs.Rounds.{Point, told_values, moment_of, HaveBroken, OnlyTears, SoFar}
 use Rattle.run_acts.specs.RoundLaws.{InRounds, GoOn, carried_at, KeepsSo, travelled_at, LeaveStill}
-use Rattle.run_keeping.specs.Later.{RestBy}
+use Rattle.run_minutes.specs.Later.{RestBy}
 use Rattle.run_acts.proofs.Rising.{fell-more}
 use Rattle.run_acts.proofs.RoundReached.{Through, all-on}
 use Rattle.run_acts.proofs.RoundBegun.{outset, begun-so}

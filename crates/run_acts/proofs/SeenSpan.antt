@@ -13,11 +13,11 @@ use Rattle.event_model.specs.declared.entries.Over.{Over}
 use Rattle.event_model.specs.Runs.{run_with, last_run, runs_behind}
 use Rattle.event_model.specs.Spans.{over_of}
 use Rattle.event_model.specs.Events.{Event, Seen, course_by, seen_of, seen_on, seen_spans, crew_of, last_seen, run_event, bare_event, over_event, is_bare, speed_second}
-use Rattle.run_moments.specs.Reached.{course_at}
+use Rattle.run_course.specs.Reached.{course_at}
 use Rattle.run_events.specs.Seconds.{last_of, span_before, seen_next, bares_by, overs_by, is_fast}
-use Rattle.run_recorded.specs.Origin.{Origin}
+use Rattle.run_promise.specs.Origin.{Origin}
 use Rattle.run_events.proofs.Growing.{seen-more, spans-more}
-use Rattle.run_evented.proofs.Tearing.{told_slot, both-slot}
+use Rattle.run_note_record.proofs.Tearing.{told_slot, both-slot}
 use Rattle.run_acts.specs.Named.{CrewValid, NamesValid}
 use Rattle.run_acts.specs.Evented.{span_of}
 use Rattle.run_acts.proofs.Named.{both-valid}

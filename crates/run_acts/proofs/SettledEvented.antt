@@ -18,17 +18,17 @@ use Rattle.safety_model.specs.Safe.{Devices, breakdowns_of}
 use Rattle.unit_notes.specs.declared.unit_event.UnitEvent.{UnitEvent}
 use Rattle.run_outcome.specs.declared.outcome.Outcome.{Outcome}
 use Rattle.run_outcome.specs.Lines.{Listed}
-use Rattle.run_recorded.specs.Origin.{Origin}
-use Rattle.run_evented.specs.Noting.{Acting}
-use Rattle.run_evented.specs.SoFar.{EventedNow}
-use Rattle.run_evented.proofs.Adding.{call-notes}
-use Rattle.run_keeping.specs.declared.keeper.Keeper.{Keeper}
-use Rattle.run_keeping.specs.declared.keeper.Moment.{Moment}
-use Rattle.run_keeping.specs.Books.{HaveTime}
-use Rattle.run_keeping.specs.Decided.{BooksAll}
-use Rattle.run_keeping.specs.Minutes.{Told, Reach, Whole, Short, IsReach}
-use Rattle.run_keeping.specs.Faults.{faults_to, NotesFaults}
-use Rattle.run_within.specs.Recorded.{Values}
+use Rattle.run_promise.specs.Origin.{Origin}
+use Rattle.run_note_record.specs.Noting.{Acting}
+use Rattle.run_note_record.specs.EventsSoFar.{EventedNow}
+use Rattle.run_note_record.proofs.Adding.{call-notes}
+use Rattle.run_minutes.specs.declared.keeper.Keeper.{Keeper}
+use Rattle.run_minutes.specs.declared.keeper.Moment.{Moment}
+use Rattle.run_minutes.specs.Books.{HaveTime}
+use Rattle.run_minutes.specs.Decided.{BooksAll}
+use Rattle.run_minutes.specs.Minutes.{Told, Reach, Whole, Short, IsReach}
+use Rattle.run_minutes.specs.Faults.{faults_to, NotesFaults}
+use Rattle.run_record.specs.Recorded.{Values}
 use Rattle.run_acts.specs.declared.run.Run.{Run}
 use Rattle.run_acts.specs.Acting.{told_of}
 use Rattle.run_acts.specs.Going.{end_of_seconds, IsGoingOn}

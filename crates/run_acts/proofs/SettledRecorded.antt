@@ -13,26 +13,26 @@ use Rattle.log_model.specs.declared.lines.Break.{Break}
 use Rattle.log_model.specs.declared.lines.Mark.{Mark}
 use Rattle.log_model.specs.Log.{In}
 use Rattle.log_model.specs.Course.{Visit, went}
-use Rattle.slot_machine.specs.declared.seats.Ended.{Ended}
-use Rattle.slot_machine.specs.Calls.{present_in}
+use Rattle.card_slots.specs.declared.seats.Ended.{Ended}
+use Rattle.card_slots.specs.Calls.{present_in}
 use Rattle.safety_model.specs.Safe.{Devices}
-use Rattle.unit_course.specs.Legs.{all_travelled}
-use Rattle.unit_course.proofs.Legs.{travelled-earlier}
+use Rattle.run_unit_course.specs.Legs.{all_travelled}
+use Rattle.run_unit_course.proofs.Legs.{travelled-earlier}
 use Rattle.unit_model.specs.Image.{odometer_at}
 use Rattle.unit_rule.specs.Odometer.{odometer_after}
 use Rattle.run_crew.specs.declared.cabin.Cabin.{Cabin}
 use Rattle.run_crew.specs.Cabin.{AreTwo, EndedStands, Stands}
 use Rattle.run_outcome.specs.Lines.{Listed}
 use Rattle.run_outcome.specs.declared.outcome.Outcome.{Outcome}
-use Rattle.run_recorded.specs.Origin.{Origin}
-use Rattle.run_within.specs.Recorded.{Values}
-use Rattle.run_within.specs.Within.{Beginning, Within, CutWithin}
-use Rattle.run_keeping.specs.declared.keeper.Keeper.{Keeper}
-use Rattle.run_keeping.specs.declared.keeper.Moment.{Moment}
-use Rattle.run_keeping.specs.Minutes.{Reach, IsReach, or_nobody, present_at}
-use Rattle.run_keeping.specs.Deeds.{AllKeep, kepts_on}
-use Rattle.run_keeping.specs.Books.{HaveTime, AreTimedOn}
-use Rattle.run_keeping.specs.Decided.{EndsAll, BooksAll}
+use Rattle.run_promise.specs.Origin.{Origin}
+use Rattle.run_record.specs.Recorded.{Values}
+use Rattle.run_record.specs.Within.{Beginning, Within, CutWithin}
+use Rattle.run_minutes.specs.declared.keeper.Keeper.{Keeper}
+use Rattle.run_minutes.specs.declared.keeper.Moment.{Moment}
+use Rattle.run_minutes.specs.Minutes.{Reach, IsReach, or_nobody, present_at}
+use Rattle.run_minutes.specs.Deeds.{AllKeep, kepts_on}
+use Rattle.run_minutes.specs.Books.{HaveTime, AreTimedOn}
+use Rattle.run_minutes.specs.Decided.{EndsAll, BooksAll}
 use Rattle.run_acts.specs.Rounds.{Point, IsPoint, settling_at}
 use Rattle.run_acts.specs.RoundLaws.{KeepsSo, IsKeptTo, carried_at}
 use Rattle.run_acts.proofs.RoundBegun.{over-so, may-book}
@@ -48,7 +48,7 @@ use Rattle.run_acts.proofs.GoesOn.{goes-on, unit-rose}
 use Rattle.run_acts.proofs.Settled.{settled-ungiven, settled-decides}
 use Rattle.run_acts.specs.Closings.{spells_of, notes_within}
 use Rattle.run_acts.specs.Comings.{TellMore}
-use Rattle.run_recorded.specs.Whole.{NothingFailed}
+use Rattle.run_promise.specs.Whole.{NothingFailed}
 use Rattle.run_acts.specs.Truths.{truths_within, marked}
 use Rattle.run_acts.specs.Stays.{AllStay}
 use Rattle.run_acts.proofs.AllStay.{all-of, all-kept, all-true, lines-on, reach-told}

@@ -5,16 +5,16 @@ use Rattle.trace_model.specs.declared.Card.{Card}
 use Rattle.trace_model.specs.declared.Card.TheVariants.{A, B}
 use Rattle.card_session.specs.declared.session.Kept.{Kept}
 use Rattle.log_model.specs.Slots.{same_card}
-use Rattle.slot_machine.specs.declared.seats.Seat.{Seat}
-use Rattle.slot_machine.specs.Calls.{is_card}
-use Rattle.slot_machine.specs.Kept.{Kept as Slots}
+use Rattle.card_slots.specs.declared.seats.Seat.{Seat}
+use Rattle.card_slots.specs.Calls.{is_card}
+use Rattle.card_slots.specs.Kept.{Kept as Slots}
 use Rattle.run_crew.specs.declared.cards.Accepted.{Accepted}
 use Rattle.run_crew.specs.declared.cards.Cards.{Cards}
 use Rattle.run_crew.specs.declared.cabin.Cabin.{Cabin}
 use Rattle.run_crew.specs.Cards.{known_of, session_of, with_session}
 use Rattle.run_crew.specs.Cabin.{left_from}
-use Rattle.run_keeping.specs.Keeping.{Fate, Still, Has, Fell, IsFateOf, cabin_by, session_at}
-use Rattle.run_keeping.proofs.Sessions.{number-set}
+use Rattle.run_minutes.specs.Keeping.{Fate, Still, Has, Fell, IsFateOf, cabin_by, session_at}
+use Rattle.run_minutes.proofs.Sessions.{number-set}
 use Rattle.run_acts.proofs.Bare.{has-one}
 use Rattle.run_acts.proofs.EventCrews.{SitsWell, AllSitWell}
 

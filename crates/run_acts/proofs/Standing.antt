@@ -12,9 +12,9 @@ use Rattle.minute_model.specs.Span.{begin, ungiven_of}
 use Rattle.minute_rules.specs.Kept.{StandsFor}
 use Rattle.event_rules.specs.Bare.{Bare}
 use Rattle.event_rules.specs.declared.speeding.Fast.{Fast}
-use Rattle.slot_machine.specs.Calls.{present_in, ending}
-use Rattle.slot_machine.specs.Kept.{left_in}
-use Rattle.slot_machine.proofs.Newest.{cut-knows, end-knows}
+use Rattle.card_slots.specs.Calls.{present_in, ending}
+use Rattle.card_slots.specs.Kept.{left_in}
+use Rattle.card_slots.proofs.Newest.{cut-knows, end-knows}
 use Rattle.unit_model.specs.declared.layout.TheConstants.{HIGHEST_ODOMETER}
 use Rattle.message_model.specs.Records.{insertion_ring}
 use Rattle.run_crew.specs.declared.cards.Accepted.{Accepted}
@@ -23,12 +23,12 @@ use Rattle.run_crew.specs.declared.cabin.Cabin.{Cabin}
 use Rattle.run_crew.specs.Cards.{session_of, with_session, IsKnown}
 use Rattle.run_crew.specs.Cabin.{Stands, KnowsEnded}
 use Rattle.run_crew.proofs.Moves.{cut-stands, end-stands}
-use Rattle.run_notes.specs.Watching.{Watches}
-use Rattle.run_notes.specs.Watching as watching
-use Rattle.run_notes.specs.declared.watch.Watch.{Watch}
-use Rattle.unit_journal.specs.declared.notes.Notes.{Notes}
-use Rattle.run_keeping.specs.declared.keeper.Keeper.{Keeper}
-use Rattle.run_keeping.specs.Keeping.{UnitReady, CardReady, HaveRows}
+use Rattle.run_events.specs.Watching.{Watches}
+use Rattle.run_events.specs.Watching as watching
+use Rattle.run_events.specs.declared.watch.Watch.{Watch}
+use Rattle.unit_minutes.specs.declared.notes.Notes.{Notes}
+use Rattle.run_minutes.specs.declared.keeper.Keeper.{Keeper}
+use Rattle.run_minutes.specs.Keeping.{UnitReady, CardReady, HaveRows}
 use Rattle.run_acts.specs.declared.run.Run.{Run}
 use Rattle.run_acts.specs.declared.run.Power.{Power}
 use Rattle.run_acts.specs.declared.run.Power.TheVariants.{Lit, Due, Lost}

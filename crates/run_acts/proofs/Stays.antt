@@ -11,17 +11,17 @@ use Rattle.card_layout.specs.declared.files.Application.{Application}
 use Rattle.card_image.specs.View.{card_view}
 use Rattle.card_image.specs.Own.{own_sizes}
 use Rattle.card_image.specs.Fields.{current_use}
-use Rattle.card_records.specs.declared.current_use.CurrentUse.{CurrentUse}
+use Rattle.card_files.specs.declared.current_use.CurrentUse.{CurrentUse}
 use Rattle.card_session.specs.declared.session.Kept.{Kept}
 use Rattle.card_session.specs.Books.{Book, mark_of}
 use Rattle.card_session.specs.Sessions.{book_of}
 use Rattle.card_session.specs.Inserting.{lacked}
-use Rattle.card_steps.specs.Deeds.{Deed, Close}
+use Rattle.card_string.specs.Deeds.{Deed, Close}
 use Rattle.run_crew.specs.declared.cards.Accepted.{Accepted}
-use Rattle.run_rule.specs.Found.{CardFound}
-use Rattle.run_keeping.specs.CardDeeds.{made_by, is_open_in, ShowsBook, DoesOn, keeps, last_odometer, opens, OpensOn, ClosesOn}
-use Rattle.run_keeping.specs.Deeds.{KeepsOn}
-use Rattle.run_keeping.proofs.CardDeeds.{made-append, keeps-append, last-append}
+use Rattle.run_promise.specs.Found.{CardFound}
+use Rattle.run_minutes.specs.CardDeeds.{made_by, is_open_in, ShowsBook, DoesOn, keeps, last_odometer, opens, OpensOn, ClosesOn}
+use Rattle.run_minutes.specs.Deeds.{KeepsOn}
+use Rattle.run_minutes.proofs.CardDeeds.{made-append, keeps-append, last-append}
 use Rattle.log_model.specs.declared.lines.Find.{Find}
 use Rattle.log_model.specs.declared.lines.Verdict.TheVariants.{Accepted as AcceptedWith}
 use Rattle.run_acts.specs.Closings.{Spell, last_shut, with_last_shut, last_slot}

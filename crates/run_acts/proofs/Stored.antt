@@ -20,32 +20,31 @@ use Rattle.log_model.specs.Causes.{second_of}
 use Rattle.log_model.specs.Course.{Told, Visit, Went, went}
 use Rattle.log_model.specs.Log.{RunLog, Phase}
 use Rattle.log_model.specs.Spans.{seconds_in, first_in, end_in, spans_with, spans_of, AreApart}
-use Rattle.log_model.proofs.Spanning.{spans-more}
-use Rattle.log_model.proofs.Spanning.{spanned}
+use Rattle.log_model.proofs.Spanning.{spans-more, spanned}
 use Rattle.history_model.specs.Minutes.{HistoryMinute}
 use Rattle.history_model.specs.Presence.{Start}
 use Rattle.history_model.specs.History.{seated, decided_of, cut_second}
 use Rattle.history_model.specs.Book.{Book, all, found, Rising, IsMark}
 use Rattle.history_model.proofs.Growing.{apart-last}
 use Rattle.history_model.proofs.Deciding.{counted}
-use Rattle.joint_rule.specs.Views.{unit_view}
+use Rattle.device_rule.specs.Views.{unit_view}
 use Rattle.unit_model.specs.declared.layout.TheConstants.{HIGHEST_ODOMETER}
 use Rattle.unit_model.specs.Image.{last_kept, odometer_at}
-use Rattle.unit_course.specs.Lines.{cut_at, found_from, tells_cut}
-use Rattle.unit_course.specs.Followed.{Supply, Lit, MayPower, as_spans, cuts_from}
-use Rattle.unit_course.specs.Legs.{Travel, stranded_at, all_travelled}
-use Rattle.unit_course.specs.Travelled.{MayShow}
-use Rattle.unit_course.specs.Turn.{span_at, begins_with, cut_at_end, cut_last}
-use Rattle.unit_course.proofs.Legs.{travelled-all, travelled-none, travelled-earlier}
-use Rattle.unit_course.proofs.Lines.{tells-here}
-use Rattle.unit_course.proofs.Alike.{decided-empty}
-use Rattle.unit_course.proofs.Spans.{decided-cut}
+use Rattle.run_unit_course.specs.Lines.{cut_at, found_from, tells_cut}
+use Rattle.run_unit_course.specs.Followed.{Supply, Lit, MayPower, as_spans, cuts_from}
+use Rattle.run_unit_course.specs.Legs.{Travel, stranded_at, all_travelled}
+use Rattle.run_unit_course.specs.Travelled.{MayShow}
+use Rattle.run_unit_course.specs.Turn.{span_at, begins_with, cut_at_end, cut_last}
+use Rattle.run_unit_course.proofs.Legs.{travelled-all, travelled-none, travelled-earlier}
+use Rattle.run_unit_course.proofs.Lines.{tells-here}
+use Rattle.run_unit_course.proofs.Alike.{decided-empty}
+use Rattle.run_unit_course.proofs.Spans.{decided-cut}
 use Rattle.unit_rule.proofs.Marking.{holds-dark}
 use Rattle.unit_rule.specs.Marks.{Holds}
 use Rattle.unit_rule.specs.Odometer.{odometer_by, odometer_after, ShowsOdometer, HasTravelled}
 use Rattle.unit_rule.proofs.Moves.{shown-last}
 use Rattle.unit_rule.proofs.Travelling.{odometer-sum}
-use Rattle.side_model.specs.Odometer.{SpanFrom, IsBeingKept, MayStore}
+use Rattle.note_model.specs.Odometer.{SpanFrom, IsBeingKept, MayStore}
 use Rattle.safety_model.specs.Safe.{Devices, breakdowns_of}
 use Rattle.run_course.specs.Moments.{and_break}
 use Rattle.run_course.specs.Followed.{Progress, Followed, IsBreakBefore}
@@ -54,22 +53,22 @@ use Rattle.run_course.specs.Travelled.{AreLegsOf, AreShutLegs}
 use Rattle.run_course.proofs.Logs.{found_log, went-found, tells-none, breaks-front}
 use Rattle.run_course.proofs.New.{are-new}
 use Rattle.run_course.proofs.Steps.{lit-parts, now-told, span-end}
-use Rattle.run_brought.proofs.Going.{sure-kept}
-use Rattle.run_moments.specs.Telling.{IsLeft, begun_by}
-use Rattle.run_recorded.specs.Origin.{Origin, rule_of, start_at, first_of}
-use Rattle.run_recorded.specs.Seconds.{found_again}
-use Rattle.run_recorded.proofs.Seconds.{found-recorded}
+use Rattle.run_promise.proofs.Going.{sure-kept}
+use Rattle.run_course.specs.Telling.{IsLeft, begun_by}
+use Rattle.run_promise.specs.Origin.{Origin, rule_of, start_at, first_of}
+use Rattle.run_promise.specs.Seconds.{found_again}
+use Rattle.run_promise.proofs.Seconds.{found-recorded}
 use Rattle.run_rings.specs.Spans.{with_second}
 use Rattle.run_rings.proofs.Spans.{are-spans}
-use Rattle.run_ringed.specs.SoFar.{HasMoreBreaks}
-use Rattle.run_ringed.specs.Steps.{spans_cut}
-use Rattle.run_ringed.specs.Stored.{minutes_kept, IsNewest, StandsOn, StoresOn, StoresOff}
-use Rattle.run_ringed.proofs.Stored.{AtEnd, nothing, push, at-end, mapped, numbers, may-store}
-use Rattle.run_ringed.proofs.Bases.{with-first, next-are, stored-later, stored-ends, stored-found}
-use Rattle.run_ringed.proofs.Booked.{after-numbers, book-numbers, book-none, span-ends, found-newest, deciding-now, in-second}
-use Rattle.run_within.specs.Recorded.{Values, progress, carried, IsOn, Recorded}
-use Rattle.run_within.specs.Within.{lost_minute, told_before, CutWithin}
-use Rattle.run_within.proofs.Cutting.{ends, goes, number, decides, cut-recorded}
+use Rattle.run_note_record.specs.RingsSoFar.{HasMoreBreaks}
+use Rattle.run_note_record.specs.Steps.{spans_cut}
+use Rattle.run_note_record.specs.Stored.{minutes_kept, IsNewest, StandsOn, StoresOn, StoresOff}
+use Rattle.run_note_record.proofs.Stored.{AtEnd, nothing, push, at-end, mapped, numbers, may-store}
+use Rattle.run_note_record.proofs.Bases.{with-first, next-are, stored-later, stored-ends, stored-found}
+use Rattle.run_note_record.proofs.Booked.{after-numbers, book-numbers, book-none, span-ends, found-newest, deciding-now, in-second}
+use Rattle.run_record.specs.Recorded.{Values, progress, carried, IsOn, Recorded}
+use Rattle.run_record.specs.Within.{lost_minute, told_before, CutWithin}
+use Rattle.run_record.proofs.Cutting.{ends, goes, number, decides, cut-recorded}
 
 -- ---- odometers
 

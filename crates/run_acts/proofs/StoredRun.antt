@@ -10,33 +10,32 @@ use Rattle.log_model.specs.Causes.{second_of}
 use Rattle.log_model.specs.Course.{Told, Visit, Went, went}
 use Rattle.log_model.specs.Log.{RunLog, Phase}
 use Rattle.log_model.specs.Spans.{spans_of}
-use Rattle.unit_course.specs.Lines.{cut_at}
-use Rattle.unit_course.specs.Followed.{Supply}
-use Rattle.unit_course.specs.Followed.{Lit as IsLit, Due as IsDue, Lost as IsLost}
-use Rattle.unit_course.specs.Turn.{cut_last}
+use Rattle.run_unit_course.specs.Lines.{cut_at}
+use Rattle.run_unit_course.specs.Followed.{Supply, Lit as IsLit, Due as IsDue, Lost as IsLost}
+use Rattle.run_unit_course.specs.Turn.{cut_last}
 use Rattle.unit_model.specs.Image.{last_kept, odometer_at}
 use Rattle.unit_rule.specs.Rule.{Started}
-use Rattle.side_model.specs.Odometer.{SpanFrom, HaveBases, MayStore}
+use Rattle.note_model.specs.Odometer.{SpanFrom, HaveBases, MayStore}
 use Rattle.safety_model.specs.Safe.{Devices}
 use Rattle.run_course.specs.Followed.{Progress, Followed}
 use Rattle.run_course.specs.Moments.{and_break}
-use Rattle.run_moments.specs.Telling.{IsLeft, begun_by}
+use Rattle.run_course.specs.Telling.{IsLeft, begun_by}
 use Rattle.run_outcome.specs.declared.outcome.Outcome.{Outcome}
-use Rattle.run_recorded.specs.Origin.{Origin, rule_of, start_at, first_of}
+use Rattle.run_promise.specs.Origin.{Origin, rule_of, start_at, first_of}
 use Rattle.run_rings.specs.Spans.{with_second}
-use Rattle.run_ringed.specs.SoFar.{HasMoreBreaks}
-use Rattle.run_ringed.specs.Steps.{spans_cut}
-use Rattle.run_ringed.specs.Stored.{StoresOn, StoresOff, Stores}
-use Rattle.run_ringed.proofs.Bases.{stored-bases}
-use Rattle.run_within.specs.Recorded.{Values, Recorded}
-use Rattle.run_within.specs.Within.{CutWithin}
+use Rattle.run_note_record.specs.RingsSoFar.{HasMoreBreaks}
+use Rattle.run_note_record.specs.Steps.{spans_cut}
+use Rattle.run_note_record.specs.Stored.{StoresOn, StoresOff, Stores}
+use Rattle.run_note_record.proofs.Bases.{stored-bases}
+use Rattle.run_record.specs.Recorded.{Values, Recorded}
+use Rattle.run_record.specs.Within.{CutWithin}
 use Rattle.run_acts.specs.declared.run.Run.{Run}
 use Rattle.run_acts.specs.declared.run.Power.{Power}
 use Rattle.run_acts.specs.declared.run.Power.TheVariants.{Lit, Due, Lost}
 use Rattle.run_acts.specs.Power.{is_lit}
 use Rattle.run_acts.specs.Recording.{log_of, values_of, Supplies, IsOrigin, RunRecorded, RunWithin, RunFails}
 use Rattle.run_course.proofs.Logs.{went-later}
-use Rattle.run_within.proofs.Cutting.{goes}
+use Rattle.run_record.proofs.Cutting.{goes}
 use Rattle.run_acts.proofs.Stored.{lit-stores, lit-off, lines-early, stored-cut}
 
 pub found-first : (o : Origin) → IsOrigin o → o.found.unit.first ≡ first_of o

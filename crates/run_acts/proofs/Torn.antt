@@ -5,16 +5,16 @@ use Rattle.activity_codec.specs.declared.values.Slot.TheVariants.{Driver, CoDriv
 use Rattle.trace_model.specs.declared.Card.{Card}
 use Rattle.trace_model.specs.declared.Card.TheVariants.{A, B}
 use Rattle.log_model.specs.Slots.{same_card}
-use Rattle.slot_machine.specs.declared.seats.Seat.{Seat}
-use Rattle.slot_machine.specs.Calls.{Seats, seat_in, card_in, is_card, powerless}
-use Rattle.slot_machine.specs.Kept.{Kept as Slots}
+use Rattle.card_slots.specs.declared.seats.Seat.{Seat}
+use Rattle.card_slots.specs.Calls.{Seats, seat_in, card_in, is_card, powerless}
+use Rattle.card_slots.specs.Kept.{Kept as Slots}
 use Rattle.run_crew.specs.declared.cards.Accepted.{Accepted}
 use Rattle.run_crew.specs.declared.cards.Cards.{Cards}
 use Rattle.run_crew.specs.declared.cabin.Cabin.{Cabin}
 use Rattle.run_crew.specs.Cards.{session_of, with_session}
 use Rattle.run_crew.specs.Cabin.{Stands, AnswersTo, SeatAnswers, AreTwo, torn_out, left_from, slot_with, with_power_lost}
-use Rattle.run_keeping.specs.Keeping.{AreEmptied, SessionsGoOn, Fell, tears_of, most_tears}
-use Rattle.run_keeping.proofs.Seats.{fate-seats, sessions-none}
+use Rattle.run_minutes.specs.Keeping.{AreEmptied, SessionsGoOn, Fell, tears_of, most_tears}
+use Rattle.run_minutes.proofs.Seats.{fate-seats, sessions-none}
 use Rattle.run_acts.specs.Room.{bare_count, bare_seats, falls_of}
 use Rattle.run_acts.proofs.Kept.{seats-less}
 

@@ -18,7 +18,7 @@ use Rattle.log_model.specs.Course.{Told, Visit, Before, went, second_told}
 use Rattle.log_model.specs.Spans.{spans_of}
 use Rattle.event_model.specs.Events.{course_by}
 use Rattle.history_model.specs.Growth.{picking}
-use Rattle.unit_course.specs.Turn.{span_at}
+use Rattle.run_unit_course.specs.Turn.{span_at}
 use Rattle.run_acts.specs.Words.{picks_of, withdraws, IsWordOf}
 use Rattle.run_acts.specs.Owed.{unlogged, IsPulledHere}
 use Rattle.run_acts.specs.Truths.{past_of, IsOdometerBefore, IsOdometerBehind, IsWordIn}

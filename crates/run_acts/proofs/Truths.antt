@@ -7,12 +7,12 @@ use Rattle.minute_model.specs.Second.{Second}
 use Rattle.log_model.specs.Course.{Told}
 use Rattle.log_model.specs.Spans.{go_on, spans_with, spans_of, seconds_in}
 use Rattle.log_model.proofs.Spanning.{spans-more as spans-one, spans-new, spans-on as spans-kept, spans-dark}
-use Rattle.unit_course.specs.Legs.{whole_legs}
+use Rattle.run_unit_course.specs.Legs.{whole_legs}
 use Rattle.unit_rule.specs.Odometer.{odometer_after}
 use Rattle.run_rings.specs.Spans.{AreAlike}
 use Rattle.log_model.specs.declared.lines.Mark.{Mark}
-use Rattle.run_recorded.proofs.Beside.{marked-on}
-use Rattle.run_ringed.proofs.Stored.{AtEnd, nothing, push, at-end}
+use Rattle.run_promise.proofs.Beside.{marked-on}
+use Rattle.run_note_record.proofs.Stored.{AtEnd, nothing, push, at-end}
 use Rattle.run_acts.specs.Truths.{Truths, Grow, marked, Past, Rides, driven_in, IsOdometerBefore, IsOdometerBehind, truths_by, SpansGoOn, PastGoesOn}
 use Rattle.activity_codec.specs.declared.entries.Entry.{Entry}
 use Rattle.trace_model.specs.declared.Card.{Card}

@@ -10,12 +10,12 @@ use Rattle.log_model.specs.Spans.{spans_of}
 use Rattle.log_model.proofs.Growth.{went-more}
 use Rattle.unit_model.specs.Image.{odometer_at}
 use Rattle.run_rings.specs.Spans.{AreAlike}
-use Rattle.run_recorded.specs.Origin.{Origin, rule_of, start_at}
-use Rattle.run_recorded.specs.Whole.{NothingFailed}
+use Rattle.run_promise.specs.Origin.{Origin, rule_of, start_at}
+use Rattle.run_promise.specs.Whole.{NothingFailed}
 use Rattle.safety_model.specs.Safe.{Devices}
-use Rattle.run_within.specs.Recorded.{Values}
-use Rattle.run_within.specs.Within.{Within}
-use Rattle.run_within.specs.Turning.{last_of, before_last}
+use Rattle.run_record.specs.Recorded.{Values}
+use Rattle.run_record.specs.Within.{Within}
+use Rattle.run_record.specs.Turning.{last_of, before_last}
 use Rattle.run_acts.specs.Truths.{Grow, past_of, truths_of, truths_within, SpansGoOn, PastGoesOn}
 use Rattle.run_acts.proofs.AllStay.{fewer-none}
 use Rattle.run_acts.proofs.Truths.{spans-more, spans-alike, spans-on, spans-same, past-grows, grow-on}

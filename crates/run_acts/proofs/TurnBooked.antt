@@ -6,16 +6,16 @@ use Rattle.tach_media.specs.Medium.{State, IsCoherent, LeavesOnly}
 use Rattle.minute_model.specs.declared.Minute.{Minute}
 use Rattle.unit_notes.specs.Journal.{LeavesJournal}
 use Rattle.safety_model.specs.Safe.{Devices}
-use Rattle.run_rule.specs.Found.{Found}
-use Rattle.run_rule.specs.Between.{Carried, devices}
-use Rattle.unit_course.specs.Legs.{all_travelled}
-use Rattle.run_told.proofs.Noted.{noted-powered, noted-powerless}
-use Rattle.run_told.proofs.Travelled.{travelled-noted}
-use Rattle.run_keeping.specs.declared.keeper.Moment.{Moment}
-use Rattle.run_keeping.specs.Minutes.{Done, Reach, Whole, Short, Told, IsReach}
-use Rattle.run_keeping.specs.Deeds.{AllKeep, kepts_on}
-use Rattle.run_keeping.specs.Books.{AreBooked, HaveTime, AreTimedOn}
-use Rattle.run_keeping.specs.Decided.{BooksAll, carried_by}
+use Rattle.run_promise.specs.Found.{Found}
+use Rattle.run_promise.specs.Between.{Carried, devices}
+use Rattle.run_unit_course.specs.Legs.{all_travelled}
+use Rattle.run_devices.proofs.Noted.{noted-powered, noted-powerless}
+use Rattle.run_devices.proofs.Travelled.{travelled-noted}
+use Rattle.run_minutes.specs.declared.keeper.Moment.{Moment}
+use Rattle.run_minutes.specs.Minutes.{Done, Reach, Whole, Short, Told, IsReach}
+use Rattle.run_minutes.specs.Deeds.{AllKeep, kepts_on}
+use Rattle.run_minutes.specs.Books.{AreBooked, HaveTime, AreTimedOn}
+use Rattle.run_minutes.specs.Decided.{BooksAll, carried_by}
 use Rattle.run_acts.specs.Booked.{IsTurnReach, BooksTurn}
 
 -- the unit failed in one of the minutes

@@ -14,36 +14,36 @@ use Rattle.log_model.specs.Course.{Told as Second, went}
 use Rattle.unit_memory.specs.declared.memory.UnitFacts.{UnitFacts}
 use Rattle.unit_model.specs.Image.{IsUnit, odometer_at}
 use Rattle.unit_rule.specs.Odometer.{odometer_after}
-use Rattle.unit_course.specs.Followed.{Lit as IsLit, Lost as IsLost}
+use Rattle.run_unit_course.specs.Followed.{Lit as IsLit, Lost as IsLost}
 use Rattle.event_model.specs.Events.{Event, Seen, seen_of, seen_spans}
-use Rattle.event_crews.specs.Watched.{watched}
-use Rattle.event_crews.specs.Turned.{AreEnded, AreLow}
+use Rattle.run_events.specs.Watched.{watched}
+use Rattle.run_events.specs.Turned.{AreEnded, AreLow}
 use Rattle.safety_model.specs.Safe.{Devices, breakdowns_of}
 use Rattle.unit_notes.specs.declared.unit_event.UnitEvent.{UnitEvent}
 use Rattle.run_crew.specs.Cabin.{AreTwo, crew_of}
 use Rattle.run_course.specs.Moments.{and_break}
 use Rattle.run_course.specs.Seconds.{next_told}
-use Rattle.run_moments.specs.Moment.{Moment as SecondMoment, goes_on}
-use Rattle.run_moments.specs.Reached.{Reaches}
-use Rattle.run_notes.specs.declared.watch.Watch.{Watch}
-use Rattle.run_notes.specs.declared.watch.Ended.{Ended as WatchEnded}
-use Rattle.run_notes.specs.Noting.{IsFed}
+use Rattle.run_course.specs.Moment.{Moment as SecondMoment, goes_on}
+use Rattle.run_course.specs.Reached.{Reaches}
+use Rattle.run_events.specs.declared.watch.Watch.{Watch}
+use Rattle.run_events.specs.declared.watch.Ended.{Ended as WatchEnded}
+use Rattle.run_events.specs.Noting.{IsFed}
 use Rattle.run_outcome.specs.declared.outcome.Outcome.{Outcome}
 use Rattle.run_outcome.specs.Lines.{Listed, cut_at}
-use Rattle.run_recorded.specs.Origin.{Origin}
+use Rattle.run_promise.specs.Origin.{Origin}
 use Rattle.run_events.specs.Seconds.{bares_by, overs_by, span_before, seen_next}
-use Rattle.run_evented.specs.Evented.{limit_in, number_in, Evented}
-use Rattle.run_evented.specs.Noting.{Acting, Ended}
-use Rattle.run_evented.specs.SoFar.{EventedNow, Adds, BeginsNow}
-use Rattle.run_evented.proofs.Adding.{call-notes, steps-follow, second-ends_now}
-use Rattle.run_evented.proofs.Ending.{ends-added}
-use Rattle.run_keeping.specs.declared.keeper.Keeper.{Keeper}
-use Rattle.run_keeping.specs.declared.keeper.Moment.{Moment}
-use Rattle.run_keeping.specs.Books.{HaveTime}
-use Rattle.run_keeping.specs.Minutes.{Told, Reach, Whole, Short, present_at}
-use Rattle.run_keeping.specs.Faults.{faults_to, NotesFaults}
-use Rattle.run_within.specs.Recorded.{Values}
-use Rattle.run_within.specs.Within.{Within}
+use Rattle.run_note_record.specs.Evented.{limit_in, number_in, Evented}
+use Rattle.run_note_record.specs.Noting.{Acting, Ended}
+use Rattle.run_note_record.specs.EventsSoFar.{EventedNow, Adds, BeginsNow}
+use Rattle.run_note_record.proofs.Adding.{call-notes, steps-follow, second-ends_now}
+use Rattle.run_note_record.proofs.Ending.{ends-added}
+use Rattle.run_minutes.specs.declared.keeper.Keeper.{Keeper}
+use Rattle.run_minutes.specs.declared.keeper.Moment.{Moment}
+use Rattle.run_minutes.specs.Books.{HaveTime}
+use Rattle.run_minutes.specs.Minutes.{Told, Reach, Whole, Short, present_at}
+use Rattle.run_minutes.specs.Faults.{faults_to, NotesFaults}
+use Rattle.run_record.specs.Recorded.{Values}
+use Rattle.run_record.specs.Within.{Within}
 use Rattle.run_acts.specs.declared.run.Run.{Run}
 use Rattle.run_acts.specs.declared.run.Power.{Power}
 use Rattle.run_acts.specs.declared.run.Power.TheVariants.{Lit}

@@ -13,113 +13,86 @@ use Rattle.minute_rules.specs.Kept.{Kept, StandsFor}
 use Rattle.log_model.specs.declared.lines.Break.{Break}
 use Rattle.log_model.specs.declared.lines.Mark.{Mark}
 use Rattle.log_model.specs.Log.{RunLog, In, Keeping, is_torn_in}
-use Rattle.log_model.specs.Course.{Told as Second, Course, Before, has_power, went}
+use Rattle.log_model.specs.Course.{Told as Second, Course, Before, has_power, went, Went, fresh}
 use Rattle.unit_model.specs.Image.{IsUnit, odometer_at}
 use Rattle.unit_rule.specs.Odometer.{odometer_after}
-use Rattle.unit_course.specs.Followed.{Supply}
-use Rattle.unit_course.specs.Followed.{Lit as IsLit, Lost as IsLost}
-use Rattle.unit_course.specs.Turn.{begins_with}
-use Rattle.event_model.specs.Events.{Event, Seen, course_by, seen_of, seen_spans, number_of}
+use Rattle.run_unit_course.specs.Followed.{Supply, Lit as IsLit, Lost as IsLost, Due as IsDue}
+use Rattle.run_unit_course.specs.Turn.{begins_with, span_at}
+use Rattle.event_model.specs.Events.{Event, Seen, course_by, seen_of, seen_spans, number_of, is_bare, accepted_card, seen_on}
 use Rattle.event_model.specs.Events as events
-use Rattle.event_crews.specs.Watched.{watched, named}
-use Rattle.event_crews.specs.Turned.{AreLow}
-use Rattle.event_crews.proofs.Fed.{one-fed}
+use Rattle.run_events.specs.Watched.{watched, named}
+use Rattle.run_events.specs.Turned.{AreLow, IsLow}
+use Rattle.run_events.proofs.CrewsFed.{one-fed, still-seen, still-quiet, still-fed}
 use Rattle.safety_model.specs.Safe.{Devices, breakdowns_of}
 use Rattle.run_crew.specs.declared.cabin.Cabin.{Cabin}
 use Rattle.run_crew.specs.Cabin.{crew_of}
-use Rattle.run_course.specs.Followed.{Progress}
+use Rattle.run_course.specs.Followed.{Progress, Followed}
 use Rattle.run_course.specs.Seconds.{next_told}
 use Rattle.run_course.proofs.Steps.{with-supply, went-same_}
 use Rattle.run_course.proofs.Told.{lit-told, lit-power, lit-starts}
-use Rattle.run_moments.specs.Moment.{Moment as SecondMoment, goes_on}
-use Rattle.run_moments.specs.Reached.{Reaches}
-use Rattle.run_notes.specs.declared.watch.Watch.{Watch}
+use Rattle.run_course.specs.Moment.{Moment as SecondMoment, goes_on}
+use Rattle.run_course.specs.Reached.{Reaches}
+use Rattle.run_events.specs.declared.watch.Watch.{Watch}
 use Rattle.run_outcome.specs.declared.outcome.Outcome.{Outcome}
 use Rattle.run_outcome.specs.Lines.{Listed}
-use Rattle.run_recorded.specs.Origin.{Origin, start_at, rule_of, first_of}
-use Rattle.run_events.specs.Seconds.{bares_by, overs_by, span_before, seen_next}
-use Rattle.run_events.proofs.Later.{told-number}
-use Rattle.run_evented.specs.Evented.{limit_in, number_in, Evented}
-use Rattle.run_evented.specs.Noting.{Acting, Ended}
-use Rattle.run_evented.specs.SoFar.{EventedNow, Adds, BeginsNow}
-use Rattle.run_evented.proofs.Adding.{call-notes, second-ends_now}
-use Rattle.run_evented.proofs.Ending.{ends-added}
-use Rattle.run_keeping.specs.declared.keeper.Keeper.{Keeper}
-use Rattle.run_keeping.specs.Books.{HaveTime}
-use Rattle.run_keeping.specs.Minutes.{Reach}
-use Rattle.run_within.specs.Within.{Within, told_before, course_in}
+use Rattle.run_promise.specs.Origin.{Origin, start_at, rule_of, first_of}
+use Rattle.run_events.specs.Seconds.{bares_by, overs_by, span_before, seen_next, last_of as last_span, IsQuiet, is_fast}
+use Rattle.run_events.proofs.Later.{told-number, seen-same}
+use Rattle.run_note_record.specs.Evented.{limit_in, number_in, Evented, EventedBy}
+use Rattle.run_note_record.specs.Noting.{Acting, Ended, NotesThese, stage_of}
+use Rattle.run_note_record.specs.EventsSoFar.{EventedNow, Adds, BeginsNow}
+use Rattle.run_note_record.proofs.Adding.{call-notes, second-ends_now, second-begins_now}
+use Rattle.run_note_record.proofs.Ending.{ends-added}
+use Rattle.run_minutes.specs.declared.keeper.Keeper.{Keeper}
+use Rattle.run_minutes.specs.Books.{HaveTime}
+use Rattle.run_minutes.specs.Minutes.{Reach}
+use Rattle.run_record.specs.Within.{Within, told_before, course_in, passed_values}
 use Rattle.run_acts.specs.declared.run.Run.{Run}
 use Rattle.run_acts.specs.declared.run.Power.{Power}
-use Rattle.run_acts.specs.declared.run.Power.TheVariants.{Lit, Lost}
+use Rattle.run_acts.specs.declared.run.Power.TheVariants.{Lit, Lost, Due}
 use Rattle.run_acts.specs.Power.{passed}
-use Rattle.run_acts.specs.Booked.{IsTurnReach, BooksTurn}
+use Rattle.run_acts.specs.Booked.{IsTurnReach, BooksTurn, IsBookedTurn}
 use Rattle.run_acts.specs.Devices.{DevicesGoOn}
 use Rattle.run_acts.specs.Faults.{NotesKeeping}
-use Rattle.run_acts.specs.Named.{watched_as}
-use Rattle.run_acts.specs.Recording.{log_of, values_of, Supplies}
-use Rattle.run_acts.specs.Turning.{late_moment, told_of, cut_where, cut_breaks}
-use Rattle.run_acts.specs.Evented.{IsWatching, TurnedEvents}
+use Rattle.run_acts.specs.Named.{watched_as, ValidHere, CrewValid}
+use Rattle.run_acts.specs.Recording.{log_of, values_of, Supplies, IsNow}
+use Rattle.run_acts.specs.Turning.{late_moment, told_of, cut_where, cut_breaks, IsLitTurn}
+use Rattle.run_acts.specs.Evented.{IsWatching, TurnedEvents, WithinEvented, LastAt, EventsLitTurn, CutEvented}
 use Rattle.run_acts.proofs.EventCrews.{AllSitWell, crew-sits}
-use Rattle.run_acts.proofs.TurnRecorded.{pushed}
-use Rattle.log_model.specs.Course.{Went}
-use Rattle.run_events.specs.Seconds.{last_of as last_span}
-use Rattle.run_events.proofs.Later.{seen-same}
-use Rattle.run_evented.proofs.Lines.{same-before}
-use Rattle.log_model.specs.Slots.{Slots}
-use Rattle.event_crews.specs.Turned.{IsLow}
-use Rattle.run_notes.specs.Watching.{seconds_with}
-use Rattle.run_within.specs.Turning.{last_of, before_last, IsTurned}
-use Rattle.run_within.proofs.Turning.{turn-is_fed, turn-ends as turn-ended}
-use Rattle.run_acts.specs.Named.{ValidHere, CrewValid}
-use Rattle.run_acts.specs.Recording.{IsNow}
+use Rattle.run_acts.proofs.TurnRecorded.{pushed, reach-is, books-is, between-is, new-is, after-is}
+use Rattle.run_note_record.proofs.Lines.{same-before}
+use Rattle.log_model.specs.Slots.{Slots, Sitting, is_accepted}
+use Rattle.run_events.specs.Watching.{seconds_with, CrewSecond}
+use Rattle.run_record.specs.Turning.{last_of, before_last, IsTurned, BehindFirst}
+use Rattle.run_record.proofs.Turning.{turn-is_fed, turn-ends as turn-ended}
 use Rattle.run_acts.specs.Going.{IsGoingOn, end_of_seconds, first_second}
-use Rattle.run_acts.specs.Evented.{WithinEvented, LastAt}
 use Rattle.run_acts.proofs.Named.{crew-valid, known-as}
 use Rattle.run_acts.proofs.SeenSpan.{span-more}
 use Rattle.run_acts.proofs.SettledRecorded.{same-ungiven}
 use Rattle.std.proofs.lemmas.List.{map-append}
-use Rattle.log_model.specs.Course.{fresh}
-use Rattle.unit_course.specs.Turn.{span_at}
 use Rattle.run_course.specs.Quiet.{quiet_seconds}
-use Rattle.run_notes.specs.Watching.{CrewSecond}
 use Rattle.std.specs.Prelude.{is_some, option_map, ◌&&◌, nat_lt}
-use Rattle.log_model.specs.Slots.{Sitting, is_accepted}
-use Rattle.event_model.specs.Events.{is_bare, accepted_card, seen_on}
 use Rattle.event_rules.proofs.InARow.{one_more}
 use Rattle.event_model.specs.Spans.{in_a_row}
-use Rattle.event_crews.specs.Fed.{IsSilentFrom, going_with, still_seconds}
-use Rattle.event_crews.proofs.Fed.{still-seen, still-quiet, still-fed}
+use Rattle.run_events.specs.Fed.{IsSilentFrom, going_with, still_seconds}
 use Rattle.tacho_types.specs.declared.card_number.FullCardNumber.{FullCardNumber}
 use Rattle.run_crew.specs.declared.cards.Crew.{Crew}
-use Rattle.run_course.specs.Followed.{Followed}
-use Rattle.run_moments.proofs.Reached.{at-by, nothing-told}
-use Rattle.run_moments.proofs.Telling.{keeping-comes}
-use Rattle.run_events.specs.Seconds.{IsQuiet, is_fast}
+use Rattle.run_course.proofs.Reached.{at-by, nothing-told}
+use Rattle.run_course.proofs.Telling.{keeping-comes}
 use Rattle.run_events.proofs.Shows.{nothing-more}
 use Rattle.run_events.proofs.Growing.{spans-more}
-use Rattle.run_recorded.specs.Beside.{HaveLeftMore}
-use Rattle.run_evented.specs.Evented.{EventedBy}
-use Rattle.run_evented.specs.Going.{AreQuiet}
-use Rattle.run_evented.specs.Noting.{NotesThese, stage_of}
-use Rattle.run_evented.proofs.Adding.{second-begins_now}
-use Rattle.run_evented.proofs.Brought.{told-speed}
-use Rattle.run_evented.proofs.Quiet.{ends-nothing, quiet-brings_nothing}
+use Rattle.run_promise.specs.Beside.{HaveLeftMore}
+use Rattle.run_note_record.specs.Going.{AreQuiet}
+use Rattle.run_note_record.proofs.Brought.{told-speed}
+use Rattle.run_note_record.proofs.Quiet.{ends-nothing, quiet-brings_nothing}
 use Rattle.run_events.proofs.Quiet.{bares-split, overs-split}
-use Rattle.run_within.specs.Turning.{BehindFirst}
-use Rattle.run_within.specs.Recorded.{progress}
+use Rattle.run_record.specs.Recorded.{progress}
 use Rattle.trace_model.specs.declared.Card.TheVariants.{A as CardA_, B as CardB_}
 use Rattle.card_image.specs.Own.{IsOwnValid}
 use Rattle.safety_model.specs.Recording.{card_image}
-use Rattle.run_recorded.specs.Ends.{recording_by}
+use Rattle.run_promise.specs.Ends.{recording_by}
 use Rattle.run_acts.proofs.LastAlike.{last-ends}
-use Rattle.run_within.specs.Within.{passed_values}
-use Rattle.run_evented.proofs.Unlit.{dark-seconds}
-use Rattle.run_acts.specs.declared.run.Power.TheVariants.{Due}
-use Rattle.unit_course.specs.Followed.{Due as IsDue}
-use Rattle.run_acts.specs.Booked.{IsBookedTurn}
-use Rattle.run_acts.specs.Turning.{IsLitTurn}
-use Rattle.run_acts.specs.Evented.{EventsLitTurn, CutEvented}
-use Rattle.run_acts.proofs.TurnRecorded.{reach-is, books-is, between-is, new-is, after-is}
+use Rattle.run_note_record.proofs.Unlit.{dark-seconds}
 use Rattle.run_acts.proofs.Stays.{all-both}
 use Rattle.run_acts.proofs.TurnSeconds.{one-events, well, then_, last-events, crew-x, valid-x, low-x, front-now}
 

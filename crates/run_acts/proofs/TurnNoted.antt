@@ -3,14 +3,14 @@ use Rattle.std.proofs.Common.{◌≡◌, ◌∙◌, inl, inr, ⊎_elim, ℕ, Boo
 use Rattle.tach_media.specs.Medium.{State, IsCoherent}
 use Rattle.minute_model.specs.declared.Minute.{Minute}
 use Rattle.run_crew.specs.Cabin.{crew_of}
-use Rattle.run_notes.specs.declared.watch.Watch.{Watch}
+use Rattle.run_events.specs.declared.watch.Watch.{Watch}
 use Rattle.run_crew.specs.declared.cards.Crew.{Crew}
 use Rattle.unit_notes.specs.declared.unit_event.UnitEvent.{UnitEvent}
-use Rattle.run_notes.specs.Noting.{AreNoted, IsWatched}
+use Rattle.run_events.specs.Noting.{AreNoted, IsWatched}
 use Rattle.run_outcome.specs.declared.outcome.Outcome.{Outcome}
-use Rattle.run_keeping.specs.declared.keeper.Moment.{Moment}
-use Rattle.run_keeping.specs.Minutes.{Reach, Whole, Short, IsReach}
-use Rattle.run_keeping.specs.Faults.{faults_to, TellsFaults, NotesFaults}
+use Rattle.run_minutes.specs.declared.keeper.Moment.{Moment}
+use Rattle.run_minutes.specs.Minutes.{Reach, Whole, Short, IsReach}
+use Rattle.run_minutes.specs.Faults.{faults_to, TellsFaults, NotesFaults}
 use Rattle.run_acts.specs.declared.run.Run.{Run}
 use Rattle.run_acts.specs.Faults.{EndsTo, NotesKeeping}
 use Rattle.run_acts.specs.Turning.{told_of}

@@ -15,30 +15,30 @@ use Rattle.log_model.specs.Log.{In, Keeping}
 use Rattle.log_model.specs.Causes.{RoseBy}
 use Rattle.log_model.specs.Course.{Told as Second}
 use Rattle.safety_model.specs.Safe.{Devices, breakdowns_of}
-use Rattle.unit_course.specs.Followed.{Lit as IsLit, Lost as IsLost}
-use Rattle.unit_course.specs.Legs.{all_travelled}
-use Rattle.unit_course.proofs.Legs.{travelled-earlier}
+use Rattle.run_unit_course.specs.Followed.{Lit as IsLit, Lost as IsLost}
+use Rattle.run_unit_course.specs.Legs.{all_travelled}
+use Rattle.run_unit_course.proofs.Legs.{travelled-earlier}
 use Rattle.unit_model.specs.Image.{odometer_at}
 use Rattle.unit_rule.specs.Odometer.{odometer_after}
 use Rattle.run_crew.specs.Cabin.{AreTwo, with_power_lost}
-use Rattle.run_notes.specs.declared.watch.Watch.{Watch}
+use Rattle.run_events.specs.declared.watch.Watch.{Watch}
 use Rattle.run_outcome.specs.Lines.{Listed, cut_at}
 use Rattle.run_outcome.specs.declared.outcome.Outcome.{Outcome}
-use Rattle.run_recorded.specs.Origin.{Origin}
+use Rattle.run_promise.specs.Origin.{Origin}
 use Rattle.run_course.specs.Moments.{and_break}
 use Rattle.run_course.specs.Seconds.{next_told}
-use Rattle.run_within.specs.Recorded.{Values, Recorded}
-use Rattle.run_within.specs.Within.{Beginning, Within, CutWithin, RecordedFrom, passed_values}
-use Rattle.run_within.specs.Turning.{last_of, before_last, IsTurned}
-use Rattle.run_within.proofs.Cutting.{cut-recorded}
-use Rattle.run_within.proofs.Ending.{second-over}
-use Rattle.run_within.proofs.Going.{dark-recorded}
-use Rattle.run_within.proofs.Turning.{turn-ends, turn-is_fed}
-use Rattle.run_keeping.specs.declared.keeper.Keeper.{Keeper}
-use Rattle.run_keeping.specs.declared.keeper.Moment.{Moment}
-use Rattle.run_keeping.specs.Minutes.{Told, Reach, Whole, Short, IsReach, present_at}
-use Rattle.run_keeping.specs.Deeds.{AllKeep, kepts_on}
-use Rattle.run_keeping.specs.Books.{HaveTime, AreTimedOn}
+use Rattle.run_record.specs.Recorded.{Values, Recorded}
+use Rattle.run_record.specs.Within.{Beginning, Within, CutWithin, RecordedFrom, passed_values}
+use Rattle.run_record.specs.Turning.{last_of, before_last, IsTurned}
+use Rattle.run_record.proofs.Cutting.{cut-recorded}
+use Rattle.run_record.proofs.Ending.{second-over}
+use Rattle.run_record.proofs.Going.{dark-recorded}
+use Rattle.run_record.proofs.Turning.{turn-ends, turn-is_fed}
+use Rattle.run_minutes.specs.declared.keeper.Keeper.{Keeper}
+use Rattle.run_minutes.specs.declared.keeper.Moment.{Moment}
+use Rattle.run_minutes.specs.Minutes.{Told, Reach, Whole, Short, IsReach, present_at}
+use Rattle.run_minutes.specs.Deeds.{AllKeep, kepts_on}
+use Rattle.run_minutes.specs.Books.{HaveTime, AreTimedOn}
 use Rattle.run_acts.specs.Rounds.{Point, IsPoint, told_values, keeping_of, moment_of}
 use Rattle.run_acts.specs.RoundLaws.{KeepsSo, HaveBrokenOff, carried_at}
 use Rattle.run_acts.proofs.RoundBegun.{are-over, may-book}
@@ -55,9 +55,9 @@ use Rattle.run_acts.specs.Turning.{IsLitTurn, told_of, late_moment, cut_where, c
 use Rattle.run_acts.proofs.GoesOn.{goes-on, unit-rose}
 use Rattle.run_acts.proofs.SettledRecorded.{same-ungiven, two-present}
 use Rattle.run_acts.proofs.Turned.{turn-decides, turn-most}
-use Rattle.side_model.specs.Noted.{Note}
-use Rattle.run_ringed.specs.Ringed.{notes_in}
-use Rattle.run_ringed.specs.SoFar.{GoesBehind, notes_so_far}
+use Rattle.note_model.specs.Noted.{Note}
+use Rattle.run_note_record.specs.Ringed.{notes_in}
+use Rattle.run_note_record.specs.RingsSoFar.{GoesBehind, notes_so_far}
 use Rattle.run_acts.specs.Closings.{spells_of, notes_within}
 use Rattle.run_acts.specs.Comings.{TellMore}
 use Rattle.run_acts.specs.Truths.{truths_of, truths_within, marked}

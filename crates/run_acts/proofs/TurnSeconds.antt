@@ -12,81 +12,69 @@ use Rattle.minute_model.specs.Span.{Span, decided_in, fed_many, ungiven_of}
 use Rattle.minute_rules.specs.Kept.{Kept, StandsFor}
 use Rattle.log_model.specs.declared.lines.Break.{Break}
 use Rattle.log_model.specs.declared.lines.Mark.{Mark}
-use Rattle.log_model.specs.Log.{RunLog, Phase, In, Keeping, is_torn_in}
-use Rattle.log_model.specs.Course.{Course, Before, has_power, went}
+use Rattle.log_model.specs.Log.{RunLog, Phase, In, Keeping, is_torn_in, tears_here, found_in}
+use Rattle.log_model.specs.Course.{Course, Before, has_power, went, Went}
 use Rattle.unit_model.specs.Image.{IsUnit, odometer_at}
 use Rattle.unit_rule.specs.Odometer.{odometer_after}
-use Rattle.unit_course.specs.Followed.{Lit as IsLit}
+use Rattle.run_unit_course.specs.Followed.{Lit as IsLit}
 use Rattle.event_model.specs.Events.{Seen, seen_of, seen_by, seen_spans, number_of}
 use Rattle.event_model.specs.Events as events
-use Rattle.event_crews.specs.Watched.{watched, named}
-use Rattle.event_crews.specs.Turned.{AreEnded, AreLow}
-use Rattle.event_crews.proofs.Turned.{turn-ends, turn-stands}
-use Rattle.event_crews.proofs.Fed.{one-fed}
+use Rattle.run_events.specs.Watched.{watched, named}
+use Rattle.run_events.specs.Turned.{AreEnded, AreLow, IsLow}
+use Rattle.run_events.proofs.Turned.{turn-ends, turn-stands}
+use Rattle.run_events.proofs.CrewsFed.{one-fed}
 use Rattle.safety_model.specs.Safe.{Devices}
-use Rattle.slot_machine.specs.declared.seats.Present.{Present}
+use Rattle.card_slots.specs.declared.seats.Present.{Present}
 use Rattle.run_crew.specs.Cabin.{AreTwo, crew_of}
 use Rattle.run_course.specs.Followed.{Progress}
 use Rattle.run_course.specs.Moments.{and_break}
 use Rattle.run_course.proofs.Steps.{with-supply, went-same_}
 use Rattle.run_course.proofs.Told.{lit-told, lit-power}
-use Rattle.run_moments.specs.Moment.{Moment as SecondMoment, goes_on}
-use Rattle.run_notes.specs.declared.watch.Watch.{Watch}
-use Rattle.run_notes.specs.declared.watch.Ended.{Ended as WatchEnded}
-use Rattle.run_notes.specs.Noting.{IsFed}
+use Rattle.run_course.specs.Moment.{Moment as SecondMoment, goes_on}
+use Rattle.run_events.specs.declared.watch.Watch.{Watch}
+use Rattle.run_events.specs.declared.watch.Ended.{Ended as WatchEnded}
+use Rattle.run_events.specs.Noting.{IsFed}
 use Rattle.run_outcome.specs.declared.outcome.Outcome.{Outcome}
 use Rattle.run_outcome.specs.Lines.{Listed}
-use Rattle.run_recorded.specs.Origin.{Origin, start_at, rule_of, first_of}
-use Rattle.run_events.specs.Seconds.{bares_by, overs_by, span_before, seen_next}
-use Rattle.run_events.proofs.Later.{told-number}
-use Rattle.run_evented.specs.Evented.{limit_in}
-use Rattle.run_evented.specs.Noting.{Acting}
-use Rattle.run_evented.specs.SoFar.{EventedNow}
-use Rattle.run_keeping.specs.declared.keeper.Keeper.{Keeper}
-use Rattle.run_keeping.specs.Books.{HaveTime}
-use Rattle.run_keeping.specs.Minutes.{Told, Reach, Whole, Short, present_at}
-use Rattle.run_within.specs.Recorded.{Values}
-use Rattle.run_within.specs.Within.{Within, told_before, course_in}
+use Rattle.run_promise.specs.Origin.{Origin, start_at, rule_of, first_of}
+use Rattle.run_events.specs.Seconds.{bares_by, overs_by, span_before, seen_next, last_of as last_span}
+use Rattle.run_events.proofs.Later.{told-number, seen-same}
+use Rattle.run_note_record.specs.Evented.{limit_in}
+use Rattle.run_note_record.specs.Noting.{Acting}
+use Rattle.run_note_record.specs.EventsSoFar.{EventedNow}
+use Rattle.run_minutes.specs.declared.keeper.Keeper.{Keeper}
+use Rattle.run_minutes.specs.Books.{HaveTime}
+use Rattle.run_minutes.specs.Minutes.{Told, Reach, Whole, Short, present_at, Done, Round, told_after, told_by}
+use Rattle.run_record.specs.Recorded.{Values}
+use Rattle.run_record.specs.Within.{Within, told_before, course_in, Beginning}
 use Rattle.run_acts.specs.declared.run.Run.{Run}
 use Rattle.run_acts.specs.declared.run.Power.TheVariants.{Lit}
 use Rattle.run_acts.specs.Power.{passed}
 use Rattle.run_acts.specs.Booked.{IsTurnReach, BooksTurn}
 use Rattle.run_acts.specs.Devices.{DevicesGoOn}
 use Rattle.run_acts.specs.Faults.{NotesKeeping}
-use Rattle.run_acts.specs.Named.{watched_as}
-use Rattle.run_acts.specs.Recording.{log_of, values_of, IsOrigin}
-use Rattle.run_acts.specs.Rounds.{moment_of, keeping_of}
+use Rattle.run_acts.specs.Named.{watched_as, CrewValid}
+use Rattle.run_acts.specs.Recording.{log_of, values_of, IsOrigin, IsNow}
+use Rattle.run_acts.specs.Rounds.{moment_of, keeping_of, and_breaks}
 use Rattle.run_acts.specs.Turning.{late_moment, told_of, cut_where, cut_breaks}
-use Rattle.run_acts.specs.Evented.{IsWatching, span_of, TurnedEvents}
+use Rattle.run_acts.specs.Evented.{IsWatching, span_of, TurnedEvents, WithinEvented, span_seen}
 use Rattle.run_acts.proofs.Stays.{all-both}
-use Rattle.run_acts.proofs.EventCrews.{AllSitWell, crew-sits}
+use Rattle.run_acts.proofs.EventCrews.{AllSitWell, crew-sits, all-well}
 use Rattle.run_acts.proofs.RoundFaults.{IsUntoldAt, HasCome}
 use Rattle.std.specs.Prelude.{◌||◌}
-use Rattle.log_model.specs.Course.{Went}
-use Rattle.run_events.specs.Seconds.{last_of as last_span}
-use Rattle.run_events.proofs.Later.{seen-same}
-use Rattle.run_evented.proofs.Lines.{same-before}
-use Rattle.log_model.specs.Log.{tears_here, found_in}
+use Rattle.run_note_record.proofs.Lines.{same-before}
 use Rattle.log_model.specs.Slots.{Slots}
-use Rattle.event_crews.specs.Turned.{IsLow}
-use Rattle.run_notes.specs.Watching.{seconds_with}
-use Rattle.run_keeping.specs.Keeping.{Fate, Still, Has, Fell, breaks_by}
-use Rattle.run_keeping.specs.Minutes.{Done, Round, told_after, told_by}
+use Rattle.run_events.specs.Watching.{seconds_with}
+use Rattle.run_minutes.specs.Keeping.{Fate, Still, Has, Fell, breaks_by}
 use Rattle.run_course.proofs.Lookups.{break-more}
-use Rattle.run_evented.proofs.Brought.{SameBefore, course-until}
-use Rattle.run_evented.proofs.Tearing.{told-elsewhere}
-use Rattle.run_within.specs.Turning.{IsTurned}
-use Rattle.run_within.proofs.Turning.{turn-is_fed}
-use Rattle.run_acts.specs.Rounds.{and_breaks}
-use Rattle.run_acts.specs.Named.{CrewValid}
-use Rattle.run_acts.specs.Recording.{IsNow}
+use Rattle.run_note_record.proofs.Brought.{SameBefore, course-until}
+use Rattle.run_note_record.proofs.Tearing.{told-elsewhere}
+use Rattle.run_record.specs.Turning.{IsTurned}
+use Rattle.run_record.proofs.Turning.{turn-is_fed}
 use Rattle.run_acts.specs.Going.{IsGoingOn, end_of_seconds, first_second}
-use Rattle.run_acts.specs.Evented.{WithinEvented, span_seen}
-use Rattle.run_acts.proofs.EventCrews.{all-well}
 use Rattle.run_acts.proofs.Named.{crew-valid, known-as}
 use Rattle.run_acts.proofs.SeenSpan.{span-more, keeping-slots, ends-valid}
 use Rattle.run_acts.proofs.SettledRecorded.{same-ungiven, two-present}
-use Rattle.run_within.specs.Within.{Beginning}
 use Rattle.run_acts.proofs.Turned.{turn-decides, turn-most, turn-one}
 use Rattle.run_acts.proofs.TurnEvented.{come-now, moment-then, keeping-events}
 

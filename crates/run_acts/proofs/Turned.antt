@@ -13,11 +13,11 @@ use Rattle.trace_model.specs.declared.Card.{Card}
 use Rattle.minute_rules.specs.Kept.{StandsFor, Kept as Minutes}
 use Rattle.unit_model.specs.Image.{IsUnit}
 use Rattle.run_crew.specs.Cabin.{Stands}
-use Rattle.run_notes.specs.declared.watch.Watch.{Watch}
-use Rattle.run_notes.specs.Watching.{Watches}
-use Rattle.run_keeping.specs.declared.keeper.Keeper.{Keeper}
-use Rattle.run_keeping.specs.Keeping.{IsReady, CardReady, HasItsRow, SessionsGoOn}
-use Rattle.run_keeping.specs.Minutes.{kept_after}
+use Rattle.run_events.specs.declared.watch.Watch.{Watch}
+use Rattle.run_events.specs.Watching.{Watches}
+use Rattle.run_minutes.specs.declared.keeper.Keeper.{Keeper}
+use Rattle.run_minutes.specs.Keeping.{IsReady, CardReady, HasItsRow, SessionsGoOn}
+use Rattle.run_minutes.specs.Minutes.{kept_after}
 use Rattle.run_acts.specs.declared.run.Run.{Run}
 use Rattle.run_acts.specs.declared.run.Power.TheVariants.{Lit, Lost}
 use Rattle.run_acts.specs.Power.{is_lit, cut_run, passed}

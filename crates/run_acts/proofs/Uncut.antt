@@ -6,15 +6,15 @@ use Rattle.trace_model.specs.declared.Card.{Card}
 use Rattle.event_model.specs.declared.entries.Span.{Span}
 use Rattle.minute_model.specs.declared.Minute.{Minute}
 use Rattle.log_model.specs.declared.lines.Break.{Break}
-use Rattle.slot_machine.specs.Calls.{seat_in, card_in}
+use Rattle.card_slots.specs.Calls.{seat_in, card_in}
 use Rattle.tach_media.specs.Medium.{State, HasCause}
 use Rattle.run_outcome.specs.Lines.{Listed, cut_at}
 use Rattle.run_outcome.specs.Broken.{failed_cuts, BreaksDown}
 use Rattle.run_outcome.proofs.Broken.{cuts-behind, broke-same, broke-once, broke-then}
 use Rattle.run_outcome.specs.declared.outcome.Outcome.{Outcome}
-use Rattle.run_keeping.specs.declared.keeper.Moment.{Moment}
-use Rattle.run_keeping.specs.Keeping.{Fate, Still, Has, Fell as FellThen, breaks_by}
-use Rattle.run_keeping.specs.Minutes.{Round, Told, breaks_after, AreKept, none, more, AreKeptUpTo}
+use Rattle.run_minutes.specs.declared.keeper.Moment.{Moment}
+use Rattle.run_minutes.specs.Keeping.{Fate, Still, Has, Fell as FellThen, breaks_by}
+use Rattle.run_minutes.specs.Minutes.{Round, Told, breaks_after, AreKept, none, more, AreKeptUpTo}
 use Rattle.run_acts.specs.declared.run.Run.{Run}
 use Rattle.run_acts.specs.Acting.{told_of as told_in, IsSettled, Closing, Bare, Closed, Fell, closed_breaks, IsWithdrawn, pulled_breaks, noted_breaks, IsNotedOn, IsPlaced, IsNotedIn}
 use Rattle.run_acts.specs.Noting.{GapReach, NoGap, UnitFailed, DriverFell, BothSlots, AreNotedIn, IsGapNoted}

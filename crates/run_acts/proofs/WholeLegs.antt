@@ -31,11 +31,11 @@ use Rattle.history_model.proofs.Rising.{rises-span, rises-spans}
 use Rattle.card_session.specs.declared.session.Kept.{Kept}
 use Rattle.unit_model.specs.declared.layout.TheConstants.{HIGHEST_ODOMETER}
 use Rattle.unit_model.specs.Image.{odometer_at}
-use Rattle.unit_course.specs.Followed.{Supply, Lit as IsLit, as_spans, IsKnown}
-use Rattle.unit_course.specs.Legs.{kilometres_of, AreLegs, AreWhole, whole_legs}
-use Rattle.unit_course.specs.Turn.{span_at}
-use Rattle.unit_course.proofs.Alike.{decided-empty}
-use Rattle.unit_course.proofs.Legs.{legs-whole}
+use Rattle.run_unit_course.specs.Followed.{Supply, Lit as IsLit, as_spans, IsKnown}
+use Rattle.run_unit_course.specs.Legs.{kilometres_of, AreLegs, AreWhole, whole_legs}
+use Rattle.run_unit_course.specs.Turn.{span_at}
+use Rattle.run_unit_course.proofs.Alike.{decided-empty}
+use Rattle.run_unit_course.proofs.Legs.{legs-whole}
 use Rattle.unit_rule.specs.Rule.{once_mended}
 use Rattle.unit_rule.specs.Marks.{IsHeld}
 use Rattle.unit_rule.specs.Odometer.{odometer_by, odometer_after}
@@ -43,21 +43,21 @@ use Rattle.unit_rule.proofs.Travelling.{odometer-sum}
 use Rattle.safety_model.specs.Safe.{Devices}
 use Rattle.safety_model.specs.Unit.{marks_of}
 use Rattle.safety_model.proofs.Whole.{mark-of, no-failure}
-use Rattle.slot_machine.specs.declared.seats.Present.{Present}
+use Rattle.card_slots.specs.declared.seats.Present.{Present}
 use Rattle.run_course.specs.Seconds.{next_told, kept_all}
 use Rattle.run_course.specs.Travelled.{HasLegs}
-use Rattle.run_brought.proofs.Going.{sure-kept}
-use Rattle.run_moments.proofs.Telling.{each-of}
-use Rattle.run_rule.proofs.Entries.{all-by}
-use Rattle.run_recorded.specs.Origin.{Origin, rule_of, start_at, first_of}
-use Rattle.run_recorded.specs.Whole.{NothingFailed}
-use Rattle.run_keeping.specs.declared.keeper.Keeper.{Keeper}
-use Rattle.run_keeping.specs.Keeping.{is_this, kept_in}
-use Rattle.run_keeping.specs.Minutes.{minute_of, present_at}
-use Rattle.run_keeping.specs.Deeds.{kept_on, kepts_on}
+use Rattle.run_promise.proofs.Going.{sure-kept}
+use Rattle.run_course.proofs.Telling.{each-of}
+use Rattle.run_promise.proofs.Entries.{all-by}
+use Rattle.run_promise.specs.Origin.{Origin, rule_of, start_at, first_of}
+use Rattle.run_promise.specs.Whole.{NothingFailed}
+use Rattle.run_minutes.specs.declared.keeper.Keeper.{Keeper}
+use Rattle.run_minutes.specs.Keeping.{is_this, kept_in}
+use Rattle.run_minutes.specs.Minutes.{minute_of, present_at}
+use Rattle.run_minutes.specs.Deeds.{kept_on, kepts_on}
 use Rattle.activity_codec.specs.declared.values.Slot.TheVariants.{Driver, CoDriver}
-use Rattle.run_within.specs.Recorded.{Values}
-use Rattle.run_within.specs.Within.{Within}
+use Rattle.run_record.specs.Recorded.{Values}
+use Rattle.run_record.specs.Within.{Within}
 use Rattle.run_acts.specs.Truths.{driven_in, IsOdometerBefore, IsOdometerBehind, past_of, truths_of}
 use Rattle.run_acts.proofs.RingedSecond.{travelled-is}
 use Rattle.run_acts.proofs.MinuteEnds.{decided-within, decided-late, followed-lit, minute-range, minute-ends, this-lit, spans-now}

@@ -12,30 +12,30 @@ use Rattle.card_image.specs.Own.{own_sizes, IsOwnValid}
 use Rattle.card_session.specs.Sessions.{IsSession}
 use Rattle.card_session.specs.Cards.{IsCardClosing}
 use Rattle.unit_notes.specs.Journal.{LeavesJournal}
-use Rattle.joint_rule.specs.Views.{other}
-use Rattle.joint_rule.specs.Rules.{Standing, Out}
+use Rattle.device_rule.specs.Views.{other}
+use Rattle.device_rule.specs.Rules.{Standing, Out}
 use Rattle.run_crew.specs.declared.cards.Accepted.{Accepted}
 use Rattle.run_crew.specs.declared.cards.Cards.{Cards}
 use Rattle.run_crew.specs.declared.cabin.Cabin.{Cabin}
 use Rattle.run_crew.specs.Cards.{session_of, with_session}
-use Rattle.run_rule.specs.Found.{Found, found_of}
-use Rattle.run_rule.specs.Between.{Carried}
-use Rattle.run_told.specs.Told.{AreFoundCards, IsPowered, IsPowerless, AreEarly, for_card, arranged, with_standing}
-use Rattle.run_told.proofs.OnCards.{valid-or, no-marks}
-use Rattle.run_told.proofs.Parts.{CardLit, AreParts, parts-of, powered-of, at-other}
-use Rattle.run_told.proofs.Noted.{noted-powered, noted-powerless}
-use Rattle.run_told.proofs.Left.{left-powered}
-use Rattle.run_told.proofs.Travelled.{travelled-noted}
-use Rattle.unit_course.specs.Legs.{Travel, all_travelled}
+use Rattle.run_promise.specs.Found.{Found, found_of}
+use Rattle.run_promise.specs.Between.{Carried}
+use Rattle.run_devices.specs.Told.{AreFoundCards, IsPowered, IsPowerless, AreEarly, for_card, arranged, with_standing}
+use Rattle.run_devices.proofs.OnCards.{valid-or, no-marks}
+use Rattle.run_devices.proofs.Parts.{CardLit, AreParts, parts-of, powered-of, at-other}
+use Rattle.run_devices.proofs.Noted.{noted-powered, noted-powerless}
+use Rattle.run_devices.proofs.Left.{left-powered}
+use Rattle.run_devices.proofs.Travelled.{travelled-noted}
+use Rattle.run_unit_course.specs.Legs.{Travel, all_travelled}
 use Rattle.unit_rule.specs.Odometer.{HasTravelled}
 use Rattle.minute_model.specs.declared.Minute.{Minute}
 use Rattle.safety_model.specs.Safe.{Devices}
-use Rattle.run_keeping.specs.declared.keeper.Moment.{Moment}
-use Rattle.run_keeping.specs.Minutes.{Told, Done, Reach, Whole, Short, IsReach}
-use Rattle.run_keeping.specs.Books.{AreBooked, HaveTime}
-use Rattle.run_keeping.specs.Decided.{BooksAll, carried_by}
-use Rattle.run_keeping.proofs.Brought.{found-session}
-use Rattle.run_keeping.proofs.CardBooked.{session-unset}
+use Rattle.run_minutes.specs.declared.keeper.Moment.{Moment}
+use Rattle.run_minutes.specs.Minutes.{Told, Done, Reach, Whole, Short, IsReach}
+use Rattle.run_minutes.specs.Books.{AreBooked, HaveTime}
+use Rattle.run_minutes.specs.Decided.{BooksAll, carried_by}
+use Rattle.run_minutes.proofs.Brought.{found-session}
+use Rattle.run_minutes.proofs.CardBooked.{session-unset}
 use Rattle.run_acts.specs.Acting.{Closing, Bare, Closed, Fell, closed_cabin, IsClosingOf}
 use Rattle.run_acts.specs.Behind.{carried_closed, IsPoweredOrOff, IsWithdrawnTo, BooksWithdrawn}
 

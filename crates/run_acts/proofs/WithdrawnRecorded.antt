@@ -16,31 +16,31 @@ use Rattle.minute_model.specs.Span.{Span, settled, decided_in, end_of}
 use Rattle.minute_rules.specs.Kept.{StandsFor}
 use Rattle.log_model.specs.declared.lines.Break.{Break}
 use Rattle.log_model.specs.Log.{In, RunLog, Phase, is_torn_in, found_in}
-use Rattle.log_model.specs.Slots.{in_slot, refusal, other_slot}
+use Rattle.log_model.specs.Slots.{in_slot, refusal, other_slot, same_card}
 use Rattle.log_model.specs.Course.{Course, Before, went}
 use Rattle.event_model.specs.Events.{course_by}
-use Rattle.run_moments.specs.Moment.{found_at}
-use Rattle.run_moments.specs.Reached.{course_at}
-use Rattle.run_moments.proofs.Reached.{at-by}
+use Rattle.run_course.specs.Moment.{found_at}
+use Rattle.run_course.specs.Reached.{course_at}
+use Rattle.run_course.proofs.Reached.{at-by}
 use Rattle.unit_model.specs.Image.{odometer_at}
 use Rattle.unit_rule.specs.Odometer.{odometer_after}
 use Rattle.unit_notes.specs.Journal.{LeavesJournal}
 use Rattle.safety_model.specs.Safe.{Devices}
-use Rattle.slot_machine.specs.Calls.{seat_in, card_in, logged}
+use Rattle.card_slots.specs.Calls.{seat_in, card_in, logged}
 use Rattle.run_crew.specs.declared.cards.Accepted.{Accepted}
 use Rattle.run_crew.specs.Cards.{session_of}
-use Rattle.run_told.specs.Told.{arranged}
+use Rattle.run_devices.specs.Told.{arranged}
 use Rattle.run_outcome.specs.Lines.{Listed}
 use Rattle.run_outcome.specs.declared.outcome.Outcome.{Outcome}
-use Rattle.run_keeping.specs.declared.keeper.Moment.{Moment}
-use Rattle.run_keeping.specs.Minutes.{Told, AreKept}
-use Rattle.run_keeping.specs.Books.{HaveTime}
-use Rattle.run_recorded.specs.Origin.{Origin}
-use Rattle.run_within.specs.Recorded.{Values}
-use Rattle.run_within.specs.Within.{Beginning, IsLeaving}
-use Rattle.run_within.specs.Taking.{IsLeft}
-use Rattle.run_within.proofs.Leaving.{card-leaves}
-use Rattle.run_within.proofs.Pulling.{sitting-now}
+use Rattle.run_minutes.specs.declared.keeper.Moment.{Moment}
+use Rattle.run_minutes.specs.Minutes.{Told, AreKept}
+use Rattle.run_minutes.specs.Books.{HaveTime}
+use Rattle.run_promise.specs.Origin.{Origin}
+use Rattle.run_record.specs.Recorded.{Values}
+use Rattle.run_record.specs.Within.{Beginning, IsLeaving}
+use Rattle.run_record.specs.Taking.{IsLeft}
+use Rattle.run_record.proofs.Leaving.{card-leaves}
+use Rattle.run_record.proofs.Pulling.{sitting-now}
 use Rattle.run_acts.specs.declared.run.Run.{Run}
 use Rattle.run_acts.specs.Acting.{Closing, Closed, IsClosed, closed_falls, told_of, left_run}
 use Rattle.run_acts.specs.Recording.{log_of, values_of, RunWithin, RunFails, GoesOnOrFails}
@@ -50,24 +50,23 @@ use Rattle.run_acts.proofs.Asked.{allowed-in}
 use Rattle.run_acts.proofs.NoneComes.{none-comes}
 use Rattle.log_model.specs.declared.lines.Find.{Find}
 use Rattle.run_crew.specs.Cabin.{Stands, with_slot_left}
-use Rattle.run_evented.specs.Noting.{Acting}
-use Rattle.run_evented.specs.SoFar.{EventedNow, puts_into}
+use Rattle.run_note_record.specs.Noting.{Acting}
+use Rattle.run_note_record.specs.EventsSoFar.{EventedNow, puts_into}
 use Rattle.run_acts.specs.NotedEvents.{NotesEvents}
 use Rattle.run_acts.specs.Noting.{closed_events}
 use Rattle.run_acts.specs.Evented.{EventsGoOn, EventsSettling, IsUntold}
 use Rattle.run_acts.proofs.FallEvented.{left-over}
 use Rattle.run_acts.proofs.RingedLines.{SatIn}
-use Rattle.run_keeping.specs.Later.{IsCalm}
+use Rattle.run_minutes.specs.Later.{IsCalm}
 use Rattle.run_acts.proofs.Closed.{closed-recorded, closed-evented}
 use Rattle.run_acts.specs.RunCards.{StillShow, CardsSettling, PlacesSettling}
 use Rattle.run_acts.proofs.CardStays.{closing-still}
-use Rattle.run_ringed.specs.OnCards.{PlacesStay}
+use Rattle.run_note_record.specs.OnCards.{PlacesStay}
 use Rattle.run_acts.proofs.CardPlaces.{closing-stay}
-use Rattle.side_model.specs.Noted.{Note}
-use Rattle.log_model.specs.Slots.{same_card}
+use Rattle.note_model.specs.Noted.{Note}
 use Rattle.card_image.specs.Own.{IsOwnValid}
-use Rattle.run_rule.specs.Found.{found_of}
-use Rattle.run_recorded.specs.Whole.{NothingFailed}
+use Rattle.run_promise.specs.Found.{found_of}
+use Rattle.run_promise.specs.Whole.{NothingFailed}
 use Rattle.run_acts.specs.Closings.{spells_of, last_slot, notes_within}
 use Rattle.run_acts.specs.Comings.{TellMore}
 use Rattle.run_acts.specs.Truths.{truths_within, marked}

@@ -19,16 +19,16 @@ use Rattle.log_model.specs.declared.lines.Verdict.{Verdict}
 use Rattle.log_model.specs.Log.{RunLog, Phase, In, cut_in, is_torn_in, found_in, is_accepting}
 use Rattle.log_model.specs.Slots.{Slots, Sitting, in_slot, refusal}
 use Rattle.log_model.specs.Course.{Course, Visit, Moved, Before, visits, with_slot, leaves, answered, moved_by, slot_told, both_told, begins, is_settling, acted, all_acted, unmoved, fresh, went}
-use Rattle.side_model.specs.Done.{course_powered}
+use Rattle.note_model.specs.Done.{course_powered}
 use Rattle.history_model.specs.Growth.{picking}
 use Rattle.event_model.specs.Events.{course_by}
-use Rattle.unit_course.specs.Turn.{span_at}
+use Rattle.run_unit_course.specs.Turn.{span_at}
 use Rattle.safety_model.specs.Safe.{Devices}
-use Rattle.run_moments.specs.Kept.{settled_times}
-use Rattle.run_moments.specs.Reached.{moved_at, moved_with, course_at, course_with}
-use Rattle.run_recorded.specs.Origin.{Origin, rule_of}
-use Rattle.run_within.specs.Recorded.{Values}
-use Rattle.run_within.specs.Within.{Within, course_in}
+use Rattle.run_course.specs.Kept.{settled_times}
+use Rattle.run_course.specs.Reached.{moved_at, moved_with, course_at, course_with}
+use Rattle.run_promise.specs.Origin.{Origin, rule_of}
+use Rattle.run_record.specs.Recorded.{Values}
+use Rattle.run_record.specs.Within.{Within, course_in}
 use Rattle.run_course.specs.Seconds.{next_told}
 use Rattle.run_acts.specs.Words.{picks_of, IsWordOf}
 use Rattle.run_acts.specs.Truths.{past_of, IsWordIn}

@@ -7,16 +7,16 @@ use Rattle.minute_model.specs.Span.{Span, settled, decided_in}
 use Rattle.minute_rules.specs.Kept.{StandsFor}
 use Rattle.log_model.specs.declared.lines.Break.{Break}
 use Rattle.log_model.specs.declared.lines.Break.TheVariants.{Tear}
-use Rattle.slot_machine.specs.Calls.{seat_in}
+use Rattle.card_slots.specs.Calls.{seat_in}
 use Rattle.run_crew.specs.declared.cards.Accepted.{Accepted}
 use Rattle.run_crew.specs.declared.cabin.Cabin.{Cabin}
 use Rattle.run_crew.specs.Cards.{session_of}
 use Rattle.run_crew.specs.Cabin.{torn_out, with_slot_left, with_session_of}
 use Rattle.run_outcome.specs.Lines.{Listed}
 use Rattle.run_outcome.specs.declared.outcome.Outcome.{Outcome}
-use Rattle.run_keeping.specs.declared.keeper.Moment.{Moment}
-use Rattle.run_keeping.specs.Keeping.{tear_of, with_lines}
-use Rattle.run_keeping.specs.Minutes.{Told, AreKeptUpTo}
+use Rattle.run_minutes.specs.declared.keeper.Moment.{Moment}
+use Rattle.run_minutes.specs.Keeping.{tear_of, with_lines}
+use Rattle.run_minutes.specs.Minutes.{Told, AreKeptUpTo}
 use Rattle.run_acts.specs.declared.run.Run.{Run}
 use Rattle.run_acts.specs.Power.{with_cabin}
 

@@ -12,13 +12,13 @@ use Rattle.log_model.specs.Causes.{RoseBy}
 use Rattle.log_model.specs.Course.{Visit, went}
 use Rattle.safety_model.specs.Safe.{Devices, breakdowns_of}
 use Rattle.run_course.specs.Followed.{Progress}
-use Rattle.run_moments.specs.Moment.{Moment as HasReached}
-use Rattle.run_moments.specs.Telling.{IsMore, IsLeft}
-use Rattle.run_recorded.specs.Origin.{Origin}
-use Rattle.run_recorded.specs.Beside.{HaveLeftMore}
+use Rattle.run_course.specs.Moment.{Moment as HasReached}
+use Rattle.run_course.specs.Telling.{IsMore, IsLeft}
+use Rattle.run_promise.specs.Origin.{Origin}
+use Rattle.run_promise.specs.Beside.{HaveLeftMore}
 use Rattle.run_outcome.specs.Lines.{Listed}
 use Rattle.run_outcome.specs.declared.outcome.Outcome.{Outcome}
-use Rattle.run_keeping.specs.declared.keeper.Moment.{Moment}
+use Rattle.run_minutes.specs.declared.keeper.Moment.{Moment}
 use Rattle.run_acts.specs.declared.run.Run.{Run}
 use Rattle.run_acts.specs.Recording.{log_of, RunWithin, ComesPower}
 use Rattle.run_acts.specs.Evented.{EventsAction}

@@ -2,18 +2,18 @@
 use Rattle.std.specs.Prelude.{◌≡◌, ℕ, Bool, true, false, Option, Some, None, List, map}
 use Rattle.trace_model.specs.declared.Card.{Card}
 use Rattle.minute_model.specs.declared.Minute.{Minute}
-use Rattle.joint_rule.specs.Rules.{Out}
-use Rattle.unit_course.specs.Legs.{Travel, all_travelled}
+use Rattle.device_rule.specs.Rules.{Out}
+use Rattle.run_unit_course.specs.Legs.{Travel, all_travelled}
 use Rattle.unit_rule.specs.Odometer.{HasTravelled, odometer_after}
 use Rattle.safety_model.specs.Safe.{Devices}
 use Rattle.run_crew.specs.declared.cards.Cards.{Cards}
-use Rattle.run_rule.specs.Found.{Found}
-use Rattle.run_rule.specs.Between.{Carried}
-use Rattle.run_told.specs.Told.{IsPowered, IsPowerless, with_standing}
-use Rattle.run_keeping.specs.declared.keeper.Keeper.{Keeper}
-use Rattle.run_keeping.specs.Minutes.{Told, Done, Reach, Whole, Short}
-use Rattle.run_keeping.specs.Books.{AreBooked, HaveTime}
-use Rattle.run_keeping.specs.Decided.{MayBookAll, EndsAll, carried_by}
+use Rattle.run_promise.specs.Found.{Found}
+use Rattle.run_promise.specs.Between.{Carried}
+use Rattle.run_devices.specs.Told.{IsPowered, IsPowerless, with_standing}
+use Rattle.run_minutes.specs.declared.keeper.Keeper.{Keeper}
+use Rattle.run_minutes.specs.Minutes.{Told, Done, Reach, Whole, Short}
+use Rattle.run_minutes.specs.Books.{AreBooked, HaveTime}
+use Rattle.run_minutes.specs.Decided.{MayBookAll, EndsAll, carried_by}
 use Rattle.run_acts.specs.Acting.{Closing, Bare, Closed, Fell}
 
 -- what is carried behind the closing of a card's session: it is not accepted any more

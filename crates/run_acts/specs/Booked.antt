@@ -1,19 +1,19 @@
 -- What the keeping of a turn leaves of unit and cards, over devices that tell their images (profile).
 use Rattle.std.specs.Prelude.{◌≡◌, ℕ, Bool, true, false, List, map}
 use Rattle.minute_model.specs.declared.Minute.{Minute}
-use Rattle.unit_course.specs.Legs.{Travel, all_travelled}
+use Rattle.run_unit_course.specs.Legs.{Travel, all_travelled}
 use Rattle.unit_rule.specs.Odometer.{HasTravelled, odometer_after}
 use Rattle.safety_model.specs.Safe.{Devices}
-use Rattle.run_rule.specs.Found.{Found}
-use Rattle.run_rule.specs.Between.{Carried}
-use Rattle.run_told.specs.Told.{IsPowerless}
+use Rattle.run_promise.specs.Found.{Found}
+use Rattle.run_promise.specs.Between.{Carried}
+use Rattle.run_devices.specs.Told.{IsPowerless}
 use Rattle.run_outcome.specs.declared.outcome.Outcome.{Outcome}
-use Rattle.run_keeping.specs.declared.keeper.Keeper.{Keeper}
-use Rattle.run_keeping.specs.declared.keeper.Moment.{Moment}
-use Rattle.run_keeping.specs.Minutes.{Done, Reach, Whole, Short, Told, IsReach}
-use Rattle.run_keeping.specs.Deeds.{AllKeep, kepts_on}
-use Rattle.run_keeping.specs.Books.{AreBooked, HaveTime, AreTimedOn}
-use Rattle.run_keeping.specs.Decided.{MayBookAll, EndsAll, carried_by}
+use Rattle.run_minutes.specs.declared.keeper.Keeper.{Keeper}
+use Rattle.run_minutes.specs.declared.keeper.Moment.{Moment}
+use Rattle.run_minutes.specs.Minutes.{Done, Reach, Whole, Short, Told, IsReach}
+use Rattle.run_minutes.specs.Deeds.{AllKeep, kepts_on}
+use Rattle.run_minutes.specs.Books.{AreBooked, HaveTime, AreTimedOn}
+use Rattle.run_minutes.specs.Decided.{MayBookAll, EndsAll, carried_by}
 use Rattle.run_acts.specs.declared.run.Run.{Run}
 use Rattle.run_acts.specs.Devices.{DevicesGoOn}
 use Rattle.run_acts.specs.Turning.{IsLitTurn, late_moment, told_of}

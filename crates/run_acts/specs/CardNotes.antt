@@ -4,16 +4,16 @@ use Rattle.trace_model.specs.declared.Card.{Card}
 use Rattle.tach_media.specs.Medium.{State}
 use Rattle.tacho_types.specs.declared.texts.Registration.{Registration}
 use Rattle.card_image.specs.Fields.{file_bytes}
-use Rattle.card_records.specs.declared.card_event.CardEvent.{CardEvent}
+use Rattle.card_files.specs.declared.card_event.CardEvent.{CardEvent}
 use Rattle.event_model.specs.declared.entries.Span.{Span}
 use Rattle.event_model.specs.declared.kinds.TheConstants.{POWER_INTERRUPTION}
 use Rattle.safety_model.specs.Safe.{Devices, card_of}
-use Rattle.slot_machine.specs.declared.seats.Seat.{Seat}
-use Rattle.slot_machine.specs.Calls.{is_card}
+use Rattle.card_slots.specs.declared.seats.Seat.{Seat}
+use Rattle.card_slots.specs.Calls.{is_card}
 use Rattle.run_crew.specs.declared.cards.Accepted.{Accepted}
 use Rattle.run_crew.specs.declared.cards.Cards.{Cards}
 use Rattle.run_crew.specs.Cards.{session_of}
-use Rattle.run_entering.specs.CardEvents.{NotesOnCard}
+use Rattle.run_insertion.specs.CardEvents.{NotesOnCard}
 
 -- A CARD BEHIND SOME NOTES: without a session it may leave no image that it might not have left before; else these events are noted on it, and where the unit failed, or it has fallen, they
 -- may have been cut short.

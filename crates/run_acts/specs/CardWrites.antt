@@ -7,8 +7,8 @@ use Rattle.tach_media.specs.Medium.{State}
 use Rattle.tacho_types.specs.declared.places.PlaceEntry.{PlaceEntry}
 use Rattle.card_layout.specs.declared.files.Application.{Application}
 use Rattle.card_image.specs.Own.{IsOwnValid}
-use Rattle.card_records.specs.Noting.{IsPlaceNoted, IsNotingPlace}
-use Rattle.card_records.specs.Rings.{place_ring}
+use Rattle.card_files.specs.Noting.{IsPlaceNoted, IsNotingPlace}
+use Rattle.card_files.specs.Rings.{place_ring}
 use Rattle.card_session.specs.Sessions.{IsSession}
 use Rattle.card_session.specs.Cards.{IsCardClosed}
 use Rattle.gated_ring.specs.Ring.{PointsInside}
@@ -16,19 +16,19 @@ use Rattle.log_model.specs.declared.lines.Break.{Break}
 use Rattle.minute_model.specs.declared.Minute.{Minute}
 use Rattle.minute_model.specs.Span.{Span, settled, decided_in, activity_next}
 use Rattle.minute_rules.specs.Kept.{StandsFor}
-use Rattle.unit_course.specs.Legs.{Travel}
+use Rattle.run_unit_course.specs.Legs.{Travel}
 use Rattle.unit_rule.specs.Odometer.{HasTravelled, odometer_after}
 use Rattle.safety_model.specs.Safe.{Devices, card_of}
 use Rattle.run_crew.specs.declared.cards.Accepted.{Accepted}
 use Rattle.run_crew.specs.Cards.{session_of}
 use Rattle.run_outcome.specs.Lines.{Listed}
 use Rattle.run_outcome.specs.declared.outcome.Outcome.{Outcome}
-use Rattle.run_rule.specs.Found.{Found, found_of}
-use Rattle.run_rule.specs.Between.{Carried}
-use Rattle.run_keeping.specs.declared.keeper.Moment.{Moment}
-use Rattle.run_keeping.specs.Minutes.{Told}
-use Rattle.run_keeping.specs.Books.{HaveTime}
-use Rattle.run_keeping.specs.Decided.{MayBookAll}
+use Rattle.run_promise.specs.Found.{Found, found_of}
+use Rattle.run_promise.specs.Between.{Carried}
+use Rattle.run_minutes.specs.declared.keeper.Moment.{Moment}
+use Rattle.run_minutes.specs.Minutes.{Told}
+use Rattle.run_minutes.specs.Books.{HaveTime}
+use Rattle.run_minutes.specs.Decided.{MayBookAll}
 use Rattle.run_acts.specs.declared.run.Run.{Run}
 use Rattle.run_acts.specs.Acting.{Closing, Bare, Closed, Fell, IsSettled, IsClosed, left_run, told_of}
 

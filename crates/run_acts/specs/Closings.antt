@@ -6,9 +6,9 @@ use Rattle.trace_model.specs.declared.Card.{Card}
 use Rattle.trace_model.specs.Trace.{TraceSecond}
 use Rattle.log_model.specs.Log.{RunLog, Phase, In, Keeping}
 use Rattle.log_model.specs.Slots.{same_card}
-use Rattle.side_model.specs.Noted.{InsertionNote, Note, insertions_of}
-use Rattle.run_ringed.specs.SoFar.{notes_so_far}
-use Rattle.run_within.specs.Within.{Beginning}
+use Rattle.note_model.specs.Noted.{InsertionNote, Note, insertions_of}
+use Rattle.run_note_record.specs.RingsSoFar.{notes_so_far}
+use Rattle.run_record.specs.Within.{Beginning}
 
 -- A SPELL of a card in the vehicle: the second and the slot of its acceptance, and the second of its withdrawal, if it was withdrawn in order
 pub record Spell : Type 0 where

@@ -5,7 +5,7 @@ use Rattle.card_layout.specs.Fields.{field_at, number_in}
 use Rattle.tach_media.specs.Medium.{State}
 use Rattle.gated_ring.specs.Ring.{PointsInside, IsDense, ring_list}
 use Rattle.message_model.specs.Records.{insertion_ring, insertion_widths}
-use Rattle.card_records.specs.declared.vehicle.Vehicle.{Vehicle}
+use Rattle.card_files.specs.declared.vehicle.Vehicle.{Vehicle}
 
 -- a vehicle and when it was last used, as an insertion tells them
 pub record VehicleTold : Type 0 where

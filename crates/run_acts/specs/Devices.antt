@@ -4,8 +4,8 @@ use Rattle.tach_media.specs.Medium.{State, HasCause, HasBroken}
 use Rattle.safety_model.specs.Safe.{Devices}
 use Rattle.run_crew.specs.declared.cards.Accepted.{Accepted}
 use Rattle.run_crew.specs.declared.cards.Cards.{Cards}
-use Rattle.run_keeping.specs.Keeping.{HasLeftMore, tears_of}
-use Rattle.run_keeping.specs.Later.{RestsBy}
+use Rattle.run_minutes.specs.Keeping.{HasLeftMore, tears_of}
+use Rattle.run_minutes.specs.Later.{RestsBy}
 
 -- a card, by its session before and behind it: it goes on, and broke down where that was torn out, and nowhere else; without a session it was not
 -- written

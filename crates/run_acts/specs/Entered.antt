@@ -7,7 +7,7 @@ use Rattle.tach_media.specs.Medium.{State, IsCoherent, LeavesOnly, Unchanged, Ha
 use Rattle.minute_rules.specs.Kept.{Kept}
 use Rattle.card_image.specs.Own.{own_number, own_view, IsOwnValid}
 use Rattle.card_session.specs.declared.words.TheConstants.{LATEST_MINUTE}
-use Rattle.slot_machine.specs.Calls.{seat_in, is_card}
+use Rattle.card_slots.specs.Calls.{seat_in, is_card}
 use Rattle.log_model.specs.Log.{In, found_in}
 use Rattle.log_model.specs.Slots.{other_slot}
 use Rattle.log_model.specs.Course.{Visit, went}
@@ -16,21 +16,21 @@ use Rattle.safety_model.specs.Safe.{Devices}
 use Rattle.run_crew.specs.declared.cabin.Cabin.{Cabin}
 use Rattle.run_crew.specs.Cards.{session_of}
 use Rattle.run_crew.specs.Cabin.{with_power_lost}
-use Rattle.run_moments.specs.Reached.{moved_at}
-use Rattle.run_told.specs.Told.{arranged}
-use Rattle.run_rule.specs.Found.{found_of}
+use Rattle.run_course.specs.Reached.{moved_at}
+use Rattle.run_devices.specs.Told.{arranged}
+use Rattle.run_promise.specs.Found.{found_of}
 use Rattle.run_outcome.specs.declared.outcome.Outcome.{Outcome}
-use Rattle.run_recorded.specs.Origin.{Origin, first_of}
-use Rattle.run_keeping.specs.declared.keeper.Keeper.{Keeper}
-use Rattle.run_keeping.specs.Keeping.{UnitReady}
-use Rattle.run_keeping.specs.Later.{IsCalm}
-use Rattle.run_entering.specs.declared.lines.Entering.{Entering}
-use Rattle.run_entering.specs.Entering.{Way, most_owed}
-use Rattle.run_entering.specs.Entered.{HasEntered}
-use Rattle.run_entering.specs.Told.{BooksEntered}
-use Rattle.run_within.specs.Recorded.{Values}
-use Rattle.run_within.specs.Within.{Within, CutWithin}
-use Rattle.run_within.specs.Judging.{IsNext, Behind}
+use Rattle.run_promise.specs.Origin.{Origin, first_of}
+use Rattle.run_minutes.specs.declared.keeper.Keeper.{Keeper}
+use Rattle.run_minutes.specs.Keeping.{UnitReady}
+use Rattle.run_minutes.specs.Later.{IsCalm}
+use Rattle.run_insertion.specs.declared.lines.Entering.{Entering}
+use Rattle.run_insertion.specs.Entering.{Way, most_owed}
+use Rattle.run_insertion.specs.Entered.{HasEntered}
+use Rattle.run_insertion.specs.Told.{BooksEntered}
+use Rattle.run_record.specs.Recorded.{Values}
+use Rattle.run_record.specs.Within.{Within, CutWithin}
+use Rattle.run_record.specs.Judging.{IsNext, Behind}
 
 -- what a run has by value, with this keeper and these lines
 abbrev pub values_with : Keeper → Outcome → (unfound next begun : ℕ) → Kept → Values

@@ -4,7 +4,7 @@ use Rattle.activity_codec.specs.declared.values.Slot.{Slot}
 use Rattle.trace_model.specs.declared.Card.{Card}
 use Rattle.tacho_types.specs.CardNumber.{card_number_bytes}
 use Rattle.tacho_types.specs.declared.card_number.FullCardNumber.{FullCardNumber}
-use Rattle.event_crews.specs.Watched.{named}
+use Rattle.run_events.specs.Watched.{named}
 use Rattle.log_model.specs.Slots.{Slots}
 use Rattle.log_model.specs.Course.{Told}
 use Rattle.history_model.specs.Minutes.{HistoryMinute}
@@ -14,16 +14,16 @@ use Rattle.event_model.specs.Events as events
 use Rattle.event_model.specs.Events.{Event, noted_with}
 use Rattle.card_image.specs.Own.{IsOwnValid}
 use Rattle.run_course.specs.Presence.{SlotsTell}
-use Rattle.slot_machine.specs.Calls.{seat_in, is_card}
+use Rattle.card_slots.specs.Calls.{seat_in, is_card}
 use Rattle.run_crew.specs.declared.cabin.Cabin.{Cabin}
 use Rattle.run_crew.specs.declared.cards.Cards.{Cards}
 use Rattle.run_crew.specs.Cards.{known_of, session_of}
 use Rattle.run_crew.specs.Cabin.{Stands, torn_out, crew_of}
-use Rattle.run_notes.specs.Entries.{number_or_no_card, IsCrewOf}
-use Rattle.run_rule.specs.Found.{Found, found_of}
-use Rattle.run_told.specs.Told.{AreFoundCards}
-use Rattle.run_keeping.specs.Keeping.{Fate, Still, Has, Fell}
-use Rattle.run_keeping.specs.Faults.{faults_by}
+use Rattle.run_events.specs.Entries.{number_or_no_card, IsCrewOf}
+use Rattle.run_promise.specs.Found.{Found, found_of}
+use Rattle.run_devices.specs.Told.{AreFoundCards}
+use Rattle.run_minutes.specs.Keeping.{Fate, Still, Has, Fell}
+use Rattle.run_minutes.specs.Faults.{faults_by}
 use Rattle.run_acts.specs.NotedEvents.{AreTold}
 
 -- each card that has a session is known by its number

@@ -10,27 +10,26 @@ use Rattle.log_model.specs.Log.{RunLog, Phase, In, is_torn_in, found_in}
 use Rattle.log_model.specs.Course.{Visit}
 use Rattle.log_model.specs.Slots.{refusal}
 use Rattle.event_model.specs.Events.{Seen, seen_of, seen_spans, crew_of}
-use Rattle.slot_machine.specs.Calls.{logged}
-use Rattle.unit_course.specs.Lines.{cut_at}
-use Rattle.unit_course.specs.Followed.{Supply}
-use Rattle.unit_course.specs.Followed.{Lost as IsLost}
+use Rattle.card_slots.specs.Calls.{logged}
+use Rattle.run_unit_course.specs.Lines.{cut_at}
+use Rattle.run_unit_course.specs.Followed.{Supply, Lost as IsLost}
 use Rattle.safety_model.specs.Safe.{Devices}
 use Rattle.run_course.specs.Moments.{and_break}
 use Rattle.run_course.specs.Followed.{Progress}
-use Rattle.run_moments.specs.Telling.{begun_by}
+use Rattle.run_course.specs.Telling.{begun_by}
 use Rattle.run_events.specs.Seconds.{last_of, span_before, seen_next}
 use Rattle.run_crew.specs.declared.cabin.Cabin.{Cabin}
 use Rattle.run_outcome.specs.declared.outcome.Outcome.{Outcome}
-use Rattle.run_recorded.specs.Origin.{Origin}
-use Rattle.run_evented.specs.Evented.{limit_in, Evented}
-use Rattle.run_evented.specs.Noting.{Stage, Acting}
-use Rattle.run_evented.specs.SoFar.{EventedNow, puts_into}
-use Rattle.run_notes.specs.declared.watch.Watch.{Watch}
-use Rattle.run_notes.specs.Watching.{StandsFor}
-use Rattle.event_crews.specs.Watched.{watched}
-use Rattle.event_crews.specs.Turned.{AreLow}
-use Rattle.run_keeping.specs.declared.keeper.Moment.{Moment}
-use Rattle.run_keeping.specs.Books.{HaveTime}
+use Rattle.run_promise.specs.Origin.{Origin}
+use Rattle.run_note_record.specs.Evented.{limit_in, Evented}
+use Rattle.run_note_record.specs.Noting.{Stage, Acting}
+use Rattle.run_note_record.specs.EventsSoFar.{EventedNow, puts_into}
+use Rattle.run_events.specs.declared.watch.Watch.{Watch}
+use Rattle.run_events.specs.Watching.{StandsFor}
+use Rattle.run_events.specs.Watched.{watched}
+use Rattle.run_events.specs.Turned.{AreLow}
+use Rattle.run_minutes.specs.declared.keeper.Moment.{Moment}
+use Rattle.run_minutes.specs.Books.{HaveTime}
 use Rattle.run_acts.specs.declared.run.Run.{Run}
 use Rattle.run_acts.specs.declared.run.Power.TheVariants.{Lit}
 use Rattle.run_acts.specs.Power.{is_lit, passed}

@@ -5,12 +5,12 @@ use Rattle.minute_model.specs.declared.Minute.{Minute}
 use Rattle.minute_model.specs.Span.{Span, settled, decided_in}
 use Rattle.minute_rules.specs.Kept.{StandsFor}
 use Rattle.run_crew.specs.Cabin.{crew_of}
-use Rattle.run_notes.specs.declared.watch.Ended.{Ended}
-use Rattle.run_notes.specs.Noting.{AreNoted, AreBeingNoted, IsFed}
+use Rattle.run_events.specs.declared.watch.Ended.{Ended}
+use Rattle.run_events.specs.Noting.{AreNoted, AreBeingNoted, IsFed}
 use Rattle.run_outcome.specs.declared.outcome.Outcome.{Outcome}
-use Rattle.run_keeping.specs.declared.keeper.Moment.{Moment}
-use Rattle.run_keeping.specs.Minutes.{Reach, IsReach}
-use Rattle.run_keeping.specs.Faults.{faults_to, TellsFaults, NotesFaults}
+use Rattle.run_minutes.specs.declared.keeper.Moment.{Moment}
+use Rattle.run_minutes.specs.Minutes.{Reach, IsReach}
+use Rattle.run_minutes.specs.Faults.{faults_to, TellsFaults, NotesFaults}
 use Rattle.run_acts.specs.declared.run.Run.{Run}
 use Rattle.run_acts.specs.Booked.{IsTurnReach}
 use Rattle.run_acts.specs.Turning.{IsLitTurn, late_moment, told_of}

@@ -11,13 +11,13 @@ use Rattle.minute_model.specs.Span.{Span, end_of, ungiven_of}
 use Rattle.minute_rules.specs.Kept.{StandsFor}
 use Rattle.unit_model.specs.declared.layout.TheConstants.{HIGHEST_ODOMETER}
 use Rattle.unit_model.specs.Image.{IsUnit}
-use Rattle.slot_machine.specs.Calls.{present_in}
+use Rattle.card_slots.specs.Calls.{present_in}
 use Rattle.run_crew.specs.declared.cards.Known.{Known}
 use Rattle.run_crew.specs.declared.cabin.Cabin.{Cabin}
 use Rattle.run_crew.specs.Cards.{session_of}
 use Rattle.run_crew.specs.Cabin.{Stands, KnowsEnded}
-use Rattle.run_notes.specs.Watching.{Watches}
-use Rattle.run_keeping.specs.Keeping.{IsReady, HasItsRow, HaveRows}
+use Rattle.run_events.specs.Watching.{Watches}
+use Rattle.run_minutes.specs.Keeping.{IsReady, HasItsRow, HaveRows}
 use Rattle.run_opening.specs.declared.fault.RunFault.{RunFault}
 use Rattle.run_opening.specs.declared.fault.RunFault.TheVariants.{MediumFault, BadUnit, ClockBack, SameCard}
 use Rattle.run_acts.specs.declared.run.Run.{Run}

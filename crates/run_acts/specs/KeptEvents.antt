@@ -5,9 +5,9 @@ use Rattle.trace_model.specs.declared.Card.{Card}
 use Rattle.tacho_types.specs.declared.card_number.FullCardNumber.{FullCardNumber}
 use Rattle.event_model.specs.declared.kinds.TheConstants.{CARD_FAULT}
 use Rattle.unit_notes.specs.declared.unit_event.UnitEvent.{UnitEvent}
-use Rattle.run_recorded.specs.Origin.{Origin}
-use Rattle.run_evented.specs.Evented.{number_in}
-use Rattle.event_crews.specs.Watched.{number_bytes}
+use Rattle.run_promise.specs.Origin.{Origin}
+use Rattle.run_note_record.specs.Evented.{number_in}
+use Rattle.run_events.specs.Watched.{number_bytes}
 
 -- these are faults of cards
 abbrev pub AreFaults : List UnitEvent → Type 0

@@ -8,8 +8,8 @@ use Rattle.event_model.specs.Events.{Event, Crew}
 use Rattle.safety_model.specs.Recording.{card_image}
 use Rattle.tacho_types.specs.declared.card_number.FullCardNumber.{FullCardNumber}
 use Rattle.tacho_types.specs.CardNumber.{card_number_of}
-use Rattle.run_recorded.specs.Origin.{Origin}
-use Rattle.run_evented.specs.Evented.{number_in}
+use Rattle.run_promise.specs.Origin.{Origin}
+use Rattle.run_note_record.specs.Evented.{number_in}
 
 -- a card is valid at the start
 abbrev pub ValidHere : Origin → Card → Type 0

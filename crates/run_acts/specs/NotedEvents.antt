@@ -5,15 +5,15 @@ use Rattle.trace_model.specs.declared.Card.{Card}
 use Rattle.log_model.specs.Log.{RunLog}
 use Rattle.event_model.specs.declared.kinds.TheConstants.{OVER_SPEEDING}
 use Rattle.event_model.specs.Events.{Event}
-use Rattle.event_course.specs.Noted.{are_sure}
-use Rattle.event_course.specs.Shown.{all_kinds}
+use Rattle.unit_events.specs.Noted.{are_sure}
+use Rattle.unit_events.specs.Shown.{all_kinds}
 use Rattle.unit_notes.specs.declared.unit_event.UnitEvent.{UnitEvent}
 use Rattle.unit_notes.specs.Fields.{IsEventOf}
 use Rattle.safety_model.specs.Safe.{Devices}
 use Rattle.run_events.specs.Shown.{none, AreNumbers}
-use Rattle.run_recorded.specs.Origin.{Origin}
-use Rattle.run_evented.specs.Evented.{number_in, NotesMore}
-use Rattle.run_evented.specs.Noting.{NotesThese}
+use Rattle.run_promise.specs.Origin.{Origin}
+use Rattle.run_note_record.specs.Evented.{number_in, NotesMore}
+use Rattle.run_note_record.specs.Noting.{NotesThese}
 
 -- a note of the unit tells this event of a run
 pub record IsTold (number : Card → List ℕ) (e : Event) (v : UnitEvent) : Type 0 where

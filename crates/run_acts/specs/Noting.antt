@@ -14,23 +14,23 @@ use Rattle.minute_model.specs.declared.Minute.{Minute}
 use Rattle.minute_model.specs.Span.{Span as Minutes, settled, decided_in}
 use Rattle.minute_rules.specs.Kept.{StandsFor}
 use Rattle.run_events.specs.Shown.{SaysNothing}
-use Rattle.run_keeping.specs.Minutes.{Reach, IsReach}
-use Rattle.run_keeping.specs.Faults.{faults_to}
+use Rattle.run_minutes.specs.Minutes.{Reach, IsReach}
+use Rattle.run_minutes.specs.Faults.{faults_to}
 use Rattle.log_model.specs.declared.lines.Break.{Break}
 use Rattle.log_model.specs.Log.{Phase, In}
 use Rattle.safety_model.specs.Safe.{Devices}
-use Rattle.slot_machine.specs.Calls.{seat_in, card_in}
+use Rattle.card_slots.specs.Calls.{seat_in, card_in}
 use Rattle.run_crew.specs.declared.cards.Cards.{Cards}
 use Rattle.run_crew.specs.Cabin.{crew_of}
-use Rattle.run_notes.specs.Entries.{entry_of}
-use Rattle.run_rule.specs.Found.{Found}
-use Rattle.run_rule.specs.Between.{Carried}
-use Rattle.run_told.specs.Told.{AreFoundCards, IsPowered, with_standing}
+use Rattle.run_events.specs.Entries.{entry_of}
+use Rattle.run_promise.specs.Found.{Found}
+use Rattle.run_promise.specs.Between.{Carried}
+use Rattle.run_devices.specs.Told.{AreFoundCards, IsPowered, with_standing}
 use Rattle.run_outcome.specs.Lines.{Listed}
 use Rattle.run_outcome.specs.declared.outcome.Outcome.{Outcome}
-use Rattle.run_keeping.specs.declared.keeper.Moment.{Moment}
-use Rattle.run_recorded.specs.Origin.{Origin}
-use Rattle.run_within.specs.Taking.{fallen}
+use Rattle.run_minutes.specs.declared.keeper.Moment.{Moment}
+use Rattle.run_promise.specs.Origin.{Origin}
+use Rattle.run_record.specs.Taking.{fallen}
 use Rattle.run_acts.specs.declared.run.Run.{Run}
 use Rattle.run_acts.specs.Acting.{IsNotedIn, IsNotedOn, Closing, Bare, Closed, Fell, IsClosed, told_of, left_run}
 use Rattle.run_acts.specs.Behind.{IsPoweredOrOff}

@@ -7,8 +7,8 @@ use Rattle.trace_model.specs.Trace.{TraceSecond}
 use Rattle.tach_media.specs.Medium.{State}
 use Rattle.tacho_types.specs.declared.texts.Registration.{Registration}
 use Rattle.card_layout.specs.declared.files.Application.{Application}
-use Rattle.card_records.specs.declared.card_event.CardEvent.{CardEvent}
-use Rattle.card_records.specs.declared.current_use.CurrentUse.{CurrentUse}
+use Rattle.card_files.specs.declared.card_event.CardEvent.{CardEvent}
+use Rattle.card_files.specs.declared.current_use.CurrentUse.{CurrentUse}
 use Rattle.card_image.specs.Fields.{current_use}
 use Rattle.card_image.specs.Own.{own_sizes}
 use Rattle.card_session.specs.Inserting.{unclosed}
@@ -17,8 +17,8 @@ use Rattle.log_model.specs.Log.{RunLog, is_accepting}
 use Rattle.log_model.specs.Slots.{same_card}
 use Rattle.event_model.specs.declared.kinds.TheConstants.{INSERTION_WHILE_DRIVING, SESSION_NOT_CLOSED, POWER_INTERRUPTION}
 use Rattle.event_model.specs.Events.{Event, Crew, Seen, Tearing, number_of, seen_of, gap_events}
-use Rattle.side_model.specs.Done.{has_failed_in}
-use Rattle.run_entering.specs.CardEvents.{events_in, all_noted}
+use Rattle.note_model.specs.Done.{has_failed_in}
+use Rattle.run_insertion.specs.CardEvents.{events_in, all_noted}
 
 -- a card is one of a crew
 abbrev pub is_card : Option Card → Card → Bool

@@ -15,9 +15,9 @@ use Rattle.history_model.specs.Minutes.{HistoryMinute, card_history}
 use Rattle.history_model.specs.Presence.{Start}
 use Rattle.history_model.specs.History.{settlings_of, minutes_after, decided_of}
 use Rattle.history_model.specs.Completeness.{deciding_of}
-use Rattle.unit_course.specs.Followed.{as_spans}
-use Rattle.unit_course.specs.Turn.{span_at, begins_with}
-use Rattle.run_moments.specs.Kept.{settled_times}
+use Rattle.run_unit_course.specs.Followed.{as_spans}
+use Rattle.run_unit_course.specs.Turn.{span_at, begins_with}
+use Rattle.run_course.specs.Kept.{settled_times}
 
 -- the last of these seconds had power, and kept it
 abbrev pub runs_on : List Told → Bool

@@ -6,9 +6,9 @@ use Rattle.minute_rules.specs.Kept.{StandsFor}
 use Rattle.log_model.specs.declared.lines.Break.{Break}
 use Rattle.run_crew.specs.declared.cabin.Cabin.{Cabin}
 use Rattle.run_crew.specs.Cabin.{with_power_lost, with_minute_ended}
-use Rattle.run_notes.specs.Watching as watching
+use Rattle.run_events.specs.Watching as watching
 use Rattle.run_outcome.specs.Lines.{cut_at}
-use Rattle.unit_journal.specs.declared.notes.Notes.{Notes}
+use Rattle.unit_minutes.specs.declared.notes.Notes.{Notes}
 use Rattle.run_acts.specs.declared.run.Run.{Run}
 use Rattle.run_acts.specs.declared.run.Power.{Power}
 use Rattle.run_acts.specs.declared.run.Power.TheVariants.{Lit, Due, Lost}

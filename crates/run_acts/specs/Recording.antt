@@ -7,9 +7,8 @@ use Rattle.minute_model.specs.declared.Minute.{Minute}
 use Rattle.log_model.specs.Log.{RunLog, Phase, In}
 use Rattle.log_model.specs.Course.{Visit, went}
 use Rattle.log_model.specs.Slots.{refusal}
-use Rattle.slot_machine.specs.Calls.{logged}
-use Rattle.unit_course.specs.Followed.{Supply}
-use Rattle.unit_course.specs.Followed.{Lit as IsLit, Due as IsDue, Lost as IsLost}
+use Rattle.card_slots.specs.Calls.{logged}
+use Rattle.run_unit_course.specs.Followed.{Supply, Lit as IsLit, Due as IsDue, Lost as IsLost}
 use Rattle.unit_model.specs.Decoding.{Decodes}
 use Rattle.unit_model.specs.Image.{odometer_at}
 use Rattle.unit_model.specs.Versions.{rule_of}
@@ -18,16 +17,16 @@ use Rattle.unit_rule.specs.Rule.{started}
 use Rattle.card_image.specs.Own.{own_number, IsOwnValid}
 use Rattle.safety_model.specs.Recording.{card_image, brought}
 use Rattle.safety_model.specs.Safe.{Devices}
-use Rattle.run_rule.specs.Found.{found_of}
+use Rattle.run_promise.specs.Found.{found_of}
 use Rattle.run_crew.specs.declared.cabin.Cabin.{Cabin}
 use Rattle.run_crew.specs.Cabin.{with_power_lost}
 use Rattle.run_outcome.specs.declared.outcome.Outcome.{Outcome}
-use Rattle.run_recorded.specs.Origin.{Origin}
-use Rattle.run_recorded.specs.Whole.{NothingFailed}
-use Rattle.run_ringed.specs.Ringed.{notes_in}
-use Rattle.run_keeping.specs.Books.{HaveTime}
-use Rattle.run_within.specs.Recorded.{Values, Recorded}
-use Rattle.run_within.specs.Within.{Beginning, Within, CutWithin, passed_values}
+use Rattle.run_promise.specs.Origin.{Origin}
+use Rattle.run_promise.specs.Whole.{NothingFailed}
+use Rattle.run_note_record.specs.Ringed.{notes_in}
+use Rattle.run_minutes.specs.Books.{HaveTime}
+use Rattle.run_record.specs.Recorded.{Values, Recorded}
+use Rattle.run_record.specs.Within.{Beginning, Within, CutWithin, passed_values}
 use Rattle.run_acts.specs.declared.run.Run.{Run}
 use Rattle.run_acts.specs.declared.run.Power.{Power}
 use Rattle.run_acts.specs.declared.run.Power.TheVariants.{Lit, Due, Lost}

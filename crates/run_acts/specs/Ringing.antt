@@ -10,7 +10,7 @@ use Rattle.gated_ring.specs.Change.{IsAdded}
 use Rattle.message_model.specs.Records.{unit_place_ring}
 use Rattle.minute_model.specs.Span.{Span, travelled_of}
 use Rattle.minute_rules.specs.Kept.{StandsFor}
-use Rattle.side_model.specs.Rings.{kind_of}
+use Rattle.note_model.specs.Rings.{kind_of}
 use Rattle.unit_model.specs.declared.layout.TheConstants.{HIGHEST_ODOMETER}
 use Rattle.unit_notes.specs.Entries.{unit_place_bytes}
 use Rattle.run_crew.specs.declared.cards.Accepted.{Accepted}
@@ -18,9 +18,9 @@ use Rattle.run_crew.specs.Cards.{session_of}
 use Rattle.run_outcome.specs.Lines.{Listed}
 use Rattle.run_outcome.specs.declared.outcome.Outcome.{Outcome}
 use Rattle.log_model.specs.declared.lines.Break.{Break}
-use Rattle.run_ringed.specs.Ringed.{LeavesRings, WritesImages, Seating, MayBeAdded, IsWithdrawnAt, MayBeWithdrawn}
-use Rattle.run_keeping.specs.declared.keeper.Moment.{Moment}
-use Rattle.run_keeping.specs.Minutes.{odometer_by}
+use Rattle.run_note_record.specs.Ringed.{LeavesRings, WritesImages, Seating, MayBeAdded, IsWithdrawnAt, MayBeWithdrawn}
+use Rattle.run_minutes.specs.declared.keeper.Moment.{Moment}
+use Rattle.run_minutes.specs.Minutes.{odometer_by}
 use Rattle.run_acts.specs.declared.run.Run.{Run}
 use Rattle.run_acts.specs.Acting.{Closing, Bare, Closed, Fell, IsSettled, IsClosed, IsClosedBehind, left_run}
 

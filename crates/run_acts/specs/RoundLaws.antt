@@ -9,25 +9,25 @@ use Rattle.run_model.specs.declared.Device.TheVariants.{Unit as Recorder}
 use Rattle.minute_model.specs.declared.Minute.{Minute}
 use Rattle.log_model.specs.Causes.{device_of, RoseBy}
 use Rattle.log_model.specs.Course.{went}
-use Rattle.unit_course.specs.Legs.{Travel, all_travelled}
+use Rattle.run_unit_course.specs.Legs.{Travel, all_travelled}
 use Rattle.unit_model.specs.Image.{odometer_at}
 use Rattle.unit_rule.specs.Odometer.{HasTravelled}
 use Rattle.safety_model.specs.Safe.{Devices, breakdowns_of}
 use Rattle.run_crew.specs.declared.cards.Cards.{Cards}
 use Rattle.run_crew.specs.Cards.{session_of}
 use Rattle.run_crew.specs.Cabin.{AreTwo}
-use Rattle.run_rule.specs.Between.{Carried}
+use Rattle.run_promise.specs.Between.{Carried}
 use Rattle.run_course.specs.Seconds.{kept_all}
-use Rattle.run_told.specs.Told.{IsPowerless}
-use Rattle.run_recorded.specs.Origin.{Origin}
-use Rattle.run_keeping.specs.declared.keeper.Keeper.{Keeper}
-use Rattle.run_keeping.specs.Minutes.{Round, Told, Done, Reach, Whole, AreRounds, IsLast, IsReach, told_by, present_at}
-use Rattle.run_keeping.specs.Keeping.{tears_of}
-use Rattle.run_keeping.specs.Books.{AreBooked}
-use Rattle.run_keeping.specs.Decided.{MayBookAll, IsCutSo, EndsAll, carried_by}
-use Rattle.run_within.specs.Recorded.{Values, carried}
-use Rattle.run_within.specs.Within.{Beginning, IsLeaving, Within, GoesOn, GoesOnSo, CutWithin}
-use Rattle.run_keeping.specs.Later.{RestBy}
+use Rattle.run_devices.specs.Told.{IsPowerless}
+use Rattle.run_promise.specs.Origin.{Origin}
+use Rattle.run_minutes.specs.declared.keeper.Keeper.{Keeper}
+use Rattle.run_minutes.specs.Minutes.{Round, Told, Done, Reach, Whole, AreRounds, IsLast, IsReach, told_by, present_at}
+use Rattle.run_minutes.specs.Keeping.{tears_of}
+use Rattle.run_minutes.specs.Books.{AreBooked}
+use Rattle.run_minutes.specs.Decided.{MayBookAll, IsCutSo, EndsAll, carried_by}
+use Rattle.run_record.specs.Recorded.{Values, carried}
+use Rattle.run_record.specs.Within.{Beginning, IsLeaving, Within, GoesOn, GoesOnSo, CutWithin}
+use Rattle.run_minutes.specs.Later.{RestBy}
 use Rattle.run_acts.specs.Rounds.{Point, IsPoint, told_values, moment_of, keeping_of, HasBrokenDown, HaveBroken}
 
 -- the record at a point of a second, where keeper, marks and breaks are these and these minutes are still to be kept

@@ -13,26 +13,26 @@ use Rattle.log_model.specs.Log.{RunLog, Phase, In, Keeping, phase_of}
 use Rattle.log_model.specs.Causes.{device_of, RoseBy}
 use Rattle.log_model.specs.Course.{Course, Visit, went}
 use Rattle.history_model.specs.Minutes.{HistoryMinute}
-use Rattle.joint_rule.specs.Rules.{Standing}
-use Rattle.unit_course.specs.Turn.{span_at}
+use Rattle.device_rule.specs.Rules.{Standing}
+use Rattle.run_unit_course.specs.Turn.{span_at}
 use Rattle.run_crew.specs.declared.cabin.Cabin.{Cabin}
 use Rattle.run_crew.specs.declared.cards.Cards.{Cards}
 use Rattle.run_crew.specs.Cards.{session_of}
-use Rattle.run_rule.specs.Between.{Carried}
+use Rattle.run_promise.specs.Between.{Carried}
 use Rattle.run_course.specs.Presence.{SlotsTell}
 use Rattle.run_course.specs.Seconds.{kept_all}
-use Rattle.run_moments.specs.Moment.{Moment}
-use Rattle.run_moments.specs.Kept.{StaysOut, HasDecided}
-use Rattle.run_present.specs.Presence.{PresentStand, SessionsStand}
-use Rattle.run_recorded.specs.Origin.{Origin, rule_of, start_at}
-use Rattle.run_told.specs.Told.{AreFoundCards, AreEarly}
-use Rattle.run_keeping.specs.declared.keeper.Moment.{Moment as KeepingAt}
-use Rattle.run_keeping.specs.Keeping.{Fate, Fell, is_this, tears_of}
-use Rattle.run_keeping.specs.declared.keeper.Keeper.{Keeper}
-use Rattle.run_keeping.specs.Minutes.{Told, Done, present_at}
-use Rattle.run_keeping.specs.Books.{standing_by}
-use Rattle.run_within.specs.Recorded.{Values, GoesOnIn}
-use Rattle.run_within.specs.Within.{Beginning, told_before, course_in, IsLeaving, AreBackAt, AreOld}
+use Rattle.run_course.specs.Moment.{Moment}
+use Rattle.run_course.specs.Kept.{StaysOut, HasDecided}
+use Rattle.run_devices.specs.Presence.{PresentStand, SessionsStand}
+use Rattle.run_promise.specs.Origin.{Origin, rule_of, start_at}
+use Rattle.run_devices.specs.Told.{AreFoundCards, AreEarly}
+use Rattle.run_minutes.specs.declared.keeper.Moment.{Moment as KeepingAt}
+use Rattle.run_minutes.specs.Keeping.{Fate, Fell, is_this, tears_of}
+use Rattle.run_minutes.specs.declared.keeper.Keeper.{Keeper}
+use Rattle.run_minutes.specs.Minutes.{Told, Done, present_at}
+use Rattle.run_minutes.specs.Books.{standing_by}
+use Rattle.run_record.specs.Recorded.{Values, GoesOnIn}
+use Rattle.run_record.specs.Within.{Beginning, told_before, course_in, IsLeaving, AreBackAt, AreOld}
 
 -- what a run has by value, where keeper, marks and breaks are these
 abbrev pub told_values : Told → Values → Values

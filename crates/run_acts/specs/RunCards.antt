@@ -7,28 +7,28 @@ use Rattle.trace_model.specs.declared.Action.TheVariants.{Withdraw, Place}
 use Rattle.trace_model.specs.Trace.{TraceSecond, driven}
 use Rattle.card_layout.specs.declared.files.Application.{Application}
 use Rattle.card_image.specs.Own.{own_sizes, IsOwnValid}
-use Rattle.card_records.specs.declared.current_use.CurrentUse.{CurrentUse}
+use Rattle.card_files.specs.declared.current_use.CurrentUse.{CurrentUse}
 use Rattle.event_model.specs.Events.{Event, Seen, seen_of, seen_spans, gap_events}
 use Rattle.minute_model.specs.declared.Minute.{Minute}
 use Rattle.log_model.specs.Log.{RunLog, In}
 use Rattle.log_model.specs.Slots.{refusal}
 use Rattle.log_model.specs.Course.{Before, Course, Visit, went}
-use Rattle.slot_machine.specs.Calls.{logged}
+use Rattle.card_slots.specs.Calls.{logged}
 use Rattle.safety_model.specs.Recording.{card_image}
 use Rattle.safety_model.specs.Safe.{Devices, card_of}
 use Rattle.run_events.specs.Seconds.{gap_by}
-use Rattle.run_evented.specs.Evented.{images_in}
-pub use Rattle.run_evented.specs.Uses.{vehicle_of, vehicle_in}
-use Rattle.run_evented.specs.Uses.{notes_in, notes_now, uses_in}
+use Rattle.run_note_record.specs.Evented.{images_in}
+pub use Rattle.run_note_record.specs.Uses.{vehicle_of, vehicle_in}
+use Rattle.run_note_record.specs.Uses.{notes_in, notes_now, uses_in}
 use Rattle.run_rings.specs.Notes.{course_behind}
-use Rattle.run_recorded.specs.Origin.{Origin}
-use Rattle.run_recorded.specs.Whole.{NothingFailed}
-use Rattle.run_ringed.specs.OnCards.{PlacesStay}
+use Rattle.run_promise.specs.Origin.{Origin}
+use Rattle.run_promise.specs.Whole.{NothingFailed}
+use Rattle.run_note_record.specs.OnCards.{PlacesStay}
 use Rattle.log_model.specs.declared.lines.Break.{Break}
 use Rattle.run_outcome.specs.Lines.{Listed}
 use Rattle.run_outcome.specs.declared.outcome.Outcome.{Outcome}
-use Rattle.run_keeping.specs.declared.keeper.Moment.{Moment}
-use Rattle.run_keeping.specs.Books.{HaveTime}
+use Rattle.run_minutes.specs.declared.keeper.Moment.{Moment}
+use Rattle.run_minutes.specs.Books.{HaveTime}
 use Rattle.run_acts.specs.declared.run.Run.{Run}
 use Rattle.run_acts.specs.Power.{is_lit}
 use Rattle.run_acts.specs.Recording.{log_of, RunWithin, RunCut, IsNow}

@@ -11,26 +11,26 @@ use Rattle.log_model.specs.declared.lines.Break.{Break}
 use Rattle.log_model.specs.Log.{RunLog, In}
 use Rattle.log_model.specs.Slots.{refusal}
 use Rattle.log_model.specs.Course.{Told}
-use Rattle.slot_machine.specs.Calls.{logged}
+use Rattle.card_slots.specs.Calls.{logged}
 use Rattle.unit_model.specs.Image.{odometer_at}
 use Rattle.unit_rule.specs.Odometer.{odometer_after}
-use Rattle.side_model.specs.Odometer.{SpanFrom}
+use Rattle.note_model.specs.Odometer.{SpanFrom}
 use Rattle.safety_model.specs.Safe.{Devices}
-use Rattle.unit_course.specs.Lines.{cut_at}
+use Rattle.run_unit_course.specs.Lines.{cut_at}
 use Rattle.run_course.specs.Moments.{and_break}
 use Rattle.run_crew.specs.Cards.{session_of}
 use Rattle.run_outcome.specs.Lines.{Listed}
 use Rattle.run_outcome.specs.declared.outcome.Outcome.{Outcome}
-use Rattle.run_recorded.specs.Origin.{Origin}
+use Rattle.run_promise.specs.Origin.{Origin}
 use Rattle.run_rings.specs.Spans.{with_second}
-use Rattle.run_within.specs.Within.{Beginning}
-use Rattle.run_evented.specs.Noting.{Acting}
-use Rattle.run_ringed.specs.Ringed.{Seating}
-use Rattle.run_ringed.specs.SoFar.{RingedBehind, RingedIn, HasMoreBreaks, GoesBehind}
-use Rattle.run_ringed.specs.Steps.{nobody, spans_cut}
-use Rattle.run_ringed.specs.Stored.{StoresOn, StoresOff, Stores}
-use Rattle.run_keeping.specs.declared.keeper.Moment.{Moment}
-use Rattle.run_keeping.specs.Books.{HaveTime}
+use Rattle.run_record.specs.Within.{Beginning}
+use Rattle.run_note_record.specs.Noting.{Acting}
+use Rattle.run_note_record.specs.Ringed.{Seating}
+use Rattle.run_note_record.specs.RingsSoFar.{RingedBehind, RingedIn, HasMoreBreaks, GoesBehind}
+use Rattle.run_note_record.specs.Steps.{nobody, spans_cut}
+use Rattle.run_note_record.specs.Stored.{StoresOn, StoresOff, Stores}
+use Rattle.run_minutes.specs.declared.keeper.Moment.{Moment}
+use Rattle.run_minutes.specs.Books.{HaveTime}
 use Rattle.run_acts.specs.declared.run.Run.{Run}
 use Rattle.run_acts.specs.declared.run.Power.TheVariants.{Lit}
 use Rattle.run_acts.specs.Power.{is_lit}

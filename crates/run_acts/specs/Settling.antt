@@ -10,12 +10,12 @@ use Rattle.log_model.specs.Course.{Visit, went}
 use Rattle.safety_model.specs.Safe.{Devices}
 use Rattle.run_crew.specs.Cards.{session_of}
 use Rattle.run_outcome.specs.declared.outcome.Outcome.{Outcome}
-use Rattle.run_recorded.specs.Origin.{Origin}
-use Rattle.run_keeping.specs.declared.keeper.Moment.{Moment}
-use Rattle.run_keeping.specs.Books.{HaveTime}
-use Rattle.run_within.specs.Within.{Beginning, IsLeaving, CutWithin}
+use Rattle.run_promise.specs.Origin.{Origin}
+use Rattle.run_minutes.specs.declared.keeper.Moment.{Moment}
+use Rattle.run_minutes.specs.Books.{HaveTime}
+use Rattle.run_record.specs.Within.{Beginning, IsLeaving, CutWithin}
 use Rattle.run_acts.specs.declared.run.Run.{Run}
-use Rattle.run_recorded.specs.Whole.{NothingFailed}
+use Rattle.run_promise.specs.Whole.{NothingFailed}
 use Rattle.run_acts.specs.Closings.{spells_of, notes_within}
 use Rattle.run_acts.specs.Recording.{log_of, values_of, RunWithin}
 

@@ -20,26 +20,26 @@ use Rattle.log_model.specs.declared.lines.Verdict.{Verdict}
 use Rattle.log_model.specs.declared.lines.Verdict.TheVariants.{Accepted as AcceptedWith, NotValid, TimeOverlap}
 use Rattle.card_image.specs.View.{stored_of}
 use Rattle.card_image.specs.Own.{own_sizes, IsOwnValid}
-use Rattle.card_records.specs.declared.current_use.CurrentUse.{CurrentUse}
-use Rattle.card_records.specs.declared.vehicle.Vehicle.{Vehicle}
+use Rattle.card_files.specs.declared.current_use.CurrentUse.{CurrentUse}
+use Rattle.card_files.specs.declared.vehicle.Vehicle.{Vehicle}
 use Rattle.card_image.specs.Fields.{current_use, last_use_of}
 use Rattle.card_session.specs.declared.session.Kept.{Kept}
 use Rattle.card_session.specs.Books.{Book, mark_of}
 use Rattle.card_session.specs.Sessions.{IsSession, book_of}
 use Rattle.card_session.specs.Cards.{IsCardClosed}
 use Rattle.card_session.specs.Inserting.{lacked}
-use Rattle.card_steps.specs.Deeds.{Deed, Close}
-use Rattle.side_model.specs.Noted.{Note}
+use Rattle.card_string.specs.Deeds.{Deed, Close}
+use Rattle.note_model.specs.Noted.{Note}
 use Rattle.safety_model.specs.Safe.{Devices, card_of}
-use Rattle.slot_machine.specs.Calls.{Seats, is_card, seat_in, card_in}
+use Rattle.card_slots.specs.Calls.{Seats, is_card, seat_in, card_in}
 use Rattle.run_crew.specs.declared.cards.Accepted.{Accepted}
 use Rattle.run_crew.specs.declared.cabin.Cabin.{Cabin}
 use Rattle.run_crew.specs.Cards.{session_of}
-use Rattle.run_rule.specs.Found.{CardFound, found_of}
-use Rattle.run_recorded.specs.Origin.{Origin}
-use Rattle.run_recorded.specs.Whole.{NothingFailed}
-use Rattle.run_keeping.specs.CardDeeds.{made_by, is_open_in, ShowsBook, keeps, last_odometer, opens}
-use Rattle.run_ringed.specs.OnCards.{HasRing}
+use Rattle.run_promise.specs.Found.{CardFound, found_of}
+use Rattle.run_promise.specs.Origin.{Origin}
+use Rattle.run_promise.specs.Whole.{NothingFailed}
+use Rattle.run_minutes.specs.CardDeeds.{made_by, is_open_in, ShowsBook, keeps, last_odometer, opens}
+use Rattle.run_note_record.specs.OnCards.{HasRing}
 use Rattle.run_acts.specs.Closings.{Spell, spells_of, with_last_shut, last_slot}
 use Rattle.run_acts.specs.Comings.{VehicleTold, told_of, TellsMore}
 use Rattle.run_acts.specs.Truths.{Truths}

@@ -15,10 +15,10 @@ use Rattle.log_model.specs.declared.lines.Mark.{Mark}
 use Rattle.log_model.specs.Causes.{device_of}
 use Rattle.history_model.specs.Completeness.{IsMarked}
 use Rattle.card_session.specs.declared.session.Kept.{Kept}
-use Rattle.unit_course.specs.Legs.{whole_legs}
+use Rattle.run_unit_course.specs.Legs.{whole_legs}
 use Rattle.unit_model.specs.Image.{odometer_at}
 use Rattle.unit_rule.specs.Odometer.{odometer_after}
-use Rattle.run_recorded.specs.Origin.{Origin, rule_of, start_at}
+use Rattle.run_promise.specs.Origin.{Origin, rule_of, start_at}
 use Rattle.run_acts.specs.Words.{IsWordOf}
 use Rattle.activity_codec.specs.declared.entries.Entry.{Entry}
 use Rattle.trace_model.specs.declared.Card.{Card}

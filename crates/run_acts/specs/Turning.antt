@@ -4,13 +4,13 @@ use Rattle.minute_model.specs.declared.Minute.{Minute}
 use Rattle.minute_model.specs.Span.{Span, fed_many, decided_in}
 use Rattle.minute_rules.specs.Kept.{StandsFor}
 use Rattle.run_crew.specs.Cabin.{crew_of}
-use Rattle.run_notes.specs.declared.watch.Ended.{Ended}
-use Rattle.run_notes.specs.Noting.{IsFed}
+use Rattle.run_events.specs.declared.watch.Ended.{Ended}
+use Rattle.run_events.specs.Noting.{IsFed}
 use Rattle.run_outcome.specs.Lines.{cut_at}
 use Rattle.run_outcome.specs.declared.outcome.Outcome.{Outcome}
-use Rattle.run_keeping.specs.declared.keeper.Moment.{Moment}
-use Rattle.run_keeping.specs.Keeping.{with_lines}
-use Rattle.run_keeping.specs.Minutes.{Told, AreKept, AreKeptUpTo}
+use Rattle.run_minutes.specs.declared.keeper.Moment.{Moment}
+use Rattle.run_minutes.specs.Keeping.{with_lines}
+use Rattle.run_minutes.specs.Minutes.{Told, AreKept, AreKeptUpTo}
 use Rattle.run_acts.specs.declared.run.Run.{Run}
 use Rattle.run_acts.specs.Power.{cut_run, passed}
 

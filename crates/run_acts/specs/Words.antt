@@ -13,7 +13,7 @@ use Rattle.minute_model.specs.Span.{activity_next}
 use Rattle.log_model.specs.declared.lines.Find.{Find}
 use Rattle.log_model.specs.Course.{Told}
 use Rattle.history_model.specs.Growth.{picking}
-use Rattle.unit_course.specs.Turn.{span_at}
+use Rattle.run_unit_course.specs.Turn.{span_at}
 
 -- what these actions select, in order
 abbrev pub picks_of : List Action → List (Slot × Pick)

@@ -1,7 +1,7 @@
-ghost use Rattle.run_keeping.specs.declared.keeper.Keeper.{Keeper};
-ghost use Rattle.run_keeping.specs.declared.keeper.Moment.{Moment};
-ghost use Rattle.run_keeping.specs.Minutes.{Reach, Told};
-ghost use Rattle.run_keeping.specs.Faults.{faults_to};
+ghost use Rattle.run_minutes.specs.declared.keeper.Keeper.{Keeper};
+ghost use Rattle.run_minutes.specs.declared.keeper.Moment.{Moment};
+ghost use Rattle.run_minutes.specs.Minutes.{Reach, Told};
+ghost use Rattle.run_minutes.specs.Faults.{faults_to};
 ghost use Rattle.run_acts.specs.KeptEvents.{AreFaults};
 ghost use Rattle.run_acts.specs.EventCrews.{CardsAreNamed, CardsAreNamedBehind, CrewIsNamed, SessionsAreKnown, FaultsAreTold};
 

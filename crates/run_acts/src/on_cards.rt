@@ -4,7 +4,7 @@ ghost use Rattle.trace_model.specs.declared.Card.{Card};
 ghost use Rattle.trace_model.specs.Trace.{TraceSecond};
 ghost use Rattle.tacho_types.specs.declared.texts.Registration.{Registration};
 ghost use Rattle.card_layout.specs.declared.files.Application.{Application};
-ghost use Rattle.card_records.specs.declared.current_use.CurrentUse.{CurrentUse};
+ghost use Rattle.card_files.specs.declared.current_use.CurrentUse.{CurrentUse};
 ghost use Rattle.log_model.specs.Log.{RunLog};
 ghost use Rattle.event_model.specs.Events.{seen_of, seen_spans};
 ghost use Rattle.run_events.specs.Seconds.{gap_by, seen_next};

@@ -5,14 +5,14 @@ ghost use Rattle.trace_model.specs.declared.Card.{Card};
 ghost use Rattle.run_crew.specs.Cards.{session_of};
 ghost use Rattle.run_crew.specs.Cabin.{Stands, KnowsEnded};
 ghost use Rattle.run_outcome.specs.Lines.{cut_at, found_from};
-ghost use Rattle.run_keeping.specs.Keeping.{with_lines};
+ghost use Rattle.run_minutes.specs.Keeping.{with_lines};
 
 use crate::run::{Power, Run};
 use log_model::Break;
 use minute_rules::{Minutes, Rule};
-use run_notes::Watch;
+use run_events::Watch;
 use run_outcome::Lines;
-use unit_journal::Journal;
+use unit_minutes::Journal;
 
 impl Run {
     ghost use Rattle.run_acts.specs.Power.{is_lit, has_power, cut_run, off_run, off_cut, minute_over, IsSpanBegun};

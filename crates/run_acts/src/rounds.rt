@@ -1,4 +1,4 @@
-ghost use Rattle.run_rule.specs.Between.{devices};
+ghost use Rattle.run_promise.specs.Between.{devices};
 ghost use Rattle.run_acts.specs.RoundLaws.{TheMinutesMayBeBooked, TheMinutesAreOver, TheMinutesAreKept, TheyLeaveStill, TheKeepingFails, TheNoteFails, TheKeepingIsRecorded};
 
 use tach_media::{Chip, Medium};

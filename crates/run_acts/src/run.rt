@@ -4,16 +4,16 @@ ghost use Rattle.unit_model.specs.declared.layout.TheConstants.{HIGHEST_ODOMETER
 ghost use Rattle.unit_model.specs.Versions.{rule_by};
 ghost use Rattle.minute_model.specs.Span.{Span, begin, travelled_of};
 ghost use Rattle.minute_rules.specs.Kept.{StandsFor};
-ghost use Rattle.slot_machine.specs.Kept.{nothing_yet};
+ghost use Rattle.card_slots.specs.Kept.{nothing_yet};
 ghost use Rattle.run_crew.specs.Cabin.{Stands};
-ghost use Rattle.run_keeping.specs.Keeping.{with_lines};
-ghost use Rattle.run_keeping.specs.Minutes.{odometer_by};
+ghost use Rattle.run_minutes.specs.Keeping.{with_lines};
+ghost use Rattle.run_minutes.specs.Minutes.{odometer_by};
 
 use log_model::{Refused, SlotFault};
 use minute_rules::Minutes;
 use run_crew::Cabin;
-use run_keeping::{Keeper, Moment, odometer_after};
-use run_notes::Watch;
+use run_minutes::{Keeper, Moment, odometer_after};
+use run_events::Watch;
 use run_opening::Opened;
 use run_outcome::Lines;
 use tacho_types::Odometer;

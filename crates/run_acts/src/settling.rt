@@ -2,19 +2,19 @@
 ghost use Rattle.std.specs.Prelude.{◌≡◌, ◌+◌, ◌-◌, ◌*◌, ◌/◌, ◌≤◌, ◌++◌, List, Option, OnOk, length, is_some, is_err};
 ghost use Rattle.trace_model.specs.declared.Card.{Card};
 ghost use Rattle.tach_media.specs.Medium.{HasCause, HasBroken};
-ghost use Rattle.run_keeping.specs.Keeping.{tears_of, most_tears};
+ghost use Rattle.run_minutes.specs.Keeping.{tears_of, most_tears};
 ghost use Rattle.run_acts.specs.declared.run.Power.TheVariants.{Lit};
 ghost use Rattle.run_acts.specs.Going.{first_second, end_of_seconds, IsHeld, IsGoingOn};
 ghost use Rattle.run_acts.specs.Room.{Takes};
 ghost use Rattle.activity_codec.specs.declared.values.Slot.{Slot};
-ghost use Rattle.slot_machine.specs.Calls.{seat_in};
+ghost use Rattle.card_slots.specs.Calls.{seat_in};
 ghost use Rattle.minute_model.specs.declared.Minute.{Minute};
 ghost use Rattle.minute_model.specs.Span.{Span, settled, decided_in};
 ghost use Rattle.minute_rules.specs.Kept.{StandsFor};
-ghost use Rattle.run_keeping.specs.Later.{AreLater, AreCalm};
-ghost use Rattle.run_rule.specs.Between.{devices};
-ghost use Rattle.run_keeping.specs.Minutes.{Reach, IsReach};
-ghost use Rattle.run_keeping.specs.Decided.{BooksAll};
+ghost use Rattle.run_minutes.specs.Later.{AreLater, AreCalm};
+ghost use Rattle.run_promise.specs.Between.{devices};
+ghost use Rattle.run_minutes.specs.Minutes.{Reach, IsReach};
+ghost use Rattle.run_minutes.specs.Decided.{BooksAll};
 ghost use Rattle.run_acts.specs.Acting.{IsSettled, IsBareIn, told_of};
 ghost use Rattle.run_acts.specs.Settling.{RecordsSettling};
 ghost use Rattle.run_acts.specs.Faults.{NotesSettling};
@@ -23,7 +23,7 @@ ghost use Rattle.run_acts.specs.RunCards.{CardsSettling, PlacesSettling};
 ghost use Rattle.run_acts.specs.Devices.{AreLeftMore};
 
 use crate::run::Run;
-use run_keeping::Moment;
+use run_minutes::Moment;
 use run_outcome::Outcome;
 use tach_media::{Chip, Failed, Medium};
 

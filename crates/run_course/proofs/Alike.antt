@@ -20,9 +20,9 @@ use Rattle.history_model.specs.History.{minutes_after, settlings_of, decided_of,
 use Rattle.history_model.specs.Growth.{as_span, closed_limit}
 use Rattle.history_model.proofs.Deciding.{counted, span-settled}
 use Rattle.history_model.proofs.Stilled.{minutes-still}
-use Rattle.unit_course.specs.Lines.{tells_cut}
-use Rattle.unit_course.specs.Followed.{IsKnown}
-use Rattle.unit_course.proofs.Alike.{Alike, decided-empty}
+use Rattle.run_unit_course.specs.Lines.{tells_cut}
+use Rattle.run_unit_course.specs.Followed.{IsKnown}
+use Rattle.run_unit_course.proofs.Alike.{Alike, decided-empty}
 
 -- TWO LISTS OF SECONDS that tell the same of the minutes of spans
 abbrev pub Stays : Rule → Start → (told more : List Told) → List (List Told) → Type 0

@@ -28,14 +28,14 @@ use Rattle.log_model.specs.Causes.{device_of, is_cut, has_failed, second_of, cut
 use Rattle.log_model.specs.Spans.{seconds_in, AreInOrder}
 use Rattle.log_model.proofs.Spanning.{spanned, order-parts}
 use Rattle.history_model.specs.Presence.{Start}
-use Rattle.unit_course.specs.Turn.{cut_at_end}
-use Rattle.unit_course.specs.Lines.{log_of, cut_at, found_from}
-use Rattle.unit_course.specs.Caused.{IsOver}
-use Rattle.unit_course.specs.Followed.{cuts_from}
+use Rattle.run_unit_course.specs.Turn.{cut_at_end}
+use Rattle.run_unit_course.specs.Lines.{log_of, cut_at, found_from}
+use Rattle.run_unit_course.specs.Caused.{IsOver}
+use Rattle.run_unit_course.specs.Followed.{cuts_from}
 use Rattle.history_model.proofs.Told.{more-told}
-use Rattle.unit_course.proofs.Causing.{told-found, told-added}
-use Rattle.unit_course.proofs.Offs.{pair, off-given, off-later, off-same, over-failed, any-last, by-same, by-other, by-found}
-use Rattle.unit_course.proofs.Spans.{cuts_of, cuts-append, cut-push}
+use Rattle.run_unit_course.proofs.Causing.{told-found, told-added}
+use Rattle.run_unit_course.proofs.Offs.{pair, off-given, off-later, off-same, over-failed, any-last, by-same, by-other, by-found}
+use Rattle.run_unit_course.proofs.Spans.{cuts_of, cuts-append, cut-push}
 use Rattle.run_course.specs.Moments.{and_break}
 use Rattle.run_course.specs.Followed.{Progress, IsBreakBefore, Followed, HadActions}
 use Rattle.run_course.specs.Seconds.{next_told}

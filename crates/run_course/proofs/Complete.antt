@@ -29,10 +29,10 @@ use Rattle.history_model.proofs.Deciding.{counted, span-settled, short-none, apa
 use Rattle.history_model.proofs.Decided.{after-decided, decided-after, unit-decided}
 use Rattle.history_model.proofs.Growing.{apart-last, dark-history, begun-history}
 use Rattle.history_model.proofs.Told.{more-told, spanned-so_far, told-next}
-use Rattle.unit_course.specs.Followed.{Lit, as_spans}
-use Rattle.unit_course.specs.Lines.{log_of}
-use Rattle.unit_course.specs.Turn.{span_at}
-use Rattle.unit_course.proofs.Alike.{decided-empty}
+use Rattle.run_unit_course.specs.Followed.{Lit, as_spans}
+use Rattle.run_unit_course.specs.Lines.{log_of}
+use Rattle.run_unit_course.specs.Turn.{span_at}
+use Rattle.run_unit_course.proofs.Alike.{decided-empty}
 use Rattle.run_course.specs.Followed.{Progress, Followed, IsGoing, IsSupplied}
 use Rattle.run_course.specs.Seconds.{GoesOnBy, next_told, DecidedBy}
 use Rattle.run_course.specs.Complete.{AllMarked, AreAcknowledged, NothingIsDecidedYet, ASecondIsAcknowledged, PowerAloneDecidesNothing, MoreMarksStay}

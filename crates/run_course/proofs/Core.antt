@@ -19,10 +19,10 @@ use Rattle.history_model.proofs.Books.{all-none}
 use Rattle.history_model.proofs.Closing.{history-long}
 use Rattle.history_model.proofs.Following.{follows-kept, follows-broken, follows-found}
 use Rattle.history_model.proofs.Told.{rises}
-use Rattle.unit_course.specs.Lines.{found_from, tells_cut}
-use Rattle.unit_course.specs.Followed.{Supply, Lit, Due, Lost, going_on, as_spans}
-use Rattle.unit_course.proofs.Lines.{take-all, tells-found, tells-front}
-use Rattle.unit_course.proofs.Parts.{beyond-mark, follows-whole, follows-same, whole-lost, short-history, short-lost}
+use Rattle.run_unit_course.specs.Lines.{found_from, tells_cut}
+use Rattle.run_unit_course.specs.Followed.{Supply, Lit, Due, Lost, going_on, as_spans}
+use Rattle.run_unit_course.proofs.Lines.{take-all, tells-found, tells-front}
+use Rattle.run_unit_course.proofs.Parts.{beyond-mark, follows-whole, follows-same, whole-lost, short-history, short-lost}
 use Rattle.run_course.specs.Followed.{IsShut, IsTied}
 use Rattle.run_course.specs.Seconds.{kept_all, broken_at}
 use Rattle.run_course.proofs.Logs.{found_log, went-found, kept-found}

@@ -20,10 +20,10 @@ use Rattle.log_model.specs.Spans.{AreInOrder}
 use Rattle.log_model.proofs.Growth.{went-more}
 use Rattle.history_model.specs.Presence.{Start}
 use Rattle.history_model.specs.Completeness.{IsComplete}
-use Rattle.unit_course.specs.Caused.{IsOver}
-use Rattle.unit_course.specs.Followed.{Lost, IsDark}
-use Rattle.unit_course.proofs.Parts.{order-behind}
-use Rattle.unit_course.proofs.Spans.{cuts_of, cuts-append}
+use Rattle.run_unit_course.specs.Caused.{IsOver}
+use Rattle.run_unit_course.specs.Followed.{Lost, IsDark}
+use Rattle.run_unit_course.proofs.Parts.{order-behind}
+use Rattle.run_unit_course.proofs.Spans.{cuts_of, cuts-append}
 use Rattle.run_course.specs.Followed.{IsLost}
 use Rattle.run_course.specs.Presence.{SlotsTell}
 use Rattle.run_course.specs.Caused.{StandsBy, failures, AreCaused}

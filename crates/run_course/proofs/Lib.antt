@@ -18,3 +18,10 @@ pub mod Travelled
 pub mod Quiet
 pub mod Dark
 pub mod Rows
+pub mod Reached
+pub mod Lines
+pub mod Moment
+pub mod Telling
+pub mod Failing
+pub mod Kept
+pub mod Cutting

@@ -17,8 +17,8 @@ use Rattle.log_model.specs.Spans.{AreInOrder}
 use Rattle.log_model.specs.Course.{went}
 use Rattle.log_model.proofs.Growth.{went-same}
 use Rattle.history_model.proofs.Filters.{take-drop}
-use Rattle.unit_course.specs.Lines.{log_of, cut_at, with_kept, found_from, tells_cut}
-use Rattle.unit_course.proofs.Lines.{cut-found, kept-known, take-front, tells-append, tells-front}
+use Rattle.run_unit_course.specs.Lines.{log_of, cut_at, with_kept, found_from, tells_cut}
+use Rattle.run_unit_course.proofs.Lines.{cut-found, kept-known, take-front, tells-append, tells-front}
 use Rattle.run_course.specs.Moments.{finds_here}
 use Rattle.run_course.specs.Followed.{IsBreakBefore, AreBefore}
 use Rattle.run_course.proofs.Lookups.{cut-by, kept-by, torn-by, found-by}

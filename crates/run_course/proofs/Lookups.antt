@@ -10,7 +10,7 @@ use Rattle.log_model.specs.declared.lines.Break.{Break}
 use Rattle.log_model.specs.declared.lines.Find.{Find}
 use Rattle.log_model.specs.declared.lines.Verdict.{Verdict}
 use Rattle.log_model.specs.Log.{RunLog, Phase, cut_of, cut_in, kept_by, kept_after, tears_here, is_torn_in, found_in}
-use Rattle.unit_course.specs.Lines.{log_of}
+use Rattle.run_unit_course.specs.Lines.{log_of}
 use Rattle.run_course.specs.Moments.{and_break, and_find, finds_here, ABreakMoreIsSeen, AFindMoreIsSeen, ARefusalMoreIsNotSeen}
 
 -- LOOK-UPS IN BREAKS speak of the breaks alone

@@ -16,8 +16,8 @@ use Rattle.history_model.specs.Growth.{as_span}
 use Rattle.history_model.proofs.Deciding.{counted, span-settled, short-none}
 use Rattle.history_model.proofs.Growing.{apart-last}
 use Rattle.history_model.proofs.Stilled.{minutes-still}
-use Rattle.unit_course.specs.Turn.{span_at}
-use Rattle.unit_course.specs.Followed.{Lit, as_spans}
+use Rattle.run_unit_course.specs.Turn.{span_at}
+use Rattle.run_unit_course.specs.Followed.{Lit, as_spans}
 use Rattle.run_course.specs.Seconds.{next_told, DecidedMinutesAreNew}
 use Rattle.run_course.proofs.Alike.{span-before}
 use Rattle.run_course.proofs.Steps.{core-of, lit-parts, lit, spans-now, order-now}

@@ -20,15 +20,15 @@ use Rattle.history_model.specs.Minutes.{HistoryMinute}
 use Rattle.history_model.specs.Presence.{Start, card_start, expected_entries, newest_by, newest_minute, is_present, present_sitting, in_minute, present_in as present_by_history}
 use Rattle.history_model.proofs.Filters.{filter-none, all-front}
 use Rattle.history_model.proofs.Stilled.{present-still}
-use Rattle.unit_course.specs.Turn.{cut_at_end}
-use Rattle.slot_machine.specs.declared.seats.Seat.{Seat}
-use Rattle.slot_machine.specs.declared.seats.Ended.{Ended}
-use Rattle.slot_machine.specs.declared.seats.Lefts.{Lefts}
-use Rattle.slot_machine.specs.declared.seats.Present.{Present}
-use Rattle.slot_machine.specs.Calls.{SitsAlike, present_in, present_of, is_earlier, ending, seat_in, is_card}
-use Rattle.slot_machine.specs.Calls as seats
-use Rattle.slot_machine.specs.Kept.{Kept, IsFree, left_in, with_left, put_in, taken, cut_off, minute_ended}
-use Rattle.slot_machine.proofs.Newest.{new-knows, put-knows, take-knows, cut-knows, end-knows}
+use Rattle.run_unit_course.specs.Turn.{cut_at_end}
+use Rattle.card_slots.specs.declared.seats.Seat.{Seat}
+use Rattle.card_slots.specs.declared.seats.Ended.{Ended}
+use Rattle.card_slots.specs.declared.seats.Lefts.{Lefts}
+use Rattle.card_slots.specs.declared.seats.Present.{Present}
+use Rattle.card_slots.specs.Calls.{SitsAlike, present_in, present_of, is_earlier, ending, seat_in, is_card}
+use Rattle.card_slots.specs.Calls as seats
+use Rattle.card_slots.specs.Kept.{Kept, IsFree, left_in, with_left, put_in, taken, cut_off, minute_ended}
+use Rattle.card_slots.proofs.Newest.{new-knows, put-knows, take-knows, cut-knows, end-knows}
 use Rattle.run_course.specs.Presence.{IsNewestAt, IsNewest, SitsAs, Falls, has_left, present_at, EndsWith, SlotsTell, SlotsAgree, SlotsTellWhoIsPresent, NobodySits, ACardIsPutIn, ACardIsTakenOut, PowerIsLost, ASecondHasGone, TheLastSecondIsCut, TheMinuteGoesOn, AMinuteEnds, TimePasses, MinutesAreKept, WhatWasKeptIsFound}
 
 -- CARDS

@@ -32,9 +32,9 @@ use Rattle.history_model.specs.Growth.{as_span}
 use Rattle.history_model.specs.Completeness.{IsComplete}
 use Rattle.history_model.proofs.Deciding.{counted, span-settled, span-more}
 use Rattle.history_model.proofs.Growing.{apart-last}
-use Rattle.unit_course.specs.Lines.{log_of}
-use Rattle.unit_course.specs.Followed.{Supply, Lit, going_on}
-use Rattle.unit_course.specs.Legs.{Travel}
+use Rattle.run_unit_course.specs.Lines.{log_of}
+use Rattle.run_unit_course.specs.Followed.{Supply, Lit, going_on}
+use Rattle.run_unit_course.specs.Legs.{Travel}
 use Rattle.run_course.specs.Followed.{Progress, Followed, AreBefore, IsGoing}
 use Rattle.run_course.specs.Seconds.{GoesOnBy, next_told}
 use Rattle.run_course.specs.Presence.{SlotsTell}

@@ -8,11 +8,11 @@ use Rattle.log_model.specs.Course.{Told}
 use Rattle.history_model.specs.History.{decided_of}
 use Rattle.history_model.specs.Growth.{closed_limit}
 use Rattle.history_model.specs.Book.{Book}
-use Rattle.unit_course.specs.Followed.{as_spans}
-use Rattle.unit_course.specs.Legs.{Reckoned}
-use Rattle.unit_course.specs.Lines.{tells_cut}
-use Rattle.unit_course.proofs.Legs.{legs-alike}
-use Rattle.unit_course.proofs.Parts.{known-more}
+use Rattle.run_unit_course.specs.Followed.{as_spans}
+use Rattle.run_unit_course.specs.Legs.{Reckoned}
+use Rattle.run_unit_course.specs.Lines.{tells_cut}
+use Rattle.run_unit_course.proofs.Legs.{legs-alike}
+use Rattle.run_unit_course.proofs.Parts.{known-more}
 use Rattle.run_course.specs.Travelled.{IsReckoned, AreClosedLegs}
 use Rattle.run_course.proofs.Alike.{known-closed}
 

@@ -19,10 +19,10 @@ use Rattle.history_model.specs.Presence.{Start, newest_minute, present_in as pre
 use Rattle.history_model.specs.History.{decided_of}
 use Rattle.history_model.specs.Book.{not_begun, found}
 use Rattle.history_model.proofs.Deciding.{short-none}
-use Rattle.slot_machine.specs.Calls.{present_in}
-use Rattle.slot_machine.specs.Kept.{nothing_yet, put_in, taken, minute_ended}
-use Rattle.unit_course.specs.Followed.{Lit, Due, Lost}
-use Rattle.unit_course.proofs.Alike.{decided-empty}
+use Rattle.card_slots.specs.Calls.{present_in}
+use Rattle.card_slots.specs.Kept.{nothing_yet, put_in, taken, minute_ended}
+use Rattle.run_unit_course.specs.Followed.{Lit, Due, Lost}
+use Rattle.run_unit_course.proofs.Alike.{decided-empty}
 use Rattle.run_course.specs.Followed.{Progress, Followed}
 use Rattle.run_course.specs.Seconds.{next_told}
 use Rattle.run_course.specs.Presence.{present_at, SlotsTell}

@@ -17,11 +17,11 @@ use Rattle.history_model.specs.Growth.{SameLimits}
 use Rattle.history_model.specs.Completeness.{deciding_of, FailedCutIn, TornIn, TornBetween, BrokenIn, IsComplete}
 use Rattle.history_model.proofs.BySeconds.{same-history}
 use Rattle.history_model.proofs.Deciding.{short-none}
-use Rattle.unit_course.specs.Turn.{cut_at_end, cut_last}
-use Rattle.unit_course.specs.Lines.{log_of, cut_at}
-use Rattle.unit_course.specs.Followed.{Supply, Lit, Due, Lost, MayPower, MayFail}
-use Rattle.unit_course.proofs.Offs.{by-other, by-found}
-use Rattle.unit_course.proofs.Spans.{decided-cut, settlings-cut}
+use Rattle.run_unit_course.specs.Turn.{cut_at_end, cut_last}
+use Rattle.run_unit_course.specs.Lines.{log_of, cut_at}
+use Rattle.run_unit_course.specs.Followed.{Supply, Lit, Due, Lost, MayPower, MayFail}
+use Rattle.run_unit_course.proofs.Offs.{by-other, by-found}
+use Rattle.run_unit_course.proofs.Spans.{decided-cut, settlings-cut}
 use Rattle.run_course.specs.Moments.{and_break}
 use Rattle.run_course.specs.Followed.{Followed, Comes}
 use Rattle.run_course.specs.Seconds.{next_told}

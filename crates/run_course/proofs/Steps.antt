@@ -25,13 +25,13 @@ use Rattle.history_model.specs.Book.{Book, found}
 use Rattle.history_model.proofs.Closing.{minutes-parts}
 use Rattle.history_model.proofs.Deciding.{apart-ended, short-none, span-more}
 use Rattle.history_model.proofs.Growing.{apart-last}
-use Rattle.unit_course.specs.Turn.{cut_at_end, cut_last, begins_with, span_at}
-use Rattle.unit_course.specs.Lines.{cut_at, found_from, tells_cut}
-use Rattle.unit_course.specs.Followed.{Supply, Lit, Due, Lost, MayPower, MayFail, IsDark, as_spans, cuts_from}
-use Rattle.unit_course.proofs.Lines.{tells-here}
-use Rattle.unit_course.proofs.Alike.{decided-empty}
-use Rattle.unit_course.proofs.Parts.{order-behind}
-use Rattle.unit_course.proofs.Spans.{cut_spans, cut-spans-last, decided-cut, length-cut, cut-number, ends-last}
+use Rattle.run_unit_course.specs.Turn.{cut_at_end, cut_last, begins_with, span_at}
+use Rattle.run_unit_course.specs.Lines.{cut_at, found_from, tells_cut}
+use Rattle.run_unit_course.specs.Followed.{Supply, Lit, Due, Lost, MayPower, MayFail, IsDark, as_spans, cuts_from}
+use Rattle.run_unit_course.proofs.Lines.{tells-here}
+use Rattle.run_unit_course.proofs.Alike.{decided-empty}
+use Rattle.run_unit_course.proofs.Parts.{order-behind}
+use Rattle.run_unit_course.proofs.Spans.{cut_spans, cut-spans-last, decided-cut, length-cut, cut-number, ends-last}
 use Rattle.run_course.specs.Moments.{and_break}
 use Rattle.run_course.specs.Followed.{Progress, Comes, IsGoing, IsLost, IsSupplied, IsLastOf, HadActions, AreBefore, Followed}
 use Rattle.run_course.specs.Seconds.{kept_all, broken_at, GoesOnBy, next_told, DecidedBy, ARunBegins, APowerOnFinds, APowerOnFails, ASecondGoesOn, ASecondBreaksOff, RulesSeeTheSecond, AMinuteStaysDark, AnOffLineIsDark, AnOffLineCuts}

@@ -18,11 +18,11 @@ use Rattle.history_model.proofs.Books.{all-none, up_to-whole}
 use Rattle.history_model.proofs.Filters.{all-front}
 use Rattle.history_model.proofs.BySeconds.{open-history, closed-history, closed-lost}
 use Rattle.history_model.proofs.Following.{follows-limit}
-use Rattle.unit_course.specs.Lines.{tells_cut}
-use Rattle.unit_course.specs.Followed.{IsKnown, closed_lost}
-use Rattle.unit_course.proofs.Lines.{kept-now, tells-front, tells-behind}
-use Rattle.unit_course.proofs.Alike.{Alike, nothing-alike}
-use Rattle.unit_course.proofs.Parts.{either-lost, closed-behind, lost-behind, known-append, known-nothing, known-more}
+use Rattle.run_unit_course.specs.Lines.{tells_cut}
+use Rattle.run_unit_course.specs.Followed.{IsKnown, closed_lost}
+use Rattle.run_unit_course.proofs.Lines.{kept-now, tells-front, tells-behind}
+use Rattle.run_unit_course.proofs.Alike.{Alike, nothing-alike}
+use Rattle.run_unit_course.proofs.Parts.{either-lost, closed-behind, lost-behind, known-append, known-nothing, known-more}
 use Rattle.run_course.specs.Followed.{IsShut, IsOpen}
 use Rattle.run_course.specs.Seconds.{broken_at}
 use Rattle.run_course.proofs.Lookups.{kept-by}

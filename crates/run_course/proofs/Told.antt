@@ -11,9 +11,9 @@ use Rattle.log_model.specs.Course.{Course, Told, Before, Moved, moved_by, unmove
 use Rattle.log_model.specs.Spans.{go_on, spans_with}
 use Rattle.log_model.proofs.Spanning.{spans-new, spans-on}
 use Rattle.history_model.proofs.Growing.{go_on-last}
-use Rattle.unit_course.specs.Turn.{cut_at_end, cut_last, begins_with}
-use Rattle.unit_course.specs.Followed.{Lit, as_spans}
-use Rattle.unit_course.proofs.Spans.{cut_spans, cut-push, cut-spans-last}
+use Rattle.run_unit_course.specs.Turn.{cut_at_end, cut_last, begins_with}
+use Rattle.run_unit_course.specs.Followed.{Lit, as_spans}
+use Rattle.run_unit_course.proofs.Spans.{cut_spans, cut-push, cut-spans-last}
 use Rattle.run_course.specs.Followed.{Comes, IsGoing, IsLost, IsSupplied}
 
 -- WITH POWER

@@ -24,17 +24,17 @@ use Rattle.history_model.proofs.Closing.{agree-open, minutes-parts}
 use Rattle.history_model.proofs.Deciding.{short-none}
 use Rattle.history_model.proofs.Filters.{all-front, all-back}
 use Rattle.history_model.proofs.Told.{rises}
-use Rattle.unit_course.specs.Turn.{cut_last}
-use Rattle.unit_course.specs.Lines.{cut_at, found_from, tells_cut}
-use Rattle.unit_course.specs.Followed.{Supply, Lit, Due, Lost, IsKnown, MayPower, MayFail, IsDark, as_spans}
-use Rattle.unit_course.specs.Legs.{Reckoned, Travel, reckoned, not_travelled, stranded_at, resumed, all_travelled, kilometres_of, travelled_by, IsLeg, AreLegs}
-use Rattle.unit_course.specs.Travelled.{MayShow}
-use Rattle.unit_course.proofs.Lines.{kept-now, tells-front, tells-behind, tells-found, take-all}
-use Rattle.unit_course.proofs.Alike.{decided-empty}
-use Rattle.unit_course.proofs.Spans.{decided-cut, length-cut}
-use Rattle.unit_course.proofs.Parts.{known-append, known-nothing, known-more, beyond-mark, rising-all}
-use Rattle.unit_course.proofs.Legs.{travelled_by-push, travelled-all, travelled-none, travelled-earlier, travelled-begun, stranded-begun, nothing_of, kilometres-more, kilometres-leg, kilometres-none, legs-nothing, legs-alike, legs-agree, legs-parts, short-decides, short-shorter, found-again, leg-kept, leg-begun}
-use Rattle.unit_course.proofs.Travelled.{whole-legs}
+use Rattle.run_unit_course.specs.Turn.{cut_last}
+use Rattle.run_unit_course.specs.Lines.{cut_at, found_from, tells_cut}
+use Rattle.run_unit_course.specs.Followed.{Supply, Lit, Due, Lost, IsKnown, MayPower, MayFail, IsDark, as_spans}
+use Rattle.run_unit_course.specs.Legs.{Reckoned, Travel, reckoned, not_travelled, stranded_at, resumed, all_travelled, kilometres_of, travelled_by, IsLeg, AreLegs}
+use Rattle.run_unit_course.specs.Travelled.{MayShow}
+use Rattle.run_unit_course.proofs.Lines.{kept-now, tells-front, tells-behind, tells-found, take-all}
+use Rattle.run_unit_course.proofs.Alike.{decided-empty}
+use Rattle.run_unit_course.proofs.Spans.{decided-cut, length-cut}
+use Rattle.run_unit_course.proofs.Parts.{known-append, known-nothing, known-more, beyond-mark, rising-all}
+use Rattle.run_unit_course.proofs.Legs.{travelled_by-push, travelled-all, travelled-none, travelled-earlier, travelled-begun, stranded-begun, nothing_of, kilometres-more, kilometres-leg, kilometres-none, legs-nothing, legs-alike, legs-agree, legs-parts, short-decides, short-shorter, found-again, leg-kept, leg-begun}
+use Rattle.run_unit_course.proofs.Travelled.{whole-legs}
 use Rattle.run_course.specs.Moments.{and_break}
 use Rattle.run_course.specs.Followed.{Progress, Followed, Comes, IsLost}
 use Rattle.run_course.specs.Seconds.{GoesOnBy, next_told, kept_all, broken_at}

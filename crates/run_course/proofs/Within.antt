@@ -16,7 +16,7 @@ use Rattle.log_model.specs.Course.{Told, Course, Visit, Before, Moved, begins, v
 use Rattle.event_model.specs.Events.{course_by}
 use Rattle.history_model.specs.Minutes.{HistoryMinute}
 use Rattle.history_model.specs.Presence.{Start}
-use Rattle.slot_machine.specs.Kept.{Kept, put_in, taken}
+use Rattle.card_slots.specs.Kept.{Kept, put_in, taken}
 use Rattle.run_course.specs.Presence.{has_left, SlotsTell}
 use Rattle.run_course.specs.Within.{ASecondBegins, AnActionIsAMoment, ASecondEnds, not_begun, ACutEndsTheSecond, IsTornFrom, ATearIsTold, IsFoundOf, AFindIsTold, SlotsTellATear, SlotsTellAnAcceptance}
 use Rattle.run_course.proofs.Moments.{all-acted_parts, action-more, course-same}

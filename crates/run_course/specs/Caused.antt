@@ -15,9 +15,9 @@ use Rattle.log_model.specs.Slots.{same_card}
 use Rattle.log_model.specs.Course.{Told, Visit, went}
 use Rattle.log_model.specs.Causes.{device_of, is_cut, second_of, cuts, AreInTime, tears, places, in_the_slot, refusals_of, refusal_told, pulled_of, torn_of, cards_torn, finds_of, off_cuts, RoseBy, IsBegun, IsAtPowerOn, HasMoment, IsJudged}
 use Rattle.history_model.specs.Presence.{Start}
-use Rattle.unit_course.specs.Caused.{IsOver}
-use Rattle.unit_course.specs.Lines.{log_of, cut_at, found_from}
-use Rattle.unit_course.specs.Followed.{Lit, IsDark}
+use Rattle.run_unit_course.specs.Caused.{IsOver}
+use Rattle.run_unit_course.specs.Lines.{log_of, cut_at, found_from}
+use Rattle.run_unit_course.specs.Followed.{Lit, IsDark}
 use Rattle.run_course.specs.Moments.{and_break}
 use Rattle.run_course.specs.Followed.{Progress, Followed}
 use Rattle.run_course.specs.Seconds.{GoesOnBy, next_told}

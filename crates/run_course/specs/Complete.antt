@@ -16,8 +16,8 @@ use Rattle.history_model.specs.Minutes.{HistoryMinute, on_card}
 use Rattle.history_model.specs.Presence.{Start}
 use Rattle.history_model.specs.Completeness.{IsMarked, FailedCutIn, TornBetween, IsComplete}
 use Rattle.history_model.specs.Book.{all, IsMark}
-use Rattle.unit_course.specs.Lines.{cut_at, found_from}
-use Rattle.unit_course.specs.Followed.{Lit, MayPower, MayFail}
+use Rattle.run_unit_course.specs.Lines.{cut_at, found_from}
+use Rattle.run_unit_course.specs.Followed.{Lit, MayPower, MayFail}
 use Rattle.run_course.specs.Moments.{and_break}
 use Rattle.run_course.specs.Followed.{Progress, Followed}
 use Rattle.run_course.specs.Seconds.{GoesOnBy, next_told, DecidedBy}

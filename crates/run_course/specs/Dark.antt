@@ -14,8 +14,8 @@ use Rattle.log_model.specs.Spans.{AreInOrder}
 use Rattle.history_model.specs.Minutes.{HistoryMinute}
 use Rattle.history_model.specs.Presence.{Start}
 use Rattle.history_model.specs.Completeness.{IsComplete}
-use Rattle.slot_machine.specs.Kept.{Kept}
-use Rattle.unit_course.specs.Followed.{Lost}
+use Rattle.card_slots.specs.Kept.{Kept}
+use Rattle.run_unit_course.specs.Followed.{Lost}
 use Rattle.run_course.specs.Followed.{Progress, Followed}
 use Rattle.run_course.specs.Presence.{SlotsTell}
 use Rattle.run_course.specs.Caused.{WellCaused}

@@ -1,5 +1,5 @@
 -- What is known of a run with cards between two turns: how its book follows the history (profile). Of a unit alone it says what
--- unit_course says.
+-- run_unit_course says.
 use Rattle.std.specs.Prelude.{◌≡◌, ◌⊎◌, ℕ, ◌+◌, ◌/◌, ◌<◌, ◌≤◌, true, false, nat_lt, Some, None, List, [], ◌∷◌, ◌++◌, length, take}
 use Rattle.std.specs.List.{AllByRecursion}
 use Rattle.trace_model.specs.declared.Action.{Action}
@@ -17,8 +17,8 @@ use Rattle.history_model.specs.Presence.{Start}
 use Rattle.history_model.specs.History.{decided_of, span_minutes, cut_second, any_long, unit_history, with_lost}
 use Rattle.history_model.specs.Growth.{closed_history}
 use Rattle.history_model.specs.Book.{Book, Follows, AreLost}
-use Rattle.unit_course.specs.Lines.{tells_cut}
-use Rattle.unit_course.specs.Followed.{Supply, Lit, Due, Lost, going_on, as_spans, IsKnown, closed_lost, cuts_from}
+use Rattle.run_unit_course.specs.Lines.{tells_cut}
+use Rattle.run_unit_course.specs.Followed.{Supply, Lit, Due, Lost, going_on, as_spans, IsKnown, closed_lost, cuts_from}
 
 -- how far a run has gone: its log, from which break on it is not known what was kept, the number of the next second, how many
 -- actions the last one had, the power, the book, and the decided minutes whose keeping has not begun

@@ -8,3 +8,8 @@ pub mod Caused
 pub mod Travelled
 pub mod Quiet
 pub mod Dark
+pub mod Reached
+pub mod Lines
+pub mod Moment
+pub mod Telling
+pub mod Kept

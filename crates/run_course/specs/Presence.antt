@@ -8,12 +8,12 @@ use Rattle.log_model.specs.Slots.{Slots, Sitting, same_card, in_slot, is_accepte
 use Rattle.log_model.specs.Course.{Told, with_slot, powerless, card_in}
 use Rattle.history_model.specs.Minutes.{HistoryMinute}
 use Rattle.history_model.specs.Presence.{Start, card_start, newest_minute, in_minute, present_in as present_by_history}
-use Rattle.slot_machine.specs.declared.seats.Seat.{Seat}
-use Rattle.slot_machine.specs.declared.seats.Ended.{Ended}
-use Rattle.slot_machine.specs.declared.seats.Present.{Present}
-use Rattle.slot_machine.specs.Calls.{Agrees, present_in, is_card}
-use Rattle.unit_course.specs.Turn.{cut_at_end}
-use Rattle.slot_machine.specs.Kept.{Kept, IsFree, KnowsNewest, left_in, nothing_yet, put_in, taken, cut_off, minute_ended}
+use Rattle.card_slots.specs.declared.seats.Seat.{Seat}
+use Rattle.card_slots.specs.declared.seats.Ended.{Ended}
+use Rattle.card_slots.specs.declared.seats.Present.{Present}
+use Rattle.card_slots.specs.Calls.{Agrees, present_in, is_card}
+use Rattle.run_unit_course.specs.Turn.{cut_at_end}
+use Rattle.card_slots.specs.Kept.{Kept, IsFree, KnowsNewest, left_in, nothing_yet, put_in, taken, cut_off, minute_ended}
 
 -- The newest minute that a card answered in the second of its acceptance is earlier than a minute exactly where that of the history
 -- is. A minute of the newest word at the start is not one in which the card is present: by its newest minute, or since it left in it.

@@ -13,9 +13,9 @@ use Rattle.history_model.specs.Presence.{Start}
 use Rattle.history_model.specs.History.{decided_of}
 use Rattle.history_model.specs.Growth.{as_span}
 use Rattle.history_model.specs.Completeness.{IsComplete}
-use Rattle.slot_machine.specs.Kept.{Kept}
-use Rattle.unit_course.specs.Followed.{Lit}
-use Rattle.unit_course.specs.Legs.{Travel}
+use Rattle.card_slots.specs.Kept.{Kept}
+use Rattle.run_unit_course.specs.Followed.{Lit}
+use Rattle.run_unit_course.specs.Legs.{Travel}
 use Rattle.run_course.specs.Followed.{Progress, Followed}
 use Rattle.run_course.specs.Presence.{SlotsTell}
 use Rattle.run_course.specs.Caused.{WellCaused}

@@ -17,9 +17,9 @@ use Rattle.history_model.specs.Presence.{Start}
 use Rattle.history_model.specs.History.{decided_of, minutes_after}
 use Rattle.history_model.specs.Growth.{picking, settled_where}
 use Rattle.history_model.specs.Book.{Book, all, kept, broken, found, not_begun, IsMark}
-use Rattle.unit_course.specs.Followed.{Lit, Due, Lost, MayPower, MayFail, IsDark}
-use Rattle.unit_course.specs.Turn.{span_at}
-use Rattle.unit_course.specs.Lines.{cut_at, found_from}
+use Rattle.run_unit_course.specs.Followed.{Lit, Due, Lost, MayPower, MayFail, IsDark}
+use Rattle.run_unit_course.specs.Turn.{span_at}
+use Rattle.run_unit_course.specs.Lines.{cut_at, found_from}
 use Rattle.run_course.specs.Moments.{and_break}
 use Rattle.run_course.specs.Followed.{Progress, Followed}
 

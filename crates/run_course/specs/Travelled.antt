@@ -1,5 +1,5 @@
 -- How far a run with cards has travelled, over its steps: the legs of its spans (profile). What a leg is, and what the unit may show,
--- says unit_course.
+-- says run_unit_course.
 use Rattle.std.specs.Prelude.{◌≡◌, ◌⊎◌, ℕ, suc, ◌+◌, ◌-◌, ◌%◌, ◌<◌, ◌≤◌, true, false, nat_lt, Option, Some, None, List, [], ◌∷◌, ◌++◌, All, Contains, length, take, option_to_list, option_map}
 use Rattle.std.specs.List.{AllByRecursion}
 use Rattle.trace_model.specs.declared.Action.{Action}
@@ -17,10 +17,10 @@ use Rattle.history_model.specs.Presence.{Start}
 use Rattle.history_model.specs.History.{seated, minutes_after, decided_of, cut_second, any_long, limit_of}
 use Rattle.history_model.specs.Growth.{closed_limit}
 use Rattle.history_model.specs.Book.{Book, all, found, IsMark}
-use Rattle.unit_course.specs.Lines.{cut_at, found_from, tells_cut}
-use Rattle.unit_course.specs.Followed.{Supply, Lit, Due, Lost, MayPower, MayFail, IsDark, going_on, as_spans, IsKnown}
-use Rattle.unit_course.specs.Legs.{Reckoned, Travel, not_travelled, stranded_at, resumed, all_travelled, kilometres_of, travelled_by, IsLeg, AreLegs}
-use Rattle.unit_course.specs.Travelled.{MayShow}
+use Rattle.run_unit_course.specs.Lines.{cut_at, found_from, tells_cut}
+use Rattle.run_unit_course.specs.Followed.{Supply, Lit, Due, Lost, MayPower, MayFail, IsDark, going_on, as_spans, IsKnown}
+use Rattle.run_unit_course.specs.Legs.{Reckoned, Travel, not_travelled, stranded_at, resumed, all_travelled, kilometres_of, travelled_by, IsLeg, AreLegs}
+use Rattle.run_unit_course.specs.Travelled.{MayShow}
 use Rattle.run_course.specs.Moments.{and_break}
 use Rattle.run_course.specs.Followed.{Progress, Followed}
 use Rattle.run_course.specs.Seconds.{GoesOnBy, next_told, kept_all, broken_at}

@@ -13,7 +13,7 @@ use Rattle.log_model.specs.Course.{Told, Course, Visit, Before, Moved, visits, c
 use Rattle.event_model.specs.Events.{course_by}
 use Rattle.history_model.specs.Minutes.{HistoryMinute}
 use Rattle.history_model.specs.Presence.{Start}
-use Rattle.slot_machine.specs.Kept.{Kept, IsFree, put_in, taken}
+use Rattle.card_slots.specs.Kept.{Kept, IsFree, put_in, taken}
 use Rattle.run_course.specs.Moments.{SameUpTo}
 use Rattle.run_course.specs.Presence.{IsNewest, SlotsTell}
 

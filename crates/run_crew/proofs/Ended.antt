@@ -2,10 +2,10 @@
 use Rattle.std.proofs.Common.{◌≡◌, ◌∙◌, ℕ, zero, suc, ◌+◌, ◌-◌, ◌<◌, ◌≤◌, Bool, true, false, cond, Option, Some, None, List, [], ◌∷◌, refl, ap, arith, is_some, take}
 use Rattle.std.specs.Prelude.{nat_eq, option_map, slice_get}
 use Rattle.std.proofs.lemmas.Bool.{eq-eqb}
-use Rattle.slot_machine.specs.declared.seats.Ended.{Ended}
-use Rattle.slot_machine.specs.declared.seats.Present.{Present}
-use Rattle.slot_machine.specs.Calls.{ending, ended_in, present_in}
-use Rattle.slot_machine.specs.Kept.{Kept, left_in, minute_ended}
+use Rattle.card_slots.specs.declared.seats.Ended.{Ended}
+use Rattle.card_slots.specs.declared.seats.Present.{Present}
+use Rattle.card_slots.specs.Calls.{ending, ended_in, present_in}
+use Rattle.card_slots.specs.Kept.{Kept, left_in, minute_ended}
 use Rattle.run_crew.specs.Cabin.{KnowsEnded}
 
 -- one that stands there is found

@@ -10,12 +10,12 @@ use Rattle.trace_model.specs.declared.Card.TheVariants.{A, B}
 use Rattle.card_layout.specs.declared.files.Application.{Application}
 use Rattle.tacho_types.specs.declared.card_number.FullCardNumber.{FullCardNumber}
 use Rattle.log_model.specs.Slots.{same_card, other_slot}
-use Rattle.slot_machine.specs.declared.seats.Seat.{Seat}
-use Rattle.slot_machine.specs.declared.seats.Ended.{Ended}
-use Rattle.slot_machine.specs.declared.seats.Present.{Present}
-use Rattle.slot_machine.specs.Calls.{Seats, seat_in, card_in, is_card, powerless, is_earlier, present_of, present_in}
-use Rattle.slot_machine.specs.Kept.{KnowsNewest, left_in, nothing_yet, put_in, taken, cut_off, minute_ended}
-use Rattle.slot_machine.proofs.Newest.{new-knows}
+use Rattle.card_slots.specs.declared.seats.Seat.{Seat}
+use Rattle.card_slots.specs.declared.seats.Ended.{Ended}
+use Rattle.card_slots.specs.declared.seats.Present.{Present}
+use Rattle.card_slots.specs.Calls.{Seats, seat_in, card_in, is_card, powerless, is_earlier, present_of, present_in}
+use Rattle.card_slots.specs.Kept.{KnowsNewest, left_in, nothing_yet, put_in, taken, cut_off, minute_ended}
+use Rattle.card_slots.proofs.Newest.{new-knows}
 use Rattle.run_crew.specs.declared.cards.Accepted.{Accepted}
 use Rattle.run_crew.specs.declared.cards.Known.{Known}
 use Rattle.run_crew.specs.declared.cards.Cards.{Cards}

@@ -5,13 +5,13 @@ use Rattle.trace_model.specs.declared.Card.{Card}
 use Rattle.trace_model.specs.declared.Card.TheVariants.{A, B}
 use Rattle.tacho_types.specs.declared.card_number.FullCardNumber.{FullCardNumber}
 use Rattle.log_model.specs.Slots.{same_card}
-use Rattle.slot_machine.specs.declared.seats.Seat.{Seat}
-use Rattle.slot_machine.specs.Calls.{card_in, is_card}
+use Rattle.card_slots.specs.declared.seats.Seat.{Seat}
+use Rattle.card_slots.specs.Calls.{card_in, is_card}
 use Rattle.run_crew.specs.declared.cards.Accepted.{Accepted}
 use Rattle.run_crew.specs.declared.cards.Cards.{Cards}
 use Rattle.run_crew.specs.Cards.{known_of, session_of, with_session, with_number, IsKnown}
 use Rattle.run_crew.specs.Cabin.{AnswersTo, SeatAnswers, AreTwo, IsBehind, EndedStands}
-use Rattle.slot_machine.specs.declared.seats.Ended.{Ended}
+use Rattle.card_slots.specs.declared.seats.Ended.{Ended}
 
 -- ---- two cards are one or not
 

@@ -7,11 +7,11 @@ use Rattle.trace_model.specs.declared.Card.TheVariants.{A, B}
 use Rattle.card_layout.specs.declared.files.Application.{Application}
 use Rattle.tacho_types.specs.declared.card_number.FullCardNumber.{FullCardNumber}
 use Rattle.log_model.specs.Slots.{same_card}
-use Rattle.slot_machine.specs.declared.seats.Seat.{Seat}
-use Rattle.slot_machine.specs.declared.seats.Ended.{Ended}
-use Rattle.slot_machine.specs.declared.seats.Present.{Present}
-use Rattle.slot_machine.specs.Calls.{Seats, card_in, is_card}
-use Rattle.slot_machine.specs.Kept.{Kept, KnowsNewest, put_in, taken, cut_off, minute_ended}
+use Rattle.card_slots.specs.declared.seats.Seat.{Seat}
+use Rattle.card_slots.specs.declared.seats.Ended.{Ended}
+use Rattle.card_slots.specs.declared.seats.Present.{Present}
+use Rattle.card_slots.specs.Calls.{Seats, card_in, is_card}
+use Rattle.card_slots.specs.Kept.{Kept, KnowsNewest, put_in, taken, cut_off, minute_ended}
 use Rattle.run_crew.specs.declared.cards.Accepted.{Accepted}
 use Rattle.run_crew.specs.declared.cards.Cards.{Cards}
 use Rattle.run_crew.specs.declared.cards.Crew.{Crew}

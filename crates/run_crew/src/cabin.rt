@@ -1,8 +1,8 @@
 //! The two slots of a run, with the sessions of the cards in them.
 ghost use Rattle.std.specs.Prelude.{◌≡◌, ℕ, ◌+◌, ◌/◌, ◌<◌, ◌≤◌, true, false, Option, Some, None, Ok, is_some};
 ghost use Rattle.trace_model.specs.declared.Card.{Card};
-ghost use Rattle.slot_machine.specs.Calls.{seat_in, card_in, is_card, present_in};
-ghost use Rattle.slot_machine.specs.Kept.{IsFree, nothing_yet};
+ghost use Rattle.card_slots.specs.Calls.{seat_in, card_in, is_card, present_in};
+ghost use Rattle.card_slots.specs.Kept.{IsFree, nothing_yet};
 ghost use Rattle.log_model.specs.Slots.{other_slot};
 ghost use Rattle.run_crew.specs.Cards.{known_of, session_of};
 ghost use Rattle.run_crew.specs.Cabin.{Stands, SitsNowhere, MayBeKept, KnowsEnded, with_card_in, with_sizes_of, with_accepted, with_slot_left, with_session_of, torn_out, with_power_lost, with_minute_ended, slot_with, number_of_seat, crew_of};
@@ -10,7 +10,7 @@ ghost use Rattle.run_crew.specs.Cabin.{Stands, SitsNowhere, MayBeKept, KnowsEnde
 use crate::cards::{Accepted, Cards, Crew, Known};
 use activity_codec::Slot;
 use card_layout::Application;
-use slot_machine::{Present, Slots};
+use card_slots::{Present, Slots};
 use tacho_types::FullCardNumber;
 use trace_model::Card;
 

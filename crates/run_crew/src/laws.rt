@@ -1,6 +1,6 @@
 ghost use Rattle.std.specs.Prelude.{◌≡◌, ℕ, ◌+◌, ◌<◌, ◌≤◌, true, Option, Some, is_some};
-ghost use Rattle.slot_machine.specs.Calls.{present_in};
-ghost use Rattle.slot_machine.specs.Kept.{Kept};
+ghost use Rattle.card_slots.specs.Calls.{present_in};
+ghost use Rattle.card_slots.specs.Kept.{Kept};
 ghost use Rattle.trace_model.specs.declared.Card.{Card};
 ghost use Rattle.run_crew.specs.declared.cards.Accepted.{Accepted};
 ghost use Rattle.run_crew.specs.declared.cabin.Cabin.{Cabin};

@@ -12,18 +12,18 @@ use Rattle.log_model.specs.Log.{RunLog}
 use Rattle.event_model.specs.declared.kinds.TheConstants.{OVER_SPEEDING}
 use Rattle.event_model.specs.declared.entries.Over.{Over}
 use Rattle.event_model.specs.Events.{Event}
-use Rattle.side_model.specs.Tables.{table_of, table_in, IsNoted, AreNoted}
+use Rattle.note_model.specs.Tables.{table_of, table_in, IsNoted, AreNoted}
 use Rattle.unit_notes.specs.declared.unit_event.UnitEvent.{UnitEvent}
 use Rattle.unit_notes.specs.Entries.{fault_bytes, over_bytes}
 use Rattle.unit_notes.specs.Fields.{IsEventOf, IsOverOf}
 use Rattle.unit_notes.specs.Noting.{IsEventNoted, IsNotingEvent, IsNotingOver, IsOverNoted, with_first, with_one_more}
 use Rattle.unit_notes.proofs.EntryFields.{event_front_of, over_front_of}
 use Rattle.unit_notes.proofs.Placing.{is_noted}
-use Rattle.event_course.specs.Shown.{all_kinds, KeepsEvents}
-use Rattle.event_course.specs.Shown as bare
-use Rattle.event_course.proofs.Shows.{each-kind, first-none, count-none}
-use Rattle.event_course.proofs.Frames.{table-apart, table-high, table-behind, part_of}
-use Rattle.event_notes.proofs.Frames.{IsApart, AreApart, bares-apart, overs-apart, gaps-apart, others-same, numbers-same, tables-first, tables-both, enough, first-outside, more-outside, first-value, more-value}
+use Rattle.unit_events.specs.Shown.{all_kinds, KeepsEvents}
+use Rattle.unit_events.specs.Shown as bare
+use Rattle.unit_events.proofs.Shows.{each-kind, first-none, count-none}
+use Rattle.unit_events.proofs.EventFrames.{table-apart, table-high, table-behind, part_of}
+use Rattle.unit_events.proofs.NoteFrames.{IsApart, AreApart, bares-apart, overs-apart, gaps-apart, others-same, numbers-same, tables-first, tables-both, enough, first-outside, more-outside, first-value, more-value}
 use Rattle.run_events.specs.Shown.{by_kind, ShowsMore, AreNumbers, SaysNothing, SaysNothingBut}
 
 -- each type's places lie apart from those of the others

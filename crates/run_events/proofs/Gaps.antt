@@ -11,15 +11,15 @@ use Rattle.event_model.specs.declared.kinds.TheConstants.{POWER_INTERRUPTION}
 use Rattle.event_model.specs.declared.entries.Span.{Span}
 use Rattle.event_model.specs.Spans.{gap_of}
 use Rattle.event_model.specs.Events.{Event, Seen, Tearing, number_of, last_number, seen_of, seen_on, seen_with, seen_spans, noted_with, standing, gap_event, gaps_between, gap_events}
-use Rattle.side_model.specs.Done.{has_failed_in}
-use Rattle.side_model.specs.Events.{noting_second}
+use Rattle.note_model.specs.Done.{has_failed_in}
+use Rattle.note_model.specs.Events.{noting_second}
 use Rattle.log_model.specs.Course.{Told}
-use Rattle.unit_course.specs.Lines.{log_of, tells_cut, found_from}
-use Rattle.unit_course.specs.Turn.{begins_with}
-use Rattle.unit_course.specs.Followed.{Supply, Lit, Due, Lost, IsDark}
-use Rattle.unit_course.proofs.Lines.{kept-known, tells-append, tells-front, tells-found}
-use Rattle.event_course.specs.Noted.{are_sure, Leads, StayFailed}
-use Rattle.event_course.proofs.Failing.{sure-before, sure-parts, failed-append, and-both}
+use Rattle.run_unit_course.specs.Lines.{log_of, tells_cut, found_from}
+use Rattle.run_unit_course.specs.Turn.{begins_with}
+use Rattle.run_unit_course.specs.Followed.{Supply, Lit, Due, Lost, IsDark}
+use Rattle.run_unit_course.proofs.Lines.{kept-known, tells-append, tells-front, tells-found}
+use Rattle.unit_events.specs.Noted.{are_sure, Leads, StayFailed}
+use Rattle.unit_events.proofs.Failing.{sure-before, sure-parts, failed-append, and-both}
 use Rattle.run_events.specs.Gaps.{first_number, IsTold, IsUntold, IsKnownGap, AreKnownGaps, OfLast, IsKnownLast, HasGaps, TellsMore}
 use Rattle.run_events.specs.Seconds.{seen_next}
 use Rattle.run_events.proofs.Growing.{AreSome, some-spans, seen-more, spans-more}

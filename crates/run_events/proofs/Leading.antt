@@ -6,11 +6,11 @@ use Rattle.trace_model.specs.Trace.{TraceSecond}
 use Rattle.log_model.specs.Log.{RunLog}
 use Rattle.log_model.specs.Same.{SameAt}
 use Rattle.log_model.specs.Course.{Visit}
-use Rattle.side_model.specs.Done.{has_failed_in}
+use Rattle.note_model.specs.Done.{has_failed_in}
 use Rattle.event_model.specs.declared.kinds.TheConstants.{POWER_INTERRUPTION}
 use Rattle.event_model.specs.Events.{Event, Tearing, number_of, seen_of, seen_spans, gap_events, events_of}
-use Rattle.event_course.specs.Noted.{Leads, StayFailed}
-use Rattle.event_course.proofs.Failing.{leads-stay, leads-more, leads-none, leads-then}
+use Rattle.unit_events.specs.Noted.{Leads, StayFailed}
+use Rattle.unit_events.proofs.Failing.{leads-stay, leads-more, leads-none, leads-then}
 use Rattle.run_events.specs.Seconds.{IsBehind, second_events, seen_next}
 use Rattle.run_events.proofs.Growing.{second-brings}
 use Rattle.run_events.proofs.Later.{events-same}

@@ -11,3 +11,9 @@ pub mod Notes
 pub mod Running
 pub mod Quiet
 pub mod Offs
+pub mod Crews
+pub mod WatchFed
+pub mod Noted
+pub mod Pairs
+pub mod Turned
+pub mod CrewsFed

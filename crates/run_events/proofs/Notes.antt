@@ -15,8 +15,8 @@ use Rattle.event_model.specs.declared.entries.Span.{Span}
 use Rattle.event_model.specs.Runs.{last_run, runs_behind}
 use Rattle.event_model.specs.Spans.{over_of}
 use Rattle.event_model.specs.Events.{Event, Seen, Tearing, number_of, last_number, is_bare, bare_event, speed_second, over_event, run_event, noted_with, standing, gap_event, crew_judged, found_events, fault_of, torn_in_turn}
-use Rattle.event_course.specs.Shown.{all_kinds}
-use Rattle.event_course.proofs.Shows.{each-kind}
+use Rattle.unit_events.specs.Shown.{all_kinds}
+use Rattle.unit_events.proofs.Shows.{each-kind}
 use Rattle.run_events.specs.Shown.{by_kind}
 use Rattle.run_events.specs.Seconds.{span_before, bares_by, is_fast, overs_by, gap_before, gap_by, faults_by, found_by, second_events}
 use Rattle.run_events.specs.Running.{judged_notes, second_notes}

@@ -17,13 +17,13 @@ use Rattle.log_model.specs.Slots.{refusal, other_slot}
 use Rattle.log_model.specs.Same.{SameAt}
 use Rattle.log_model.specs.Course.{Course, Visit, Told, Went, Before, Moved, slot_told, both_told, acted, all_acted, begins, moved_by, unmoved, answered, fresh, cut_told, lit_course, has_power, second_told, went}
 use Rattle.log_model.proofs.Growth.{went-same}
-use Rattle.unit_course.specs.Lines.{tells_cut}
-use Rattle.unit_course.specs.Followed.{Supply, Lost}
+use Rattle.run_unit_course.specs.Lines.{tells_cut}
+use Rattle.run_unit_course.specs.Followed.{Supply, Lost}
 use Rattle.event_model.specs.declared.kinds.TheConstants.{CARD_NOT_VALID, TIME_OVERLAP, DRIVING_WITHOUT_CARD, INSERTION_WHILE_DRIVING, SESSION_NOT_CLOSED, OVER_SPEEDING, POWER_INTERRUPTION, CARD_FAULT}
 use Rattle.event_model.specs.Events.{Event, Crew, Seen, Tearing, AreTorn, noted_with, with_card, beside_judged, crew_judged, found_events, beside_torn, fault_of, is_codriver_first, torn_in_turn, number_of, course_by, moved_by_action, within_by, seen_by, seen_of, seen_on, seen_with, seen_spans, gaps_between, gap_events, events_of}
-use Rattle.side_model.specs.Done.{has_failed_in}
-use Rattle.event_course.specs.Noted.{Leads, StayFailed}
-use Rattle.event_course.proofs.Failing.{leads-stay}
+use Rattle.note_model.specs.Done.{has_failed_in}
+use Rattle.unit_events.specs.Noted.{Leads, StayFailed}
+use Rattle.unit_events.proofs.Failing.{leads-stay}
 use Rattle.run_events.specs.Shown.{none}
 use Rattle.run_events.specs.Seconds.{span_before, bares_by, overs_by, gap_before, gap_by, faults_by, found_by, second_events, seen_next}
 use Rattle.run_events.specs.Gaps.{first_number, IsUntold, IsKnownGap, AreKnownGaps, OfLast, HasGaps}

@@ -18,8 +18,8 @@ use Rattle.event_model.specs.declared.kinds.TheConstants.{DRIVING_WITHOUT_CARD, 
 use Rattle.event_model.specs.Runs.{run_with, last_run, ended_by, runs_behind, ended_runs}
 use Rattle.event_model.proofs.RunLemmas.{last_run-append}
 use Rattle.event_model.specs.Events.{Event, Seen, Tearing, AreTorn, number_of, torn_at, entered_at, seen_of, seen_on, seen_with, seen_spans, is_bare, bare_event, over_event, bare_events, over_events, gaps_between, gap_events, fault_events, judged_events, found_events, fault_of, torn_in_turn, events_of}
-use Rattle.event_course.specs.Noted.{Leads}
-use Rattle.event_course.proofs.Failing.{leads-stay}
+use Rattle.unit_events.specs.Noted.{Leads}
+use Rattle.unit_events.proofs.Failing.{leads-stay}
 use Rattle.run_events.specs.Shown.{none, SaysNothing}
 use Rattle.run_events.specs.Seconds.{last_of, bares_by, is_fast, overs_by, faults_by, found_by, IsIdle, IsQuiet, IsDarkSeen, quiet_events}
 use Rattle.run_events.specs.Choice.{chosen, IsTornIn, IsPlainFrom}

@@ -6,16 +6,16 @@ use Rattle.trace_model.specs.Trace.{TraceSecond}
 use Rattle.tach_media.specs.Medium.{State}
 use Rattle.log_model.specs.Log.{RunLog}
 use Rattle.log_model.specs.Course.{Visit, went}
-use Rattle.unit_course.specs.Followed.{Supply}
+use Rattle.run_unit_course.specs.Followed.{Supply}
 use Rattle.unit_model.specs.declared.layout.TheConstants.{FIRST_OVER, OVER_COUNT}
 use Rattle.unit_model.specs.Image as image
-use Rattle.side_model.specs.Done.{has_failed_in}
+use Rattle.note_model.specs.Done.{has_failed_in}
 use Rattle.event_model.specs.declared.kinds.TheConstants.{DRIVING_WITHOUT_CARD, OVER_SPEEDING, POWER_INTERRUPTION, CARD_FAULT}
 use Rattle.event_model.specs.Events.{Event, Seen, Tearing, AreTorn, number_of, seen_of, seen_spans, events_of}
-use Rattle.side_model.specs.Tables.{table_in, AreNoted}
-use Rattle.event_course.specs.Noted.{are_sure, Leads}
-use Rattle.event_course.specs.Shown.{all_kinds, HaveBegins, first_on, count_on}
-use Rattle.event_course.proofs.Failing.{sure-parts}
+use Rattle.note_model.specs.Tables.{table_in, AreNoted}
+use Rattle.unit_events.specs.Noted.{are_sure, Leads}
+use Rattle.unit_events.specs.Shown.{all_kinds, HaveBegins, first_on, count_on}
+use Rattle.unit_events.proofs.Failing.{sure-parts}
 use Rattle.run_events.specs.Shown.{by_kind, none, ShowsMore, SaysNothing}
 use Rattle.run_events.specs.Seconds.{span_before, bares_by, overs_by, gap_before, gap_by, faults_by, found_by, second_events, IsBehind, seen_next}
 use Rattle.run_events.specs.Gaps.{HasGaps, TellsMore}

@@ -9,10 +9,10 @@ use Rattle.unit_model.specs.declared.layout.TheConstants.{FIRST_OVER, OVER_COUNT
 use Rattle.unit_model.specs.Image.{number_of}
 use Rattle.event_model.specs.declared.kinds.TheConstants.{OVER_SPEEDING}
 use Rattle.event_model.specs.Events.{Event}
-use Rattle.side_model.specs.Tables.{table_in, AreNoted}
-use Rattle.event_course.specs.Noted.{are_sure}
-use Rattle.event_course.specs.Shown.{first_on, count_on, HaveBegins}
-use Rattle.event_course.proofs.Shows.{noted-on, first-none, first-parts, count-parts, count-none, count-few, begins-on}
+use Rattle.note_model.specs.Tables.{table_in, AreNoted}
+use Rattle.unit_events.specs.Noted.{are_sure}
+use Rattle.unit_events.specs.Shown.{first_on, count_on, HaveBegins}
+use Rattle.unit_events.proofs.Shows.{noted-on, first-none, first-parts, count-parts, count-none, count-few, begins-on}
 use Rattle.run_events.specs.Shown.{by_kind, none, ShowsEvents, HasNoted, ShowsMore, AllLead, SaysNothing, SaysNothingBut}
 
 -- a type is another one, or that one

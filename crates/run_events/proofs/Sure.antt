@@ -8,15 +8,15 @@ use Rattle.log_model.specs.declared.lines.Verdict.{Verdict}
 use Rattle.log_model.specs.declared.lines.Verdict.TheVariants.{Accepted, NotValid, TimeOverlap}
 use Rattle.log_model.specs.Log.{RunLog, kept_after}
 use Rattle.log_model.specs.Course.{Visit}
-use Rattle.side_model.specs.Done.{has_failed_in}
-use Rattle.side_model.specs.Events.{noting_second}
+use Rattle.note_model.specs.Done.{has_failed_in}
+use Rattle.note_model.specs.Events.{noting_second}
 use Rattle.event_model.specs.declared.kinds.TheConstants.{CARD_NOT_VALID, TIME_OVERLAP, DRIVING_WITHOUT_CARD, INSERTION_WHILE_DRIVING, SESSION_NOT_CLOSED, OVER_SPEEDING, POWER_INTERRUPTION, CARD_FAULT}
 use Rattle.event_model.specs.declared.entries.Over.{Over}
 use Rattle.event_model.specs.declared.entries.Span.{Span}
 use Rattle.event_model.specs.Runs.{run_with, last_run, runs_behind}
 use Rattle.event_model.specs.Spans.{over_of}
 use Rattle.event_model.specs.Events.{Event, Seen, Tearing, number_of, last_number, last_seen, is_bare, bare_event, speed_second, over_event, run_event, noted_with, gap_event, standing, found_events, crew_judged, fault_of, torn_in_turn}
-use Rattle.event_course.specs.Noted.{are_sure}
+use Rattle.unit_events.specs.Noted.{are_sure}
 use Rattle.run_events.specs.Seconds.{span_before, bares_by, is_fast, overs_by, gap_before, gap_by, faults_by, found_by, second_events, IsBehind}
 
 abbrev NotedIn : ℕ → Event → Type 0

@@ -5,10 +5,10 @@ use Rattle.log_model.specs.declared.lines.Break.{Break}
 use Rattle.log_model.specs.Log.{RunLog, kept_after}
 use Rattle.log_model.specs.Same.{SameAt}
 use Rattle.event_model.specs.Events.{Seen, number_of, last_number, seen_of, seen_spans}
-use Rattle.side_model.specs.Done.{has_failed_in}
-use Rattle.unit_course.specs.Lines.{tells_cut}
-use Rattle.unit_course.specs.Followed.{Supply, Lit, Due, Lost}
-use Rattle.event_course.specs.Noted.{StayFailed}
+use Rattle.note_model.specs.Done.{has_failed_in}
+use Rattle.run_unit_course.specs.Lines.{tells_cut}
+use Rattle.run_unit_course.specs.Followed.{Supply, Lit, Due, Lost}
+use Rattle.unit_events.specs.Noted.{StayFailed}
 
 -- the number of the first of these seconds, 0 without one
 abbrev pub first_number : List Seen → ℕ

@@ -3,3 +3,9 @@ pub mod Seconds
 pub mod Gaps
 pub mod Choice
 pub mod Running
+pub mod Entries
+pub mod Watching
+pub mod Noting
+pub mod Watched
+pub mod Turned
+pub mod Fed

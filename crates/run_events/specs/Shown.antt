@@ -7,9 +7,9 @@ use Rattle.unit_model.specs.declared.layout.TheConstants.{FIRST_OVER, OVER_COUNT
 use Rattle.unit_model.specs.Image.{number_of}
 use Rattle.event_model.specs.declared.kinds.TheConstants.{OVER_SPEEDING}
 use Rattle.event_model.specs.Events.{Event}
-use Rattle.side_model.specs.Tables.{table_in, AreNoted}
-use Rattle.event_course.specs.Noted.{are_sure, Leads}
-use Rattle.event_course.specs.Shown.{all_kinds, first_on, count_on, HaveBegins}
+use Rattle.note_model.specs.Tables.{table_in, AreNoted}
+use Rattle.unit_events.specs.Noted.{are_sure, Leads}
+use Rattle.unit_events.specs.Shown.{all_kinds, first_on, count_on, HaveBegins}
 
 -- these events by type, and none
 abbrev pub by_kind : List Event → ℕ → List Event

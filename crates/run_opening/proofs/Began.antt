@@ -15,17 +15,17 @@ use Rattle.card_image.specs.Own.{own_view, own_sizes, own_number, own_bad_file, 
 use Rattle.unit_model.specs.Image.{last_kept}
 use Rattle.unit_model.specs.Decoding.{Decodes, first_bad_place}
 use Rattle.unit_memory.specs.Identified.{AreFacts}
-use Rattle.unit_journal.specs.Image.{IsFoundBy}
-use Rattle.joint_rule.specs.Views.{unit_view, owed}
+use Rattle.unit_minutes.specs.Image.{IsFoundBy}
+use Rattle.device_rule.specs.Views.{unit_view, owed}
 use Rattle.unit_rule.specs.Rule.{started}
 use Rattle.safety_model.specs.Recording.{Recording, card_image, unit_seen}
 use Rattle.safety_model.specs.Safe.{Devices, card_of}
 use Rattle.run_crew.specs.declared.cards.Known.{Known}
 use Rattle.unit_rule.specs.OtherRows.{valid_number}
-use Rattle.run_rule.specs.Found.{found_of}
-use Rattle.run_rule.specs.Between.{IsCarried, IsFound, devices}
-use Rattle.run_rule.specs.Opening.{BeginsAs, as_found, IsLookedAt, carried_first}
-use Rattle.run_rule.proofs.Opening.{first-carried}
+use Rattle.run_promise.specs.Found.{found_of}
+use Rattle.run_promise.specs.Between.{IsCarried, IsFound, devices}
+use Rattle.run_promise.specs.Opening.{BeginsAs, as_found, IsLookedAt, carried_first}
+use Rattle.run_promise.proofs.Opening.{first-carried}
 use Rattle.run_opening.specs.declared.fault.RunFault.{RunFault}
 use Rattle.run_opening.specs.declared.fault.RunFault.TheVariants.{MediumFault, BadUnit, ClockBack, SameCard}
 use Rattle.run_opening.specs.declared.opening.Opened.{Opened}

@@ -17,10 +17,10 @@ use Rattle.card_model.specs.Days.{AreDays}
 use Rattle.card_image.specs.Fields.{file_bytes, card_days, card_number}
 use Rattle.card_image.specs.Judging.{first_bad_file}
 use Rattle.card_image.specs.Own.{own_sizes, own_number, own_bad_file, IsOwnValid}
-use Rattle.card_judge.specs.declared.looking.CardLook.{CardLook}
-use Rattle.card_judge.specs.Judged.{TellsSizes, IsLook}
-use Rattle.device_steps.proofs.Passed.{valid-passes, valid-days}
-use Rattle.device_steps.proofs.PutIn.{number_told}
+use Rattle.card_validity.specs.declared.looking.CardLook.{CardLook}
+use Rattle.card_validity.specs.Judged.{TellsSizes, IsLook}
+use Rattle.device_calls.proofs.Passed.{valid-passes, valid-days}
+use Rattle.device_calls.proofs.PutIn.{number_told}
 use Rattle.run_crew.specs.declared.cards.Known.{Known}
 use Rattle.run_opening.specs.Cards.{sizes_by, number_by, told_sizes, told_number, IsTold, IsFoundOn}
 

@@ -7,9 +7,9 @@ ghost use Rattle.run_opening.specs.Opening.{IsAsItWas};
 ghost use Rattle.run_opening.specs.Cards.{IsFoundOn, AreTwo, IsOneNumber, IsMediumFault};
 
 use crate::fault::RunFault;
-use card_calls::look_by;
+use device_calls::look_by;
 use card_commands::{PortFault, read_sizes};
-use card_judge::InsertFault;
+use card_validity::InsertFault;
 use card_layout::{Application, LARGEST_IMAGE};
 use run_crew::Known;
 use run_model::Device;

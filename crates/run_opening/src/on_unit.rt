@@ -11,7 +11,7 @@ ghost use Rattle.run_opening.specs.Units.{IsLoaded, IsNotLoaded, HasBrokenDown, 
 use crate::fault::RunFault;
 use run_model::Device;
 use tach_media::Medium;
-use unit_journal::{Journal, UnitFault};
+use unit_minutes::{Journal, UnitFault};
 use unit_memory::UnitMemory;
 
 /// What the opening finds of a unit: its journal, and what it was told of the vehicle.

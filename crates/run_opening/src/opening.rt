@@ -5,7 +5,7 @@ ghost use Rattle.unit_model.specs.declared.layout.TheConstants.{IMAGE_SIZE};
 ghost use Rattle.unit_model.specs.Image.{IsUnit};
 ghost use Rattle.unit_memory.specs.Identified.{AreFacts};
 ghost use Rattle.safety_model.specs.Recording.{Recording};
-ghost use Rattle.run_rule.specs.Between.{devices};
+ghost use Rattle.run_promise.specs.Between.{devices};
 ghost use Rattle.run_opening.specs.Units.{IsLoaded};
 ghost use Rattle.run_opening.specs.Cards.{IsFoundOn, AreTwo};
 ghost use Rattle.run_opening.specs.Opening.{IsAsItWas, IsRefused};

@@ -7,8 +7,8 @@ use Rattle.tach_media.specs.Medium.{State, Rose, HasBroken}
 use Rattle.log_model.specs.declared.lines.Break.{Break}
 use Rattle.log_model.specs.Log.{RunLog}
 use Rattle.log_model.specs.Causes.{cuts, is_cut, has_failed, second_of}
-use Rattle.unit_course.specs.Caused.{cuts_by}
-use Rattle.unit_course.proofs.Offs.{by-same, by-found}
+use Rattle.run_unit_course.specs.Caused.{cuts_by}
+use Rattle.run_unit_course.proofs.Offs.{by-same, by-found}
 use Rattle.run_outcome.specs.Lines.{cut_at, found_from}
 use Rattle.run_outcome.specs.Broken.{failed_cuts, BreaksDown}
 

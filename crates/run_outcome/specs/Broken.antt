@@ -2,7 +2,7 @@
 use Rattle.std.specs.Prelude.{◌≡◌, ℕ, ◌+◌, ◌-◌, ◌≤◌, min, true, List, length}
 use Rattle.tach_media.specs.Medium.{State, last_count}
 use Rattle.log_model.specs.declared.lines.Break.{Break}
-use Rattle.unit_course.specs.Caused.{cuts_by}
+use Rattle.run_unit_course.specs.Caused.{cuts_by}
 
 -- how many of these are cuts that a failed call made
 abbrev pub failed_cuts : List Break → ℕ

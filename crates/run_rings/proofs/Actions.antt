@@ -15,8 +15,8 @@ use Rattle.log_model.specs.declared.lines.Verdict.{Verdict}
 use Rattle.log_model.specs.Log.{RunLog, Phase, In, same_phase, cut_in, is_torn_in, found_in, is_accepting}
 use Rattle.log_model.specs.Slots.{Sitting, in_slot, is_accepted, refusal}
 use Rattle.log_model.specs.Course.{Course, Visit, Before, Moved, card_in, visits, leaves, with_slot, answered, unmoved, moved_by, fresh, slot_told, both_told, begins, is_settling, acted, all_acted}
-use Rattle.side_model.specs.Done.{CarriedOut, course_powered}
-use Rattle.side_model.specs.Noted.{Note, Accepts, Withdraws, Enters, accepted_card}
+use Rattle.note_model.specs.Done.{CarriedOut, course_powered}
+use Rattle.note_model.specs.Noted.{Note, Accepts, Withdraws, Enters, accepted_card}
 use Rattle.run_rings.specs.Notes.{accepted_in, noted_if, notes_to, course_behind, accepts_by, sits_accepted, NotesMore, SelectionsNoteNothing, PullsNoteNothing, EntriesByHandNoteNothing, RefusalsNoteNothing, PlacesAreNoted, WithdrawalsAreNoted, InsertionsAreNoted, PowerOnsAreNoted}
 use Rattle.run_rings.proofs.Notes.{Finding, is_at, seen_of, verdicts_at, seen_at, judged_at, accepted-append, slot-found, seen-other, answered-found, action-notes}
 

@@ -7,7 +7,7 @@ use Rattle.gated_ring.specs.Ring.{Shape, IsShape, PointsInside, size_of, indices
 use Rattle.gated_ring.specs.Change.{IsShortened, IsExtended, IsAdded, IsAdding}
 use Rattle.gated_ring.proofs.Elsewhere.{ring_elsewhere}
 use Rattle.gated_ring.proofs.Listing.{few_indices}
-use Rattle.side_model.specs.Rings.{unsure_count, AreNoFewer}
+use Rattle.note_model.specs.Rings.{unsure_count, AreNoFewer}
 
 -- ---- notes that are not sure
 

@@ -16,8 +16,8 @@ use Rattle.log_model.specs.declared.lines.Verdict.{Verdict}
 use Rattle.log_model.specs.Log.{RunLog, Phase, In, Keeping, same_phase, cut_in, is_torn_in, found_in, is_accepting}
 use Rattle.log_model.specs.Slots.{Sitting, in_slot, refusal}
 use Rattle.log_model.specs.Course.{Course, Visit, Before, Moved, card_in, visits, leaves, with_slot, answered, unmoved, moved_by, fresh, slot_told, both_told, begins, is_settling, acted, all_acted, cut_told, lit_course}
-use Rattle.side_model.specs.Done.{CarriedOut, carried_from, course_powered}
-use Rattle.side_model.specs.Noted.{Note, Accepts, noted_by}
+use Rattle.note_model.specs.Done.{CarriedOut, carried_from, course_powered}
+use Rattle.note_model.specs.Noted.{Note, Accepts, noted_by}
 use Rattle.run_rings.specs.Notes.{accepted_in, noted_if, action_notes, notes_from, notes_to, TellSameTo, LaterLinesChangeNoNote, AnActionNotes, ASecondHasNoted, ACutNotesNoMore}
 
 -- ---- what was found at a moment

@@ -6,7 +6,7 @@ use Rattle.tach_media.specs.Medium.{State, IsCoherent, LeavesOnly}
 use Rattle.gated_ring.specs.Ring.{size_of}
 use Rattle.gated_ring.proofs.Elsewhere.{ring_outside}
 use Rattle.message_model.specs.Records.{insertion_ring, unit_place_ring}
-use Rattle.side_model.specs.Tables.{order_of, table_of}
+use Rattle.note_model.specs.Tables.{order_of, table_of}
 use Rattle.run_rings.specs.Same.{HasSameRings, LeavesRings}
 
 -- ---- images

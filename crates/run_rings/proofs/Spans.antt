@@ -9,7 +9,7 @@ use Rattle.minute_model.specs.Second.{Second}
 use Rattle.unit_model.specs.declared.layout.TheConstants.{HIGHEST_ODOMETER}
 use Rattle.log_model.specs.Course.{Told}
 use Rattle.log_model.specs.Spans.{go_on, seconds_in}
-use Rattle.side_model.specs.Odometer.{SpanFrom, odometer_before, has_second, odometer_at}
+use Rattle.note_model.specs.Odometer.{SpanFrom, odometer_before, has_second, odometer_at}
 use Rattle.run_rings.specs.Spans.{go_on_from, TheyAreTheSpans, EarlierOdometersStay, AreAlike, AlikeSecondsCountAlike, AreBefore, AreAllBefore, odometer_on, TheOdometerOfNow}
 
 -- ---- the spans

@@ -3,8 +3,8 @@ use Rattle.std.proofs.Common.{◌≡◌, inl, inr, ℕ, Bool, true, false, cond,
 use Rattle.std.specs.List.{list_any}
 use Rattle.gated_ring.specs.Ring.{Shape}
 use Rattle.log_model.specs.Slots.{same_card}
-use Rattle.side_model.specs.Noted.{InsertionNote, Withdrawal, with_withdrawal}
-use Rattle.side_model.specs.Rings.{Stand, AreNoFewer, RingShows}
+use Rattle.note_model.specs.Noted.{InsertionNote, Withdrawal, with_withdrawal}
+use Rattle.note_model.specs.Rings.{Stand, AreNoFewer, RingShows}
 use Rattle.run_rings.specs.Carried.{Carries}
 
 module _ {N : Type 0} (is_sure : N → Bool) (Is : N → List ℕ → Type 0) where

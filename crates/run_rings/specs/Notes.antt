@@ -12,8 +12,8 @@ use Rattle.log_model.specs.declared.lines.Verdict.{Verdict}
 use Rattle.log_model.specs.Log.{RunLog, Phase, In, same_phase, cut_in, is_torn_in, found_in, is_accepting}
 use Rattle.log_model.specs.Slots.{Sitting, in_slot, refusal}
 use Rattle.log_model.specs.Course.{Course, Visit, Before, begins, acted, all_acted, has_power}
-use Rattle.side_model.specs.Done.{CarriedOut, course_powered, done_by}
-use Rattle.side_model.specs.Noted.{Note, Accepts, Withdraws, Enters, noted_by, noted_in}
+use Rattle.note_model.specs.Done.{CarriedOut, course_powered, done_by}
+use Rattle.note_model.specs.Noted.{Note, Accepts, Withdraws, Enters, noted_by, noted_in}
 
 -- the cards that were accepted at a moment of a second, among those of which something was found
 abbrev pub accepted_in : (second : ℕ) → Phase → List (Visit × Verdict) → List Note

@@ -5,7 +5,7 @@ use Rattle.minute_model.specs.Second.{Second}
 use Rattle.unit_model.specs.declared.layout.TheConstants.{HIGHEST_ODOMETER}
 use Rattle.log_model.specs.Course.{Told}
 use Rattle.log_model.specs.Spans.{spans_with, seconds_in}
-use Rattle.side_model.specs.Odometer.{SpanFrom, odometer_at}
+use Rattle.note_model.specs.Odometer.{SpanFrom, odometer_at}
 
 -- the last span goes on
 abbrev pub go_on_from : List SpanFrom → (base : ℕ) → Told → List SpanFrom

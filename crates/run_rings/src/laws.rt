@@ -4,7 +4,7 @@ ghost use Rattle.card_layout.specs.Images.{SameOutside};
 ghost use Rattle.gated_ring.specs.Ring.{Shape, IsShape, PointsInside, size_of, pointer, indices, ring_list, entry_at, taken, staying, with_head, IsDense};
 ghost use Rattle.gated_ring.specs.Change.{IsAdding, IsAdded};
 ghost use Rattle.log_model.specs.Slots.{same_card};
-ghost use Rattle.side_model.specs.Noted.{InsertionNote, Withdrawal, with_withdrawal};
+ghost use Rattle.note_model.specs.Noted.{InsertionNote, Withdrawal, with_withdrawal};
 ghost use Rattle.run_rings.specs.Carried.{Carries};
 ghost use Rattle.run_rings.specs.Spans.{TheyAreTheSpans, EarlierOdometersStay, AlikeSecondsCountAlike, TheOdometerOfNow};
 ghost use Rattle.run_rings.specs.Notes.{LaterLinesChangeNoNote, AnActionNotes, ASecondHasNoted, ACutNotesNoMore, SelectionsNoteNothing, PullsNoteNothing, EntriesByHandNoteNothing, RefusalsNoteNothing, PlacesAreNoted, WithdrawalsAreNoted, InsertionsAreNoted, PowerOnsAreNoted};

@@ -6,7 +6,7 @@ use Rattle.tach_media.proofs.Runs.{at_image, told_too}
 use Rattle.gated_ring.specs.Ring.{taken, with_head}
 use Rattle.gated_ring.specs.Change.{IsAdding, IsAdded}
 use Rattle.gated_ring.proofs.Elsewhere.{ring_elsewhere}
-use Rattle.side_model.specs.Rings.{Stand}
+use Rattle.note_model.specs.Rings.{Stand}
 use Rattle.run_rings.specs.Carried.{Carries}
 use Rattle.run_rings.proofs.Carried.{carries-none, carries-more, carries-maybe, carries-same}
 use Rattle.run_rings.proofs.Standing.{stand-one, stand-unsure}

@@ -4,7 +4,7 @@ use Rattle.std.specs.List.{AllByRecursion}
 use Rattle.card_layout.specs.Images.{bytes_at}
 use Rattle.tach_media.specs.Medium.{State}
 use Rattle.gated_ring.specs.Ring.{PointsInside, IsDense, size_of}
-use Rattle.side_model.specs.Rings.{Stand}
+use Rattle.note_model.specs.Rings.{Stand}
 use Rattle.run_rings.specs.Carried.{Carries}
 use Rattle.speed_model.specs.declared.block.Block.{Block}
 use Rattle.speed_model.specs.Blocks.{block_bytes}

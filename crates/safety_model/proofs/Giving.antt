@@ -11,18 +11,18 @@ use Rattle.unit_model.specs.Image.{recorded}
 use Rattle.history_model.specs.Minutes.{HistoryMinute, card_history, up_to}
 use Rattle.history_model.specs.Presence.{CardStart, card_start}
 use Rattle.history_model.specs.Book.{Book, IsReached, IsNext, Follows}
-use Rattle.joint_rule.specs.View.{Held}
-use Rattle.joint_rule.specs.Own.{own_sizes, own_view, KeepsFrom, KeepsOf}
-use Rattle.joint_rule.specs.Fields.{card_days}
+use Rattle.device_rule.specs.View.{Held}
+use Rattle.device_rule.specs.Own.{own_sizes, own_view, KeepsFrom, KeepsOf}
+use Rattle.device_rule.specs.Fields.{card_days}
 use Rattle.card_model.specs.Days.{AreDays}
 use Rattle.card_retention.specs.Retains.{Rise}
-use Rattle.joint_rule.specs.Views.{UnitView, owed, unit_view, next_of}
-use Rattle.joint_rule.specs.Device.{Seen, seen, CoherentViews, IsFresh}
-use Rattle.joint_rule.specs.Rules.{UnitHolds, Showed, Meets, Had, Standing, CardDark, Acknowledges}
-use Rattle.joint_rule.specs.Filling.{FillsDays}
+use Rattle.device_rule.specs.Views.{UnitView, owed, unit_view, next_of}
+use Rattle.device_rule.specs.Device.{Seen, seen, CoherentViews, IsFresh}
+use Rattle.device_rule.specs.Rules.{UnitHolds, Showed, Meets, Had, Standing, CardDark, Acknowledges}
+use Rattle.device_rule.specs.Filling.{FillsDays}
 use Rattle.history_model.proofs.Books.{history-append}
-use Rattle.joint_rule.proofs.Holding.{agree, unit-holds, card-holds}
-use Rattle.joint_rule.proofs.Overwriting.{owed-entries_count}
+use Rattle.device_rule.proofs.Holding.{agree, unit-holds, card-holds}
+use Rattle.device_rule.proofs.Overwriting.{owed-entries_count}
 use Rattle.safety_model.specs.Recording.{Recording, card_image, brought, start_of, history_of, lost_of, unit_seen, IsPassed, MayCome}
 use Rattle.safety_model.specs.Cards.{CardShows}
 use Rattle.safety_model.specs.Unit.{UnitShows}

@@ -5,7 +5,7 @@ use Rattle.trace_model.specs.declared.Card.{Card}
 use Rattle.log_model.specs.declared.lines.Verdict.{Verdict}
 use Rattle.log_model.specs.declared.lines.Verdict.TheVariants.{Accepted, NotValid, TimeOverlap}
 use Rattle.log_model.specs.Log.{is_accepting}
-use Rattle.joint_rule.specs.Own.{own_view, own_bad_file, IsOwnValid}
+use Rattle.device_rule.specs.Own.{own_view, own_bad_file, IsOwnValid}
 use Rattle.safety_model.specs.Recording.{Recording, card_image}
 use Rattle.safety_model.specs.Safe.{entered_by, IsVerdict}
 

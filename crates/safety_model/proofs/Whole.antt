@@ -23,7 +23,7 @@ use Rattle.history_model.specs.Growth.{Rises}
 use Rattle.history_model.specs.Completeness.{IsMarked, FailedCutIn}
 use Rattle.history_model.proofs.Told.{rises}
 use Rattle.history_model.proofs.Decided.{unit-decided, rises-split, nothing-was-lost}
-use Rattle.joint_rule.specs.Filling.{FillsDays}
+use Rattle.device_rule.specs.Filling.{FillsDays}
 use Rattle.safety_model.specs.Recording.{MayCome}
 use Rattle.safety_model.specs.Unit.{is_of, marks_of, UnitShows, UnitMarkHolds, UnitSafe, HasEachDecided, IsFilled}
 

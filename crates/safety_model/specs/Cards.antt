@@ -18,8 +18,8 @@ use Rattle.log_model.specs.Log.{is_accepting}
 use Rattle.log_model.specs.Slots.{same_card}
 use Rattle.log_model.specs.Causes.{device_of}
 use Rattle.history_model.specs.Minutes.{card_history, up_to}
-use Rattle.joint_rule.specs.Own.{own_view, own_number, IsOwnValid, KeepsOf}
-use Rattle.joint_rule.specs.Views.{owed}
+use Rattle.device_rule.specs.Own.{own_view, own_number, IsOwnValid, KeepsOf}
+use Rattle.device_rule.specs.Views.{owed}
 use Rattle.safety_model.specs.Recording.{Recording, card_image, told_of, brought, history_of, expected_of, unit_seen}
 use Rattle.safety_model.specs.Unit.{marks_of, Increase}
 

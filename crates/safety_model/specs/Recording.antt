@@ -10,8 +10,8 @@ use Rattle.log_model.specs.Course.{Told, went}
 use Rattle.history_model.specs.Minutes.{HistoryMinute}
 use Rattle.history_model.specs.Presence.{Start, CardStart, expected_entries}
 use Rattle.history_model.specs.History.{unit_history, with_lost}
-use Rattle.joint_rule.specs.Own.{own_view, own_number}
-use Rattle.joint_rule.specs.Views.{UnitView, unit_view, owed, beyond}
+use Rattle.device_rule.specs.Own.{own_view, own_number}
+use Rattle.device_rule.specs.Views.{UnitView, unit_view, owed, beyond}
 
 -- a run: the rule of minutes, the images that a read gives at the end of the opening, the seconds of the trace, and the log
 pub record Recording : Type 0 where

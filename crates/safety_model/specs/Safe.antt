@@ -16,8 +16,8 @@ use Rattle.log_model.specs.declared.lines.Verdict.TheVariants.{Accepted, NotVali
 use Rattle.log_model.specs.Slots.{same_card}
 use Rattle.log_model.specs.Causes.{second_of, HasCauses}
 use Rattle.history_model.specs.Completeness.{IsComplete}
-use Rattle.joint_rule.specs.Own.{own_view, own_number, own_bad_file, IsOwnValid}
-use Rattle.joint_rule.specs.Views.{owed}
+use Rattle.device_rule.specs.Own.{own_view, own_number, own_bad_file, IsOwnValid}
+use Rattle.device_rule.specs.Views.{owed}
 use Rattle.safety_model.specs.Recording.{Recording, card_image, told_of, start_of, history_of, lost_of, unit_seen}
 use Rattle.safety_model.specs.Unit.{UnitSafe, issued_bytes}
 use Rattle.safety_model.specs.Cards.{acceptances, CardSafe, Agree}

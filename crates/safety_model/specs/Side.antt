@@ -6,16 +6,16 @@ use Rattle.trace_model.specs.declared.Card.{Card}
 use Rattle.tach_media.specs.Medium.{State}
 use Rattle.unit_model.specs.declared.layout.TheConstants.{SPEED_LIMIT}
 use Rattle.unit_model.specs.Image.{number_of}
-use Rattle.card_records.specs.declared.vehicle.Vehicle.{Vehicle}
-use Rattle.joint_rule.specs.Fields.{file_bytes, newest_vehicle}
-use Rattle.joint_rule.specs.Own.{own_sizes, own_number}
+use Rattle.card_files.specs.declared.vehicle.Vehicle.{Vehicle}
+use Rattle.device_rule.specs.Fields.{file_bytes, newest_vehicle}
+use Rattle.device_rule.specs.Own.{own_sizes, own_number}
 use Rattle.event_model.specs.declared.kinds.TheConstants.{CARD_NOT_VALID, TIME_OVERLAP, DRIVING_WITHOUT_CARD, INSERTION_WHILE_DRIVING, SESSION_NOT_CLOSED, OVER_SPEEDING, POWER_INTERRUPTION, CARD_FAULT}
 use Rattle.log_model.specs.Course.{Visit}
-use Rattle.side_model.specs.Done.{Done, done_of, has_failed_in}
-use Rattle.side_model.specs.Noted.{Note, notes_of}
-use Rattle.side_model.specs.Rings.{Holder}
+use Rattle.note_model.specs.Done.{Done, done_of, has_failed_in}
+use Rattle.note_model.specs.Noted.{Note, notes_of}
+use Rattle.note_model.specs.Rings.{Holder}
 use Rattle.event_model.specs.Events.{Event, Tearing, events_of}
-use Rattle.side_model.specs.Events.{noting_second}
+use Rattle.note_model.specs.Events.{noting_second}
 use Rattle.safety_model.specs.Recording.{Recording, card_image}
 
 -- Identification (Appendix 2): issuing state, number, authority, issue, begin of validity, expiry, surname, first names, birth date,

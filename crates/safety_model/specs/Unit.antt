@@ -14,7 +14,7 @@ use Rattle.log_model.specs.Course.{Told}
 use Rattle.log_model.specs.Spans.{spans_of}
 use Rattle.history_model.specs.Minutes.{HistoryMinute}
 use Rattle.history_model.specs.History.{decided_of}
-use Rattle.joint_rule.specs.Filling.{FillsDays, filled_with}
+use Rattle.device_rule.specs.Filling.{FillsDays, filled_with}
 use Rattle.safety_model.specs.Recording.{IsPassed, MayCome}
 
 -- What a unit was issued with, and no call writes: the bytes before the last-kept minute (version, vehicle, speed limit, identification, sensor and

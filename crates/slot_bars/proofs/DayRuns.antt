@@ -11,7 +11,7 @@ use Rattle.view_model.specs.declared.Line.{Line}
 use Rattle.view_model.specs.Lines.{day_of_minute, goes_on, with_minute, lines_of}
 use Rattle.view_text.specs.Exact.{both}
 use Rattle.tacho_types.specs.declared.calendar.TheConstants.{DAYS}
-use Rattle.history_view.specs.Histories.{line_minutes, minutes_on, AreLines}
+use Rattle.file_view.specs.Histories.{line_minutes, minutes_on, AreLines}
 use Rattle.slot_bars.specs.DaysOf.{is_before, with_front, day_of, days_of}
 use Rattle.slot_bars.specs.Runs.{is_run}
 use Rattle.slot_bars.specs.DayLines.{AreDayLines, day_lines, is_behind, is_behind_at}

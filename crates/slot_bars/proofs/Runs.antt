@@ -19,7 +19,7 @@ use Rattle.view_model.specs.Lines.{day_of_minute, same_bool}
 use Rattle.view_text.specs.Exact.{both}
 use Rattle.view_text.specs.Growing.{follows, with_more}
 use Rattle.view_text.proofs.More.{lines_of-more}
-use Rattle.history_view.specs.Histories.{line_minutes, minutes_on}
+use Rattle.file_view.specs.Histories.{line_minutes, minutes_on}
 use Rattle.slot_bars.specs.declared.seen.Gap.{Gap}
 use Rattle.slot_bars.specs.declared.seen.Seen.{Seen}
 use Rattle.slot_bars.specs.Seeing.{is_in_gap, meets_gap, state_in, slot_seen, card_seen, same_seen, bars_of}

@@ -1,7 +1,7 @@
 //! The bars of a slot, of the lines of a view.
 ghost use Rattle.std.specs.Prelude.{◌≡◌, ◌++◌, true, List, map, IfOk, OnOk};
 ghost use Rattle.view_model.specs.declared.Viewed.{Viewed as ViewedMinute};
-ghost use Rattle.history_view.specs.Histories.{line_minutes, minutes_on};
+ghost use Rattle.file_view.specs.Histories.{line_minutes, minutes_on};
 ghost use Rattle.slot_bars.specs.Seeing.{bars_of, slot_seen, card_seen, state_in};
 ghost use Rattle.slot_bars.specs.Runs.{is_run, is_plain, seen_run, with_last, as_unit};
 ghost use Rattle.slot_bars.specs.declared.seen.Seen.{Seen as MinuteSeen};

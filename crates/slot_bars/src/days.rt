@@ -1,7 +1,7 @@
 //! The days of a view, by its lines.
 ghost use Rattle.std.specs.Prelude.{◌≡◌, ◌-◌, ◌≤◌, ◌<◌, ◌∷◌, Bool, List, length, take, drop};
 ghost use Rattle.tacho_types.specs.declared.calendar.TheConstants.{DAYS};
-ghost use Rattle.history_view.specs.Histories.{minutes_on};
+ghost use Rattle.file_view.specs.Histories.{minutes_on};
 ghost use Rattle.slot_bars.specs.DaysOf.{day_of, days_of};
 ghost use Rattle.slot_bars.specs.DayLines.{AreDayLines, IsOneDay, is_behind, is_behind_at};
 

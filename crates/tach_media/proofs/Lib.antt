@@ -7,3 +7,5 @@ pub mod Runs
 mod MediumRows
 mod MemoryLaws
 mod Parts
+pub mod Plans
+pub mod Looping

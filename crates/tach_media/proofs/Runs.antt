@@ -1,8 +1,7 @@
 -- How a run of device calls goes on.
 use Rattle.std.proofs.Common.{true, sym, ◌≡◌, inl, inr, ⊎_elim, ℕ, Bool, false, List, length, Option, Some, None, is_some, option_map, IfSome, refl, ◌∙◌, ap, subst, arith}
-use Rattle.std.specs.Prelude.{◌+◌, ◌<◌, ◌≤◌, ◌⊎◌}
+use Rattle.std.specs.Prelude.{◌+◌, ◌<◌, ◌≤◌, ◌⊎◌, Result, Ok, Err, IfOk, IsErrAnd, OnOk, is_err}
 use Rattle.std.proofs.lemmas.Bool.{cases_lt}
-use Rattle.std.specs.Prelude.{Result, Ok, Err, IfOk, IsErrAnd, OnOk, is_err}
 use Rattle.card_layout.specs.Fields.{IsBytes}
 use Rattle.tach_media.specs.Medium.{State, IsCoherent, LeavesOnly, Reads, Writes, StaysSettled, HasCause, IsSettled, Unchanged, Rose, last_count, most_writes, put, IsPartlyWritten, HoldsBytes}
 

@@ -8,3 +8,5 @@ pub mod MemStreams
 pub mod SliceMedium
 pub mod Streams
 pub mod Untold
+pub mod Plan
+pub mod Held

@@ -1,5 +1,7 @@
 //! The outside of the tachograph: sources and sinks of bytes, media and chips that a stop may cut off at any
 //! moment, and what stands for each of them in memory, in a file, or where there is none.
+//!
+//! Writes that are known before the first of them: a plan of pieces, each a place and its bytes, and the one call that writes it.
 #![tactic(auto)]
 
 // what stops, fails and is counted
@@ -27,6 +29,9 @@ mod slice;
 mod absent_chip;
 mod chip;
 
+// plans of writes
+mod plan;
+
 pub use absent::AbsentMedium;
 pub use absent_chip::AbsentChip;
 pub use chip::{Answer, Chip};
@@ -39,6 +44,7 @@ pub use medium::Medium;
 pub use mem_medium::MemMedium;
 pub use mem_streams::{MemSink, MemSource};
 pub use number::read_number;
+pub use plan::{Plan, put_pieces};
 pub use slice::SliceMedium;
 pub use std_streams::{StdSink, StdSource};
 pub use stop::Stop;

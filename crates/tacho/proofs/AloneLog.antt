@@ -24,10 +24,10 @@ use Rattle.log_model.specs.Causes.{HasCauses, RoseBy, is_cut, cuts, tears, place
 use Rattle.history_model.specs.Minutes.{HistoryMinute}
 use Rattle.history_model.specs.Presence.{Start}
 use Rattle.history_model.specs.History.{minutes_after, decided_of, span_minutes, limited_to, lost_minute, limit_of, history_by, lost_by, unit_history, with_lost}
-use Rattle.unit_course.specs.Turn.{IsSelection, ArePlain}
-use Rattle.unit_course.proofs.Alike.{minutes-plain}
-use Rattle.event_course.specs.Plain.{IsWithoutCards, OnlySelect}
-use Rattle.run_moments.proofs.Telling.{each-of}
+use Rattle.run_unit_course.specs.Turn.{IsSelection, ArePlain}
+use Rattle.run_unit_course.proofs.Alike.{minutes-plain}
+use Rattle.unit_events.specs.Plain.{IsWithoutCards, OnlySelect}
+use Rattle.run_course.proofs.Telling.{each-of}
 use Rattle.tacho.specs.Alone.{IsForUnit, NoVerdict}
 use Rattle.tacho.proofs.Cardless.{IsCardless, AreCardless, cardless, none-found, none-torn-out, none-pulled, no-card-torn, nothing-found}
 use Rattle.tacho.proofs.Unbroken.{no-places, no-tears}

@@ -15,12 +15,12 @@ use Rattle.event_model.specs.declared.kinds.TheConstants.{DRIVING_WITHOUT_CARD, 
 use Rattle.event_model.specs.Spans.{bares_of, overs_of, gap_of}
 use Rattle.event_model.specs.Events.{Crew, Event}
 use Rattle.event_model.specs.Places.{place_of, day_place}
-use Rattle.side_model.specs.Done.{CarriedOut, Done, carried_from, done_by, done_from, done_of, course_powered}
-use Rattle.side_model.specs.Noted.{Note, accepted_at, noted_by, noted_in, notes_of}
-use Rattle.side_model.specs.Rings.{Stand, AreNoFewer, RingShows}
-use Rattle.side_model.specs.Tables.{held_in, held_of, number_or_none, HasRest, IsNotedAt, AreNoted}
-use Rattle.unit_course.specs.Turn.{IsSelection, empty_slots}
-use Rattle.event_course.specs.Plain.{nobody, driver_seconds, speed_seconds, bare_event, over_event, gap_event, bares_in, overs_in, last_in, gap_between, gaps_in, plain_events, OnlySelect}
+use Rattle.note_model.specs.Done.{CarriedOut, Done, carried_from, done_by, done_from, done_of, course_powered}
+use Rattle.note_model.specs.Noted.{Note, accepted_at, noted_by, noted_in, notes_of}
+use Rattle.note_model.specs.Rings.{Stand, AreNoFewer, RingShows}
+use Rattle.note_model.specs.Tables.{held_in, held_of, number_or_none, HasRest, IsNotedAt, AreNoted}
+use Rattle.run_unit_course.specs.Turn.{IsSelection, empty_slots}
+use Rattle.unit_events.specs.Plain.{nobody, driver_seconds, speed_seconds, bare_event, over_event, gap_event, bares_in, overs_in, last_in, gap_between, gaps_in, plain_events, OnlySelect}
 use Rattle.tacho.specs.Alone.{ShowsOld}
 use Rattle.tacho.proofs.Cardless.{second-cardless}
 use Rattle.tacho.proofs.AloneLog.{each-append}

@@ -6,7 +6,7 @@ use Rattle.run_model.specs.declared.Device.TheVariants.{Unit as OfUnit, CardA, C
 use Rattle.tach_media.specs.Medium.{State, IsCoherent, LeavesOnly, Unchanged, last_count}
 use Rattle.unit_model.specs.Image.{last_kept}
 use Rattle.unit_model.specs.Decoding.{Decodes, first_bad_place}
-use Rattle.run_rule.specs.Between.{devices}
+use Rattle.run_promise.specs.Between.{devices}
 use Rattle.run_opening.specs.Units.{IsUnitRefused}
 use Rattle.run_opening.specs.declared.fault.RunFault.{RunFault}
 use Rattle.run_opening.specs.declared.fault.RunFault.TheVariants.{MediumFault, BadUnit, ClockBack, SameCard}

@@ -21,18 +21,17 @@ use Rattle.unit_model.specs.declared.layout.TheConstants.{SPEED_LIMIT, FIRST_OVE
 use Rattle.unit_model.specs.Image.{recorded, last_kept, number_of}
 use Rattle.unit_model.specs.Versions.{rule_of}
 use Rattle.card_image.specs.Own.{own_number, IsOwnValid}
-use Rattle.safety_model.specs.Recording.{Recording, card_image, start_of}
-use Rattle.safety_model.specs.Recording.{history_of as history_in, lost_of as lost_in}
+use Rattle.safety_model.specs.Recording.{Recording, card_image, start_of, history_of as history_in, lost_of as lost_in}
 use Rattle.safety_model.specs.Unit.{UnitSafe, HasEachDecided, IsFilled}
 use Rattle.safety_model.specs.Side.{first_begin as first_in}
-use Rattle.side_model.specs.Noted.{insertions_of, places_of}
-use Rattle.side_model.specs.Tables.{table_in, AreNoted}
-use Rattle.event_course.specs.Plain.{IsWithoutCards, OnlySelect}
-use Rattle.event_course.specs.Noted.{are_sure}
-use Rattle.event_course.specs.Shown.{first_begin, first_on, count_on, ShowsRun}
-use Rattle.event_course.proofs.Bridge.{events-plain}
+use Rattle.note_model.specs.Noted.{insertions_of, places_of}
+use Rattle.note_model.specs.Tables.{table_in, AreNoted}
+use Rattle.unit_events.specs.Plain.{IsWithoutCards, OnlySelect}
+use Rattle.unit_events.specs.Noted.{are_sure}
+use Rattle.unit_events.specs.Shown.{first_begin, first_on, count_on, ShowsRun}
+use Rattle.unit_events.proofs.Bridge.{events-plain}
 use Rattle.unit_rule.proofs.OtherRows.{owes-still}
-use Rattle.run_rule.specs.Between.{devices}
+use Rattle.run_promise.specs.Between.{devices}
 use Rattle.run_outcome.specs.declared.outcome.Outcome.{Outcome}
 use Rattle.recorder_with_cards.specs.Words.{log_of}
 use Rattle.recorder_with_cards.specs.Ends.{recording_of, EndsTrace}

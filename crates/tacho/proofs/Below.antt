@@ -12,7 +12,7 @@ use Rattle.minute_model.proofs.Spans.{fed_many-numbered}
 use Rattle.trace_model.specs.declared.Action.TheVariants.{Select, Insert, Withdraw, Tear, Place, Manual}
 use Rattle.trace_model.specs.declared.Item.{Item}
 use Rattle.trace_model.specs.declared.Item.TheVariants.{Run, Off, Act}
-use Rattle.trace_text.specs.declared.trace.Form.TheVariants.{Minutes}
+use Rattle.trace_text.specs.declared.lines_trace.Form.TheVariants.{Minutes}
 use Rattle.trace_text.specs.Line.{IsKnown}
 use Rattle.trace_text.specs.Trace.{IsWellFormed}
 use Rattle.run_model.specs.Span.{trace_span}

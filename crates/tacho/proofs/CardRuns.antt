@@ -1,7 +1,7 @@
 -- How a trace with cards ends that is recorded on the unit and both cards.
 use Rattle.std.proofs.Common.{◌≡◌, ◌∙◌, ◌≤◌, ◌⊎◌, inl, inr, ⊎_elim, ℕ, true, refl, sym, subst, arith, List, [], length, Some}
 use Rattle.tach_media.specs.Medium.{State, Rose, HasBroken}
-use Rattle.run_rule.specs.Between.{devices}
+use Rattle.run_promise.specs.Between.{devices}
 use Rattle.run_model.specs.declared.Device.{Device}
 use Rattle.run_model.specs.declared.Device.TheVariants.{Unit as OfUnit, CardA, CardB}
 use Rattle.log_model.specs.Causes.{cuts, tears}
@@ -9,7 +9,7 @@ use Rattle.safety_model.specs.Safe.{breakdowns_of}
 use Rattle.recorder_with_cards.specs.Words.{AreLater, log_of, IsFoundLater, HaveTime}
 use Rattle.trace_model.specs.declared.Card.TheVariants.{A, B}
 use Rattle.trace_model.specs.declared.Item.{Item}
-use Rattle.trace_text.specs.declared.trace.Form.TheVariants.{Whole}
+use Rattle.trace_text.specs.declared.lines_trace.Form.TheVariants.{Whole}
 use Rattle.trace_text.specs.Judged.{IsTraceText}
 use Rattle.run_opening.specs.declared.fault.RunFault.{RunFault}
 use Rattle.run_opening.specs.declared.fault.RunFault.TheVariants as run

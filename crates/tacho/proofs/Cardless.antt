@@ -14,9 +14,9 @@ use Rattle.log_model.specs.Log.{RunLog, Phase, In, Keeping, cut_in, is_torn_in}
 use Rattle.log_model.specs.Slots.{Slots}
 use Rattle.log_model.specs.Course.{Course, Visit, Told, Went, Before, Moved, moved_by, unmoved, slot_told, both_told, begins, acted, all_acted, fresh, cut_told, lit_course, dark_course, without_power, has_power, second_told, went_on, went, not_begun}
 use Rattle.log_model.specs.Causes.{pulled_of, torn_of, cards_torn, finds_of, visit_places}
-use Rattle.unit_course.specs.Turn.{IsSelection, empty_slots, plain_course, ArePlain}
-use Rattle.event_course.specs.Plain.{OnlySelect}
-use Rattle.event_course.proofs.Bridge.{each-push}
+use Rattle.run_unit_course.specs.Turn.{IsSelection, empty_slots, plain_course, ArePlain}
+use Rattle.unit_events.specs.Plain.{OnlySelect}
+use Rattle.unit_events.proofs.Bridge.{each-push}
 
 -- SECONDS WITHOUT CARDS: such actions alone are carried out, and the slots stay empty, whatever the log tells
 pub record IsCardless (t : Told) : Type 0 where

@@ -11,9 +11,9 @@ use Rattle.run_model.specs.declared.Device.TheVariants.{Unit as OfUnit, CardA, C
 use Rattle.trace_model.specs.declared.Item.{Item}
 use Rattle.trace_model.specs.declared.Item.TheVariants.{Run}
 use Rattle.trace_model.specs.Trace.{total_seconds}
-use Rattle.unit_journal.specs.Reading.{ReadsIfAny}
+use Rattle.unit_minutes.specs.Reading.{ReadsIfAny}
 use Rattle.safety_model.specs.Safe.{Devices}
-use Rattle.run_rule.specs.Between.{devices}
+use Rattle.run_promise.specs.Between.{devices}
 use Rattle.recorder_with_cards.specs.Words.{HaveTime}
 use Rattle.run_opening.specs.declared.fault.RunFault.TheVariants as run
 use Rattle.recorder_with_cards.specs.Ends.{MayRecord}
@@ -21,16 +21,16 @@ use Rattle.run_outcome.specs.declared.outcome.Outcome.{Outcome}
 use Rattle.unit_download.specs.declared.fault.DownloadFault.{DownloadFault}
 use Rattle.unit_download.specs.declared.fault.DownloadFault.TheVariants as download
 use Rattle.unit_download.specs.Ending.{has_failed, IfBad}
-use Rattle.demo_trace.specs.declared.trace.TheConstants.{PARTS, DAYS, DAY_SECONDS, FIRST_SECOND}
-use Rattle.demo_trace.specs.Demo.{starts, part_of, parts_of, day_of, days_of, demo_items}
-use Rattle.demo_trace.proofs.Groups.{length-starts}
+use Rattle.trace_text.specs.declared.drawn_trace.TheConstants.{PARTS, DAYS, DAY_SECONDS, FIRST_SECOND}
+use Rattle.trace_text.specs.Demo.{starts, part_of, parts_of, day_of, days_of, demo_items}
+use Rattle.trace_text.proofs.Groups.{length-starts}
 use Rattle.tacho.specs.declared.anew.AnewFault.{AnewFault}
 use Rattle.tacho.specs.declared.anew.AnewFault.TheVariants.{Unmade, Kept}
 use Rattle.tacho.specs.Anew.{MayBeAnew, EndsAnew, IsFailed, IsFailure}
 use Rattle.tacho.proofs.Recordings.{none-bad}
 use Rattle.tacho.proofs.DemoRead.{is-read, anew-read}
-use Rattle.demo_file.specs.declared.measuring.FileSize.{FileSize}
-use Rattle.demo_file.specs.Measures.{IsSizeOf}
+use Rattle.unit_download.specs.declared.measuring.FileSize.{FileSize}
+use Rattle.unit_download.specs.Measures.{IsSizeOf}
 use Rattle.tacho.specs.declared.demo_command.TheConstants.{VEHICLE, CARD}
 use Rattle.tacho.specs.declared.end.Fault.{Fault}
 use Rattle.tacho.specs.declared.end.Fault.TheVariants.{ReadFault, WriteFault, MediumFault, Memory, Changed}

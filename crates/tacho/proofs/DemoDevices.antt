@@ -8,8 +8,8 @@ use Rattle.run_model.specs.declared.Device.{Device}
 use Rattle.run_model.specs.declared.Device.TheVariants.{Unit as Recorder, CardA, CardB}
 use Rattle.tach_media.specs.Medium.{State, IsCoherent, IsSettled, put}
 use Rattle.safety_model.specs.Safe.{Devices, card_of, breakdowns_of}
-use Rattle.run_rule.specs.Opening.{BeginsAs}
-use Rattle.run_rule.specs.Between.{devices}
+use Rattle.run_promise.specs.Opening.{BeginsAs}
+use Rattle.run_promise.specs.Between.{devices}
 use Rattle.recorder_with_cards.specs.Words.{HaveTime, AreLater}
 use Rattle.run_outcome.specs.declared.outcome.Outcome.{Outcome}
 use Rattle.run_opening.specs.declared.fault.RunFault.{RunFault}

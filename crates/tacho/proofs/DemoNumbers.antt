@@ -5,8 +5,8 @@ use Rattle.trace_model.specs.declared.Item.{Item}
 use Rattle.run_model.specs.declared.Device.{Device}
 use Rattle.log_model.specs.Causes.{HasCauses, device_of}
 use Rattle.message_model.specs.Records.{insertion_ring}
-use Rattle.side_model.specs.Noted.{insertions_of}
-use Rattle.side_model.specs.Rings.{RingShows, IsInsertion, is_sure_insertion}
+use Rattle.note_model.specs.Noted.{insertions_of}
+use Rattle.note_model.specs.Rings.{RingShows, IsInsertion, is_sure_insertion}
 use Rattle.safety_model.specs.Recording.{Recording, history_of, lost_of, told_of}
 use Rattle.safety_model.specs.Unit.{UnitSafe, issued_bytes}
 use Rattle.unit_rule.specs.OtherRows.{KeepsRows}

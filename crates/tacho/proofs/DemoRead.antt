@@ -10,20 +10,20 @@ use Rattle.log_model.specs.declared.lines.Verdict.TheVariants.{Accepted, NotVali
 use Rattle.log_model.specs.Causes.{RoseBy, device_of}
 use Rattle.history_model.specs.Minutes.{HistoryMinute}
 use Rattle.tach_media.specs.Medium.{State, LeavesOnly, Unchanged}
-use Rattle.unit_journal.specs.Reading.{ReadsIfAny}
+use Rattle.unit_minutes.specs.Reading.{ReadsIfAny}
 use Rattle.unit_model.specs.Days.{ShownDay}
 use Rattle.unit_model.specs.Image.{recorded, last_kept}
 use Rattle.message_model.specs.Records.{insertion_ring}
-use Rattle.side_model.specs.Noted.{insertions_of}
-use Rattle.side_model.specs.Rings.{RingShows, IsInsertion, is_sure_insertion}
+use Rattle.note_model.specs.Noted.{insertions_of}
+use Rattle.note_model.specs.Rings.{RingShows, IsInsertion, is_sure_insertion}
 use Rattle.log_model.specs.Spans.{spans_of}
 use Rattle.safety_model.specs.Recording.{Recording, card_image, told_of, history_of, lost_of}
 use Rattle.safety_model.specs.Unit.{UnitSafe, UnitMarkHolds}
 use Rattle.safety_model.specs.Cards.{CardSafe, Agree}
 use Rattle.safety_model.specs.Safe.{Devices, card_of, breakdowns_of, IsVerdict, WasFound}
 use Rattle.safety_model.specs.Side.{holder_of, notes_in, IsPrevious}
-use Rattle.run_rule.specs.Between.{devices}
-use Rattle.run_recorded.specs.Whole.{IsFull}
+use Rattle.run_promise.specs.Between.{devices}
+use Rattle.run_promise.specs.Whole.{IsFull}
 use Rattle.log_model.specs.declared.lines.Break.{Break}
 use Rattle.log_model.specs.declared.lines.Break.TheVariants.{Cut, Tear}
 use Rattle.run_outcome.specs.declared.outcome.Outcome.{Outcome}

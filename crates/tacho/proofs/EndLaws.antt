@@ -2,9 +2,9 @@
 use Rattle.std.proofs.Common.{◌≡◌, ◌⊎◌, ℕ, List, refl, ap, inl, inr}
 use Rattle.std.specs.Prelude.{Result, Ok, Err, Some, IsErrAnd}
 use Rattle.tach_media.specs.Medium.{Rose}
-use Rattle.trace_text.specs.declared.trace.TraceFault.{TraceFault}
-use Rattle.trace_text.specs.declared.trace.TraceFault.TheVariants as trace
-use Rattle.trace_text.specs.declared.trace.Form.{Form}
+use Rattle.trace_text.specs.declared.lines_trace.TraceFault.{TraceFault}
+use Rattle.trace_text.specs.declared.lines_trace.TraceFault.TheVariants as trace
+use Rattle.trace_text.specs.declared.lines_trace.Form.{Form}
 use Rattle.trace_text.specs.Judged.{IsBadText, IsLongText, IsFailure}
 use Rattle.tacho.specs.declared.end.Fault.{Fault}
 use Rattle.tacho.specs.declared.end.Fault.TheVariants.{Done, BadTrace, TooLong, ReadFault, WriteFault, Memory}

@@ -5,7 +5,7 @@ use Rattle.std.specs.Io.KnownBytes.{Appends, IsAtEnd}
 use Rattle.tach_media.specs.Medium.{Rose}
 use Rattle.tach_media.specs.Streams.{AppendsFront}
 use Rattle.run_model.specs.declared.Device.{Device}
-use Rattle.trace_text.specs.declared.trace.Form.TheVariants.{Minutes as FormOfMinutes}
+use Rattle.trace_text.specs.declared.lines_trace.Form.TheVariants.{Minutes as FormOfMinutes}
 use Rattle.minute_model.specs.declared.Rule.{Rule}
 use Rattle.trace_model.specs.declared.Item.{Item}
 use Rattle.trace_text.specs.Judged.{IsTraceText, IsBadText, IsLongText}

@@ -17,7 +17,7 @@ use Rattle.run_model.specs.Span.{picks_of, span_of, trace_span}
 use Rattle.run_model.proofs.LeftToRight.{picks_of-more, span_of-append}
 use Rattle.trace_model.specs.declared.Item.{Item}
 use Rattle.trace_model.specs.declared.Item.TheVariants.{Run, Off, Act}
-use Rattle.trace_text.specs.declared.trace.Form.TheVariants.{Minutes}
+use Rattle.trace_text.specs.declared.lines_trace.Form.TheVariants.{Minutes}
 use Rattle.trace_text.specs.Line.{IsKnown}
 use Rattle.tacho.specs.Feeding.{fed_item, fed_items}
 

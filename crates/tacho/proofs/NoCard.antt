@@ -8,8 +8,8 @@ use Rattle.card_layout.specs.declared.files.TheConstants.{LARGEST_IMAGE}
 use Rattle.card_layout.specs.Application.{first_bad_field, application_in}
 use Rattle.card_image.specs.Own.{IsOwnValid}
 use Rattle.tach_media.specs.Medium.{State, IsCoherent, Rose, last_count, LeavesOnly, Unchanged, Reads, HasCause, revivable, most_writes}
-use Rattle.run_rule.specs.Opening.{BeginsAs}
-use Rattle.run_rule.specs.Between.{devices}
+use Rattle.run_promise.specs.Opening.{BeginsAs}
+use Rattle.run_promise.specs.Between.{devices}
 use Rattle.recorder_with_cards.specs.Words.{HaveTime}
 use Rattle.run_opening.proofs.Told.{valid-sizes}
 use Rattle.recorder_with_cards.specs.Ends.{BeginAs}

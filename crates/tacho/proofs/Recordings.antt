@@ -7,7 +7,7 @@ use Rattle.activity_codec.proofs.ByTest.{by_test}
 use Rattle.tach_media.specs.Medium.{Rose}
 use Rattle.tach_media.specs.Streams.{AppendsFront}
 use Rattle.trace_model.specs.declared.Item.{Item}
-use Rattle.trace_text.specs.declared.trace.Form.TheVariants.{Whole}
+use Rattle.trace_text.specs.declared.lines_trace.Form.TheVariants.{Whole}
 use Rattle.trace_text.specs.Judged.{IsBadText, IsLongText}
 use Rattle.unit_model.specs.Decoding.{Decodes, Check, first_failing, first_bad_place, checks}
 use Rattle.run_opening.specs.declared.fault.RunFault.{RunFault}

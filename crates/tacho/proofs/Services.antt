@@ -7,10 +7,10 @@ use Rattle.run_model.specs.declared.Device.{Device}
 use Rattle.run_model.specs.declared.Device.TheVariants.{Unit as OfUnit}
 use Rattle.message_model.specs.Sending.{content_sent}
 use Rattle.unit_model.specs.Decoding.{first_bad_place}
-use Rattle.unit_journal.specs.Reading.{ReadsIfAny}
-use Rattle.link_service.specs.declared.fault.ServeFault.{ServeFault}
-use Rattle.link_service.specs.declared.fault.ServeFault.TheVariants as service
-use Rattle.link_service.specs.Served.{IsServed, IsCaused, has_failed}
+use Rattle.unit_minutes.specs.Reading.{ReadsIfAny}
+use Rattle.link_session.specs.declared.fault.ServeFault.{ServeFault}
+use Rattle.link_session.specs.declared.fault.ServeFault.TheVariants as service
+use Rattle.link_session.specs.Served.{IsServed, IsCaused, has_failed}
 use Rattle.run_outcome.specs.declared.outcome.Outcome.{Outcome}
 use Rattle.tacho.specs.declared.end.Fault.TheVariants.{Done, Usage, TooLong, BadUnit, ReadFault, WriteFault, MediumFault}
 use Rattle.tacho.specs.declared.forms.Form.TheVariants.{Serve}

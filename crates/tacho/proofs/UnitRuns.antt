@@ -6,7 +6,7 @@ use Rattle.run_model.specs.declared.Device.{Device}
 use Rattle.run_model.specs.declared.Device.TheVariants.{Unit as OfUnit, CardA, CardB}
 use Rattle.trace_model.specs.declared.Item.{Item}
 use Rattle.trace_model.specs.Trace.{seconds_of}
-use Rattle.trace_text.specs.declared.trace.Form.TheVariants.{Whole}
+use Rattle.trace_text.specs.declared.lines_trace.Form.TheVariants.{Whole}
 use Rattle.trace_text.specs.Judged.{IsTraceText}
 use Rattle.log_model.proofs.Spanning.{seconds-order}
 use Rattle.unit_model.specs.Image.{recorded as days_in, odometer_at, last_kept}
@@ -16,8 +16,7 @@ use Rattle.safety_model.specs.Recording.{Recording, start_of}
 use Rattle.run_opening.specs.declared.fault.RunFault.{RunFault}
 use Rattle.run_opening.specs.declared.fault.RunFault.TheVariants as run
 use Rattle.run_opening.specs.Units.{IsUnitRefused}
-use Rattle.recorder_with_cards.specs.Words.{log_of}
-use Rattle.recorder_with_cards.specs.Words.{IsFoundLater}
+use Rattle.recorder_with_cards.specs.Words.{log_of, IsFoundLater}
 use Rattle.log_model.specs.Causes.{cuts, tears}
 use Rattle.recorder_with_cards.specs.Ends.{recording_of}
 use Rattle.recorder_with_cards.proofs.WholeOdometer.{whole-odometer, day-whole}

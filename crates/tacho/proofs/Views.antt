@@ -3,9 +3,9 @@ use Rattle.std.proofs.Common.{◌≡◌, ◌∙◌, ◌<◌, ◌≤◌, ℕ, Lis
 use Rattle.std.specs.Prelude.{Result, Ok, Err, OnErr, is_err}
 use Rattle.std.specs.Io.KnownBytes.{Consumes, IsAtEnd}
 use Rattle.trace_text.proofs.Answered.{told-text}
-use Rattle.history_view.specs.declared.fault.ViewFault.{ViewFault}
-use Rattle.history_view.specs.declared.fault.ViewFault.TheVariants as viewing
-use Rattle.history_view.specs.Faults.{IfBadFile}
+use Rattle.file_view.specs.declared.fault.ViewFault.{ViewFault}
+use Rattle.file_view.specs.declared.fault.ViewFault.TheVariants as viewing
+use Rattle.file_view.specs.Faults.{IfBadFile}
 use Rattle.tacho.specs.declared.end.Fault.{Fault}
 use Rattle.tacho.specs.declared.end.Fault.TheVariants.{Done, Memory, BadFile}
 use Rattle.tacho.specs.View.{view_refusal_of}

@@ -22,18 +22,17 @@ use Rattle.message_model.specs.Records.{insertion_ring, unit_place_ring}
 use Rattle.unit_model.specs.Image.{recorded, last_kept, odometer_at}
 use Rattle.unit_model.specs.Versions.{rule_of}
 use Rattle.safety_model.specs.Unit.{UnitSafe, HasEachDecided, IsFilled, issued_bytes, marks_of}
-use Rattle.side_model.specs.Odometer.{SpanFrom, AreSpansFrom, MayStore}
-use Rattle.unit_course.specs.Complete.{AreMarked}
+use Rattle.note_model.specs.Odometer.{SpanFrom, AreSpansFrom, MayStore}
+use Rattle.run_unit_course.specs.Complete.{AreMarked}
 use Rattle.unit_rule.specs.Odometer.{OdometerSafe}
 use Rattle.unit_rule.specs.OtherRows.{OwesStill}
-use Rattle.unit_journal.specs.DayOdometers.{RecordsDay}
-use Rattle.run_recorded.specs.Days.{IsBegunIn}
-use Rattle.event_course.specs.Shown.{ShowsRun}
+use Rattle.unit_minutes.specs.DayOdometers.{RecordsDay}
+use Rattle.run_promise.specs.Days.{IsBegunIn}
+use Rattle.unit_events.specs.Shown.{ShowsRun}
 use Rattle.run_opening.specs.declared.fault.RunFault.{RunFault}
 use Rattle.run_opening.specs.declared.fault.RunFault.TheVariants.{MediumFault, BadUnit, ClockBack, SameCard}
 use Rattle.run_opening.specs.Units.{IsUnitRefused}
-use Rattle.recorder_with_cards.specs.Words.{log_of}
-use Rattle.recorder_with_cards.specs.Words.{IsFoundLater}
+use Rattle.recorder_with_cards.specs.Words.{log_of, IsFoundLater}
 use Rattle.run_outcome.specs.declared.outcome.Outcome.{Outcome}
 use Rattle.recorder_with_cards.specs.Ends.{recording_of}
 use Rattle.recorder_with_cards.specs.KeptAfter.{TellsKept}

@@ -5,7 +5,7 @@ use Rattle.trace_model.specs.declared.Item.{Item}
 use Rattle.unit_model.specs.NewImage.{new_image}
 use Rattle.unit_memory.specs.declared.format.Identity.{Identity}
 use Rattle.safety_model.specs.Safe.{Devices}
-use Rattle.run_rule.specs.Opening.{BeginsAs}
+use Rattle.run_promise.specs.Opening.{BeginsAs}
 use Rattle.run_opening.specs.Opening.{faults_of}
 use Rattle.run_opening.specs.declared.fault.RunFault.TheVariants.{MediumFault, BadUnit, ClockBack, SameCard}
 use Rattle.run_outcome.specs.declared.outcome.Outcome.{Outcome}

@@ -4,8 +4,8 @@ use Rattle.tach_media.specs.Medium.{Rose, HasBroken, last_count}
 use Rattle.run_model.specs.declared.Device.{Device}
 use Rattle.log_model.specs.Causes.{cuts, tears}
 use Rattle.safety_model.specs.Safe.{Devices, breakdowns_of}
-use Rattle.run_rule.specs.Between.{devices}
-use Rattle.run_recorded.specs.Whole.{NothingFailed}
+use Rattle.run_promise.specs.Between.{devices}
+use Rattle.run_promise.specs.Whole.{NothingFailed}
 use Rattle.recorder_with_cards.specs.Words.{HaveTime, AreLater, log_of, IsFoundLater}
 use Rattle.run_opening.specs.Opening.{IsRefused, IsAsItWas}
 use Rattle.run_opening.specs.declared.fault.RunFault.{RunFault}

@@ -9,13 +9,13 @@ use Rattle.recorder_with_cards.specs.Ends.{MayRecord}
 use Rattle.run_outcome.specs.declared.outcome.Outcome.{Outcome}
 use Rattle.unit_download.specs.declared.fault.DownloadFault.{DownloadFault}
 use Rattle.unit_download.specs.declared.fault.DownloadFault.TheVariants as download
-use Rattle.demo_trace.specs.declared.trace.TheConstants.{FIRST_SECOND}
-use Rattle.demo_trace.specs.Demo.{demo_items}
+use Rattle.trace_text.specs.declared.drawn_trace.TheConstants.{FIRST_SECOND}
+use Rattle.trace_text.specs.Demo.{demo_items}
 use Rattle.tacho.specs.declared.anew.AnewFault.{AnewFault}
 use Rattle.tacho.specs.declared.anew.AnewFault.TheVariants.{Unmade, Kept}
 use Rattle.tacho.specs.Anew.{MayBeAnew, EndsAnew}
-use Rattle.demo_file.specs.declared.measuring.FileSize.{FileSize}
-use Rattle.demo_file.specs.Measures.{IsSizeOf}
+use Rattle.unit_download.specs.declared.measuring.FileSize.{FileSize}
+use Rattle.unit_download.specs.Measures.{IsSizeOf}
 use Rattle.tacho.specs.declared.demo_command.TheConstants.{VEHICLE, CARD}
 use Rattle.tacho.specs.declared.end.Fault.{Fault}
 use Rattle.tacho.specs.declared.end.Fault.TheVariants.{Done, Usage, BadTrace, TooLong, BadUnit, ReadFault, WriteFault, MediumFault, Memory, BadFile, BadCard, Changed}

@@ -55,7 +55,7 @@ pub record EndsReading (Prints : (bytes out : List ℕ) → Type 0) (IsBad : (pl
   pub bad_file : (bytes : List ℕ) (place : ℕ) → old.source.left ≡ Some bytes → fault ≡ BadFile place → IsBad place bytes
   pub too_long : (bytes : List ℕ) (n : ℕ) → old.source.left ≡ Some bytes → fault ≡ TooLong n → (n ≡ 0) × (most_bytes < length bytes)
   -- And each file is judged where neither stream fails, unless memory runs out: printed, or refused with its place. No file is
-  -- both, by the laws of history_view and card_match.
+  -- both, by the laws of file_view and card_match.
   pub judges : (bytes : List ℕ) → old.source.left ≡ Some bytes → length bytes ≤ most_bytes
       → (Rose old.source.faults new.source.faults → ⊥) → (Rose old.sink.faults new.sink.faults → ⊥) → (fault ≡ Done) ⊎ ((fault ≡ Memory) ⊎ ((place : ℕ) × (fault ≡ BadFile place)))
   pub finds_too_long : (bytes : List ℕ) → old.source.left ≡ Some bytes → most_bytes < length bytes

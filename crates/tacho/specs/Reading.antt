@@ -1,7 +1,7 @@
 -- How a command ends that reads a trace.
 use Rattle.std.specs.Prelude.{◌≡◌, ◌⊎◌, ℕ, Some, List}
 use Rattle.tach_media.specs.Medium.{Rose}
-use Rattle.trace_text.specs.declared.trace.Form.{Form}
+use Rattle.trace_text.specs.declared.lines_trace.Form.{Form}
 use Rattle.trace_text.specs.Judged.{IsBadText, IsLongText}
 use Rattle.tacho.specs.declared.end.Fault.{Fault}
 use Rattle.tacho.specs.declared.end.Fault.TheVariants.{BadTrace, TooLong, Memory}

@@ -4,14 +4,14 @@ use Rattle.std.specs.Io.KnownBytes.{Appends, IsAtEnd}
 use Rattle.run_model.specs.declared.Device.TheVariants.{Unit as OfUnit}
 use Rattle.message_model.specs.Sending.{content_sent}
 use Rattle.unit_model.specs.Decoding.{first_bad_place}
-use Rattle.unit_journal.specs.Reading.{ReadsIfAny}
-use Rattle.link_service.specs.declared.fault.ServeFault.{ServeFault}
-use Rattle.link_service.specs.declared.fault.ServeFault.TheVariants as service
-use Rattle.link_service.specs.declared.fault.LinesFault.{LinesFault}
-use Rattle.link_service.specs.declared.fault.LinesFault.TheVariants as lines
-use Rattle.link_service.specs.Served.{IsServed, answers_to}
-use Rattle.link_service.specs.ServedLines.{AreServed, WholeAnswered}
-use Rattle.link_service.specs.Asked.{Asking, AnswersInTime}
+use Rattle.unit_minutes.specs.Reading.{ReadsIfAny}
+use Rattle.link_session.specs.declared.fault.ServeFault.{ServeFault}
+use Rattle.link_session.specs.declared.fault.ServeFault.TheVariants as service
+use Rattle.link_session.specs.declared.fault.LinesFault.{LinesFault}
+use Rattle.link_session.specs.declared.fault.LinesFault.TheVariants as lines
+use Rattle.link_session.specs.Served.{IsServed, answers_to}
+use Rattle.link_session.specs.ServedLines.{AreServed, WholeAnswered}
+use Rattle.link_session.specs.Asked.{Asking, AnswersInTime}
 use Rattle.tacho.specs.declared.forms.Form.{Form}
 use Rattle.tacho.specs.declared.forms.Form.TheVariants.{Serve, ServeHex}
 use Rattle.tacho.specs.declared.end.Fault.{Fault}

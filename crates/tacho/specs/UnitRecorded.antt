@@ -8,15 +8,14 @@ use Rattle.history_model.specs.Presence.{Start}
 use Rattle.safety_model.specs.Unit.{HasEachDecided, IsFilled}
 use Rattle.recorder_with_cards.specs.Whole.{HasWholeOdometer, HasDayOdometer}
 use Rattle.recorder_with_cards.specs.Ends.{recording_of}
-use Rattle.run_recorded.specs.Whole.{NothingFailed}
+use Rattle.run_promise.specs.Whole.{NothingFailed}
 use Rattle.run_opening.specs.Units.{IsUnitRefused}
 use Rattle.run_opening.specs.declared.fault.RunFault.{RunFault}
-use Rattle.recorder_with_cards.specs.Words.{log_of}
-use Rattle.recorder_with_cards.specs.Words.{IsFoundLater}
+use Rattle.recorder_with_cards.specs.Words.{log_of, IsFoundLater}
 use Rattle.run_outcome.specs.declared.outcome.Outcome.{Outcome}
 use Rattle.trace_model.specs.declared.Item.{Item}
 use Rattle.trace_model.specs.Trace.{seconds_of}
-use Rattle.unit_journal.specs.DayOdometers.{RecordsDay}
+use Rattle.unit_minutes.specs.DayOdometers.{RecordsDay}
 use Rattle.unit_model.specs.Image.{recorded, last_kept, odometer_at}
 use Rattle.unit_model.specs.Versions.{rule_of}
 use Rattle.unit_model.specs.Decoding.{Decodes, first_bad_place}

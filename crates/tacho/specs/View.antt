@@ -4,13 +4,13 @@ use Rattle.activity_codec.specs.declared.entries.Entry.{Entry}
 use Rattle.unit_model.specs.Days.{UnitMinute}
 use Rattle.view_model.specs.Text.{IsUnitView, IsCardView}
 use Rattle.view_text.specs.Entries.{entry_shown}
-use Rattle.history_view.specs.declared.fault.ViewFault.{ViewFault}
-use Rattle.history_view.specs.declared.fault.ViewFault.TheVariants as viewing
-use Rattle.history_view.specs.Histories.{minute_shown}
-use Rattle.history_view.specs.CardFiles.{IsBadCardFile}
-use Rattle.history_view.specs.UnitFiles.{IsBadUnitFile}
-use Rattle.history_view.specs.Showing.{ShowsCardFile}
-use Rattle.history_view.specs.UnitShowing.{ShowsUnitFile}
+use Rattle.file_view.specs.declared.fault.ViewFault.{ViewFault}
+use Rattle.file_view.specs.declared.fault.ViewFault.TheVariants as viewing
+use Rattle.file_view.specs.Histories.{minute_shown}
+use Rattle.file_view.specs.CardFiles.{IsBadCardFile}
+use Rattle.file_view.specs.UnitFiles.{IsBadUnitFile}
+use Rattle.file_view.specs.Showing.{ShowsCardFile}
+use Rattle.file_view.specs.UnitShowing.{ShowsUnitFile}
 use Rattle.tacho.specs.declared.end.Fault.{Fault}
 use Rattle.tacho.specs.declared.end.Fault.TheVariants.{Memory, BadFile}
 

@@ -9,8 +9,7 @@ ghost use Rattle.unit_model.specs.Decoding.{Decodes};
 ghost use Rattle.unit_model.specs.Image.{IsUnit, last_kept};
 ghost use Rattle.run_outcome.specs.Room.{IsReserved};
 ghost use Rattle.run_opening.specs.Units.{IsUnitRefused};
-ghost use Rattle.recorder_with_cards.specs.Words.{log_of};
-ghost use Rattle.recorder_with_cards.specs.Words.{largest_number};
+ghost use Rattle.recorder_with_cards.specs.Words.{log_of, largest_number};
 ghost use Rattle.tacho.specs.Alone.{needs_no_card, IsForUnit, NoVerdict, counts, StartsAs, IsAlone, IsUnitFault, IsRefusedAlone};
 
 use crate::blank::no_card;

@@ -4,7 +4,7 @@ ghost use Rattle.card_layout.specs.declared.files.TheConstants.{LARGEST_IMAGE};
 ghost use Rattle.unit_model.specs.Image.{IsUnit};
 ghost use Rattle.trace_text.specs.Trace.{IsWellFormed};
 ghost use Rattle.run_outcome.specs.Room.{IsReserved};
-ghost use Rattle.run_rule.specs.Between.{devices};
+ghost use Rattle.run_promise.specs.Between.{devices};
 ghost use Rattle.recorder_with_cards.specs.Words.{HaveTime, largest_number};
 ghost use Rattle.recorder_with_cards.specs.Ends.{MayRecord};
 ghost use Rattle.tacho.specs.Anew.{unit_image, MayBeAnew, EndsAnew, IsFailed, IsFailure};

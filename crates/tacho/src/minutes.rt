@@ -5,7 +5,7 @@ ghost use Rattle.std.specs.List.{AllByRecursion};
 ghost use Rattle.minute_model.specs.Span.{Span, fed_many, decided_in};
 ghost use Rattle.minute_rules.specs.Kept.{StandsFor};
 ghost use Rattle.trace_model.specs.Trace.{item_seconds};
-ghost use Rattle.trace_text.specs.declared.trace.Form.TheVariants.{Minutes as FormOfMinutes};
+ghost use Rattle.trace_text.specs.declared.lines_trace.Form.TheVariants.{Minutes as FormOfMinutes};
 ghost use Rattle.trace_text.specs.Line.{IsKnown};
 ghost use Rattle.trace_text.specs.Trace.{IsWellFormed};
 ghost use Rattle.tacho.specs.Feeding.{fed_item};

@@ -6,7 +6,7 @@ ghost use Rattle.tacho.specs.Outcomes.{count_line, mark_count, outcome_text};
 ghost use Rattle.tacho.specs.Demo.{demo_text};
 
 use arrayvec::ArrayVec;
-use demo_file::FileSize;
+use unit_download::FileSize;
 use itoa::Buffer;
 use log_model::Mark;
 use run_model::Device;

@@ -3,7 +3,7 @@ ghost use Rattle.std.specs.Prelude.{◌≡◌};
 ghost use Rattle.tacho.specs.Serving.{end_of_service, end_of_lines, serve_refusal_of};
 
 use crate::end::Fault;
-use link_service::{LinesFault, ServeFault};
+use link_session::{LinesFault, ServeFault};
 use run_model::Device;
 
 /// The end by what a service answers.

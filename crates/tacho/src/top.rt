@@ -22,7 +22,7 @@ use crate::upgrade_command::upgrade_unit;
 use crate::words::Words;
 use card_download::write_card_file;
 use card_files::CardIdentity;
-use link_service::{Peer, serve, serve_lines};
+use link_session::{Peer, serve, serve_lines};
 use run_model::{Card, Device};
 use run_outcome::Outcome;
 use std::alloc::Global;

@@ -1,15 +1,15 @@
 //! What `view` and `view last N` print: the view text of a unit file or of a card file.
 ghost use Rattle.std.specs.Prelude.{◌≡◌, ◌<◌, ◌^◌, IfOk, IfErr, length};
-ghost use Rattle.history_view.specs.Faults.{IfBadFile};
-ghost use Rattle.history_view.specs.CardFiles.{IsBadCardFile};
-ghost use Rattle.history_view.specs.UnitFiles.{IsBadUnitFile};
-ghost use Rattle.history_view.specs.Showing.{ShowsCardFile};
-ghost use Rattle.history_view.specs.UnitShowing.{ShowsUnitFile};
+ghost use Rattle.file_view.specs.Faults.{IfBadFile};
+ghost use Rattle.file_view.specs.CardFiles.{IsBadCardFile};
+ghost use Rattle.file_view.specs.UnitFiles.{IsBadUnitFile};
+ghost use Rattle.file_view.specs.Showing.{ShowsCardFile};
+ghost use Rattle.file_view.specs.UnitShowing.{ShowsUnitFile};
 ghost use Rattle.tacho.specs.View.{is_unit_file, PrintsUnit, PrintsCard, PrintsFile, IsBadFile, view_refusal_of};
 ghost use Rattle.tacho.specs.Read.{IsUnshown};
 
 use crate::end::Fault;
-use history_view::{
+use file_view::{
     CardHistory, UnitHistory, ViewFault, card_text, last_days, last_messages, read_card_file,
     read_download, unit_text,
 };

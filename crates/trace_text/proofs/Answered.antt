@@ -3,11 +3,11 @@ use Rattle.std.proofs.Common.{◌≡◌, ℕ, ◌<◌, ◌≤◌, ◌^◌, List,
 use Rattle.std.specs.Prelude.{Result, MatchResult, IfOk, IsErrAnd, ◌⊎◌, IfSome}
 use Rattle.std.specs.Io.KnownBytes.{Consumes, IsAtEnd}
 use Rattle.std.proofs.KnownBytes.{Consumes-whole}
-use Rattle.trace_text.specs.declared.trace.Form.{Form}
+use Rattle.trace_text.specs.declared.lines_trace.Form.{Form}
 use Rattle.trace_model.specs.declared.Item.{Item}
-use Rattle.trace_text.specs.declared.trace.Trace.{Trace}
-use Rattle.trace_text.specs.declared.trace.TraceFault.{TraceFault}
-use Rattle.trace_text.specs.declared.trace.TraceFault.TheVariants.{ReadFault, BadLine, TooLong, Memory}
+use Rattle.trace_text.specs.declared.lines_trace.Trace.{Trace}
+use Rattle.trace_text.specs.declared.lines_trace.TraceFault.{TraceFault}
+use Rattle.trace_text.specs.declared.lines_trace.TraceFault.TheVariants.{ReadFault, BadLine, TooLong, Memory}
 use Rattle.trace_text.specs.Text.{text_lines}
 use Rattle.trace_text.specs.Trace.{IsTraceOf, IsWellFormed, HasRuns}
 use Rattle.trace_text.specs.Judged.{IsTraceText, IsBadText, IsLongText, IsFailure}

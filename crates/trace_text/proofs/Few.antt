@@ -6,7 +6,7 @@ use Rattle.activity_codec.proofs.ByTest.{by_test}
 use Rattle.text_fields.proofs.PieceLemmas.{pieces-some}
 use Rattle.text_fields.specs.Pieces.{pieces, onto_first}
 use Rattle.trace_model.specs.declared.Item.{Item}
-use Rattle.trace_text.specs.declared.trace.Form.{Form}
+use Rattle.trace_text.specs.declared.lines_trace.Form.{Form}
 use Rattle.trace_text.specs.Text.{counts, closed, text_lines, numbered, counted}
 use Rattle.trace_text.specs.Trace.{IsTraceOf, line_of}
 use Rattle.trace_text.proofs.PutIn.{ended-few}

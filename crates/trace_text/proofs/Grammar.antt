@@ -5,7 +5,7 @@ use Rattle.std.specs.List.{AllByRecursion}
 use Rattle.std.specs.Fmt.{decimal}
 use Rattle.std.proofs.lemmas.List.{map_push}
 use Rattle.trace_model.specs.declared.Item.{Item}
-use Rattle.trace_text.specs.declared.trace.Form.{Form}
+use Rattle.trace_text.specs.declared.lines_trace.Form.{Form}
 use Rattle.trace_text.specs.Line.{start_fields, item_fields, IsStart, IsItem, IsKnown}
 use Rattle.trace_text.specs.Trace.{Spells, InGrammar, line_of}
 use Rattle.trace_text.proofs.Inverse.{item-one, decimal-one}

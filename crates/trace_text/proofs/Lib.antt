@@ -9,3 +9,7 @@ pub mod Once
 pub mod LinesRead
 pub mod Answered
 mod Worked
+pub mod Groups
+pub mod Pushed
+pub mod Formed
+mod Rows

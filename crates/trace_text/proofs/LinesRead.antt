@@ -4,9 +4,9 @@ use Rattle.std.specs.Prelude.{Result, IfErr}
 use Rattle.trace_model.specs.declared.Item.{Item}
 use Rattle.trace_model.specs.declared.Item.TheVariants.{Run, Off, Act}
 use Rattle.trace_model.specs.Trace.{total_seconds, item_seconds}
-use Rattle.trace_text.specs.declared.trace.Form.{Form}
-use Rattle.trace_text.specs.declared.trace.TraceFault.{TraceFault}
-use Rattle.trace_text.specs.declared.trace.TraceFault.TheVariants.{ReadFault, BadLine, TooLong, Memory}
+use Rattle.trace_text.specs.declared.lines_trace.Form.{Form}
+use Rattle.trace_text.specs.declared.lines_trace.TraceFault.{TraceFault}
+use Rattle.trace_text.specs.declared.lines_trace.TraceFault.TheVariants.{ReadFault, BadLine, TooLong, Memory}
 use Rattle.trace_text.specs.declared.reading.Reading.{Reading}
 use Rattle.trace_text.specs.Text.{counts, fields, counted, numbered}
 use Rattle.trace_text.specs.Line.{IsStart, IsItem}

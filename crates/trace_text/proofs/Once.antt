@@ -2,7 +2,7 @@
 use Rattle.std.proofs.Common.{◌≡◌, ◌∙◌, ℕ, List, [], ◌∷◌, ◌++◌, refl, ap, sym, subst, arith, append_assoc, append-nil, inl, inr}
 use Rattle.trace_model.specs.declared.Item.{Item}
 use Rattle.trace_model.specs.Trace.{total_seconds}
-use Rattle.trace_text.specs.declared.trace.Form.{Form}
+use Rattle.trace_text.specs.declared.lines_trace.Form.{Form}
 use Rattle.trace_text.specs.Text.{counted}
 use Rattle.trace_text.specs.Trace.{Spells, IsTraceOf, InGrammar, BeginsWell, items_of, opened, ended}
 use Rattle.trace_text.specs.Judged.{IsFirstBad, bad_line, no_start, IsFirstTooLong, IsPassedAt, items_before}

@@ -3,8 +3,8 @@ use Rattle.std.proofs.Common.{◌≡◌, ◌∙◌, ℕ, ◌+◌, ◌*◌, ◌�
 use Rattle.std.specs.List.{AllByRecursion}
 use Rattle.trace_model.specs.declared.Item.{Item}
 use Rattle.trace_model.specs.declared.Item.TheVariants.{Run, Off, Act}
-use Rattle.trace_text.specs.declared.trace.Form.{Form}
-use Rattle.trace_text.specs.declared.trace.Form.TheVariants.{Minutes, UnitAlone, Whole}
+use Rattle.trace_text.specs.declared.lines_trace.Form.{Form}
+use Rattle.trace_text.specs.declared.lines_trace.Form.TheVariants.{Minutes, UnitAlone, Whole}
 use Rattle.trace_text.specs.Line.{IsKnown, InRange}
 use Rattle.trace_text.specs.Trace.{put_in, waits, added, open_from, waiting_from, opened, ended, items_of, RunComes, HasRuns}
 use Rattle.trace_text.specs.Judged.{items_before}

@@ -3,3 +3,4 @@ pub mod Line
 pub mod Trace
 pub mod Judged
 pub mod Reading
+pub mod Demo

@@ -5,8 +5,8 @@ use Rattle.trace_model.specs.Names.{card_name}
 use Rattle.trace_model.specs.declared.Action.TheVariants.{Select, Insert, Withdraw, Tear, Place, Manual}
 use Rattle.trace_model.specs.declared.Item.{Item}
 use Rattle.trace_model.specs.declared.Item.TheVariants.{Run, Off, Act}
-use Rattle.trace_text.specs.declared.trace.Form.{Form}
-use Rattle.trace_text.specs.declared.trace.Form.TheVariants.{Minutes, UnitAlone, Whole}
+use Rattle.trace_text.specs.declared.lines_trace.Form.{Form}
+use Rattle.trace_text.specs.declared.lines_trace.Form.TheVariants.{Minutes, UnitAlone, Whole}
 
 -- whether a place is where the day begins or where it ends
 abbrev pub ending_word : Bool → List ℕ

@@ -2,9 +2,9 @@
 use Rattle.std.specs.Prelude.{◌≡◌, ℕ, Option, None, Some, List, [], length}
 use Rattle.trace_model.specs.declared.Item.{Item}
 use Rattle.trace_model.specs.Trace.{total_seconds}
-use Rattle.trace_text.specs.declared.trace.Form.{Form}
-use Rattle.trace_text.specs.declared.trace.TraceFault.{TraceFault}
-use Rattle.trace_text.specs.declared.trace.TraceFault.TheVariants.{ReadFault, BadLine, TooLong, Memory}
+use Rattle.trace_text.specs.declared.lines_trace.Form.{Form}
+use Rattle.trace_text.specs.declared.lines_trace.TraceFault.{TraceFault}
+use Rattle.trace_text.specs.declared.lines_trace.TraceFault.TheVariants.{ReadFault, BadLine, TooLong, Memory}
 use Rattle.trace_text.specs.declared.reading.Reading.{Reading}
 use Rattle.trace_text.specs.Text.{counted}
 use Rattle.trace_text.specs.Trace.{Spells, IsWithin, items_of, waiting_from, opened}

@@ -4,7 +4,7 @@ use Rattle.std.specs.List.{AllByRecursion}
 use Rattle.trace_model.specs.declared.Item.{Item}
 use Rattle.trace_model.specs.declared.Item.TheVariants.{Run, Off, Act}
 use Rattle.trace_model.specs.Trace.{total_seconds}
-use Rattle.trace_text.specs.declared.trace.Form.{Form}
+use Rattle.trace_text.specs.declared.lines_trace.Form.{Form}
 use Rattle.trace_text.specs.Text.{counted}
 use Rattle.trace_text.specs.Line.{start_fields, item_fields, IsFirstSecond, InRange, IsKnown}
 

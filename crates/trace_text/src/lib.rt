@@ -1,11 +1,22 @@
 //! The text of a trace (profile): its grammar, its limits, and the exact line of what is wrong in it.
+//!
+//! The trace of a demonstration (profile): a driver's forty days, drawn from one number.
 #![tactic(auto)]
 
+// text to trace
 mod line;
 mod read;
 mod reading;
-mod trace;
+mod lines_trace;
 
+// the trace of a demonstration
+mod drawing;
+mod drawn_laws;
+mod drawn_trace;
+
+pub use drawing::next_drawn;
+pub use drawn_laws::a_demonstration_has_its_seconds;
+pub use drawn_trace::{DAYS, DAY_SECONDS, FIRST_SECOND, PARTS, demo_trace};
+pub use lines_trace::{Form, Items, Trace, TraceFault};
 pub use read::read_trace;
-pub use trace::{Form, Items, Trace, TraceFault};
 pub use trace_model::{Action, Card, Item};

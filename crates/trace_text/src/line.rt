@@ -10,7 +10,7 @@ ghost use Rattle.trace_model.specs.Names.{card_name};
 ghost use Rattle.trace_text.specs.Line.{IsStart, IsItem, InRange, item_fields, ending_word};
 ghost use Rattle.trace_text.specs.Text.{counts, fields};
 
-use crate::trace::Form;
+use crate::lines_trace::Form;
 use activity_codec::{Activity, Pick, Slot};
 use text_fields::{
     byte, first_piece, four_fields, is_word, number_between, one_field, three_fields, two_fields,

@@ -12,7 +12,7 @@ ghost use Rattle.trace_text.specs.Judged.{IsTraceText, IsBadText, IsLongText, Is
 ghost use Rattle.trace_text.specs.Reading.{IsFaultOf};
 
 use crate::reading::Reading;
-use crate::trace::{Form, Trace, TraceFault};
+use crate::lines_trace::{Form, Trace, TraceFault};
 use std::alloc::Global;
 use tach_media::{Source, TakeFault, take_all};
 use text_fields::first_piece;

@@ -1,7 +1,7 @@
 //! A trace, read line by line.
 
 use crate::line::{LAST, MOST, is_counted, read_item, read_start};
-use crate::trace::{Form, Items, Trace, TraceFault};
+use crate::lines_trace::{Form, Items, Trace, TraceFault};
 use std::alloc::Global;
 use trace_model::Item;
 

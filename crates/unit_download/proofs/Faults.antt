@@ -3,15 +3,15 @@ use Rattle.std.proofs.Common.{◌≡◌, ◌∙◌, ℕ, true, List, [], ◌∷�
 use Rattle.std.specs.Prelude.{IsErrAnd, OnErr, IfErr}
 use Rattle.tach_media.specs.Medium.{State}
 pub use Rattle.tach_media.proofs.Runs.{err_is}
-use Rattle.unit_journal.specs.Reading.{ReadsIfAny}
+use Rattle.unit_minutes.specs.Reading.{ReadsIfAny}
 use Rattle.link_model.specs.Frames.{Right}
 use Rattle.link_model.specs.Answers.{LinkState, Reply, answered}
 use Rattle.link_model.specs.declared.request.Request.{Request}
 use Rattle.message_model.specs.Sending.{content_sent}
-use Rattle.answer_table.specs.Asking.{asks_unit}
-use Rattle.transfer_session.specs.declared.asking.AnswerFault.{AnswerFault}
-use Rattle.transfer_session.specs.declared.asking.AnswerFault.TheVariants as session
-use Rattle.downloader.specs.Loading.{Loading}
+use Rattle.link_frames.specs.Asking.{asks_unit}
+use Rattle.link_session.specs.declared.asking.AnswerFault.{AnswerFault}
+use Rattle.link_session.specs.declared.asking.AnswerFault.TheVariants as session
+use Rattle.link_loader.specs.Loading.{Loading}
 use Rattle.unit_download.specs.declared.wire.Passed.{Passed}
 use Rattle.unit_download.specs.Tapes.{HasMore}
 use Rattle.unit_download.specs.declared.fault.DownloadFault.{DownloadFault}

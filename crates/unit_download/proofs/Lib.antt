@@ -3,6 +3,8 @@ pub mod Linked
 pub mod Refused
 pub mod Opening
 pub mod Fronts
-pub mod Told
+pub mod ToldUnit
 pub mod Faults
 pub mod Talking
+pub mod Reading
+pub mod ToldDays

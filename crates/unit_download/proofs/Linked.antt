@@ -1,7 +1,7 @@
 -- Exchanges one after the other.
 use Rattle.std.proofs.Common.{ℕ, List, [], ◌∷◌, ◌++◌, Option, Some, refl, sym, subst}
 use Rattle.message_model.specs.Sending.{content_sent}
-use Rattle.downloader.specs.Talking.{Talk, Exchanges, Talks}
+use Rattle.link_loader.specs.Talking.{Talk, Exchanges, Talks}
 use Rattle.unit_download.specs.declared.wire.Passed.{Passed}
 use Rattle.unit_download.specs.Wires.{Exchanged, Runs}
 

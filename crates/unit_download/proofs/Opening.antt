@@ -7,14 +7,14 @@ use Rattle.link_model.specs.Frames.{Right}
 use Rattle.link_model.specs.Answers.{LinkState, Reply, answers, answered, upload_request}
 use Rattle.link_model.specs.Answers as states
 use Rattle.message_model.specs.Sending.{content_sent}
-use Rattle.answer_table.specs.Asking.{asks_unit}
-use Rattle.downloader.specs.declared.stage.Stage.TheVariants.{Diagnostic, Upload, Asked, Finished}
-use Rattle.downloader.specs.declared.kind.Kind.TheVariants.{Agreed}
-use Rattle.downloader.specs.Stages.{sent_at}
-use Rattle.downloader.specs.Coming.{kind_of}
-use Rattle.downloader.specs.Loading.{Loading, at_stage, goes_on, Takes}
-use Rattle.downloader.specs.Talking.{Talk, fresh_talk}
-use Rattle.downloader.proofs.OneWay.{taken_in_one_way}
+use Rattle.link_frames.specs.Asking.{asks_unit}
+use Rattle.link_loader.specs.declared.stage.Stage.TheVariants.{Diagnostic, Upload, Asked, Finished}
+use Rattle.link_loader.specs.declared.kind.Kind.TheVariants.{Agreed}
+use Rattle.link_loader.specs.Stages.{sent_at}
+use Rattle.link_loader.specs.Coming.{kind_of}
+use Rattle.link_loader.specs.Loading.{Loading, at_stage, goes_on, Takes}
+use Rattle.link_loader.specs.Talking.{Talk, fresh_talk}
+use Rattle.link_loader.proofs.OneWay.{taken_in_one_way}
 use Rattle.unit_download.specs.declared.wire.Passed.{Passed}
 use Rattle.unit_download.specs.Wires.{talk_of, Replies, Exchanged}
 

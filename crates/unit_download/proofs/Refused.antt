@@ -3,12 +3,12 @@ use Rattle.std.proofs.Common.{◌≡◌, ℕ, List, Option, Some, None, ap, inl,
 use Rattle.std.specs.Prelude.{is_some}
 use Rattle.link_model.specs.declared.request.Request.{Request}
 use Rattle.message_model.specs.Messages.{Message}
-use Rattle.downloader.specs.declared.fault.LoadFault.{LoadFault}
-use Rattle.downloader.specs.declared.fault.LoadFault.TheVariants as load
-use Rattle.downloader.specs.Coming.{kind_of}
-use Rattle.downloader.specs.Loading.{Loading, goes_on, goes_on_by, closed, closed_by, Finishes, Takes, IsRefused}
-use Rattle.downloader.proofs.FrameKinds.{refused_goes_nowhere}
-use Rattle.downloader.proofs.Exact.{nowhere_by}
+use Rattle.link_loader.specs.declared.fault.LoadFault.{LoadFault}
+use Rattle.link_loader.specs.declared.fault.LoadFault.TheVariants as load
+use Rattle.link_loader.specs.Coming.{kind_of}
+use Rattle.link_loader.specs.Loading.{Loading, goes_on, goes_on_by, closed, closed_by, Finishes, Takes, IsRefused}
+use Rattle.link_loader.proofs.FrameKinds.{refused_goes_nowhere}
+use Rattle.link_loader.proofs.Exact.{nowhere_by}
 use Rattle.unit_download.specs.Ending.{IsOfFrame}
 
 module _ (now : Loading) (frame : List ℕ) where

@@ -8,19 +8,19 @@ use Rattle.tach_media.specs.Streams.{AppendsFront}
 use Rattle.card_layout.specs.Fields.{IsBytes}
 use Rattle.unit_memory.proofs.Told.{carried, one_told, told_all}
 use Rattle.unit_model.specs.Decoding.{Decodes}
-use Rattle.unit_journal.specs.Reading.{ReadsIfAny}
-use Rattle.unit_journal.proofs.IfAny.{read_same}
+use Rattle.unit_minutes.specs.Reading.{ReadsIfAny}
+use Rattle.unit_minutes.proofs.IfAny.{read_same}
 use Rattle.unit_messages.specs.declared.joining.TheConstants.{LONGEST}
 use Rattle.unit_messages.proofs.Calls.{no_call, any_then}
 use Rattle.link_model.specs.Frames.{Right}
 use Rattle.link_model.specs.Answers.{LinkState, Idle, Reply}
 use Rattle.message_model.specs.Sending.{unit_file}
-use Rattle.answer_table.specs.Asking.{asks_unit}
-use Rattle.transfer_session.specs.Told.{SessionView, Knows, is_judged, fresh}
-use Rattle.downloader.specs.declared.stage.Stage.TheVariants.{Finished}
-use Rattle.downloader.specs.Stages.{sent_at}
-use Rattle.downloader.specs.Loading.{Loading, Load, begun, Takes}
-use Rattle.downloader.specs.Talking.{Talk, fresh_talk}
+use Rattle.link_frames.specs.Asking.{asks_unit}
+use Rattle.link_session.specs.Told.{SessionView, Knows, is_judged, fresh}
+use Rattle.link_loader.specs.declared.stage.Stage.TheVariants.{Finished}
+use Rattle.link_loader.specs.Stages.{sent_at}
+use Rattle.link_loader.specs.Loading.{Loading, Load, begun, Takes}
+use Rattle.link_loader.specs.Talking.{Talk, fresh_talk}
 use Rattle.unit_download.specs.declared.wire.Passed.{Passed}
 use Rattle.unit_download.specs.declared.fault.DownloadFault.{DownloadFault}
 use Rattle.unit_download.specs.declared.fault.DownloadFault.TheVariants.{Changed, Memory}
@@ -29,7 +29,7 @@ use Rattle.unit_download.specs.Tapes.{HasFrames}
 use Rattle.unit_download.specs.Ending.{IsUnanswered, IsUntaken, StopsAt, IsDownload}
 use Rattle.unit_download.proofs.Linked.{runs_on}
 use Rattle.unit_download.proofs.Opening.{Opens, Begins, begins_next, asks_there, judged_next}
-use Rattle.unit_download.proofs.Told.{Sized, untold, whole_told, front_told, front_untaken, long_told}
+use Rattle.unit_download.proofs.ToldUnit.{Sized, untold, whole_told, front_told, front_untaken, long_told}
 use Rattle.unit_download.proofs.Faults.{err_is}
 
 -- Exchanges have passed, and what they put out has gone to the sink; nothing was asked of the unit, or it was judged.

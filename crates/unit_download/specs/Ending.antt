@@ -8,17 +8,17 @@ use Rattle.link_model.specs.Frames.{Right}
 use Rattle.link_model.specs.Answers.{LinkState}
 use Rattle.message_model.specs.Messages.{Message, message_bytes}
 use Rattle.unit_messages.specs.declared.joining.TheConstants.{LONGEST}
-use Rattle.answer_table.specs.Asking.{asks_unit}
-use Rattle.transfer_session.specs.declared.asking.AnswerFault.{AnswerFault}
-use Rattle.transfer_session.specs.declared.asking.AnswerFault.TheVariants as session
-use Rattle.downloader.specs.declared.stage.Stage.TheVariants.{Finished}
-use Rattle.downloader.specs.declared.kind.Kind.TheVariants.{Piece}
-use Rattle.downloader.specs.declared.fault.LoadFault.{LoadFault}
-use Rattle.downloader.specs.declared.fault.LoadFault.TheVariants as load
-use Rattle.downloader.specs.Stages.{sent_at}
-use Rattle.downloader.specs.Coming.{kind_of}
-use Rattle.downloader.specs.Loading.{Loading, Finishes, IsRefused, with_piece}
-use Rattle.downloader.specs.Talking.{Talk, fresh_talk}
+use Rattle.link_frames.specs.Asking.{asks_unit}
+use Rattle.link_session.specs.declared.asking.AnswerFault.{AnswerFault}
+use Rattle.link_session.specs.declared.asking.AnswerFault.TheVariants as session
+use Rattle.link_loader.specs.declared.stage.Stage.TheVariants.{Finished}
+use Rattle.link_loader.specs.declared.kind.Kind.TheVariants.{Piece}
+use Rattle.link_loader.specs.declared.fault.LoadFault.{LoadFault}
+use Rattle.link_loader.specs.declared.fault.LoadFault.TheVariants as load
+use Rattle.link_loader.specs.Stages.{sent_at}
+use Rattle.link_loader.specs.Coming.{kind_of}
+use Rattle.link_loader.specs.Loading.{Loading, Finishes, IsRefused, with_piece}
+use Rattle.link_loader.specs.Talking.{Talk, fresh_talk}
 use Rattle.unit_download.specs.declared.wire.Passed.{Passed}
 use Rattle.unit_download.specs.declared.fault.DownloadFault.{DownloadFault}
 use Rattle.unit_download.specs.declared.fault.DownloadFault.TheVariants.{Failed, BadUnit, Changed, WriteFault, Memory}

@@ -1,3 +1,4 @@
 pub mod Tapes
 pub mod Wires
 pub mod Ending
+pub mod Measures

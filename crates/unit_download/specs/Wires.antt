@@ -5,9 +5,9 @@ use Rattle.link_model.specs.declared.side.End.TheVariants as side
 use Rattle.link_model.specs.Frames.{Right}
 use Rattle.link_model.specs.Answers.{LinkState, Reply, answered}
 use Rattle.message_model.specs.Sending.{content_sent}
-use Rattle.downloader.specs.Stages.{sent_at}
-use Rattle.downloader.specs.Loading.{Loading, Takes}
-use Rattle.downloader.specs.Talking.{Talk}
+use Rattle.link_loader.specs.Stages.{sent_at}
+use Rattle.link_loader.specs.Loading.{Loading, Takes}
+use Rattle.link_loader.specs.Talking.{Talk}
 use Rattle.unit_download.specs.declared.wire.Passed.{Passed}
 
 -- a frame of the loader, and one of the unit

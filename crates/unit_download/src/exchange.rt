@@ -5,11 +5,11 @@ ghost use Rattle.std.specs.Io.KnownBytes.{Appends};
 ghost use Rattle.tach_media.specs.Medium.{Rose};
 ghost use Rattle.link_model.specs.Frames.{Right};
 ghost use Rattle.unit_model.specs.Decoding.{Decodes, first_bad_place};
-ghost use Rattle.unit_journal.specs.Reading.{ReadsIfAny};
+ghost use Rattle.unit_minutes.specs.Reading.{ReadsIfAny};
 ghost use Rattle.unit_messages.specs.declared.joining.TheConstants.{LONGEST};
-ghost use Rattle.answer_table.specs.Asking.{asks_unit};
-ghost use Rattle.transfer_session.specs.Told.{Knows, is_judged};
-ghost use Rattle.downloader.specs.Loading.{Takes};
+ghost use Rattle.link_frames.specs.Asking.{asks_unit};
+ghost use Rattle.link_session.specs.Told.{Knows, is_judged};
+ghost use Rattle.link_loader.specs.Loading.{Takes};
 ghost use Rattle.unit_download.specs.declared.wire.Passed.{Passed};
 ghost use Rattle.unit_download.specs.declared.fault.DownloadFault.{DownloadFault};
 ghost use Rattle.unit_download.specs.Wires.{of_loader, of_unit, Replies};
@@ -18,10 +18,10 @@ ghost use Rattle.unit_download.specs.Ending.{IfBad, has_failed, IsUnanswered, Is
 
 use crate::fault::DownloadFault;
 use crate::tape::Tape;
-use downloader::{Downloader, LoadFault};
+use link_loader::{Downloader, LoadFault};
 use link_frames::{End, Frame, Seen};
 use tach_media::{Medium, Sink};
-use transfer_session::Session;
+use link_session::Session;
 
 /// The unit's answer to a frame of the loader; both are added to the wire.
 ///

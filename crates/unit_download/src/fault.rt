@@ -1,5 +1,5 @@
 use tach_media::Memory;
-use transfer_session::AnswerFault;
+use link_session::AnswerFault;
 
 /// Why a download ended before it was finished.
 #[derive(Clone, Copy, Debug, PartialEq, Eq)]

@@ -5,10 +5,10 @@ ghost use Rattle.tach_media.specs.Medium.{Rose};
 ghost use Rattle.tach_media.specs.Streams.{AppendsFront};
 ghost use Rattle.message_model.specs.Sending.{unit_file};
 ghost use Rattle.unit_model.specs.Decoding.{Decodes, first_bad_place};
-ghost use Rattle.unit_journal.specs.Reading.{ReadsIfAny};
+ghost use Rattle.unit_minutes.specs.Reading.{ReadsIfAny};
 ghost use Rattle.unit_download.specs.declared.fault.DownloadFault.{DownloadFault};
 ghost use Rattle.unit_messages.specs.declared.joining.TheConstants.{LONGEST};
-ghost use Rattle.downloader.specs.Loading.{begun};
+ghost use Rattle.link_loader.specs.Loading.{begun};
 ghost use Rattle.unit_download.specs.declared.wire.Passed.{Passed};
 ghost use Rattle.unit_download.specs.Tapes.{HasFrames};
 ghost use Rattle.unit_download.specs.Ending.{IfBad, has_failed, IsDownload};
@@ -17,10 +17,10 @@ use crate::exchange::{answer_to, take};
 use crate::fault::DownloadFault;
 use crate::tape::Tape;
 use crate::wire::Wire;
-use downloader::Downloader;
+use link_loader::Downloader;
 use std::alloc::Global;
 use tach_media::{Medium, Sink};
-use transfer_session::Session;
+use link_session::Session;
 
 /// Downloads a unit: the loader's side and the unit's run against each other until the download is finished. The finished messages
 /// go to the sink, which then has the unit's file behind what it held, and the frames that pass to the wire. The unit is read, and

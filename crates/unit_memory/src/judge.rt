@@ -1,10 +1,9 @@
 ghost use Rattle.std.specs.Prelude.{◌≡◌, ◌≤◌, ◌<◌, ◌+◌, ◌==◌, ◌||◌, nat_lt, IfOk, IfSome, is_err, is_some, true};
 ghost use Rattle.unit_model.specs.declared.layout.TheConstants.{DAY_SLOTS, IMAGE_SIZE};
 ghost use Rattle.tach_media.specs.Medium.{Reads};
-ghost use Rattle.unit_model.specs.Decoding.{first_failing, cell_checks, ring_checks};
+ghost use Rattle.unit_model.specs.Decoding.{first_failing, cell_checks, ring_checks, or_failing};
 ghost use Rattle.unit_model.specs.Days.{word_minute};
 ghost use Rattle.unit_memory.specs.Judging.{front_of, front_by, rings_of, pointer_passes, turn_at, IsJudged};
-ghost use Rattle.unit_model.specs.Decoding.{or_failing};
 
 use crate::slots::{judge_slots, or_else};
 use crate::walk::{Density, Walk};

@@ -1,11 +1,10 @@
 ghost use Rattle.std.specs.Prelude.{◌≡◌, IfOk, OnOk, IfSome, IfErr, Some, is_err, true};
-ghost use Rattle.unit_model.specs.declared.layout.TheConstants.{IMAGE_SIZE};
+ghost use Rattle.unit_model.specs.declared.layout.TheConstants.{IMAGE_SIZE, RULE_BYTE};
 ghost use Rattle.tach_media.specs.Medium.{Reads};
 ghost use Rattle.unit_memory.specs.Identified.{IsIdentity, AreFacts, version_known};
 ghost use Rattle.unit_model.specs.Decoding.{Decodes, first_bad_place};
 ghost use Rattle.unit_model.specs.Versions.{version_of, rule_byte_by, rule_by};
 ghost use Rattle.unit_model.specs.Image.{number_of};
-ghost use Rattle.unit_model.specs.declared.layout.TheConstants.{RULE_BYTE};
 
 use crate::fault::UnitFault;
 use crate::format::Identity;

@@ -5,10 +5,9 @@ ghost use Rattle.std.specs.List.{range_with_len};
 ghost use Rattle.tach_media.specs.Medium.{Reads};
 ghost use Rattle.gated_ring.specs.Ring.{number_at};
 ghost use Rattle.unit_model.specs.Image.{slot_date};
-ghost use Rattle.unit_model.specs.Decoding.{first_failing};
+ghost use Rattle.unit_model.specs.Decoding.{first_failing, or_else};
 ghost use Rattle.unit_memory.specs.Walks.{next_walk, walk_from};
 ghost use Rattle.unit_memory.specs.Judging.{date_passes, day_front, day_checks_by, slot_checks_by, slots_by, head_in, head_at, failed_of};
-ghost use Rattle.unit_model.specs.Decoding.{or_else};
 
 use crate::walk::{Walk, next_walk};
 use crate::words::{Scan, scan_day, word_in};

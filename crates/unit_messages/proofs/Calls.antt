@@ -3,7 +3,7 @@ use Rattle.std.proofs.Common.{◌≡◌, ℕ, ◌≤◌, false, true, refl, ◌�
 use Rattle.tach_media.specs.Medium.{State, Unchanged, Reads, Rose}
 use Rattle.tach_media.proofs.Runs.{starts, goes_same, reads_then}
 use Rattle.gated_ring.specs.Loading.{MadeNoCall}
-use Rattle.unit_journal.specs.Reading.{ReadsIfAny}
+use Rattle.unit_minutes.specs.Reading.{ReadsIfAny}
 
 pub no_call : (s : State) → ReadsIfAny s s false
 no_call s = inl (refl, record { same = refl; leaves = starts s Unchanged; clock = refl; works = refl; faults = refl; breakdowns = refl })

@@ -8,11 +8,11 @@ use Rattle.unit_model.specs.Image.{number_of as number_in, last_kept, recorded_i
 use Rattle.unit_model.specs.Decoding.{Decodes}
 use Rattle.unit_model.proofs.Checks.{good_of, front_split, rings_split}
 use Rattle.unit_model.proofs.WholeDays.{decoded_of}
-use Rattle.unit_journal.specs.declared.notes.Notes.{Notes}
-use Rattle.unit_journal.specs.Image.{IsNotes}
-use Rattle.unit_journal.specs.Reading.{AreRight, IsOfDate, IsRecordedDay}
-use Rattle.unit_journal.specs.declared.journal.reading.UnitDay.{UnitDay}
-use Rattle.unit_journal.proofs.Shown.{shown}
+use Rattle.unit_minutes.specs.declared.notes.Notes.{Notes}
+use Rattle.unit_minutes.specs.Image.{IsNotes}
+use Rattle.unit_minutes.specs.Reading.{AreRight, IsOfDate, IsRecordedDay}
+use Rattle.unit_minutes.specs.declared.journal.reading.UnitDay.{UnitDay}
+use Rattle.unit_minutes.proofs.Shown.{shown}
 use Rattle.link_model.specs.declared.request.Request.TheVariants.{Day as AskDay, Speed as AskSpeed}
 use Rattle.message_model.specs.Records.{insertion_ring, unit_place_ring}
 use Rattle.message_model.specs.Messages.{ADay}

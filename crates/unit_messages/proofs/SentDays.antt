@@ -18,11 +18,11 @@ use Rattle.unit_model.proofs.Decoded.{IsDecoded}
 use Rattle.unit_model.proofs.Finding.{all_there}
 use Rattle.unit_model.proofs.LastDay.{in_order}
 use Rattle.unit_model.proofs.Rising.{AreInOrder}
-use Rattle.unit_journal.specs.declared.notes.Notes.{Notes}
-use Rattle.unit_journal.specs.Image.{IsNotes}
-use Rattle.unit_journal.specs.Reading.{AreRight, IsOfDate}
-use Rattle.unit_journal.specs.declared.journal.reading.UnitDay.{UnitDay}
-use Rattle.unit_journal.proofs.Shown.{AreShown, shown, word_at}
+use Rattle.unit_minutes.specs.declared.notes.Notes.{Notes}
+use Rattle.unit_minutes.specs.Image.{IsNotes}
+use Rattle.unit_minutes.specs.Reading.{AreRight, IsOfDate}
+use Rattle.unit_minutes.specs.declared.journal.reading.UnitDay.{UnitDay}
+use Rattle.unit_minutes.proofs.Shown.{AreShown, shown, word_at}
 use Rattle.unit_model.proofs.Recorded.{date_in, map_of, each_get}
 use Rattle.unit_model.proofs.Slots.{day_at, day_is, all_days}
 use Rattle.message_model.specs.Sending.{sent_days}

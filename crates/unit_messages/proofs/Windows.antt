@@ -1,13 +1,12 @@
 -- How a window changes as bytes pass by.
 use Rattle.std.proofs.Common.{◌≡◌, ◌⊎◌, ⊎_elim, Option, Some, IfSome, subst, ℕ, zero, suc, ◌+◌, ◌-◌, ◌*◌, ◌/◌, ◌≤◌, min, List, [], ◌∷◌, ◌++◌, length, take, drop, refl, sym, ◌∙◌, ap, append_assoc, length-append, arith}
-use Rattle.std.proofs.lemmas.List.{append-nil, length-take, length-drop, drop_all, take_all, take_min, drop_min}
+use Rattle.std.proofs.lemmas.List.{append-nil, length-take, length-drop, drop_all, take_all, take_min, drop_min, map-append}
 use Rattle.card_layout.specs.Images.{bytes_at, number_at}
 use Rattle.card_layout.specs.Fields.{joined, IsBytes}
 use Rattle.card_layout.proofs.Images.{part_split, part_in}
 use Rattle.unit_model.specs.Image.{words_at}
 use Rattle.unit_model.proofs.Words.{words_split}
 use Rattle.message_model.specs.Messages.{word_bytes}
-use Rattle.std.proofs.lemmas.List.{map-append}
 use Rattle.byteorder.specs.Endian.{big_bytes}
 use Rattle.byteorder.specs.Numbers.{length-bytes_high_first}
 use Rattle.tach_media.proofs.Runs.{both_told}

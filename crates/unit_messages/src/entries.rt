@@ -6,7 +6,7 @@ ghost use Rattle.card_layout.specs.Images.{bytes_at};
 ghost use Rattle.card_layout.specs.Fields.{joined};
 ghost use Rattle.tach_media.specs.Medium.{Reads};
 ghost use Rattle.gated_ring.specs.Ring.{order};
-ghost use Rattle.unit_journal.specs.Reading.{ReadsIfAny};
+ghost use Rattle.unit_minutes.specs.Reading.{ReadsIfAny};
 ghost use Rattle.message_model.specs.Sending.{is_in_day};
 ghost use Rattle.unit_messages.specs.Windows.{passed};
 ghost use Rattle.unit_messages.specs.Chosen.{chosen, room_of, chosen_at, shape_of, is_meant, meant, AreEntries};

@@ -2,7 +2,7 @@
 //! into the fields: profile).
 ghost use Rattle.unit_model.specs.declared.layout.TheConstants.{IMAGE_SIZE};
 ghost use Rattle.std.specs.Prelude.{ℕ, List, Some, min, ◌≡◌, ◌≤◌, ◌+◌, ◌*◌, ◌-◌, OnOk, IfSome, is_err, length};
-ghost use Rattle.unit_journal.specs.Reading.{ReadsIfAny};
+ghost use Rattle.unit_minutes.specs.Reading.{ReadsIfAny};
 ghost use Rattle.unit_messages.specs.declared.joining.TheConstants.{LONGEST};
 ghost use Rattle.unit_messages.specs.Sent.{IsPiece};
 ghost use Rattle.unit_messages.specs.Outlines.{Outlines, HasPassed, IsDayInRange, IsEventInRange, bytes_sent, asked, length_of};

@@ -4,7 +4,7 @@ ghost use Rattle.std.specs.Prelude.{◌≡◌, ◌≤◌, ◌<◌, ◌+◌, IfOk
 ghost use Rattle.tach_media.specs.Medium.{Reads};
 ghost use Rattle.unit_model.specs.Decoding.{Decodes, first_bad_place};
 ghost use Rattle.unit_messages.specs.Faults.{IfBadPiece, piece_failed, IfBadMessage, message_failed};
-ghost use Rattle.unit_journal.specs.Reading.{ReadsIfAny};
+ghost use Rattle.unit_minutes.specs.Reading.{ReadsIfAny};
 ghost use Rattle.unit_messages.specs.Outlines.{Outlines, asked, bytes_sent};
 ghost use Rattle.unit_messages.specs.Sent.{IsPiece};
 
@@ -14,7 +14,7 @@ use arrayvec::ArrayVec;
 use link_model::Request;
 use std::alloc::Global;
 use tach_media::{Failed, Medium};
-use unit_journal::Journal;
+use unit_minutes::Journal;
 use unit_memory::UnitFault;
 
 /// Why no piece was read.

@@ -3,7 +3,7 @@ ghost use Rattle.std.specs.Prelude.{ℕ, List, ◌/◌, ◌≡◌, ◌≤◌, �
 ghost use Rattle.card_layout.specs.Images.{bytes_at};
 ghost use Rattle.card_layout.specs.Fields.{joined};
 ghost use Rattle.unit_model.specs.Image.{words_at};
-ghost use Rattle.unit_journal.specs.Reading.{ReadsIfAny};
+ghost use Rattle.unit_minutes.specs.Reading.{ReadsIfAny};
 ghost use Rattle.message_model.specs.Messages.{word_bytes};
 ghost use Rattle.unit_messages.specs.Windows.{passed, IsFull, IsWordCount};
 

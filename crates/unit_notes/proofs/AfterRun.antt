@@ -21,7 +21,7 @@ use Rattle.event_model.specs.Counted.{Counted, counted_in, similar_in, counted_a
 use Rattle.event_model.proofs.Retaining.{and-first, and-second, stored-none}
 use Rattle.event_model.proofs.Similar.{recent_all, days_all, similar_counted}
 use Rattle.event_model.specs.Events.{Event}
-use Rattle.side_model.specs.Tables.{over_widths, widths_of, held_in, held_of, similar_field, similar_at, CountsSimilar, HasRest, IsEntry, HasOneMore, IsNotedAt, IsNoted, AreNoted}
+use Rattle.note_model.specs.Tables.{over_widths, widths_of, held_in, held_of, similar_field, similar_at, CountsSimilar, HasRest, IsEntry, HasOneMore, IsNotedAt, IsNoted, AreNoted}
 use Rattle.gated_ring.specs.Earliest.{IsEarliest}
 use Rattle.unit_notes.specs.Retention.{IsOfType, held_rows, similar_of, counted_row, counted_rows, CountsOnce, IsStart, IsAfter}
 use Rattle.unit_notes.proofs.Types.{held_is, width_is}

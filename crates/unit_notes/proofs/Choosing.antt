@@ -19,7 +19,7 @@ use Rattle.event_model.specs.declared.kinds.Purpose.{Purpose}
 use Rattle.event_model.specs.declared.entries.Held.{Held}
 use Rattle.event_model.specs.Kinds.{purpose_of, places_of}
 use Rattle.event_model.specs.Places.{earliest, held_at, measure, where_later, place_beside, place_of, day_place, similar_after}
-use Rattle.side_model.specs.Tables.{event_widths, fault_widths, over_widths, widths_of, base_of, table_of, table_in, held_in, similar_field, similar_at}
+use Rattle.note_model.specs.Tables.{event_widths, fault_widths, over_widths, widths_of, base_of, table_of, table_in, held_in, similar_field, similar_at}
 use Rattle.unit_notes.specs.Tables.{rows_in, held_table, place_taken, place_of_day, similar_next}
 
 -- ---- a place is one of those of the type

@@ -19,7 +19,7 @@ use Rattle.event_model.specs.declared.entries.Over.{Over}
 use Rattle.event_model.specs.Kinds.{purpose_of, purpose_number}
 use Rattle.message_model.specs.Records.{insertion_widths, place_widths}
 use Rattle.event_model.specs.Events.{Event}
-use Rattle.side_model.specs.Tables.{event_widths, fault_widths, over_widths, number_or_none, HasNumbers, HasSpeeds, HasRest}
+use Rattle.note_model.specs.Tables.{event_widths, fault_widths, over_widths, number_or_none, HasNumbers, HasSpeeds, HasRest}
 use Rattle.unit_notes.specs.declared.insertion.Insertion.{Insertion}
 use Rattle.unit_notes.specs.declared.unit_event.UnitEvent.{UnitEvent}
 use Rattle.unit_notes.specs.Entries.{insertion_fields, insertion_bytes, unit_place_bytes, fault_fields, fault_bytes, over_fields, over_bytes}

@@ -7,7 +7,7 @@ use Rattle.activity_codec.proofs.ByTest.{by_test}
 use Rattle.card_layout.specs.Fields.{joined}
 use Rattle.card_layout.specs.Images.{big_number, number_at}
 use Rattle.event_model.specs.Kinds.{is_event}
-use Rattle.side_model.specs.Tables.{held_in}
+use Rattle.note_model.specs.Tables.{held_in}
 use Rattle.unit_notes.specs.Tables.{front_size}
 use Rattle.unit_notes.proofs.Types.{begin_is}
 

@@ -12,11 +12,11 @@ use Rattle.gated_ring.specs.Ring.{size_of, place_of}
 use Rattle.gated_ring.specs.Change.{IsAdding}
 use Rattle.event_model.specs.declared.kinds.TheConstants.{OVER_SPEEDING}
 use Rattle.message_model.specs.Records.{insertion_ring, unit_place_ring}
-use Rattle.side_model.specs.Tables.{table_of}
+use Rattle.note_model.specs.Tables.{table_of}
 use Rattle.unit_model.specs.Days.{word_minute}
 use Rattle.unit_model.specs.Decoding.{Decodes, is_version_good, is_rule_good, cell_place}
-use Rattle.unit_journal.specs.Beside.{SameJournal}
-use Rattle.unit_journal.proofs.Beside.{decodes_beside, passes_beside}
+use Rattle.unit_minutes.specs.Beside.{SameJournal}
+use Rattle.unit_minutes.proofs.Beside.{decodes_beside, passes_beside}
 use Rattle.unit_notes.specs.Journal.{KeepsJournal}
 use Rattle.unit_notes.specs.Noting.{IsWithdrawing, IsEventNoted, IsNotingOver, with_first, with_one_more}
 use Rattle.unit_notes.proofs.Types.{table_inside}

@@ -9,7 +9,7 @@ use Rattle.gated_ring.specs.Ring.{Shape, size_of, place_of}
 use Rattle.gated_ring.specs.Change.{IsReplaced, IsReplacingEntry, IsSet, OrUnwritten}
 use Rattle.gated_ring.proofs.Places.{place_low, place_high}
 use Rattle.event_model.specs.Kinds.{places_of}
-use Rattle.side_model.specs.Tables.{table_of}
+use Rattle.note_model.specs.Tables.{table_of}
 use Rattle.unit_notes.specs.Tables.{place_taken, place_of_day, similar_next, similar_place, with_similar}
 use Rattle.unit_notes.specs.Noting.{IsNotedAt, IsNotingAt, IsNotingEvent, IsEventNoted}
 

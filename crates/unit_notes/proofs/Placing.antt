@@ -20,8 +20,8 @@ use Rattle.event_model.specs.declared.entries.Held.{Held}
 use Rattle.event_model.specs.Kinds.{purpose_of, is_by_day, places_of}
 use Rattle.event_model.specs.Places.{place_of as place_for, day_place, is_of_day, placed, noted}
 use Rattle.event_model.specs.Events.{Event}
-use Rattle.side_model.specs.Tables.{event_widths, fault_widths, over_widths, widths_of, table_of, table_in, held_in, held_of, similar_field, CountsSimilar, HasNumbers, HasSpeeds, HasRest, IsEntry, HasOneMore}
-use Rattle.side_model.specs.Tables as side
+use Rattle.note_model.specs.Tables.{event_widths, fault_widths, over_widths, widths_of, table_of, table_in, held_in, held_of, similar_field, CountsSimilar, HasNumbers, HasSpeeds, HasRest, IsEntry, HasOneMore}
+use Rattle.note_model.specs.Tables as side
 use Rattle.unit_notes.specs.Tables.{held_table, place_taken, place_of_day, similar_next, similar_place, front_size, with_similar}
 use Rattle.unit_notes.specs.Noting as notes
 use Rattle.unit_notes.specs.Noting.{IsEventNoted}
@@ -134,7 +134,7 @@ module _ (s : ℕ) (front : List ℕ) where
   counts_by true false size = number_part over_widths 7 (front ++ s ∷ []) (omega arith) ∙ one_byte (front ++ s ∷ []) 30 ∙ last_byte 30 (omega (arith, size))
   counts_by false false size = number_part event_widths 8 (front ++ s ∷ []) (omega arith) ∙ one_byte (front ++ s ∷ []) 82 ∙ last_byte 82 (omega (arith, size))
 
--- the count as side_model says it
+-- the count as note_model says it
 to_counts : (kind s : ℕ) (bytes : List ℕ) (o : Option ℕ) → CountsBy s (widths_of kind) bytes o → CountsSimilar kind s bytes o
 to_counts kind s bytes None is = is
 to_counts kind s bytes (Some field) is = is

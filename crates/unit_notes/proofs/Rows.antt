@@ -5,7 +5,7 @@ use Rattle.card_layout.specs.Fields.{total_width, place_in}
 use Rattle.tacho_types.specs.declared.card_number.FullCardNumber.{FullCardNumber}
 use Rattle.event_model.specs.declared.entries.Over.{Over}
 use Rattle.message_model.specs.Records.{insertion_widths, place_widths}
-use Rattle.side_model.specs.Tables.{event_widths, fault_widths, over_widths, base_of, held_in}
+use Rattle.note_model.specs.Tables.{event_widths, fault_widths, over_widths, base_of, held_in}
 use Rattle.unit_notes.specs.declared.unit_event.UnitEvent.{UnitEvent}
 use Rattle.unit_notes.specs.Entries.{over_bytes, fault_bytes}
 use Rattle.unit_notes.specs.Tables.{with_similar, similar_place}

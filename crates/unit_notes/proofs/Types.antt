@@ -11,7 +11,7 @@ use Rattle.gated_ring.specs.Ring.{Shape, size_of, place_of, gate_number}
 use Rattle.gated_ring.proofs.Places.{place_low, place_high}
 use Rattle.event_model.specs.declared.kinds.TheConstants.{CARD_NOT_VALID, TIME_OVERLAP, DRIVING_WITHOUT_CARD, INSERTION_WHILE_DRIVING, SESSION_NOT_CLOSED, OVER_SPEEDING, CARD_FAULT}
 use Rattle.event_model.specs.Kinds.{places_of}
-use Rattle.side_model.specs.Tables.{event_widths, fault_widths, over_widths, widths_of, table_of, held_in}
+use Rattle.note_model.specs.Tables.{event_widths, fault_widths, over_widths, widths_of, table_of, held_in}
 use Rattle.unit_notes.specs.Tables.{front_size, with_similar}
 
 -- an entry has its begin and its end at the same places in each type

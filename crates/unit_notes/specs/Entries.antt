@@ -32,7 +32,7 @@ insertion_bytes v = joined (insertion_fields v)
 abbrev pub unit_place_bytes : FullCardNumber → PlaceEntry → List ℕ
 unit_place_bytes number entry = card_number_bytes number ++ place_bytes entry
 
--- the fields of a fault, by side_model's `fault_widths`; an event has a number of similar events behind them
+-- the fields of a fault, by note_model's `fault_widths`; an event has a number of similar events behind them
 abbrev pub fault_fields : UnitEvent → List (List ℕ)
 fault_fields v =
     (v.kind ∷ []) ∷ (v.purpose ∷ []) ∷ time_bytes v.begin ∷ time_bytes v.end
@@ -42,7 +42,7 @@ fault_fields v =
 unfoldable pub fault_bytes : UnitEvent → List ℕ
 fault_bytes v = joined (fault_fields v)
 
--- the fields of an over speeding before its number of similar events, by side_model's `over_widths`
+-- the fields of an over speeding before its number of similar events, by note_model's `over_widths`
 abbrev pub over_fields : Over → FullCardNumber → List (List ℕ)
 over_fields over driver =
     (OVER_SPEEDING ∷ []) ∷ (purpose_number (purpose_of OVER_SPEEDING) ∷ [])

@@ -10,7 +10,7 @@ use Rattle.event_model.specs.declared.entries.Over.{Over}
 use Rattle.event_model.specs.Kinds.{purpose_of, purpose_number}
 use Rattle.message_model.specs.Records.{insertion_widths, place_widths}
 use Rattle.event_model.specs.Events.{Event}
-use Rattle.side_model.specs.Tables.{widths_of, held_in, number_or_none, HasRest}
+use Rattle.note_model.specs.Tables.{widths_of, held_in, number_or_none, HasRest}
 use Rattle.unit_notes.specs.declared.insertion.Insertion.{Insertion}
 use Rattle.unit_notes.specs.declared.unit_event.UnitEvent.{UnitEvent}
 use Rattle.unit_notes.specs.Tables.{front_size}

@@ -10,7 +10,7 @@ use Rattle.gated_ring.specs.Ring.{PointsInside, size_of, place_of, pointer, is_t
 use Rattle.gated_ring.specs.Change.{SameOthers, IsReplaced, IsReplacingEntry, IsSet, OrUnwritten}
 use Rattle.event_model.specs.declared.kinds.TheConstants.{OVER_SPEEDING}
 use Rattle.message_model.specs.Records.{insertion_widths, insertion_ring}
-use Rattle.side_model.specs.Tables.{table_of}
+use Rattle.note_model.specs.Tables.{table_of}
 use Rattle.unit_model.specs.declared.layout.TheConstants.{FIRST_OVER, OVER_COUNT}
 use Rattle.unit_model.specs.Image.{number_of}
 use Rattle.unit_notes.specs.Tables.{place_taken, place_of_day, similar_next, similar_place, with_similar}

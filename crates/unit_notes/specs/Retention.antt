@@ -7,7 +7,7 @@ use Rattle.event_model.specs.Kinds.{purpose_of, is_by_day, places_of}
 use Rattle.event_model.specs.Kept.{stored, KeepsRecent, KeepsDays}
 use Rattle.event_model.specs.Counted.{Counted, counted_in, CountsDays}
 use Rattle.event_model.specs.Events.{Event}
-use Rattle.side_model.specs.Tables.{widths_of, held_in, similar_field}
+use Rattle.note_model.specs.Tables.{widths_of, held_in, similar_field}
 
 -- an event of this type: only an over speeding has an average
 pub record IsOfType (kind : ℕ) (e : Event) : Type 0 where

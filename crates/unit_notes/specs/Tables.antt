@@ -9,7 +9,7 @@ use Rattle.event_model.specs.declared.kinds.TheConstants.{CARD_FAULT}
 use Rattle.event_model.specs.declared.entries.Held.{Held}
 use Rattle.event_model.specs.Kinds.{places_of}
 use Rattle.event_model.specs.Places.{place_of, day_place, similar_after}
-use Rattle.side_model.specs.Tables.{event_widths, widths_of, table_in, held_in, similar_field, similar_at}
+use Rattle.note_model.specs.Tables.{event_widths, widths_of, table_in, held_in, similar_field, similar_at}
 
 -- all events but over speedings, for reading: of each type the places of its own, one type after the other
 abbrev pub all_events : Shape

@@ -7,7 +7,7 @@ ghost use Rattle.event_model.specs.declared.entries.Over.{Over};
 ghost use Rattle.event_model.specs.declared.kinds.TheConstants.{OVER_SPEEDING};
 ghost use Rattle.event_model.specs.Places.{noted};
 ghost use Rattle.event_model.specs.Events.{Event};
-ghost use Rattle.side_model.specs.Tables.{table_in, held_in, IsNoted};
+ghost use Rattle.note_model.specs.Tables.{table_in, held_in, IsNoted};
 ghost use Rattle.unit_model.specs.declared.layout.TheConstants.{IMAGE_SIZE};
 ghost use Rattle.unit_notes.specs.declared.insertion.Insertion.{Insertion};
 ghost use Rattle.unit_notes.specs.declared.unit_event.UnitEvent.{UnitEvent};

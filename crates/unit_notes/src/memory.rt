@@ -7,7 +7,7 @@ ghost use Rattle.unit_model.specs.Image.{IsUnit};
 ghost use Rattle.event_model.specs.declared.kinds.TheConstants.{CARD_FAULT, OVER_SPEEDING};
 ghost use Rattle.event_model.specs.Kinds.{purpose_of, purpose_number, is_event};
 ghost use Rattle.message_model.specs.Records.{insertion_ring, unit_place_ring};
-ghost use Rattle.side_model.specs.Tables.{table_of};
+ghost use Rattle.note_model.specs.Tables.{table_of};
 ghost use Rattle.unit_notes.specs.Entries.{insertion_bytes, unit_place_bytes, fault_bytes, over_bytes};
 ghost use Rattle.unit_notes.specs.Journal.{LeavesJournal};
 ghost use Rattle.unit_notes.specs.Noting.{IsWithdrawing, IsWithdrawn, IsNotingEvent, IsEventNoted, IsNotingOver, IsOverNoted};

@@ -6,7 +6,7 @@ ghost use Rattle.unit_model.specs.Image.{IsUnit};
 ghost use Rattle.event_model.specs.Kinds.{places_of};
 ghost use Rattle.event_model.specs.Places.{place_of, day_place, similar_after};
 ghost use Rattle.gated_ring.specs.Change.{IsReplaced, IsReplacingEntry, IsSet, OrUnwritten};
-ghost use Rattle.side_model.specs.Tables.{widths_of, table_of, held_in, similar_field, similar_at};
+ghost use Rattle.note_model.specs.Tables.{widths_of, table_of, held_in, similar_field, similar_at};
 ghost use Rattle.unit_notes.specs.Tables.{rows_in, place_taken, place_of_day, similar_next, similar_place, front_size, with_similar};
 ghost use Rattle.unit_notes.specs.Noting.{IsNotingEvent, IsEventNoted};
 

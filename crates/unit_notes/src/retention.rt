@@ -6,7 +6,7 @@ ghost use Rattle.event_model.specs.Kinds.{purpose_of, is_by_day, places_of};
 ghost use Rattle.event_model.specs.Places.{earliest, held_at, noted};
 ghost use Rattle.event_model.specs.Kept.{all_noted};
 ghost use Rattle.event_model.specs.Events.{Event};
-ghost use Rattle.side_model.specs.Tables.{held_in, held_of, AreNoted};
+ghost use Rattle.note_model.specs.Tables.{held_in, held_of, AreNoted};
 ghost use Rattle.unit_notes.specs.Retention.{IsOfType, held_rows, counted_rows, IsStart, IsAfter};
 
 /// Where the events of a run were noted one after another, the places of their type hold what is to be kept of the events that they

@@ -3,8 +3,8 @@ ghost use Rattle.std.specs.Prelude.{◌≡◌, ◌≤◌, ◌<◌, ◌+◌, ◌*
 ghost use Rattle.unit_model.specs.declared.layout.TheConstants.{IMAGE_SIZE, EVENTS, FAULTS};
 ghost use Rattle.card_layout.specs.Fields.{total_width};
 ghost use Rattle.event_model.specs.Kinds.{places_of};
-ghost use Rattle.side_model.specs.Tables as side;
-ghost use Rattle.side_model.specs.Tables.{widths_of, similar_field};
+ghost use Rattle.note_model.specs.Tables as side;
+ghost use Rattle.note_model.specs.Tables.{widths_of, similar_field};
 ghost use Rattle.unit_notes.specs.Tables.{rows_in, all_events};
 
 use crate::UnitEvent;

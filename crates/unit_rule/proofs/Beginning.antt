@@ -7,13 +7,13 @@ use Rattle.card_layout.proofs.Spelled.{number_before}
 use Rattle.unit_model.specs.declared.layout.TheConstants.{LAST_KEPT, OWED}
 use Rattle.unit_model.specs.Days.{days_shown}
 use Rattle.unit_model.specs.Image.{day_ring, last_kept, unit_day, unit_days, recorded}
-use Rattle.owed_model.specs.Rows.{IsRowBeginning, IsRowBegun}
-use Rattle.owed_model.proofs.Laws.{view_by_row, begun_view}
-use Rattle.owed_model.proofs.Taking.{begun_is}
-use Rattle.owed_model.specs.Owed.{rows_in}
+use Rattle.unit_owed.specs.Rows.{IsRowBeginning, IsRowBegun}
+use Rattle.unit_owed.proofs.Laws.{view_by_row, begun_view}
+use Rattle.unit_owed.proofs.Taking.{begun_is}
+use Rattle.unit_owed.specs.Owed.{rows_in}
 use Rattle.trace_model.specs.declared.Card.TheVariants.{A, B}
-use Rattle.joint_rule.specs.Views.{unit_view}
-use Rattle.joint_rule.specs.Steps.{IsBeginning, IsBegun}
+use Rattle.device_rule.specs.Views.{unit_view}
+use Rattle.device_rule.specs.Steps.{IsBeginning, IsBegun}
 
 day_shape : IsShape day_ring
 day_shape = record { some = omega arith; gate = omega arith; pointer = omega arith; holds = λ _. omega arith; short = omega arith }

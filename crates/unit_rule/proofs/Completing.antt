@@ -9,9 +9,9 @@ use Rattle.log_model.specs.declared.lines.Mark.{Mark}
 use Rattle.history_model.specs.Minutes.{HistoryMinute, up_to}
 use Rattle.history_model.specs.Book.{Book, all, IsNext, Follows, AreLost}
 use Rattle.history_model.proofs.Books.{all-none, up_to-whole}
-use Rattle.joint_rule.specs.Views.{unit_view}
-use Rattle.joint_rule.specs.Filling.{FillsDays, filled_with}
-use Rattle.joint_rule.specs.Rules.{Shows}
+use Rattle.device_rule.specs.Views.{unit_view}
+use Rattle.device_rule.specs.Filling.{FillsDays, filled_with}
+use Rattle.device_rule.specs.Rules.{Shows}
 use Rattle.safety_model.specs.Unit.{marks_of}
 use Rattle.unit_rule.specs.Rule.{Started}
 use Rattle.unit_rule.specs.Marks.{Holds}

@@ -5,15 +5,15 @@ use Rattle.tach_media.proofs.Images.{part_before, part_after}
 use Rattle.unit_model.specs.declared.layout.TheConstants.{DAY_SLOTS}
 use Rattle.unit_model.specs.Decoding.{Decodes}
 use Rattle.unit_model.proofs.WholeDays.{decoded_of}
-use Rattle.unit_journal.specs.Beside.{SameJournal}
-use Rattle.unit_journal.proofs.Beside.{beside, last_beside, odometer_beside, pointer_beside, days_beside, recorded_beside}
-use Rattle.unit_journal.proofs.DayOdometers.{records-same}
+use Rattle.unit_minutes.specs.Beside.{SameJournal}
+use Rattle.unit_minutes.proofs.Beside.{beside, last_beside, odometer_beside, pointer_beside, days_beside, recorded_beside}
+use Rattle.unit_minutes.proofs.DayOdometers.{records-same}
 use Rattle.log_model.specs.declared.lines.Mark.{Mark}
 use Rattle.history_model.specs.Book.{Book}
 use Rattle.safety_model.specs.Unit.{issued_bytes}
 use Rattle.unit_rule.specs.Rule.{Started}
 use Rattle.unit_rule.specs.Marks.{Holds}
-use Rattle.unit_course.specs.Legs.{Travel}
+use Rattle.run_unit_course.specs.Legs.{Travel}
 use Rattle.unit_rule.specs.Odometer.{HasTravelled, IsBesideTravel}
 use Rattle.unit_rule.proofs.Moves.{issued-parts}
 use Rattle.unit_rule.proofs.Found.{left-decodes}

@@ -6,7 +6,7 @@ use Rattle.unit_model.specs.Decoding.{Decodes}
 use Rattle.log_model.specs.declared.lines.Mark.{Mark}
 use Rattle.history_model.specs.Book.{Book}
 use Rattle.history_model.proofs.Books.{mark-earlier}
-use Rattle.joint_rule.specs.Views.{unit_view}
+use Rattle.device_rule.specs.Views.{unit_view}
 use Rattle.unit_rule.specs.Rule.{Started}
 use Rattle.unit_rule.specs.Marks.{Holds}
 use Rattle.unit_rule.proofs.Moves.{shown-last}

@@ -5,13 +5,13 @@ use Rattle.tach_media.specs.Medium.{bytes_at}
 use Rattle.unit_model.proofs.Retention.{begins_one}
 use Rattle.unit_model.specs.declared.layout.TheConstants.{DAYS, FIRST_OVER, OWED}
 use Rattle.unit_model.specs.Image.{recorded}
-use Rattle.owed_model.specs.Owed.{rows_in}
-use Rattle.owed_model.proofs.Laws.{view_by_rows}
-use Rattle.unit_journal.specs.Image.{SameBesides, IsGivenUp, IsBeforeLastKept, IsBehindLastKept, IsKeeping as IsKeepingImage, IsKept as IsKeptImage}
+use Rattle.unit_owed.specs.Owed.{rows_in}
+use Rattle.unit_owed.proofs.Laws.{view_by_rows}
+use Rattle.unit_minutes.specs.Image.{SameBesides, IsGivenUp, IsBeforeLastKept, IsBehindLastKept, IsKeeping as IsKeepingImage, IsKept as IsKeptImage}
 use Rattle.history_model.specs.Minutes.{HistoryMinute}
-use Rattle.joint_rule.specs.Views.{unit_view}
-use Rattle.joint_rule.specs.Steps.{SameRows, IsKeeping, IsKept}
-use Rattle.joint_rule.specs.Filling.{seen_by_unit, KeepsMinute, GivesUpDay}
+use Rattle.device_rule.specs.Views.{unit_view}
+use Rattle.device_rule.specs.Steps.{SameRows, IsKeeping, IsKept}
+use Rattle.device_rule.specs.Filling.{seen_by_unit, KeepsMinute, GivesUpDay}
 
 -- the owed rows lie between the odometer and the days
 rows_same : (x c : List ℕ) → SameBesides x c → rows_in c ≡ rows_in x

@@ -13,14 +13,14 @@ use Rattle.unit_model.specs.Days.{StoredDay, Each, day_of}
 use Rattle.unit_model.specs.Image.{last_kept, unit_days}
 use Rattle.unit_model.proofs.Recorded.{date_in}
 use Rattle.unit_model.proofs.Slots.{day_at, all_days}
-use Rattle.unit_journal.specs.DaysWith.{day_with, closed_day, begun_day, days_with, last_day_closed, opened_day, AreTurning, AreBetween}
-use Rattle.unit_journal.specs.DayOdometers.{HasSlot}
-use Rattle.unit_journal.specs.declared.notes.Notes.{Notes}
-use Rattle.unit_journal.specs.Image.{Agrees}
-use Rattle.unit_journal.specs.Keeping.{IsKeeping}
-use Rattle.unit_journal.specs.declared.kept.KeptMinute.{KeptMinute}
-use Rattle.unit_journal.specs.Kept.{kept_minute, coming_of, HasDaysBetween}
-use Rattle.unit_journal.proofs.DayOdometers.{slots-of}
+use Rattle.unit_minutes.specs.DaysWith.{day_with, closed_day, begun_day, days_with, last_day_closed, opened_day, AreTurning, AreBetween}
+use Rattle.unit_minutes.specs.DayOdometers.{HasSlot}
+use Rattle.unit_minutes.specs.declared.notes.Notes.{Notes}
+use Rattle.unit_minutes.specs.Image.{Agrees}
+use Rattle.unit_minutes.specs.Keeping.{IsKeeping}
+use Rattle.unit_minutes.specs.declared.kept.KeptMinute.{KeptMinute}
+use Rattle.unit_minutes.specs.Kept.{kept_minute, coming_of, HasDaysBetween}
+use Rattle.unit_minutes.proofs.DayOdometers.{slots-of}
 use Rattle.unit_rule.specs.Odometer.{IsKeepingDays}
 use Rattle.unit_rule.proofs.Moves.{both-leave}
 

@@ -9,24 +9,24 @@ use Rattle.tach_media.specs.Medium.{State, IsCoherent, IsSettled, LeavesOnly, Un
 use Rattle.unit_model.specs.Days.{ShownDay, newest_days}
 use Rattle.unit_model.specs.Decoding.{Decodes}
 use Rattle.unit_model.proofs.WholeDays.{decoded_of}
-use Rattle.unit_journal.proofs.Besides.{few_days}
+use Rattle.unit_minutes.proofs.Besides.{few_days}
 use Rattle.unit_model.specs.Image.{last_kept, recorded}
-use Rattle.unit_journal.specs.Image as journal
+use Rattle.unit_minutes.specs.Image as journal
 use Rattle.log_model.specs.declared.lines.Mark.{Mark}
 use Rattle.history_model.specs.Minutes.{HistoryMinute}
 use Rattle.history_model.specs.Book.{Book, all, not_begun, kept, broken, found}
 use Rattle.history_model.proofs.Filters.{all-one}
 use Rattle.history_model.proofs.Books.{contains-up_to}
-use Rattle.joint_rule.specs.Views.{UnitView, unit_view}
-use Rattle.joint_rule.specs.Device.{Seen, LeavesViews, Nothing}
-use Rattle.joint_rule.specs.Rules.{UnitHolds, UnitRule}
-use Rattle.joint_rule.specs.Filling.{FillsDays, KeepsMinute, GivesUpDay, seen_by_unit}
-use Rattle.joint_rule.specs.Steps.{IsKeeping, IsKept}
-use Rattle.joint_rule.proofs.Simple.{days-go-on}
-use Rattle.joint_rule.proofs.UnitLaws.{unit-aside, keep-unit, keep-unit_dark, last-earlier, found-unit}
-use Rattle.joint_rule.proofs.Opening.{opened-unit}
-use Rattle.joint_rule.proofs.Holding.{acknowledges-on}
-use Rattle.joint_rule.proofs.Viewed.{seen-coherent, seen-run}
+use Rattle.device_rule.specs.Views.{UnitView, unit_view}
+use Rattle.device_rule.specs.Device.{Seen, LeavesViews, Nothing}
+use Rattle.device_rule.specs.Rules.{UnitHolds, UnitRule}
+use Rattle.device_rule.specs.Filling.{FillsDays, KeepsMinute, GivesUpDay, seen_by_unit}
+use Rattle.device_rule.specs.Steps.{IsKeeping, IsKept}
+use Rattle.device_rule.proofs.Simple.{days-go-on}
+use Rattle.device_rule.proofs.UnitLaws.{unit-aside, keep-unit, keep-unit_dark, last-earlier, found-unit}
+use Rattle.device_rule.proofs.Opening.{opened-unit}
+use Rattle.device_rule.proofs.Holding.{acknowledges-on}
+use Rattle.device_rule.proofs.Viewed.{seen-coherent, seen-run}
 use Rattle.safety_model.specs.Unit.{marks_of, is_of, IsPrompt, Increase, issued_bytes}
 use Rattle.unit_rule.specs.Rule.{Started, started, once_mended, seen_unit, IsRuled, HasRowsOn, HasRowsMended}
 use Rattle.unit_rule.specs.Marks.{IsHeld, Holds}
@@ -201,7 +201,7 @@ module _ (s : Started) {U V : State} (due : ℕ) (b : Book) (marks : List Mark) 
     keeps : (number_a number_b : List ℕ) → LeavesViews (seen_unit number_a number_b U) (seen_unit number_a number_b V) (IsKeeping KeepsMinute GivesUpDay i)
     keeps number_a number_b = seen-run (unit_view number_a number_b) (journal.IsKeeping (seen_by_unit i) odometer) (IsKeeping KeepsMinute GivesUpDay i) U V before run (keeping_view number_a number_b i odometer)
 
-    -- the rule as joint_rule asks for it
+    -- the rule as device_rule asks for it
     ruled : (number_a number_b : List ℕ) → UnitRule (FillsDays s.days) s.first s.began due b (working (seen_unit number_a number_b U))
     ruled number_a number_b = let rule = h.unit_holds number_a number_b in record { works = refl; none = none; holds = record { later = rule.later; order = rule.order; now = rule.now; since = rule.since } }
 

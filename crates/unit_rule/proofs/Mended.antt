@@ -10,15 +10,15 @@ use Rattle.unit_model.specs.declared.layout.TheConstants.{LAST_KEPT, OWED}
 use Rattle.unit_model.specs.Image.{last_kept, recorded}
 use Rattle.unit_model.specs.Decoding.{cell_minute}
 use Rattle.unit_model.proofs.Numbers.{number_same, part_in}
-use Rattle.owed_model.specs.Owed.{Cell, Row, rows_in, row_in, cell_in, is_row_of, row_index, entry_of, holds, cell_entries, in_order, seen_row, row_view}
-use Rattle.owed_model.proofs.Putting.{found_below}
-use Rattle.owed_model.proofs.Mending.{HasRowsKept, kept_low, minute_is, session_same, index_same, cells_same}
-use Rattle.unit_journal.specs.declared.notes.Notes.{Notes}
-use Rattle.unit_journal.specs.Mends.{SameButRowsAndSlots, IsMending as IsMendingImage, IsMended as IsMendedImage}
-use Rattle.unit_journal.proofs.MendedOwed.{rows_mending, rows_mended}
-use Rattle.joint_rule.specs.Views.{row, unit_view}
-use Rattle.joint_rule.specs.Steps.{IsMending, IsMended, settled_cells}
-use Rattle.joint_rule.proofs.OwedView.{filter-fold}
+use Rattle.unit_owed.specs.Owed.{Cell, Row, rows_in, row_in, cell_in, is_row_of, row_index, entry_of, holds, cell_entries, in_order, seen_row, row_view}
+use Rattle.unit_owed.proofs.Putting.{found_below}
+use Rattle.unit_owed.proofs.Mending.{HasRowsKept, kept_low, minute_is, session_same, index_same, cells_same}
+use Rattle.unit_minutes.specs.declared.notes.Notes.{Notes}
+use Rattle.unit_minutes.specs.Mends.{SameButRowsAndSlots, IsMending as IsMendingImage, IsMended as IsMendedImage}
+use Rattle.unit_minutes.proofs.MendedOwed.{rows_mending, rows_mended}
+use Rattle.device_rule.specs.Views.{row, unit_view}
+use Rattle.device_rule.specs.Steps.{IsMending, IsMended, settled_cells}
+use Rattle.device_rule.proofs.OwedView.{filter-fold}
 use Rattle.unit_rule.proofs.Putting.{seen_at}
 
 le_false : (a b : ℕ) → b < a → nat_le a b ≡ false

@@ -6,8 +6,8 @@ use Rattle.unit_model.specs.declared.layout.TheConstants.{DAY_SLOTS}
 use Rattle.unit_model.specs.Image.{day_ring, last_kept, odometer_at, recorded}
 use Rattle.unit_model.specs.Decoding.{Decodes}
 use Rattle.unit_model.proofs.Numbers.{number_same}
-use Rattle.unit_journal.specs.declared.notes.Notes.{Notes}
-use Rattle.unit_journal.specs.Mends.{SameButRowsAndSlots, IsMendable, IsMending}
+use Rattle.unit_minutes.specs.declared.notes.Notes.{Notes}
+use Rattle.unit_minutes.specs.Mends.{SameButRowsAndSlots, IsMendable, IsMending}
 use Rattle.safety_model.specs.Unit.{issued_bytes}
 use Rattle.unit_rule.specs.Odometer.{IsBesideTravel}
 use Rattle.unit_rule.proofs.Moves.{front-same, part-same, spare-same, issued-parts}

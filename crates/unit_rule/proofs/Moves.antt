@@ -5,8 +5,8 @@ use Rattle.tach_media.specs.Medium.{State, IsCoherent, LeavesOnly, bytes_at}
 use Rattle.unit_model.specs.declared.layout.TheConstants.{LAST_KEPT, SPARE_COUNTS, SPARE_ROWS, SPARE_FAULTS}
 use Rattle.unit_model.specs.Image.{last_kept, recorded}
 use Rattle.unit_model.proofs.Numbers.{part_in}
-use Rattle.unit_journal.specs.Keeping.{SameBesides}
-use Rattle.joint_rule.specs.Views.{unit_view}
+use Rattle.unit_minutes.specs.Keeping.{SameBesides}
+use Rattle.device_rule.specs.Views.{unit_view}
 use Rattle.safety_model.specs.Unit.{issued_bytes}
 
 -- after a run that ended well a stop leaves the image alone, and what is said of it holds

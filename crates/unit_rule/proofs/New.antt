@@ -4,8 +4,8 @@ use Rattle.unit_model.specs.declared.layout.TheConstants.{OWED}
 use Rattle.unit_model.specs.Image.{last_kept}
 use Rattle.unit_model.specs.NewImage.{zeros, new_image}
 use Rattle.unit_model.proofs.New.{new_zeros, new_kept, new_recorded}
-use Rattle.owed_model.specs.Owed.{rows_in, row_in, row_index, row_of, owed_of, owed_to, row_view, seen_row}
-use Rattle.joint_rule.specs.Views.{unit_view}
+use Rattle.unit_owed.specs.Owed.{rows_in, row_in, row_index, row_of, owed_of, owed_to, row_view, seen_row}
+use Rattle.device_rule.specs.Views.{unit_view}
 
 -- in rows of zeros no row has a session
 no_row : (number : List ℕ) → row_index number (zeros OWED.size) ≡ None

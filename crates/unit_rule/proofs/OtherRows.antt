@@ -2,10 +2,10 @@
 use Rattle.std.proofs.Common.{◌≡◌, ◌⊎◌, inl, inr, ⊎_elim, ℕ, Option, Some, None, List, refl, ap, ◌∙◌}
 use Rattle.card_layout.specs.declared.files.Fid.{Fid}
 use Rattle.unit_model.specs.Image.{last_kept}
-use Rattle.owed_model.specs.Owed.{rows_in}
-use Rattle.owed_model.specs.Standing.{IsOneOf, RowsGoOn}
-use Rattle.owed_model.proofs.Standing.{goes-for, goes-owed, all-owed}
-use Rattle.joint_rule.specs.Own.{own_bad_file, own_number, IsOwnValid}
+use Rattle.unit_owed.specs.Owed.{rows_in}
+use Rattle.unit_owed.specs.Standing.{IsOneOf, RowsGoOn}
+use Rattle.unit_owed.proofs.Standing.{goes-for, goes-owed, all-owed}
+use Rattle.device_rule.specs.Own.{own_bad_file, own_number, IsOwnValid}
 use Rattle.unit_rule.specs.OtherRows.{number_by, valid_number, IsOfCards, OwesStill, KeepsRows}
 
 no-number : (n : List ℕ) → None ≡ Some n → ⊥

@@ -9,12 +9,12 @@ use Rattle.tach_media.specs.Medium.{SameOutside}
 use Rattle.gated_ring.specs.Ring.{PointsInside}
 use Rattle.unit_model.specs.declared.layout.TheConstants.{OWED}
 use Rattle.unit_model.specs.Image.{day_ring}
-use Rattle.owed_model.specs.Owed.{Cell, OwedRow, Row, rows_in, row_in, row_index, entry_of, cell_entries, placed, in_order, seen_row, row_view}
-use Rattle.owed_model.specs.Rows.{entry_word, with_cell, IsPuttingCell, IsPutting as IsPuttingRow, IsPut as IsPutRow, HasRow}
-use Rattle.owed_model.proofs.Laws.{view_by_row}
-use Rattle.joint_rule.specs.Views.{unit_view}
-use Rattle.joint_rule.specs.Steps.{IsPutting, IsPut, cleared, owing}
-use Rattle.joint_rule.proofs.OwedView.{filter-fold}
+use Rattle.unit_owed.specs.Owed.{Cell, OwedRow, Row, rows_in, row_in, row_index, entry_of, cell_entries, placed, in_order, seen_row, row_view}
+use Rattle.unit_owed.specs.Rows.{entry_word, with_cell, IsPuttingCell, IsPutting as IsPuttingRow, IsPut as IsPutRow, HasRow}
+use Rattle.unit_owed.proofs.Laws.{view_by_row}
+use Rattle.device_rule.specs.Views.{unit_view}
+use Rattle.device_rule.specs.Steps.{IsPutting, IsPut, cleared, owing}
+use Rattle.device_rule.proofs.OwedView.{filter-fold}
 use Rattle.unit_rule.proofs.Cells.{elsewhere, cleared_cells, put_cells, before_all, ordered_back, ordered_last}
 use Rattle.unit_rule.proofs.Beginning.{last_same, recorded_same}
 

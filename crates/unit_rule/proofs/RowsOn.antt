@@ -5,14 +5,14 @@ use Rattle.tach_media.specs.Medium.{bytes_at}
 use Rattle.unit_model.specs.declared.layout.TheConstants.{FIRST_OVER, OWED, DAYS}
 use Rattle.unit_model.specs.Image.{last_kept}
 use Rattle.unit_model.proofs.Numbers.{part_in}
-use Rattle.owed_model.specs.Owed.{rows_in}
-use Rattle.owed_model.specs.Rows.{IsPutting, IsRowBeginning}
-use Rattle.owed_model.specs.Standing.{IsOneOf, RowsGoOn, AreMended}
-use Rattle.owed_model.proofs.Standing.{goes-start, goes-kept, goes-mending, mended-mending, goes-mended, goes-put, mended-put, goes-begun, mended-begun}
-use Rattle.unit_journal.specs.declared.notes.Notes.{Notes}
-use Rattle.unit_journal.specs.Keeping.{SameBesides}
-use Rattle.unit_journal.specs.Mends.{IsMending, IsMended}
-use Rattle.unit_journal.proofs.MendedOwed.{rows_mending, rows_mended}
+use Rattle.unit_owed.specs.Owed.{rows_in}
+use Rattle.unit_owed.specs.Rows.{IsPutting, IsRowBeginning}
+use Rattle.unit_owed.specs.Standing.{IsOneOf, RowsGoOn, AreMended}
+use Rattle.unit_owed.proofs.Standing.{goes-start, goes-kept, goes-mending, mended-mending, goes-mended, goes-put, mended-put, goes-begun, mended-begun}
+use Rattle.unit_minutes.specs.declared.notes.Notes.{Notes}
+use Rattle.unit_minutes.specs.Keeping.{SameBesides}
+use Rattle.unit_minutes.specs.Mends.{IsMending, IsMended}
+use Rattle.unit_minutes.proofs.MendedOwed.{rows_mending, rows_mended}
 use Rattle.unit_rule.specs.Rule.{Started, IsCards, HasRowsOn, HasRowsMended}
 use Rattle.unit_rule.proofs.Mending.{mark-kept, mending-odometer}
 

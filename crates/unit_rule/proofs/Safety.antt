@@ -7,9 +7,9 @@ use Rattle.tach_media.specs.Medium.{State, IsCoherent}
 use Rattle.log_model.specs.declared.lines.Mark.{Mark}
 use Rattle.history_model.specs.Minutes.{HistoryMinute}
 use Rattle.history_model.specs.Book.{Book, all, Follows}
-use Rattle.joint_rule.specs.Views.{UnitView, unit_view}
-use Rattle.joint_rule.specs.Rules.{Acknowledges}
-use Rattle.joint_rule.proofs.Viewed.{seen-coherent}
+use Rattle.device_rule.specs.Views.{UnitView, unit_view}
+use Rattle.device_rule.specs.Rules.{Acknowledges}
+use Rattle.device_rule.proofs.Viewed.{seen-coherent}
 use Rattle.safety_model.specs.Unit.{marks_of, UnitMarkHolds, UnitSafe}
 use Rattle.safety_model.proofs.Giving.{unit-minutes, unit-marked}
 use Rattle.unit_rule.specs.Rule.{Started, seen_unit}

@@ -7,7 +7,7 @@ use Rattle.gated_ring.specs.Ring.{pointer}
 use Rattle.unit_model.specs.declared.layout.TheConstants.{DAY_SLOTS, HIGHEST_ODOMETER}
 use Rattle.unit_model.specs.Image.{day_ring, last_kept, odometer_at}
 use Rattle.unit_model.proofs.WholeDays.{decoded_of}
-use Rattle.unit_journal.specs.DayOdometers.{RecordsDay}
+use Rattle.unit_minutes.specs.DayOdometers.{RecordsDay}
 use Rattle.minute_model.specs.declared.Rule.{Rule}
 use Rattle.log_model.specs.Log.{RunLog}
 use Rattle.log_model.specs.Course.{Told}
@@ -18,11 +18,11 @@ use Rattle.history_model.specs.Minutes.{HistoryMinute}
 use Rattle.history_model.specs.Book.{Book, all, not_begun, kept, broken, found}
 use Rattle.history_model.proofs.Books.{all-none, all-found, contains-up_to}
 use Rattle.history_model.proofs.Filters.{all-one}
-use Rattle.joint_rule.specs.Views.{unit_view}
-use Rattle.joint_rule.specs.Filling.{seen_by_unit}
+use Rattle.device_rule.specs.Views.{unit_view}
+use Rattle.device_rule.specs.Filling.{seen_by_unit}
 use Rattle.unit_rule.specs.Rule.{Started}
 use Rattle.unit_rule.specs.Marks.{Holds}
-use Rattle.unit_course.specs.Legs.{Reckoned, Travel, reckoned, not_travelled, travelled, stranded, resumed, kilometres_of, AreLegs}
+use Rattle.run_unit_course.specs.Legs.{Reckoned, Travel, reckoned, not_travelled, travelled, stranded, resumed, kilometres_of, AreLegs}
 use Rattle.unit_rule.specs.Odometer.{odometer_by, odometer_after, ShowsOdometer, IsBegunBy, ShowsDays, HasTravelled, IsBesideTravel, IsKeepingDays, OdometerSafe}
 use Rattle.unit_rule.proofs.Moves.{shown-last}
 use Rattle.unit_rule.proofs.Found.{left-earlier, left-decodes, one-image}

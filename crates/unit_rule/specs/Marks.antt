@@ -6,7 +6,7 @@ use Rattle.unit_model.specs.Decoding.{Decodes}
 use Rattle.log_model.specs.declared.lines.Mark.{Mark}
 use Rattle.history_model.specs.Minutes.{HistoryMinute}
 use Rattle.history_model.specs.Book.{Book}
-use Rattle.joint_rule.specs.Rules.{Acknowledges}
+use Rattle.device_rule.specs.Rules.{Acknowledges}
 use Rattle.safety_model.specs.Unit.{marks_of, IsPrompt, Increase, issued_bytes}
 use Rattle.unit_rule.specs.Rule.{Started, seen_unit, IsRuled, HasRowsOn, HasRowsMended}
 

@@ -5,8 +5,8 @@ use Rattle.gated_ring.specs.Ring.{pointer}
 use Rattle.unit_model.specs.declared.layout.TheConstants.{DAY_SLOTS, HIGHEST_ODOMETER}
 use Rattle.unit_model.specs.Days.{UnitMinute}
 use Rattle.unit_model.specs.Image.{day_ring, last_kept, odometer_at}
-use Rattle.unit_journal.specs.DayOdometers.{HasSlot, RecordsDay}
-use Rattle.unit_journal.specs.Keeping.{IsKeeping}
+use Rattle.unit_minutes.specs.DayOdometers.{HasSlot, RecordsDay}
+use Rattle.unit_minutes.specs.Keeping.{IsKeeping}
 use Rattle.history_model.specs.Minutes.{HistoryMinute}
 use Rattle.minute_model.specs.declared.Rule.{Rule}
 use Rattle.log_model.specs.Log.{RunLog}
@@ -14,7 +14,7 @@ use Rattle.log_model.specs.Course.{Told}
 use Rattle.log_model.specs.Spans.{spans_of}
 use Rattle.history_model.specs.Book.{Book, all}
 use Rattle.history_model.specs.History.{limit_of}
-use Rattle.unit_course.specs.Legs.{Reckoned, Travel, kilometres_of, AreLegs}
+use Rattle.run_unit_course.specs.Legs.{Reckoned, Travel, kilometres_of, AreLegs}
 
 -- the odometer in kilometres, where it stood so when power came, and this is the sum of the speeds, in km/h, of the seconds since
 abbrev pub odometer_by : (stored travelled : ℕ) → ℕ

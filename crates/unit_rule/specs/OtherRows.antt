@@ -2,9 +2,9 @@
 use Rattle.std.specs.Prelude.{◌≡◌, ◌⊎◌, ℕ, Option, Some, None, List}
 use Rattle.card_layout.specs.declared.files.Fid.{Fid}
 use Rattle.unit_model.specs.Image.{last_kept}
-use Rattle.owed_model.specs.Owed.{rows_in}
-use Rattle.owed_model.specs.Standing.{RowsGoOn, IsOwedStill, HasLostRow}
-use Rattle.joint_rule.specs.Own.{own_bad_file, own_number, IsOwnValid}
+use Rattle.unit_owed.specs.Owed.{rows_in}
+use Rattle.unit_owed.specs.Standing.{RowsGoOn, IsOwedStill, HasLostRow}
+use Rattle.device_rule.specs.Own.{own_bad_file, own_number, IsOwnValid}
 
 -- the number of a card that is valid: one of which no file fails
 abbrev pub number_by : (bad : Option (Fid × ℕ)) → (number : List ℕ) → Option (List ℕ)

@@ -3,13 +3,13 @@ use Rattle.std.specs.Prelude.{ℕ, Bool, true, false, Option, List}
 use Rattle.tach_media.specs.Medium.{State}
 use Rattle.unit_model.specs.Days.{ShownDay}
 use Rattle.unit_model.specs.Image.{recorded, last_kept}
-use Rattle.owed_model.specs.Owed.{rows_in}
-use Rattle.owed_model.specs.Standing.{IsOneOf, RowsGoOn, AreMended}
+use Rattle.unit_owed.specs.Owed.{rows_in}
+use Rattle.unit_owed.specs.Standing.{IsOneOf, RowsGoOn, AreMended}
 use Rattle.history_model.specs.Book.{Book}
-use Rattle.joint_rule.specs.Views.{UnitView, unit_view}
-use Rattle.joint_rule.specs.Device.{Seen, seen}
-use Rattle.joint_rule.specs.Filling.{FillsDays}
-use Rattle.joint_rule.specs.Rules.{UnitHolds}
+use Rattle.device_rule.specs.Views.{UnitView, unit_view}
+use Rattle.device_rule.specs.Device.{Seen, seen}
+use Rattle.device_rule.specs.Filling.{FillsDays}
+use Rattle.device_rule.specs.Rules.{UnitHolds}
 use Rattle.safety_model.specs.Unit.{issued_bytes}
 
 -- what the opening found: the recorded days, the last-kept minute, what the unit was issued with, the clock, the image, and of each card that is valid

@@ -12,12 +12,12 @@ ghost use Rattle.log_model.specs.declared.lines.Mark.{Mark};
 ghost use Rattle.history_model.specs.Minutes.{HistoryMinute};
 ghost use Rattle.history_model.specs.Book.{Book, Follows, AreLost, not_begun};
 ghost use Rattle.history_model.specs.History.{limit_of};
-ghost use Rattle.joint_rule.specs.Filling.{filled_with};
+ghost use Rattle.device_rule.specs.Filling.{filled_with};
 ghost use Rattle.safety_model.specs.Unit.{UnitSafe, marks_of};
 ghost use Rattle.unit_rule.specs.Rule.{Started, started};
 ghost use Rattle.unit_rule.specs.Marks.{Holds};
 ghost use Rattle.unit_rule.specs.Complete.{AreMarksOf};
-ghost use Rattle.unit_course.specs.Legs.{Travel, kilometres_of, AreWhole, whole_legs};
+ghost use Rattle.run_unit_course.specs.Legs.{Travel, kilometres_of, AreWhole, whole_legs};
 ghost use Rattle.unit_rule.specs.Odometer.{HasTravelled, OdometerSafe};
 
 use tach_media::Medium;

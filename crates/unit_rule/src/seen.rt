@@ -5,14 +5,14 @@ ghost use Rattle.unit_model.specs.Image.{day_ring};
 ghost use Rattle.unit_model.specs.NewImage.{new_image};
 ghost use Rattle.gated_ring.specs.Ring.{PointsInside};
 ghost use Rattle.history_model.specs.Minutes.{HistoryMinute};
-ghost use Rattle.owed_model.specs.Owed.{owed_to, row_view};
-ghost use Rattle.owed_model.specs.Rows.{IsPutting as IsPuttingRow, IsPut as IsPutRow, IsRowBeginning, IsRowBegun, HasRow};
-ghost use Rattle.unit_journal.specs.declared.notes.Notes.{Notes};
-ghost use Rattle.unit_journal.specs.Image.{IsKeeping as IsKeepingImage, IsKept as IsKeptImage};
-ghost use Rattle.unit_journal.specs.Mends.{IsMending as IsMendingImage, IsMended as IsMendedImage};
-ghost use Rattle.joint_rule.specs.Views.{unit_view};
-ghost use Rattle.joint_rule.specs.Steps.{IsKeeping, IsKept, IsPutting, IsPut, IsBeginning, IsBegun, IsMending, IsMended, cleared};
-ghost use Rattle.joint_rule.specs.Filling.{seen_by_unit, KeepsMinute, GivesUpDay};
+ghost use Rattle.unit_owed.specs.Owed.{owed_to, row_view};
+ghost use Rattle.unit_owed.specs.Rows.{IsPutting as IsPuttingRow, IsPut as IsPutRow, IsRowBeginning, IsRowBegun, HasRow};
+ghost use Rattle.unit_minutes.specs.declared.notes.Notes.{Notes};
+ghost use Rattle.unit_minutes.specs.Image.{IsKeeping as IsKeepingImage, IsKept as IsKeptImage};
+ghost use Rattle.unit_minutes.specs.Mends.{IsMending as IsMendingImage, IsMended as IsMendedImage};
+ghost use Rattle.device_rule.specs.Views.{unit_view};
+ghost use Rattle.device_rule.specs.Steps.{IsKeeping, IsKept, IsPutting, IsPut, IsBeginning, IsBegun, IsMending, IsMended, cleared};
+ghost use Rattle.device_rule.specs.Filling.{seen_by_unit, KeepsMinute, GivesUpDay};
 
 /// A moment of the keeping of a minute of the history is one of the rule's keeping: the minute kept, or not yet, with the oldest
 /// day given up for it or not. At its end it is kept.

@@ -2,9 +2,8 @@
 ghost use Rattle.std.specs.Prelude.{◌≤◌, ◌<◌, ◌+◌, ◌*◌, length, IsTrue};
 ghost use Rattle.gated_ring.specs.Ring.{is_pointer_width};
 
-use card_files::{file_of, image_size};
+use card_files::{CardEvent, file_of, has_event, image_size, note_event, note_place, places, vehicles};
 use card_layout::{Application, Fid};
-use card_records::{CardEvent, has_event, note_event, note_place, places, vehicles};
 use gated_ring::{Ring, RingFault};
 use std::alloc::Global;
 use std::test::Fail;

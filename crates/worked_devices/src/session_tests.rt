@@ -3,13 +3,13 @@ ghost use Rattle.std.specs.Prelude.{◌≡◌, ℕ, ◌+◌, ◌/◌, ◌<◌, �
 ghost use Rattle.card_layout.specs.Application.{IsApplication};
 ghost use Rattle.card_layout.specs.Files.{image_size_of};
 ghost use Rattle.tach_media.specs.MemMedium.{memory_state};
-ghost use Rattle.card_judge.specs.Judged.{TellsSizes};
+ghost use Rattle.card_validity.specs.Judged.{TellsSizes};
 ghost use Rattle.card_session.specs.declared.words.TheConstants.{LATEST_MINUTE};
 ghost use Rattle.card_session.specs.Inserting.{AreOwed};
 
 use activity_codec::{Activity, Entry, Owed, Pick, Slot};
 use card_files::{CardIdentity, blank_card, image_size, read_application};
-use card_judge::InsertFault;
+use card_validity::InsertFault;
 use card_layout::{Application, Fid};
 use card_session::{CardSession, Inserted, Kept, LATEST_MINUTE};
 use std::alloc::Global;

@@ -10,7 +10,7 @@ use card_layout::LARGEST_IMAGE;
 use std::alloc::Global;
 use tach_media::{Chip, Failed, Medium};
 use tacho_types::TimeReal;
-use unit_journal::Journal;
+use unit_minutes::Journal;
 use unit_model::layout::IMAGE_SIZE;
 
 /// Where the days of the largest card begin: two pointers, and then, where there is one day alone, its head and its words.

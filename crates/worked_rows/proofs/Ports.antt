@@ -10,10 +10,10 @@ use Rattle.tach_media.specs.Medium.{State, LiesInside}
 use Rattle.card_commands.specs.Ports.{IsPort, IsJudged, port_state, writable_of}
 use Rattle.card_commands.proofs.Updated.{updated_writable}
 use Rattle.card_model.specs.Image.{StringShape}
-use Rattle.cyclic_days.specs.Moments.{FileFitsIn}
+use Rattle.card_days.specs.Moments.{FileFitsIn}
 use Rattle.card_image.specs.Fields.{file, day_string, vehicle_ring}
 use Rattle.gated_ring.specs.Ring.{size_of as ring_size}
-use Rattle.card_judge.specs.Judged.{TellsSizes}
+use Rattle.card_validity.specs.Judged.{TellsSizes}
 use Rattle.card_session.specs.Sessions.{MayKeep}
 use Rattle.card_session.specs.Inserting.{MayInsert}
 

@@ -13,8 +13,8 @@ use Rattle.activity_codec.specs.Words.{slot_number, slot_numbered, bit, activity
 use Rattle.activity_codec.specs.States.{is_by, latest_word, state_of}
 use Rattle.view_model.specs.declared.State.{State}
 use Rattle.unit_model.specs.Days.{slot_bit, word_state, word_minute, bare, state_by, state_after, state_at, state_in, is_crew_in, StoredDay, day_of, minute_at, Each}
-use Rattle.unit_journal.specs.Kept.{bits_by}
-use Rattle.unit_journal.proofs.KeptBits.{state_back, crew_back}
+use Rattle.unit_minutes.specs.Kept.{bits_by}
+use Rattle.unit_minutes.proofs.KeptBits.{state_back, crew_back}
 
 -- what a change tells of its slot: no card, rest and single where there is none
 abbrev pub told_state : Option Change → State

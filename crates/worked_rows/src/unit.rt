@@ -22,7 +22,7 @@ use crate::unit::stops::{show_mends, show_stops};
 use std::alloc::Global;
 use std::io::{self, Print, Write};
 use tach_media::{FileMedium, Left, Medium, MemMedium, Memory, Stop};
-use unit_journal::{Journal, UnitFault};
+use unit_minutes::{Journal, UnitFault};
 use unit_model::layout::{IMAGE_SIZE, RULED_VERSION};
 use worked_media::{Room, image, unit_with};
 

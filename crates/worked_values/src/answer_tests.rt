@@ -1,7 +1,6 @@
 ghost use Rattle.std.specs.Prelude.{◌<◌, ◌≤◌, length};
 
-use answer_table::{Standing, Step, step_of};
-use link_frames::{Frame, Seen};
+use link_frames::{Frame, Seen, Standing, Step, step_of};
 use std::test::*;
 
 // Whether a frame with this data is answered so, and where the session stands then.

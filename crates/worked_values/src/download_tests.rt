@@ -2,7 +2,7 @@ ghost use Rattle.std.specs.Prelude.{IfOk};
 ghost use Rattle.tach_media.specs.MemMedium.{memory_state};
 ghost use Rattle.unit_model.specs.Image.{IsUnit};
 
-use downloader::Downloader;
+use link_loader::Downloader;
 use std::alloc::{AllocError, Global};
 use std::test::*;
 use tach_media::{AbsentMedium, Medium, MemMedium, MemSink, Memory};

@@ -1,6 +1,6 @@
 ghost use Rattle.std.specs.Prelude.{◌≤◌, length};
 
-use history_view::{
+use file_view::{
     ViewFault, card_text, last_days, last_messages, read_card_file, read_download, unit_text,
 };
 use std::alloc::{AllocError, Global};

@@ -1,4 +1,4 @@
-use downloader::{Downloader, LoadFault};
+use link_loader::{Downloader, LoadFault};
 use link_frames::Frame;
 use std::alloc::Global;
 use std::test::*;

@@ -1,6 +1,6 @@
 ghost use Rattle.std.specs.declared.option.Option.TheVariants.{None as Untold};
 
-use link_service::{Peer, ServeFault, serve};
+use link_session::{Peer, ServeFault, serve};
 use std::alloc::{AllocError, Global};
 use std::test::*;
 use tach_media::{AbsentMedium, Failed, MemSink, MemSource, Sink, Source};

@@ -1,6 +1,6 @@
 //! Runs of calls.
 use activity_codec::Slot;
-use slot_machine::{SlotFault, Slots};
+use card_slots::{SlotFault, Slots};
 use std::test::*;
 use trace_model::Card;
 

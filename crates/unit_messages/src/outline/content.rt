@@ -2,7 +2,7 @@
 ghost use Rattle.unit_model.specs.declared.layout.TheConstants.{IMAGE_SIZE};
 ghost use Rattle.std.specs.Prelude.{◌≡◌, ◌≤◌, ◌+◌, ◌++◌, OnOk, IfSome, is_err};
 ghost use Rattle.byteorder.specs.Endian.{big_bytes};
-ghost use Rattle.unit_journal.specs.Reading.{ReadsIfAny};
+ghost use Rattle.unit_minutes.specs.Reading.{ReadsIfAny};
 ghost use Rattle.message_model.specs.Sending.{field_of};
 ghost use Rattle.unit_messages.specs.Windows.{passed};
 ghost use Rattle.unit_messages.specs.Outlines.{IsDayInRange, IsEventInRange, AreTimes, IsDayOf, AreEventsOf, HasPassed};

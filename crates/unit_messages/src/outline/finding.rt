@@ -3,7 +3,7 @@ ghost use Rattle.unit_model.specs.declared.layout.TheConstants.{DAY_WORD_LIMIT, 
 ghost use Rattle.std.specs.Prelude.{◌≡◌, ◌≤◌, ◌+◌, Some, IfOk, IfSome, is_err, filter, length};
 ghost use Rattle.gated_ring.specs.Ring.{ring_list, PointsInside};
 ghost use Rattle.unit_model.specs.Decoding.{Decodes};
-ghost use Rattle.unit_journal.specs.Reading.{AreRight, IsOfDate, IsSlotPlace, ReadsIfAny};
+ghost use Rattle.unit_minutes.specs.Reading.{AreRight, IsOfDate, IsSlotPlace, ReadsIfAny};
 ghost use Rattle.message_model.specs.Records.{insertion_ring, unit_place_ring};
 ghost use Rattle.message_model.specs.Sending.{touches_day, place_in_day};
 ghost use Rattle.unit_messages.specs.Outlines.{IsOutlined, IsDayInRange, IsEventInRange, AreTimes, AreEventsOf, asked};
@@ -13,7 +13,7 @@ use crate::outline::{DayOutline, EventOutline, Outline, Plan, Times};
 use link_model::Request;
 use tach_media::{Failed, Medium, read_number};
 use tacho_types::TimeReal;
-use unit_journal::{Journal, UnitDay};
+use unit_minutes::{Journal, UnitDay};
 use unit_model::layout::{DAY_WORDS, FIRST_OVER, OVER_COUNT};
 
 /// What the message is made of that answers a request, of a unit whose image is known to decode, as from its journal's load;

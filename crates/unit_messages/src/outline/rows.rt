@@ -6,7 +6,7 @@ ghost use Rattle.card_layout.specs.Images.{number_at};
 ghost use Rattle.card_layout.specs.Fields.{joined};
 ghost use Rattle.gated_ring.specs.Ring.{ring_list, PointsInside};
 ghost use Rattle.unit_model.specs.Image.{words_at};
-ghost use Rattle.unit_journal.specs.Reading.{ReadsIfAny};
+ghost use Rattle.unit_minutes.specs.Reading.{ReadsIfAny};
 ghost use Rattle.message_model.specs.Records.{insertion_ring, unit_place_ring};
 ghost use Rattle.message_model.specs.Messages.{counted, word_bytes};
 ghost use Rattle.message_model.specs.Sending.{entries_in, touches_day, place_in_day};

@@ -2,7 +2,7 @@ ghost use Rattle.std.specs.Prelude.{◌≡◌, ◌≤◌, IfOk, length};
 
 use crate::card::images::{TWO_DAYS, full_string};
 use card_layout::Range;
-use cyclic_days::{DayHead, Days, DaysFault, Tail};
+use card_days::{DayHead, Days, DaysFault, Tail};
 use std::alloc::Global;
 use std::process::Abort;
 use std::test::Fail;

@@ -2,13 +2,12 @@
 ghost use Rattle.std.specs.Prelude.{◌≤◌, ◌<◌, ◌^◌, length, IfSome};
 ghost use Rattle.card_layout.specs.Application.{IsApplication};
 ghost use Rattle.card_layout.specs.Files.{image_size_of};
-ghost use Rattle.card_judge.specs.Judged.{TellsSizes};
+ghost use Rattle.card_validity.specs.Judged.{TellsSizes};
 
 use crate::card::images::{CURRENT_USE, DAYS, VEHICLES};
-use card_files::{blank_card, image_size, read_application};
-use card_judge::{CardLook, InsertFault, Judged, judge, look};
+use card_files::{Vehicle, blank_card, image_size, read_application};
+use card_validity::{CardLook, InsertFault, Judged, judge, look};
 use card_layout::{Application, Fid};
-use card_records::Vehicle;
 use std::alloc::Global;
 use std::process::Abort;
 use std::test::Fail;

@@ -3,25 +3,25 @@ ghost use Rattle.std.specs.Prelude.{◌≡◌, ◌≤◌, ◌<◌, ◌+◌, ◌/
 ghost use Rattle.tacho_types.specs.CardNumber.{card_number_bytes};
 ghost use Rattle.tach_media.specs.MemMedium.{memory_state};
 ghost use Rattle.card_commands.specs.Ports.{IsPort};
-ghost use Rattle.card_judge.specs.Judged.{TellsSizes};
+ghost use Rattle.card_validity.specs.Judged.{TellsSizes};
 ghost use Rattle.card_session.specs.declared.words.TheConstants.{LATEST_MINUTE};
 ghost use Rattle.unit_model.specs.Image.{IsUnit};
-ghost use Rattle.unit_journal.specs.Image.{Agrees};
-ghost use Rattle.owed_model.specs.Rows.{IsRowAt};
+ghost use Rattle.unit_minutes.specs.Image.{Agrees};
+ghost use Rattle.unit_owed.specs.Rows.{IsRowAt};
 
 use crate::card::keeping::Stopped;
 use activity_codec::{Activity, Entry, Pick, Slot};
 use card_commands::read_sizes;
 use card_layout::{Application, LARGEST_IMAGE};
 use card_session::{CardSession, Kept};
-use device_steps::{NotEntered, begin, enter, keep_on_card, keep_on_unit, leave, mend};
+use device_calls::{NotEntered, begin, enter, keep_on_card, keep_on_unit, leave, mend};
 use std::alloc::Global;
 use std::rt::HostRuntime;
 use std::test::Fail;
 use tach_media::{Chip, Medium, MemMedium};
 use tacho_types::{FullCardNumber, Nation, Odometer, Registration, TimeReal};
 use trace_model::Card;
-use unit_journal::{Journal, KeptMinute, State};
+use unit_minutes::{Journal, KeptMinute, State};
 use worked_media::{
     DAYS, M0, NUMBER_A, Room, T0, UNCLOSED, Untold, VEHICLES, bytes, new_card, new_unit, unit_tells,
 };

@@ -11,7 +11,7 @@ use activity_codec::{Activity, Entry, Owed, Slot};
 use card_commands::Port;
 use card_files::file_range;
 use card_layout::{Application, Fid, LARGEST_IMAGE, Range};
-use cyclic_days::{Days, DaysFault};
+use card_days::{Days, DaysFault};
 use gated_ring::{Ring, RingFault};
 use std::alloc::Global;
 use std::process::Abort;

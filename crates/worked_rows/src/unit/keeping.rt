@@ -1,13 +1,13 @@
 ghost use Rattle.std.specs.Prelude.{IfOk, OnOk, IfSome};
 ghost use Rattle.unit_model.specs.Image.{IsUnit};
-ghost use Rattle.unit_journal.specs.Image.{Agrees};
-ghost use Rattle.unit_journal.specs.Reading.{IsSlotPlace};
+ghost use Rattle.unit_minutes.specs.Image.{Agrees};
+ghost use Rattle.unit_minutes.specs.Reading.{IsSlotPlace};
 
 use activity_codec::Activity;
 use std::io::{self, Print};
 use tach_media::{Failed, Medium};
 use tacho_types::Odometer;
-use unit_journal::{Journal, KeptMinute, State, UnitDay};
+use unit_minutes::{Journal, KeptMinute, State, UnitDay};
 use unit_model::layout::{HIGHEST_ODOMETER, IMAGE_SIZE, LAST_MINUTE};
 
 const REST: State = State {

@@ -2,7 +2,7 @@
 //! each manner; the unit goes on after it.
 ghost use Rattle.std.specs.Prelude.{OnOk, IfSome};
 ghost use Rattle.unit_model.specs.Image.{IsUnit};
-ghost use Rattle.unit_journal.specs.Image.{Agrees};
+ghost use Rattle.unit_minutes.specs.Image.{Agrees};
 
 use crate::unit::keeping::open;
 use crate::unit::stop_tests::{FIRST, one_day, unit};
@@ -12,7 +12,7 @@ use std::process::Abort;
 use std::test::Fail;
 use tach_media::{Failed, Left, Medium};
 use tacho_types::FullCardNumber;
-use unit_journal::Journal;
+use unit_minutes::Journal;
 use worked_media::card_number;
 
 const LEFT: [Left; 3] = [Left::Before, Left::After, Left::Torn(0xFF)];

@@ -2,7 +2,7 @@
 ghost use Rattle.std.specs.Prelude.{◌≤◌, IfOk};
 ghost use Rattle.tach_media.specs.MemMedium.{memory_state};
 ghost use Rattle.unit_model.specs.Image.{IsUnit};
-ghost use Rattle.unit_journal.specs.Reading.{IsSlotPlace};
+ghost use Rattle.unit_minutes.specs.Reading.{IsSlotPlace};
 
 use activity_codec::Activity;
 use std::alloc::{AllocError, Global};
@@ -10,7 +10,7 @@ use std::process::Abort;
 use std::test::Fail;
 use tach_media::{Left, Medium, MemMedium, Memory};
 use tacho_types::{DAYS, Odometer};
-use unit_journal::{Journal, KeptMinute, State, UnitDay};
+use unit_minutes::{Journal, KeptMinute, State, UnitDay};
 use unit_model::layout::IMAGE_SIZE;
 use worked_media::image::{DAY, empty, put, put_head, put_word};
 use worked_media::{Room, one_stop, unit_with};

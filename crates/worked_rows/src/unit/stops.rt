@@ -7,7 +7,7 @@ use crate::unit::unit;
 use std::alloc::Global;
 use std::io::{self, Print};
 use tach_media::{Left, Medium, MemMedium, Memory, Stop, read_number};
-use unit_journal::{Journal, KeptMinute};
+use unit_minutes::{Journal, KeptMinute};
 use worked_media::image;
 
 const LEFT: [Left; 3] = [Left::Before, Left::After, Left::Torn(0x55)];

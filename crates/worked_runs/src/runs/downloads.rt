@@ -2,7 +2,7 @@
 use crate::runs::rows::DRIVE;
 use crate::runs::running::{Stops, new_devices};
 use link_frames::{End, write_frame};
-use link_service::serve;
+use link_session::serve;
 use std::alloc::{AllocError, Global};
 use std::process::Abort;
 use std::rt::HostRuntime;

@@ -1,6 +1,6 @@
 use Rattle.std.proofs.Common.{◌≡◌, ◌∙◌, ℕ, ◌+◌, ◌-◌, List, [], ◌∷◌, ◌++◌, map, ap, sym, arith, append_assoc}
 use Rattle.std.specs.List.{range_with_len}
-use Rattle.history_view.specs.Histories.{entry_told}
+use Rattle.file_view.specs.Histories.{entry_told}
 use Rattle.card_match.specs.Cases.{fresh}
 use Rattle.card_match.specs.declared.cases.Case.{Case}
 use Rattle.card_match.proofs.Lines.{viewed, cases_on, range_more}

@@ -2,7 +2,7 @@ use Rattle.std.proofs.Common.{◌≡◌, ◌∙◌, List, ◌++◌, get_or, take
 use Rattle.std.proofs.lemmas.List.{take_more}
 use Rattle.view_model.specs.declared.CardShown.{CardShown}
 use Rattle.view_model.specs.declared.Line.{Line}
-use Rattle.history_view.specs.Histories.{line_minutes, minutes_on}
+use Rattle.file_view.specs.Histories.{line_minutes, minutes_on}
 use Rattle.card_match.specs.declared.cases.Case.{Case}
 use Rattle.card_match.proofs.Empty.{no_card_line}
 use Rattle.card_match.proofs.Lines.{cases_on, cases_more}

@@ -1,5 +1,5 @@
 use Rattle.std.proofs.Common.{◌≡◌, take}
-use Rattle.history_view.specs.Histories.{minutes_on}
+use Rattle.file_view.specs.Histories.{minutes_on}
 use Rattle.card_match.proofs.Lines.{cases_on}
 use Rattle.card_match.proofs.cases.cases_of.Given as goal
 

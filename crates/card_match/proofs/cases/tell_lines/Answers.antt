@@ -5,7 +5,7 @@ use Rattle.view_model.specs.declared.UnitShown.{UnitShown}
 use Rattle.view_model.specs.declared.Line.{Line}
 use Rattle.card_match.specs.declared.cases.Case.{Case}
 use Rattle.unit_model.specs.Days.{UnitMinute}
-use Rattle.history_view.specs.Histories.{minute_told, line_minutes, minutes_on}
+use Rattle.file_view.specs.Histories.{minute_told, line_minutes, minutes_on}
 use Rattle.card_match.specs.Matching.{Against}
 use Rattle.card_match.specs.Cases.{case_of, with_line, AreRising, minute_of_case}
 use Rattle.card_match.proofs.Empty.{no_unit_line}

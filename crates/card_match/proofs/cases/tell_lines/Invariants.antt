@@ -1,6 +1,6 @@
 use Rattle.std.proofs.Common.{◌≡◌, ◌++◌, List, map, take}
 use Rattle.activity_codec.specs.declared.entries.Entry.{Entry}
-use Rattle.history_view.specs.Histories.{minute_told, minutes_on}
+use Rattle.file_view.specs.Histories.{minute_told, minutes_on}
 use Rattle.card_match.specs.Matching.{Against}
 use Rattle.card_match.specs.Cases.{case_of, AreRising}
 use Rattle.card_match.proofs.cases.tell_lines.Given as goal

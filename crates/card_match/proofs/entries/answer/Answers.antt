@@ -1,7 +1,7 @@
 use Rattle.std.proofs.Common.{◌≡◌, ℕ, List, [], map}
 use Rattle.std.proofs.lemmas.Result.{IfOk-weaker}
 use Rattle.activity_codec.specs.declared.entries.Entry.{Entry}
-use Rattle.history_view.specs.Histories.{minute_told, minutes_on}
+use Rattle.file_view.specs.Histories.{minute_told, minutes_on}
 use Rattle.card_match.specs.Matching.{Against}
 use Rattle.card_match.specs.Differences.{AreDifferences}
 use Rattle.card_match.specs.Cases.{case_of, fresh, begins_by, is_from}

@@ -2,7 +2,7 @@ use Rattle.std.proofs.Common.{◌≡◌, ◌∙◌, List, length, map, ap, sym, 
 use Rattle.std.proofs.Math.ListN.{length-map}
 use Rattle.std.proofs.lemmas.Result.{IfOk-weaker}
 use Rattle.activity_codec.specs.declared.entries.Entry.{Entry}
-use Rattle.history_view.specs.Histories.{entry_told, minute_told, minutes_on}
+use Rattle.file_view.specs.Histories.{entry_told, minute_told, minutes_on}
 use Rattle.card_match.specs.Matching.{Against}
 use Rattle.card_match.specs.Differences.{AreDifferences}
 use Rattle.card_match.specs.declared.cases.Case.{Case}

@@ -2,9 +2,9 @@ use Rattle.std.proofs.Common.{◌≡◌, ◌∙◌, Some, List, map, ap, sym, su
 use Rattle.card_retention.specs.Retains.{Rise}
 use Rattle.message_model.specs.Messages.{Message}
 use Rattle.message_model.specs.Showing.{minutes_in}
-use Rattle.card_records.specs.declared.vehicle.Vehicle.{Vehicle}
-use Rattle.history_view.specs.Fronts.{registration_in}
-use Rattle.history_view.specs.Histories.{entry_told, minute_told, minutes_on}
+use Rattle.card_files.specs.declared.vehicle.Vehicle.{Vehicle}
+use Rattle.file_view.specs.Fronts.{registration_in}
+use Rattle.file_view.specs.Histories.{entry_told, minute_told, minutes_on}
 use Rattle.card_match.specs.Files.{uses_of}
 use Rattle.card_match.specs.Matching.{Against}
 use Rattle.card_match.specs.Differences.{AreDifferences}

@@ -2,7 +2,7 @@ use Rattle.std.proofs.Common.{◌∙◌, ◌||◌, Bool, List, get_or, take, map
 use Rattle.std.proofs.lemmas.List.{take_more}
 use Rattle.view_model.specs.declared.UnitShown.{UnitShown}
 use Rattle.view_model.specs.declared.Line.{Line}
-use Rattle.history_view.specs.Histories.{minute_told, minutes_on}
+use Rattle.file_view.specs.Histories.{minute_told, minutes_on}
 use Rattle.card_match.specs.Cases.{begins_by, line_from}
 use Rattle.card_match.proofs.Empty.{no_unit_line}
 use Rattle.card_match.proofs.Beginning.{begins_more}

@@ -1,5 +1,5 @@
 use Rattle.std.proofs.Common.{◌≡◌, ℕ, map, take}
-use Rattle.history_view.specs.Histories.{minute_told, minutes_on}
+use Rattle.file_view.specs.Histories.{minute_told, minutes_on}
 use Rattle.card_match.specs.Cases.{begins_by, is_from}
 use Rattle.card_match.proofs.verdict.first_day.Given as goal
 

@@ -1,5 +1,5 @@
 use Rattle.std.specs.Prelude.{codes}
-use Rattle.history_view.specs.Histories.{minutes_on}
+use Rattle.file_view.specs.Histories.{minutes_on}
 use Rattle.day_totals.specs.declared.figures.Figure.TheVariants.{Drive, Work, Available, Rest}
 use Rattle.day_totals.specs.Figures.{total}
 use Rattle.day_totals.specs.Text.{duration_text}

@@ -1,5 +1,5 @@
 use Rattle.std.proofs.Common.{◌≡◌, ◌≤◌, ◌+◌, length}
-use Rattle.history_view.specs.Histories.{minutes_on}
+use Rattle.file_view.specs.Histories.{minutes_on}
 use Rattle.slot_bars.specs.DaysOf.{days_of}
 use Rattle.slot_bars.specs.DayLines.{AreDayLines}
 use Rattle.slot_bars.proofs.EachDay.{IsSoFar}

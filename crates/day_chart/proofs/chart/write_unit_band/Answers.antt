@@ -3,7 +3,7 @@ use Rattle.std.specs.Prelude.{codes}
 use Rattle.activity_codec.specs.declared.values.Slot.TheVariants.{Driver, CoDriver}
 use Rattle.tacho_types.specs.Calendar.{IsDateText}
 use Rattle.view_model.specs.declared.Viewed.{Viewed}
-use Rattle.history_view.specs.Histories.{minutes_on}
+use Rattle.file_view.specs.Histories.{minutes_on}
 use Rattle.slot_bars.specs.declared.seen.Seen.{Seen}
 use Rattle.slot_bars.specs.Seeing.{slot_seen}
 use Rattle.day_totals.proofs.Counting.{bars_few}

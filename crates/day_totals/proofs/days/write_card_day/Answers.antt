@@ -1,6 +1,6 @@
 use Rattle.std.proofs.Common.{ℕ, map, subst, append_assoc}
 use Rattle.tacho_types.specs.Calendar.{IsDateText}
-use Rattle.history_view.specs.Histories.{minutes_on}
+use Rattle.file_view.specs.Histories.{minutes_on}
 use Rattle.slot_bars.specs.Seeing.{card_seen}
 use Rattle.day_totals.proofs.Counting.{bars_stand, bars_few}
 use Rattle.day_totals.proofs.days.write_card_day.Goals as goal

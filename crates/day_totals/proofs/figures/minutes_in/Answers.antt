@@ -1,5 +1,5 @@
 use Rattle.std.proofs.Common.{◌∙◌, ℕ, ◌+◌, take, ap, sym, arith}
-use Rattle.history_view.specs.Histories.{minutes_on}
+use Rattle.file_view.specs.Histories.{minutes_on}
 use Rattle.slot_bars.proofs.Empty.{no_bar}
 use Rattle.day_totals.specs.Figures.{total}
 use Rattle.day_totals.proofs.Counting.{one_bar_more, total_within}

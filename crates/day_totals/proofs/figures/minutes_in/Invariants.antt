@@ -1,5 +1,5 @@
 use Rattle.std.proofs.Common.{◌≡◌, take}
-use Rattle.history_view.specs.Histories.{minutes_on}
+use Rattle.file_view.specs.Histories.{minutes_on}
 use Rattle.day_totals.specs.Figures.{total}
 use Rattle.day_totals.proofs.figures.minutes_in.Given as goal
 

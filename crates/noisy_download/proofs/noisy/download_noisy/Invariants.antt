@@ -1,5 +1,5 @@
 use Rattle.std.proofs.Common.{◌≡◌, ◌≤◌, false}
-use Rattle.unit_journal.specs.Reading.{ReadsIfAny}
+use Rattle.unit_minutes.specs.Reading.{ReadsIfAny}
 use Rattle.noisy_link.specs.Sides.{is_over}
 use Rattle.noisy_download.specs.Listing.{IsUnderway}
 use Rattle.noisy_download.proofs.noisy.download_noisy.Given as goal

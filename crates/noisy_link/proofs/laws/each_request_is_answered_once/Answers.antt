@@ -1,6 +1,6 @@
 use Rattle.std.proofs.Common.{Some}
 use Rattle.link_model.specs.Answers.{Idle}
-use Rattle.transfer_session.specs.Told.{fresh}
+use Rattle.link_session.specs.Told.{fresh}
 use Rattle.noisy_model.specs.Worlds.{distinct_requests}
 use Rattle.noisy_model.proofs.Requests.{heard}
 use Rattle.noisy_link.specs.Sides.{download_sides}

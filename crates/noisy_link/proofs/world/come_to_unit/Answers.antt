@@ -2,8 +2,8 @@ use Rattle.std.proofs.Common.{◌≡◌, ◌∙◌, ◌++◌, ℕ, List, length,
 use Rattle.std.specs.Prelude.{◌==◌, ◌&&◌, not, is_none, false, option_to_list}
 use Rattle.std.proofs.lemmas.Option.{slice_get_read}
 use Rattle.unit_model.specs.Decoding.{first_bad_place}
-use Rattle.transfer_session.specs.Told.{is_judged, IfBadUnit}
-use Rattle.transfer_session.specs.declared.asking.AnswerFault.{AnswerFault}
+use Rattle.link_session.specs.Told.{is_judged, IfBadUnit}
+use Rattle.link_session.specs.declared.asking.AnswerFault.{AnswerFault}
 use Rattle.noisy_model.specs.declared.packet.Packet.{Packet}
 use Rattle.noisy_model.specs.Ends.{Hears}
 use Rattle.noisy_link.specs.Sides.{IsReply}

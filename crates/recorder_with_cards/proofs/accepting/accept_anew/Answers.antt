@@ -2,8 +2,8 @@ use Rattle.std.proofs.Common.{rules, ◌≡◌, ◌∙◌, ℕ, false, Option, S
 use Rattle.std.specs.Prelude.{is_err}
 use Rattle.trace_model.specs.declared.Card.{Card}
 use Rattle.safety_model.specs.Safe.{Devices}
-use Rattle.run_rule.specs.Between.{devices}
-use Rattle.slot_machine.specs.Calls.{seat_in, card_in}
+use Rattle.run_promise.specs.Between.{devices}
+use Rattle.card_slots.specs.Calls.{seat_in, card_in}
 use Rattle.run_acts.specs.Room.{Takes, bare_count}
 use Rattle.recorder_with_cards.specs.Judged.{JudgesAnew, EventsAnew}
 use Rattle.recorder_with_cards.specs.Noting.{NotesAnew}
@@ -12,11 +12,11 @@ use Rattle.recorder_with_cards.proofs.Goes.{bare-one}
 use Rattle.run_rings.proofs.Same.{rings-left}
 use Rattle.recorder_with_cards.specs.EnteredRings.{RingsAnew}
 use Rattle.recorder_with_cards.specs.JudgedRings.{RingsJudgedAnew}
-use Rattle.run_keeping.proofs.Later.{later-same}
+use Rattle.run_minutes.proofs.Later.{later-same}
 use Rattle.recorder_with_cards.specs.JudgedCards.{CardsAnew}
-use Rattle.run_keeping.proofs.Calm.{calm-same}
+use Rattle.run_minutes.proofs.Calm.{calm-same}
 use Rattle.run_outcome.specs.declared.outcome.TheConstants.{MOST_OWED}
-use Rattle.slot_machine.specs.declared.seats.Seat.{Seat}
+use Rattle.card_slots.specs.declared.seats.Seat.{Seat}
 use Rattle.recorder_with_cards.proofs.accepting.accept_anew.Given.{Over}
 use Rattle.recorder_with_cards.proofs.accepting.accept_anew.Goals.{After-accept_in}
 use Rattle.recorder_with_cards.proofs.accepting.accept_anew.Goals as goal

@@ -1,18 +1,18 @@
 use Rattle.std.proofs.Common.{rules, ◌≡◌, ◌∙◌, ⊎_elim, ℕ, ◌+◌, ◌/◌, ◌^◌, ◌<◌, ◌≤◌, Bool, true, Option, Some, None, IfSome, is_some, List, [], ◌∷◌, ◌++◌, Contains, length, refl, ap, sym, subst, arith, length-append, false}
 use Rattle.tach_media.proofs.Runs.{on_ok, ok_gives}
 use Rattle.trace_model.specs.declared.Card.{Card}
-use Rattle.joint_rule.specs.Views.{other}
+use Rattle.device_rule.specs.Views.{other}
 use Rattle.minute_model.specs.Span.{ungiven_of}
-use Rattle.slot_machine.specs.Calls.{present_in, is_card, seat_in}
-use Rattle.slot_machine.specs.declared.seats.Ended.{Ended}
+use Rattle.card_slots.specs.Calls.{present_in, is_card, seat_in}
+use Rattle.card_slots.specs.declared.seats.Ended.{Ended}
 use Rattle.run_crew.specs.declared.cards.Known.{Known}
 use Rattle.run_crew.specs.declared.cards.Accepted.{Accepted}
 use Rattle.run_crew.specs.Cards.{known_of, session_of}
-use Rattle.run_keeping.specs.declared.keeper.Keeper.{Keeper}
-use Rattle.run_keeping.specs.Keeping.{CardReady, HasItsRow, HaveRows}
-use Rattle.run_keeping.proofs.Units.{unit-stays}
+use Rattle.run_minutes.specs.declared.keeper.Keeper.{Keeper}
+use Rattle.run_minutes.specs.Keeping.{CardReady, HasItsRow, HaveRows}
+use Rattle.run_minutes.proofs.Units.{unit-stays}
 use Rattle.run_outcome.specs.declared.outcome.Outcome.{Outcome}
-use Rattle.run_entering.specs.Entering.{ending_of, measured, breaks_by, finds_by, Way}
+use Rattle.run_insertion.specs.Entering.{ending_of, measured, breaks_by, finds_by, Way}
 use Rattle.run_acts.specs.Going.{CardAt}
 use Rattle.run_acts.proofs.Kept.{owing-sum}
 use Rattle.recorder_with_cards.specs.Accepting.{HasEntry, IsAccepted}
@@ -22,21 +22,21 @@ use Rattle.std.specs.Prelude.{is_err}
 use Rattle.tach_media.specs.Medium.{State}
 use Rattle.log_model.specs.Log.{In}
 use Rattle.run_acts.specs.Recording.{log_of, values_of}
-use Rattle.run_told.specs.Told.{arranged}
+use Rattle.run_devices.specs.Told.{arranged}
 use Rattle.run_acts.specs.Entered.{MayJudge, HasGone, AreSound}
 use Rattle.run_acts.proofs.EnteredWhole.{entered-recorded, found-in}
 use Rattle.run_acts.specs.declared.run.Run.{Run}
-use Rattle.run_keeping.specs.declared.keeper.Moment.{Moment}
+use Rattle.run_minutes.specs.declared.keeper.Moment.{Moment}
 use Rattle.recorder_with_cards.proofs.Judged.{mine-time, found-by, judged-by, judged-notes, judged-noting}
 use Rattle.recorder_with_cards.proofs.EnteredEvented.{judged-evented}
 use Rattle.recorder_with_cards.proofs.NoSession.{seat-answers}
 use Rattle.recorder_with_cards.proofs.EnteredRings.{accept-writes}
 use Rattle.recorder_with_cards.proofs.EnteredRinged.{judged-ringed}
 use Rattle.run_acts.proofs.EnteredFacts.{known, unit-told, mine-back}
-use Rattle.run_rule.specs.Found.{found_of}
+use Rattle.run_promise.specs.Found.{found_of}
 use Rattle.recorder_with_cards.proofs.EnteredBefore.{way-tells}
 use Rattle.unit_model.specs.Image.{odometer_at}
-use Rattle.run_recorded.specs.Origin.{rule_of, Origin}
+use Rattle.run_promise.specs.Origin.{rule_of, Origin}
 use Rattle.run_acts.specs.Closings.{notes_within}
 use Rattle.run_acts.specs.Truths.{past_of, IsOdometerBefore, truths_within, marked}
 use Rattle.run_acts.proofs.WholeLegs.{accepted-now}
@@ -46,12 +46,12 @@ use Rattle.run_acts.proofs.EnteredStays.{finds-noted, entered-stays}
 use Rattle.run_acts.proofs.EnteredLines.{marks-behind}
 use Rattle.run_acts.proofs.AllStay.{all-true}
 use Rattle.run_acts.proofs.Truths.{grow-self, marked-grow}
-use Rattle.run_entering.proofs.CardBrought.{sits-works}
+use Rattle.run_insertion.proofs.CardBrought.{sits-works}
 use Rattle.recorder_with_cards.proofs.EnteredCards.{judged-cards}
 use Rattle.card_image.specs.Own.{IsOwnValid}
 use Rattle.run_acts.proofs.EnteredNewest.{was-valid}
 use Rattle.run_acts.proofs.OwedNow.{owed-told}
-use Rattle.run_keeping.specs.Books.{HaveTime}
+use Rattle.run_minutes.specs.Books.{HaveTime}
 use Rattle.run_outcome.specs.declared.outcome.TheConstants.{MOST_OWED}
 use Rattle.recorder_with_cards.specs.Judged.{RunNext, moment_in}
 use Rattle.trace_model.specs.Trace.{TraceSecond}

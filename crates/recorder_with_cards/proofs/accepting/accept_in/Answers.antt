@@ -2,12 +2,12 @@ use Rattle.std.proofs.Common.{◌∙◌, sym, subst}
 use Rattle.std.specs.Prelude.{is_err}
 use Rattle.trace_model.specs.declared.Card.{Card}
 use Rattle.safety_model.specs.Safe.{Devices}
-use Rattle.run_rule.specs.Between.{devices}
+use Rattle.run_promise.specs.Between.{devices}
 use Rattle.recorder_with_cards.specs.Judged.{JudgesSo, EventsJudged}
 use Rattle.recorder_with_cards.specs.JudgedRings.{RingsJudged}
-use Rattle.run_keeping.proofs.Later.{state-by, later-of-a, later-of-b}
+use Rattle.run_minutes.proofs.Later.{state-by, later-of-a, later-of-b}
 use Rattle.recorder_with_cards.specs.JudgedCards.{CardsJudged}
-use Rattle.run_keeping.proofs.Calm.{calm-of-a, calm-of-b}
+use Rattle.run_minutes.proofs.Calm.{calm-of-a, calm-of-b}
 use Rattle.recorder_with_cards.proofs.accepting.accept_in.Goals as goal
 
 pub returns-in-A-clause-recorded : goal.returns-in-A-clause-recorded

@@ -3,13 +3,13 @@ use Rattle.log_model.specs.declared.lines.Refused.{Refused}
 use Rattle.run_outcome.specs.Lines.{Listed}
 use Rattle.run_acts.specs.Power.{is_lit}
 use Rattle.recorder_with_cards.specs.Acting.{IsActed}
-use Rattle.run_rule.specs.Between.{devices}
+use Rattle.run_promise.specs.Between.{devices}
 use Rattle.recorder_with_cards.proofs.RingsHeld.{ringed-over}
 use Rattle.recorder_with_cards.proofs.Allowed.{lit-refused}
-use Rattle.run_keeping.proofs.Later.{later-same}
+use Rattle.run_minutes.proofs.Later.{later-same}
 use Rattle.recorder_with_cards.proofs.CardsHeld.{carded-over}
 use Rattle.run_outcome.proofs.Broken.{broke-none}
-use Rattle.run_keeping.proofs.Calm.{calm-same}
+use Rattle.run_minutes.proofs.Calm.{calm-same}
 use Rattle.recorder_with_cards.proofs.acts.act.Goals as goal
 
 pub returns-clause-none : goal.returns-clause-none

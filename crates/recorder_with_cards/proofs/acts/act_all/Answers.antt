@@ -1,7 +1,7 @@
 use Rattle.std.proofs.Common.{◌≡◌, ◌∙◌, ℕ, ◌+◌, ◌-◌, ◌<◌, ◌≤◌, true, false, List, length, drop, refl, ap, sym, subst, arith, length-drop}
 use Rattle.trace_model.specs.declared.Action.{Action}
 use Rattle.safety_model.specs.Safe.{Devices}
-use Rattle.run_rule.specs.Between.{devices}
+use Rattle.run_promise.specs.Between.{devices}
 use Rattle.run_acts.specs.Going.{largest_number}
 use Rattle.run_acts.specs.RunRinged.{InSecondRinged}
 use Rattle.recorder_with_cards.specs.Recorded.{action_of, actions_in, RingsActions, ActsBy, Inside}
@@ -17,10 +17,10 @@ use Rattle.recorder_with_cards.specs.Items.{between, insertions_in}
 use Rattle.recorder_with_cards.proofs.Acted.{between-none, between-more, acted-more}
 use Rattle.recorder_with_cards.proofs.Rooms.{room-less}
 use Rattle.recorder_with_cards.proofs.Counted.{none-in, first-in}
-use Rattle.run_keeping.proofs.Later.{later-same, later-then}
+use Rattle.run_minutes.proofs.Later.{later-same, later-then}
 use Rattle.recorder_with_cards.specs.Carded.{InSecondCarded, CardsActions}
 use Rattle.run_outcome.proofs.Broken.{broke-none, broke-then}
-use Rattle.run_keeping.proofs.Calm.{calm-same, calm-then}
+use Rattle.run_minutes.proofs.Calm.{calm-same, calm-then}
 use Rattle.recorder_with_cards.proofs.acts.act_all.Given.{Over}
 use Rattle.recorder_with_cards.proofs.acts.act_all.Goals.{After-act_item}
 use Rattle.recorder_with_cards.proofs.acts.act_all.Goals as goal

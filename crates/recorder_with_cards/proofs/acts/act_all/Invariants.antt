@@ -1,12 +1,11 @@
 use Rattle.std.proofs.Common.{◌≡◌, ℕ, ◌+◌, ◌-◌, ◌≤◌, true, false, length}
-use Rattle.run_rule.specs.Between.{devices}
-use Rattle.run_keeping.specs.Books.{HaveTime}
-use Rattle.run_keeping.specs.Later.{AreLater, AreCalm}
-use Rattle.run_acts.specs.Going.{largest_number}
+use Rattle.run_promise.specs.Between.{devices}
+use Rattle.run_minutes.specs.Books.{HaveTime}
+use Rattle.run_minutes.specs.Later.{AreLater, AreCalm}
+use Rattle.run_acts.specs.Going.{largest_number, IsWithin}
 use Rattle.recorder_with_cards.specs.Recorded.{actions_in, RingsActions}
 use Rattle.recorder_with_cards.specs.Carded.{CardsActions}
 use Rattle.run_acts.specs.Power.{is_lit}
-use Rattle.run_acts.specs.Going.{IsWithin}
 use Rattle.run_acts.specs.Room.{HasRoomWithin}
 use Rattle.recorder_with_cards.specs.Acting.{AreActed}
 use Rattle.recorder_with_cards.specs.Items.{between, insertions_in}

@@ -5,7 +5,7 @@ use Rattle.trace_model.specs.declared.Action.{Action}
 use Rattle.trace_model.specs.declared.Item.{Item}
 use Rattle.run_acts.specs.Power.{is_lit}
 use Rattle.recorder_with_cards.specs.Acting.{IsItemActed}
-use Rattle.run_rule.specs.Between.{devices}
+use Rattle.run_promise.specs.Between.{devices}
 use Rattle.safety_model.specs.Safe.{Devices}
 use Rattle.recorder_with_cards.specs.Recorded.{action_of, RingsActions}
 use Rattle.run_acts.specs.RunRinged.{InSecondRinged}
@@ -13,7 +13,7 @@ use Rattle.recorder_with_cards.proofs.ActsRecorded.{no-action}
 use Rattle.recorder_with_cards.proofs.Allowed.{count-is}
 use Rattle.recorder_with_cards.specs.Carded.{InSecondCarded, CardsActions}
 use Rattle.run_outcome.proofs.Broken.{broke-none}
-use Rattle.run_keeping.proofs.Calm.{calm-same}
+use Rattle.run_minutes.proofs.Calm.{calm-same}
 use Rattle.recorder_with_cards.proofs.acts.act_item.Goals as goal
 
 pub returns-in-Act-clause-room : goal.returns-in-Act-clause-room

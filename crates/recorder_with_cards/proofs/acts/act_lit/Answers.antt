@@ -8,11 +8,11 @@ use Rattle.log_model.specs.declared.lines.Break.{Break}
 use Rattle.log_model.specs.declared.lines.Refused.{Refused}
 use Rattle.log_model.specs.declared.lines.SlotFault.{SlotFault}
 use Rattle.log_model.specs.Slots.{refusal}
-use Rattle.slot_machine.specs.Calls.{logged}
+use Rattle.card_slots.specs.Calls.{logged}
 use Rattle.run_outcome.specs.declared.outcome.Outcome.{Outcome}
 use Rattle.run_outcome.specs.Lines.{Listed, cut_at}
-use Rattle.run_keeping.proofs.Counts.{lines-length}
-use Rattle.run_rule.specs.Between.{devices}
+use Rattle.run_minutes.proofs.Counts.{lines-length}
+use Rattle.run_promise.specs.Between.{devices}
 use Rattle.safety_model.specs.Safe.{Devices}
 use Rattle.run_acts.specs.declared.run.Run.{Run}
 use Rattle.run_acts.specs.Power.{is_lit, cut_run}
@@ -25,15 +25,15 @@ use Rattle.recorder_with_cards.specs.Acting.{put_count, moment_of, IsDone, IsAct
 use Rattle.recorder_with_cards.proofs.ActsRecorded.{cut, left, refused}
 use Rattle.recorder_with_cards.proofs.Allowed.{fine-selected}
 use Rattle.recorder_with_cards.proofs.Rooms.{few-wait, room-cut}
-use Rattle.run_evented.specs.Noting.{Acting}
+use Rattle.run_note_record.specs.Noting.{Acting}
 use Rattle.run_acts.specs.Evented.{EventsGoOn, WithinEvented}
 use Rattle.run_acts.specs.RunRinged.{WithinRinged, RingsGoOn, with_cut, InSecondRinged, RingsCut}
 use Rattle.recorder_with_cards.proofs.ActsEvented.{evented-cuts}
 use Rattle.recorder_with_cards.proofs.RingsHeld.{ringed-lit, in-ringed_lit, in-ringed_cut, at-front, ringed-cut}
 use Rattle.recorder_with_cards.proofs.ActsRinged.{ringed-on, ringed-cuts, cut-stores, refused-ringed}
-use Rattle.run_keeping.specs.Keeping.{with_lines}
+use Rattle.run_minutes.specs.Keeping.{with_lines}
 use Rattle.recorder_with_cards.proofs.Staying.{done-watched}
-use Rattle.run_keeping.proofs.Later.{later-same}
+use Rattle.run_minutes.proofs.Later.{later-same}
 use Rattle.run_outcome.proofs.Broken.{broke-none}
 use Rattle.run_acts.proofs.Uncut.{uncut-broke, cut-broke}
 use Rattle.recorder_with_cards.proofs.Uncut.{done-uncut}
@@ -42,10 +42,10 @@ use Rattle.run_acts.specs.RunCards.{CardsBehind, CardsIn, CardsGoOn}
 use Rattle.recorder_with_cards.proofs.HereDone.{TellsMoreOf, done-of}
 use Rattle.recorder_with_cards.proofs.CardsHeld.{carded-lit, in-carded_lit, in-carded_cut}
 use Rattle.recorder_with_cards.proofs.ActsCards.{refused-cards, cards-on, cards-now, cut-later, cut-cards}
-use Rattle.run_keeping.proofs.Calm.{calm-more, calm-same}
-use Rattle.run_keeping.specs.Books.{HaveTime}
+use Rattle.run_minutes.proofs.Calm.{calm-more, calm-same}
+use Rattle.run_minutes.specs.Books.{HaveTime}
 use Rattle.recorder_with_cards.specs.Carded.{InSecondCarded, WithinCarded}
-use Rattle.run_recorded.specs.Origin.{Origin}
+use Rattle.run_promise.specs.Origin.{Origin}
 use Rattle.trace_model.specs.Trace.{TraceSecond}
 use Rattle.recorder_with_cards.proofs.acts.act_lit.Given.{Over}
 use Rattle.recorder_with_cards.proofs.acts.act_lit.Goals.{After-carry_out}

@@ -4,11 +4,11 @@ use Rattle.trace_model.specs.declared.Action.{Action}
 use Rattle.trace_model.specs.declared.Action.TheVariants.{Insert, Withdraw, Tear, Place}
 use Rattle.log_model.specs.Slots.{refusal}
 use Rattle.log_model.specs.declared.lines.Break.{Break}
-use Rattle.slot_machine.specs.Calls.{logged, seat_in, card_in}
+use Rattle.card_slots.specs.Calls.{logged, seat_in, card_in}
 use Rattle.run_crew.specs.Cabin.{Stands}
 use Rattle.run_outcome.specs.Lines.{Listed}
 use Rattle.run_outcome.specs.declared.outcome.Outcome.{Outcome}
-use Rattle.run_keeping.specs.declared.keeper.Moment.{Moment}
+use Rattle.run_minutes.specs.declared.keeper.Moment.{Moment}
 use Rattle.run_acts.specs.declared.run.Run.{Run}
 use Rattle.run_acts.specs.Power.{is_lit}
 use Rattle.run_acts.specs.Going.{IsHeld, IsLit}
@@ -19,9 +19,9 @@ use Rattle.recorder_with_cards.proofs.ActsRecorded.{selected, passed-by}
 use Rattle.recorder_with_cards.proofs.Rooms.{few-wait, put-room}
 use Rattle.run_acts.proofs.Pulled.{pulled-recorded}
 use Rattle.run_acts.specs.Recording.{RunGoesOn, RecordsAction}
-use Rattle.run_keeping.proofs.DecidedBooked.{time-before}
-use Rattle.run_keeping.specs.Keeping.{with_lines}
-use Rattle.run_rule.specs.Between.{devices}
+use Rattle.run_minutes.proofs.DecidedBooked.{time-before}
+use Rattle.run_minutes.specs.Keeping.{with_lines}
+use Rattle.run_promise.specs.Between.{devices}
 use Rattle.safety_model.specs.Safe.{Devices}
 use Rattle.log_model.specs.Log.{In}
 use Rattle.recorder_with_cards.proofs.Allowed.{insert-elsewhere}
@@ -32,14 +32,14 @@ use Rattle.run_acts.specs.Evented.{EventsAction}
 use Rattle.recorder_with_cards.proofs.ActsEvented.{pulled-evented}
 use Rattle.run_acts.specs.RunRinged.{RingsAction}
 use Rattle.recorder_with_cards.proofs.ActsRinged.{selected-ringed, hand-ringed, pulled-ringed}
-use Rattle.run_keeping.proofs.Later.{later-same}
+use Rattle.run_minutes.proofs.Later.{later-same}
 use Rattle.run_rings.proofs.Same.{rings-left}
 use Rattle.recorder_with_cards.specs.EnteredRings.{IsPlaceNow, RingsDone}
 use Rattle.run_acts.proofs.NotedEvents.{same-noted}
 use Rattle.recorder_with_cards.specs.Noting.{NotesDone}
 use Rattle.run_acts.specs.RunCards.{CardsAction}
 use Rattle.recorder_with_cards.proofs.ActsCards.{selected-cards, hand-cards, pulled-cards}
-use Rattle.run_keeping.proofs.Calm.{calm-told, calm-same}
+use Rattle.run_minutes.proofs.Calm.{calm-told, calm-same}
 use Rattle.recorder_with_cards.proofs.Uncut.{pulled-calm}
 use Rattle.trace_model.specs.declared.Card.{Card}
 use Rattle.run_outcome.specs.declared.outcome.TheConstants.{MOST_OWED}

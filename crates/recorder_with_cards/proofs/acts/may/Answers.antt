@@ -1,7 +1,7 @@
 use Rattle.std.proofs.Common.{◌∙◌, ap, sym}
 use Rattle.trace_model.specs.declared.Action.{Action}
 use Rattle.log_model.specs.Slots.{refusal}
-use Rattle.slot_machine.specs.Calls.{logged}
+use Rattle.card_slots.specs.Calls.{logged}
 use Rattle.recorder_with_cards.proofs.acts.may.Goals as goal
 
 pub returns-in-Insert : goal.returns-in-Insert

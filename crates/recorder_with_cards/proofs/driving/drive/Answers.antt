@@ -3,15 +3,15 @@ use Rattle.std.proofs.lemmas.List.{append-nil}
 use Rattle.trace_model.specs.declared.Action.{Action}
 use Rattle.trace_model.specs.Trace.{TraceSecond, driven}
 use Rattle.safety_model.specs.Safe.{Devices}
-use Rattle.run_rule.specs.Between.{devices}
-use Rattle.run_keeping.proofs.DecidedBooked.{time-before}
+use Rattle.run_promise.specs.Between.{devices}
+use Rattle.run_minutes.proofs.DecidedBooked.{time-before}
 use Rattle.run_outcome.specs.declared.outcome.Outcome.{Outcome}
 use Rattle.run_acts.specs.Recording.{IsNow}
 use Rattle.std.proofs.lemmas.Grind.{common_steps}
 use Rattle.tach_media.proofs.Runs.{on_ok, ok_gives}
 use Rattle.run_acts.specs.declared.run.Run.{Run}
 use Rattle.run_acts.specs.Power.{is_lit, has_power, passed}
-use Rattle.run_keeping.specs.Keeping.{with_lines}
+use Rattle.run_minutes.specs.Keeping.{with_lines}
 use Rattle.run_acts.specs.Room.{cuts_from, cuts_within}
 use Rattle.recorder_with_cards.specs.Acting.{AreActed}
 use Rattle.recorder_with_cards.specs.Items.{between, insertions_in}
@@ -22,14 +22,14 @@ use Rattle.recorder_with_cards.proofs.Rooms.{room-less}
 use Rattle.recorder_with_cards.proofs.Dark.{away-dark}
 use Rattle.run_acts.specs.RunRinged.{RunRinged, InSecondRinged}
 use Rattle.recorder_with_cards.proofs.SecondsRinged.{dark-ringed}
-use Rattle.run_keeping.proofs.Later.{later-then}
+use Rattle.run_minutes.proofs.Later.{later-then}
 use Rattle.run_outcome.proofs.Broken.{broke-then}
 use Rattle.recorder_with_cards.specs.Carded.{RunCarded, InSecondCarded}
 use Rattle.recorder_with_cards.proofs.SecondsCards.{turned-carded, dark-carded}
-use Rattle.run_keeping.proofs.Calm.{calm-then}
-use Rattle.run_keeping.specs.Books.{HaveTime}
+use Rattle.run_minutes.proofs.Calm.{calm-then}
+use Rattle.run_minutes.specs.Books.{HaveTime}
 use Rattle.std.specs.Prelude.{Ok}
-use Rattle.run_recorded.specs.Origin.{Origin}
+use Rattle.run_promise.specs.Origin.{Origin}
 use Rattle.run_acts.specs.Going.{largest_number}
 use Rattle.recorder_with_cards.proofs.Resumed.{same-devices}
 use Rattle.recorder_with_cards.proofs.driving.drive.Given.{Over}

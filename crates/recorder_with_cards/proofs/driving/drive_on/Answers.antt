@@ -2,7 +2,7 @@ use Rattle.std.proofs.Common.{rules, ◌≡◌, ◌∙◌, ℕ, ◌+◌, ◌-◌
 use Rattle.std.proofs.lemmas.List.{append-nil}
 use Rattle.trace_model.specs.Trace.{TraceSecond, driven}
 use Rattle.safety_model.specs.Safe.{Devices}
-use Rattle.run_rule.specs.Between.{devices}
+use Rattle.run_promise.specs.Between.{devices}
 use Rattle.recorder_with_cards.proofs.SecondsRecorded.{plain-parts}
 use Rattle.std.proofs.lemmas.Grind.{common_steps}
 use Rattle.run_acts.specs.Room.{cuts_from}
@@ -11,9 +11,9 @@ use Rattle.run_acts.specs.Evented.{LastAt}
 use Rattle.run_acts.specs.RunRinged.{RunRinged}
 use Rattle.recorder_with_cards.specs.Carded.{RunCarded}
 use Rattle.recorder_with_cards.proofs.SecondsEvented.{last-more}
-use Rattle.run_keeping.proofs.Later.{later-same, later-then}
+use Rattle.run_minutes.proofs.Later.{later-same, later-then}
 use Rattle.run_outcome.proofs.Broken.{broke-none, broke-then}
-use Rattle.run_keeping.proofs.Calm.{calm-then, calm-same}
+use Rattle.run_minutes.proofs.Calm.{calm-then, calm-same}
 use Rattle.recorder_with_cards.proofs.driving.drive_on.Goals as goal
 
 pub loop-left-init : goal.loop-left-init

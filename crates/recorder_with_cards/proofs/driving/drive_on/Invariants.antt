@@ -1,9 +1,9 @@
 use Rattle.std.proofs.Common.{◌≡◌, ℕ, ◌+◌, ◌-◌, ◌≤◌, List, [], ◌++◌, length}
 use Rattle.trace_model.specs.Trace.{TraceSecond, driven}
-use Rattle.run_rule.specs.Between.{devices}
-use Rattle.run_recorded.specs.Origin.{Origin}
-use Rattle.run_keeping.specs.Books.{HaveTime}
-use Rattle.run_keeping.specs.Later.{AreLater, AreCalm}
+use Rattle.run_promise.specs.Between.{devices}
+use Rattle.run_promise.specs.Origin.{Origin}
+use Rattle.run_minutes.specs.Books.{HaveTime}
+use Rattle.run_minutes.specs.Later.{AreLater, AreCalm}
 use Rattle.run_acts.specs.Going.{IsGoing}
 use Rattle.run_acts.specs.Room.{HasRoom}
 use Rattle.run_acts.specs.Evented.{LastAt}

@@ -6,25 +6,25 @@ use Rattle.run_crew.specs.Cabin.{Stands, with_card_in}
 use Rattle.run_acts.specs.Power.{with_cabin}
 use Rattle.run_acts.specs.Going.{IsHeld, IsLit}
 use Rattle.run_acts.specs.Room.{Takes, waiting}
-use Rattle.slot_machine.specs.Calls.{seat_in}
+use Rattle.card_slots.specs.Calls.{seat_in}
 use Rattle.run_acts.specs.Acting.{IsSettled, IsBareIn, told_of}
 use Rattle.recorder_with_cards.proofs.Puts.{put-held, put-going, put-takes, put-then, put-bare, put-falls, seat-put}
 use Rattle.std.specs.Prelude.{is_err}
 use Rattle.log_model.specs.Log.{In, RunLog}
 use Rattle.safety_model.specs.Safe.{Devices}
-use Rattle.run_rule.specs.Between.{devices}
+use Rattle.run_promise.specs.Between.{devices}
 use Rattle.run_outcome.specs.declared.outcome.Outcome.{Outcome}
-use Rattle.run_keeping.proofs.DecidedBooked.{time-before}
+use Rattle.run_minutes.proofs.DecidedBooked.{time-before}
 use Rattle.run_acts.specs.declared.run.Run.{Run}
 use Rattle.run_acts.specs.declared.run.Power.{Power}
 use Rattle.run_acts.specs.Recording.{log_of, GoesOnOrFails}
 use Rattle.run_acts.specs.Settling.{RecordsSettling}
-use Rattle.run_evented.specs.Noting.{Acting}
+use Rattle.run_note_record.specs.Noting.{Acting}
 use Rattle.run_acts.specs.Evented.{EventsGoOn, EventsSettling}
 use Rattle.log_model.specs.declared.lines.Break.{Break}
 use Rattle.trace_model.specs.declared.Action.TheVariants.{Insert}
-use Rattle.run_keeping.specs.declared.keeper.Moment.{Moment}
-use Rattle.run_moments.specs.Moment.{entering_by}
+use Rattle.run_minutes.specs.declared.keeper.Moment.{Moment}
+use Rattle.run_course.specs.Moment.{entering_by}
 use Rattle.run_rings.specs.Spans.{with_second}
 use Rattle.run_acts.specs.RunRinged.{RingsGoOn}
 use Rattle.run_acts.proofs.RingedLines.{AreTears, up-to-tells}
@@ -40,16 +40,16 @@ use Rattle.run_acts.specs.Faults.{NotesSettling}
 use Rattle.recorder_with_cards.specs.Accepting.{put_run}
 use Rattle.run_acts.proofs.ActsNoted.{settles-these}
 use Rattle.recorder_with_cards.proofs.WakeNoted.{anew-these}
-use Rattle.run_entering.specs.Entering.{ending_of}
+use Rattle.run_insertion.specs.Entering.{ending_of}
 use Rattle.run_acts.proofs.Ringing.{settling-leaves}
 use Rattle.recorder_with_cards.proofs.EnteredRings.{writes-behind}
-use Rattle.run_keeping.proofs.Later.{later-then}
-use Rattle.run_ringed.specs.OnCards.{PlacesStay}
+use Rattle.run_minutes.proofs.Later.{later-then}
+use Rattle.run_note_record.specs.OnCards.{PlacesStay}
 use Rattle.run_acts.specs.RunCards.{vehicle_in, StillShow, CardsSettling, PlacesSettling, CardsGoOn}
 use Rattle.recorder_with_cards.proofs.InsertedCards.{unsettled-cards, inserted-cards}
 use Rattle.recorder_with_cards.proofs.Staying.{settled-watched}
-use Rattle.run_keeping.proofs.Calm.{calm-then}
-use Rattle.run_keeping.specs.Books.{HaveTime}
+use Rattle.run_minutes.proofs.Calm.{calm-then}
+use Rattle.run_minutes.specs.Books.{HaveTime}
 use Rattle.run_outcome.specs.declared.outcome.TheConstants.{MOST_OWED}
 use Rattle.recorder_with_cards.proofs.inserting.insert.Given.{Over}
 use Rattle.recorder_with_cards.proofs.inserting.insert.Goals.{After-accept_in, After-from_residual, After-settle, In_ok-settle}

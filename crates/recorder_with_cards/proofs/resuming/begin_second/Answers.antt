@@ -9,9 +9,9 @@ use Rattle.run_acts.specs.Room.{HasRoomWithin}
 use Rattle.run_acts.proofs.Standing.{lit-is, begun-at, still-dark}
 use Rattle.recorder_with_cards.proofs.AwakeRooms.{room-over, room-away, room-awake}
 use Rattle.tach_media.specs.Medium.{State}
-use Rattle.run_rule.specs.Between.{devices}
+use Rattle.run_promise.specs.Between.{devices}
 use Rattle.recorder_with_cards.proofs.GoingOn.{marks-due}
-use Rattle.run_keeping.proofs.Later.{later-same}
+use Rattle.run_minutes.proofs.Later.{later-same}
 use Rattle.run_outcome.proofs.Broken.{broke-none}
 use Rattle.run_acts.specs.RunRinged.{InSecondRingedBy, InSecondRinged}
 use Rattle.recorder_with_cards.proofs.BegunRinged.{lit-ringed}
@@ -19,7 +19,7 @@ use Rattle.safety_model.specs.Safe.{Devices}
 use Rattle.recorder_with_cards.proofs.RingsHeld.{ringed-lit}
 use Rattle.recorder_with_cards.proofs.CardsHeld.{in-carded_lit}
 use Rattle.recorder_with_cards.proofs.SecondsCards.{over-lit, over-vehicle, begins-cards}
-use Rattle.run_keeping.proofs.Calm.{calm-same}
+use Rattle.run_minutes.proofs.Calm.{calm-same}
 use Rattle.recorder_with_cards.proofs.resuming.begin_second.Goals as goal
 
 away-dark : (p : Power) (next : ℕ) → has_power p next ≡ false → is_lit p ≡ false

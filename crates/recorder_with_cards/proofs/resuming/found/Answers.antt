@@ -12,12 +12,12 @@ use Rattle.run_acts.proofs.Standing.{cut-at}
 use Rattle.recorder_with_cards.proofs.Taken.{up-room, up-awake, up-lost}
 use Rattle.log_model.specs.Log.{RunLog, In}
 use Rattle.run_course.proofs.Logs.{found_log}
-use Rattle.run_ringed.specs.SoFar.{RingedBehind}
-use Rattle.run_ringed.specs.Stored.{StoresOff, Stores}
-use Rattle.unit_journal.specs.Image.{IsFoundBy}
+use Rattle.run_note_record.specs.RingsSoFar.{RingedBehind}
+use Rattle.run_note_record.specs.Stored.{StoresOff, Stores}
+use Rattle.unit_minutes.specs.Image.{IsFoundBy}
 use Rattle.safety_model.specs.Safe.{Devices}
-use Rattle.run_rule.specs.Between.{devices}
-use Rattle.run_within.specs.Powering.{read_values}
+use Rattle.run_promise.specs.Between.{devices}
+use Rattle.run_record.specs.Powering.{read_values}
 use Rattle.run_acts.specs.declared.run.Power.TheVariants.{Lit}
 use Rattle.run_acts.specs.Power.{is_lit, has_power}
 use Rattle.run_acts.specs.Room.{bare_seats}
@@ -33,10 +33,10 @@ use Rattle.recorder_with_cards.proofs.Start.{if-err}
 use Rattle.recorder_with_cards.proofs.Read.{may-of, unit-tells, image-of, at-image, kept-early, learned}
 use Rattle.recorder_with_cards.specs.Noting.{NotesWaking, read_outcome, read_run}
 use Rattle.recorder_with_cards.proofs.WakeNoted.{as-read}
-use Rattle.run_keeping.proofs.Later.{later-same}
+use Rattle.run_minutes.proofs.Later.{later-same}
 use Rattle.run_outcome.proofs.Broken.{broke-found, broke-then}
 use Rattle.run_acts.proofs.Uncut.{uncut-broke, cut-broke}
-use Rattle.run_ringed.specs.Ringed.{notes_in}
+use Rattle.run_note_record.specs.Ringed.{notes_in}
 use Rattle.run_acts.specs.Truths.{truths_of, marked}
 use Rattle.run_acts.proofs.AllStay.{all-of}
 use Rattle.run_course.specs.Moments.{and_break}
@@ -46,19 +46,19 @@ use Rattle.recorder_with_cards.proofs.RingsHeld.{ringed-cut, ringed-lit}
 use Rattle.recorder_with_cards.proofs.CardsHeld.{in-carded_cut, in-carded_lit}
 use Rattle.recorder_with_cards.proofs.ActsCards.{cards-on}
 use Rattle.recorder_with_cards.proofs.WakesCards.{learned-cards}
-use Rattle.run_keeping.specs.Later.{failed_tears, AreCalm}
-use Rattle.run_keeping.proofs.Calm.{calm-more, calm-none, calm-then, found-tears}
+use Rattle.run_minutes.specs.Later.{failed_tears, AreCalm}
+use Rattle.run_minutes.proofs.Calm.{calm-more, calm-none, calm-then, found-tears}
 use Rattle.run_acts.specs.Stays.{AllStay}
 use Rattle.run_outcome.specs.Broken.{BreaksDown}
 use Rattle.run_acts.specs.Evented.{CutEvented, RunEvented}
-use Rattle.run_keeping.specs.Books.{HaveTime}
+use Rattle.run_minutes.specs.Books.{HaveTime}
 use Rattle.run_outcome.specs.declared.outcome.TheConstants.{MOST_OWED}
-use Rattle.unit_course.specs.Followed.{MayPower}
-use Rattle.run_recorded.specs.Origin.{Origin}
+use Rattle.run_unit_course.specs.Followed.{MayPower}
+use Rattle.run_promise.specs.Origin.{Origin}
 use Rattle.recorder_with_cards.specs.Carded.{RunCarded}
 use Rattle.trace_model.specs.Trace.{TraceSecond}
-use Rattle.run_evented.specs.Evented.{limit_in}
-use Rattle.run_keeping.specs.Keeping.{with_lines}
+use Rattle.run_note_record.specs.Evented.{limit_in}
+use Rattle.run_minutes.specs.Keeping.{with_lines}
 use Rattle.recorder_with_cards.proofs.resuming.found.Given.{Over}
 use Rattle.recorder_with_cards.proofs.resuming.found.Goals.{After-cut, After-from_residual, After-resume}
 use Rattle.recorder_with_cards.proofs.resuming.found.Goals as goal

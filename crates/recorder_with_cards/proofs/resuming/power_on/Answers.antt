@@ -3,30 +3,30 @@ use Rattle.tach_media.specs.Medium.{State, IsCoherent}
 use Rattle.log_model.specs.declared.lines.Break.{Break}
 use Rattle.unit_model.specs.Decoding.{first_bad_place}
 use Rattle.safety_model.specs.Safe.{Devices, breakdowns_of}
-use Rattle.run_rule.specs.Between.{devices}
+use Rattle.run_promise.specs.Between.{devices}
 use Rattle.run_outcome.specs.Lines.{Listed, cut_at}
 use Rattle.run_outcome.specs.declared.outcome.Outcome.{Outcome}
 use Rattle.log_model.specs.Log.{RunLog}
 use Rattle.run_course.specs.Moments.{and_break}
-use Rattle.run_within.specs.Powering.{IsNotRead}
-use Rattle.run_within.proofs.Calls.{not-read}
-use Rattle.run_within.proofs.Reading.{reading-fails}
+use Rattle.run_record.specs.Powering.{IsNotRead}
+use Rattle.run_record.proofs.Calls.{not-read}
+use Rattle.run_record.proofs.Reading.{reading-fails}
 use Rattle.run_acts.specs.Power.{is_lit, cut_run, has_power}
 use Rattle.run_acts.specs.Recording.{log_of, values_of, RunCut, IsNow, RunRecorded}
-use Rattle.run_within.specs.Recorded.{progress, Recorded}
-use Rattle.run_evented.proofs.Dark.{power-on_broken}
-use Rattle.run_evented.proofs.Seconds.{events-stay}
+use Rattle.run_record.specs.Recorded.{progress, Recorded}
+use Rattle.run_note_record.proofs.Dark.{power-on_broken}
+use Rattle.run_note_record.proofs.Seconds.{events-stay}
 use Rattle.recorder_with_cards.proofs.ActsEvented.{in-evented_cut}
 use Rattle.recorder_with_cards.proofs.WokenEvented.{cut-woken}
 use Rattle.log_model.specs.Course.{went}
 use Rattle.unit_model.specs.Image.{odometer_at}
-use Rattle.run_ringed.specs.SoFar.{RingedBehind}
-use Rattle.run_ringed.specs.Stored.{Stores, StoresOff}
-use Rattle.run_ringed.proofs.Bases.{stays-stored}
+use Rattle.run_note_record.specs.RingsSoFar.{RingedBehind}
+use Rattle.run_note_record.specs.Stored.{Stores, StoresOff}
+use Rattle.run_note_record.proofs.Bases.{stays-stored}
 use Rattle.recorder_with_cards.proofs.StoredCalls.{read-stays}
 use Rattle.recorder_with_cards.proofs.WokenStored.{unread-stored}
-use Rattle.run_ringed.specs.Steps.{spans_cut}
-use Rattle.run_ringed.proofs.Waking.{behind-stays}
+use Rattle.run_note_record.specs.Steps.{spans_cut}
+use Rattle.run_note_record.proofs.RingsWaking.{behind-stays}
 use Rattle.run_acts.specs.RunRinged.{seats_of, with_cut, InSecondRinged, RunRinged}
 use Rattle.run_acts.specs.RunCards.{CardsBehind}
 use Rattle.recorder_with_cards.proofs.WokenRinged.{places-beside, read-leaves, comes-of, unpowered-ringed, cut-ringed}
@@ -37,8 +37,8 @@ use Rattle.run_acts.specs.Going.{IsAt}
 use Rattle.run_acts.proofs.Standing.{cut-at}
 use Rattle.tach_media.proofs.Runs.{on_ok, ok_gives}
 use Rattle.recorder_with_cards.proofs.WakeNoted.{read-says, read-noted, read-then}
-use Rattle.run_keeping.proofs.Later.{state-revived, later-then, later-of-unit}
-use Rattle.run_ringed.specs.Ringed.{notes_in}
+use Rattle.run_minutes.proofs.Later.{state-revived, later-then, later-of-unit}
+use Rattle.run_note_record.specs.Ringed.{notes_in}
 use Rattle.run_acts.proofs.Comings.{leaves-more}
 use Rattle.run_acts.specs.Truths.{truths_of, marked}
 use Rattle.run_acts.proofs.AllStay.{all-unit}
@@ -46,18 +46,18 @@ use Rattle.run_outcome.proofs.Broken.{broke-none, broke-once, broke-then}
 use Rattle.recorder_with_cards.proofs.RingsHeld.{ringed-cut}
 use Rattle.recorder_with_cards.proofs.CardsHeld.{in-carded_cut}
 use Rattle.recorder_with_cards.proofs.WakesCards.{unit-alone, unpowered-cards}
-use Rattle.run_keeping.proofs.Calm.{calm-of-unit, calm-then, calm-more}
-use Rattle.run_keeping.specs.Later.{AreCalm, AreLater}
+use Rattle.run_minutes.proofs.Calm.{calm-of-unit, calm-then, calm-more}
+use Rattle.run_minutes.specs.Later.{AreCalm, AreLater}
 use Rattle.run_course.specs.Followed.{Comes}
 use Rattle.run_acts.specs.Evented.{CutEvented, RunEvented}
-use Rattle.run_recorded.specs.Beside.{HaveLeftMore}
+use Rattle.run_promise.specs.Beside.{HaveLeftMore}
 use Rattle.run_acts.specs.declared.run.Power.TheVariants.{Lit}
-use Rattle.unit_course.specs.Followed.{MayPower}
-use Rattle.run_recorded.specs.Origin.{Origin}
-use Rattle.side_model.specs.Odometer.{SpanFrom}
+use Rattle.run_unit_course.specs.Followed.{MayPower}
+use Rattle.run_promise.specs.Origin.{Origin}
+use Rattle.note_model.specs.Odometer.{SpanFrom}
 use Rattle.trace_model.specs.Trace.{TraceSecond}
 use Rattle.recorder_with_cards.proofs.ActsRecorded.{cut-in}
-use Rattle.run_keeping.specs.Keeping.{with_lines}
+use Rattle.run_minutes.specs.Keeping.{with_lines}
 use Rattle.recorder_with_cards.proofs.resuming.power_on.Given.{Over}
 use Rattle.recorder_with_cards.proofs.resuming.power_on.Goals.{After-cut, After-open_unit}
 use Rattle.recorder_with_cards.proofs.resuming.power_on.Goals as goal

@@ -3,12 +3,12 @@ use Rattle.std.specs.Prelude.{is_err, IfSome}
 use Rattle.tach_media.specs.Medium.{HasCause, State}
 use Rattle.tach_media.proofs.Runs.{on_ok, ok_gives, cause_after}
 use Rattle.activity_codec.specs.declared.values.Slot.TheVariants.{Driver, CoDriver}
-use Rattle.unit_journal.specs.Image.{Agrees}
-use Rattle.unit_journal.specs.declared.notes.Notes.{Notes}
+use Rattle.unit_minutes.specs.Image.{Agrees}
+use Rattle.unit_minutes.specs.declared.notes.Notes.{Notes}
 use Rattle.run_crew.specs.declared.cabin.Cabin.{Cabin}
 use Rattle.run_crew.specs.Cards.{session_of}
-use Rattle.run_keeping.specs.declared.keeper.Keeper.{Keeper}
-use Rattle.run_keeping.specs.Keeping.{UnitReady}
+use Rattle.run_minutes.specs.declared.keeper.Keeper.{Keeper}
+use Rattle.run_minutes.specs.Keeping.{UnitReady}
 use Rattle.run_acts.specs.declared.run.Run.{Run}
 use Rattle.run_acts.specs.Going.{IsHeld, IsLit}
 use Rattle.run_acts.specs.Room.{falls_of, bare_count, waiting, Takes, bare_seats}
@@ -17,12 +17,12 @@ use Rattle.recorder_with_cards.specs.Accepting.{IsBare}
 use Rattle.recorder_with_cards.proofs.Begun.{begun-none, dark-bare}
 use Rattle.run_outcome.specs.declared.outcome.Outcome.{Outcome}
 use Rattle.recorder_with_cards.proofs.Taken.{takes-then, takes-breaks, awake-takes, takes-nothing, anew-more}
-use Rattle.slot_machine.specs.Calls.{card_in}
+use Rattle.card_slots.specs.Calls.{card_in}
 use Rattle.log_model.specs.Log.{In, RunLog}
-use Rattle.slot_machine.specs.declared.seats.Seat.{Seat}
-use Rattle.run_rule.specs.Between.{devices}
-use Rattle.run_keeping.proofs.DecidedBooked.{time-before}
-use Rattle.run_within.specs.Recorded.{Values, progress, Recorded}
+use Rattle.card_slots.specs.declared.seats.Seat.{Seat}
+use Rattle.run_promise.specs.Between.{devices}
+use Rattle.run_minutes.proofs.DecidedBooked.{time-before}
+use Rattle.run_record.specs.Recorded.{Values, progress, Recorded}
 use Rattle.run_acts.specs.declared.run.Power.{Power}
 use Rattle.run_acts.specs.Recording.{GoesOnOrCut, GoesOnOrFails, log_of, IsOrigin, values_of, ComesPower, RunWithin, RunFails}
 use Rattle.run_acts.proofs.NoteRecorded.{goes-plain}
@@ -30,32 +30,32 @@ use Rattle.recorder_with_cards.specs.Judged.{moment_in}
 use Rattle.recorder_with_cards.proofs.Resumed.{RunWaking, waiting_in, at-once, wholes-of, kept-of, same-devices, awake, awake-is, awake-stands, unmended, unmended-read, unmended-stands, within-of, driver-judged, codriver-judged, codriver-on, comes-waking, IsReadAgain}
 use Rattle.recorder_with_cards.specs.Woken.{EventsWoken, RingsWoken}
 use Rattle.log_model.specs.Course.{Told, went, second_told, Visit}
-use Rattle.run_within.specs.Waking.{both_slots}
-use Rattle.run_ringed.specs.SoFar.{RingedBehind}
-use Rattle.run_ringed.specs.Stored.{StandsOn, StoresOff}
-use Rattle.run_ringed.proofs.Bases.{stays-stored}
-use Rattle.side_model.specs.Odometer.{SpanFrom}
+use Rattle.run_record.specs.Waking.{both_slots}
+use Rattle.run_note_record.specs.RingsSoFar.{RingedBehind}
+use Rattle.run_note_record.specs.Stored.{StandsOn, StoresOff}
+use Rattle.run_note_record.proofs.Bases.{stays-stored}
+use Rattle.note_model.specs.Odometer.{SpanFrom}
 use Rattle.run_course.proofs.Logs.{found_log}
 use Rattle.unit_model.specs.Image.{odometer_at}
 use Rattle.unit_rule.specs.Odometer.{odometer_after}
-use Rattle.run_ringed.specs.Steps.{nobody, spans_cut}
-use Rattle.run_ringed.proofs.Waking.{behind-stays}
+use Rattle.run_note_record.specs.Steps.{nobody, spans_cut}
+use Rattle.run_note_record.proofs.RingsWaking.{behind-stays}
 use Rattle.run_acts.specs.Ringing.{seating_of}
 use Rattle.run_acts.specs.RunRinged.{RingsWithin, RingsGoOn, with_cut}
 use Rattle.recorder_with_cards.proofs.WokenRinged.{WakesRinged, in-both, places-beside, mend-leaves, unpowered-ringed, wakes-ringed, driver-ringed, codriver-ringed, woken-rings, spans-before, goes-odometer}
 use Rattle.recorder_with_cards.proofs.WokenStored.{unmended-stored}
 use Rattle.recorder_with_cards.proofs.StoredCalls.{mend-stays}
 use Rattle.recorder_with_cards.proofs.WokenEvented.{WakesEvented, unmended-evented, wakes-evented, driver-evented, codriver-evented, anew-limit, woken-fails, woken-on, woken-ends, none-woken, gap-woken, here-empty, begun-watched, gap-memory, none-told, some-told}
-use Rattle.unit_course.specs.Lines.{cut_at}
-use Rattle.unit_course.specs.Followed.{Lost, Supply, MayPower}
+use Rattle.run_unit_course.specs.Lines.{cut_at}
+use Rattle.run_unit_course.specs.Followed.{Lost, Supply, MayPower}
 use Rattle.run_course.specs.Moments.{and_break}
 use Rattle.run_course.specs.Followed.{Progress, Followed}
 use Rattle.unit_memory.specs.declared.memory.UnitFacts.{UnitFacts}
-use Rattle.run_recorded.specs.Seconds.{found_again}
-use Rattle.run_within.specs.Within.{Beginning}
+use Rattle.run_promise.specs.Seconds.{found_again}
+use Rattle.run_record.specs.Within.{Beginning}
 use Rattle.minute_model.specs.Span.{ungiven_of}
-use Rattle.run_evented.specs.Evented.{limit_in, Evented, NotesNothing}
-use Rattle.run_evented.specs.Noting.{Waking}
+use Rattle.run_note_record.specs.Evented.{limit_in, Evented, NotesNothing}
+use Rattle.run_note_record.specs.Noting.{Waking}
 use Rattle.run_acts.specs.Evented.{EventsGoOn}
 use Rattle.event_model.specs.Spans.{gap_of}
 use Rattle.run_acts.specs.NotedEvents.{NotesEvents}
@@ -63,32 +63,32 @@ use Rattle.run_acts.proofs.NotedEvents.{same-noted, then-noted}
 use Rattle.run_acts.specs.Acting.{now_moment}
 use Rattle.recorder_with_cards.specs.Noting.{Unmended, AtDriver, AtCoDriver, NoneBefore, AtGap, JudgesDriver, JudgesBoth}
 use Rattle.recorder_with_cards.proofs.WakeNoted.{says, mended-noted, driver-these, both-these, is-none, is-some}
-use Rattle.run_keeping.proofs.Later.{state-by, later-then, later-of-unit}
+use Rattle.run_minutes.proofs.Later.{state-by, later-then, later-of-unit}
 use Rattle.run_acts.proofs.Uncut.{gap-uncut}
 use Rattle.recorder_with_cards.proofs.Uncut.{anew-uncut}
 use Rattle.event_model.specs.declared.entries.Span.{Span}
-use Rattle.run_evented.specs.SoFar.{AreBare, EventedNow, ComesInTurn}
-use Rattle.run_ringed.proofs.SoFar.{left-itself}
+use Rattle.run_note_record.specs.EventsSoFar.{AreBare, EventedNow, ComesInTurn}
+use Rattle.run_note_record.proofs.SoFar.{left-itself}
 use Rattle.run_acts.specs.Noting.{NoGap, AreGapEvents}
 use Rattle.run_acts.specs.RunCards.{vehicle_in, CardsBehind, CardsWaking}
 use Rattle.recorder_with_cards.specs.CardsWoken.{CardsWoken}
 use Rattle.recorder_with_cards.proofs.GapEvented.{gap_events as gap_list}
 use Rattle.recorder_with_cards.proofs.GapShown.{some-list, none-list, gap-shown, none-noted, none-fails, woken-all}
 use Rattle.recorder_with_cards.proofs.WakesCards.{WakesOn, unit-alone, unpowered-cards, wakes-cards, driver-woken, codriver-woken}
-use Rattle.run_keeping.proofs.Calm.{calm-of-unit, calm-then}
+use Rattle.run_minutes.proofs.Calm.{calm-of-unit, calm-then}
 use Rattle.trace_model.specs.declared.Card.{Card}
 use Rattle.trace_model.specs.Trace.{TraceSecond}
 use Rattle.safety_model.specs.Safe.{Devices}
-use Rattle.run_keeping.specs.Books.{HaveTime}
-use Rattle.run_keeping.specs.Later.{AreLater, AreCalm}
+use Rattle.run_minutes.specs.Books.{HaveTime}
+use Rattle.run_minutes.specs.Later.{AreLater, AreCalm}
 use Rattle.run_outcome.specs.Broken.{failed_cuts}
 use Rattle.run_outcome.specs.declared.outcome.TheConstants.{MOST_OWED}
-use Rattle.run_recorded.specs.Origin.{Origin, rule_of, start_at, first_of}
-use Rattle.run_recorded.specs.Beside.{HaveLeftMore}
-use Rattle.run_within.specs.Powering.{read_values}
+use Rattle.run_promise.specs.Origin.{Origin, rule_of, start_at, first_of}
+use Rattle.run_promise.specs.Beside.{HaveLeftMore}
+use Rattle.run_record.specs.Powering.{read_values}
 use Rattle.run_acts.specs.Stays.{AllStay}
 use Rattle.run_acts.specs.Truths.{truths_of, marked}
-use Rattle.run_ringed.specs.Ringed.{Seating, notes_in}
+use Rattle.run_note_record.specs.Ringed.{Seating, notes_in}
 use Rattle.run_acts.specs.declared.run.Power.TheVariants.{Lit}
 use Rattle.unit_notes.specs.declared.unit_event.UnitEvent.{UnitEvent}
 use Rattle.recorder_with_cards.specs.Waking.{TakesUp}

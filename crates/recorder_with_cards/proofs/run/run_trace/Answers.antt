@@ -1,8 +1,8 @@
-use Rattle.std.proofs.Common.{rules, ◌≡◌, ◌∙◌, inl, inr, ℕ, ◌+◌, ◌-◌, ◌<◌, ◌≤◌, true, false, None, List, [], length, take, drop, refl, ap, sym, subst, arith}
+use Rattle.std.proofs.Common.{rules, ◌≡◌, ◌∙◌, inl, inr, ℕ, ◌+◌, ◌-◌, ◌<◌, ◌≤◌, true, false, None, List, [], length, take, drop, refl, ap, sym, subst, arith, All}
 use Rattle.std.proofs.lemmas.List.{take_all}
 use Rattle.trace_model.specs.declared.Item.{Item}
-use Rattle.trace_model.specs.Trace.{TraceSecond, seconds_of, number_after}
-use Rattle.run_acts.specs.Going.{largest_number}
+use Rattle.trace_model.specs.Trace.{TraceSecond, seconds_of, number_after, item_seconds, total_seconds}
+use Rattle.run_acts.specs.Going.{largest_number, CardAt, IsFoundLater}
 use Rattle.tach_media.specs.Medium.{IsCoherent}
 use Rattle.log_model.specs.declared.lines.Mark.{Mark}
 use Rattle.log_model.specs.declared.lines.Break.{Break}
@@ -11,38 +11,33 @@ use Rattle.log_model.specs.declared.lines.Refused.{Refused}
 use Rattle.run_outcome.specs.Lines.{Listed}
 use Rattle.safety_model.specs.Safe.{Devices, card_of}
 use Rattle.safety_model.specs.Recording.{card_image}
-use Rattle.std.proofs.Common.{All}
 use Rattle.run_crew.specs.Cards.{known_of as known_in}
-use Rattle.run_opening.specs.Begun.{known_of, IsReady}
-use Rattle.run_opening.specs.Begun.{IsRefusedBy as IsRefusedAs}
+use Rattle.run_opening.specs.Begun.{known_of, IsReady, IsRefusedBy as IsRefusedAs}
 use Rattle.run_opening.specs.Cards.{IsFoundOn}
 use Rattle.recorder_with_cards.specs.Carded.{RunCarded}
 use Rattle.recorder_with_cards.specs.Ends.{opened_with, origin_of}
 use Rattle.recorder_with_cards.specs.Recorded.{actions_in}
-use Rattle.recorder_with_cards.specs.Items.{between}
+use Rattle.recorder_with_cards.specs.Items.{between, insertions_in}
 use Rattle.recorder_with_cards.proofs.Waiting.{Waits, waits-none, waits-more, seconds-none, seconds-more, total-parts}
 use Rattle.recorder_with_cards.proofs.Promised.{both, more-devices, chip_of, begins-with, promised, may-record, is-found, starts-carded}
 use Rattle.std.specs.Prelude.{IfErr}
 use Rattle.std.proofs.lemmas.Grind.{common_steps}
-use Rattle.trace_model.specs.Trace.{item_seconds, total_seconds}
 use Rattle.run_opening.specs.Opening.{IsRefused}
-use Rattle.run_rule.specs.Between.{devices}
-use Rattle.run_keeping.specs.declared.keeper.Keeper.{Keeper}
+use Rattle.run_promise.specs.Between.{devices}
+use Rattle.run_minutes.specs.declared.keeper.Keeper.{Keeper}
 use Rattle.run_outcome.specs.Room.{offs, off_count, insertions}
 use Rattle.run_outcome.proofs.Items.{seconds-here, offs-here}
 use Rattle.run_acts.specs.Power.{is_lit}
 use Rattle.minute_model.specs.Span.{ungiven_of}
-use Rattle.run_acts.specs.Going.{CardAt, IsFoundLater}
 use Rattle.run_acts.specs.Room.{cuts_from, HasRoom}
-use Rattle.recorder_with_cards.specs.Items.{insertions_in}
 use Rattle.recorder_with_cards.proofs.Rooms.{room-less}
 use Rattle.recorder_with_cards.proofs.Items.{each-at, insertions-left, waiting-most, room-behind}
 use Rattle.recorder_with_cards.proofs.Start.{if-err, none-yet, no-falls, no-seats, room-start}
-use Rattle.run_keeping.proofs.Later.{later-then}
+use Rattle.run_minutes.proofs.Later.{later-then}
 use Rattle.recorder_with_cards.proofs.Later.{state-as-it-was}
 use Rattle.run_acts.specs.Recording.{log_of}
 use Rattle.run_outcome.proofs.Broken.{broke-none, broke-then, broke-all, broke-nothing, calm-all}
-use Rattle.run_keeping.proofs.Calm.{card-rests, calm-then, still-all}
+use Rattle.run_minutes.proofs.Calm.{card-rests, calm-then, still-all}
 use Rattle.recorder_with_cards.proofs.run.run_trace.Goals as goal
 
 -- ---- the opening

@@ -1,7 +1,7 @@
 use Rattle.std.proofs.Common.{◌≡◌, ℕ, ◌+◌, ◌-◌, ◌≤◌, List, length, take, drop}
 use Rattle.trace_model.specs.Trace.{total_seconds, seconds_of}
-use Rattle.run_rule.specs.Between.{IsFound, devices}
-use Rattle.run_keeping.specs.Books.{HaveTime}
+use Rattle.run_promise.specs.Between.{IsFound, devices}
+use Rattle.run_minutes.specs.Books.{HaveTime}
 use Rattle.run_opening.specs.Begun.{found_in}
 use Rattle.run_acts.specs.Going.{largest_number, IsGoing}
 use Rattle.recorder_with_cards.specs.Carded.{RunCarded}
@@ -9,7 +9,7 @@ use Rattle.recorder_with_cards.specs.Ends.{BeginAs, MayRecord, opened_with, orig
 use Rattle.recorder_with_cards.proofs.Waiting.{Waits}
 use Rattle.run_outcome.specs.Room.{offs, insertions}
 use Rattle.run_acts.specs.Room.{HasRoom}
-use Rattle.run_keeping.specs.Later.{AreLater, AreCalm}
+use Rattle.run_minutes.specs.Later.{AreLater, AreCalm}
 use Rattle.run_outcome.specs.Broken.{BreaksDown}
 use Rattle.recorder_with_cards.proofs.run.run_trace.Given as goal
 

@@ -3,49 +3,49 @@ use Rattle.activity_codec.specs.declared.values.Slot.{Slot}
 use Rattle.trace_model.specs.declared.Card.{Card}
 use Rattle.trace_model.specs.declared.Card.TheVariants.{A, B}
 use Rattle.tach_media.proofs.Runs.{on_ok, ok_gives}
-use Rattle.slot_machine.specs.Calls.{seat_in, card_in}
+use Rattle.card_slots.specs.Calls.{seat_in, card_in}
 use Rattle.run_crew.specs.declared.cards.Known.{Known}
 use Rattle.run_crew.specs.Cards.{session_of, known_of}
 use Rattle.run_crew.specs.Cabin.{number_of_seat, Stands}
 use Rattle.log_model.specs.declared.lines.Break.{Break}
 use Rattle.run_outcome.specs.Lines.{Listed}
 use Rattle.run_acts.specs.declared.run.Run.{Run}
-use Rattle.run_keeping.specs.declared.keeper.Moment.{Moment}
-use Rattle.run_keeping.proofs.Fates.{no-lines}
+use Rattle.run_minutes.specs.declared.keeper.Moment.{Moment}
+use Rattle.run_minutes.proofs.Fates.{no-lines}
 use Rattle.run_acts.specs.Acting.{now_moment, IsNotedIn, IsNotedOn, falls_by}
 use Rattle.run_acts.proofs.Cabins.{numbered-session}
 use Rattle.std.specs.Prelude.{is_err, OnOk, Result}
 use Rattle.run_acts.proofs.Comings.{leaves-more}
 use Rattle.run_acts.proofs.NoteRecorded.{noted-some, some-leaves}
-use Rattle.run_rule.specs.Between.{devices}
+use Rattle.run_promise.specs.Between.{devices}
 use Rattle.run_acts.specs.Noting.{fall_events, IsNoteRecorded, NotesFall}
 use Rattle.run_acts.proofs.NotedEvents.{same-noted, noted-any}
 use Rattle.run_rings.proofs.Same.{rings-left}
-use Rattle.run_keeping.proofs.Later.{state-by, later-same}
-use Rattle.card_records.specs.declared.card_event.CardEvent.{CardEvent}
+use Rattle.run_minutes.proofs.Later.{state-by, later-same}
+use Rattle.card_files.specs.declared.card_event.CardEvent.{CardEvent}
 use Rattle.safety_model.specs.Safe.{card_of, Devices}
-use Rattle.run_notes.specs.Entries.{card_entry}
+use Rattle.run_events.specs.Entries.{card_entry}
 use Rattle.run_acts.specs.CardNotes.{NotesOn, LeavesPlaces, on_seat, LeavePlaces, NotesOnCards}
 use Rattle.run_acts.proofs.CardNotes.{both-cards, seat-is, seat-other, seat-none, on-seat, on-as, on-other, bare-seat}
 use Rattle.run_acts.proofs.CardPlaces.{places-self}
-use Rattle.run_keeping.proofs.Calm.{calm-same}
+use Rattle.run_minutes.proofs.Calm.{calm-same}
 use Rattle.run_acts.proofs.OneCard.{OneCard, unit-is, later-by, calm-by, known-noted, only-noted, more-noted, room-noted, calm-noted, held-noted, going-noted, none-there, on_a, on_b}
-use Rattle.run_keeping.specs.Later.{AreCalm, AreLater}
-use Rattle.run_keeping.specs.Keeping.{CardReady, HasItsRow, UnitReady}
+use Rattle.run_minutes.specs.Later.{AreCalm, AreLater}
+use Rattle.run_minutes.specs.Keeping.{CardReady, HasItsRow, UnitReady}
 use Rattle.card_layout.specs.declared.command.CardState.{CardState}
 use Rattle.run_crew.specs.declared.cards.Cards.{Cards}
 use Rattle.tach_media.specs.declared.fault.Failed.{Failed}
 use Rattle.tach_media.specs.Medium.{HasBroken, HasCause, LeavesOnly, State}
 use Rattle.log_model.specs.Log.{In}
-use Rattle.device_steps.specs.CardNotes.{IsNote}
+use Rattle.device_calls.specs.CardNotes.{IsNote}
 use Rattle.unit_model.specs.Image.{IsUnit}
 use Rattle.card_session.specs.Sessions.{IsValue}
 use Rattle.unit_notes.specs.Journal.{LeavesJournal}
 use Rattle.run_acts.specs.ActsEvented.{NoteLeaves}
 use Rattle.run_acts.specs.NotedEvents.{NotesEvents}
-use Rattle.slot_machine.specs.declared.seats.Seat.{Seat}
-use Rattle.run_told.specs.Told.{arranged}
-use Rattle.joint_rule.specs.Views.{other}
+use Rattle.card_slots.specs.declared.seats.Seat.{Seat}
+use Rattle.run_devices.specs.Told.{arranged}
+use Rattle.device_rule.specs.Views.{other}
 use Rattle.run_rings.specs.Same.{LeavesRings}
 use Rattle.run_acts.proofs.gap.note_in.Given.{Over}
 use Rattle.run_acts.proofs.gap.note_in.Goals.{In-Some-number_in, After-note_on, After-note_on-in-B}

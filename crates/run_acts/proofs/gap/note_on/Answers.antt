@@ -1,35 +1,31 @@
 use Rattle.std.proofs.Common.{◌≡◌, ◌∙◌, inl, ℕ, Bool, true, false, Option, Some, None, refl, ap, sym, subst}
 use Rattle.std.specs.Prelude.{not, Ok, is_err, IfSome, [], ◌∷◌, ◌/◌, ◌≤◌}
-use Rattle.tach_media.specs.Medium.{HasCause}
-use Rattle.tach_media.specs.Medium.{LeavesOnly}
+use Rattle.tach_media.specs.Medium.{HasCause, LeavesOnly}
 use Rattle.tach_media.proofs.Runs.{weaken, ok_gives}
 use Rattle.run_crew.specs.declared.cards.Known.{Known}
 use Rattle.run_crew.specs.declared.cards.Cards.{Cards}
 use Rattle.run_crew.specs.declared.cabin.Cabin.{Cabin}
 use Rattle.run_crew.specs.Cards.{known_of, session_of, with_session}
 use Rattle.run_crew.specs.Cabin.{Stands, torn_out, crew_of}
-use Rattle.run_keeping.specs.declared.keeper.Keeper.{Keeper}
-use Rattle.run_keeping.specs.declared.keeper.Moment.{Moment}
-use Rattle.run_keeping.specs.Keeping.{CardReady, HasItsRow, tear_of, with_lines}
-use Rattle.run_keeping.proofs.Sessions.{number-set, row-set, torn-stands}
-use Rattle.run_keeping.proofs.Units.{has-row}
-use Rattle.run_keeping.proofs.CardBooked.{no-session, none-there}
-use Rattle.run_keeping.proofs.Fates.{no-lines}
+use Rattle.run_minutes.specs.declared.keeper.Keeper.{Keeper}
+use Rattle.run_minutes.specs.declared.keeper.Moment.{Moment}
+use Rattle.run_minutes.specs.Keeping.{CardReady, HasItsRow, tear_of, with_lines, fault_of}
+use Rattle.run_minutes.proofs.Sessions.{number-set, row-set, torn-stands}
+use Rattle.run_minutes.proofs.Units.{has-row}
+use Rattle.run_minutes.proofs.CardBooked.{no-session, none-there, session-set}
+use Rattle.run_minutes.proofs.Fates.{no-lines}
 use Rattle.run_acts.proofs.Apart.{not-both, session-back, torn-apart, noted-sizes, ready-again, session-works, fell-broken, well-broken}
 use Rattle.event_model.specs.declared.kinds.TheConstants.{CARD_FAULT}
 use Rattle.unit_memory.specs.declared.format.Identity.{Identity}
 use Rattle.unit_notes.specs.Noting.{IsEventNoted, IsNotingEvent}
-use Rattle.run_notes.specs.Entries.{entry_of}
-use Rattle.run_rule.specs.Between.{devices}
-use Rattle.run_keeping.specs.Keeping.{fault_of}
+use Rattle.run_events.specs.Entries.{entry_of, card_entry}
+use Rattle.run_promise.specs.Between.{devices}
 use Rattle.run_acts.proofs.NotedEvents.{one-noted, same-noted, noted-any}
 use Rattle.run_rings.proofs.Same.{rings-left, rings-moments, table-outside}
-use Rattle.card_records.specs.declared.card_event.CardEvent.{CardEvent}
-use Rattle.card_records.specs.Noting as on
+use Rattle.card_files.specs.declared.card_event.CardEvent.{CardEvent}
+use Rattle.card_files.specs.Noting as on
 use Rattle.run_crew.specs.declared.cards.Accepted.{Accepted}
-use Rattle.run_keeping.proofs.CardBooked.{session-set}
-use Rattle.run_notes.specs.Entries.{card_entry}
-use Rattle.run_entering.specs.CardEvents.{NotesOnCard}
+use Rattle.run_insertion.specs.CardEvents.{NotesOnCard}
 use Rattle.run_acts.specs.CardNotes.{NotesOn}
 use Rattle.run_acts.proofs.CardNotes.{plain-gap, entry-is, noted-well, noted-cut, on-session}
 use Rattle.run_acts.proofs.CardPlaces.{event-leaves}

@@ -2,14 +2,14 @@ use Rattle.std.proofs.Common.{rules, ◌≡◌, ◌∙◌, ℕ, Bool, true, fals
 use Rattle.trace_model.specs.declared.Card.TheVariants.{A, B}
 use Rattle.tach_media.proofs.Runs.{on_ok, ok_gives, cause_after}
 use Rattle.minute_model.specs.Span.{ungiven_of}
-use Rattle.slot_machine.specs.Calls.{seat_in, card_in, logged}
+use Rattle.card_slots.specs.Calls.{seat_in, card_in, logged}
 use Rattle.run_crew.specs.Cards.{session_of, known_of}
 use Rattle.run_crew.specs.Cabin.{number_of_seat, Stands}
 use Rattle.log_model.specs.declared.lines.Break.{Break}
 use Rattle.run_outcome.specs.Lines.{Listed}
-use Rattle.run_keeping.specs.Keeping.{HasLeftMore, with_lines, CardReady, HasItsRow, UnitReady}
+use Rattle.run_minutes.specs.Keeping.{HasLeftMore, with_lines, CardReady, HasItsRow, UnitReady}
 use Rattle.run_acts.specs.declared.run.Run.{Run}
-use Rattle.run_entering.proofs.Noted.{noted-ready, noted-row}
+use Rattle.run_insertion.proofs.Noted.{noted-ready, noted-row}
 use Rattle.run_acts.specs.Acting.{noted_run, IsNotedOn, falls_by}
 use Rattle.run_acts.proofs.Cabins.{numbered-session}
 use Rattle.std.specs.Prelude.{is_err, suc, IfSome, List, [], ◌∷◌, ◌++◌, OnOk, Result}
@@ -21,10 +21,10 @@ use Rattle.trace_model.specs.Trace.{TraceSecond}
 use Rattle.log_model.specs.Log.{In}
 use Rattle.log_model.specs.Slots.{refusal, other_slot}
 use Rattle.safety_model.specs.Safe.{Devices, card_of}
-use Rattle.run_rule.specs.Between.{devices}
+use Rattle.run_promise.specs.Between.{devices}
 use Rattle.run_outcome.specs.declared.outcome.Outcome.{Outcome}
-use Rattle.run_recorded.specs.Origin.{Origin}
-use Rattle.run_within.specs.Within.{Beginning}
+use Rattle.run_promise.specs.Origin.{Origin}
+use Rattle.run_record.specs.Within.{Beginning}
 use Rattle.run_acts.specs.Recording.{RunWithin, RunGoesOn, GoesOnOrFails, IsNow, log_of, values_of, ComesPower}
 use Rattle.run_acts.proofs.Comings.{leaves-more, place-more}
 use Rattle.run_acts.proofs.NoteRecorded.{noted-some, place-told, unit-recorded, unit-evented, some-evented}
@@ -38,31 +38,31 @@ use Rattle.run_acts.proofs.ActsNoted.{says-of, quiet-any, adding-nothing, no-pla
 use Rattle.tacho_types.specs.declared.card_number.FullCardNumber.{FullCardNumber}
 use Rattle.tach_media.specs.Medium.{State, LeavesOnly, HasBroken, HasCause}
 use Rattle.unit_notes.specs.Entries.{unit_place_bytes}
-use Rattle.slot_machine.specs.declared.seats.Seat.{Seat}
+use Rattle.card_slots.specs.declared.seats.Seat.{Seat}
 use Rattle.run_crew.specs.declared.cards.Cards.{Cards}
 use Rattle.run_rings.proofs.Same.{rings-left}
 use Rattle.run_acts.specs.Ringing.{WritesPlace}
 use Rattle.run_acts.proofs.Ringing.{place-broken, place-then}
-use Rattle.run_keeping.proofs.Later.{state-by, later-same, later-then, later-of-unit}
-use Rattle.run_evented.specs.Noting.{Acting}
-use Rattle.run_evented.specs.Bringing.{NotFound}
-use Rattle.run_evented.specs.SoFar.{EventedNow, MayFollow}
+use Rattle.run_minutes.proofs.Later.{state-by, later-same, later-then, later-of-unit}
+use Rattle.run_note_record.specs.Noting.{Acting}
+use Rattle.run_note_record.specs.Bringing.{NotFound}
+use Rattle.run_note_record.specs.EventsSoFar.{EventedNow, MayFollow}
 use Rattle.run_acts.specs.Evented.{EventsGoOn}
 use Rattle.run_acts.proofs.FallEvented.{left-over, none-yet}
 use Rattle.run_crew.specs.declared.cards.Accepted.{Accepted}
-use Rattle.device_steps.specs.CardNotes.{IsNote}
+use Rattle.device_calls.specs.CardNotes.{IsNote}
 use Rattle.run_acts.proofs.RingedPlace.{IsThere, who-enters, place-goes}
 use Rattle.run_acts.specs.CardNotes.{NotesOn, NotesOnCards}
 use Rattle.run_acts.proofs.CardNotes.{on-none, both-cards}
 use Rattle.run_acts.proofs.CardActs.{place-cards}
 use Rattle.run_acts.specs.CardWrites.{MayTakePlace, PlaceOn}
 use Rattle.tacho_types.specs.declared.places.PlaceEntry.{PlaceEntry}
-use Rattle.run_keeping.specs.declared.keeper.Moment.{Moment}
+use Rattle.run_minutes.specs.declared.keeper.Moment.{Moment}
 use Rattle.run_acts.proofs.CardPlaces.{PlaceCall, call-unbegun, call-made}
 use Rattle.run_acts.proofs.CardWrites.{place-unit, place-bare, place-any, seat-bare}
-use Rattle.run_keeping.proofs.Calm.{calm-of-unit, calm-same, calm-then}
+use Rattle.run_minutes.proofs.Calm.{calm-of-unit, calm-same, calm-then}
 use Rattle.run_acts.proofs.OneCard.{OneCard, unit-is, card-is, later-by, calm-by, keeps-by, apart-by, notes-by, known-noted, only-noted, more-noted, room-noted, calm-noted, held-noted, going-noted, none-there, on_a, on_b}
-use Rattle.run_keeping.specs.Later.{AreCalm, AreLater}
+use Rattle.run_minutes.specs.Later.{AreCalm, AreLater}
 use Rattle.run_acts.specs.Devices.{AreLeftMore}
 use Rattle.card_layout.specs.declared.command.CardState.{CardState}
 use Rattle.run_acts.specs.RunCards.{CardsPlace}
@@ -71,7 +71,7 @@ use Rattle.unit_model.specs.Image.{IsUnit}
 use Rattle.card_session.specs.Sessions.{IsValue}
 use Rattle.unit_notes.specs.Journal.{LeavesJournal}
 use Rattle.run_acts.specs.RunRinged.{RingsPlace}
-use Rattle.run_told.specs.Told.{arranged}
+use Rattle.run_devices.specs.Told.{arranged}
 use Rattle.run_rings.specs.Same.{LeavesRings}
 use Rattle.run_acts.proofs.placing.note_place.Given.{Over}
 use Rattle.run_acts.proofs.placing.note_place.Goals.{In_ok-note_place, After-note_place_in, After-note_place_in-in-B}

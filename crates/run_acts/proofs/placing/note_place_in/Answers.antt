@@ -7,22 +7,21 @@ use Rattle.run_crew.specs.declared.cards.Cards.{Cards}
 use Rattle.run_crew.specs.declared.cabin.Cabin.{Cabin}
 use Rattle.run_crew.specs.Cards.{known_of, session_of, with_session}
 use Rattle.run_crew.specs.Cabin.{Stands, crew_of, torn_out}
-use Rattle.run_keeping.specs.declared.keeper.Keeper.{Keeper}
-use Rattle.run_keeping.specs.Keeping.{CardReady, HasItsRow, fault_of}
-use Rattle.run_keeping.proofs.Sessions.{number-set, row-set, torn-stands}
-use Rattle.run_keeping.proofs.Units.{has-row}
-use Rattle.run_keeping.proofs.CardBooked.{no-session, none-there}
-use Rattle.run_keeping.proofs.Fates.{no-lines}
+use Rattle.run_minutes.specs.declared.keeper.Keeper.{Keeper}
+use Rattle.run_minutes.specs.Keeping.{CardReady, HasItsRow, fault_of}
+use Rattle.run_minutes.proofs.Sessions.{number-set, row-set, torn-stands}
+use Rattle.run_minutes.proofs.Units.{has-row}
+use Rattle.run_minutes.proofs.CardBooked.{no-session, none-there, session-set}
+use Rattle.run_minutes.proofs.Fates.{no-lines}
 use Rattle.run_acts.proofs.Apart.{not-both, session-back, torn-apart, noted-sizes, ready-again, session-works, fell-broken, well-broken}
 use Rattle.event_model.specs.declared.kinds.TheConstants.{CARD_FAULT}
-use Rattle.run_notes.specs.Entries.{entry_of}
-use Rattle.run_rule.specs.Between.{devices}
+use Rattle.run_events.specs.Entries.{entry_of}
+use Rattle.run_promise.specs.Between.{devices}
 use Rattle.run_acts.proofs.NotedEvents.{one-noted, same-noted, noted-any}
 use Rattle.unit_notes.specs.Noting.{IsNotingEvent}
 use Rattle.run_rings.proofs.Same.{rings-left, rings-moments, table-outside}
 use Rattle.run_acts.specs.CardNotes.{NotesOn}
 use Rattle.run_acts.proofs.CardNotes.{on-session, place-noted}
-use Rattle.run_keeping.proofs.CardBooked.{session-set}
 use Rattle.run_acts.specs.CardWrites.{PlaceOn}
 use Rattle.run_acts.proofs.CardWrites.{place-well, place-fell, place-on}
 use Rattle.run_acts.proofs.CardPlaces.{may-take}

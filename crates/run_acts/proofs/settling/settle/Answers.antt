@@ -2,7 +2,7 @@ use Rattle.std.proofs.Common.{suc, ◌≡◌, ◌∙◌, ℕ, ◌/◌, length, r
 use Rattle.std.specs.Prelude.{is_err}
 use Rattle.tach_media.proofs.Runs.{on_ok, ok_gives}
 use Rattle.minute_model.specs.Span.{ungiven_of, settled}
-use Rattle.run_keeping.specs.Minutes.{AreKept, Told, kept_after}
+use Rattle.run_minutes.specs.Minutes.{AreKept, Told, kept_after}
 use Rattle.run_acts.specs.declared.run.Run.{Run}
 use Rattle.run_acts.specs.declared.run.Power.{Power}
 use Rattle.run_acts.specs.Room.{waiting}
@@ -17,7 +17,7 @@ use Rattle.run_acts.proofs.Comings.{leaves-more}
 use Rattle.run_acts.proofs.SettledRecorded.{settling-so, booked}
 use Rattle.run_acts.proofs.SettledEvented.{settling-events}
 use Rattle.safety_model.specs.Safe.{Devices}
-use Rattle.run_rule.specs.Between.{devices}
+use Rattle.run_promise.specs.Between.{devices}
 use Rattle.run_acts.proofs.CardStays.{timed-still}
 use Rattle.run_acts.proofs.CardPlaces.{timed-places}
 use Rattle.run_acts.proofs.Due.{Decides}

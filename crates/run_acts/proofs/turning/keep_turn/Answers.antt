@@ -2,11 +2,11 @@ use Rattle.std.proofs.Common.{rules, ◌≡◌, ◌∙◌, inl, inr, Bool, true,
 use Rattle.std.specs.Prelude.{is_err, not}
 use Rattle.tach_media.proofs.Runs.{on_ok, cause_after}
 use Rattle.run_crew.specs.declared.cards.Crew.{Crew}
-use Rattle.run_notes.specs.Noting.{IsFed, IsWatched}
+use Rattle.run_events.specs.Noting.{IsFed, IsWatched}
 use Rattle.run_acts.specs.declared.run.Run.{Run}
-use Rattle.run_entering.proofs.Noted.{noted-ready, noted-row}
-use Rattle.run_rule.specs.Between.{devices}
-use Rattle.run_keeping.specs.Minutes.{Reach}
+use Rattle.run_insertion.proofs.Noted.{noted-ready, noted-row}
+use Rattle.run_promise.specs.Between.{devices}
+use Rattle.run_minutes.specs.Minutes.{Reach}
 use Rattle.run_acts.specs.Turning.{IsKeptInTurn, told_of}
 use Rattle.run_acts.specs.Booked.{IsTurnReach, BooksTurn}
 use Rattle.run_acts.specs.Devices.{DevicesGoOn}
@@ -14,8 +14,8 @@ use Rattle.run_acts.proofs.GoesOn.{same-left, noted-devices}
 use Rattle.run_acts.specs.Faults.{NotesKeeping}
 use Rattle.run_acts.proofs.TurnBooked.{turn-cut, turn-noted}
 use Rattle.run_acts.proofs.TurnNoted.{keeping-then, keeping-cut}
-use Rattle.run_keeping.proofs.Later.{state-by, later-then, later-of-unit}
-use Rattle.run_keeping.proofs.Calm.{calm-of-unit, calm-then}
+use Rattle.run_minutes.proofs.Later.{state-by, later-then, later-of-unit}
+use Rattle.run_minutes.proofs.Calm.{calm-of-unit, calm-then}
 use Rattle.run_acts.proofs.turning.keep_turn.Goals as goal
 
 pub returns-clause-kept : goal.returns-clause-kept

@@ -5,15 +5,15 @@ use Rattle.minute_model.specs.Span.{ungiven_of, fed_many}
 use Rattle.log_model.specs.declared.lines.Break.{Break}
 use Rattle.run_outcome.specs.Lines.{Listed, cut_at}
 use Rattle.run_outcome.specs.declared.outcome.Outcome.{Outcome}
-use Rattle.run_keeping.specs.Keeping.{with_lines}
-use Rattle.run_keeping.specs.Minutes.{kept_after}
+use Rattle.run_minutes.specs.Keeping.{with_lines}
+use Rattle.run_minutes.specs.Minutes.{kept_after}
 use Rattle.run_acts.specs.declared.run.Run.{Run}
 use Rattle.run_acts.specs.declared.run.Power.{Power}
 use Rattle.run_acts.specs.declared.run.Power.TheVariants.{Lit, Lost}
 use Rattle.run_acts.specs.Power.{is_lit, passed, cut_run}
 use Rattle.minute_rules.specs.Kept.{Kept as Minutes}
 use Rattle.run_crew.specs.Cabin.{with_power_lost, Stands}
-use Rattle.run_keeping.proofs.Counts.{lines-length}
+use Rattle.run_minutes.proofs.Counts.{lines-length}
 use Rattle.run_acts.specs.Going.{StandSomehow, IsGoing, IsLit}
 use Rattle.run_acts.specs.Room.{falls_of, cuts_within, waiting}
 use Rattle.run_acts.proofs.Kept.{given-ended, given-rows, seats-less, owing-sum}
@@ -21,9 +21,9 @@ use Rattle.run_acts.proofs.Torn.{cut-falls}
 use Rattle.run_acts.proofs.Turned.{turn-end, turn-most, turn-decides, turned-held, turned-cut, turned-lit}
 use Rattle.run_acts.proofs.Room.{Spends, room-lit, room-lost}
 use Rattle.run_acts.proofs.Uncut.{turn-uncut, uncut-broke, cut-broke}
-use Rattle.run_rule.specs.Between.{devices}
+use Rattle.run_promise.specs.Between.{devices}
 use Rattle.run_acts.proofs.TurnMany.{turn-events}
-use Rattle.run_keeping.proofs.Calm.{calm-more}
+use Rattle.run_minutes.proofs.Calm.{calm-more}
 use Rattle.trace_model.specs.declared.Card.{Card}
 use Rattle.run_acts.proofs.Due.{Decides}
 use Rattle.safety_model.specs.Safe.{Devices}
@@ -31,7 +31,7 @@ use Rattle.run_acts.specs.Evented.{EventsLitTurn}
 use Rattle.run_acts.specs.Booked.{IsBookedTurn}
 use Rattle.run_acts.specs.Turning.{IsLitTurn, cut_breaks, cut_where}
 use Rattle.run_acts.specs.Faults.{NotesTurn}
-use Rattle.run_keeping.specs.declared.keeper.Keeper.{Keeper}
+use Rattle.run_minutes.specs.declared.keeper.Keeper.{Keeper}
 use Rattle.minute_model.specs.declared.Minute.{Minute}
 use Rattle.run_acts.proofs.turning.lit_turn.Given.{Over}
 use Rattle.run_acts.proofs.turning.lit_turn.Goals.{After-as_slice, After-is_err, After-cut}

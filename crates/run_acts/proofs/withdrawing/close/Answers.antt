@@ -15,30 +15,30 @@ use Rattle.run_crew.specs.declared.cards.Cards.{Cards}
 use Rattle.run_crew.specs.declared.cabin.Cabin.{Cabin}
 use Rattle.run_crew.specs.Cards.{known_of, session_of, with_session}
 use Rattle.run_crew.specs.Cabin.{torn_out, crew_of}
-use Rattle.run_keeping.specs.declared.keeper.Keeper.{Keeper}
-use Rattle.run_keeping.specs.Keeping.{CardReady, HasItsRow, fault_of}
-use Rattle.run_keeping.proofs.Sessions.{number-set, row-set}
-use Rattle.run_keeping.proofs.Units.{has-row, row-beside}
-use Rattle.run_entering.proofs.Noted.{noted-ready, noted-row}
-use Rattle.run_keeping.proofs.CardDeeds.{closed-alone}
+use Rattle.run_minutes.specs.declared.keeper.Keeper.{Keeper}
+use Rattle.run_minutes.specs.Keeping.{CardReady, HasItsRow, fault_of}
+use Rattle.run_minutes.proofs.Sessions.{number-set, row-set}
+use Rattle.run_minutes.proofs.Units.{has-row, row-beside}
+use Rattle.run_insertion.proofs.Noted.{noted-ready, noted-row}
+use Rattle.run_minutes.proofs.CardDeeds.{closed-alone}
 use Rattle.run_acts.specs.Stays.{ClosesOnCard}
 use Rattle.run_acts.specs.Acting.{Fell, IsClosingOf, Bare, Closed, IsClosed}
 use Rattle.run_acts.proofs.Cabins.{session-known, twice-ready}
 use Rattle.event_model.specs.declared.kinds.TheConstants.{CARD_FAULT}
-use Rattle.run_notes.specs.Entries.{entry_of}
-use Rattle.run_keeping.proofs.CardBooked.{none-there, no-session}
-use Rattle.run_keeping.proofs.Fates.{no-lines}
+use Rattle.run_events.specs.Entries.{entry_of}
+use Rattle.run_minutes.proofs.CardBooked.{none-there, no-session}
+use Rattle.run_minutes.proofs.Fates.{no-lines}
 use Rattle.run_acts.proofs.NotedEvents.{one-noted, same-noted}
 use Rattle.run_acts.proofs.ActsNoted.{quiet-any}
 use Rattle.unit_notes.specs.Noting.{IsNotingEvent}
 use Rattle.run_rings.proofs.Same.{rings-left, rings-moments, table-outside}
 use Rattle.run_acts.specs.Ringing.{ClosesRings}
-use Rattle.run_keeping.proofs.Later.{state-same, state-by}
+use Rattle.run_minutes.proofs.Later.{state-same, state-by}
 use Rattle.run_acts.specs.CardWrites.{ClosesCard}
 use Rattle.run_acts.proofs.CardWrites.{closes-well}
 use Rattle.run_outcome.specs.Lines.{Listed}
 use Rattle.log_model.specs.declared.lines.Break.{Break}
-use Rattle.run_keeping.proofs.Calm.{card-beside, card-fell, card-rests}
+use Rattle.run_minutes.proofs.Calm.{card-beside, card-fell, card-rests}
 use Rattle.run_acts.specs.Power.{with_cabin}
 use Rattle.run_acts.proofs.withdrawing.close.Given.{Over}
 use Rattle.run_acts.proofs.withdrawing.close.Goals.{In_default, In_default-sizes, After-note_withdrawal, After-tear}

@@ -6,7 +6,7 @@ use Rattle.std.specs.Prelude.{is_err}
 use Rattle.tach_media.proofs.Runs.{ok_gives}
 use Rattle.tacho_types.specs.declared.numbers.Odometer.{Odometer}
 use Rattle.message_model.specs.Records.{insertion_ring}
-use Rattle.run_ringed.specs.Ringed.{Seating}
+use Rattle.run_note_record.specs.Ringed.{Seating}
 use Rattle.run_acts.specs.Ringing.{odometer_of, Withdraws}
 use Rattle.run_acts.proofs.Ringing.{withdrawal-gone, withdrawal-noted}
 use Rattle.run_acts.proofs.withdrawing.note_withdrawal.Goals as goal

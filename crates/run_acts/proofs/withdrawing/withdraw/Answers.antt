@@ -8,18 +8,18 @@ use Rattle.minute_model.specs.declared.Minute.{Minute}
 use Rattle.minute_model.specs.Span.{Span, settled, decided_in, ungiven_of}
 use Rattle.minute_rules.specs.Kept.{StandsFor}
 use Rattle.safety_model.specs.Safe.{Devices}
-use Rattle.run_rule.specs.Between.{devices}
+use Rattle.run_promise.specs.Between.{devices}
 use Rattle.log_model.specs.declared.lines.Break.{Break}
-use Rattle.slot_machine.specs.Calls.{seat_in, card_in, logged}
+use Rattle.card_slots.specs.Calls.{seat_in, card_in, logged}
 use Rattle.run_crew.specs.declared.cabin.Cabin.{Cabin}
 use Rattle.run_crew.specs.Cards.{session_of, known_of}
 use Rattle.run_crew.specs.Cabin.{Stands, with_slot_left}
 use Rattle.run_outcome.specs.Lines.{Listed}
 use Rattle.run_outcome.specs.declared.outcome.Outcome.{Outcome}
-use Rattle.run_keeping.specs.declared.keeper.Moment.{Moment}
-use Rattle.run_keeping.specs.Keeping.{HasLeftMore, CardReady, HasItsRow, UnitReady, tears_of}
-use Rattle.run_keeping.specs.Minutes.{Told, Reach, IsReach}
-use Rattle.run_keeping.proofs.Counts.{lines-length}
+use Rattle.run_minutes.specs.declared.keeper.Moment.{Moment}
+use Rattle.run_minutes.specs.Keeping.{HasLeftMore, CardReady, HasItsRow, UnitReady, tears_of}
+use Rattle.run_minutes.specs.Minutes.{Told, Reach, IsReach}
+use Rattle.run_minutes.proofs.Counts.{lines-length}
 use Rattle.run_acts.specs.declared.run.Run.{Run}
 use Rattle.run_acts.specs.Power.{with_cabin}
 use Rattle.run_acts.specs.Going.{IsHeld, IsGoingOn, IsLit}
@@ -35,7 +35,7 @@ use Rattle.run_acts.specs.Recording.{RunFails, GoesOnOrFails, log_of, IsNow, Run
 use Rattle.run_acts.specs.Settling.{RecordsSettling}
 use Rattle.run_acts.proofs.Asked.{withdraws-one}
 use Rattle.run_acts.proofs.WithdrawnRecorded.{acting_at, moment-is, settling-cut, closing-recorded, settled-evented, closing-evented, untorn-then, sat-there, settled-still, settled-places, closed-places, closed-still}
-use Rattle.run_ringed.specs.OnCards.{PlacesStay}
+use Rattle.run_note_record.specs.OnCards.{PlacesStay}
 use Rattle.run_acts.proofs.CardPlaces.{stay-then}
 use Rattle.run_acts.specs.Faults.{NotesSettling}
 use Rattle.run_acts.specs.Noting.{NotesWithdrawing, closed_events, NotesClosing}
@@ -45,9 +45,9 @@ use Rattle.run_rings.proofs.Same.{rings-left}
 use Rattle.run_acts.specs.Ringing.{WithdrawsSo, ClosesRings, ClosesSo}
 use Rattle.run_acts.proofs.Comings.{closes-more}
 use Rattle.run_acts.proofs.Ringing.{settling-leaves, closes-behind}
-use Rattle.run_keeping.proofs.Later.{state-by, later-same, later-then}
+use Rattle.run_minutes.proofs.Later.{state-by, later-same, later-then}
 use Rattle.tach_media.specs.Medium.{State, LeavesOnly, HasBroken, HasCause}
-use Rattle.run_evented.specs.Noting.{Acting}
+use Rattle.run_note_record.specs.Noting.{Acting}
 use Rattle.run_acts.specs.NotedEvents.{NotesEvents}
 use Rattle.run_acts.specs.Evented.{EventsGoOn, EventsSettling}
 use Rattle.activity_codec.specs.declared.values.Activity.{Activity}
@@ -66,24 +66,24 @@ use Rattle.run_acts.proofs.CardStays.{shows-then}
 use Rattle.run_acts.proofs.CardActs.{TellsLines, settled-lines, closed-lines, quiet-goes}
 use Rattle.run_acts.specs.CardWrites.{ShutsBehind, WithdrawsShut, IsShut, ShutsSo}
 use Rattle.run_acts.proofs.CardWrites.{withdrawn-shut}
-use Rattle.run_keeping.proofs.Calm.{calm-same, calm-then}
+use Rattle.run_minutes.proofs.Calm.{calm-same, calm-then}
 use Rattle.trace_model.specs.declared.Action.{Action}
-use Rattle.run_keeping.specs.Later.{AreCalm, AreLater, IsCalm, IsLater}
+use Rattle.run_minutes.specs.Later.{AreCalm, AreLater, IsCalm, IsLater}
 use Rattle.run_acts.specs.Devices.{AreLeftMore}
-use Rattle.run_keeping.specs.Decided.{BooksAll}
+use Rattle.run_minutes.specs.Decided.{BooksAll}
 use Rattle.card_layout.specs.declared.command.CardState.{CardState}
 use Rattle.run_acts.specs.Stays.{ClosesOnCard}
-use Rattle.run_evented.specs.SoFar.{EventedNow}
+use Rattle.run_note_record.specs.EventsSoFar.{EventedNow}
 use Rattle.tach_media.specs.declared.fault.Failed.{Failed}
-use Rattle.run_recorded.specs.Beside.{HaveLeftMore}
-use Rattle.run_keeping.specs.Books.{HaveTime}
+use Rattle.run_promise.specs.Beside.{HaveLeftMore}
+use Rattle.run_minutes.specs.Books.{HaveTime}
 use Rattle.unit_model.specs.Image.{IsUnit}
 use Rattle.unit_notes.specs.Journal.{LeavesJournal}
 use Rattle.run_acts.proofs.OneCard.{OneCard, calm-by, keeps-by, later-by, unit-is, card-is, none-there, on_a, on_b, held-closed, going-closed}
-use Rattle.run_recorded.specs.Origin.{Origin}
-use Rattle.side_model.specs.Odometer.{SpanFrom}
+use Rattle.run_promise.specs.Origin.{Origin}
+use Rattle.note_model.specs.Odometer.{SpanFrom}
 use Rattle.trace_model.specs.Trace.{TraceSecond}
-use Rattle.run_told.specs.Told.{arranged}
+use Rattle.run_devices.specs.Told.{arranged}
 use Rattle.log_model.specs.Slots.{refusal}
 use Rattle.run_rings.specs.Same.{LeavesRings}
 use Rattle.run_acts.proofs.withdrawing.withdraw.Given.{Over}

@@ -3,10 +3,10 @@ use Rattle.tach_media.proofs.Runs.{from_told}
 use Rattle.card_layout.specs.Application.{application_in}
 use Rattle.card_commands.specs.Ports.{IsJudged}
 use Rattle.card_image.specs.Judging.{first_bad_file}
-use Rattle.card_judge.specs.declared.fault.InsertFault.{InsertFault}
-use Rattle.card_judge.specs.declared.looking.CardLook.{CardLook}
-use Rattle.card_judge.specs.Faults.{IfNotValid, has_failed}
-use Rattle.card_judge.specs.Judged.{TellsSizes}
+use Rattle.card_validity.specs.declared.fault.InsertFault.{InsertFault}
+use Rattle.card_validity.specs.declared.looking.CardLook.{CardLook}
+use Rattle.card_validity.specs.Faults.{IfNotValid, has_failed}
+use Rattle.card_validity.specs.Judged.{TellsSizes}
 use Rattle.run_crew.specs.declared.cards.Known.{Known}
 use Rattle.run_opening.specs.Cards.{IsFoundOn}
 use Rattle.run_opening.proofs.Told.{tells-sizes, found-valid, found-invalid}

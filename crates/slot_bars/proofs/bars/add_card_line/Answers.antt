@@ -3,7 +3,7 @@ use Rattle.activity_codec.specs.declared.values.Slot.TheVariants.{Driver}
 use Rattle.view_model.specs.declared.UnitShown.{UnitShown}
 use Rattle.view_model.specs.declared.Viewed.{Viewed}
 use Rattle.view_model.specs.declared.Line.{Line}
-use Rattle.history_view.specs.Histories.{line_minutes}
+use Rattle.file_view.specs.Histories.{line_minutes}
 use Rattle.slot_bars.specs.declared.seen.Seen.{Seen}
 use Rattle.slot_bars.specs.Seeing.{bars_of, slot_seen}
 use Rattle.slot_bars.proofs.Runs.{card_row}

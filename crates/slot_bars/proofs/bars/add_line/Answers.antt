@@ -2,7 +2,7 @@ use Rattle.std.proofs.Common.{◌≡◌, ◌∙◌, ℕ, ◌+◌, ◌-◌, ◌||
 use Rattle.view_model.specs.declared.Viewed.{Viewed}
 use Rattle.view_model.specs.declared.Line.{Line}
 use Rattle.view_text.specs.Exact.{both}
-use Rattle.history_view.specs.Histories.{line_minutes}
+use Rattle.file_view.specs.Histories.{line_minutes}
 use Rattle.slot_bars.specs.declared.seen.Seen.{Seen}
 use Rattle.slot_bars.specs.Seeing.{bars_of, slot_seen, state_in, meets_gap}
 use Rattle.slot_bars.specs.Runs.{is_run, is_plain}

@@ -1,5 +1,5 @@
 use Rattle.std.proofs.Common.{◌≡◌, take, map}
-use Rattle.history_view.specs.Histories.{minutes_on}
+use Rattle.file_view.specs.Histories.{minutes_on}
 use Rattle.slot_bars.specs.Seeing.{bars_of, card_seen}
 use Rattle.slot_bars.proofs.bars.card_bars.Given as goal
 

@@ -3,7 +3,7 @@ use Rattle.std.specs.Prelude.{is_err, ◌<◌}
 use Rattle.std.proofs.lemmas.List.Elements.{All-from_get_or}
 use Rattle.tach_media.specs.Medium.{HasCause}
 use Rattle.tach_media.proofs.Runs.{ok_gives}
-use Rattle.run_rule.specs.Between.{devices}
+use Rattle.run_promise.specs.Between.{devices}
 use Rattle.tacho.specs.Anew.{unit_image}
 use Rattle.tacho.proofs.DemoDevices.{begins-new, ends-anew, time-before, kept-failed, only-failed}
 use Rattle.tacho.proofs.anew.run_anew.Goals as goal

@@ -1,5 +1,5 @@
 use Rattle.std.proofs.Common.{◌≡◌, ◌∙◌, sym, ap, Err}
-use Rattle.trace_text.specs.declared.trace.TraceFault.TheVariants.{BadLine, TooLong}
+use Rattle.trace_text.specs.declared.lines_trace.TraceFault.TheVariants.{BadLine, TooLong}
 use Rattle.tacho.specs.declared.end.Fault.TheVariants as end
 use Rattle.tacho.proofs.EndLaws.{refusal-bad, failure-unprinted, refusal-end, refused}
 use Rattle.tacho.proofs.minutes_command.print_minutes.Goals as goal

@@ -1,4 +1,4 @@
-use Rattle.history_view.specs.CardFiles.{IsBadCardFile}
+use Rattle.file_view.specs.CardFiles.{IsBadCardFile}
 use Rattle.tacho.proofs.Views.{refused-by}
 use Rattle.tacho.proofs.view_command.card_view.Goals as goal
 

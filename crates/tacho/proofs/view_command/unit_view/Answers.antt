@@ -1,4 +1,4 @@
-use Rattle.history_view.specs.UnitFiles.{IsBadUnitFile}
+use Rattle.file_view.specs.UnitFiles.{IsBadUnitFile}
 use Rattle.tacho.proofs.Views.{refused-by}
 use Rattle.tacho.proofs.view_command.unit_view.Goals as goal
 

@@ -4,7 +4,7 @@ use Rattle.link_model.specs.Answers.{answered}
 use Rattle.message_model.specs.Sending.{content_sent}
 use Rattle.unit_memory.proofs.Told.{one_told}
 use Rattle.unit_download.specs.Wires.{of_loader}
-use Rattle.answer_table.specs.Asking.{asks_unit}
+use Rattle.link_frames.specs.Asking.{asks_unit}
 use Rattle.unit_download.proofs.Passing.{still-more}
 use Rattle.unit_download.proofs.Faults.{reply, reply_told, fault_stops, memory_stops}
 use Rattle.unit_download.proofs.exchange.answer_to.Goals as goal

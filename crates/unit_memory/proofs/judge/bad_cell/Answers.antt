@@ -5,8 +5,7 @@ use Rattle.std.proofs.lemmas.List.FromFn.{map-range_with_len_more}
 use Rattle.gated_ring.specs.Ring.{number_at}
 use Rattle.tach_media.proofs.Runs.{reads_then}
 use Rattle.unit_model.specs.Days.{word_minute}
-use Rattle.unit_model.specs.Decoding.{first_failing, cell_check, cell_place}
-use Rattle.unit_model.specs.Decoding.{or_failing}
+use Rattle.unit_model.specs.Decoding.{first_failing, cell_check, cell_place, or_failing}
 use Rattle.unit_model.proofs.Failing.{failing_more}
 use Rattle.unit_memory.proofs.Told.{carried, one_told, three_told}
 use Rattle.unit_memory.proofs.judge.bad_cell.Goals as goal

@@ -4,10 +4,9 @@ use Rattle.gated_ring.specs.Ring.{number_at, pointer}
 use Rattle.tach_media.proofs.Runs.{reads_then, at_image}
 use Rattle.unit_model.specs.declared.layout.TheConstants.{DAYS, DAY_SLOTS, LAST_KEPT}
 use Rattle.unit_model.specs.Image.{last_kept, day_ring}
-use Rattle.unit_model.specs.Decoding.{first_failing, cell_checks, ring_checks}
+use Rattle.unit_model.specs.Decoding.{first_failing, cell_checks, ring_checks, or_else, or_failing}
 use Rattle.unit_memory.specs.Walks.{walk_start, walk_from}
 use Rattle.unit_memory.specs.Judging.{front_by, slots_by, turn_at, walk_round, pointer_passes}
-use Rattle.unit_model.specs.Decoding.{or_else, or_failing}
 use Rattle.unit_memory.proofs.JudgeLaws.{judged_whole}
 use Rattle.unit_memory.proofs.Told.{carried, told_all, err_true, reads_failed}
 use Rattle.unit_memory.proofs.judge.judge_image.Goals as goal

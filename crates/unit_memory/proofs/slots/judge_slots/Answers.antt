@@ -3,11 +3,10 @@ use Rattle.std.specs.List.{range_with_len}
 use Rattle.std.proofs.lemmas.List.{append-nil}
 use Rattle.tach_media.proofs.Runs.{reads_then, both_told}
 use Rattle.unit_model.specs.Image.{slot_date}
-use Rattle.unit_model.specs.Decoding.{Check, first_failing}
+use Rattle.unit_model.specs.Decoding.{Check, first_failing, or_else}
 use Rattle.unit_memory.specs.Walks.{next_walk, walk_from}
 use Rattle.unit_memory.specs.declared.walk.Walk.{Walk}
 use Rattle.unit_memory.specs.Judging.{slots_by, slot_checks_by}
-use Rattle.unit_model.specs.Decoding.{or_else}
 use Rattle.unit_model.proofs.Failing.{failing_append}
 use Rattle.unit_memory.proofs.Walking.{range_more, walk_more}
 use Rattle.unit_memory.proofs.WalkLaws.{latest_over, walk_latest, slots_append}

@@ -3,9 +3,9 @@ use Rattle.std.specs.Prelude.{option_map}
 use Rattle.std.proofs.lemmas.Result.{IfOk-weaker}
 use Rattle.unit_model.specs.Decoding.{Decodes}
 use Rattle.unit_memory.proofs.Told.{one_told, carried}
-use Rattle.unit_journal.proofs.IfAny.{read_same}
-use Rattle.unit_journal.specs.Image.{IsFoundBy}
-use Rattle.unit_journal.specs.Reading.{AreRight}
+use Rattle.unit_minutes.proofs.IfAny.{read_same}
+use Rattle.unit_minutes.specs.Image.{IsFoundBy}
+use Rattle.unit_minutes.specs.Reading.{AreRight}
 use Rattle.link_model.specs.declared.request.Request.{Request}
 use Rattle.message_model.specs.Messages.{message_bytes}
 use Rattle.unit_messages.specs.declared.outline.Plan.{Plan}

@@ -2,9 +2,9 @@ use Rattle.std.proofs.Common.{◌≡◌, ◌∙◌, Option, Some, None, IfSome, 
 use Rattle.std.proofs.lemmas.Result.{IfOk-weaker}
 use Rattle.unit_model.specs.Decoding.{Decodes}
 use Rattle.unit_memory.proofs.Told.{one_told, carried}
-use Rattle.unit_journal.proofs.IfAny.{read_same}
-use Rattle.unit_journal.specs.Image.{IsFoundBy}
-use Rattle.unit_journal.specs.Reading.{AreRight}
+use Rattle.unit_minutes.proofs.IfAny.{read_same}
+use Rattle.unit_minutes.specs.Image.{IsFoundBy}
+use Rattle.unit_minutes.specs.Reading.{AreRight}
 use Rattle.link_model.specs.declared.request.Request.{Request}
 use Rattle.unit_messages.specs.declared.outline.Plan.{Plan}
 use Rattle.unit_messages.specs.Outlines.{Outlines, IsOutlined, asked}

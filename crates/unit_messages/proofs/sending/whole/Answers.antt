@@ -1,8 +1,8 @@
 use Rattle.std.proofs.Common.{◌≡◌, ◌∙◌, ◌*◌, ◌++◌, Some, List, [], ℕ, sym, ap, arith, rules, Bool, false, subst}
 use Rattle.tach_media.proofs.Runs.{both_told}
 use Rattle.unit_memory.proofs.Told.{told_all, carried}
-use Rattle.unit_journal.proofs.IfAny.{read_same}
-use Rattle.unit_journal.specs.Reading.{ReadsIfAny}
+use Rattle.unit_minutes.proofs.IfAny.{read_same}
+use Rattle.unit_minutes.specs.Reading.{ReadsIfAny}
 use Rattle.unit_messages.specs.Outlines.{Outlines, asked, length_of}
 use Rattle.unit_messages.specs.Sent.{IsPiece}
 use Rattle.unit_messages.specs.Faults.{message_failed}

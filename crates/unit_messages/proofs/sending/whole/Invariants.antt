@@ -1,6 +1,6 @@
 use Rattle.std.proofs.Common.{◌≡◌, ◌*◌, Some, List, ℕ, take, false}
 use Rattle.std.specs.Prelude.{IfSome}
-use Rattle.unit_journal.specs.Reading.{ReadsIfAny}
+use Rattle.unit_minutes.specs.Reading.{ReadsIfAny}
 use Rattle.unit_messages.specs.Outlines.{bytes_sent, asked}
 use Rattle.unit_messages.proofs.sending.whole.Given as goal
 

@@ -2,7 +2,7 @@ use Rattle.std.proofs.Common.{◌≡◌, ◌<◌, ℕ, Option, Some, None, IfSom
 use Rattle.tach_media.proofs.Runs.{starts, weaken, at_image, on_ok, ok_gives, settled_none}
 use Rattle.gated_ring.specs.Change.{IsSet}
 use Rattle.event_model.specs.Kinds.{places_of}
-use Rattle.side_model.specs.Tables.{table_of}
+use Rattle.note_model.specs.Tables.{table_of}
 use Rattle.unit_notes.specs.Tables.{place_taken, place_of_day, similar_next, similar_place}
 use Rattle.unit_notes.specs.Noting.{IsEventNoted, IsNotingEvent}
 use Rattle.unit_notes.proofs.Noted.{noting_day, noted_day, noted_none, told_both, told_same}

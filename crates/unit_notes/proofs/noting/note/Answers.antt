@@ -2,7 +2,7 @@ use Rattle.std.proofs.Common.{◌≡◌, ◌<◌, ℕ, Option, Some, None, IfSom
 use Rattle.tach_media.proofs.Runs.{after_reads, weaken, at_image, on_ok, ok_gives, settled_then, if_told}
 use Rattle.gated_ring.specs.Change.{IsReplaced}
 use Rattle.event_model.specs.Kinds.{places_of}
-use Rattle.side_model.specs.Tables.{table_of}
+use Rattle.note_model.specs.Tables.{table_of}
 use Rattle.unit_notes.specs.Tables.{place_taken, place_of_day, similar_next, with_similar}
 use Rattle.unit_notes.specs.Noting.{IsEventNoted}
 use Rattle.unit_notes.proofs.Noted.{noting_place, noted_place, told_both, settled_reads}

@@ -1,6 +1,6 @@
 use Rattle.std.proofs.Common.{◌≡◌, length, ◌∙◌, ap, arith}
 use Rattle.card_layout.specs.Fields.{total_width}
-use Rattle.side_model.specs.Tables.{table_of, widths_of}
+use Rattle.note_model.specs.Tables.{table_of, widths_of}
 use Rattle.unit_notes.proofs.Types.{entry_wide, ring_fits, ring_index, ring_gate, ring_width, entry_place_writable, ring_opens}
 use Rattle.unit_notes.proofs.noting.put_entry.Goals as goal
 

@@ -1,7 +1,7 @@
 use Rattle.std.proofs.Common.{◌≡◌, ◌+◌, ◌-◌, ◌*◌, length, List, [], ◌∷◌, ◌++◌, ℕ, take, drop, sym, ◌∙◌, ap, arith}
 use Rattle.card_layout.specs.Fields.{total_width}
 use Rattle.event_model.specs.declared.entries.Held.{Held}
-use Rattle.side_model.specs.Tables.{widths_of, held_in}
+use Rattle.note_model.specs.Tables.{widths_of, held_in}
 use Rattle.unit_notes.proofs.Choosing.{row_in, held_first, held_more, length-held_first}
 use Rattle.unit_notes.proofs.tables.held_table.Goals as goal
 

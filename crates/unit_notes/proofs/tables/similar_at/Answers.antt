@@ -1,7 +1,7 @@
 use Rattle.std.proofs.Common.{◌<◌, ◌-◌, ◌*◌, ℕ, Option, IfSome, sym, ◌∙◌, ap, subst, refl, arith}
 use Rattle.event_model.specs.Kinds.{places_of}
-use Rattle.side_model.specs.Tables as side
-use Rattle.side_model.specs.Tables.{similar_field}
+use Rattle.note_model.specs.Tables as side
+use Rattle.note_model.specs.Tables.{similar_field}
 use Rattle.unit_notes.specs.Tables.{rows_in}
 use Rattle.unit_notes.proofs.Choosing.{similar_there}
 use Rattle.unit_notes.proofs.tables.similar_at.Goals as goal

@@ -3,8 +3,8 @@ use Rattle.unit_model.specs.declared.layout.TheConstants.{HIGHEST_ODOMETER}
 use Rattle.unit_model.specs.Image.{last_kept}
 use Rattle.log_model.specs.Spans.{spans_of}
 use Rattle.history_model.specs.History.{limit_of}
-use Rattle.unit_course.specs.Legs.{kilometres_of}
-use Rattle.unit_course.proofs.Legs.{legs-whole}
+use Rattle.run_unit_course.specs.Legs.{kilometres_of}
+use Rattle.run_unit_course.proofs.Legs.{legs-whole}
 use Rattle.unit_rule.proofs.laws.a_whole_odometer.Goals as goal
 
 pub returns : goal.returns

@@ -1,6 +1,6 @@
 use Rattle.std.proofs.Common.{◌≡◌, ℕ, List, ap, subst}
 use Rattle.card_model.specs.Days.{Day}
-use Rattle.cyclic_days.specs.Held.{Held, Knows, tail_in}
+use Rattle.card_days.specs.Held.{Held, Knows, tail_in}
 use Rattle.card_session.specs.Sessions.{Session, IsValue}
 use Rattle.card_session.proofs.Told.{gap_part}
 use Rattle.card_session.proofs.session.CardSession.close_gap.Goals as goal

@@ -1,7 +1,7 @@
 use Rattle.std.proofs.Common.{rules, inl, ◌≡◌, ◌+◌, ◌*◌, ℕ, true, List, sym, ◌∙◌, ap, subst, arith}
 use Rattle.std.specs.Prelude.{is_err}
 use Rattle.card_model.specs.Days.{Day}
-use Rattle.cyclic_days.specs.Held.{Held, Knows, tail_in}
+use Rattle.card_days.specs.Held.{Held, Knows, tail_in}
 use Rattle.card_session.specs.Sessions.{Session, IsValue}
 use Rattle.card_session.specs.Parts.{used_session}
 use Rattle.card_session.proofs.OnCard.{may_still}

@@ -1,7 +1,7 @@
 use Rattle.std.proofs.Common.{rules, ◌≡◌, ◌+◌, ◌*◌, true, sym, ◌∙◌, ap, subst, arith}
 use Rattle.std.specs.Prelude.{is_err, ◌≤◌}
 use Rattle.card_model.specs.Image.{StringShape}
-use Rattle.cyclic_days.specs.Plans.{most_drops}
+use Rattle.card_days.specs.Plans.{most_drops}
 use Rattle.card_image.specs.Fields.{day_string}
 use Rattle.card_session.specs.Parts.{with_gap_closed, with_entry_words, with_more}
 use Rattle.card_session.proofs.Composing.{called_then, called_last}

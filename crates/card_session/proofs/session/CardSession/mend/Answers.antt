@@ -2,7 +2,7 @@ use Rattle.std.proofs.Common.{rules, inl, ◌≡◌, ◌/◌, ◌<◌, ◌≤◌
 use Rattle.std.specs.Prelude.{is_err}
 use Rattle.card_layout.specs.declared.files.Application.{Application}
 use Rattle.card_image.specs.Fields.{last_use_of, current_use}
-use Rattle.card_records.specs.declared.vehicle.Vehicle.{Vehicle}
+use Rattle.card_files.specs.declared.vehicle.Vehicle.{Vehicle}
 use Rattle.card_session.specs.declared.words.TheConstants.{LATEST_MINUTE}
 use Rattle.card_session.specs.Sessions.{Session, IsValue}
 use Rattle.card_session.specs.Parts.{DoesPart}

@@ -1,6 +1,6 @@
 use Rattle.std.proofs.Common.{◌≡◌, ℕ, false, Option, None, subst}
 use Rattle.std.specs.Prelude.{◌⊎◌, IfNone}
-use Rattle.card_records.specs.declared.vehicle.Vehicle.{Vehicle}
+use Rattle.card_files.specs.declared.vehicle.Vehicle.{Vehicle}
 use Rattle.card_session.specs.Books.{goes_on_with}
 use Rattle.card_session.proofs.Keeping.{new_use_part}
 use Rattle.card_session.proofs.Told.{not_going}

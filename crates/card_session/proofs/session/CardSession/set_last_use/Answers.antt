@@ -1,8 +1,8 @@
 use Rattle.std.proofs.Common.{rules, inr, ◌≡◌, ℕ, true, false, List, length, option_map, Some, refl, sym, ◌∙◌, ap, subst, arith}
 use Rattle.std.specs.Prelude.{is_err}
 use Rattle.card_layout.specs.declared.files.Application.{Application}
-use Rattle.card_records.specs.declared.vehicle.Vehicle.{Vehicle}
-use Rattle.card_records.specs.Vehicles.{vehicle_of}
+use Rattle.card_files.specs.declared.vehicle.Vehicle.{Vehicle}
+use Rattle.card_files.specs.Vehicles.{vehicle_of}
 use Rattle.tach_media.specs.Medium.{put}
 use Rattle.gated_ring.specs.Ring.{Shape}
 use Rattle.card_image.specs.Fields.{vehicle_ring}

@@ -1,9 +1,9 @@
 use Rattle.std.proofs.Common.{rules, inl, inr, ⊎_elim, ◌≡◌, ◌+◌, ◌*◌, ℕ, true, false, List, Option, None, sym, ◌∙◌, ap, subst, arith}
 use Rattle.std.specs.Prelude.{is_err, IfNone, ◌⊎◌}
-use Rattle.card_records.specs.declared.vehicle.Vehicle.{Vehicle}
+use Rattle.card_files.specs.declared.vehicle.Vehicle.{Vehicle}
 use Rattle.activity_codec.specs.declared.values.Activity.TheVariants.{Rest}
 use Rattle.card_model.specs.Days.{Day}
-use Rattle.cyclic_days.specs.Held.{Held, Knows, tail_in}
+use Rattle.card_days.specs.Held.{Held, Knows, tail_in}
 use Rattle.card_session.specs.Books.{closed}
 use Rattle.card_session.specs.Sessions.{Session, IsValue}
 use Rattle.card_session.specs.Moments.{IsCloseMoment}

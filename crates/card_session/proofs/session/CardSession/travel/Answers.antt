@@ -3,7 +3,7 @@ use Rattle.std.specs.Prelude.{is_err, ◌⊎◌}
 use Rattle.tach_media.proofs.Runs.{ok_gives}
 use Rattle.card_layout.specs.declared.files.Application.{Application}
 use Rattle.card_model.specs.Days.{Day}
-use Rattle.cyclic_days.specs.Held.{Held, Knows, tail_in}
+use Rattle.card_days.specs.Held.{Held, Knows, tail_in}
 use Rattle.card_session.specs.Sessions.{Session, IsValue, MayKeep}
 use Rattle.card_session.proofs.OnCard.{string_in}
 use Rattle.card_session.proofs.OnDays.{distance_part}

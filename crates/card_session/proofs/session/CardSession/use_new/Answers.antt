@@ -5,7 +5,7 @@ use Rattle.gated_ring.specs.Ring.{Shape}
 use Rattle.card_image.specs.Fields.{vehicle_ring}
 use Rattle.card_session.specs.Sessions.{Session, IsValue, MayKeep}
 use Rattle.card_session.specs.Parts.{AnyBook, with_new_use, IsAddingUse}
-use Rattle.card_records.specs.declared.vehicle.Vehicle.{Vehicle}
+use Rattle.card_files.specs.declared.vehicle.Vehicle.{Vehicle}
 use Rattle.card_session.specs.Books.{begun_vehicle, vehicle_counter}
 use Rattle.card_session.proofs.Composing.{failed_part}
 use Rattle.card_session.proofs.Keeping.{new_use_as}

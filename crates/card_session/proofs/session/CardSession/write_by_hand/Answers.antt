@@ -1,6 +1,6 @@
 use Rattle.std.proofs.Common.{◌≡◌, ℕ, List, sym, ◌∙◌, ap, subst}
 use Rattle.card_model.specs.Days.{Day}
-use Rattle.cyclic_days.specs.Held.{Held, Knows, tail_in}
+use Rattle.card_days.specs.Held.{Held, Knows, tail_in}
 use Rattle.card_session.specs.Sessions.{Session, IsValue}
 use Rattle.card_session.proofs.ByHand.{on_part, day_part}
 use Rattle.card_session.proofs.session.CardSession.write_by_hand.Goals as goal

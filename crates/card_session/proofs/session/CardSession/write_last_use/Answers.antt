@@ -2,7 +2,7 @@ use Rattle.std.proofs.Common.{inr, ℕ, List, length, refl, sym, ◌∙◌, ap, 
 use Rattle.std.specs.Prelude.{is_err}
 use Rattle.tach_media.proofs.Runs.{ok_gives}
 use Rattle.card_layout.specs.declared.files.Application.{Application}
-use Rattle.card_records.specs.Vehicles.{vehicle_of}
+use Rattle.card_files.specs.Vehicles.{vehicle_of}
 use Rattle.tach_media.specs.Medium.{put}
 use Rattle.gated_ring.specs.Ring.{Shape}
 use Rattle.card_image.specs.Fields.{vehicle_ring}

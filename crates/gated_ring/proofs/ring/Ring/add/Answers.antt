@@ -1,8 +1,8 @@
 use Rattle.std.proofs.Common.{rules, ◌≡◌, Bool, true, false, refl, sym, ◌∙◌, subst, arith}
 use Rattle.std.specs.Prelude.{is_err}
 use Rattle.tach_media.proofs.Runs.{if_told, where_told, turned_into, settled_now}
-use Rattle.write_plan.specs.Plan.{PutsBy, put_all}
-use Rattle.write_plan.proofs.Plans.{puts_by_unread}
+use Rattle.tach_media.specs.Plan.{PutsBy, put_all}
+use Rattle.tach_media.proofs.Plans.{puts_by_unread}
 use Rattle.gated_ring.specs.Change.{IsAdded}
 use Rattle.gated_ring.specs.Plans.{placing_pieces, adding_pieces}
 use Rattle.gated_ring.proofs.Planned.{placing_some, add_puts, add_writes, add_moments, add_end}

@@ -1,6 +1,6 @@
 use Rattle.std.proofs.Common.{◌≡◌, ◌+◌, length, length-append, ap, ◌∙◌, arith, lit<}
 use Rattle.tach_media.proofs.Ranges.{lies_part}
-use Rattle.write_plan.specs.Plan.{Pieces}
+use Rattle.tach_media.specs.Plan.{Pieces}
 use Rattle.gated_ring.specs.Ring.{Shape, size_of}
 use Rattle.gated_ring.specs.Plans.{placing_pieces}
 use Rattle.gated_ring.proofs.Planned.{placing_some}

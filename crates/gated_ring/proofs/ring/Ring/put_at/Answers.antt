@@ -1,8 +1,7 @@
 use Rattle.std.proofs.Common.{◌∙◌, not, refl, arith}
-use Rattle.std.specs.Prelude.{◌==◌}
-use Rattle.std.specs.Prelude.{is_err}
+use Rattle.std.specs.Prelude.{◌==◌, is_err}
 use Rattle.tach_media.proofs.Runs.{where_told, turned_into, settled_now, on_ok}
-use Rattle.write_plan.specs.Plan.{put_all}
+use Rattle.tach_media.specs.Plan.{put_all}
 use Rattle.gated_ring.specs.Change.{IsReplaced}
 use Rattle.gated_ring.specs.Plans.{exchanging_pieces}
 use Rattle.gated_ring.proofs.Planned.{exchanging_some, put_puts, put_moments, put_end}

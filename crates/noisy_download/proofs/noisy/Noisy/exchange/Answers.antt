@@ -1,9 +1,9 @@
 use Rattle.std.proofs.Common.{◌≡◌, ◌∙◌, ℕ, List, Err, refl, sym, ap, arith}
-use Rattle.unit_journal.proofs.IfAny.{read_same}
+use Rattle.unit_minutes.proofs.IfAny.{read_same}
 use Rattle.unit_memory.proofs.Told.{carried}
 use Rattle.unit_messages.proofs.Calls.{any_then}
-use Rattle.transfer_session.specs.Told.{Knows}
-use Rattle.transfer_session.proofs.IfAny.{same_size}
+use Rattle.link_session.specs.Told.{Knows}
+use Rattle.link_session.proofs.IfAny.{same_size}
 use Rattle.unit_download.specs.declared.fault.DownloadFault.TheVariants.{WriteFault}
 use Rattle.unit_download.proofs.Faults.{fault_is, passed_reads}
 use Rattle.noisy_download.proofs.Happening.{goes_then}

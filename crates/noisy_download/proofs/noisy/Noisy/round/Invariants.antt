@@ -1,6 +1,6 @@
 use Rattle.std.proofs.Common.{◌≤◌, ℕ, List, Option, IfSome, false}
-use Rattle.unit_journal.specs.Reading.{ReadsIfAny}
-use Rattle.transfer_session.specs.Told.{Knows}
+use Rattle.unit_minutes.specs.Reading.{ReadsIfAny}
+use Rattle.link_session.specs.Told.{Knows}
 use Rattle.noisy_download.specs.Listing.{IsUnderway}
 use Rattle.noisy_download.proofs.noisy.Noisy.round.Given as goal
 

@@ -1,7 +1,7 @@
 use Rattle.std.proofs.Common.{◌≡◌, ◌∙◌, ℕ, ◌<◌, ◌+◌, true, List, Some, Err, length, ap, subst, arith}
-use Rattle.downloader.specs.declared.fault.LoadFault.{LoadFault}
-use Rattle.downloader.specs.declared.fault.LoadFault.TheVariants.{WriteFault, Memory}
-use Rattle.downloader.specs.Loading.{Load, with_piece, IsRefused, LeavesSink}
+use Rattle.link_loader.specs.declared.fault.LoadFault.{LoadFault}
+use Rattle.link_loader.specs.declared.fault.LoadFault.TheVariants.{WriteFault, Memory}
+use Rattle.link_loader.specs.Loading.{Load, with_piece, IsRefused, LeavesSink}
 use Rattle.noisy_model.specs.Ends.{LoaderEnd, brought}
 use Rattle.noisy_link.specs.Sides.{asked, TakesPacket, number_left}
 use Rattle.noisy_link.proofs.Bringing.{end_of, is_brought, takes_packet, err_fault}

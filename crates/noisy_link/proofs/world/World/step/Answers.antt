@@ -1,7 +1,7 @@
 use Rattle.std.proofs.Common.{List, refl, subst}
 use Rattle.std.specs.Prelude.{slice_get}
-use Rattle.transfer_session.specs.Told.{SessionView}
-use Rattle.downloader.specs.Loading.{Load}
+use Rattle.link_session.specs.Told.{SessionView}
+use Rattle.link_loader.specs.Loading.{Load}
 use Rattle.noisy_model.specs.declared.packet.Packet.{Packet}
 use Rattle.noisy_model.specs.declared.event.Event.TheVariants.{Send, ToUnit, ToLoader}
 use Rattle.noisy_model.specs.Worlds.{World}

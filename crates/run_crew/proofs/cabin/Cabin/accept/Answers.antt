@@ -1,5 +1,5 @@
 use Rattle.std.proofs.Common.{◌≡◌, ◌∙◌, ℕ, Some, None, inr, ap, subst, sym}
-use Rattle.slot_machine.specs.Kept.{Kept, KnowsNewest, put_in}
+use Rattle.card_slots.specs.Kept.{Kept, KnowsNewest, put_in}
 use Rattle.run_crew.specs.declared.cards.Cards.{Cards}
 use Rattle.run_crew.specs.Cards.{with_session, with_number}
 use Rattle.run_crew.specs.Cabin.{Stands}

@@ -1,6 +1,6 @@
 use Rattle.std.proofs.Common.{◌≡◌, ◌∙◌, None, ap, subst, sym}
 use Rattle.trace_model.specs.declared.Card.TheVariants.{A, B}
-use Rattle.slot_machine.specs.Kept.{Kept, KnowsNewest, cut_off}
+use Rattle.card_slots.specs.Kept.{Kept, KnowsNewest, cut_off}
 use Rattle.run_crew.specs.declared.cards.Cards.{Cards}
 use Rattle.run_crew.specs.Cards.{with_session}
 use Rattle.run_crew.specs.Cabin.{Stands}

@@ -1,5 +1,5 @@
 use Rattle.std.proofs.Common.{◌+◌, None, subst, sym}
-use Rattle.slot_machine.specs.Kept.{Kept, KnowsNewest}
+use Rattle.card_slots.specs.Kept.{Kept, KnowsNewest}
 use Rattle.run_crew.specs.Cabin.{Stands, KnowsEnded}
 use Rattle.run_crew.proofs.Moves.{end-stands}
 use Rattle.run_crew.proofs.Ended.{ended-more}

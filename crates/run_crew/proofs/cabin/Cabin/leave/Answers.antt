@@ -1,5 +1,5 @@
 use Rattle.std.proofs.Common.{Some, subst, sym}
-use Rattle.slot_machine.specs.Kept.{Kept, KnowsNewest}
+use Rattle.card_slots.specs.Kept.{Kept, KnowsNewest}
 use Rattle.run_crew.specs.Cabin.{Stands}
 use Rattle.run_crew.proofs.Moves.{leave-stands}
 use Rattle.run_crew.proofs.cabin.Cabin.leave.Goals as goal

@@ -1,5 +1,5 @@
 use Rattle.std.proofs.Common.{None, subst, sym}
-use Rattle.slot_machine.specs.Kept.{Kept}
+use Rattle.card_slots.specs.Kept.{Kept}
 use Rattle.run_crew.specs.Cabin.{Stands}
 use Rattle.run_crew.proofs.Moves.{new-stands}
 use Rattle.run_crew.proofs.cabin.Cabin.new.Goals as goal

@@ -1,5 +1,5 @@
 use Rattle.std.proofs.Common.{None, inl, subst, sym}
-use Rattle.slot_machine.specs.Kept.{Kept, KnowsNewest}
+use Rattle.card_slots.specs.Kept.{Kept, KnowsNewest}
 use Rattle.run_crew.specs.Cabin.{Stands}
 use Rattle.run_crew.proofs.Moves.{put-stands}
 use Rattle.run_crew.proofs.cabin.Cabin.put_in.Goals as goal

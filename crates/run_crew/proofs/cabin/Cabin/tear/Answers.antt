@@ -1,6 +1,6 @@
 use Rattle.std.proofs.Common.{◌≡◌, ◌∙◌, Option, None, ap, subst, sym}
 use Rattle.activity_codec.specs.declared.values.Slot.{Slot}
-use Rattle.slot_machine.specs.Kept.{Kept, KnowsNewest}
+use Rattle.card_slots.specs.Kept.{Kept, KnowsNewest}
 use Rattle.run_crew.specs.declared.cards.Cards.{Cards}
 use Rattle.run_crew.specs.declared.cabin.Cabin.{Cabin}
 use Rattle.run_crew.specs.Cards.{with_session}

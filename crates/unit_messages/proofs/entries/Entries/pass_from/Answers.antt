@@ -4,7 +4,7 @@ use Rattle.std.specs.List.{range_with_len}
 use Rattle.card_layout.specs.Fields.{joined}
 use Rattle.tach_media.proofs.Runs.{both_told}
 use Rattle.unit_memory.proofs.Told.{one_told, told_all, carried}
-use Rattle.unit_journal.proofs.IfAny.{read_same}
+use Rattle.unit_minutes.proofs.IfAny.{read_same}
 use Rattle.unit_messages.specs.Windows.{passed, IsFull}
 use Rattle.unit_messages.specs.Chosen.{chosen_at, shape_of}
 use Rattle.unit_messages.proofs.Calls.{no_call, any_then, any_failed}

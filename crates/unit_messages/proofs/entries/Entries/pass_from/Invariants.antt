@@ -2,7 +2,7 @@ use Rattle.std.proofs.Common.{◌≡◌, ◌≤◌, ◌-◌, false}
 use Rattle.std.specs.Prelude.{IfSome}
 use Rattle.std.specs.List.{range_with_len}
 use Rattle.card_layout.specs.Fields.{joined}
-use Rattle.unit_journal.specs.Reading.{ReadsIfAny}
+use Rattle.unit_minutes.specs.Reading.{ReadsIfAny}
 use Rattle.unit_messages.specs.Windows.{passed}
 use Rattle.unit_messages.specs.Chosen.{chosen_at, shape_of}
 use Rattle.unit_messages.proofs.entries.Entries.pass_from.Given as goal

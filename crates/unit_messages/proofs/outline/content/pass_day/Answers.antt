@@ -1,7 +1,7 @@
 use Rattle.std.proofs.Common.{◌∙◌, rules}
 use Rattle.std.specs.Prelude.{is_err}
 use Rattle.unit_memory.proofs.Told.{told_all}
-use Rattle.unit_journal.proofs.IfAny.{read_same}
+use Rattle.unit_minutes.proofs.IfAny.{read_same}
 use Rattle.unit_messages.proofs.Calls.{any_then, any_failed}
 use Rattle.unit_messages.proofs.Joints.{at_told}
 use Rattle.unit_messages.proofs.Contents.{day_passed}

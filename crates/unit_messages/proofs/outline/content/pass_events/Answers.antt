@@ -2,7 +2,7 @@ use Rattle.std.proofs.Common.{◌∙◌, ap, rules}
 use Rattle.std.specs.Prelude.{is_err}
 use Rattle.message_model.specs.Sending.{event_table, over_table, fault_table}
 use Rattle.unit_memory.proofs.Told.{told_all}
-use Rattle.unit_journal.proofs.IfAny.{read_same}
+use Rattle.unit_minutes.proofs.IfAny.{read_same}
 use Rattle.unit_messages.specs.Chosen.{shape_of}
 use Rattle.unit_messages.proofs.Calls.{any_then, any_failed}
 use Rattle.unit_messages.proofs.Joints.{at_told}

@@ -2,7 +2,7 @@ use Rattle.std.proofs.Common.{◌≡◌, rules}
 use Rattle.std.specs.Prelude.{is_err}
 use Rattle.card_layout.specs.Images.{bytes_at}
 use Rattle.unit_memory.proofs.Told.{carried}
-use Rattle.unit_journal.proofs.IfAny.{read_same}
+use Rattle.unit_minutes.proofs.IfAny.{read_same}
 use Rattle.unit_messages.specs.Windows.{passed}
 use Rattle.unit_messages.proofs.Calls.{any_then, any_failed}
 use Rattle.unit_messages.proofs.Joints.{told_then}

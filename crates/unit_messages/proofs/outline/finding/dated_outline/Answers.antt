@@ -4,9 +4,9 @@ use Rattle.std.proofs.lemmas.Result.{IfOk-weaker}
 use Rattle.unit_model.specs.declared.layout.TheConstants.{DAY_WORD_LIMIT, HIGHEST_ODOMETER}
 use Rattle.unit_model.specs.Decoding.{Decodes}
 use Rattle.unit_memory.proofs.Told.{told_all, carried}
-use Rattle.unit_journal.proofs.IfAny.{read_same}
-use Rattle.unit_journal.specs.Reading.{AreRight, IsOfDate, IsSlotPlace}
-use Rattle.unit_journal.specs.declared.journal.reading.UnitDay.{UnitDay}
+use Rattle.unit_minutes.proofs.IfAny.{read_same}
+use Rattle.unit_minutes.specs.Reading.{AreRight, IsOfDate, IsSlotPlace}
+use Rattle.unit_minutes.specs.declared.journal.reading.UnitDay.{UnitDay}
 use Rattle.link_model.specs.declared.request.Request.TheVariants.{Day as AskDay}
 use Rattle.unit_messages.specs.Outlines.{IsOutlined, asked}
 use Rattle.unit_messages.proofs.Calls.{any_then}

@@ -2,7 +2,7 @@ use Rattle.std.proofs.Common.{◌∙◌, ap, refl, arith, rules}
 use Rattle.std.specs.Prelude.{is_err}
 use Rattle.unit_model.specs.declared.layout.TheConstants.{INSERTIONS, PLACES}
 use Rattle.unit_memory.proofs.Told.{told_all}
-use Rattle.unit_journal.proofs.IfAny.{read_same}
+use Rattle.unit_minutes.proofs.IfAny.{read_same}
 use Rattle.unit_messages.specs.declared.entries.Entries.{Entries}
 use Rattle.unit_messages.specs.Chosen.{insertions_on, places_on}
 use Rattle.unit_messages.proofs.Calls.{any_then, any_failed}

@@ -2,7 +2,7 @@ use Rattle.std.proofs.Common.{◌∙◌, ap, refl, inr, min, arith, rules}
 use Rattle.std.specs.Prelude.{is_err}
 use Rattle.unit_model.specs.declared.layout.TheConstants.{EVENTS, OVERS, FAULTS}
 use Rattle.unit_memory.proofs.Told.{told_all}
-use Rattle.unit_journal.proofs.IfAny.{read_same}
+use Rattle.unit_minutes.proofs.IfAny.{read_same}
 use Rattle.unit_messages.specs.declared.entries.Entries.{Entries}
 use Rattle.unit_messages.specs.Chosen.{entries_of}
 use Rattle.unit_messages.proofs.Calls.{any_then, any_failed}

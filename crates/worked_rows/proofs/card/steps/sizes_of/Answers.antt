@@ -1,5 +1,5 @@
 use Rattle.std.proofs.Common.{refl}
-use Rattle.device_steps.proofs.SizesRead.{sizes-read}
+use Rattle.device_calls.proofs.SizesRead.{sizes-read}
 use Rattle.worked_rows.proofs.card.steps.sizes_of.Goals as goal
 
 pub returns-clause-told : goal.returns-clause-told

@@ -1,6 +1,6 @@
 use Rattle.std.specs.Prelude.{IfSome}
 use Rattle.unit_model.specs.Image.{IsUnit}
-use Rattle.unit_journal.specs.Image.{Agrees}
+use Rattle.unit_minutes.specs.Image.{Agrees}
 use Rattle.worked_rows.proofs.unit.keeping.keep_all.Given as goal
 
 abbrev pub invariant-loop-kept : goal.invariant-loop-kept

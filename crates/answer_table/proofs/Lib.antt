@@ -1,4 +1,0 @@
-pub mod Pieces
-pub mod Checking
-pub mod Runs
-pub mod Parts

@@ -1,5 +1,0 @@
-use Rattle.std.proofs.Common.{refl}
-use Rattle.answer_table.proofs.laws.a_fresh_line_answers_by_the_table.Goals as goal
-
-pub returns : goal.returns
-returns c = λ messages bytes. refl

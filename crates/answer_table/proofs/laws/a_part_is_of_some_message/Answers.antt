@@ -1,5 +1,0 @@
-use Rattle.answer_table.proofs.Parts.{some_message}
-use Rattle.answer_table.proofs.laws.a_part_is_of_some_message.Goals as goal
-
-pub returns : goal.returns
-returns c = some_message

@@ -1,4 +1,0 @@
-pub mod Steps
-pub mod Asking
-pub mod Sending
-pub mod Running

@@ -1,5 +1,0 @@
-pub mod Vehicles
-pub mod Events
-pub mod CurrentUses
-pub mod Rings
-pub mod Noting

@@ -1,0 +1,24 @@
+-- Each image that a stop may leave of a card, and each that it might have left since the start of a run (profile).
+use Rattle.std.specs.Prelude.{◌≡◌, ℕ, List, filter, nat_le}
+use Rattle.activity_codec.specs.declared.entries.Entry.{Entry}
+use Rattle.tach_media.specs.Medium.{State}
+use Rattle.card_layout.specs.declared.files.Application.{Application}
+use Rattle.card_image.specs.Fields.{session_time}
+use Rattle.card_image.specs.Own.{own_sizes, own_view, KeepsOf}
+use Rattle.card_session.specs.Sessions.{book_of}
+use Rattle.card_string.specs.Since.{all_since, HoldsSince}
+
+-- of the entries that came since the start, those up to a card's end mark are kept with its own, but for what the overwriting took
+abbrev pub KeepsSince : (image : List ℕ) → (brought : List Entry) → List ℕ → Type 0
+KeepsSince image brought x = KeepsOf image (all_since image (filter (λ e. nat_le e.minute (own_view x).mark) brought)) (own_view x).held
+
+-- EACH IMAGE that a stop may leave now stands so, and each that it might have left since this clock kept them.
+pub record EachHolds (app : Application) (image : List ℕ) (brought : List Entry) (next began : ℕ) (card : State) : Type 0 where
+  pub now : (x : List ℕ) → card.may_leave x → (own_sizes x ≡ app) × HoldsSince app image brought next x
+  pub since : (x : List ℕ) → card.left_since began x → (own_sizes x ≡ app) × KeepsSince image brought x
+
+-- a write beside them leaves the sizes, the days with the vehicle entries, and the session time
+pub record LeavesString (app : Application) (x y : List ℕ) : Type 0 where
+  pub sizes : own_sizes y ≡ own_sizes x
+  pub book : book_of app y ≡ book_of app x
+  pub session : session_time app y ≡ session_time app x

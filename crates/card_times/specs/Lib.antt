@@ -1,2 +1,0 @@
-pub mod Times
-pub use Rattle.device_steps.specs.Rule

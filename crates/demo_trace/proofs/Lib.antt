@@ -1,4 +1,0 @@
-pub mod Groups
-pub mod Pushed
-pub mod Formed
-mod Rows

@@ -1,0 +1,76 @@
+use Rattle.std.proofs.Common.{rules, ◌≡◌, subst, arith}
+use Rattle.card_layout.proofs.Sizes.{largest_image}
+use Rattle.device_rule.specs.Views.{other}
+use Rattle.unit_rule.proofs.Marking.{holds-read}
+use Rattle.device_calls.specs.OnCard.{Anything}
+use Rattle.device_calls.proofs.Enters.{unit-read, unit-still, agrees-still, entering-rule, entered-answer}
+use Rattle.card_layout.specs.declared.files.Application.{Application}
+use Rattle.tach_media.specs.Medium.{State, LeavesOnly, lent}
+use Rattle.card_commands.specs.Ports.{port_state}
+use Rattle.card_session.specs.Inserting.{MayInsert}
+use Rattle.device_calls.specs.Entering.{IsEntering, IsInTime}
+use Rattle.device_calls.proofs.Ported.{may_insert_port, port_same, port_leaves, port_enters, port_in_time}
+use Rattle.device_calls.proofs.entering.enter.Goals as goal
+
+pub enter_by-requires-clause-card : goal.enter_by-requires-clause-card
+enter_by-requires-clause-card g c =
+    subst (λ (a : Application). MayInsert a (port_state c.resume-port.result.application (lent c.resume-port.result.chip.ghost_name (g.C.Chip.state c.resume-port.result.chip.now)))) c.resume-port.ensures.sizes (may_insert_port c.resume-port.result.sound)
+
+pub returns-clause-enters : goal.returns-clause-enters
+returns-clause-enters g c =
+    let name = c.resume-port.result.chip.ghost_name in
+    let after = c.enter_by.new.card.chip.ghost_name in
+    let X = g.C.Chip.state c.resume-port.result.chip.now in
+    let Y = g.C.Chip.state c.enter_by.new.card.chip.now in
+    let was : g.C.Chip.state c.resume-port.result.chip.now ≡ g.C.Chip.state c.args.card.now = search rules in
+    let same = port_same c.resume-port.result.application c.enter_by.new.card.application name after X Y c.enter_by.ensures.leaves in
+    let enters = port_enters c.resume-port.result.application c.enter_by.new.card.application name after X Y c.args.app c.args.registration.now c.args.odometer.0 c.args.now.0 (g.M.Medium.state c.args.unit.now) (g.M.Medium.state c.enter_by.new.unit) same
+    c.enter_by.result c.enter_by.ensures.enters in
+    let moved = subst (λ (k : State). IsEntering c.args.app c.args.registration.now c.args.odometer.0 c.args.now.0 (g.M.Medium.state c.args.unit.now) (g.M.Medium.state c.enter_by.new.unit) k (g.C.Chip.state c.enter_by.new.card.chip.now) c.enter_by.result) was enters in
+    search (rules, moved)
+
+pub returns-clause-leaves : goal.returns-clause-leaves
+returns-clause-leaves g c =
+    let name = c.resume-port.result.chip.ghost_name in
+    let after = c.enter_by.new.card.chip.ghost_name in
+    let X = g.C.Chip.state c.resume-port.result.chip.now in
+    let Y = g.C.Chip.state c.enter_by.new.card.chip.now in
+    let was : g.C.Chip.state c.resume-port.result.chip.now ≡ g.C.Chip.state c.args.card.now = search rules in
+    let same = port_same c.resume-port.result.application c.enter_by.new.card.application name after X Y c.enter_by.ensures.leaves in
+    let run = port_leaves c.resume-port.result.application c.enter_by.new.card.application name after X Y same c.enter_by.ensures.leaves in
+    let leaves = subst (λ (s : State). LeavesOnly s (g.C.Chip.state c.enter_by.new.card.chip.now) Anything) was run in
+    search (rules, leaves)
+
+pub returns-clause-holds : goal.returns-clause-holds
+returns-clause-holds g c = λ s due b marks h. holds-read s due b marks h (g.met.M.Medium.coherent c.args.unit.now) c.enter_by.ensures.enters.unit.leaves
+
+pub returns-clause-other : goal.returns-clause-other
+returns-clause-other g c = λ r b z m d rule. unit-read r (other c.args.which) b z m d (g.M.Medium.state c.args.unit.now) (g.M.Medium.state c.enter_by.new.unit) (g.D.Chip.state c.args.others.now) (g.met.M.Medium.coherent c.args.unit.now) c.enter_by.ensures.enters.unit.leaves rule
+
+pub returns-clause-mine : goal.returns-clause-mine
+returns-clause-mine g c = λ r s due b marks h none late tells tells_card asked rule.
+    entering-rule r c.args.which s due b marks c.args.app c.requires.port.good c.args.registration.now c.length_of-bytes.ensures c.args.odometer.0 c.args.now.0 (omega (arith, c.requires.last)) h none late (g.met.M.Medium.coherent c.args.unit.now) (g.met.M.Medium.coherent c.enter_by.new.unit)
+    (g.met.C.Chip.coherent c.args.card.now) (omega (arith, largest_image c.args.app c.requires.port.good, c.requires.port.size)) tells tells_card asked rule c.enter_by.result (returns-clause-enters g c)
+
+pub returns-clause-entered : goal.returns-clause-entered
+returns-clause-entered g c = λ r s due b marks h none late tells tells_card asked rule.
+    entered-answer r c.args.which s due b marks c.args.app c.requires.port.good c.args.registration.now c.length_of-bytes.ensures c.args.odometer.0 c.args.now.0 (omega (arith, c.requires.last)) h none late (g.met.M.Medium.coherent c.args.unit.now) (g.met.M.Medium.coherent c.enter_by.new.unit)
+    (g.met.C.Chip.coherent c.args.card.now) (g.met.C.Chip.coherent _) (omega (arith, largest_image c.args.app c.requires.port.good, c.requires.port.size)) tells tells_card asked rule c.enter_by.result (returns-clause-enters g c)
+
+pub returns-clause-unit : goal.returns-clause-unit
+returns-clause-unit g c = unit-still (g.M.Medium.state c.args.unit.now) (g.M.Medium.state c.enter_by.new.unit) c.enter_by.ensures.enters.unit.leaves c.requires.unit
+
+pub returns-clause-agrees : goal.returns-clause-agrees
+returns-clause-agrees g c = λ well. agrees-still c.args.journal.now _ _ (c.enter_by.ensures.enters.unit.same well) c.requires.agrees
+
+pub returns-clause-in_time : goal.returns-clause-in_time
+returns-clause-in_time g c =
+    let name = c.resume-port.result.chip.ghost_name in
+    let after = c.enter_by.new.card.chip.ghost_name in
+    let X = g.C.Chip.state c.resume-port.result.chip.now in
+    let Y = g.C.Chip.state c.enter_by.new.card.chip.now in
+    let was : g.C.Chip.state c.resume-port.result.chip.now ≡ g.C.Chip.state c.args.card.now = search rules in
+    let same = port_same c.resume-port.result.application c.enter_by.new.card.application name after X Y c.enter_by.ensures.leaves in
+    let in_time = port_in_time c.resume-port.result.application c.enter_by.new.card.application name after X Y c.args.app c.args.registration.now c.args.odometer.0 c.args.now.0 (g.M.Medium.state c.args.unit.now) (g.M.Medium.state c.enter_by.new.unit) same c.enter_by.ensures.in_time in
+    let moved = subst (λ (s : State). IsInTime c.args.app c.args.now.0 s (g.C.Chip.state c.enter_by.new.card.chip.now)) was in_time in
+    search (rules, moved)

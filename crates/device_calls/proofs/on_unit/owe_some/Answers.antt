@@ -1,0 +1,50 @@
+use Rattle.std.proofs.Common.{◌<◌, ◌≤◌, inl, inr, false, [], Option, IfSome, is_err, refl, sym, subst}
+use Rattle.std.specs.Prelude.{option_to_list}
+use Rattle.activity_codec.specs.declared.entries.Entry.{Entry}
+use Rattle.tacho_types.specs.CardNumber.{card_number_bytes}
+use Rattle.unit_owed.specs.Rows.{IsRowAt}
+use Rattle.card_session.proofs.Composing.{idle}
+use Rattle.device_rule.specs.Rules.{IsPresent}
+use Rattle.device_rule.specs.Views.{other}
+use Rattle.device_calls.specs.Rule.{opened, IsKeptUp}
+use Rattle.device_calls.proofs.MinuteSaid.{held_up}
+use Rattle.device_calls.proofs.on_unit.owe_some.Goals as goal
+
+pub returns-in-None-clause-holds : goal.returns-in-None-clause-holds
+returns-in-None-clause-holds g c = λ s due b marks whose h. h
+
+pub returns-in-Some-clause-holds : goal.returns-in-Some-clause-holds
+returns-in-Some-clause-holds g c = c.owe.ensures.holds
+
+pub returns-in-None-clause-mine : goal.returns-in-None-clause-mine
+returns-in-None-clause-mine g c = λ r s due b marks z named h says rule.
+    subst (λ (o : Option Entry). IsKeptUp r c.args.which b z (option_to_list o) [] false (g.M.Medium.state c.args.unit.now) (g.C.Chip.state c.args.mine.now)) (sym c.in-None.is)
+    (held_up r c.args.which b z [] [] (g.M.Medium.state c.args.unit.now) (g.C.Chip.state c.args.mine.now) rule)
+
+pub returns-in-None-clause-other : goal.returns-in-None-clause-other
+returns-in-None-clause-other g c = λ r s due b marks y z m d named h says mine others. held_up r (other c.args.which) b z m d (g.M.Medium.state c.args.unit.now) (g.D.Chip.state c.args.others.now) others
+
+pub returns-in-None-clause-cause : goal.returns-in-None-clause-cause
+returns-in-None-clause-cause g c = inr (refl, idle (g.M.Medium.state c.args.unit.now))
+
+pub returns-in-Some-clause-mine : goal.returns-in-Some-clause-mine
+returns-in-Some-clause-mine g c = λ r s due b marks z named h says rule.
+    let here = subst (λ (o : Option Entry). IfSome o (λ e. (due ≤ e.minute) × (1440 ≤ e.minute) × IsPresent (opened r c.args.which).start z e.minute)) c.in-Some.is says in
+    subst (λ (o : Option Entry). IsKeptUp r c.args.which b z (option_to_list o) [] (is_err c.owe.result) (g.M.Medium.state c.owe.new.unit) (g.C.Chip.state c.args.mine.now)) (sym c.in-Some.is)
+    (c.owe.ensures.mine r s due b marks z named h here.0 here.1 here.2 rule)
+
+pub returns-in-Some-clause-other : goal.returns-in-Some-clause-other
+returns-in-Some-clause-other g c = λ r s due b marks y z m d named h says mine others.
+    let here = subst (λ (o : Option Entry). IfSome o (λ e. (due ≤ e.minute) × (1440 ≤ e.minute))) c.in-Some.is says in
+    c.owe.ensures.other r s due b marks y z m d named h here.0 here.1 mine others
+
+pub returns-in-Some-clause-cause : goal.returns-in-Some-clause-cause
+returns-in-Some-clause-cause g c = inl c.owe.ensures.cause
+
+pub owe-requires-clause-low : goal.owe-requires-clause-low
+owe-requires-clause-low g c =
+    (subst (λ (o : Option Entry). IfSome o (λ e. (c.args.row < 8) × IfSome (g.M.Medium.state c.args.unit.now).image (IsRowAt c.args.row (card_number_bytes c.args.number.now)))) c.in-Some.is c.requires.row).0
+
+pub owe-requires-clause-row : goal.owe-requires-clause-row
+owe-requires-clause-row g c =
+    (subst (λ (o : Option Entry). IfSome o (λ e. (c.args.row < 8) × IfSome (g.M.Medium.state c.args.unit.now).image (IsRowAt c.args.row (card_number_bytes c.args.number.now)))) c.in-Some.is c.requires.row).1

@@ -1,0 +1,119 @@
+-- A minute is kept by the unit and both cards (profile): what is carried from one minute to the next, and what a minute says.
+use Rattle.std.specs.Prelude.{◌≡◌, ◌⊎◌, ℕ, suc, ◌<◌, ◌≤◌, Option, None, IfSome, List, [], ◌∷◌, ◌++◌, option_to_list}
+use Rattle.activity_codec.specs.declared.entries.Entry.{Entry}
+use Rattle.trace_model.specs.declared.Card.{Card}
+use Rattle.run_model.specs.declared.Device.TheVariants.{Unit as Recorder}
+use Rattle.tach_media.specs.Medium.{State}
+use Rattle.card_retention.specs.Expected.{Counted, with_entry}
+use Rattle.card_retention.specs.Shown.{Bound}
+use Rattle.card_session.specs.Sessions.{Session}
+use Rattle.card_session.specs.Overwriting.{BeginsBehind, and_entry}
+use Rattle.card_string.specs.Carried.{IsFresh}
+use Rattle.unit_minutes.specs.declared.kept.KeptMinute.{KeptMinute}
+use Rattle.unit_minutes.specs.Kept.{kept_minute}
+use Rattle.log_model.specs.declared.lines.Mark.{Mark}
+use Rattle.history_model.specs.Minutes.{HistoryMinute, on_card}
+use Rattle.history_model.specs.Book.{Book, kept, broken}
+use Rattle.device_rule.specs.Filling.{seen_by_unit}
+use Rattle.device_rule.specs.Views.{other}
+use Rattle.device_rule.specs.Rules.{Standing, Out, In, Torn, IsPresent}
+use Rattle.unit_rule.specs.Rule.{Started, once_mended, IsCards}
+use Rattle.unit_rule.specs.Marks.{Holds}
+use Rattle.device_calls.specs.Rule.{Both, opened, number_of, CardHolds, CardRests}
+use Rattle.device_calls.specs.OnCard.{IsCarried}
+
+-- What minutes are kept over: how it all began, from where on a minute may come, the history, and the marks.
+pub record Known : Type 0 where
+  pub both : Both
+  pub started : Started
+  pub due : ℕ
+  pub book : Book
+  pub marks : List Mark
+
+-- after a minute that the unit kept, and acknowledged at this clock
+abbrev pub known_after : Known → HistoryMinute → (clock : ℕ) → Known
+known_after k i clock =
+    record {
+      both = k.both;
+      started = k.started;
+      due = suc i.minute;
+      book = kept i k.book;
+      marks = k.marks ++ record { device = Recorder; minute = i.minute; clock = clock } ∷ [];
+    }
+
+-- BETWEEN TWO MINUTES, while the unit has power: nothing is owed to a card that is accepted and in its slot, and each card stands as it
+-- does.
+pub record AreBetween (k : Known) (c d : Card) (number_c number_d : List ℕ) (y z : Standing) (unit first second : State) : Type 0 where
+  pub holds : Holds (once_mended k.started) k.due k.book k.marks unit
+  pub none : k.book.maybe ≡ None
+  pub two : d ≡ other c
+  pub named_first : number_c ≡ number_of k.both c
+  pub named_second : number_d ≡ number_of k.both d
+  pub first_told : IsCards k.started number_c
+  pub second_told : IsCards k.started number_d
+  pub one_rule : CardHolds k.both c k.book y [] [] unit first
+  pub other_rule : CardHolds k.both d k.book z [] [] unit second
+
+-- A minute may come next, and says these entries on the cards: one on a card only where that is present.
+pub record SaysBoth (k : Known) (c d : Card) (i : HistoryMinute) (m : KeptMinute) (e f : Option Entry) (y z : Standing) : Type 0 where
+  pub same : kept_minute m ≡ seen_by_unit i
+  pub late : k.due ≤ i.minute
+  pub first : on_card c i ≡ option_to_list e
+  pub second : on_card d i ≡ option_to_list f
+  pub first_present : IfSome e (λ e. IsPresent (opened k.both c).start y e.minute)
+  pub second_present : IfSome f (λ f. IsPresent (opened k.both d).start z f.minute)
+
+-- The unit has the minute, and these entries of it are owed to the cards.
+pub record AreOwed (k : Known) (c d : Card) (e f : Option Entry) (y z : Standing) (unit first second : State) : Type 0 where
+  pub holds : Holds (once_mended k.started) k.due k.book k.marks unit
+  pub none : k.book.maybe ≡ None
+  pub one_rule : CardHolds k.both c k.book y [] (option_to_list e) unit first
+  pub other_rule : CardHolds k.both d k.book z [] (option_to_list f) unit second
+
+-- all of them where the unit failed, while this is the history
+pub record AreDark (k : Known) (c d : Card) (y z : Standing) (due : ℕ) (b : Book) (unit first second : State) : Type 0 where
+  pub holds : Holds k.started due b k.marks unit
+  pub one_rule : CardRests k.both c b y unit first
+  pub other_rule : CardRests k.both d b z unit second
+
+-- the minute was not begun, or was
+abbrev pub AreCutOff : Known → (c d : Card) → HistoryMinute → (y z : Standing) → (unit first second : State) → Type 0
+AreCutOff k c d i y z unit first second =
+    AreDark k c d y z k.due k.book unit first second ⊎ AreDark k c d y z (suc i.minute) (broken i k.book) unit first second
+
+-- ---- a card that sits in its slot
+
+-- what is carried of its string (card_string, `Goes`)
+pub record Carry : Type 0 where
+  pub slack : Bound
+  pub covered : ℕ
+  pub from : ℕ
+  pub counted : Counted
+  pub all : List Entry
+
+-- with one entry more
+abbrev pub and_kept : Carry → Entry → Carry
+and_kept w e =
+    record {
+      slack = and_entry w.slack e;
+      covered = w.covered;
+      from = suc e.minute;
+      counted = with_entry w.covered w.counted e;
+      all = w.all ++ e ∷ [];
+    }
+
+-- the day of each entry that may come, where it is new, is later than that of the end mark, or none so far is as late
+abbrev pub IsClear : Session → Carry → List ℕ → Type 0
+IsClear t w x = (e : Entry) → t.minute < e.minute → BeginsBehind t.application e x ⊎ IsFresh t.application w.counted w.all x
+
+-- The card is in its slot with this session, and its string is carried so.
+pub record IsSitting (t : Session) (w : Carry) (card : State) : Type 0 where
+  pub from : w.from ≤ suc t.minute
+  pub carried : IfSome card.image (IsCarried t w.slack w.covered w.from w.counted w.all)
+  pub clear : IfSome card.image (IsClear t w)
+
+-- a card that is not in its slot, accepted
+abbrev pub IsNotIn : Standing → Type 0
+IsNotIn Out = Unit {0}
+IsNotIn (In session newest) = ⊥
+IsNotIn (Torn session newest floor) = Unit {0}

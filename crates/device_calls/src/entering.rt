@@ -1,0 +1,259 @@
+//! A card is put into a slot.
+ghost use Rattle.std.specs.Prelude.{◌≡◌, ◌<◌, ◌≤◌, ◌+◌, ◌/◌, ◌^◌, ℕ, length, true, false, None, List, [], IfOk, IfSome, is_some, option_map};
+ghost use Rattle.activity_codec.specs.declared.entries.Entry.{Entry};
+ghost use Rattle.tach_media.specs.Medium.{LeavesOnly};
+ghost use Rattle.tacho_types.specs.CardNumber.{card_number_bytes};
+ghost use Rattle.card_commands.specs.Ports.{IsPort};
+ghost use Rattle.card_layout.specs.Application.{IsApplication};
+ghost use Rattle.card_model.specs.declared.lengths.TheConstants.{DAYS_MOST};
+ghost use Rattle.card_validity.specs.Judged.{TellsSizes, IsLook};
+ghost use Rattle.card_session.specs.declared.words.TheConstants.{LATEST_MINUTE};
+ghost use Rattle.card_session.specs.Inserting.{MayInsert, AreOwed};
+ghost use Rattle.unit_model.specs.Image.{IsUnit};
+ghost use Rattle.unit_owed.specs.Rows.{IsRowFor};
+ghost use Rattle.unit_minutes.specs.Image.{Agrees};
+ghost use Rattle.log_model.specs.declared.lines.Mark.{Mark};
+ghost use Rattle.history_model.specs.Book.{Book};
+ghost use Rattle.device_rule.specs.Rules.{Standing, Out, IsEntered};
+ghost use Rattle.device_rule.specs.Views.{other};
+ghost use Rattle.unit_rule.specs.Rule.{Started};
+ghost use Rattle.unit_rule.specs.Marks.{Holds};
+ghost use Rattle.device_calls.specs.Rule.{Both, opened, card_seen, CardHolds};
+ghost use Rattle.device_calls.specs.OnCard.{Anything};
+ghost use Rattle.device_calls.specs.Entering.{of_card, unit_failed, IsInTime, IsEntering, IsInsertedWith, IsAsked};
+
+use activity_codec::Owed;
+use card_commands::Port;
+use card_validity::{CardLook, InsertFault, look};
+use card_layout::{Application, Fid};
+use card_session::CardSession;
+use tach_media::{Chip, Failed, Medium};
+use tacho_types::{FullCardNumber, Odometer, Registration, TimeReal};
+use trace_model::Card;
+use unit_minutes::Journal;
+
+/// A card that was put in and is accepted: what it told before, the entries that were owed to it, its session, how many of these
+/// entries were put on it, which are the last ones, and which row of the unit is to be its.
+#[derive(Drop)]
+pub struct Entered {
+    pub look: CardLook,
+    pub owed: Owed,
+    pub session: CardSession,
+    pub replayed: u8,
+    /// The row of the unit that is begun for it.
+    pub row: u32,
+}
+
+/// Why a card that was put in is not accepted.
+#[derive(Clone, Copy, Debug, PartialEq, Eq)]
+pub enum NotEntered {
+    /// A call on the unit failed, which is a cut. The card was only read.
+    UnitFailed,
+    /// A call on the card failed, which is a tear.
+    CardFailed,
+    /// The card is not valid: the file that first fails in the order of judging, with the place in it.
+    NotValid { fid: Fid, place: u32 },
+    /// The card is valid, and its stored time is later than now, both in seconds since 1970-01-01.
+    TimeOverlap { stored: u32, now: u32 },
+}
+
+// Why a card is not accepted, as the insertion of a session tells it.
+fn refused_by(fault: InsertFault) -> NotEntered
+    ensures { result ≡ of_card fault }
+{
+    match fault {
+        InsertFault::Failed => NotEntered::CardFailed,
+        InsertFault::NotValid { fid, place } => NotEntered::NotValid { fid, place },
+        InsertFault::TimeOverlap { stored, now } => NotEntered::TimeOverlap { stored, now },
+    }
+}
+
+// A card that told this gets the entries that it is owed, and a session.
+fn insert_by<C: Medium>(
+    card: &mut C,
+    app: &Application,
+    now: TimeReal,
+    registration: &Registration,
+    odometer: Odometer,
+    look: CardLook,
+    owed: Owed,
+    row: u32,
+) -> Result<Entered, NotEntered>
+    requires sizes { IsApplication app.now }
+    requires card { MayInsert app.now (C.state card.old) }
+    requires told { IfSome (C.state card.old).image (TellsSizes app.now) }
+    requires some { 1 ≤ now.0 }
+    requires last { now.0 / 60 < LATEST_MINUTE }
+    requires fits { odometer.0 < 2 ^ 24 }
+    requires owed { AreOwed now.0 owed.items }
+    ensures inserted { IsInsertedWith app.now registration.now odometer.0 now.0 owed.items look (C.state card.old) (C.state card.new) result }
+    ensures row { IfOk result (λ e. e.row ≡ row) }
+    ensures leaves { LeavesOnly (C.state card.old) (C.state card.new) Anything }
+    ensures in_time { IsInTime app.now now.0 (C.state card.old) (C.state card.new) }
+    ensures most { (C.state card.new).clock ≤ (C.state card.old).clock + (DAYS_MOST + 84) }
+{
+    match CardSession::insert(card, app, now, registration, odometer, &owed) {
+        Ok(inserted) => Ok(Entered {
+            look,
+            owed,
+            session: inserted.session,
+            replayed: inserted.replayed,
+            row,
+        }),
+        Err(fault) => Err(refused_by(fault)),
+    }
+}
+
+// The same, once the unit tells which entries these are.
+fn enter_as<M: Medium, C: Medium>(
+    unit: &mut M,
+    journal: &Journal,
+    card: &mut C,
+    app: &Application,
+    now: TimeReal,
+    registration: &Registration,
+    odometer: Odometer,
+    look: CardLook,
+    spared: Option<&FullCardNumber>,
+) -> Result<Entered, NotEntered>
+    requires unit { IsUnit (M.state unit.old) }
+    requires agrees { IfSome (M.state unit.old).image (Agrees journal.now) }
+    requires late { journal.now.kept < now.0 / 60 }
+    requires sizes { IsApplication app.now }
+    requires card { MayInsert app.now (C.state card.old) }
+    requires told { IfSome (C.state card.old).image (TellsSizes app.now) }
+    requires looked { IfSome (C.state card.old).image (λ x. IsLook app.now x look) }
+    requires works { (C.state card.old).works ≡ true }
+    requires last { now.0 / 60 < LATEST_MINUTE }
+    requires fits { odometer.0 < 2 ^ 24 }
+    ensures enters { IsEntering app.now registration.now odometer.0 now.0 (M.state unit.old) (M.state unit.new) (C.state card.old) (C.state card.new) result }
+    ensures row { IfOk result (λ e. IfSome (M.state unit.old).image (IsRowFor e.row (card_number_bytes e.look.number) (option_map (λ s. card_number_bytes s.now) spared.entry))) }
+    ensures low { IfOk result (λ e. e.row < 8) }
+    ensures leaves { LeavesOnly (C.state card.old) (C.state card.new) Anything }
+    ensures in_time { IsInTime app.now now.0 (C.state card.old) (C.state card.new) }
+    ensures most { (C.state card.new).clock ≤ (C.state card.old).clock + (DAYS_MOST + 84) }
+{
+    match journal.ask(unit, &look.number, look.session, look.newest_minute, spared) {
+        Ok(asked) => insert_by(
+            card,
+            app,
+            now,
+            registration,
+            odometer,
+            look,
+            asked.owed,
+            asked.row,
+        ),
+        Err(Failed) => Err(NotEntered::UnitFailed),
+    }
+}
+
+// The same, of a card behind a port, once it is judged.
+fn enter_by<M: Medium, C: Medium>(
+    unit: &mut M,
+    journal: &Journal,
+    card: &mut C,
+    app: &Application,
+    now: TimeReal,
+    registration: &Registration,
+    odometer: Odometer,
+    spared: Option<&FullCardNumber>,
+) -> Result<Entered, NotEntered>
+    requires unit { IsUnit (M.state unit.old) }
+    requires agrees { IfSome (M.state unit.old).image (Agrees journal.now) }
+    requires late { journal.now.kept < now.0 / 60 }
+    requires sizes { IsApplication app.now }
+    requires card { MayInsert app.now (C.state card.old) }
+    requires told { IfSome (C.state card.old).image (TellsSizes app.now) }
+    requires last { now.0 / 60 < LATEST_MINUTE }
+    requires fits { odometer.0 < 2 ^ 24 }
+    ensures enters { IsEntering app.now registration.now odometer.0 now.0 (M.state unit.old) (M.state unit.new) (C.state card.old) (C.state card.new) result }
+    ensures row { IfOk result (λ e. IfSome (M.state unit.old).image (IsRowFor e.row (card_number_bytes e.look.number) (option_map (λ s. card_number_bytes s.now) spared.entry))) }
+    ensures low { IfOk result (λ e. e.row < 8) }
+    ensures leaves { LeavesOnly (C.state card.old) (C.state card.new) Anything }
+    ensures in_time { IsInTime app.now now.0 (C.state card.old) (C.state card.new) }
+    ensures most { (C.state card.new).clock ≤ (C.state card.old).clock + (DAYS_MOST + 84) }
+{
+    match look(card, app) {
+        Ok(look) => enter_as(
+            unit,
+            journal,
+            card,
+            app,
+            now,
+            registration,
+            odometer,
+            look,
+            spared,
+        ),
+        Err(fault) => Err(refused_by(fault)),
+    }
+}
+
+// How many bytes a registration has, which is 15.
+fn length_of(registration: &Registration) -> usize
+    ensures { length registration.now.0 ≡ 15 }
+{
+    let bytes: &[u8] = &registration.0;
+    bytes.len()
+}
+
+/// Puts in a card of these sizes: it is judged, the entries that the unit owes to it are put on it, and a session is opened. The
+/// row of its number is told, while the row of the number that is spared is another's, and not begun yet: that comes behind the note of the
+/// insertion (`begin`).
+///
+/// # Errors
+///
+/// 1. `NotValid` exactly where the card is not valid, and `TimeOverlap` exactly where it is valid and its stored time is later
+///    than now. Nothing was written then.
+/// 2. `UnitFailed` and `CardFailed` where a call on that device failed.
+pub fn enter<M: Medium, C: Chip, D: Chip>(
+    unit: &mut M,
+    journal: &Journal,
+    card: &mut C,
+    others: &D,
+    which: Card,
+    app: Application,
+    now: TimeReal,
+    registration: &Registration,
+    odometer: Odometer,
+    spared: Option<&FullCardNumber>,
+) -> Result<Entered, NotEntered>
+    requires unit { IsUnit (M.state unit.old) }
+    requires agrees { IfSome (M.state unit.old).image (Agrees journal.now) }
+    requires late { journal.now.kept < now.0 / 60 }
+    requires port { IsPort app None (C.card card.old) (C.state card.old) }
+    requires told { IfSome (C.state card.old).image (TellsSizes app) }
+    requires last { now.0 / 60 < LATEST_MINUTE }
+    requires fits { odometer.0 < 2 ^ 24 }
+    ensures enters { IsEntering app registration.now odometer.0 now.0 (M.state unit.old) (M.state unit.new) (C.state card.old) (C.state card.new) result }
+    ensures row { IfOk result (λ e. IfSome (M.state unit.old).image (IsRowFor e.row (card_number_bytes e.look.number) (option_map (λ s. card_number_bytes s.now) spared.entry))) }
+    ensures low { IfOk result (λ e. e.row < 8) }
+    ensures holds { (s : Started) (due : ℕ) (b : Book) (marks : List Mark) → Holds s due b marks (M.state unit.old) → Holds s due b marks (M.state unit.new) }
+    ensures other { (r : Both) (b : Book) (z : Standing) (m d : List Entry) → CardHolds r (other which) b z m d (M.state unit.old) (D.state others.now) → CardHolds r (other which) b z m d (M.state unit.new) (D.state others.now) }
+    ensures mine { (r : Both) (s : Started) (due : ℕ) (b : Book) (marks : List Mark) → Holds s due b marks (M.state unit.old) → b.maybe ≡ None → due ≤ now.0 / 60 → is_some (M.state unit.old).image ≡ true → is_some (C.state card.old).image ≡ true
+        → IfSome (C.state card.old).image (IsAsked r which app) → CardHolds r which b Out [] [] (M.state unit.old) (C.state card.old) → CardHolds r which b Out [] [] (M.state unit.new) (C.state card.new) }
+    ensures entered { (r : Both) (s : Started) (due : ℕ) (b : Book) (marks : List Mark) → Holds s due b marks (M.state unit.old) → b.maybe ≡ None → due ≤ now.0 / 60 → is_some (M.state unit.old).image ≡ true → is_some (C.state card.old).image ≡ true
+        → IfSome (C.state card.old).image (IsAsked r which app) → CardHolds r which b Out [] [] (M.state unit.old) (C.state card.old)
+        → IfOk result (λ e. IsEntered (opened r which).start (opened r which).began now.0 e.session.minute (card_seen (C.state card.new))) }
+    ensures unit { IsUnit (M.state unit.new) }
+    ensures agrees { unit_failed result ≡ false → IfSome (M.state unit.new).image (Agrees journal.now) }
+    ensures leaves { LeavesOnly (C.state card.old) (C.state card.new) Anything }
+    ensures in_time { IsInTime app now.0 (C.state card.old) (C.state card.new) }
+    ensures port { IsPort app None (C.card card.new) (C.state card.new) }
+    ensures long { length registration.now.0 ≡ 15 }
+    ensures most { (C.state card.new).clock ≤ (C.state card.old).clock + (DAYS_MOST + 84) }
+{
+    let _bytes = length_of(registration);
+    let mut port = Port::resume(&mut *card, app);
+    enter_by(
+        unit,
+        journal,
+        &mut port,
+        &app,
+        now,
+        registration,
+        odometer,
+        spared,
+    )
+}

@@ -1,0 +1,49 @@
+//! A card is taken out in order.
+ghost use Rattle.std.specs.Prelude.{◌≡◌, ◌≤◌, ◌<◌, ◌+◌, ℕ, true, None, List, [], OnOk, IfSome, is_some, is_err};
+ghost use Rattle.activity_codec.specs.Activity.{activity_of};
+ghost use Rattle.tach_media.specs.Medium.{HasCause, LeavesOnly, IsSettled, last_count};
+ghost use Rattle.card_commands.specs.Ports.{IsPort};
+ghost use Rattle.card_image.specs.Own.{own_sizes};
+ghost use Rattle.card_session.specs.Sessions.{IsSession};
+ghost use Rattle.card_session.specs.Cards.{IsCardClosed, IsCardClosing};
+ghost use Rattle.log_model.specs.declared.lines.Mark.{Mark};
+ghost use Rattle.history_model.specs.Book.{Book};
+ghost use Rattle.device_rule.specs.Rules.{In, Out};
+ghost use Rattle.unit_rule.specs.Rule.{Started};
+ghost use Rattle.unit_rule.specs.Marks.{Holds};
+ghost use Rattle.device_calls.specs.Rule.{Both, CardHolds};
+
+use activity_codec::Pick;
+use card_commands::Port;
+use card_layout::Application;
+use card_session::CardSession;
+use tach_media::{Chip, Failed, Medium};
+use trace_model::Card;
+
+/// Takes out an accepted card whose minutes are kept: its words are closed with what is selected then, and its session ends.
+///
+/// # Errors
+///
+/// `Failed` where the card failed, which is a tear.
+pub fn leave<M: Medium, C: Chip>(
+    unit: &M,
+    card: &mut C,
+    app: Application,
+    session: CardSession,
+    which: Card,
+    selected: Pick,
+) -> Result<(), Failed>
+    requires port { IsPort app None (C.card card.old) (C.state card.old) }
+    requires sizes { session.application ≡ app }
+    ensures port { IsPort app None (C.card card.new) (C.state card.new) }
+    ensures closed { OnOk result (IfSome (C.state card.old).image (λ x. IfSome (C.state card.new).image (λ y. IsSession session x → IsCardClosed session (activity_of selected) x y))) }
+    ensures moments { LeavesOnly (C.state card.old) (C.state card.new) (λ x c. IsSession session x → IsCardClosing session (activity_of selected) x c) }
+    ensures rule { (r : Both) (s : Started) (due : ℕ) (b : Book) (marks : List Mark) (time newest : ℕ) → is_some (M.state unit.now).image ≡ true → Holds s due b marks (M.state unit.now) → b.maybe ≡ None
+        → IfSome (C.state card.old).image (λ x. (own_sizes x ≡ app) × IsSession session x) → CardHolds r which b (In time newest) [] [] (M.state unit.now) (C.state card.old) → CardHolds r which b Out [] [] (M.state unit.now) (C.state card.new) }
+    ensures settled { OnOk result ((C.state card.new).clock < last_count → IsSettled (C.state card.new)) }
+    ensures cause { HasCause (C.state card.old) (C.state card.new) (is_err result) }
+    ensures most { (C.state card.new).clock ≤ (C.state card.old).clock + 8 }
+{
+    let mut port = Port::resume(&mut *card, app);
+    session.close(&mut port, selected)
+}

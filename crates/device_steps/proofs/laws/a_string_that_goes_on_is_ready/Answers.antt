@@ -1,5 +1,0 @@
-use Rattle.device_steps.proofs.StringReady.{since-ready}
-use Rattle.device_steps.proofs.laws.a_string_that_goes_on_is_ready.Goals as goal
-
-pub returns : goal.returns
-returns g c = λ t image done n e sound late known. since-ready t image done n e sound late _ known

@@ -1,5 +1,0 @@
-use Rattle.device_steps.proofs.Passed.{valid-days}
-use Rattle.device_steps.proofs.laws.a_valid_card_has_days.Goals as goal
-
-pub returns : goal.returns
-returns c = λ app x sound fits valid. valid-days app sound x fits valid

@@ -1,7 +1,0 @@
-pub mod Rule
-pub mod OnCard
-pub mod Minute
-pub mod Entering
-pub mod CardNotes
-pub mod Travel
-pub use Rattle.unit_notes.specs.Journal

@@ -1,5 +1,0 @@
-use Rattle.event_course.proofs.Steps.{cut_gaps, cut_leads}
-use Rattle.event_course.proofs.laws.a_cut_ends_no_run.Goals as goal
-
-pub returns : goal.returns
-returns c = record { gaps = cut_gaps; noted = cut_leads }

@@ -1,5 +1,0 @@
-use Rattle.event_crews.proofs.Fed.{one-fed, still-seen, still-quiet, still-fed}
-use Rattle.event_crews.proofs.laws.seconds_are_fed_with_their_cards.Goals as goal
-
-pub returns : goal.returns
-returns c = record { one = one-fed; seen = still-seen; quiet = still-quiet; fed = still-fed }

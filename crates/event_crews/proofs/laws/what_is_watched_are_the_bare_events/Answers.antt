@@ -1,5 +1,0 @@
-use Rattle.event_crews.proofs.Pairs.{bares-are}
-use Rattle.event_crews.proofs.laws.what_is_watched_are_the_bare_events.Goals as goal
-
-pub returns : goal.returns
-returns c = λ number span. bares-are number span

@@ -1,3 +1,0 @@
-pub mod Watched
-pub mod Turned
-pub mod Fed

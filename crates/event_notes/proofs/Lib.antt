@@ -1,3 +1,0 @@
-pub mod Frames
-pub mod Calling
-pub mod Watching

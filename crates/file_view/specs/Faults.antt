@@ -1,0 +1,8 @@
+-- What is said of the place in a fault.
+use Rattle.std.specs.Prelude.{ℕ}
+use Rattle.file_view.specs.declared.fault.ViewFault.{ViewFault}
+use Rattle.file_view.specs.declared.fault.ViewFault.TheVariants.{BadFile, Memory}
+
+abbrev pub IfBadFile : ViewFault → (ℕ → Type 0) → Type 0
+IfBadFile (BadFile place) P = P place
+IfBadFile Memory P = Unit {0}

@@ -1,7 +1,0 @@
-use Rattle.std.proofs.Common.{arith}
-use Rattle.std.proofs.lemmas.Grind.{common_steps}
-use Rattle.hex_lines.proofs.Spelling.{space_alone}
-use Rattle.hex_lines.proofs.reading.behind_space.Goals as goal
-
-pub returns-then-text-lt2-clause-none : goal.returns-then-text-lt2-clause-none
-returns-then-text-lt2-clause-none c = space_alone c.args.text.now (grind (arith, common_steps)) (omega (arith, c.if-text-lt2.true)) c.if-text-ne32.false

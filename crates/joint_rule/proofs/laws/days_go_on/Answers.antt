@@ -1,5 +1,0 @@
-use Rattle.joint_rule.proofs.Simple.{days-go-on}
-use Rattle.joint_rule.proofs.laws.days_go_on.Goals as goal
-
-pub returns : goal.returns
-returns c = days-go-on

@@ -1,5 +1,0 @@
-use Rattle.joint_rule.proofs.Overwriting.{owed-entries_count}
-use Rattle.joint_rule.proofs.laws.owed_entries_count.Goals as goal
-
-pub returns : goal.returns
-returns c = owed-entries_count

@@ -1,5 +1,0 @@
-use Rattle.joint_rule.proofs.Holding.{presence-tied}
-use Rattle.joint_rule.proofs.laws.presence_is_the_same.Goals as goal
-
-pub returns : goal.returns
-returns c = presence-tied

@@ -1,4 +1,0 @@
-pub mod Lines
-pub mod Served
-pub mod ServedLines
-pub mod Asked

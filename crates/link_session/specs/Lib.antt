@@ -1,0 +1,5 @@
+pub mod Told
+pub mod Lines
+pub mod Served
+pub mod ServedLines
+pub mod Asked

@@ -1,0 +1,45 @@
+-- A session as its callers see it, and why it does not answer.
+use Rattle.std.specs.Prelude.{◌≡◌, ℕ, Bool, true, false, Result, Ok, Err, Option, None, IfSome, is_some, List}
+use Rattle.link_model.specs.Answers.{LinkState}
+use Rattle.unit_model.specs.Decoding.{Decodes}
+use Rattle.unit_minutes.specs.declared.notes.Notes.{Notes}
+use Rattle.unit_minutes.specs.Reading.{AreRight}
+use Rattle.unit_messages.specs.declared.outline.Plan.{Plan}
+use Rattle.unit_messages.specs.Outlines.{Outlines}
+use Rattle.link_session.specs.declared.asking.AnswerFault.{AnswerFault}
+use Rattle.link_session.specs.declared.asking.AnswerFault.TheVariants.{Failed, BadUnit}
+
+-- where the session stands; the notes of its unit's journal, from when it was judged on; and the outline of the message that was
+-- asked for last
+pub record SessionView : Type 0 where
+  pub state : LinkState
+  pub journal : Option Notes
+  pub outline : Option Plan
+
+abbrev pub fresh : LinkState → SessionView
+fresh state = record { state = state; journal = None; outline = None }
+
+-- the unit was judged
+abbrev pub is_judged : SessionView → Bool
+is_judged s = is_some s.journal
+
+-- What a session has found of its unit is still so: an image that it was judged by, or any that these notes and this outline fit.
+-- Whoever writes nothing to the unit keeps it.
+pub record KnowsUnit (journal : Option Notes) (outline : Option Plan) (x : List ℕ) : Type 0 where
+  pub decodes : is_some journal ≡ true → Decodes x
+  pub notes : IfSome journal (λ j. AreRight j x)
+  pub outlines : IfSome outline (λ o. Outlines o x)
+
+abbrev pub Knows : SessionView → List ℕ → Type 0
+Knows s x = KnowsUnit s.journal s.outline x
+
+-- a fact of the place of the field that fails
+abbrev pub IfBadUnit : AnswerFault → (ℕ → Type 0) → Type 0
+IfBadUnit Failed P = Unit {0}
+IfBadUnit (BadUnit p) P = P p
+
+-- the answer is that the medium failed
+abbrev pub has_failed : {T : Type 0} → Result T AnswerFault → Bool
+has_failed (Ok x) = false
+has_failed (Err Failed) = true
+has_failed (Err (BadUnit p)) = false

@@ -1,0 +1,10 @@
+ghost use Rattle.std.specs.Prelude.{◌≡◌, List, map};
+ghost use Rattle.trace_model.specs.Trace.{TraceSecond};
+ghost use Rattle.log_model.specs.Log.{RunLog};
+ghost use Rattle.log_model.specs.Course.{went};
+ghost use Rattle.note_model.specs.Done.{done_of};
+
+/// The seconds of a run that are looked at here went as its course tells them.
+pub fn seconds_are_those_of_the_course()
+    ensures { (log : RunLog) (ss : List TraceSecond) → map (λ d. d.told) (done_of log ss) ≡ (went log ss).told }
+{}

@@ -1,3 +1,0 @@
-pub mod Owed
-pub mod Rows
-pub mod Standing

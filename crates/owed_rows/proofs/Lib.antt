@@ -1,3 +1,0 @@
-mod Finding
-mod Counting
-mod Sanity

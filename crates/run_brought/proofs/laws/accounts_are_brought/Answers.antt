@@ -1,5 +1,0 @@
-use Rattle.run_brought.proofs.Accounts.{accounts-brought}
-use Rattle.run_brought.proofs.laws.accounts_are_brought.Goals as goal
-
-pub returns : goal.returns
-returns c = λ r card from b ks order early follows accounts. accounts-brought r card from b order early follows ks accounts

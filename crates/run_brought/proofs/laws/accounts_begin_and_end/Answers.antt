@@ -1,8 +1,0 @@
-use Rattle.run_brought.proofs.Going.{nothing-accounted, end-accounted}
-use Rattle.run_brought.proofs.laws.accounts_begin_and_end.Goals as goal
-
-pub returns-clause-begin : goal.returns-clause-begin
-returns-clause-begin c = nothing-accounted
-
-pub returns-clause-end : goal.returns-clause-end
-returns-clause-end c = end-accounted

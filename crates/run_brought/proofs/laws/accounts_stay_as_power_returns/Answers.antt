@@ -1,8 +1,0 @@
-use Rattle.run_brought.proofs.Quiet.{found-accounted, failure-accounted}
-use Rattle.run_brought.proofs.laws.accounts_stay_as_power_returns.Goals as goal
-
-pub returns-clause-found : goal.returns-clause-found
-returns-clause-found c = found-accounted
-
-pub returns-clause-failed : goal.returns-clause-failed
-returns-clause-failed c = failure-accounted

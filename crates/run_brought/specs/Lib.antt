@@ -1,3 +1,0 @@
-pub mod Accounts
-pub mod Going
-pub mod Stays

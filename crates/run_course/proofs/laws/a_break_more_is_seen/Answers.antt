@@ -1,5 +1,0 @@
-use Rattle.run_course.proofs.Lookups.{break-more}
-use Rattle.run_course.proofs.laws.a_break_more_is_seen.Goals as goal
-
-pub returns : goal.returns
-returns c = break-more

@@ -1,5 +1,0 @@
-use Rattle.run_course.proofs.Travelled.{broken-travelled}
-use Rattle.run_course.proofs.laws.a_broken_second_is_travelled.Goals as goal
-
-pub returns : goal.returns
-returns c = broken-travelled

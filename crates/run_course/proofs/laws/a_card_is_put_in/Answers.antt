@@ -1,5 +1,0 @@
-use Rattle.run_course.proofs.Presence.{put-in}
-use Rattle.run_course.proofs.laws.a_card_is_put_in.Goals as goal
-
-pub returns : goal.returns
-returns c = put-in

@@ -1,5 +1,0 @@
-use Rattle.run_course.proofs.Presence.{taken-out}
-use Rattle.run_course.proofs.laws.a_card_is_taken_out.Goals as goal
-
-pub returns : goal.returns
-returns c = taken-out

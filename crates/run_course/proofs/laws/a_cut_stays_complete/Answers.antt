@@ -1,5 +1,0 @@
-use Rattle.run_course.proofs.Staying.{cut-stays_}
-use Rattle.run_course.proofs.laws.a_cut_stays_complete.Goals as goal
-
-pub returns : goal.returns
-returns c = cut-stays_

@@ -1,5 +1,0 @@
-use Rattle.run_course.proofs.Dark.{dark-complete}
-use Rattle.run_course.proofs.laws.a_dark_minute_stays_complete.Goals as goal
-
-pub returns : goal.returns
-returns c = dark-complete

@@ -1,5 +1,0 @@
-use Rattle.run_course.proofs.Travelled.{failure-travelled}
-use Rattle.run_course.proofs.laws.a_failure_is_travelled.Goals as goal
-
-pub returns : goal.returns
-returns c = failure-travelled

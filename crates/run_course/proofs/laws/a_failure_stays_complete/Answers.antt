@@ -1,5 +1,0 @@
-use Rattle.run_course.proofs.Staying.{failure-stays}
-use Rattle.run_course.proofs.laws.a_failure_stays_complete.Goals as goal
-
-pub returns : goal.returns
-returns c = failure-stays

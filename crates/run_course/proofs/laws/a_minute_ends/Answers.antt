@@ -1,5 +1,0 @@
-use Rattle.run_course.proofs.Presence.{minute-ends}
-use Rattle.run_course.proofs.laws.a_minute_ends.Goals as goal
-
-pub returns : goal.returns
-returns c = minute-ends

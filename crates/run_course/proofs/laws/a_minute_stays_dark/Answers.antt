@@ -1,5 +1,0 @@
-use Rattle.run_course.proofs.Steps.{stays_dark}
-use Rattle.run_course.proofs.laws.a_minute_stays_dark.Goals as goal
-
-pub returns : goal.returns
-returns c = stays_dark

@@ -1,5 +1,0 @@
-use Rattle.run_course.proofs.Steps.{begins_run}
-use Rattle.run_course.proofs.laws.a_run_begins.Goals as goal
-
-pub returns : goal.returns
-returns c = begins_run

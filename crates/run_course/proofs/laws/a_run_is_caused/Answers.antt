@@ -1,5 +1,0 @@
-use Rattle.run_course.proofs.Caused.{run-caused}
-use Rattle.run_course.proofs.laws.a_run_is_caused.Goals as goal
-
-pub returns : goal.returns
-returns c = run-caused

@@ -1,5 +1,0 @@
-use Rattle.run_course.proofs.Within.{second-ends}
-use Rattle.run_course.proofs.laws.a_second_ends.Goals as goal
-
-pub returns : goal.returns
-returns c = second-ends

@@ -1,5 +1,0 @@
-use Rattle.run_course.proofs.Steps.{goes_on}
-use Rattle.run_course.proofs.laws.a_second_goes_on.Goals as goal
-
-pub returns : goal.returns
-returns c = goes_on

@@ -1,5 +1,0 @@
-use Rattle.run_course.proofs.Complete.{acknowledged}
-use Rattle.run_course.proofs.laws.a_second_is_acknowledged.Goals as goal
-
-pub returns : goal.returns
-returns c = acknowledged

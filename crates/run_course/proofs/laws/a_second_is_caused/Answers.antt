@@ -1,5 +1,0 @@
-use Rattle.run_course.proofs.Caused.{second-caused}
-use Rattle.run_course.proofs.laws.a_second_is_caused.Goals as goal
-
-pub returns : goal.returns
-returns c = second-caused

@@ -1,5 +1,0 @@
-use Rattle.run_course.proofs.Moments.{action-more}
-use Rattle.run_course.proofs.laws.an_action_more_is_acted.Goals as goal
-
-pub returns : goal.returns
-returns c = action-more

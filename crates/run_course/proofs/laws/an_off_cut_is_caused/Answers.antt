@@ -1,5 +1,0 @@
-use Rattle.run_course.proofs.Caused.{off-cut-caused}
-use Rattle.run_course.proofs.laws.an_off_cut_is_caused.Goals as goal
-
-pub returns : goal.returns
-returns c = off-cut-caused

@@ -1,5 +1,0 @@
-use Rattle.run_course.proofs.Caused.{off-caused}
-use Rattle.run_course.proofs.laws.an_off_line_is_caused.Goals as goal
-
-pub returns : goal.returns
-returns c = off-caused

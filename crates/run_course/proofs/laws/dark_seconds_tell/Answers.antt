@@ -1,5 +1,0 @@
-use Rattle.run_course.proofs.Dark.{dark-tell}
-use Rattle.run_course.proofs.laws.dark_seconds_tell.Goals as goal
-
-pub returns : goal.returns
-returns c = dark-tell

@@ -1,5 +1,0 @@
-use Rattle.run_course.proofs.Caused.{found-caused}
-use Rattle.run_course.proofs.laws.found_stays_caused.Goals as goal
-
-pub returns : goal.returns
-returns c = found-caused

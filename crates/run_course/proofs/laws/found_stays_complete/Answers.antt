@@ -1,5 +1,0 @@
-use Rattle.run_course.proofs.Staying.{found-stays}
-use Rattle.run_course.proofs.laws.found_stays_complete.Goals as goal
-
-pub returns : goal.returns
-returns c = found-stays

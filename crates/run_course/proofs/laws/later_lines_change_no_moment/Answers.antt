@@ -1,5 +1,0 @@
-use Rattle.run_course.proofs.Moments.{later-lines}
-use Rattle.run_course.proofs.laws.later_lines_change_no_moment.Goals as goal
-
-pub returns : goal.returns
-returns c = later-lines

@@ -1,5 +1,0 @@
-use Rattle.run_course.proofs.Dark.{lost-are-told}
-use Rattle.run_course.proofs.laws.lost_seconds_are_told.Goals as goal
-
-pub returns : goal.returns
-returns c = lost-are-told

@@ -1,5 +1,0 @@
-use Rattle.run_course.proofs.Presence.{minutes-kept}
-use Rattle.run_course.proofs.laws.minutes_are_kept.Goals as goal
-
-pub returns : goal.returns
-returns c = minutes-kept

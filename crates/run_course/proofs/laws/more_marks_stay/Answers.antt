@@ -1,5 +1,0 @@
-use Rattle.run_course.proofs.Complete.{more-marks}
-use Rattle.run_course.proofs.laws.more_marks_stay.Goals as goal
-
-pub returns : goal.returns
-returns c = more-marks

@@ -1,5 +1,0 @@
-use Rattle.run_course.proofs.Presence.{nobody-sits}
-use Rattle.run_course.proofs.laws.nobody_sits_at_the_start.Goals as goal
-
-pub returns : goal.returns
-returns c = nobody-sits

@@ -1,5 +1,0 @@
-use Rattle.run_course.proofs.Complete.{nothing-yet}
-use Rattle.run_course.proofs.laws.nothing_is_decided_yet.Goals as goal
-
-pub returns : goal.returns
-returns c = nothing-yet

@@ -1,5 +1,0 @@
-use Rattle.run_course.proofs.Travelled.{nothing-travelled}
-use Rattle.run_course.proofs.laws.nothing_is_travelled.Goals as goal
-
-pub returns : goal.returns
-returns c = nothing-travelled

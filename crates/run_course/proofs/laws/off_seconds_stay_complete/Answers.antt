@@ -1,5 +1,0 @@
-use Rattle.run_course.proofs.Dark.{off-complete}
-use Rattle.run_course.proofs.laws.off_seconds_stay_complete.Goals as goal
-
-pub returns : goal.returns
-returns c = off-complete

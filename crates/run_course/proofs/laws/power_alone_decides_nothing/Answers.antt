@@ -1,5 +1,0 @@
-use Rattle.run_course.proofs.Complete.{power-alone}
-use Rattle.run_course.proofs.laws.power_alone_decides_nothing.Goals as goal
-
-pub returns : goal.returns
-returns c = power-alone

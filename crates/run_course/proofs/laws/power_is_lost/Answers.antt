@@ -1,5 +1,0 @@
-use Rattle.run_course.proofs.Presence.{power-lost}
-use Rattle.run_course.proofs.laws.power_is_lost.Goals as goal
-
-pub returns : goal.returns
-returns c = power-lost

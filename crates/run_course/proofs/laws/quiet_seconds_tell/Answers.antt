@@ -1,5 +1,0 @@
-use Rattle.run_course.proofs.Quiet.{quiet-tell}
-use Rattle.run_course.proofs.laws.quiet_seconds_tell.Goals as goal
-
-pub returns : goal.returns
-returns c = quiet-tell

@@ -1,5 +1,0 @@
-use Rattle.run_course.proofs.Staying.{refused-stays}
-use Rattle.run_course.proofs.laws.refusals_stay_complete.Goals as goal
-
-pub returns : goal.returns
-returns c = refused-stays

@@ -1,5 +1,0 @@
-use Rattle.run_course.proofs.Presence.{time-passes}
-use Rattle.run_course.proofs.laws.time_passes.Goals as goal
-
-pub returns : goal.returns
-returns c = time-passes

@@ -1,0 +1,93 @@
+-- What is known of the cards, as their sessions, their sizes and their numbers change; and the minutes of acceptances.
+use Rattle.std.proofs.Common.{◌≡◌, ℕ, ◌<◌, ◌∷◌, true, Option, IfSome, is_some, [], Contains, refl, ap, subst, ◌∙◌, sym, arith, ⊎_elim}
+use Rattle.std.specs.Prelude.{Result}
+use Rattle.std.proofs.lemmas.List.Elements.{Contains-push_cases, Contains-append_cases}
+use Rattle.trace_model.specs.declared.Card.{Card}
+use Rattle.trace_model.specs.declared.Card.TheVariants.{A, B}
+use Rattle.tacho_types.specs.CardNumber.{card_number_bytes}
+use Rattle.tacho_types.specs.declared.card_number.FullCardNumber.{FullCardNumber}
+use Rattle.card_layout.specs.declared.files.Application.{Application}
+use Rattle.card_image.specs.Own.{IsOwnValid}
+use Rattle.run_crew.specs.declared.cards.Accepted.{Accepted}
+use Rattle.run_crew.specs.declared.cards.Cards.{Cards}
+use Rattle.run_crew.specs.Cards.{known_of, session_of, with_session, with_number, with_sizes}
+use Rattle.run_promise.specs.Found.{Found, found_of}
+use Rattle.run_promise.specs.Between.{Carried}
+use Rattle.run_devices.specs.Told.{AreFoundCards, AreEarly, for_card, with_acceptance}
+
+-- ---- the sessions
+
+pub session-sized : (c d : Card) (sizes : Result Application ℕ) (cards : Cards) → session_of (with_sizes c sizes cards) d ≡ session_of cards d
+session-sized A A sizes cards = refl
+session-sized A B sizes cards = refl
+session-sized B A sizes cards = refl
+session-sized B B sizes cards = refl
+
+-- ---- what was found of the cards is so still
+
+-- where their numbers are the same
+pub found-still : (f : Found) (cards after : Cards) → ((c : Card) → (known_of after c).number ≡ (known_of cards c).number) → AreFoundCards f cards → AreFoundCards f after
+found-still f cards after same found = record {
+  two = found.two;
+  named = λ c valid. subst (λ (o : Option FullCardNumber). IfSome o (λ n. card_number_bytes n ≡ (found_of f c).number)) (sym (same c)) (found.named c valid);
+  told = λ c valid. ap is_some (same c) ∙ found.told c valid;
+  own = found.own;
+  sizes = found.sizes;
+  entries = found.entries;
+}
+
+pub found-session : (f : Found) (c : Card) (s : Option Accepted) (cards : Cards) → AreFoundCards f cards → AreFoundCards f (with_session c s cards)
+found-session f c s cards = found-still f cards (with_session c s cards) (same c)
+  where
+    same : (c d : Card) → (known_of (with_session c s cards) d).number ≡ (known_of cards d).number
+    same A A = refl
+    same A B = refl
+    same B A = refl
+    same B B = refl
+
+pub found-sizes : (f : Found) (c : Card) (sizes : Result Application ℕ) (cards : Cards) → AreFoundCards f cards → AreFoundCards f (with_sizes c sizes cards)
+found-sizes f c sizes cards = found-still f cards (with_sizes c sizes cards) (same c)
+  where
+    same : (c d : Card) → (known_of (with_sizes c sizes cards) d).number ≡ (known_of cards d).number
+    same A A = refl
+    same A B = refl
+    same B A = refl
+    same B B = refl
+
+-- and where one tells its own
+pub found-number : (f : Found) (c : Card) (n : FullCardNumber) (row : ℕ) (cards : Cards) → (IsOwnValid (found_of f c).image → card_number_bytes n ≡ (found_of f c).number) → AreFoundCards f cards → AreFoundCards f (with_number c n row cards)
+found-number f A n row cards own found = record { two = found.two; named = named; told = told; own = found.own; sizes = found.sizes; entries = found.entries }
+  where
+    named : (c : Card) → IsOwnValid (found_of f c).image → IfSome (known_of (with_number A n row cards) c).number (λ n. card_number_bytes n ≡ (found_of f c).number)
+    named A valid = own valid
+    named B valid = found.named B valid
+
+    told : (c : Card) → IsOwnValid (found_of f c).image → is_some (known_of (with_number A n row cards) c).number ≡ true
+    told A valid = refl
+    told B valid = found.told B valid
+found-number f B n row cards own found = record { two = found.two; named = named; told = told; own = found.own; sizes = found.sizes; entries = found.entries }
+  where
+    named : (c : Card) → IsOwnValid (found_of f c).image → IfSome (known_of (with_number B n row cards) c).number (λ n. card_number_bytes n ≡ (found_of f c).number)
+    named A valid = found.named A valid
+    named B valid = own valid
+
+    told : (c : Card) → IsOwnValid (found_of f c).image → is_some (known_of (with_number B n row cards) c).number ≡ true
+    told A valid = found.told A valid
+    told B valid = refl
+
+-- ---- the minutes of acceptances are earlier than what may come
+
+pub early-accepted : (w : Carried) (c : Card) (now newest kept : ℕ) → kept < w.due → AreEarly w → AreEarly (with_acceptance c now newest kept w)
+early-accepted w c now newest kept late early = by c
+  where
+    either : (d : Card) (k : ℕ) → Contains (kept ∷ w.brought d) k → k < w.due
+    either d k in_ = ⊎_elim
+        (λ first. ⊎_elim (λ none. absurd (omega (arith, none.1))) (λ is. subst (λ (n : ℕ). n < w.due) is late) (Contains-push_cases [] kept k first))
+        (λ rest. early d k rest)
+        (Contains-append_cases (kept ∷ []) (w.brought d) k in_)
+
+    by : (c d : Card) (k : ℕ) → Contains (for_card c (kept ∷ w.brought c) w.brought d) k → k < w.due
+    by A A k in_ = either A k in_
+    by A B k in_ = early B k in_
+    by B A k in_ = early A k in_
+    by B B k in_ = either B k in_

@@ -1,0 +1,125 @@
+-- The opening: each card that is valid holds its string, with what the unit owes to it.
+use Rattle.std.proofs.Common.{◌≡◌, ℕ, zero, suc, max, ◌/◌, ◌<◌, ◌≤◌, Bool, true, false, cond, is_some, List, [], ◌++◌, filter, All, refl, ap, subst, ◌∙◌, sym, arith}
+use Rattle.std.specs.Prelude.{◌&&◌, nat_lt, nat_eq}
+use Rattle.std.proofs.lemmas.Bool.Decides.{nat_tests}
+use Rattle.std.proofs.lemmas.List.{append-nil}
+use Rattle.activity_codec.specs.declared.entries.Entry.{Entry}
+use Rattle.trace_model.specs.declared.Card.{Card}
+use Rattle.tach_media.specs.Medium.{State, IsCoherent}
+use Rattle.card_layout.specs.declared.files.Application.{Application}
+use Rattle.card_layout.specs.Application.{IsApplication}
+use Rattle.card_model.specs.Changes.{trimmed}
+use Rattle.card_retention.specs.Entries.{newest_word}
+use Rattle.card_image.specs.Fields.{card_days, end_mark, session_time}
+use Rattle.card_image.specs.View.{CardView, card_view}
+use Rattle.card_image.specs.Own.{own_view, own_sizes, own_number, IsOwnValid}
+use Rattle.card_session.specs.Inserting.{Follow}
+use Rattle.card_session.specs.Repairs.{first_minute}
+use Rattle.card_string.specs.Since.{HoldsSince}
+use Rattle.card_string.specs.Each.{KeepsSince}
+use Rattle.card_string.proofs.Kept.{holds_kept}
+use Rattle.card_string.proofs.Small.{card_small, trimmed_small, last_of_small}
+use Rattle.card_string.proofs.Start.{starts_open, starts_shut}
+use Rattle.history_model.specs.Book.{not_begun}
+use Rattle.history_model.specs.Presence.{CardStart}
+use Rattle.history_model.proofs.Books.{history-none}
+use Rattle.device_rule.specs.Views.{UnitView, unit_view, row, owed, counts, is_session, beyond}
+use Rattle.device_rule.specs.Rules.{Out}
+use Rattle.device_rule.proofs.Pairs.{owed-above}
+use Rattle.unit_rule.specs.Safe.{Devices, card_of}
+use Rattle.device_calls.proofs.OnCard.{own-is, session-is}
+use Rattle.device_calls.proofs.Inserted.{bound_of as bound_in, beyond_shut}
+use Rattle.run_promise.specs.Found.{Found, found_of}
+use Rattle.run_promise.specs.Cards.{brought_by}
+use Rattle.run_promise.specs.Between.{IsCarried}
+use Rattle.run_promise.specs.Opening.{BeginsAs, IsLookedAt, carried_first}
+use Rattle.run_promise.proofs.OwedRises.{owed-rises}
+use Rattle.run_devices.specs.Strung.{IsHeld, HasSameHolder}
+use Rattle.run_devices.specs.Told.{IsHeldDark, IsPowerless}
+use Rattle.run_devices.proofs.Parts.{held-dark}
+use Rattle.run_devices.proofs.OnCards.{own-valid, same-holder, bound_of}
+use Rattle.run_devices.proofs.Power.{follow-of}
+use Rattle.run_devices.proofs.StringMore.{mark-own}
+
+-- ---- nothing is owed to a card without a session
+
+no-session : (s t : ℕ) → t ≡ 0 → is_session s t ≡ false
+no-session s t none = by (nat_lt 0 s) refl
+  where
+    by : (b : Bool) → nat_lt 0 s ≡ b → (b && nat_eq s t) ≡ false
+    by false is = refl
+    by true is = grind (arith, nat_tests)
+
+pub owed-none : (c : Card) (u : UnitView) (x : CardView) → x.session ≡ 0 → owed c u x ≡ []
+owed-none c u x none = ap (λ (b : Bool). cond b (filter (λ (e : Entry). counts (x.session / 60) x.mark u.last e.minute) (row c u).cells) []) (no-session (row c u).session x.session none)
+
+word-own : (app : Application) (x : List ℕ) → own_sizes x ≡ app → (own_view x).word ≡ newest_word (card_days app x)
+unfolding own_view card_view
+word-own app x is = ap (λ (a : Application). newest_word (card_days a x)) is
+
+module _ (f : Found) (c : Card) (u x : List ℕ) (card : State) (whole : IsCoherent card) (begins : BeginsAs x card) (looked : IsLookedAt f c u x card.clock) (valid : IsOwnValid x) (sound : IsApplication (own_sizes x)) (number : (found_of f c).number ≡ own_number x) (bytes : All (λ b. b < 256) x) where
+  abbrev view : UnitView
+  view = unit_view f.card_a.number f.card_b.number u
+
+  said : brought_by c (found_of f c).start not_begun ≡ owed c view (own_view x)
+  said = ap (λ (es : List Entry). (found_of f c).start.owed ++ es) (history-none c) ∙ append-nil (found_of f c).start.owed ∙ ap (λ (s : CardStart). s.owed) looked.start
+
+  follows : Follow (end_mark (own_sizes x) x) (owed c view (own_view x))
+  follows = subst (λ (m : ℕ). Follow m (owed c view (own_view x))) (mark-own (own_sizes x) x refl)
+      (follow-of (own_view x).mark (owed c view (own_view x)) (owed-rises c f.card_a.number f.card_b.number u (own_view x)) (owed-above c view (own_view x)))
+
+  bound : (own_view x).mark ≤ (own_view x).newest
+  bound = subst (λ (v : CardView). v.mark ≤ v.newest) (sym (own-is (own_sizes x) x refl)) (bound_in (own_sizes x) x)
+
+  word : (found_of f c).start.word ≡ beyond (own_view x)
+  word = ap (λ (s : CardStart). s.word) looked.start
+
+  starts : HoldsSince (own_sizes x) x (owed c view (own_view x)) (bound_of (found_of f c) Out x) x
+  starts = by (session_time (own_sizes x) x) refl
+    where
+      session : (own_view x).session ≡ session_time (own_sizes x) x
+      session = ap (λ (v : CardView). v.session) (own-is (own_sizes x) x refl) ∙ session-is (own_sizes x) x
+
+      by : (n : ℕ) → session_time (own_sizes x) x ≡ n → HoldsSince (own_sizes x) x (owed c view (own_view x)) (bound_of (found_of f c) Out x) x
+      by zero none =
+          let shut : (own_view x).session ≡ 0 = session ∙ none in
+          starts_shut x (owed c view (own_view x)) (bound_of (found_of f c) Out x) follows looked.days (own-valid (own_sizes x) x refl valid) none
+          (subst (λ (es : List Entry). max (end_mark (own_sizes x) x) (newest_word (card_days (own_sizes x) x)) < first_minute (bound_of (found_of f c) Out x) es) (sym (owed-none c view (own_view x) shut))
+          (omega (arith, mark-own (own_sizes x) x refl, bound, word, beyond_shut (own_view x) shut, word-own (own_sizes x) x refl)))
+          (last_of_small (card_days (own_sizes x) x) (card_small (own_sizes x) x bytes))
+      by (suc n) some =
+          starts_open x (owed c view (own_view x)) (bound_of (found_of f c) Out x) follows looked.days (omega (arith, mark-own (own_sizes x) x refl, bound)) (omega (arith, some))
+          (last_of_small (trimmed (end_mark (own_sizes x) x) (card_days (own_sizes x) x)) (trimmed_small (end_mark (own_sizes x) x) (card_days (own_sizes x) x) (card_small (own_sizes x) x bytes)))
+
+  only : (y : List ℕ) → card.left_since (found_of f c).began y → y ≡ x
+  only y left = begins.only y (subst (λ (n : ℕ). card.left_since n y) looked.began left)
+
+  only-now : (y : List ℕ) → card.may_leave y → y ≡ x
+  only-now y there = begins.only y (whole.counts_now card.clock y (omega arith) there)
+
+  -- with the words of a run
+  found-starts : HoldsSince (own_sizes (found_of f c).image) (found_of f c).image (brought_by c (found_of f c).start not_begun) (bound_of (found_of f c) Out x) x
+  found-starts =
+      subst (λ (i : List ℕ). HoldsSince (own_sizes i) i (brought_by c (found_of f c).start not_begun) (bound_of (found_of f c) Out x) x) (sym looked.image)
+      (subst (λ (es : List Entry). HoldsSince (own_sizes x) x es (bound_of (found_of f c) Out x) x) (sym said) starts)
+
+  same-sizes : own_sizes x ≡ own_sizes (found_of f c).image
+  same-sizes = ap own_sizes (sym looked.image)
+
+  pub opened-held : IsHeld (found_of f c) c not_begun Out card
+  opened-held = record {
+    tells = ap is_some begins.tells;
+    now = λ y there. subst (λ (k : List ℕ). (own_sizes k ≡ own_sizes (found_of f c).image) × HoldsSince (own_sizes (found_of f c).image) (found_of f c).image (brought_by c (found_of f c).start not_begun) (bound_of (found_of f c) Out k) k) (sym (only-now y there))
+        (same-sizes, found-starts);
+    since = λ y left. subst (λ (k : List ℕ). (own_sizes k ≡ own_sizes (found_of f c).image) × KeepsSince (found_of f c).image (brought_by c (found_of f c).start not_begun) k) (sym (only y left))
+        (same-sizes, holds_kept (own_sizes (found_of f c).image) (subst (λ (i : List ℕ). IsApplication (own_sizes i)) (sym looked.image) sound) (found_of f c).image x refl same-sizes (brought_by c (found_of f c).start not_begun) (bound_of (found_of f c) Out x) found-starts);
+    number = λ y there. ap own_number (only-now y there) ∙ sym number;
+    still = λ y left. subst (HasSameHolder (found_of f c).image) (looked.image ∙ sym (only y left)) (same-holder (found_of f c).image);
+  }
+
+  pub opened-wait : IsHeldDark (found_of f c) c not_begun Out card
+  opened-wait = held-dark (found_of f c) c not_begun Out card refl opened-held
+
+-- so all that the opening found is carried, before there is power
+pub opened-powerless : (f : Found) (due : ℕ) (d : Devices) → IsCarried f (carried_first due) d → ((c : Card) → IsOwnValid (found_of f c).image → IsHeldDark (found_of f c) c not_begun Out (card_of d c)) → IsPowerless f (carried_first due) d
+opened-powerless f due d carried wait = record { carried = carried; wait = wait }

@@ -1,0 +1,3 @@
+pub mod Presence
+pub mod Strung
+pub mod Told

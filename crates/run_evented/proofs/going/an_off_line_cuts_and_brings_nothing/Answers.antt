@@ -1,6 +1,0 @@
-use Rattle.run_recorded.specs.Between.{devices}
-use Rattle.run_evented.proofs.Unlit.{off-line_cuts}
-use Rattle.run_evented.proofs.going.an_off_line_cuts_and_brings_nothing.Goals as goal
-
-pub returns : goal.returns
-returns g z = off-line_cuts (devices (g.M.Medium.state z.args.unit.now) (g.C.Chip.state z.args.card_a.now) (g.D.Chip.state z.args.card_b.now))

@@ -1,8 +1,0 @@
-use Rattle.run_recorded.specs.Between.{devices}
-use Rattle.run_evented.proofs.Noting.{stage-done}
-use Rattle.run_evented.proofs.laws.a_stage_is_done.Goals as goal
-
-pub returns : goal.returns
-returns g z = stage-done
-    (devices (g.M.Medium.state z.args.old_unit.now) (g.C.Chip.state z.args.old_a.now) (g.D.Chip.state z.args.old_b.now))
-    (devices (g.N.Medium.state z.args.unit.now) (g.E.Chip.state z.args.card_a.now) (g.F.Chip.state z.args.card_b.now))

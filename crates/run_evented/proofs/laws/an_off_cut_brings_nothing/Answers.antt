@@ -1,6 +1,0 @@
-use Rattle.run_recorded.specs.Between.{devices}
-use Rattle.run_evented.proofs.Ends.{off-cut_brings}
-use Rattle.run_evented.proofs.laws.an_off_cut_brings_nothing.Goals as goal
-
-pub returns : goal.returns
-returns g z = off-cut_brings (devices (g.M.Medium.state z.args.unit.now) (g.C.Chip.state z.args.card_a.now) (g.D.Chip.state z.args.card_b.now))

@@ -1,8 +1,0 @@
-use Rattle.run_recorded.specs.Between.{devices}
-use Rattle.run_evented.proofs.Ends.{events-shown}
-use Rattle.run_evented.proofs.laws.events_are_shown.Goals as goal
-
-pub returns : goal.returns
-returns g z = events-shown
-    (devices (g.M.Medium.state z.args.old_unit.now) (g.C.Chip.state z.args.old_a.now) (g.D.Chip.state z.args.old_b.now))
-    (devices (g.N.Medium.state z.args.unit.now) (g.E.Chip.state z.args.card_a.now) (g.F.Chip.state z.args.card_b.now))

@@ -1,6 +1,0 @@
-use Rattle.run_recorded.specs.Between.{devices}
-use Rattle.run_evented.proofs.Noting.{second-is_noted}
-use Rattle.run_evented.proofs.laws.the_second_is_noted.Goals as goal
-
-pub returns : goal.returns
-returns g z = second-is_noted (devices (g.M.Medium.state z.args.unit.now) (g.C.Chip.state z.args.card_a.now) (g.D.Chip.state z.args.card_b.now))

@@ -1,5 +1,0 @@
-use Rattle.run_evented.proofs.Kept.{no-break_no-span}
-use Rattle.run_evented.proofs.steps.no_break_no_span.Goals as goal
-
-pub returns : goal.returns
-returns g = no-break_no-span

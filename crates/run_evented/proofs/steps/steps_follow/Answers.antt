@@ -1,6 +1,0 @@
-use Rattle.run_recorded.specs.Between.{devices}
-use Rattle.run_evented.proofs.Adding.{steps-follow}
-use Rattle.run_evented.proofs.steps.steps_follow.Goals as goal
-
-pub returns : goal.returns
-returns g z = steps-follow (devices (g.M.Medium.state z.args.unit.now) (g.C.Chip.state z.args.card_a.now) (g.D.Chip.state z.args.card_b.now))

@@ -1,0 +1,5 @@
+use Rattle.run_events.proofs.Shows.{more-then}
+use Rattle.run_events.proofs.event_laws.more_is_shown_after_more.Goals as goal
+
+pub returns : goal.returns
+returns c = more-then

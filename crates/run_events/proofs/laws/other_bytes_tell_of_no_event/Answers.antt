@@ -1,5 +1,0 @@
-use Rattle.run_events.proofs.Frames.{between-nothing, keeps-nothing}
-use Rattle.run_events.proofs.laws.other_bytes_tell_of_no_event.Goals as goal
-
-pub returns : goal.returns
-returns c = record { between = between-nothing; journal = keeps-nothing }

@@ -1,0 +1,198 @@
+//! The events of a power span as its seconds come: they are fed by runs, and noted where they have ended.
+ghost use Rattle.std.specs.Prelude.{◌≡◌, ◌≢◌, ◌+◌, ◌<◌, ◌≤◌, ◌^◌, true, Option, Some, None, [], IfSome, OnOk, is_err, unwrap_or, if◌then◌else◌};
+ghost use Rattle.tach_media.specs.Medium.{HasCause, LeavesOnly};
+ghost use Rattle.unit_model.specs.Image.{IsUnit};
+ghost use Rattle.unit_notes.specs.Journal.{LeavesJournal};
+ghost use Rattle.run_crew.specs.declared.cards.Crew.{Crew};
+ghost use Rattle.run_events.specs.Entries.{number_or_no_card};
+ghost use Rattle.run_events.specs.Watching.{StandsFor, Watches, is_bare_at, bare_ended, over_ended};
+ghost use Rattle.run_events.specs.Noting.{IsBareNoted, IsNotingBare, IsFastNoted, IsNotingFast, AreNoted, AreBeingNoted, IsFed, IsWatched};
+
+use crate::entries::{card_bare, number_or_zeros};
+use event_model::{Over, Span};
+use event_rules::{NoCardRun, Overspeed};
+use run_crew::Crew;
+use tach_media::{Failed, Medium};
+use tacho_types::FullCardNumber;
+use unit_memory::UnitMemory;
+use unit_notes::UnitNotes;
+
+/// The runs of a power span's seconds that are watched: those without a card, and those above the limit, each with the cards at its
+/// first second. It keeps a few counts and no second.
+#[derive(Drop)]
+pub struct Watch {
+    pub bare: NoCardRun,
+    pub over: Overspeed,
+    pub limit: u8,
+    pub bare_begin: Option<Crew>,
+    pub over_begin: Option<Crew>,
+    /// The cards at the last second.
+    pub last: Crew,
+}
+
+/// What has ended with the second before: driving without a card, and an over speeding, with the cards at the first second of each and
+/// at their last.
+#[derive(Drop)]
+pub struct Ended {
+    pub bare: Option<Span>,
+    pub over: Option<Over>,
+    pub bare_begin: Crew,
+    pub over_begin: Crew,
+    pub end: Crew,
+}
+
+impl Watch {
+    /// A span with no second yet, of a vehicle with this limit in km/h.
+    pub fn new(limit: u8) -> Watch
+        ensures stands { StandsFor result [] }
+        ensures limit { (result.over.limit ≡ limit) × (result.limit ≡ limit) }
+    {
+        Watch {
+            bare: NoCardRun::new(),
+            over: Overspeed::new(limit),
+            limit,
+            bare_begin: None,
+            over_begin: None,
+            last: Crew::default(),
+        }
+    }
+
+    /// So many seconds more at one speed, one at least, from `first` on, with these cards accepted in them: what has ended with the
+    /// second before them is noted, driving without a card first.
+    ///
+    /// # Errors
+    ///
+    /// `Failed` where the unit failed; then the event that was being noted may be there or not.
+    pub fn turn<M: Medium>(
+        &mut self,
+        memory: &UnitMemory,
+        first: u32,
+        n: u32,
+        speed: u8,
+        crew: Crew,
+        unit: &mut M,
+    ) -> Result<(), Failed>
+        requires some { 0 < n }
+        requires low { 0 < first }
+        requires fits { first + n ≤ 2 ^ 32 }
+        requires limit { self.old.limit ≡ self.old.over.limit }
+        requires watches { Watches self.old first }
+        requires unit { IsUnit (M.state unit.old) }
+        requires works { (M.state unit.old).works ≡ true }
+        ensures watches { Watches self.new (first + n) }
+        ensures limit { self.new.limit ≡ self.new.over.limit }
+        ensures watched { IsWatched (is_err result) self.old self.new first n speed crew (M.state unit.old) (M.state unit.new) }
+        ensures journal { LeavesOnly (M.state unit.old) (M.state unit.new) LeavesJournal }
+        ensures unit { IsUnit (M.state unit.new) }
+        ensures cause { HasCause (M.state unit.old) (M.state unit.new) (is_err result) }
+        ensures most { (M.state unit.new).clock ≤ (M.state unit.old).clock + 10 }
+    {
+        let ended = self.feed(first, n, speed, crew);
+        note_ended(memory, &ended, unit)
+    }
+
+    // The seconds are fed.
+    fn feed(&mut self, first: u32, n: u32, speed: u8, crew: Crew) -> Ended
+        requires some { 0 < n }
+        requires low { 0 < first }
+        requires fits { first + n ≤ 2 ^ 32 }
+        requires limit { self.old.limit ≡ self.old.over.limit }
+        requires watches { Watches self.old first }
+        ensures watches { Watches self.new (first + n) }
+        ensures limit { self.new.limit ≡ self.new.over.limit }
+        ensures fed { IsFed self.old self.new first n speed crew result }
+        ensures bare { IfSome result.bare (λ s. 0 < s.begin) }
+        ensures over { IfSome result.over (λ o. 0 < o.begin) }
+    {
+        let is_bare = is_driven_bare(speed, crew);
+        let ended = Ended {
+            bare: self.bare.feed_run(first, n, is_bare),
+            over: self.over.feed_run(first, n, speed),
+            bare_begin: self.bare_begin.unwrap_or(crew),
+            over_begin: self.over_begin.unwrap_or(crew),
+            end: self.last,
+        };
+        self.bare_begin = begin_of(is_bare, self.bare_begin, crew);
+        self.over_begin = begin_of(speed > self.limit, self.over_begin, crew);
+        self.last = crew;
+        ended
+    }
+}
+
+// Whether a second is driven without an accepted card in the driver slot.
+fn is_driven_bare(speed: u8, crew: Crew) -> bool
+    ensures { result ≡ is_bare_at speed crew }
+{
+    speed > 0 && crew.driver.is_none()
+}
+
+// The cards at the first second of a run that goes on, where it does.
+fn begin_of(goes_on: bool, begin: Option<Crew>, crew: Crew) -> Option<Crew>
+    ensures { result ≡ (if goes_on then Some (unwrap_or begin crew) else None) }
+{
+    if goes_on {
+        Some(begin.unwrap_or(crew))
+    } else {
+        None
+    }
+}
+
+// Driving without a card, and then an over speeding, is noted, if it has ended.
+fn note_ended<M: Medium>(memory: &UnitMemory, ended: &Ended, unit: &mut M) -> Result<(), Failed>
+    requires unit { IsUnit (M.state unit.old) }
+    requires works { (M.state unit.old).works ≡ true }
+    requires bare { IfSome ended.now.bare (λ s. 0 < s.begin) }
+    requires over { IfSome ended.now.over (λ o. 0 < o.begin) }
+    ensures noted { OnOk result (IfSome (M.state unit.old).image (λ x. IfSome (M.state unit.new).image (AreNoted ended.now x))) }
+    ensures moments { LeavesOnly (M.state unit.old) (M.state unit.new) (AreBeingNoted ended.now) }
+    ensures journal { LeavesOnly (M.state unit.old) (M.state unit.new) LeavesJournal }
+    ensures unit { IsUnit (M.state unit.new) }
+    ensures cause { HasCause (M.state unit.old) (M.state unit.new) (is_err result) }
+    ensures most { (M.state unit.new).clock ≤ (M.state unit.old).clock + 10 }
+{
+    note_bare(memory, ended, unit)?;
+    note_fast(memory, ended, unit)
+}
+
+// Driving without a card that has ended is noted.
+fn note_bare<M: Medium>(memory: &UnitMemory, ended: &Ended, unit: &mut M) -> Result<(), Failed>
+    requires unit { IsUnit (M.state unit.old) }
+    requires works { (M.state unit.old).works ≡ true }
+    requires begin { IfSome ended.now.bare (λ s. 0 < s.begin) }
+    ensures noted { OnOk result (IfSome (M.state unit.old).image (λ x. IfSome (M.state unit.new).image (IsBareNoted (bare_ended ended.now) x))) }
+    ensures moments { LeavesOnly (M.state unit.old) (M.state unit.new) (IsNotingBare (bare_ended ended.now)) }
+    ensures journal { LeavesOnly (M.state unit.old) (M.state unit.new) LeavesJournal }
+    ensures unit { IsUnit (M.state unit.new) }
+    ensures cause { HasCause (M.state unit.old) (M.state unit.new) (is_err result) }
+    ensures most { (M.state unit.new).clock ≤ (M.state unit.old).clock + 4 }
+{
+    match ended.bare {
+        None => Ok(()),
+        Some(span) => memory.note_event(unit, &card_bare(span, ended.bare_begin, ended.end)),
+    }
+}
+
+// An over speeding that has ended is noted.
+fn note_fast<M: Medium>(memory: &UnitMemory, ended: &Ended, unit: &mut M) -> Result<(), Failed>
+    requires unit { IsUnit (M.state unit.old) }
+    requires works { (M.state unit.old).works ≡ true }
+    requires begin { IfSome ended.now.over (λ o. 0 < o.begin) }
+    ensures noted { OnOk result (IfSome (M.state unit.old).image (λ x. IfSome (M.state unit.new).image (IsFastNoted (over_ended ended.now) x))) }
+    ensures moments { LeavesOnly (M.state unit.old) (M.state unit.new) (IsNotingFast (over_ended ended.now)) }
+    ensures journal { LeavesOnly (M.state unit.old) (M.state unit.new) LeavesJournal }
+    ensures unit { IsUnit (M.state unit.new) }
+    ensures cause { HasCause (M.state unit.old) (M.state unit.new) (is_err result) }
+    ensures most { (M.state unit.new).clock ≤ (M.state unit.old).clock + 6 }
+{
+    match ended.over {
+        None => Ok(()),
+        Some(over) => memory.note_over(unit, &over, &driver_of(ended.over_begin)),
+    }
+}
+
+// The driver's card number, zeros without one.
+fn driver_of(crew: Crew) -> FullCardNumber
+    ensures { result ≡ number_or_no_card crew.driver }
+{
+    number_or_zeros(crew.driver)
+}

@@ -1,0 +1,146 @@
+use Rattle.std.proofs.Common.{◌≡◌, arith, Bool, true, false, rules, subst}
+use Rattle.std.specs.Prelude.{is_err}
+use Rattle.run_devices.specs.Told.{arranged}
+use Rattle.run_insertion.specs.Told.{BooksNotes}
+use Rattle.run_insertion.proofs.Opening.{beside-none}
+use Rattle.run_insertion.proofs.Carried.{noted-carried, unclosed-carried}
+use Rattle.run_insertion.specs.Entered.{IsNotedOn}
+use Rattle.run_insertion.proofs.Notes.{unclosed-noted}
+use Rattle.run_insertion.proofs.Accepted.{entered-cut, entered-closed, entered-unclosed, rests-closed, rests-unclosed}
+use Rattle.run_minutes.proofs.Later.{state-same}
+use Rattle.run_insertion.proofs.seating.note_entered.Goals as goal
+use Rattle.run_insertion.proofs.seating.note_entered.Goals.{then-entering-gt0+in_ok-note_moving, else-entering-gt0}
+use Rattle.run_minutes.proofs.Calm.{card-beside}
+
+pub returns-then-session-eq0-clause-stands : goal.returns-then-session-eq0-clause-stands
+returns-then-session-eq0-clause-stands g c = elim c.if-entering-gt0.branch [
+  | then-entering-gt0+in_ok-note_moving w ↦ λ from le s. rw w.keeper-is (w.in_ok-note_moving.ensures.stands from le s)
+  | else-entering-gt0 w ↦ λ from le s. rw w.keeper-is s
+]
+
+pub returns-clause-stands : goal.returns-clause-stands
+returns-clause-stands g c = elim c.if-entering-gt0.branch [
+  | then-entering-gt0+in_ok-note_moving w ↦ λ from le s. rw w.keeper-is (w.in_ok-note_moving.ensures.stands from le s)
+  | else-entering-gt0 w ↦ λ from le s. rw w.keeper-is s
+]
+
+pub returns-in_err-note_moving-clause-noted : goal.returns-in_err-note_moving-clause-noted
+returns-in_err-note_moving-clause-noted g c =
+    let k = c.args.keeper.now in
+    let e = c.args.entering in
+    let U = g.M.Medium.state c.args.unit.now in
+    let V = g.M.Medium.state c.note_moving.new.unit in
+    let X = g.C.Chip.state c.args.card.now in
+    let Y = g.C.Chip.state c.note_moving.new.card in
+    let Z = g.D.Chip.state c.args.others.now in
+    let m = c.in_err-note_moving.ensures.noted in
+    let failed : true ≡ is_err c.from_residual.result = search rules in
+    subst (λ (b : Bool). (fell : Bool) × IsNotedOn c.args.app c.args.session e b k c.note_moving.new.keeper c.args.breaks.now c.note_moving.new.breaks U V X Y fell × BooksNotes c.args.app e b k c.note_moving.new.keeper fell (arranged e.which U X Z) (arranged e.which V Y Z)) failed
+    (m.0, entered-cut c.args.app c.args.session e k c.note_moving.new.keeper c.args.breaks.now c.note_moving.new.breaks U V X Y m.0 c.if-entering-gt0.true m.1, m.2)
+
+pub returns-then-session-eq0-clause-noted : goal.returns-then-session-eq0-clause-noted
+returns-then-session-eq0-clause-noted g c =
+    let k = c.args.keeper.now in
+    let e = c.args.entering in
+    let U = g.M.Medium.state c.args.unit.now in
+    let X = g.C.Chip.state c.args.card.now in
+    elim c.if-entering-gt0.branch [
+      | then-entering-gt0+in_ok-note_moving w ↦ let m = w.in_ok-note_moving.ensures.noted in
+          rw (w.keeper-is, w.breaks-is, w.unit-is, w.card-is) (
+            m.0,
+            entered-closed c.args.app c.args.session e k w.note_moving.new.keeper c.args.breaks.now w.note_moving.new.breaks U (g.M.Medium.state w.note_moving.new.unit) X (g.C.Chip.state w.note_moving.new.card)
+                m.0 w.if-entering-gt0.true c.if-session-eq0.true m.1,
+            m.2,
+          )
+      | else-entering-gt0 w ↦ rw (w.keeper-is, w.breaks-is, w.unit-is, w.card-is) (false, rests-closed c.args.app c.args.session e k c.args.breaks.now U X w.if-entering-gt0.false c.if-session-eq0.true, λ f wc a may. may.powered)
+    ]
+
+pub returns-clause-noted : goal.returns-clause-noted
+returns-clause-noted g c =
+    let k = c.args.keeper.now in
+    let e = c.args.entering in
+    let U = g.M.Medium.state c.args.unit.now in
+    let X = g.C.Chip.state c.args.card.now in
+    let Z = g.D.Chip.state c.args.others.now in
+    let next = unclosed-noted c.args.session e.at.second c.crew-crew.result k.cabin c.note_unclosed.result c.crew-crew.ensures c.note_unclosed.ensures.noted c.note_unclosed.ensures.moments in
+    elim c.if-entering-gt0.branch [
+      | then-entering-gt0+in_ok-note_moving w ↦ let m = w.in_ok-note_moving.ensures.noted in
+          rw (w.keeper-is, w.breaks-is, w.card-is) (
+            m.0,
+            entered-unclosed c.args.app c.args.session e k w.note_moving.new.keeper c.args.breaks.now w.note_moving.new.breaks U (g.M.Medium.state w.note_moving.new.unit) X (g.C.Chip.state w.note_moving.new.card)
+                m.0 w.if-entering-gt0.true (is_err c.note_unclosed.result) (g.M.Medium.state c.note_unclosed.new.unit) c.if-session-eq0.false m.1 (rw w.unit-is at next),
+            unclosed-carried c.args.app e k w.note_moving.new.keeper m.0 U (g.M.Medium.state w.note_moving.new.unit) (g.M.Medium.state c.note_unclosed.new.unit) X (g.C.Chip.state w.note_moving.new.card) Z (is_err c.note_unclosed.result) m.1.keeper
+                (g.met.M.Medium.coherent w.note_moving.new.unit) m.2 (rw w.unit-is at c.note_unclosed.ensures.journal) (rw w.unit-is at c.note_unclosed.ensures.cause),
+          )
+      | else-entering-gt0 w ↦ rw (w.keeper-is, w.breaks-is, w.card-is) (
+        false,
+        rests-unclosed c.args.app c.args.session e k c.args.breaks.now U (g.M.Medium.state c.note_unclosed.new.unit) X w.if-entering-gt0.false (is_err c.note_unclosed.result)
+            c.if-session-eq0.false (rw w.unit-is at next),
+        λ f wc a may. noted-carried e.which f wc k.cabin.cards U (g.M.Medium.state c.note_unclosed.new.unit) X Z (is_err c.note_unclosed.result) may.found (g.met.M.Medium.coherent c.args.unit.now) may.powered
+            (rw w.unit-is at c.note_unclosed.ensures.journal) (rw w.unit-is at c.note_unclosed.ensures.cause),
+      )
+    ]
+
+pub returns-clause-card : goal.returns-clause-card
+returns-clause-card g c = elim c.if-entering-gt0.branch [
+  | then-entering-gt0+in_ok-note_moving w ↦ rw (w.keeper-is, w.card-is) w.in_ok-note_moving.ensures.card
+  | else-entering-gt0 w ↦ rw (w.keeper-is, w.card-is) c.requires.card
+]
+
+pub returns-then-session-eq0-clause-timed : goal.returns-then-session-eq0-clause-timed
+returns-then-session-eq0-clause-timed g c = elim c.if-entering-gt0.branch [
+  | then-entering-gt0+in_ok-note_moving w ↦ rw w.card-is w.in_ok-note_moving.ensures.timed
+  | else-entering-gt0 w ↦ rw w.card-is (λ f wc a may. beside-none f c.args.entering.which (g.C.Chip.state c.args.card.now))
+]
+
+pub returns-clause-timed : goal.returns-clause-timed
+returns-clause-timed g c = elim c.if-entering-gt0.branch [
+  | then-entering-gt0+in_ok-note_moving w ↦ rw w.card-is w.in_ok-note_moving.ensures.timed
+  | else-entering-gt0 w ↦ rw w.card-is (λ f wc a may. beside-none f c.args.entering.which (g.C.Chip.state c.args.card.now))
+]
+
+pub returns-then-session-eq0-clause-more : goal.returns-then-session-eq0-clause-more
+returns-then-session-eq0-clause-more g c = elim c.if-entering-gt0.branch [
+  | then-entering-gt0+in_ok-note_moving w ↦ rw w.card-is w.in_ok-note_moving.ensures.more
+  | else-entering-gt0 w ↦ rw w.card-is (omega arith)
+]
+
+pub returns-clause-more : goal.returns-clause-more
+returns-clause-more g c = elim c.if-entering-gt0.branch [
+  | then-entering-gt0+in_ok-note_moving w ↦ rw w.card-is w.in_ok-note_moving.ensures.more
+  | else-entering-gt0 w ↦ rw w.card-is (omega arith)
+]
+
+-- ---- what holds of the devices after any calls
+
+pub returns-in_err-note_moving-clause-later : goal.returns-in_err-note_moving-clause-later
+returns-in_err-note_moving-clause-later g c = c.in_err-note_moving.ensures.later
+
+pub returns-then-session-eq0-clause-later : goal.returns-then-session-eq0-clause-later
+returns-then-session-eq0-clause-later g c = elim c.if-entering-gt0.branch [
+  | then-entering-gt0+in_ok-note_moving w ↦ rw w.card-is w.in_ok-note_moving.ensures.later
+  | else-entering-gt0 w ↦ rw w.card-is (state-same (g.C.Chip.state c.args.card.now))
+]
+
+pub returns-clause-later : goal.returns-clause-later
+returns-clause-later g c = elim c.if-entering-gt0.branch [
+  | then-entering-gt0+in_ok-note_moving w ↦ rw w.card-is w.in_ok-note_moving.ensures.later
+  | else-entering-gt0 w ↦ rw w.card-is (state-same (g.C.Chip.state c.args.card.now))
+]
+
+-- ---- where no tear of a failed call is told no card has broken down
+
+pub returns-in_err-note_moving-clause-calm : goal.returns-in_err-note_moving-clause-calm
+returns-in_err-note_moving-clause-calm g c = c.in_err-note_moving.ensures.calm
+
+pub returns-then-session-eq0-clause-calm : goal.returns-then-session-eq0-clause-calm
+returns-then-session-eq0-clause-calm g c = elim c.if-entering-gt0.branch [
+  | then-entering-gt0+in_ok-note_moving w ↦ rw (w.breaks-is, w.card-is) w.in_ok-note_moving.ensures.calm
+  | else-entering-gt0 w ↦ rw (w.breaks-is, w.card-is) (card-beside (g.C.Chip.state c.args.card.now) (omega arith))
+]
+
+pub returns-clause-calm : goal.returns-clause-calm
+returns-clause-calm g c = elim c.if-entering-gt0.branch [
+  | then-entering-gt0+in_ok-note_moving w ↦ rw (w.breaks-is, w.card-is) w.in_ok-note_moving.ensures.calm
+  | else-entering-gt0 w ↦ rw (w.breaks-is, w.card-is) (card-beside (g.C.Chip.state c.args.card.now) (omega arith))
+]

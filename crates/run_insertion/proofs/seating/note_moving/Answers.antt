@@ -1,0 +1,106 @@
+use Rattle.std.proofs.Common.{◌≡◌, Bool, true, false, rules, refl, subst, arith, ap}
+use Rattle.std.specs.Prelude.{None, is_err}
+use Rattle.event_model.specs.declared.kinds.TheConstants.{INSERTION_WHILE_DRIVING}
+use Rattle.run_insertion.specs.Noted.{IsOnUnit, IsComing, event_of}
+use Rattle.run_insertion.specs.Entered.{IsMoved}
+use Rattle.run_insertion.proofs.Opening.{beside-none}
+use Rattle.run_insertion.proofs.Notes.{not_cut, one-note, fault-noted}
+use Rattle.card_layout.proofs.Sizes.{largest_image}
+use Rattle.run_devices.specs.Told.{arranged}
+use Rattle.run_insertion.specs.Told.{BooksNotes}
+use Rattle.run_insertion.proofs.Carried as booked
+use Rattle.run_insertion.proofs.Accepted.{event-is, moved-cut, moved-kept, moved-torn}
+use Rattle.run_minutes.proofs.Later.{state-same, state-by}
+use Rattle.run_minutes.proofs.Calm.{card-beside, card-rests, card-fell}
+use Rattle.run_outcome.specs.Lines.{Listed}
+use Rattle.log_model.specs.declared.lines.Break.{Break}
+use Rattle.run_insertion.proofs.seating.note_moving.Goals as goal
+
+pub note_event_on-requires-clause-port : goal.note_event_on-requires-clause-port
+note_event_on-requires-clause-port g c = c.requires.card.port c.args.app c.requires.sizes
+
+pub returns-in-Err-clause-stands : goal.returns-in-Err-clause-stands
+returns-in-Err-clause-stands g c = λ from le s. c.tear.ensures.stands from None s
+
+pub returns-in_err-note_driving-clause-noted : goal.returns-in_err-note_driving-clause-noted
+returns-in_err-note_driving-clause-noted g c =
+    let k = c.args.keeper.now in
+    let e = c.args.entering in
+    let U = g.M.Medium.state c.args.unit.now in
+    let V = g.M.Medium.state c.note_driving.new.unit in
+    let X = g.C.Chip.state c.args.card.now in
+    let Z = g.D.Chip.state c.args.others.now in
+    let failed : true ≡ is_err c.from_residual.result = search rules in
+    subst (λ (b : Bool). (fell : Bool) × IsMoved c.args.app e b k k c.args.breaks.now c.args.breaks.now U V X X fell × BooksNotes c.args.app e b k k fell (arranged e.which U X Z) (arranged e.which V X Z)) failed (
+      false,
+      moved-cut c.args.app e k c.args.breaks.now U V X (one-note IsOnUnit IsComing (event_of INSERTION_WHILE_DRIVING e.at.second e.at.second k.cabin) (λ well. absurd (not_cut well)) c.note_driving.ensures.moments),
+      λ f w a m. booked.moved-cut f w c.args.app a e k U V X Z m (g.met.M.Medium.coherent c.args.unit.now) c.note_driving.ensures.journal c.in_err-note_driving.ensures.cause,
+    )
+
+pub returns-in-Ok-clause-noted : goal.returns-in-Ok-clause-noted
+returns-in-Ok-clause-noted g c =
+    let k = c.args.keeper.now in
+    let e = c.args.entering in (
+      false,
+      moved-kept c.args.app e k c.args.breaks.now (g.M.Medium.state c.args.unit.now) (g.M.Medium.state c.note_driving.new.unit) (g.C.Chip.state c.args.card.now) (g.C.Chip.state c.note_event_on.new.card) c.on_card-event.result
+          (event-is _ _ _ _ e c.crew.result c.on_card-event.ensures c.card_driving.ensures c.identity.ensures) c.note_event_on.ensures.moments c.note_event_on.ensures.most
+          (one-note IsOnUnit IsComing (event_of INSERTION_WHILE_DRIVING e.at.second e.at.second k.cabin) (λ well. c.in_ok-note_driving.ensures.noted) c.note_driving.ensures.moments) c.in-Ok.ensures.noted c.in-Ok.ensures.cause,
+      λ f w a m. booked.moved-kept f w c.args.app a e k (g.M.Medium.state c.args.unit.now) (g.M.Medium.state c.note_driving.new.unit) (g.C.Chip.state c.args.card.now) (g.D.Chip.state c.args.others.now) m (g.met.M.Medium.coherent c.args.unit.now) c.note_driving.ensures.journal c.in_ok-note_driving.ensures.cause (g.met.M.Medium.coherent c.note_driving.new.unit) (g.met.C.Chip.coherent c.args.card.now) (g.C.Chip.state c.note_event_on.new.card) (g.met.C.Chip.coherent c.note_event_on.new.card) c.on_card-event.result c.note_event_on.ensures.moments c.requires.works c.in-Ok.ensures.cause (omega (arith, largest_image c.args.app (c.requires.card.port c.args.app c.requires.sizes).good, (c.requires.card.port c.args.app c.requires.sizes).size)),
+    )
+
+pub returns-in-Err-clause-noted : goal.returns-in-Err-clause-noted
+returns-in-Err-clause-noted g c =
+    let k = c.args.keeper.now in
+    let e = c.args.entering in (
+      true,
+      moved-torn c.args.app e k c.args.breaks.now (g.M.Medium.state c.args.unit.now) (g.M.Medium.state c.note_driving.new.unit) (g.C.Chip.state c.args.card.now) (g.C.Chip.state c.note_event_on.new.card) c.on_card-event.result
+          (event-is _ _ _ _ e c.crew.result c.on_card-event.ensures c.card_driving.ensures c.identity.ensures) c.note_event_on.ensures.moments c.note_event_on.ensures.most
+          (one-note IsOnUnit IsComing (event_of INSERTION_WHILE_DRIVING e.at.second e.at.second k.cabin) (λ well. c.in_ok-note_driving.ensures.noted) c.note_driving.ensures.moments)
+          (is_err c.tear.result) c.tear.new.self c.tear.new.breaks (g.M.Medium.state c.tear.new.unit) c.requires.works c.in-Err.ensures.cause c.tear.ensures.keeper c.tear.ensures.told
+          (fault-noted e k c.tear.new.self c.tear.result c.tear.ensures.keeper c.tear.ensures.noted c.tear.ensures.moments),
+      λ f w a m. booked.moved-torn f w c.args.app a e k (g.M.Medium.state c.args.unit.now) (g.M.Medium.state c.note_driving.new.unit) (g.C.Chip.state c.args.card.now) (g.D.Chip.state c.args.others.now) m (g.met.M.Medium.coherent c.args.unit.now) c.note_driving.ensures.journal c.in_ok-note_driving.ensures.cause (g.met.M.Medium.coherent c.note_driving.new.unit) (g.met.C.Chip.coherent c.args.card.now) (g.C.Chip.state c.note_event_on.new.card) (g.met.C.Chip.coherent c.note_event_on.new.card) c.on_card-event.result c.note_event_on.ensures.moments (is_err c.tear.result) c.tear.new.self (g.M.Medium.state c.tear.new.unit) c.tear.ensures.keeper c.tear.ensures.journal c.tear.ensures.cause,
+    )
+
+-- ---- when the card was last used
+
+pub returns-in_err-note_driving-clause-timed : goal.returns-in_err-note_driving-clause-timed
+returns-in_err-note_driving-clause-timed g c = λ f w a m. beside-none f c.args.entering.which (g.C.Chip.state c.args.card.now)
+
+pub returns-in-Ok-clause-timed : goal.returns-in-Ok-clause-timed
+returns-in-Ok-clause-timed g c = λ f w a m. booked.moved-timed f w c.args.app a c.args.entering c.args.keeper.now (g.M.Medium.state c.args.unit.now) (g.M.Medium.state c.note_driving.new.unit) (g.C.Chip.state c.args.card.now) (g.D.Chip.state c.args.others.now) m (g.met.M.Medium.coherent c.args.unit.now) c.note_driving.ensures.journal c.in_ok-note_driving.ensures.cause (g.met.M.Medium.coherent c.note_driving.new.unit) (g.met.C.Chip.coherent c.args.card.now) (g.C.Chip.state c.note_event_on.new.card) (g.met.C.Chip.coherent c.note_event_on.new.card) c.on_card-event.result c.note_event_on.ensures.moments
+
+pub returns-in-Err-clause-timed : goal.returns-in-Err-clause-timed
+returns-in-Err-clause-timed g c = λ f w a m. booked.moved-timed f w c.args.app a c.args.entering c.args.keeper.now (g.M.Medium.state c.args.unit.now) (g.M.Medium.state c.note_driving.new.unit) (g.C.Chip.state c.args.card.now) (g.D.Chip.state c.args.others.now) m (g.met.M.Medium.coherent c.args.unit.now) c.note_driving.ensures.journal c.in_ok-note_driving.ensures.cause (g.met.M.Medium.coherent c.note_driving.new.unit) (g.met.C.Chip.coherent c.args.card.now) (g.C.Chip.state c.note_event_on.new.card) (g.met.C.Chip.coherent c.note_event_on.new.card) c.on_card-event.result c.note_event_on.ensures.moments
+
+-- ---- how often it broke down
+
+pub returns-in_err-note_driving-clause-more : goal.returns-in_err-note_driving-clause-more
+returns-in_err-note_driving-clause-more g c = omega arith
+
+pub returns-in-Ok-clause-more : goal.returns-in-Ok-clause-more
+returns-in-Ok-clause-more g c = c.in-Ok.ensures.cause.breakdowns
+
+pub returns-in-Err-clause-more : goal.returns-in-Err-clause-more
+returns-in-Err-clause-more g c = c.in-Err.ensures.cause.breakdowns
+
+-- ---- what holds of the devices after any calls
+
+pub returns-in_err-note_driving-clause-later : goal.returns-in_err-note_driving-clause-later
+returns-in_err-note_driving-clause-later g c = state-same (g.C.Chip.state c.args.card.now)
+
+pub returns-in-Ok-clause-later : goal.returns-in-Ok-clause-later
+returns-in-Ok-clause-later g c = state-by (g.C.Chip.state c.args.card.now) (g.C.Chip.state c.note_event_on.new.card) _ c.note_event_on.ensures.moments.later c.in-Ok.ensures.cause
+
+pub returns-in-Err-clause-later : goal.returns-in-Err-clause-later
+returns-in-Err-clause-later g c = state-by (g.C.Chip.state c.args.card.now) (g.C.Chip.state c.note_event_on.new.card) _ c.note_event_on.ensures.moments.later c.in-Err.ensures.cause
+
+-- ---- where no tear of a failed call is told no card has broken down
+
+pub returns-in_err-note_driving-clause-calm : goal.returns-in_err-note_driving-clause-calm
+returns-in_err-note_driving-clause-calm g c = card-beside (g.C.Chip.state c.args.card.now) (omega arith)
+
+pub returns-in-Ok-clause-calm : goal.returns-in-Ok-clause-calm
+returns-in-Ok-clause-calm g c = card-rests refl (c.in-Ok.ensures.cause.unbroken refl)
+
+pub returns-in-Err-clause-calm : goal.returns-in-Err-clause-calm
+returns-in-Err-clause-calm g c = card-fell c.args.entering.slot c.args.entering.at (ap (λ (l : Listed Break). l.items) c.tear.ensures.told)

@@ -1,0 +1,112 @@
+use Rattle.std.proofs.Common.{◌≡◌, arith, ◌≤◌, ℕ, Bool, true, false, rules, Option, sym, subst}
+use Rattle.std.specs.Prelude.{is_err}
+use Rattle.log_model.specs.Causes.{device_of}
+use Rattle.run_insertion.specs.Entering.{and_marks, last_of, taken_as}
+use Rattle.run_insertion.specs.Entered.{IsEntry, IsTaken}
+use Rattle.run_devices.specs.Told.{arranged}
+use Rattle.run_insertion.specs.Told.{BooksTaken}
+use Rattle.run_insertion.proofs.Opening.{beside-none}
+use Rattle.run_insertion.proofs.Carried.{taken-row, seat-found, taken-notes}
+use Rattle.run_insertion.proofs.Accepted.{taken-cut, taken-on}
+use Rattle.run_insertion.proofs.Seats.{if-any, seated-ready, seated-minute}
+use Rattle.run_minutes.proofs.Later.{state-same}
+use Rattle.run_minutes.proofs.Calm.{card-beside}
+use Rattle.run_insertion.proofs.seating.take_in.Goals as goal
+
+pub returns-in_err-seat-clause-ended : goal.returns-in_err-seat-clause-ended
+returns-in_err-seat-clause-ended g c =
+    let k = c.args.keeper.now in
+    let e = c.args.entering in
+    let o = c.args.outcome.now in
+    let entered = c.args.entered in
+    let U = g.M.Medium.state c.args.unit.now in
+    let V = g.M.Medium.state c.seat.new.unit in
+    let X = g.C.Chip.state c.args.card.now in
+    let Z = g.D.Chip.state c.args.others.now in
+    let s = c.in_err-seat.ensures.seated in
+    let marked = subst (λ (t : ℕ). c.tell_replayed.new.marks ≡ and_marks (device_of e.which) t (last_of entered.owed.items entered.replayed) o.marks) c.clock-clock.ensures c.tell_replayed.ensures.told in
+    let t = taken-cut c.args.app e entered X.clock k c.args.noted.now o c.tell_replayed.new.marks c.find.new.finds marked c.find.ensures.told c.seat.new.keeper c.seat.new.noted U V X s.0 s.1 in
+    let failed : true ≡ is_err c.from_residual.result = search rules in
+    subst (λ (b : Bool). (fell : Bool) × (entry : Option ℕ) × IsEntry entry b U.image
+    × IsTaken c.args.app e b k c.seat.new.keeper c.args.noted.now c.seat.new.noted o (record o { marks = c.tell_replayed.new.marks; finds = c.find.new.finds }) U V X X (taken_as fell entered X.clock entry) × BooksTaken entered (taken_as fell entered X.clock entry) e b k c.seat.new.keeper U V X X Z) failed (
+      false,
+      s.0,
+      t.0,
+      t.1,
+      λ f w m. (
+        taken-row entered X.clock e k.journal.kept f w c.seat.new.keeper.cabin.cards (arranged e.which V X Z) s.0 (c.in_err-seat.ensures.booked f w m),
+        seat-found entered.look entered.session entered.row e true k c.seat.new.keeper c.args.noted.now c.seat.new.noted U.image s.0 s.1.by f m.named m.found,
+        beside-none f e.which X,
+      ),
+    )
+
+pub returns-clause-ended : goal.returns-clause-ended
+returns-clause-ended g c =
+    let k = c.args.keeper.now in
+    let e = c.args.entering in
+    let o = c.args.outcome.now in
+    let entered = c.args.entered in
+    let U = g.M.Medium.state c.args.unit.now in
+    let X = g.C.Chip.state c.args.card.now in
+    let s = c.in_ok-seat.ensures.seated in
+    let m = c.note_entered.ensures.noted in
+    let marked = subst (λ (t : ℕ). c.tell_replayed.new.marks ≡ and_marks (device_of e.which) t (last_of entered.owed.items entered.replayed) o.marks) c.clock-clock.ensures c.tell_replayed.ensures.told in
+    let t = taken-on c.args.app e entered X.clock k c.args.noted.now o c.tell_replayed.new.marks c.find.new.finds marked c.find.ensures.told m.0 (is_err c.note_entered.result) c.seat.new.keeper c.note_entered.new.keeper c.seat.new.noted c.note_entered.new.breaks
+    U (g.M.Medium.state c.seat.new.unit) (g.M.Medium.state c.note_entered.new.unit) X (g.C.Chip.state c.note_entered.new.card) s.0 s.1 m.1 in
+    let Z = g.D.Chip.state c.args.others.now in (
+      m.0,
+      s.0,
+      t.0,
+      t.1,
+      taken-notes c.args.app e entered X.clock k c.args.noted.now m.0 (is_err c.note_entered.result) c.seat.new.keeper c.note_entered.new.keeper c.seat.new.noted U (g.M.Medium.state c.seat.new.unit) (g.M.Medium.state c.note_entered.new.unit)
+          X (g.C.Chip.state c.note_entered.new.card) Z m.1.keeper s.0 s.1.by c.requires.session c.in_ok-seat.ensures.booked c.in_ok-seat.ensures.value m.2 c.note_entered.ensures.timed,
+    )
+
+-- ---- what is ready behind it
+
+pub returns-in_err-seat-clause-card : goal.returns-in_err-seat-clause-card
+returns-in_err-seat-clause-card g c =
+    let s = c.in_err-seat.ensures.seated in
+    seated-ready c.args.entered.look c.args.entered.session c.args.entered.row c.args.entering true c.args.keeper.now c.seat.new.keeper c.args.noted.now c.seat.new.noted (g.M.Medium.state c.args.unit.now).image s.0 c.args.app (g.C.Chip.card c.args.card.now) (g.C.Chip.state c.args.card.now) s.1.by c.requires.bare c.requires.sizes c.requires.session c.requires.port c.requires.works
+
+pub note_entered-requires-clause-card : goal.note_entered-requires-clause-card
+note_entered-requires-clause-card g c =
+    let s = c.in_ok-seat.ensures.seated in
+    seated-ready c.args.entered.look c.args.entered.session c.args.entered.row c.args.entering false c.args.keeper.now c.seat.new.keeper c.args.noted.now c.seat.new.noted (g.M.Medium.state c.args.unit.now).image s.0 c.args.app (g.C.Chip.card c.args.card.now) (g.C.Chip.state c.args.card.now) s.1.by c.requires.bare c.requires.sizes c.requires.session c.requires.port c.requires.works
+
+pub returns-clause-row : goal.returns-clause-row
+returns-clause-row g c = if-any _ (c.note_entered.ensures.rows c.args.entering.which c.in_ok-seat.ensures.row)
+
+pub returns-clause-stands : goal.returns-clause-stands
+returns-clause-stands g c = λ from le s.
+    let t = c.in_ok-seat.ensures.seated in
+    let same = seated-minute c.args.entered.look c.args.entered.session c.args.entered.row c.args.entering false c.args.keeper.now c.seat.new.keeper c.args.noted.now c.seat.new.noted (g.M.Medium.state c.args.unit.now).image t.0 t.1.by in
+    c.note_entered.ensures.stands from (subst (λ (m : ℕ). m ≤ from) (sym same) le) (c.in_ok-seat.ensures.stands from le s)
+
+pub returns-in_err-seat-clause-more : goal.returns-in_err-seat-clause-more
+returns-in_err-seat-clause-more g c = omega arith
+
+pub returns-clause-more : goal.returns-clause-more
+returns-clause-more g c = c.note_entered.ensures.more
+
+pub returns-in_err-seat-clause-most : goal.returns-in_err-seat-clause-most
+returns-in_err-seat-clause-most g c = c.tell_replayed.ensures.most
+
+pub returns-clause-most : goal.returns-clause-most
+returns-clause-most g c = c.tell_replayed.ensures.most
+
+-- ---- what holds of the devices after any calls
+
+pub returns-in_err-seat-clause-later : goal.returns-in_err-seat-clause-later
+returns-in_err-seat-clause-later g c = state-same (g.C.Chip.state c.args.card.now)
+
+pub returns-clause-later : goal.returns-clause-later
+returns-clause-later g c = c.note_entered.ensures.later
+
+-- ---- where no tear of a failed call is told no card has broken down
+
+pub returns-in_err-seat-clause-calm : goal.returns-in_err-seat-clause-calm
+returns-in_err-seat-clause-calm g c = card-beside (g.C.Chip.state c.args.card.now) (omega arith)
+
+pub returns-clause-calm : goal.returns-clause-calm
+returns-clause-calm g c = c.note_entered.ensures.calm

@@ -1,0 +1,230 @@
+//! A card that was put into a slot, or meets power there, is accepted or turned away.
+ghost use Rattle.std.specs.Prelude.{◌≡◌, ◌≢◌, ℕ, ◌+◌, ◌/◌, ◌<◌, ◌≤◌, ◌^◌, true, false, Some, None, Ok, IfSome, OnOk, length, is_err};
+ghost use Rattle.trace_model.specs.declared.Card.{Card};
+ghost use Rattle.tach_media.specs.Medium.{LeavesOnly, HasCause};
+ghost use Rattle.unit_notes.specs.Journal.{LeavesJournal};
+ghost use Rattle.card_commands.specs.Ports.{IsPort};
+ghost use Rattle.card_slots.specs.Calls.{seat_in, is_card};
+ghost use Rattle.log_model.specs.Slots.{other_slot};
+ghost use Rattle.run_crew.specs.Cards.{known_of, session_of};
+ghost use Rattle.run_crew.specs.Cabin.{Stands};
+ghost use Rattle.run_minutes.specs.Keeping.{UnitReady, CardReady, HasItsRow};
+ghost use Rattle.run_minutes.specs.Later.{IsLater, IsCalm};
+ghost use Rattle.card_layout.specs.declared.files.TheConstants.{LARGEST_IMAGE};
+ghost use Rattle.card_image.specs.Own.{own_sizes};
+ghost use Rattle.card_validity.specs.Judged.{TellsSizes};
+ghost use Rattle.run_insertion.specs.Told.{BooksJudged, BooksEntered, IsEarly, WasInTime};
+ghost use Rattle.card_session.specs.declared.words.TheConstants.{LATEST_MINUTE};
+ghost use Rattle.run_insertion.specs.Entering.{Ending, Way, Unfit, Ahead, outcome_by, most_owed};
+ghost use Rattle.run_insertion.specs.Noted.{HasNoted, IsOnUnit, IsComing, notes_by};
+ghost use Rattle.run_insertion.specs.Entered.{IsJudgedSo, HasEntered};
+
+use crate::lines::{Entering, find, other_card};
+use crate::noting::{note_not_valid, note_overlap};
+use crate::seating::take_in;
+use crate::waking::{UNTOLD, place_of_field, wake};
+use card_layout::{Application, Fid};
+use device_calls::{NotEntered, enter};
+use log_model::Verdict;
+use run_minutes::Keeper;
+use run_outcome::Outcome;
+use tach_media::{Chip, Failed, Medium};
+use tacho_types::TimeReal;
+
+// A card is not valid, which is told and noted.
+fn refuse<M: Medium>(
+    keeper: &Keeper,
+    entering: Entering,
+    fid: Fid,
+    place: u32,
+    unit: &mut M,
+    outcome: &mut Outcome,
+) -> Result<(), Failed>
+    requires ready { UnitReady keeper.now (M.state unit.old) }
+    requires second { entering.at.second ≢ 0 }
+    requires room { length outcome.old.finds.items < outcome.old.finds.room }
+    ensures told { outcome.new ≡ outcome_by (Unfit fid place) entering outcome.old }
+    ensures journal { LeavesOnly (M.state unit.old) (M.state unit.new) LeavesJournal }
+    ensures notes { HasNoted IsOnUnit IsComing (notes_by (Unfit fid place) entering 0 keeper.now.cabin) (is_err result) (M.state unit.old) (M.state unit.new) }
+    ensures ready { OnOk result (UnitReady keeper.now (M.state unit.new)) }
+    ensures rows { (card : Card) → HasItsRow keeper.now.cabin.cards (M.state unit.old) card → OnOk result (HasItsRow keeper.now.cabin.cards (M.state unit.new) card) }
+    ensures cause { HasCause (M.state unit.old) (M.state unit.new) (is_err result) }
+{
+    find(
+        entering,
+        Verdict::NotValid { fid, place },
+        &mut outcome.finds,
+    );
+    note_not_valid(keeper, entering.at.second, unit)
+}
+
+// A card tells of a later time, which is told and noted.
+fn defer<M: Medium>(
+    keeper: &Keeper,
+    entering: Entering,
+    stored: u32,
+    unit: &mut M,
+    outcome: &mut Outcome,
+) -> Result<(), Failed>
+    requires ready { UnitReady keeper.now (M.state unit.old) }
+    requires second { entering.at.second ≢ 0 }
+    requires room { length outcome.old.finds.items < outcome.old.finds.room }
+    ensures told { outcome.new ≡ outcome_by (Ahead stored) entering outcome.old }
+    ensures low { stored < 2 ^ 32 }
+    ensures journal { LeavesOnly (M.state unit.old) (M.state unit.new) LeavesJournal }
+    ensures notes { HasNoted IsOnUnit IsComing (notes_by (Ahead stored) entering 0 keeper.now.cabin) (is_err result) (M.state unit.old) (M.state unit.new) }
+    ensures ready { OnOk result (UnitReady keeper.now (M.state unit.new)) }
+    ensures rows { (card : Card) → HasItsRow keeper.now.cabin.cards (M.state unit.old) card → OnOk result (HasItsRow keeper.now.cabin.cards (M.state unit.new) card) }
+    ensures cause { HasCause (M.state unit.old) (M.state unit.new) (is_err result) }
+{
+    let now = entering.at.second;
+    find(
+        entering,
+        Verdict::TimeOverlap { stored, now },
+        &mut outcome.finds,
+    );
+    note_overlap(keeper, now, stored, unit)
+}
+
+// A card that goes by these sizes is judged, and accepted or turned away.
+fn accept_by<M: Medium, C: Chip, D: Chip>(
+    keeper: &mut Keeper,
+    noted: &mut u64,
+    entering: Entering,
+    app: Application,
+    unit: &mut M,
+    card: &mut C,
+    others: &D,
+    outcome: &mut Outcome,
+) -> Result<(), Failed>
+    requires ready { UnitReady keeper.old (M.state unit.old) }
+    requires seat { seat_in keeper.old.cabin.slots.seats entering.slot ≡ Some (record { card = entering.which; newest = None }) }
+    requires elsewhere { is_card (seat_in keeper.old.cabin.slots.seats (other_slot entering.slot)) entering.which ≡ false }
+    requires minute { keeper.old.cabin.slots.minute ≤ entering.at.second / 60 }
+    requires second { entering.at.second ≢ 0 }
+    requires late { keeper.old.journal.kept < entering.at.second / 60 }
+    requires last { entering.at.second / 60 < LATEST_MINUTE }
+    requires fits { entering.odometer.0 < 2 ^ 24 }
+    requires sizes { (known_of keeper.old.cabin.cards entering.which).sizes ≡ Ok app }
+    requires bare { session_of keeper.old.cabin.cards entering.which ≡ None }
+    requires port { IsPort app None (C.card card.old) (C.state card.old) }
+    requires told { IfSome (C.state card.old).image (TellsSizes app) }
+    requires sized { IfSome (C.state card.old).image (λ x. own_sizes x ≡ app) }
+    requires works { (C.state card.old).works ≡ true }
+    requires breaks { length outcome.old.breaks.items < outcome.old.breaks.room }
+    requires finds { length outcome.old.finds.items < outcome.old.finds.room }
+    ensures marks { (outcome.new.marks.room ≡ outcome.old.marks.room) × (length outcome.new.marks.items ≤ length outcome.old.marks.items + most_owed) }
+    ensures ended { (ending : Ending) × IsJudgedSo app entering (is_err result) keeper.old keeper.new noted.old noted.new outcome.old outcome.new (M.state unit.old) (M.state unit.new) (C.state card.old) (C.state card.new) ending
+        × BooksJudged ending entering (is_err result) keeper.old keeper.new (M.state unit.old) (M.state unit.new) (C.state card.old) (C.state card.new) (D.state others.now) }
+    ensures ready { OnOk result (UnitReady keeper.new (M.state unit.new)) }
+    ensures rows { (card : Card) → HasItsRow keeper.old.cabin.cards (M.state unit.old) card → OnOk result (HasItsRow keeper.new.cabin.cards (M.state unit.new) card) }
+    ensures row { IfSome (session_of keeper.new.cabin.cards entering.which) (λ a. OnOk result (HasItsRow keeper.new.cabin.cards (M.state unit.new) entering.which)) }
+    ensures stands { (from : ℕ) → keeper.old.cabin.slots.minute ≤ from → Stands from None keeper.old.cabin → Stands from None keeper.new.cabin }
+    ensures cause { HasCause (M.state unit.old) (M.state unit.new) (is_err result) }
+    ensures card { CardReady (known_of keeper.new.cabin.cards entering.which) (C.card card.new) (C.state card.new) }
+    ensures size { (C.state card.new).size ≡ (C.state card.old).size }
+    ensures clock { (M.state unit.old).clock ≤ (M.state unit.new).clock }
+    ensures clock_card { (C.state card.old).clock ≤ (C.state card.new).clock }
+    ensures more { (C.state card.old).breakdowns ≤ (C.state card.new).breakdowns }
+    ensures in_time { IsEarly entering (C.state card.old) (C.state card.new) }
+    ensures later { IsLater (C.state card.old) (C.state card.new) }
+    ensures calm { IsCalm outcome.old.breaks.items outcome.new.breaks.items (C.state card.old) (C.state card.new) }
+{
+    let registration = keeper.memory.identity().registration;
+    let now = TimeReal(entering.at.second);
+    let spared = keeper.cabin.cards.of(other_card(entering.which)).number;
+    match enter(
+        unit,
+        &keeper.journal,
+        card,
+        others,
+        entering.which,
+        app,
+        now,
+        &registration,
+        entering.odometer,
+        spared.as_ref(),
+    ) {
+        Ok(entered) => take_in(
+            keeper, noted, entering, app, entered, unit, card, others, outcome,
+        ),
+        Err(NotEntered::UnitFailed) => Err(Failed),
+        Err(NotEntered::CardFailed) => keeper.tear(
+            entering.which,
+            entering.slot,
+            entering.at,
+            unit,
+            &mut outcome.breaks,
+        ),
+        Err(NotEntered::NotValid { fid, place }) => {
+            refuse(keeper, entering, fid, place, unit, outcome)
+        }
+        Err(NotEntered::TimeOverlap { stored, .. }) => {
+            defer(keeper, entering, stored, unit, outcome)
+        }
+    }
+}
+
+/// A card that was put into a slot, or meets power there, is revived and tells its sizes, and is accepted or turned away: it is found to be
+/// accepted, not valid or of a later time, or it fails and is torn out. `noted` counts the insertions that were noted in this run.
+///
+/// # Errors
+///
+/// `Failed` where the unit failed.
+pub fn accept<M: Medium, C: Chip, D: Chip>(
+    keeper: &mut Keeper,
+    noted: &mut u64,
+    entering: Entering,
+    unit: &mut M,
+    card: &mut C,
+    others: &D,
+    outcome: &mut Outcome,
+) -> Result<(), Failed>
+    requires ready { UnitReady keeper.old (M.state unit.old) }
+    requires seat { seat_in keeper.old.cabin.slots.seats entering.slot ≡ Some (record { card = entering.which; newest = None }) }
+    requires elsewhere { is_card (seat_in keeper.old.cabin.slots.seats (other_slot entering.slot)) entering.which ≡ false }
+    requires minute { keeper.old.cabin.slots.minute ≤ entering.at.second / 60 }
+    requires second { entering.at.second ≢ 0 }
+    requires late { keeper.old.journal.kept < entering.at.second / 60 }
+    requires last { entering.at.second / 60 < LATEST_MINUTE }
+    requires fits { entering.odometer.0 < 2 ^ 24 }
+    requires bare { session_of keeper.old.cabin.cards entering.which ≡ None }
+    requires size { LARGEST_IMAGE ≤ (C.state card.old).size }
+    requires breaks { length outcome.old.breaks.items < outcome.old.breaks.room }
+    requires finds { length outcome.old.finds.items < outcome.old.finds.room }
+    ensures marks { (outcome.new.marks.room ≡ outcome.old.marks.room) × (length outcome.new.marks.items ≤ length outcome.old.marks.items + most_owed) }
+    ensures entered { (way : Way) × HasEntered entering (is_err result) keeper.old keeper.new noted.old noted.new outcome.old outcome.new (M.state unit.old) (M.state unit.new) (C.state card.old) (C.state card.new) way
+        × BooksEntered way entering (is_err result) keeper.old keeper.new (M.state unit.old) (M.state unit.new) (C.state card.old) (C.state card.new) (D.state others.now) }
+    ensures ready { OnOk result (UnitReady keeper.new (M.state unit.new)) }
+    ensures rows { (card : Card) → HasItsRow keeper.old.cabin.cards (M.state unit.old) card → OnOk result (HasItsRow keeper.new.cabin.cards (M.state unit.new) card) }
+    ensures row { IfSome (session_of keeper.new.cabin.cards entering.which) (λ a. OnOk result (HasItsRow keeper.new.cabin.cards (M.state unit.new) entering.which)) }
+    ensures stands { (from : ℕ) → keeper.old.cabin.slots.minute ≤ from → Stands from None keeper.old.cabin → Stands from None keeper.new.cabin }
+    ensures cause { HasCause (M.state unit.old) (M.state unit.new) (is_err result) }
+    ensures card { CardReady (known_of keeper.new.cabin.cards entering.which) (C.card card.new) (C.state card.new) }
+    ensures size { (C.state card.new).size ≡ (C.state card.old).size }
+    ensures clock { (M.state unit.old).clock ≤ (M.state unit.new).clock }
+    ensures clock_card { (C.state card.old).clock ≤ (C.state card.new).clock }
+    ensures more { (C.state card.old).breakdowns ≤ (C.state card.new).breakdowns }
+    ensures in_time { WasInTime entering (C.state card.old) (C.state card.new) }
+    ensures later { IsLater (C.state card.old) (C.state card.new) }
+    ensures calm { IsCalm outcome.old.breaks.items outcome.new.breaks.items (C.state card.old) (C.state card.new) }
+{
+    let Ok(sizes) = wake(card) else {
+        keeper.cabin.measure(entering.which, Err(UNTOLD));
+        return keeper.tear(
+            entering.which,
+            entering.slot,
+            entering.at,
+            unit,
+            &mut outcome.breaks,
+        );
+    };
+    keeper.cabin.measure(entering.which, sizes);
+    match sizes {
+        Ok(app) => accept_by(keeper, noted, entering, app, unit, card, others, outcome),
+        Err(field) => {
+            let place = place_of_field(field);
+            refuse(keeper, entering, Fid::APPLICATION, place, unit, outcome)
+        }
+    }
+}

@@ -1,0 +1,101 @@
+//! What the unit notes of a card that enters.
+ghost use Rattle.std.specs.Prelude.{◌≢◌, OnOk, IfSome, is_err};
+ghost use Rattle.trace_model.specs.declared.Card.{Card};
+ghost use Rattle.tach_media.specs.Medium.{LeavesOnly, HasCause};
+ghost use Rattle.event_model.specs.declared.kinds.TheConstants.{CARD_NOT_VALID, TIME_OVERLAP, INSERTION_WHILE_DRIVING, SESSION_NOT_CLOSED};
+ghost use Rattle.unit_notes.specs.Entries.{fault_bytes};
+ghost use Rattle.unit_notes.specs.Journal.{LeavesJournal};
+ghost use Rattle.unit_notes.specs.Noting.{IsNotingEvent, IsEventNoted};
+ghost use Rattle.run_events.specs.Entries.{entry_of};
+ghost use Rattle.run_crew.specs.Cabin.{crew_of};
+ghost use Rattle.run_minutes.specs.Keeping.{UnitReady, HasItsRow};
+
+use run_crew::Crew;
+use run_minutes::Keeper;
+use run_events::{card_driving, card_not_valid, card_overlap, card_unclosed};
+use tach_media::{Failed, Medium};
+use unit_notes::{UnitEvent, UnitNotes};
+
+// A card that is not valid was inserted.
+pub(crate) fn note_not_valid<M: Medium>(
+    keeper: &Keeper,
+    second: u32,
+    unit: &mut M,
+) -> Result<(), Failed>
+    requires ready { UnitReady keeper.now (M.state unit.old) }
+    requires begin { second ≢ 0 }
+    ensures noted { OnOk result (IfSome (M.state unit.old).image (λ x. IfSome (M.state unit.new).image (IsEventNoted CARD_NOT_VALID (fault_bytes (entry_of CARD_NOT_VALID second second (crew_of keeper.now.cabin) (crew_of keeper.now.cabin))) x))) }
+    ensures moments { LeavesOnly (M.state unit.old) (M.state unit.new) (IsNotingEvent CARD_NOT_VALID (fault_bytes (entry_of CARD_NOT_VALID second second (crew_of keeper.now.cabin) (crew_of keeper.now.cabin)))) }
+    ensures journal { LeavesOnly (M.state unit.old) (M.state unit.new) LeavesJournal }
+    ensures ready { OnOk result (UnitReady keeper.now (M.state unit.new)) }
+    ensures rows { (card : Card) → HasItsRow keeper.now.cabin.cards (M.state unit.old) card → OnOk result (HasItsRow keeper.now.cabin.cards (M.state unit.new) card) }
+    ensures cause { HasCause (M.state unit.old) (M.state unit.new) (is_err result) }
+{
+    let crew = keeper.cabin.crew();
+    keeper
+        .memory
+        .note_event(unit, &card_not_valid(second, crew))
+}
+
+// A card tells of a later time.
+pub(crate) fn note_overlap<M: Medium>(
+    keeper: &Keeper,
+    second: u32,
+    stored: u32,
+    unit: &mut M,
+) -> Result<(), Failed>
+    requires ready { UnitReady keeper.now (M.state unit.old) }
+    requires begin { second ≢ 0 }
+    ensures noted { OnOk result (IfSome (M.state unit.old).image (λ x. IfSome (M.state unit.new).image (IsEventNoted TIME_OVERLAP (fault_bytes (entry_of TIME_OVERLAP second stored (crew_of keeper.now.cabin) (crew_of keeper.now.cabin))) x))) }
+    ensures moments { LeavesOnly (M.state unit.old) (M.state unit.new) (IsNotingEvent TIME_OVERLAP (fault_bytes (entry_of TIME_OVERLAP second stored (crew_of keeper.now.cabin) (crew_of keeper.now.cabin)))) }
+    ensures journal { LeavesOnly (M.state unit.old) (M.state unit.new) LeavesJournal }
+    ensures ready { OnOk result (UnitReady keeper.now (M.state unit.new)) }
+    ensures rows { (card : Card) → HasItsRow keeper.now.cabin.cards (M.state unit.old) card → OnOk result (HasItsRow keeper.now.cabin.cards (M.state unit.new) card) }
+    ensures cause { HasCause (M.state unit.old) (M.state unit.new) (is_err result) }
+{
+    let crew = keeper.cabin.crew();
+    keeper
+        .memory
+        .note_event(unit, &card_overlap(second, stored, crew))
+}
+
+// A card was accepted while the vehicle moved.
+pub(crate) fn note_driving<M: Medium>(
+    keeper: &Keeper,
+    second: u32,
+    unit: &mut M,
+) -> Result<(), Failed>
+    requires ready { UnitReady keeper.now (M.state unit.old) }
+    requires begin { second ≢ 0 }
+    ensures noted { OnOk result (IfSome (M.state unit.old).image (λ x. IfSome (M.state unit.new).image (IsEventNoted INSERTION_WHILE_DRIVING (fault_bytes (entry_of INSERTION_WHILE_DRIVING second second (crew_of keeper.now.cabin) (crew_of keeper.now.cabin))) x))) }
+    ensures moments { LeavesOnly (M.state unit.old) (M.state unit.new) (IsNotingEvent INSERTION_WHILE_DRIVING (fault_bytes (entry_of INSERTION_WHILE_DRIVING second second (crew_of keeper.now.cabin) (crew_of keeper.now.cabin)))) }
+    ensures journal { LeavesOnly (M.state unit.old) (M.state unit.new) LeavesJournal }
+    ensures ready { OnOk result (UnitReady keeper.now (M.state unit.new)) }
+    ensures rows { (card : Card) → HasItsRow keeper.now.cabin.cards (M.state unit.old) card → OnOk result (HasItsRow keeper.now.cabin.cards (M.state unit.new) card) }
+    ensures cause { HasCause (M.state unit.old) (M.state unit.new) (is_err result) }
+{
+    let crew = keeper.cabin.crew();
+    keeper.memory.note_event(unit, &card_driving(second, crew))
+}
+
+// The session of a card that is accepted was left open since another.
+pub(crate) fn note_unclosed<M: Medium>(
+    keeper: &Keeper,
+    crew: Crew,
+    second: u32,
+    session: u32,
+    unit: &mut M,
+) -> Result<(), Failed>
+    requires ready { UnitReady keeper.now (M.state unit.old) }
+    requires begin { session ≢ 0 }
+    ensures noted { OnOk result (IfSome (M.state unit.old).image (λ x. IfSome (M.state unit.new).image (IsEventNoted SESSION_NOT_CLOSED (fault_bytes (entry_of SESSION_NOT_CLOSED session second crew crew)) x))) }
+    ensures moments { LeavesOnly (M.state unit.old) (M.state unit.new) (IsNotingEvent SESSION_NOT_CLOSED (fault_bytes (entry_of SESSION_NOT_CLOSED session second crew crew))) }
+    ensures journal { LeavesOnly (M.state unit.old) (M.state unit.new) LeavesJournal }
+    ensures ready { OnOk result (UnitReady keeper.now (M.state unit.new)) }
+    ensures rows { (card : Card) → HasItsRow keeper.now.cabin.cards (M.state unit.old) card → OnOk result (HasItsRow keeper.now.cabin.cards (M.state unit.new) card) }
+    ensures cause { HasCause (M.state unit.old) (M.state unit.new) (is_err result) }
+{
+    keeper
+        .memory
+        .note_event(unit, &card_unclosed(session, second, crew))
+}

@@ -1,0 +1,123 @@
+-- What became of the entry of a card, by the sessions before and behind.
+use Rattle.std.proofs.Common.{◌≡◌, ◌∙◌, ℕ, ◌<◌, ◌≤◌, true, List, [], ◌∷◌, ◌++◌, length, Option, Some, None, IfSome, refl, ap, sym, subst, arith}
+use Rattle.std.specs.Prelude.{Ok}
+use Rattle.activity_codec.specs.declared.entries.Entry.{Entry}
+use Rattle.trace_model.specs.declared.Card.{Card}
+use Rattle.trace_model.specs.declared.Card.TheVariants.{A, B}
+use Rattle.tach_media.specs.Medium.{State, IsCoherent, LeavesOnly, IsSettled, last_count}
+use Rattle.tach_media.proofs.Runs.{if_told}
+use Rattle.log_model.specs.declared.lines.Mark.{Mark}
+use Rattle.card_layout.specs.declared.command.CardState.{CardState}
+use Rattle.card_layout.specs.declared.files.Application.{Application}
+use Rattle.card_layout.specs.Files.{image_size_of}
+use Rattle.card_layout.proofs.Sizes.{largest_image}
+use Rattle.card_commands.specs.Ports.{IsPort}
+use Rattle.card_session.specs.declared.session.Kept.{Kept}
+use Rattle.card_session.specs.Sessions.{IsSession}
+use Rattle.card_session.specs.Cards.{IsCardKept, IsCardKeeping}
+use Rattle.card_image.specs.Own.{own_sizes}
+use Rattle.device_calls.proofs.TimedCalls.{keeping-timed}
+use Rattle.history_model.specs.Book.{Book}
+use Rattle.device_rule.specs.Rules.{Standing}
+use Rattle.run_crew.specs.declared.cards.Accepted.{Accepted}
+use Rattle.run_crew.specs.declared.cards.Cards.{Cards}
+use Rattle.run_crew.specs.Cards.{known_of, session_of, with_session}
+use Rattle.run_crew.specs.Cabin.{IsBehind}
+use Rattle.run_promise.specs.Found.{Found, found_of}
+use Rattle.run_minutes.specs.Keeping.{Still, Has, Fell, CardReady, marks_by}
+use Rattle.run_minutes.specs.Books.{StaysOn, standing_by}
+use Rattle.run_minutes.specs.Owing.{CardOwing, BooksCard}
+use Rattle.run_minutes.proofs.CardEvents.{events-keeping, stays-self}
+use Rattle.run_minutes.specs.Deeds.{KeepsOn}
+use Rattle.run_minutes.proofs.CardDeeds.{does-none}
+use Rattle.run_minutes.proofs.Deeds.{keeps-has}
+use Rattle.run_minutes.proofs.CardBrought.{card-still, card-fell, card-has}
+
+pub session-set : (c : Card) (s : Option Accepted) (cards : Cards) → session_of (with_session c s cards) c ≡ s
+session-set A s cards = refl
+session-set B s cards = refl
+
+-- the port of a card that has a session
+port-of : (c : Card) (cards : Cards) (a : Accepted) (chip : CardState) (X : State) → session_of cards c ≡ Some a → CardReady (known_of cards c) chip X → IsPort a.session.application None chip X
+port-of A cards a chip X some ready = ready.port a.session.application (subst (λ (o : Option Accepted). IfSome o (λ a. cards.a.sizes ≡ Ok a.session.application)) some ready.is_known.sized)
+port-of B cards a chip X some ready = ready.port a.session.application (subst (λ (o : Option Accepted). IfSome o (λ a. cards.b.sizes ≡ Ok a.session.application)) some ready.is_known.sized)
+
+-- a card with bad sizes has none
+pub no-session : (c : Card) (cards : Cards) (chip : CardState) (X : State) → CardReady (known_of cards c) chip X → ((app : Application) → (known_of cards c).sizes ≡ Ok app → ⊥) → session_of cards c ≡ None
+no-session A cards chip X ready bad = by cards.a.accepted refl
+  where
+    by : (o : Option Accepted) → cards.a.accepted ≡ o → cards.a.accepted ≡ None
+    by None is = is
+    by (Some a) is = absurd (bad a.session.application (subst (λ (o : Option Accepted). IfSome o (λ a. cards.a.sizes ≡ Ok a.session.application)) is ready.is_known.sized))
+no-session B cards chip X ready bad = by cards.b.accepted refl
+  where
+    by : (o : Option Accepted) → cards.b.accepted ≡ o → cards.b.accepted ≡ None
+    by None is = is
+    by (Some a) is = absurd (bad a.session.application (subst (λ (o : Option Accepted). IfSome o (λ a. cards.b.sizes ≡ Ok a.session.application)) is ready.is_known.sized))
+
+pub none-there : (o : Option Accepted) → ((a : Accepted) → o ≡ Some a → ⊥) → o ≡ None
+none-there None never = refl
+none-there (Some a) never = absurd (never a refl)
+
+-- what had no session is as it was without one
+pub session-unset : (c : Card) (cards : Cards) → session_of cards c ≡ None → with_session c None cards ≡ cards
+session-unset A cards gone = ap (λ (o : Option Accepted). record cards { a = record cards.a { accepted = o } }) (sym gone)
+session-unset B cards gone = ap (λ (o : Option Accepted). record cards { b = record cards.b { accepted = o } }) (sym gone)
+
+-- a call on a card that has a session leaves what is known of its last use, and its events
+timed-of : (f : Found) (c : Card) (b : Book) (z : Standing) (ks : List ℕ) (marks : List Mark) (owes : List Entry) (a : Accepted) (U X Y : State) (e : Entry) (odometer : ℕ) → IsCoherent X → CardOwing f c b z ks marks owes (Some a) U X
+    → LeavesOnly X Y (λ x y. IsSession a.session x → IsCardKeeping a.session e odometer x y) → StaysOn (found_of f c) X Y
+timed-of f c b z ks marks owes a U X Y e odometer whole one run =
+    let on = one.goes.goes in (
+      λ timed. keeping-timed (found_of f c).image (found_of f c).began X Y one.rule.dark.later whole timed a.session e odometer
+          (if_told X.image (λ x. own_sizes x ≡ a.session.application) (λ x is. (one.held.now x (whole.is_left x is)).0 ∙ sym on.sizes)) on.session run,
+      events-keeping (own_sizes (found_of f c).image) X Y whole a.session e odometer on.sizes on.session run,
+    )
+
+module _ (c : Card) (said : Kept) (cards : Cards) (U X : State) where
+  -- it has no session
+  pub booked-still : session_of cards c ≡ None → BooksCard c said Still cards cards U X X
+  booked-still gone = λ f w found tells h none time valid present one. (
+    subst (λ (o : Option Accepted). CardOwing f c w.book (w.standing c) (w.brought c) (w.marks ++ []) [] o U X) (sym gone)
+        (card-still f c w.book (w.standing c) (w.brought c) w.marks (said.entry ∷ []) said.entry.minute U X present
+        (subst (λ (o : Option Accepted). CardOwing f c w.book (w.standing c) (w.brought c) w.marks (said.entry ∷ []) o U X) gone one)),
+    stays-self (found_of f c) X,
+    subst (λ (o : Option Accepted). KeepsOn (found_of f c) (said ∷ []) o o X X) (sym gone) (does-none (own_sizes (found_of f c).image) X),
+  )
+
+  module _ (behind : Cards) (Y : State) (chip : CardState) (a : Accepted) (unit : IsCoherent U) (whole : IsCoherent X) (after : IsCoherent Y) (some : session_of cards c ≡ Some a) (ready : CardReady (known_of cards c) chip X) (may : IsBehind cards said.entry.minute (Some c))
+      (run : LeavesOnly X Y (λ x y. IsSession a.session x → IsCardKeeping a.session said.entry said.odometer.0 x y)) where
+    fits : (x : List ℕ) → X.image ≡ Some x → image_size_of a.session.application ≤ length x
+    fits x told =
+        let port = port-of c cards a chip X some ready in
+        let most = largest_image a.session.application port.good in
+        let size = whole.sized x told in
+        omega (arith, most, port.size, size)
+
+    late : a.session.minute < said.entry.minute
+    late = subst (λ (o : Option Accepted). IfSome o (λ a. a.session.minute < said.entry.minute)) some may
+
+    -- its call failed
+    pub booked-fell : session_of behind c ≡ None → BooksCard c said Fell cards behind U X Y
+    booked-fell gone = λ f w found tells h none time valid present one.
+        let before = subst (λ (o : Option Accepted). CardOwing f c w.book (w.standing c) (w.brought c) w.marks (said.entry ∷ []) o U X) some one in (
+          subst (λ (o : Option Accepted). CardOwing f c w.book (standing_by Fell said.entry.minute (w.standing c)) (w.brought c) (w.marks ++ marks_by Fell (Some c) said.entry.minute) [] o U Y) (sym gone)
+              (card-fell f cards found c w.due w.book (w.standing c) (w.brought c) w.marks a said.entry said.odometer.0 U X Y unit whole after tells h none valid present before fits late run),
+          timed-of f c w.book (w.standing c) (w.brought c) w.marks (said.entry ∷ []) a U X Y said.entry said.odometer.0 whole before run,
+          subst (λ (o : Option Accepted). KeepsOn (found_of f c) (said ∷ []) o (session_of behind c) X Y) (sym some) (subst (λ (o : Option Accepted). KeepsOn (found_of f c) (said ∷ []) (Some a) o X Y) (sym gone) tt),
+        )
+
+    -- it has the entry
+    pub booked-has : (t : Accepted) (n : ℕ) → session_of behind c ≡ Some t → Y.works ≡ true → t.session.application ≡ a.session.application → t.session.minute ≡ said.entry.minute
+        → t.session.registration ≡ a.session.registration → t.session.odometer ≡ Some said.odometer
+        → IfSome X.image (λ x. IfSome Y.image (λ y. IsSession a.session x → IsCardKept a.session t.session said.entry said.odometer.0 x y)) → (Y.clock < last_count → IsSettled Y) → n ≡ Y.clock → BooksCard c said (Has t n) cards behind U X Y
+    booked-has t n is works sizes at vehicle odometer kept settles clock = λ f w found tells h none time valid present one.
+        let before = subst (λ (o : Option Accepted). CardOwing f c w.book (w.standing c) (w.brought c) w.marks (said.entry ∷ []) o U X) some one in (
+          subst (λ (o : Option Accepted). CardOwing f c w.book (standing_by (Has t n) said.entry.minute (w.standing c)) (w.brought c) (w.marks ++ marks_by (Has t n) (Some c) said.entry.minute) [] o U Y) (sym is)
+              (card-has f cards found c w.due w.book (w.standing c) (w.brought c) w.marks a said.entry said.odometer.0 U X Y unit whole after tells h none valid present before fits late run
+              t works sizes at kept (settles time) n clock),
+          timed-of f c w.book (w.standing c) (w.brought c) w.marks (said.entry ∷ []) a U X Y said.entry said.odometer.0 whole before run,
+          subst (λ (o : Option Accepted). KeepsOn (found_of f c) (said ∷ []) o (session_of behind c) X Y) (sym some)
+              (subst (λ (o : Option Accepted). KeepsOn (found_of f c) (said ∷ []) (Some a) o X Y) (sym is)
+              (keeps-has (found_of f c) said a t X Y before.goes.goes.sizes vehicle odometer whole after works run.tells before.goes.goes.session kept)),
+        )

@@ -1,0 +1,245 @@
+-- A card to which an entry is owed: it keeps it, or is torn out as it does; or nothing is asked of it, since it was torn out before.
+use Rattle.std.proofs.Common.{◌≡◌, ◌≢◌, ◌∙◌, ⊎_elim, ℕ, suc, max, ◌<◌, ◌≤◌, Bool, true, false, List, [], ◌∷◌, ◌++◌, length, Contains, Some, None, IfSome, is_some, refl, ap, sym, subst, arith}
+use Rattle.std.proofs.lemmas.List.{append-nil}
+use Rattle.std.proofs.lemmas.List.Elements.{Contains-push}
+use Rattle.activity_codec.specs.declared.entries.Entry.{Entry}
+use Rattle.trace_model.specs.declared.Card.{Card}
+use Rattle.trace_model.specs.declared.Card.TheVariants.{A, B}
+use Rattle.tach_media.specs.Medium.{State, IsCoherent, LeavesOnly, IsSettled}
+use Rattle.tach_media.proofs.Runs.{at_image, weaken}
+use Rattle.log_model.specs.declared.lines.Mark.{Mark}
+use Rattle.log_model.specs.Causes.{device_of}
+use Rattle.card_layout.specs.declared.files.Application.{Application}
+use Rattle.card_layout.specs.Application.{IsApplication}
+use Rattle.card_layout.specs.Files.{image_size_of, files_of, place_of}
+use Rattle.card_model.specs.Days.{Day}
+use Rattle.card_image.specs.Fields.{file, card_number, session_time}
+use Rattle.card_image.proofs.Beside.{number_same}
+use Rattle.card_session.proofs.Marks.{sizes_still, behind_vehicles}
+use Rattle.card_image.specs.View.{CardView}
+use Rattle.card_image.specs.Own.{own_view, own_sizes, own_covered, own_number, IsOwnValid}
+use Rattle.card_session.specs.Vehicles.{Vehicles}
+use Rattle.card_session.specs.Sessions.{Session, IsSession}
+use Rattle.card_session.specs.Cards.{IsCard, IsCardKept, IsCardKeeping, grown}
+use Rattle.card_session.proofs.Stopping.{asked_at, days_there}
+use Rattle.card_session.proofs.Valid.{keep_valid}
+use Rattle.card_string.specs.Since.{GoesSince, bound_since, counted_since, all_since}
+use Rattle.card_string.specs.Each.{EachHolds}
+use Rattle.history_model.specs.Minutes.{HistoryMinute, card_history}
+use Rattle.history_model.specs.Book.{Book, all}
+use Rattle.history_model.proofs.Books.{all-none}
+use Rattle.device_rule.specs.Views.{UnitView, unit_view}
+use Rattle.device_rule.specs.Device.{LeavesViews, EndsWith}
+use Rattle.device_rule.specs.Steps.{IsOnCard, IsNowOnCard}
+use Rattle.device_rule.specs.Rules.{Standing, Out, In, Torn, IsPresent, CardRule}
+use Rattle.device_rule.specs.Marked.{of_card, AnyAdded, HasBrought}
+use Rattle.device_rule.proofs.Staying.{keep-stays}
+use Rattle.device_rule.proofs.Viewed.{seen-run}
+use Rattle.unit_rule.specs.Rule.{once_mended}
+use Rattle.unit_rule.specs.Marks.{Holds}
+use Rattle.device_calls.specs.Rule.{opened, CardHolds}
+use Rattle.device_calls.specs.OnCard.{IsReady, IsOnItsCard}
+use Rattle.device_calls.specs.Minute.{IsNotIn}
+use Rattle.device_calls.proofs.OnCard.{own-is, session-is, sizes-same, on-card, kept-torn, ends-on_card}
+use Rattle.run_crew.specs.declared.cards.Accepted.{Accepted}
+use Rattle.run_crew.specs.declared.cards.Cards.{Cards}
+use Rattle.run_promise.specs.Found.{CardFound, Found, found_of, unit_seen, AnyKept}
+use Rattle.run_promise.specs.Cards.{brought_by, CardMarksHold}
+use Rattle.run_devices.specs.Strung.{IsHeld, HasSameHolder}
+use Rattle.run_devices.specs.Told.{AreFoundCards, IsOn}
+use Rattle.run_devices.proofs.Parts.{both_of, as-steps, of-steps, left-one, told-one}
+use Rattle.run_devices.proofs.Holders.{card-rest}
+use Rattle.run_devices.proofs.OnCards.{own-valid, valid-own, valid-on, own-holder-still, then-holder}
+use Rattle.run_minutes.specs.Keeping.{Has, Fell, marks_by}
+use Rattle.run_minutes.specs.Books.{standing_by}
+use Rattle.run_minutes.specs.Owing.{CardOwing}
+use Rattle.run_minutes.proofs.MarksOn.{moment-hold, kept-hold, same-marks}
+use Rattle.run_minutes.proofs.OnTheCard.{ready-here, each-kept, session-on, goes-on, ends-on}
+
+-- a keep leaves the card's number
+keep-number : (app : Application) (P : List Day → Vehicles → Type 0) (x y : List ℕ) → IsCard app P x y → card_number app y ≡ card_number app x
+unfolding files_of
+keep-number app P x y is = number_same app x y (sizes_still app P x y is) (behind_vehicles app P x y is (place_of app (file 0x0520)) 17 (omega arith))
+
+-- later than the words at the start, as the steps have them
+fresh-steps : (f : Found) (two : f.card_a.number ≢ f.card_b.number) (c : Card) (m : ℕ) → (found_of f c).start.word < m → (opened (both_of f two) c).start.word < m
+fresh-steps f two A m lt = lt
+fresh-steps f two B m lt = lt
+
+-- ---- NOTHING IS ASKED of a card that was torn out before
+
+still-torn : (f : Found) (c : Card) (b : Book) (z : Standing) (due : List Entry) (m : ℕ) (U X : State) → IsPresent (found_of f c).start z m → IsNotIn z
+    → CardRule c (found_of f c).start AnyKept (found_of f c).began b z [] due (unit_seen f U) (of_card X) → CardRule c (found_of f c).start AnyKept (found_of f c).began b z [] [] (unit_seen f U) (of_card X)
+still-torn f c b Out due m U X present out rule = absurd present
+still-torn f c b (In time newest) due m U X present out rule = absurd out
+still-torn f c b (Torn time newest floor) due m U X present out rule = record { dark = rule.dark; cells = rule.cells; stands = rule.stands }
+
+pub card-still : (f : Found) (c : Card) (b : Book) (z : Standing) (ks : List ℕ) (marks : List Mark) (due : List Entry) (m : ℕ) (U X : State) → IsPresent (found_of f c).start z m
+    → CardOwing f c b z ks marks due None U X → CardOwing f c b z ks (marks ++ []) [] None U X
+card-still f c b z ks marks due m U X present one = record {
+  rule = still-torn f c b z due m U X present one.goes.goes one.rule;
+  valid = one.valid;
+  brought = one.brought;
+  held = one.held;
+  goes = record { has = brought_by c (found_of f c).start b; all = append-nil (brought_by c (found_of f c).start b); goes = one.goes.goes };
+  hold = same-marks (found_of f c) c b marks X one.hold;
+}
+
+-- ---- A KEEP
+
+-- what a card in its slot is present by
+present-in : (f : CardFound) (z : Standing) (time newest m : ℕ) → z ≡ In time newest → IsPresent f.start z m → f.start.word < m
+present-in f z time newest m is present = (subst (λ (s : Standing). IsPresent f.start s m) is present).0
+
+module _ (f : Found) (cards : Cards) (found : AreFoundCards f cards) (c : Card) (due : ℕ) (b : Book) (z : Standing) (ks : List ℕ) (marks : List Mark) (a : Accepted) (e : Entry) (odometer : ℕ) (U X Y : State) (unit : IsCoherent U) (whole : IsCoherent X) (after : IsCoherent Y)
+    (tells : is_some U.image ≡ true) (h : Holds (once_mended f.unit) due b marks U) (none : b.maybe ≡ None) (valid : IsOwnValid (found_of f c).image) (present : IsPresent (found_of f c).start z e.minute) (one : CardOwing f c b z ks marks (e ∷ []) (Some a) U X)
+    (fits : (x : List ℕ) → X.image ≡ Some x → image_size_of a.session.application ≤ length x) (late : a.session.minute < e.minute) (run : LeavesOnly X Y (λ x y. IsSession a.session x → IsCardKeeping a.session e odometer x y)) where
+  abbrev g : CardFound
+  g = found_of f c
+
+  abbrev s : Session
+  s = a.session
+
+  on : IsOn g one.goes.has z s X
+  on = one.goes.goes
+
+  fresh : g.start.word < e.minute
+  fresh = present-in g z on.time s.minute e.minute on.stands present
+
+  rule : CardRule c g.start AnyKept g.began b (In on.time s.minute) [] (e ∷ []) (unit_seen f U) (of_card X)
+  rule = subst (λ (y : Standing). CardRule c g.start AnyKept g.began b y [] (e ∷ []) (unit_seen f U) (of_card X)) on.stands one.rule
+
+  held : IsHeld g c b (In on.time s.minute) X
+  held = subst (λ (y : Standing). IsHeld g c b y X) on.stands one.held
+
+  sound : IsApplication s.application
+  sound = subst IsApplication (sym on.sizes) (found.sizes c valid)
+
+  is : (x : List ℕ) → X.may_leave x → own_sizes x ≡ own_sizes g.image
+  is x there = (held.now x there).0
+
+  some-unit : (u : UnitView) × (unit_seen f U).may_leave u
+  some-unit = let left = left-one U unit tells in (unit_view f.card_a.number f.card_b.number left.0, (left.0, left.1, refl))
+
+  opened-here : (x : List ℕ) → X.image ≡ Some x → 0 < session_time s.application x
+  opened-here x told =
+      let there = whole.is_left x told in
+      let sits = (rule.stands.2 some-unit.0 (own_view x) some-unit.1 (x, there, refl)).open_ in
+      let same : (own_view x).session ≡ session_time s.application x = ap (λ (v : CardView). v.session) (own-is s.application x (is x there ∙ sym on.sizes)) ∙ session-is s.application x in
+      omega (arith, sits.opened, sits.same, same)
+
+  low : (x : CardView) → (of_card X).may_leave x → x.mark < e.minute
+  low x there = let sits = (rule.stands.2 some-unit.0 x some-unit.1 there).open_ in omega (arith, sits.mark, late)
+
+  ready : (from : ℕ) × IfSome X.image (λ x. IsReady s (bound_since g.image one.goes.has) (own_covered g.image) from (counted_since g.image one.goes.has) (all_since g.image one.goes.has) e x)
+  ready = ready-here g.image one.goes.has s e odometer g.start.word late fresh X whole sound on.sizes on.session on.goes is
+
+  each-before : EachHolds (own_sizes g.image) g.image (brought_by c g.start b) (suc (max g.start.word s.minute)) g.began X
+  each-before = record { now = held.now; since = held.since }
+
+  each-after : EachHolds (own_sizes g.image) g.image (brought_by c g.start b) (suc (max g.start.word e.minute)) g.began Y
+  each-after =
+      let same : suc e.minute ≡ suc (max g.start.word e.minute) = omega (arith, fresh) in
+      subst (λ (n : ℕ). EachHolds (own_sizes g.image) g.image (brought_by c g.start b) n g.began Y) same
+      (each-kept g.image one.goes.has s e odometer g.start.word late fresh X whole sound on.sizes on.session on.goes is (brought_by c g.start b) one.goes.all (suc (max g.start.word s.minute)) g.began Y (omega (arith, late, fresh)) rule.dark.later opened-here run each-before)
+
+  keeping : LeavesOnly X Y (IsCardKeeping s e odometer)
+  keeping = weaken run (λ x y told k. k (at_image (IsSession s) told on.session))
+
+  views : LeavesViews (of_card X) (of_card Y) (IsOnCard AnyAdded e)
+  views = seen-run own_view (λ x y. IsOnCard AnyAdded e (own_view x) (own_view y)) (IsOnCard AnyAdded e) X Y whole
+      (weaken run (λ x y told k. on-card s (bound_since g.image one.goes.has) (own_covered g.image) ready.0 (counted_since g.image one.goes.has) (all_since g.image one.goes.has) e odometer late x y
+      (at_image (IsReady s (bound_since g.image one.goes.has) (own_covered g.image) ready.0 (counted_since g.image one.goes.has) (all_since g.image one.goes.has) e) told ready.1) (k (at_image (IsSession s) told on.session)))) (λ x y k. k)
+
+  valid-now : (x : List ℕ) → Y.left_since g.began x → IsOwnValid x
+  valid-now = valid-on g.began (IsCardKeeping s e odometer) X Y rule.dark.later keeping
+      (λ x y told k.
+      let there = whole.is_left x told in
+      let sizes : own_sizes x ≡ s.application = is x there ∙ sym on.sizes in
+      let knows = at_image (IsSession s) told on.session in
+      valid-own s.application y (sizes-same s.application _ x y k.card ∙ sizes)
+      (keep_valid s.application sound x (fits x told) (own-valid s.application x sizes (one.valid x (whole.counts_now g.began x rule.dark.later there))) (opened-here x told) (days_there s x knows) s.registration odometer (grown s.odometer odometer) e y
+      (asked_at s x e.minute late knows) k.card)) one.valid
+
+  same-holder : (x y : List ℕ) → X.may_leave x → IsCardKeeping s e odometer x y → HasSameHolder x y
+  same-holder x y there k =
+      let sizes : own_sizes x ≡ s.application = is x there ∙ sym on.sizes in
+      own-holder-still s.application x y sizes (sizes-same s.application _ x y k.card ∙ sizes) (keep-number s.application _ x y k.card) (card-rest s.application x y _ k.card)
+
+  number-now : (x : List ℕ) → Y.may_leave x → own_number x ≡ g.number
+  number-now y left = ⊎_elim (held.number y)
+      (λ here. let there = whole.is_left here.0 here.1 in (same-holder here.0 y there here.2).number ∙ held.number here.0 there)
+      (keeping.now y left)
+
+  holder-since : (x : List ℕ) → Y.left_since g.began x → HasSameHolder g.image x
+  holder-since y left = ⊎_elim (held.still y)
+      (λ here. let there = whole.is_left here.0 here.1 in then-holder g.image here.0 y (held.still here.0 (whole.counts_now g.began here.0 rule.dark.later there)) (same-holder here.0 y there here.2))
+      (keeping.since g.began y rule.dark.later left)
+
+  brought-now : (k : ℕ) → Contains ks k → HasBrought f.card_a.number f.card_b.number c k U Y
+  brought-now k at = keep-stays c (unit_seen f U) (of_card X) (of_card Y) g.start g.began on.time s.minute e (omega (arith, late)) rule.stands views k (one.brought k at)
+
+  steps : CardHolds (both_of f found.two) c b (In on.time s.minute) [] (e ∷ []) U X
+  steps = as-steps f found.two c b (In on.time s.minute) [] (e ∷ []) U X rule
+
+  at-the-end : (failed : Bool) → (failed ≡ false → EndsWith (of_card X) (of_card Y) (IsNowOnCard AnyAdded e)) → IsOnItsCard (both_of f found.two) c b on.time e failed U Y
+  at-the-end failed ends = kept-torn (both_of f found.two) c (once_mended f.unit) due b marks on.time s (bound_since g.image one.goes.has) (own_covered g.image) ready.0 (counted_since g.image one.goes.has) (all_since g.image one.goes.has) e odometer late unit tells whole h none steps
+      (fresh-steps f found.two c e.minute fresh) ready.1 run failed ends
+
+  -- THE CALL FAILED
+  fell : CardOwing f c b (Torn on.time e.minute e.minute) ks (marks ++ []) [] None U Y
+  fell = record {
+    rule = of-steps f found.two c b (Torn on.time e.minute e.minute) [] [] U Y ((at-the-end true (λ well. absurd (cc))).torn refl);
+    valid = valid-now;
+    brought = brought-now;
+    held = record { tells = run.tells ∙ held.tells; now = each-after.now; since = each-after.since; number = number-now; still = holder-since };
+    goes = record { has = brought_by c g.start b; all = append-nil (brought_by c g.start b); goes = tt };
+    hold = same-marks g c b marks Y (moment-hold g c b marks e X Y whole low views one.hold);
+  }
+
+  pub card-fell : CardOwing f c b (standing_by Fell e.minute z) ks (marks ++ marks_by Fell (Some c) e.minute) [] None U Y
+  card-fell = subst (λ (y : Standing). CardOwing f c b y ks (marks ++ []) [] None U Y) (sym (ap (standing_by Fell e.minute) on.stands)) fell
+
+  -- THE CARD HAS IT
+  module _ (t : Accepted) (works : Y.works ≡ true) (sizes : t.session.application ≡ s.application) (at : t.session.minute ≡ e.minute) (kept : IfSome X.image (λ x. IfSome Y.image (λ y. IsSession s x → IsCardKept s t.session e odometer x y)))
+      (settled : IsSettled Y) where
+    ends : EndsWith (of_card X) (of_card Y) (IsNowOnCard AnyAdded e)
+    ends = ends-on_card (both_of f found.two) c (once_mended f.unit) due b marks on.time s (bound_since g.image one.goes.has) (own_covered g.image) ready.0 (counted_since g.image one.goes.has) (all_since g.image one.goes.has) e odometer late unit tells whole h none steps
+        (fresh-steps f found.two c e.minute fresh) ready.1 run t.session after works rule.stands.0 sizes at kept
+
+    goes-all : IfSome Y.image (GoesSince t.session.application g.image (brought_by c g.start b) (suc (max g.start.word t.session.minute)))
+    goes-all = subst (λ (es : List Entry). IfSome Y.image (GoesSince t.session.application g.image es (suc (max g.start.word t.session.minute)))) one.goes.all
+        (goes-on g.image one.goes.has s e odometer g.start.word late fresh X whole sound on.sizes on.session on.goes is t.session Y run.tells at kept sizes opened-here)
+
+    sure : Contains (g.start.owed ++ card_history c b.sure) e
+    sure = subst (λ (is : List HistoryMinute). Contains (g.start.owed ++ card_history c is) e) (all-none b none) (subst (λ (es : List Entry). Contains es e) one.goes.all (Contains-push one.goes.has e))
+
+    some-view : (x : CardView) × (of_card X).may_leave x
+    some-view = let told = told-one X.image held.tells in (own_view told.0, (told.0, whole.is_left told.0 told.1, refl))
+
+    has : (n : ℕ) → n ≡ Y.clock → CardOwing f c b (In on.time e.minute) ks (marks ++ record { device = device_of c; minute = e.minute; clock = n } ∷ []) [] (Some t) U Y
+    has n is_clock = record {
+      rule = of-steps f found.two c b (In on.time e.minute) [] [] U Y ((at-the-end false (λ well. ends)).kept refl);
+      valid = valid-now;
+      brought = brought-now;
+      held = record { tells = run.tells ∙ held.tells; now = each-after.now; since = each-after.since; number = number-now; still = holder-since };
+      goes = record {
+        has = brought_by c g.start b;
+        all = append-nil (brought_by c g.start b);
+        goes = record {
+          time = on.time;
+          stands = ap (In on.time) (sym at);
+          sizes = sizes ∙ on.sizes;
+          session = session-on g.image one.goes.has s e odometer g.start.word late fresh X whole sound on.sizes on.session on.goes is t.session Y run.tells at kept;
+          ends = ends-on g.image one.goes.has s e odometer g.start.word late fresh X whole sound on.sizes on.session on.goes is t.session Y run.tells at kept sizes (λ x told.
+              let there = whole.is_left x told in
+              (fits x told, own-valid s.application x (is x there ∙ sym on.sizes) (one.valid x (whole.counts_now g.began x rule.dark.later there)), opened-here x told));
+          goes = goes-all;
+        };
+      };
+      hold = subst (λ (k : ℕ). CardMarksHold g c b (marks ++ record { device = device_of c; minute = e.minute; clock = k } ∷ []) Y) (sym is_clock)
+          (kept-hold g c b marks e X Y whole low views one.hold after valid some-view (omega (arith, rule.dark.later, run.later)) settled ends sure);
+    }
+
+    pub card-has : (n : ℕ) → n ≡ Y.clock → CardOwing f c b (standing_by (Has t n) e.minute z) ks (marks ++ marks_by (Has t n) (Some c) e.minute) [] (Some t) U Y
+    card-has n is_clock = subst (λ (y : Standing). CardOwing f c b y ks (marks ++ record { device = device_of c; minute = e.minute; clock = n } ∷ []) [] (Some t) U Y) (sym (ap (standing_by (Has t n) e.minute) on.stands)) (has n is_clock)

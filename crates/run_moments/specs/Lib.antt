@@ -1,5 +1,0 @@
-pub mod Reached
-pub mod Lines
-pub mod Moment
-pub mod Telling
-pub mod Kept

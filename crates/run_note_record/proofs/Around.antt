@@ -1,0 +1,124 @@
+-- A call that writes a ring, and other bytes before and behind that.
+use Rattle.std.proofs.Common.{◌≡◌, ℕ, Option, Some, None, IfSome, List, [], ◌∷◌, ◌++◌, refl}
+use Rattle.trace_model.specs.declared.Card.{Card}
+use Rattle.trace_model.specs.declared.Card.TheVariants.{A, B}
+use Rattle.gated_ring.specs.Change.{IsAdded}
+use Rattle.message_model.specs.Records.{insertion_ring, unit_place_ring}
+use Rattle.log_model.specs.Log.{RunLog}
+use Rattle.note_model.specs.Odometer.{SpanFrom, odometer_at}
+use Rattle.note_model.specs.Noted.{InsertionNote, PlaceNote, Note, Accepts, Withdraws, Enters}
+use Rattle.safety_model.specs.Safe.{Devices, card_of}
+use Rattle.run_promise.specs.Found.{found_of}
+use Rattle.run_note_record.specs.Beside.{HaveLeftMore}
+use Rattle.run_note_record.specs.Ringed.{holder_in, TellsIn, IsInsertionIn, Seating, Ringed, HasSameRings, WritesRing, IsAddedAt, MayBeAdded, IsWithdrawnAt, MayBeWithdrawn, AnInsertionIsNoted, APlaceIsNoted, AWithdrawalIsNoted, AWithdrawalIsBroken, AnInsertionIsBroken, APlaceIsBroken, Since}
+use Rattle.run_note_record.specs.OnCards.{PlacesStay, PlaceIsTaken}
+use Rattle.run_note_record.proofs.Stands.{insertion-as}
+use Rattle.run_note_record.proofs.Rings.{rings-stay, go-on, tells-more, insertion-noted, insertion-broken, place-noted, place-broken}
+use Rattle.run_note_record.proofs.Withdrawn.{withdrawal-noted, withdrawal-broken}
+
+-- devices whose unit may have left these images
+abbrev with-images : Devices → (List ℕ → Type 0) → Devices
+with-images d images = record d { unit = record d.unit { may_leave = images } }
+
+module _ (R : List ℕ → List ℕ → Type 0) (d e : Devices) where
+  -- before it was written, and behind that
+  abbrev pub before-it : Devices
+  before-it = with-images d (λ p. (x : List ℕ) × d.unit.may_leave x × HasSameRings x p)
+
+  abbrev pub behind-it : Devices
+  behind-it = with-images e (λ q. (p : List ℕ) × before-it.unit.may_leave p × R p q)
+
+  module _ (o : Since) where
+    pub to-before : HaveLeftMore o.origin d before-it
+    to-before = record { unit = λ x h. h; card = card }
+      where
+        card : (c : Card) (x : List ℕ) → (card_of d c).left_since (found_of o.origin.found c).began x → (card_of before-it c).left_since (found_of o.origin.found c).began x
+        card A x h = h
+        card B x h = h
+
+    pub to-behind : HaveLeftMore o.origin d e → HaveLeftMore o.origin before-it behind-it
+    to-behind more = record { unit = more.unit; card = card }
+      where
+        card : (c : Card) (x : List ℕ) → (card_of before-it c).left_since (found_of o.origin.found c).began x → (card_of behind-it c).left_since (found_of o.origin.found c).began x
+        card A x h = more.card A x h
+        card B x h = more.card B x h
+
+    pub from-behind : HaveLeftMore o.origin behind-it e
+    from-behind = record { unit = λ x h. h; card = card }
+      where
+        card : (c : Card) (x : List ℕ) → (card_of behind-it c).left_since (found_of o.origin.found c).began x → (card_of e c).left_since (found_of o.origin.found c).began x
+        card A x h = h
+        card B x h = h
+
+    pub back-behind : HaveLeftMore o.origin e behind-it
+    back-behind = record { unit = λ x h. h; card = card }
+      where
+        card : (c : Card) (x : List ℕ) → (card_of e c).left_since (found_of o.origin.found c).began x → (card_of behind-it c).left_since (found_of o.origin.found c).began x
+        card A x h = h
+        card B x h = h
+
+    -- the places of the cards
+    pub stay-before : PlacesStay o.origin d before-it
+    stay-before A valid y left = (y, left, refl)
+    stay-before B valid y left = (y, left, refl)
+
+    pub stay-from : PlacesStay o.origin behind-it e
+    stay-from A valid y left = (y, left, refl)
+    stay-from B valid y left = (y, left, refl)
+
+    pub stay-between : PlacesStay o.origin d e → PlacesStay o.origin before-it behind-it
+    stay-between stays A = stays A
+    stay-between stays B = stays B
+
+    pub taken-between : (log : RunLog) (p : PlaceNote) (own : List ℕ) → PlaceIsTaken o.origin log p own d e → PlaceIsTaken o.origin log p own before-it behind-it
+    taken-between log p own is A = is A
+    taken-between log p own is B = is B
+
+    -- what is carried before it, and so behind all
+    module _ (log : RunLog) (spans : List SpanFrom) (notes : List Note) (seats : Card → Option Seating) where
+      pub ringed-before : Ringed o log spans notes seats d → Ringed o log spans notes seats before-it
+      ringed-before v = rings-stay d before-it o log log spans spans notes seats v (λ p left. left) to-before stay-before (go-on log spans notes)
+
+      pub ringed-behind : WritesRing R d e → Ringed o log spans notes seats behind-it → Ringed o log spans notes seats e
+      ringed-behind writes v = rings-stay behind-it e o log log spans spans notes seats v
+          (λ y left. let w = writes y left in (w.2.1, (w.2.0, (w.0, w.1, w.2.2), w.2.3), w.2.4)) from-behind stay-from (go-on log spans notes)
+
+      -- an entry tells of a card what its images do
+      pub insertion-behind : (n : InsertionNote) (head : List ℕ) → IsInsertionIn o log spans e n head → IsInsertionIn o log spans behind-it n head
+      insertion-behind n head is = (insertion-as log log spans spans (holder_in o.origin) (λ u has. has) (TellsIn o e n.accepted.second) (TellsIn o behind-it n.accepted.second) (tells-more o log log spans spans notes e behind-it back-behind (go-on log spans notes) n.accepted.second) n (refl, by n.withdrawn)).1 head is
+        where
+          by : (w : Option ℕ) → IfSome w (λ u. odometer_at u spans ≡ odometer_at u spans)
+          by None = tt
+          by (Some u) = refl
+
+pub insertion-around : (d e : Devices) → AnInsertionIsNoted d e
+insertion-around d e o log spans notes seats now v more cards a head index writes full is each =
+    ringed-behind (IsAddedAt index head) d e o log spans (notes ++ Accepts a ∷ []) now writes
+    (insertion-noted (before-it (IsAddedAt index head) d e) (behind-it (IsAddedAt index head) d e) o log spans notes seats now (ringed-before (IsAddedAt index head) d e o log spans notes seats v) (to-behind (IsAddedAt index head) d e o more) (stay-between (IsAddedAt index head) d e o cards) a head index (λ q left. left) full
+    (insertion-behind (IsAddedAt index head) d e o log spans notes seats (record { accepted = a; withdrawn = None }) head is) each)
+
+pub place-around : (d e : Devices) → APlaceIsNoted d e
+place-around d e o log spans notes seats v more p head writes full is own long on taken_ =
+    ringed-behind (IsAdded unit_place_ring head) d e o log spans (notes ++ Enters p ∷ []) seats writes
+    (place-noted (before-it (IsAdded unit_place_ring head) d e) (behind-it (IsAdded unit_place_ring head) d e) o log spans notes seats (ringed-before (IsAdded unit_place_ring head) d e o log spans notes seats v) (to-behind (IsAdded unit_place_ring head) d e o more) p head (λ q left. left) full is own long on (taken-between (IsAdded unit_place_ring head) d e o log p own taken_))
+
+pub withdrawal-around : (d e : Devices) → AWithdrawalIsNoted d e
+withdrawal-around d e o log spans notes seats now v more cards w s at below time odometer second stood time_fits odometer_fits writes each =
+    ringed-behind (IsWithdrawnAt s time odometer) d e o log spans (notes ++ Withdraws w ∷ []) now writes
+    (withdrawal-noted (before-it (IsWithdrawnAt s time odometer) d e) (behind-it (IsWithdrawnAt s time odometer) d e) o log spans notes seats now (ringed-before (IsWithdrawnAt s time odometer) d e o log spans notes seats v) (to-behind (IsWithdrawnAt s time odometer) d e o more) (stay-between (IsWithdrawnAt s time odometer) d e o cards) w s at below time odometer second stood time_fits odometer_fits (λ q left. left) each)
+
+pub insertion-cut : (d e : Devices) → AnInsertionIsBroken d e
+insertion-cut d e o log spans notes seats v more cards a head writes full is has =
+    ringed-behind (MayBeAdded insertion_ring head) d e o log spans (notes ++ Accepts a ∷ []) (λ c. None) writes
+    (insertion-broken (before-it (MayBeAdded insertion_ring head) d e) (behind-it (MayBeAdded insertion_ring head) d e) o log spans notes seats (ringed-before (MayBeAdded insertion_ring head) d e o log spans notes seats v) (to-behind (MayBeAdded insertion_ring head) d e o more) (stay-between (MayBeAdded insertion_ring head) d e o cards) a head (λ q left. left) full
+    (insertion-behind (MayBeAdded insertion_ring head) d e o log spans notes seats (record { accepted = a; withdrawn = None }) head is) has)
+
+pub place-cut : (d e : Devices) → APlaceIsBroken d e
+place-cut d e o log spans notes seats v more p head writes full is has own long on taken_ =
+    ringed-behind (MayBeAdded unit_place_ring head) d e o log spans (notes ++ Enters p ∷ []) (λ c. None) writes
+    (place-broken (before-it (MayBeAdded unit_place_ring head) d e) (behind-it (MayBeAdded unit_place_ring head) d e) o log spans notes seats (ringed-before (MayBeAdded unit_place_ring head) d e o log spans notes seats v) (to-behind (MayBeAdded unit_place_ring head) d e o more) p head (λ q left. left) full is has own long on (taken-between (MayBeAdded unit_place_ring head) d e o log p own taken_))
+
+pub withdrawal-cut : (d e : Devices) → AWithdrawalIsBroken d e
+withdrawal-cut d e o log spans notes seats v more cards w s at below time odometer second stood time_fits odometer_fits writes has =
+    ringed-behind (MayBeWithdrawn s time odometer) d e o log spans (notes ++ Withdraws w ∷ []) (λ c. None) writes
+    (withdrawal-broken (before-it (MayBeWithdrawn s time odometer) d e) (behind-it (MayBeWithdrawn s time odometer) d e) o log spans notes seats (ringed-before (MayBeWithdrawn s time odometer) d e o log spans notes seats v) (to-behind (MayBeWithdrawn s time odometer) d e o more) (stay-between (MayBeWithdrawn s time odometer) d e o cards) w s at below time odometer second stood time_fits odometer_fits (λ q left. left) has)

@@ -1,0 +1,403 @@
+-- What is carried of the rings, over each step.
+use Rattle.std.proofs.Common.{◌≡◌, ◌⊎◌, inl, inr, ⊎_elim, ℕ, suc, ◌+◌, ◌-◌, ◌≤◌, Bool, true, false, not, ◌||◌, Option, Some, None, IfSome, option_map, List, [], ◌∷◌, ◌++◌, length, refl, ap, sym, subst, ◌∙◌, arith, append_assoc, append-nil}
+use Rattle.std.specs.List.{AllByRecursion, list_any}
+use Rattle.std.proofs.lemmas.List.{length-drop, length-map, length-append}
+use Rattle.card_layout.specs.Images.{bytes_at}
+use Rattle.trace_model.specs.declared.Card.{Card}
+use Rattle.gated_ring.specs.Ring.{Shape, IsShape, PointsInside, size_of, indices, ring_list, entry_at, taken, staying, with_head, newest_of, IsDense}
+use Rattle.gated_ring.specs.Change.{IsAdded, IsAdding}
+use Rattle.gated_ring.proofs.Elsewhere.{ring_outside, ring_elsewhere}
+use Rattle.message_model.specs.Records.{insertion_ring, unit_place_ring}
+use Rattle.log_model.specs.Log.{RunLog}
+use Rattle.log_model.specs.Slots.{same_card}
+use Rattle.note_model.specs.Done.{has_failed_in}
+use Rattle.note_model.specs.Odometer.{SpanFrom, odometer_at}
+use Rattle.note_model.specs.Noted.{Acceptance, InsertionNote, PlaceNote, Note, Accepts, Enters, insertions_of, places_of}
+use Rattle.note_model.specs.Rings.{Stand, AreNoFewer}
+use Rattle.safety_model.specs.Safe.{Devices}
+use Rattle.run_note_record.specs.Opened.{HasComeBefore}
+use Rattle.trace_model.specs.Trace.{TraceSecond}
+use Rattle.log_model.specs.Course.{Told}
+use Rattle.run_rings.specs.Carried.{Carries}
+use Rattle.run_rings.proofs.Carried.{carries-none, carries-same, carries-more}
+use Rattle.run_rings.proofs.Indices.{index-stays}
+use Rattle.run_rings.proofs.Standing.{stand-one}
+use Rattle.run_rings.proofs.Few.{as-many, added-long, few-start, few-go, few-as, few-more}
+use Rattle.run_note_record.specs.Origin.{Origin}
+use Rattle.run_note_record.specs.Beside.{HaveLeftMore}
+use Rattle.run_note_record.specs.Ringed.{holder_in, TellsIn, IsInsertionIn, IsPlaceIn, sure_insertion, sure_place, ShowsNotes, Seating, one_behind, IsSeated, ShowsInsertions, Ringed, GoOn, NoRingIsWritten, RingsStay, FewerSit, IsAddedAt, MayBeAdded, Since}
+use Rattle.run_note_record.specs.OnCards.{place_width, IsPlaceOn, PlacesStay, PlaceIsTaken}
+use Rattle.run_note_record.proofs.OnCards.{whole-head, maybe, places-none, places-go, places-beside, places-taken}
+use Rattle.run_note_record.proofs.Stands.{Weaker, stand-as, unsure-as, each-as, each-append, all-parts, all-of, all-each, insertions-more, places-more, insertion-as, place-as}
+
+pub insertion_shape : IsShape insertion_ring
+insertion_shape = record { some = omega arith; gate = omega arith; pointer = omega arith; holds = λ _. omega arith; short = omega arith }
+
+pub place_shape : IsShape unit_place_ring
+place_shape = record { some = omega arith; gate = omega arith; pointer = omega arith; holds = λ _. omega arith; short = omega arith }
+
+-- ---- what each image behind a call was written from, and nothing else
+abbrev pub Writes : (R : List ℕ → List ℕ → Type 0) → (d e : Devices) → Type 0
+Writes R d e = (y : List ℕ) → e.unit.may_leave y → (x : List ℕ) × d.unit.may_leave x × R x y
+
+-- AT THE START
+pub none-noted : (d : Devices) → NoRingIsWritten d
+none-noted d o log spans start cards = record {
+  insertions = λ ring x left. record {
+    shows = record { more = []; carries = subst (λ (y : List ℕ). Carries insertion_ring o.origin.recording.unit y []) (sym (start x left)) (carries-none insertion_ring o.origin.recording.unit ring.points ring.dense); stand = refl; few = few-start insertion_ring (sure_insertion o.origin log spans) o.origin.recording.unit x (start x left) };
+    seated = λ c. tt;
+  };
+  places = λ ring x left. record { more = []; carries = subst (λ (y : List ℕ). Carries unit_place_ring o.origin.recording.unit y []) (sym (start x left)) (carries-none unit_place_ring o.origin.recording.unit ring.points ring.dense); stand = refl; few = few-start unit_place_ring (sure_place o.origin log spans) o.origin.recording.unit x (start x left) };
+  on_cards = places-none o.origin log spans d cards;
+}
+
+-- FEWER CARDS
+pub fewer-sit : (d : Devices) → FewerSit d
+fewer-sit d o log spans notes seats fewer v each = record {
+  insertions = λ ring x left. let was = v.insertions ring x left in record { shows = was.shows; seated = λ c. by c was (fewer c) (seats c) (each c) (was.seated c) };
+  places = v.places;
+  on_cards = v.on_cards;
+}
+  where
+    by : (c : Card) {x : List ℕ} (was : ShowsInsertions o log spans notes seats d x) (q p : Option Seating) → (q ≡ p) ⊎ (q ≡ None) → IfSome p (λ s. IsSeated (sure_insertion o.origin log spans) (IsInsertionIn o log spans d) c s (insertions_of notes) was.shows.more x) →
+        IfSome q (λ s. IsSeated (sure_insertion o.origin log spans) (IsInsertionIn o log spans d) c s (insertions_of notes) was.shows.more x)
+    by c {x} was q p (inl same) is = subst (λ (t : Option Seating). IfSome t (λ s. IsSeated (sure_insertion o.origin log spans) (IsInsertionIn o log spans d) c s (insertions_of notes) was.shows.more x)) (sym same) is
+    by c {x} was q p (inr none) is = subst (λ (t : Option Seating). IfSome t (λ s. IsSeated (sure_insertion o.origin log spans) (IsInsertionIn o log spans d) c s (insertions_of notes) was.shows.more x)) (sym none) tt
+
+-- ---- as a log goes on, over devices
+
+module _ (origin : Origin) (told told_now : List Told) (trace trace_now : List TraceSecond) (come : (c : Card) (u : ℕ) → HasComeBefore told trace c u → HasComeBefore told_now trace_now c u)
+    (log later : RunLog) (spans now : List SpanFrom) (notes : List Note) (d e : Devices) (more : HaveLeftMore origin d e) (on : GoOn log later spans now notes) where
+  abbrev since_was : Since
+  since_was = record { origin = origin; told = told; trace = trace }
+
+  abbrev since_now : Since
+  since_now = record { origin = origin; told = told_now; trace = trace_now }
+
+  pub tells-since : (u : ℕ) (c : Card) (registration : List ℕ) (time : ℕ) → TellsIn since_was d u c registration time → TellsIn since_now e u c registration time
+  tells-since u c registration time tells = ((tells.0.0, more.card c tells.0.0 tells.0.1, tells.0.2), ⊎_elim (λ first. inl first) (λ before. inr (come c u before)) tells.1)
+
+  pub weaker-since : AllByRecursion (Weaker (sure_insertion origin log spans) (sure_insertion origin later now) (IsInsertionIn since_was log spans d) (IsInsertionIn since_now later now e)) (insertions_of notes)
+  weaker-since = all-of
+      (λ (i : InsertionNote). (odometer_at i.accepted.second now ≡ odometer_at i.accepted.second spans) × IfSome i.withdrawn (λ u. odometer_at u now ≡ odometer_at u spans))
+      (Weaker (sure_insertion origin log spans) (sure_insertion origin later now) (IsInsertionIn since_was log spans d) (IsInsertionIn since_now later now e))
+      (λ i same. insertion-as log later spans now (holder_in origin) on.failed (TellsIn since_was d i.accepted.second) (TellsIn since_now e i.accepted.second) (tells-since i.accepted.second) i same)
+      (insertions_of notes) on.insertions
+
+  pub places-since : AllByRecursion (Weaker (sure_place origin log spans) (sure_place origin later now) (IsPlaceIn origin log spans) (IsPlaceIn origin later now)) (places_of notes)
+  places-since = all-of
+      (λ (p : PlaceNote). odometer_at p.second now ≡ odometer_at p.second spans)
+      (Weaker (sure_place origin log spans) (sure_place origin later now) (IsPlaceIn origin log spans) (IsPlaceIn origin later now))
+      (λ p same. place-as log later spans now (holder_in origin) on.failed p same)
+      (places_of notes) on.places
+
+  -- an accepted card stays, where the ring shows the same
+  pub seated-since : (c : Card) (q : Option Seating) (ms : List (List ℕ)) (x y : List ℕ) → indices insertion_ring y ≡ indices insertion_ring x →
+      IfSome q (λ s. IsSeated (sure_insertion origin log spans) (IsInsertionIn since_was log spans d) c s (insertions_of notes) ms x) → IfSome q (λ s. IsSeated (sure_insertion origin later now) (IsInsertionIn since_now later now e) c s (insertions_of notes) ms y)
+  seated-since c None ms x y same is = tt
+  seated-since c (Some s) ms x y same is =
+      let parts = all-parts (Weaker (sure_insertion origin log spans) (sure_insertion origin later now) (IsInsertionIn since_was log spans d) (IsInsertionIn since_now later now e)) (insertions_of notes) is.older is.own is.newer is.notes_are weaker-since in
+      record {
+        older = is.older;
+        own = is.own;
+        newer = is.newer;
+        notes_are = is.notes_are;
+        card_is = is.card_is;
+        last = is.last;
+        stays = is.stays;
+        olders = is.olders;
+        entry = is.entry;
+        newers = is.newers;
+        more_are = is.more_are;
+        stand_before = stand-as (sure_insertion origin log spans) (sure_insertion origin later now) (IsInsertionIn since_was log spans d) (IsInsertionIn since_now later now e) is.older is.olders parts.0 is.stand_before;
+        is = parts.1.1 is.entry is.is;
+        each_behind = each-as (sure_insertion origin log spans) (sure_insertion origin later now) (IsInsertionIn since_was log spans d) (IsInsertionIn since_now later now e) is.newer is.newers parts.2 is.each_behind;
+        behind = is.behind;
+        there = ⊎_elim (λ at. inl (at.0, at.1, same ∙ at.2, at.3)) (λ gone. inr gone) is.there;
+      }
+
+-- so far as it has gone
+module _ (o : Since) (log later : RunLog) (spans now : List SpanFrom) (notes : List Note) (d e : Devices) (more : HaveLeftMore o.origin d e) (on : GoOn log later spans now notes) where
+  pub tells-more : (u : ℕ) (c : Card) (registration : List ℕ) (time : ℕ) → TellsIn o d u c registration time → TellsIn o e u c registration time
+  tells-more = tells-since o.origin o.told o.told o.trace o.trace (λ c u before. before) log later spans now notes d e more on
+
+  pub insertions-weaker : AllByRecursion (Weaker (sure_insertion o.origin log spans) (sure_insertion o.origin later now) (IsInsertionIn o log spans d) (IsInsertionIn o later now e)) (insertions_of notes)
+  insertions-weaker = weaker-since o.origin o.told o.told o.trace o.trace (λ c u before. before) log later spans now notes d e more on
+
+  pub places-weaker : AllByRecursion (Weaker (sure_place o.origin log spans) (sure_place o.origin later now) (IsPlaceIn o.origin log spans) (IsPlaceIn o.origin later now)) (places_of notes)
+  places-weaker = places-since o.origin o.told o.told o.trace o.trace (λ c u before. before) log later spans now notes d e more on
+
+  pub seated-as : (c : Card) (q : Option Seating) (ms : List (List ℕ)) (x y : List ℕ) → indices insertion_ring y ≡ indices insertion_ring x →
+      IfSome q (λ s. IsSeated (sure_insertion o.origin log spans) (IsInsertionIn o log spans d) c s (insertions_of notes) ms x) → IfSome q (λ s. IsSeated (sure_insertion o.origin later now) (IsInsertionIn o later now e) c s (insertions_of notes) ms y)
+  seated-as = seated-since o.origin o.told o.told o.trace o.trace (λ c u before. before) log later spans now notes d e more on
+
+-- nothing of the log and the spans
+pub go-on : (log : RunLog) (spans : List SpanFrom) (notes : List Note) → GoOn log log spans spans notes
+go-on log spans notes = record {
+  failed = λ u has. has;
+  fell = λ u has. has;
+  insertions = all-each (λ (i : InsertionNote). (odometer_at i.accepted.second spans ≡ odometer_at i.accepted.second spans) × IfSome i.withdrawn (λ u. odometer_at u spans ≡ odometer_at u spans)) (λ i. (refl, by i.withdrawn)) (insertions_of notes);
+  places = all-each (λ (p : PlaceNote). odometer_at p.second spans ≡ odometer_at p.second spans) (λ p. refl) (places_of notes);
+}
+  where
+    by : (w : Option ℕ) → IfSome w (λ u. odometer_at u spans ≡ odometer_at u spans)
+    by None = tt
+    by (Some u) = refl
+
+-- MORE SECONDS are told, and more of the trace: who has come before has come before.
+abbrev pub MoreComeBefore : Devices → Type 0
+MoreComeBefore d = (o : Origin) (told later : List Told) (trace now : List TraceSecond) → ((c : Card) (u : ℕ) → HasComeBefore told trace c u → HasComeBefore later now c u) → (log : RunLog) (spans : List SpanFrom) (notes : List Note) (seats : Card → Option Seating) →
+    Ringed (record { origin = o; told = told; trace = trace }) log spans notes seats d → Ringed (record { origin = o; told = later; trace = now }) log spans notes seats d
+
+pub come-before : (d : Devices) → MoreComeBefore d
+come-before d o told later trace now come log spans notes seats v = record {
+  insertions = λ ring x left.
+      let was = v.insertions ring x left in
+      let all = weaker-since o told later trace now come log log spans spans notes d d (record { unit = λ y h. h; card = λ c y h. h }) (go-on log spans notes) in record {
+        shows = record {
+          more = was.shows.more;
+          carries = was.shows.carries;
+          stand = stand-as (sure_insertion o log spans) (sure_insertion o log spans) (IsInsertionIn (record { origin = o; told = told; trace = trace }) log spans d) (IsInsertionIn (record { origin = o; told = later; trace = now }) log spans d) (insertions_of notes) was.shows.more all was.shows.stand;
+          few = was.shows.few;
+        };
+        seated = λ c. seated-since o told later trace now come log log spans spans notes d d (record { unit = λ y h. h; card = λ c y h. h }) (go-on log spans notes) c (seats c) was.shows.more x x refl (was.seated c);
+      };
+  places = v.places;
+  on_cards = v.on_cards;
+}
+
+-- CALLS THAT WRITE NO RING
+pub rings-stay : (d e : Devices) → RingsStay d e
+rings-stay d e o log later spans now notes seats v stays more cards on = record {
+  insertions = λ ring y left.
+      let w = stays y left in
+      let was = v.insertions ring w.0 w.1 in
+      let is = ring_elsewhere insertion_ring insertion_shape w.0 y w.2.insertions was.shows.carries.points in record {
+        shows = record {
+          more = was.shows.more;
+          carries = carries-same insertion_ring o.origin.recording.unit w.0 was.shows.more was.shows.carries insertion_shape y w.2.insertions;
+          stand = stand-as (sure_insertion o.origin log spans) (sure_insertion o.origin later now) (IsInsertionIn o log spans d) (IsInsertionIn o later now e) (insertions_of notes) was.shows.more (insertions-weaker o log later spans now notes d e more on) was.shows.stand;
+          few = few-go insertion_ring (sure_insertion o.origin log spans) (sure_insertion o.origin later now) (insertions_of notes) (insertions_of notes) o.origin.recording.unit w.0 y
+              (unsure-as (sure_insertion o.origin log spans) (sure_insertion o.origin later now) (IsInsertionIn o log spans d) (IsInsertionIn o later now e) (insertions_of notes) (insertions-weaker o log later spans now notes d e more on))
+              (as-many insertion_ring insertion_shape w.0 y w.2.insertions was.shows.carries.points) was.shows.few;
+        };
+        seated = λ c. seated-as o log later spans now notes d e more on c (seats c) was.shows.more w.0 y is.1 (was.seated c);
+      };
+  places = λ ring y left.
+      let w = stays y left in
+      let was = v.places ring w.0 w.1 in record {
+        more = was.more;
+        carries = carries-same unit_place_ring o.origin.recording.unit w.0 was.more was.carries place_shape y w.2.places;
+        stand = stand-as (sure_place o.origin log spans) (sure_place o.origin later now) (IsPlaceIn o.origin log spans) (IsPlaceIn o.origin later now) (places_of notes) was.more (places-weaker o log later spans now notes d e more on) was.stand;
+        few = few-go unit_place_ring (sure_place o.origin log spans) (sure_place o.origin later now) (places_of notes) (places_of notes) o.origin.recording.unit w.0 y
+            (unsure-as (sure_place o.origin log spans) (sure_place o.origin later now) (IsPlaceIn o.origin log spans) (IsPlaceIn o.origin later now) (places_of notes) (places-weaker o log later spans now notes d e more on))
+            (as-many unit_place_ring place_shape w.0 y w.2.places was.carries.points) was.few;
+      };
+  on_cards = places-go o.origin log later spans now notes d e on.fell on.places cards v.on_cards;
+}
+
+-- ---- lists
+
+same-outside : (r q : Shape) (head x y : List ℕ) → (q.base + size_of q ≤ r.base) ⊎ (r.base + size_of r ≤ q.base) → (y ≡ x) ⊎ IsAdding q head x y → bytes_at y r.base (size_of r) ≡ bytes_at x r.base (size_of r)
+same-outside r q head x y apart (inl same) = ap (λ (z : List ℕ). bytes_at z r.base (size_of r)) same
+same-outside r q head x y apart (inr moment) = ring_outside r q.base (size_of q) x y apart moment.outside
+
+or-false : (a b x : Bool) → (a || b) ≡ false → (b ≡ false → x ≡ false) → (a || x) ≡ false
+or-false true b x none rest = none
+or-false false b x none rest = rest none
+
+none-behind : (c : Card) (newer : List InsertionNote) (n : InsertionNote) → list_any (λ (j : InsertionNote). same_card j.accepted.card c) newer ≡ false → same_card n.accepted.card c ≡ false →
+    list_any (λ (j : InsertionNote). same_card j.accepted.card c) (newer ++ n ∷ []) ≡ false
+none-behind c [] n none other = ap (λ (b : Bool). b || false) other
+none-behind c (k ∷ newer) n none other =
+    or-false (same_card k.accepted.card c) (list_any (λ (j : InsertionNote). same_card j.accepted.card c) newer) (list_any (λ (j : InsertionNote). same_card j.accepted.card c) (newer ++ n ∷ [])) none
+    (λ rest. none-behind c newer n rest other)
+
+-- ---- A PLACE
+
+pub place-noted : (d e : Devices) (o : Since) (log : RunLog) (spans : List SpanFrom) (notes : List Note) (seats : Card → Option Seating) → Ringed o log spans notes seats d → HaveLeftMore o.origin d e → (p : PlaceNote) (head : List ℕ) → Writes (IsAdded unit_place_ring head) d e → length head ≡ unit_place_ring.width → IsPlaceIn o.origin log spans p head → (own : List ℕ) → length own ≡ place_width → IsPlaceOn spans p own → PlaceIsTaken o.origin log p own d e →
+    Ringed o log spans (notes ++ Enters p ∷ []) seats e
+place-noted d e o log spans notes seats v more p head added full is own long on taken_ = record {
+  insertions = λ ring y left.
+      let w = added y left in
+      let was = v.insertions ring w.0 w.1 in
+      let bytes = ring_outside insertion_ring unit_place_ring.base (size_of unit_place_ring) w.0 y (inr (omega arith)) w.2.outside in
+      let same = ring_elsewhere insertion_ring insertion_shape w.0 y bytes was.shows.carries.points in
+      let notes-same : insertions_of (notes ++ Enters p ∷ []) ≡ insertions_of notes = insertions-more notes (Enters p) in record {
+        shows = record {
+          more = was.shows.more;
+          carries = carries-same insertion_ring o.origin.recording.unit w.0 was.shows.more was.shows.carries insertion_shape y bytes;
+          stand = subst (λ (l : List InsertionNote). Stand (sure_insertion o.origin log spans) (IsInsertionIn o log spans e) l was.shows.more) (sym notes-same)
+              (stand-as (sure_insertion o.origin log spans) (sure_insertion o.origin log spans) (IsInsertionIn o log spans d) (IsInsertionIn o log spans e) (insertions_of notes) was.shows.more (insertions-weaker o log log spans spans notes d e more (go-on log spans notes)) was.shows.stand);
+          few = subst (λ (l : List InsertionNote). AreNoFewer insertion_ring (sure_insertion o.origin log spans) l o.origin.recording.unit y) (sym notes-same)
+              (few-as insertion_ring (sure_insertion o.origin log spans) (insertions_of notes) o.origin.recording.unit w.0 y (as-many insertion_ring insertion_shape w.0 y bytes was.shows.carries.points) was.shows.few);
+        };
+        seated = λ c. subst (λ (l : List InsertionNote). IfSome (seats c) (λ s. IsSeated (sure_insertion o.origin log spans) (IsInsertionIn o log spans e) c s l was.shows.more y)) (sym notes-same)
+            (seated-as o log log spans spans notes d e more (go-on log spans notes) c (seats c) was.shows.more w.0 y same.1 (was.seated c));
+      };
+  places = λ ring y left.
+      let w = added y left in
+      let was = v.places ring w.0 w.1 in record {
+        more = was.more ++ head ∷ [];
+        carries = subst (λ (l : List ℕ). Carries unit_place_ring o.origin.recording.unit y (was.more ++ l ∷ [])) (whole-head unit_place_ring w.0 (taken unit_place_ring w.0) head full) (carries-more unit_place_ring o.origin.recording.unit w.0 was.more was.carries head y w.2);
+        stand = subst (λ (l : List PlaceNote). Stand (sure_place o.origin log spans) (IsPlaceIn o.origin log spans) l (was.more ++ head ∷ [])) (sym (places-more notes (Enters p)))
+            (stand-one (sure_place o.origin log spans) (IsPlaceIn o.origin log spans) (places_of notes) was.more p head was.stand is);
+        few = subst (λ (l : List PlaceNote). AreNoFewer unit_place_ring (sure_place o.origin log spans) l o.origin.recording.unit y) (sym (places-more notes (Enters p)))
+            (few-more unit_place_ring (sure_place o.origin log spans) (places_of notes) p o.origin.recording.unit w.0 y (added-long unit_place_ring head w.0 y was.carries.points was.carries.dense w.2) was.few);
+      };
+  on_cards = places-taken o.origin log spans notes p own d e long on taken_ v.on_cards;
+}
+
+-- or the unit failed in it
+pub place-broken : (d e : Devices) (o : Since) (log : RunLog) (spans : List SpanFrom) (notes : List Note) (seats : Card → Option Seating) → Ringed o log spans notes seats d → HaveLeftMore o.origin d e → (p : PlaceNote) (head : List ℕ) → Writes (MayBeAdded unit_place_ring head) d e → length head ≡ unit_place_ring.width → IsPlaceIn o.origin log spans p head → has_failed_in log p.second ≡ true → (own : List ℕ) → length own ≡ place_width → IsPlaceOn spans p own → PlaceIsTaken o.origin log p own d e →
+    Ringed o log spans (notes ++ Enters p ∷ []) (λ c. None) e
+place-broken d e o log spans notes seats v more p head adding full is has own long on taken_ = record {
+  insertions = λ ring y left.
+      let w = adding y left in
+      let was = v.insertions ring w.0 w.1 in
+      let bytes = same-outside insertion_ring unit_place_ring head w.0 y (inr (omega arith)) w.2 in
+      let notes-same : insertions_of (notes ++ Enters p ∷ []) ≡ insertions_of notes = insertions-more notes (Enters p) in record {
+        shows = record {
+          more = was.shows.more;
+          carries = carries-same insertion_ring o.origin.recording.unit w.0 was.shows.more was.shows.carries insertion_shape y bytes;
+          stand = subst (λ (l : List InsertionNote). Stand (sure_insertion o.origin log spans) (IsInsertionIn o log spans e) l was.shows.more) (sym notes-same)
+              (stand-as (sure_insertion o.origin log spans) (sure_insertion o.origin log spans) (IsInsertionIn o log spans d) (IsInsertionIn o log spans e) (insertions_of notes) was.shows.more (insertions-weaker o log log spans spans notes d e more (go-on log spans notes)) was.shows.stand);
+          few = subst (λ (l : List InsertionNote). AreNoFewer insertion_ring (sure_insertion o.origin log spans) l o.origin.recording.unit y) (sym notes-same)
+              (few-as insertion_ring (sure_insertion o.origin log spans) (insertions_of notes) o.origin.recording.unit w.0 y (as-many insertion_ring insertion_shape w.0 y bytes was.shows.carries.points) was.shows.few);
+        };
+        seated = λ c. tt;
+      };
+  places = λ ring y left.
+      let w = adding y left in
+      let was = v.places ring w.0 w.1 in
+      subst (λ (l : List PlaceNote). ShowsNotes unit_place_ring (sure_place o.origin log spans) (IsPlaceIn o.origin log spans) l o.origin.recording.unit y) (sym (places-more notes (Enters p)))
+      (maybe unit_place_ring o.origin.recording.unit w.0 y head (sure_place o.origin log spans) (IsPlaceIn o.origin log spans) (places_of notes) p was full is (ap not has) w.2);
+  on_cards = places-taken o.origin log spans notes p own d e long on taken_ v.on_cards;
+}
+
+-- ---- AN INSERTION
+
+-- the cards that were accepted before
+seated-more : (sure : InsertionNote → Bool) (Is : InsertionNote → List ℕ → Type 0) (c : Card) (q : Option Seating) (ns : List InsertionNote) (ms : List (List ℕ)) (x y : List ℕ) (a : Acceptance) (head : List ℕ) → PointsInside insertion_ring x → IsDense insertion_ring x → IsAdded insertion_ring head x y →
+    same_card a.card c ≡ false → Is (record { accepted = a; withdrawn = None }) head → IfSome q (λ s. IsSeated sure Is c s ns ms x) →
+    IfSome (option_map one_behind q) (λ s. IsSeated sure Is c s (ns ++ record { accepted = a; withdrawn = None } ∷ []) (ms ++ head ∷ []) y)
+seated-more sure Is c None ns ms x y a head points dense added other is sits = tt
+seated-more sure Is c (Some s) ns ms x y a head points dense added other is sits = record {
+  older = sits.older;
+  own = sits.own;
+  newer = sits.newer ++ record { accepted = a; withdrawn = None } ∷ [];
+  notes_are = ap (λ (l : List InsertionNote). l ++ record { accepted = a; withdrawn = None } ∷ []) sits.notes_are ∙ append_assoc sits.older (sits.own ∷ sits.newer) (record { accepted = a; withdrawn = None } ∷ []);
+  card_is = sits.card_is;
+  last = none-behind c sits.newer (record { accepted = a; withdrawn = None }) sits.last other;
+  stays = sits.stays;
+  olders = sits.olders;
+  entry = sits.entry;
+  newers = sits.newers ++ head ∷ [];
+  more_are = ap (λ (l : List (List ℕ)). l ++ head ∷ []) sits.more_are ∙ append_assoc sits.olders (sits.entry ∷ sits.newers) (head ∷ []);
+  stand_before = sits.stand_before;
+  is = sits.is;
+  each_behind = each-append Is sits.newer (record { accepted = a; withdrawn = None } ∷ []) sits.newers (head ∷ []) sits.each_behind (is, tt);
+  behind = (let long : length (sits.newers ++ head ∷ []) ≡ length sits.newers + 1 = length-append sits.newers (head ∷ []) in let was = sits.behind in omega (arith, long, was));
+  there = ⊎_elim
+      (λ at. ⊎_elim
+      (λ stays. inl (stays.0, at.1 ++ taken insertion_ring x ∷ [], stays.1, (let long : length (at.1 ++ taken insertion_ring x ∷ []) ≡ length at.1 + 1 = length-append at.1 (taken insertion_ring x ∷ []) in let was = at.3 in omega (arith, long, was))))
+      (λ gone. inr (
+      let list-is : length (ring_list insertion_ring y) ≡ length (indices insertion_ring y) = length-map (indices insertion_ring y) (entry_at insertion_ring y) in
+      let was : length (ring_list insertion_ring x) ≡ length (indices insertion_ring x) = length-map (indices insertion_ring x) (entry_at insertion_ring x) in
+      let now : length (indices insertion_ring y) ≡ length (at.1 ++ taken insertion_ring x ∷ []) = ap (λ (l : List ℕ). length l) gone.1 in
+      let long : length (at.1 ++ taken insertion_ring x ∷ []) ≡ length at.1 + 1 = length-append at.1 (taken insertion_ring x ∷ []) in
+      let there : length (indices insertion_ring x) ≡ suc (length at.1) = ap (λ (l : List ℕ). length l) at.2 ∙ ap (λ (l : List ℕ). length (l ++ s.index ∷ at.1)) gone.0 in
+      let newest : length (ring_list insertion_ring y) ≡ length (newest_of insertion_ring.count (ring_list insertion_ring x ++ with_head insertion_ring x (taken insertion_ring x) head ∷ [])) =
+      ap (λ (l : List (List ℕ)). length l) ((added.list points).newest dense) in
+      let cut : length (newest_of insertion_ring.count (ring_list insertion_ring x ++ with_head insertion_ring x (taken insertion_ring x) head ∷ []))
+      ≡ length (ring_list insertion_ring x ++ with_head insertion_ring x (taken insertion_ring x) head ∷ []) - (length (ring_list insertion_ring x ++ with_head insertion_ring x (taken insertion_ring x) head ∷ []) - insertion_ring.count) =
+      length-drop (length (ring_list insertion_ring x ++ with_head insertion_ring x (taken insertion_ring x) head ∷ []) - insertion_ring.count) (ring_list insertion_ring x ++ with_head insertion_ring x (taken insertion_ring x) head ∷ []) in
+      let one : length (ring_list insertion_ring x ++ with_head insertion_ring x (taken insertion_ring x) head ∷ []) ≡ length (ring_list insertion_ring x) + 1 = length-append (ring_list insertion_ring x) (with_head insertion_ring x (taken insertion_ring x) head ∷ []) in
+      let so = at.3 in
+      omega (arith, list-is, was, now, long, there, newest, cut, one, so)))
+      (index-stays insertion_ring head x y points added at.0 s.index at.1 at.2))
+      (λ few. inr (omega (arith, few)))
+      sits.there;
+}
+
+pub insertion-noted : (d e : Devices) (o : Since) (log : RunLog) (spans : List SpanFrom) (notes : List Note) (seats now : Card → Option Seating) → Ringed o log spans notes seats d → HaveLeftMore o.origin d e → PlacesStay o.origin d e → (a : Acceptance) (head : List ℕ) (index : ℕ) → Writes (IsAddedAt index head) d e → length head ≡ insertion_ring.width →
+    IsInsertionIn o log spans e (record { accepted = a; withdrawn = None }) head → ((c : Card) → ((same_card a.card c ≡ false) × (now c ≡ option_map one_behind (seats c))) ⊎ ((same_card a.card c ≡ true) × (now c ≡ Some (record { index = index; behind = 0 })))) →
+    Ringed o log spans (notes ++ Accepts a ∷ []) now e
+insertion-noted d e o log spans notes seats now v more cards a head index added full is each = record {
+  insertions = λ ring y left.
+      let w = added y left in
+      let was = v.insertions ring w.0 w.1 in
+      let points = was.shows.carries.points in
+      let are : insertions_of (notes ++ Accepts a ∷ []) ≡ insertions_of notes ++ record { accepted = a; withdrawn = None } ∷ [] = insertions-more notes (Accepts a) in
+      let stands = stand-as (sure_insertion o.origin log spans) (sure_insertion o.origin log spans) (IsInsertionIn o log spans d) (IsInsertionIn o log spans e) (insertions_of notes) was.shows.more (insertions-weaker o log log spans spans notes d e more (go-on log spans notes)) was.shows.stand in record {
+        shows = record {
+          more = was.shows.more ++ head ∷ [];
+          carries = subst (λ (l : List ℕ). Carries insertion_ring o.origin.recording.unit y (was.shows.more ++ l ∷ [])) (whole-head insertion_ring w.0 (taken insertion_ring w.0) head full) (carries-more insertion_ring o.origin.recording.unit w.0 was.shows.more was.shows.carries head y w.2.0);
+          stand = subst (λ (l : List InsertionNote). Stand (sure_insertion o.origin log spans) (IsInsertionIn o log spans e) l (was.shows.more ++ head ∷ [])) (sym are)
+              (stand-one (sure_insertion o.origin log spans) (IsInsertionIn o log spans e) (insertions_of notes) was.shows.more (record { accepted = a; withdrawn = None }) head stands is);
+          few = subst (λ (l : List InsertionNote). AreNoFewer insertion_ring (sure_insertion o.origin log spans) l o.origin.recording.unit y) (sym are)
+              (few-more insertion_ring (sure_insertion o.origin log spans) (insertions_of notes) (record { accepted = a; withdrawn = None }) o.origin.recording.unit w.0 y (added-long insertion_ring head w.0 y points was.shows.carries.dense w.2.0) was.shows.few);
+        };
+        seated = λ c. subst (λ (l : List InsertionNote). IfSome (now c) (λ s. IsSeated (sure_insertion o.origin log spans) (IsInsertionIn o log spans e) c s l (was.shows.more ++ head ∷ []) y)) (sym are) (⊎_elim
+            (λ other. subst (λ (q : Option Seating). IfSome q (λ s. IsSeated (sure_insertion o.origin log spans) (IsInsertionIn o log spans e) c s (insertions_of notes ++ record { accepted = a; withdrawn = None } ∷ []) (was.shows.more ++ head ∷ []) y)) (sym other.1)
+            (seated-more (sure_insertion o.origin log spans) (IsInsertionIn o log spans e) c (seats c) (insertions_of notes) was.shows.more w.0 y a head points was.shows.carries.dense w.2.0 other.0 is
+            (seated-as o log log spans spans notes d e more (go-on log spans notes) c (seats c) was.shows.more w.0 w.0 refl (was.seated c))))
+            (λ own. subst (λ (q : Option Seating). IfSome q (λ s. IsSeated (sure_insertion o.origin log spans) (IsInsertionIn o log spans e) c s (insertions_of notes ++ record { accepted = a; withdrawn = None } ∷ []) (was.shows.more ++ head ∷ []) y)) (sym own.1)
+            (record {
+              older = insertions_of notes;
+              own = record { accepted = a; withdrawn = None };
+              newer = [];
+              notes_are = refl;
+              card_is = own.0;
+              last = refl;
+              stays = refl;
+              olders = was.shows.more;
+              entry = head;
+              newers = [];
+              more_are = refl;
+              stand_before = stands;
+              is = is;
+              each_behind = tt;
+              behind = refl;
+              there = inl (staying insertion_ring w.0, [], (w.2.0.list points).indices_are ∙ ap (λ (t : ℕ). staying insertion_ring w.0 ++ t ∷ []) (sym (w.2.1 points)), refl);
+            }))
+            (each c));
+      };
+  places = λ ring y left.
+      let w = added y left in
+      let was = v.places ring w.0 w.1 in
+      let bytes = ring_outside unit_place_ring insertion_ring.base (size_of insertion_ring) w.0 y (inl (omega arith)) w.2.0.outside in
+      subst (λ (l : List PlaceNote). ShowsNotes unit_place_ring (sure_place o.origin log spans) (IsPlaceIn o.origin log spans) l o.origin.recording.unit y) (sym (places-more notes (Accepts a) ∙ append-nil (places_of notes))) (record {
+        more = was.more;
+        carries = carries-same unit_place_ring o.origin.recording.unit w.0 was.more was.carries place_shape y bytes;
+        stand = was.stand;
+        few = few-as unit_place_ring (sure_place o.origin log spans) (places_of notes) o.origin.recording.unit w.0 y (as-many unit_place_ring place_shape w.0 y bytes was.carries.points) was.few;
+      });
+  on_cards = places-beside o.origin log spans notes (Accepts a) d e refl cards v.on_cards;
+}
+
+-- or the unit failed in it
+pub insertion-broken : (d e : Devices) (o : Since) (log : RunLog) (spans : List SpanFrom) (notes : List Note) (seats : Card → Option Seating) → Ringed o log spans notes seats d → HaveLeftMore o.origin d e → PlacesStay o.origin d e → (a : Acceptance) (head : List ℕ) → Writes (MayBeAdded insertion_ring head) d e → length head ≡ insertion_ring.width →
+    IsInsertionIn o log spans e (record { accepted = a; withdrawn = None }) head → has_failed_in log a.second ≡ true → Ringed o log spans (notes ++ Accepts a ∷ []) (λ c. None) e
+insertion-broken d e o log spans notes seats v more cards a head adding full is has = record {
+  insertions = λ ring y left.
+      let w = adding y left in
+      let was = v.insertions ring w.0 w.1 in
+      let stands = stand-as (sure_insertion o.origin log spans) (sure_insertion o.origin log spans) (IsInsertionIn o log spans d) (IsInsertionIn o log spans e) (insertions_of notes) was.shows.more (insertions-weaker o log log spans spans notes d e more (go-on log spans notes)) was.shows.stand in
+      record {
+        shows = subst (λ (l : List InsertionNote). ShowsNotes insertion_ring (sure_insertion o.origin log spans) (IsInsertionIn o log spans e) l o.origin.recording.unit y) (sym (insertions-more notes (Accepts a)))
+            (maybe insertion_ring o.origin.recording.unit w.0 y head (sure_insertion o.origin log spans) (IsInsertionIn o log spans e) (insertions_of notes) (record { accepted = a; withdrawn = None }) (record { more = was.shows.more; carries = was.shows.carries; stand = stands; few = was.shows.few }) full is (ap not has) w.2);
+        seated = λ c. tt;
+      };
+  places = λ ring y left.
+      let w = adding y left in
+      let was = v.places ring w.0 w.1 in
+      let bytes = same-outside unit_place_ring insertion_ring head w.0 y (inl (omega arith)) w.2 in
+      subst (λ (l : List PlaceNote). ShowsNotes unit_place_ring (sure_place o.origin log spans) (IsPlaceIn o.origin log spans) l o.origin.recording.unit y) (sym (places-more notes (Accepts a) ∙ append-nil (places_of notes))) (record {
+        more = was.more;
+        carries = carries-same unit_place_ring o.origin.recording.unit w.0 was.more was.carries place_shape y bytes;
+        stand = was.stand;
+        few = few-as unit_place_ring (sure_place o.origin log spans) (places_of notes) o.origin.recording.unit w.0 y (as-many unit_place_ring place_shape w.0 y bytes was.carries.points) was.few;
+      });
+  on_cards = places-beside o.origin log spans notes (Accepts a) d e refl cards v.on_cards;
+}

@@ -1,0 +1,6 @@
+use Rattle.run_promise.specs.Between.{devices}
+use Rattle.run_note_record.proofs.Noting.{second-is_noted}
+use Rattle.run_note_record.proofs.event_laws.the_second_is_noted.Goals as goal
+
+pub returns : goal.returns
+returns g z = second-is_noted (devices (g.M.Medium.state z.args.unit.now) (g.C.Chip.state z.args.card_a.now) (g.D.Chip.state z.args.card_b.now))

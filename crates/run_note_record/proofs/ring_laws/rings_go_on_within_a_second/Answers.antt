@@ -1,0 +1,9 @@
+use Rattle.run_promise.specs.Between.{devices}
+use Rattle.run_note_record.proofs.SoFar.{go-on-in, action-noted}
+use Rattle.run_note_record.proofs.ring_laws.rings_go_on_within_a_second.Goals as goal
+
+pub returns : goal.returns
+returns g c =
+    let d = devices (g.M.Medium.state c.args.old_unit.now) (g.C.Chip.state c.args.old_a.now) (g.D.Chip.state c.args.old_b.now) in
+    let e = devices (g.N.Medium.state c.args.unit.now) (g.E.Chip.state c.args.card_a.now) (g.F.Chip.state c.args.card_b.now) in
+    record { calls = go-on-in d e; noted = action-noted d e }

@@ -1,0 +1,6 @@
+use Rattle.run_promise.specs.Between.{devices}
+use Rattle.run_note_record.proofs.Passing.{pull-adds}
+use Rattle.run_note_record.proofs.steps.a_pull_adds_nothing.Goals as goal
+
+pub returns : goal.returns
+returns g z = pull-adds (devices (g.M.Medium.state z.args.unit.now) (g.C.Chip.state z.args.card_a.now) (g.D.Chip.state z.args.card_b.now))

@@ -1,0 +1,6 @@
+use Rattle.run_promise.specs.Between.{devices}
+use Rattle.run_note_record.proofs.Adding.{second-begins_now}
+use Rattle.run_note_record.proofs.steps.a_second_begins_now.Goals as goal
+
+pub returns : goal.returns
+returns g z = second-begins_now (devices (g.M.Medium.state z.args.unit.now) (g.C.Chip.state z.args.card_a.now) (g.D.Chip.state z.args.card_b.now))

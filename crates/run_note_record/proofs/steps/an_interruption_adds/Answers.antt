@@ -1,0 +1,6 @@
+use Rattle.run_promise.specs.Between.{devices}
+use Rattle.run_note_record.proofs.EventsWaking.{interruption-adds}
+use Rattle.run_note_record.proofs.steps.an_interruption_adds.Goals as goal
+
+pub returns : goal.returns
+returns g z = interruption-adds (devices (g.M.Medium.state z.args.unit.now) (g.C.Chip.state z.args.card_a.now) (g.D.Chip.state z.args.card_b.now))

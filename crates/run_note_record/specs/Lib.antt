@@ -1,0 +1,16 @@
+pub mod Opened
+pub mod Uses
+pub mod Evented
+pub mod Going
+pub mod Noting
+pub mod Bringing
+pub mod EventsSoFar
+pub mod Kept
+pub mod OnCards
+pub mod Ringed
+pub mod RingsSoFar
+pub mod Steps
+pub mod Stored
+pub mod Waking
+pub use Rattle.run_promise.specs.Beside
+pub use Rattle.run_promise.specs.Origin

@@ -1,0 +1,103 @@
+-- THE PLACES OF A RUN ON ITS CARDS (profile): what the ring of places of a card shows of them, and calls that leave it.
+use Rattle.std.specs.Prelude.{◌≡◌, ◌⊎◌, ℕ, Bool, true, false, not, List, filter, nat_eq}
+use Rattle.std.specs.List.{list_any}
+use Rattle.trace_model.specs.declared.Card.{Card}
+use Rattle.tacho_types.specs.declared.places.PlaceEntry.{PlaceEntry}
+use Rattle.card_layout.specs.Fields.{total_width}
+use Rattle.tacho_types.specs.Places.{place_widths, place_bytes}
+use Rattle.tach_media.specs.Medium.{State, bytes_at}
+use Rattle.gated_ring.specs.Ring.{Shape, IsShape, PointsInside, IsDense, size_of}
+use Rattle.gated_ring.specs.Change.{IsAdded, IsAdding}
+use Rattle.card_files.specs.Rings.{place_ring}
+use Rattle.card_image.specs.Own.{own_sizes, IsOwnValid}
+use Rattle.log_model.specs.Log.{RunLog}
+use Rattle.log_model.specs.Causes.{has_failed, second_of}
+use Rattle.log_model.specs.Slots.{same_card}
+use Rattle.note_model.specs.Odometer.{SpanFrom, odometer_at}
+use Rattle.note_model.specs.Noted.{PlaceNote, Note, places_of}
+use Rattle.note_model.specs.Rings.{Stand, AreNoFewer, kind_of}
+use Rattle.safety_model.specs.Recording.{card_image}
+use Rattle.safety_model.specs.Safe.{Devices, card_of}
+use Rattle.run_rings.specs.Carried.{Carries}
+use Rattle.run_note_record.specs.Origin.{Origin}
+
+-- ---- rings
+
+-- a ring that was dense at the start
+pub record HasRing (r : Shape) (start : List ℕ) : Type 0 where
+  pub points : PointsInside r start
+  pub dense : IsDense r start
+
+-- A RING of which entries stand for these notes, behind what it showed at the start
+pub record ShowsNotes {N : Type 0} (r : Shape) (is_sure : N → Bool) (Is : N → List ℕ → Type 0) (notes : List N) (start x : List ℕ) : Type 0 where
+  pub more : List (List ℕ)
+  pub carries : Carries r start x more
+  pub stand : Stand is_sure Is notes more
+  pub few : AreNoFewer r is_sure notes start x
+
+-- ---- the places of a card
+
+-- a call on a device failed in a second
+abbrev pub has_call_failed_in : RunLog → ℕ → Bool
+has_call_failed_in log u = list_any (λ b. nat_eq (second_of b) u) (filter has_failed log.breaks)
+
+-- the ring of places of a card, by the sizes that its image at the start tells
+abbrev pub places_in : (start : List ℕ) → Shape
+places_in start = place_ring (own_sizes start)
+
+-- how wide an entry is
+abbrev pub place_width : ℕ
+place_width = total_width place_widths
+
+-- of places those that were entered by this card
+abbrev pub places_on : Card → List PlaceNote → List PlaceNote
+places_on c places = filter (λ p. same_card p.card c) places
+
+-- the entry of a place on a card: begin or end of the day, entered with its second and the odometer of then
+pub record IsPlaceOn (spans : List SpanFrom) (p : PlaceNote) (e : List ℕ) : Type 0 where
+  pub entry : PlaceEntry
+  pub bytes : e ≡ place_bytes entry
+  pub time : entry.time.0 ≡ p.second
+  pub kind : entry.kind ≡ kind_of p.ending
+  pub country : entry.country.0 ≡ p.country
+  pub region : entry.region ≡ p.region
+  pub odometer : entry.odometer.0 ≡ odometer_at p.second spans
+
+-- it is sure where no call failed in its second
+abbrev pub is_sure_on : RunLog → PlaceNote → Bool
+is_sure_on log p = not (has_call_failed_in log p.second)
+
+-- a card that was valid at the start, with a dense ring of places
+pub record HasPlaces (start : List ℕ) : Type 0 where
+  pub valid : IsOwnValid start
+  pub shape : IsShape (places_in start)
+  pub ring : HasRing (places_in start) start
+
+-- THE CARDS SHOW THESE PLACES: each image that a stop may leave of such a card, those of it in their order
+abbrev pub PlacesOnCards : Origin → RunLog → List SpanFrom → List Note → Devices → Type 0
+PlacesOnCards o log spans notes d = (c : Card) → HasPlaces (card_image o.recording c) → (x : List ℕ) → (card_of d c).may_leave x →
+    ShowsNotes (places_in (card_image o.recording c)) (is_sure_on log) (IsPlaceOn spans) (places_on c (places_of notes)) (card_image o.recording c) x
+
+-- ---- calls
+
+-- two images have the same ring of places
+abbrev pub HasSamePlaces : (start x y : List ℕ) → Type 0
+HasSamePlaces start x y = bytes_at y (places_in start).base (size_of (places_in start)) ≡ bytes_at x (places_in start).base (size_of (places_in start))
+
+-- CALLS LEAVE THE PLACES of a card: each image that it may leave behind them has those of one before
+abbrev pub LeavesPlaces : (start : List ℕ) → (old new : State) → Type 0
+LeavesPlaces start old new = (y : List ℕ) → new.may_leave y → (x : List ℕ) × old.may_leave x × HasSamePlaces start x y
+
+-- so they do of each that was valid
+abbrev pub PlacesStay : Origin → (d e : Devices) → Type 0
+PlacesStay o d e = (c : Card) → IsOwnValid (card_image o.recording c) → LeavesPlaces (card_image o.recording c) (card_of d c) (card_of e c)
+
+-- A PLACE IS NOTED in the ring of a card, by the bytes of its entry; or a call failed in its second, and it may be
+abbrev pub TakesPlace : RunLog → PlaceNote → (head start x y : List ℕ) → Type 0
+TakesPlace log p head start x y = IsAdded (places_in start) head x y ⊎ ((has_call_failed_in log p.second ≡ true) × ((y ≡ x) ⊎ IsAdding (places_in start) head x y))
+
+-- so it is of the card that entered it, and the places of the other stay
+abbrev pub PlaceIsTaken : Origin → RunLog → PlaceNote → (head : List ℕ) → (d e : Devices) → Type 0
+PlaceIsTaken o log p head d e = (c : Card) → IsOwnValid (card_image o.recording c) →
+    ((same_card p.card c ≡ false) × LeavesPlaces (card_image o.recording c) (card_of d c) (card_of e c))
+    ⊎ ((same_card p.card c ≡ true) × ((y : List ℕ) → (card_of e c).may_leave y → (x : List ℕ) × (card_of d c).may_leave x × (PointsInside (places_in (card_image o.recording c)) x → TakesPlace log p head (card_image o.recording c) x y)))

@@ -1,0 +1,127 @@
+-- WHICH USE IS FOUND on a card as it is accepted (profile): at first that of its image at the start, then that which the insertion before has left. The
+-- unit tells by it the session that was left open, and the card's own events do.
+use Rattle.std.specs.Prelude.{◌≡◌, ℕ, ◌&&◌, Option, Some, None, List, [], ◌∷◌, ◌++◌, map, filter, flat_map, if◌then◌else◌}
+use Rattle.activity_codec.specs.declared.values.Slot.{Slot}
+use Rattle.trace_model.specs.declared.Card.{Card}
+use Rattle.trace_model.specs.Trace.{TraceSecond}
+use Rattle.tacho_types.specs.declared.texts.Registration.{Registration}
+use Rattle.tach_media.specs.Medium.{bytes_at}
+use Rattle.card_files.specs.declared.current_use.CurrentUse.{CurrentUse}
+use Rattle.card_image.specs.Fields.{current_use}
+use Rattle.card_image.specs.Own.{own_sizes, IsOwnValid}
+use Rattle.log_model.specs.declared.lines.Verdict.{Verdict}
+use Rattle.log_model.specs.Log.{RunLog, is_accepting}
+use Rattle.log_model.specs.Slots.{same_card}
+use Rattle.log_model.specs.Course.{Told, Visit, went}
+use Rattle.note_model.specs.Done.{done_by, done_of}
+use Rattle.note_model.specs.Noted.{InsertionNote, Note, noted_in, notes_of, insertions_of}
+use Rattle.unit_model.specs.declared.layout.TheConstants.{REGISTRATION}
+use Rattle.safety_model.specs.Recording.{Recording, card_image, told_of}
+use Rattle.run_events.specs.Seconds.{seen_next}
+use Rattle.run_promise.specs.Origin.{Origin}
+use Rattle.run_promise.specs.Whole.{NothingFailed}
+
+-- ---- the uses that insertions leave
+
+-- the session time that an insertion leaves: its second; 0 where the card was withdrawn
+abbrev pub left_open : (second : ℕ) → (withdrawn : Option ℕ) → ℕ
+left_open u None = u
+left_open u (Some w) = 0
+
+module _ (own : Registration) where
+  -- the use that it leaves, in this vehicle
+  abbrev pub left_by : InsertionNote → CurrentUse
+  left_by i = record { session = record { 0 = left_open i.accepted.second i.withdrawn }; registration = own }
+
+  -- that which these leave, one after another, where the first found this one
+  abbrev pub use_behind : CurrentUse → List InsertionNote → CurrentUse
+  use_behind held [] = held
+  use_behind held (i ∷ is) = use_behind (left_by i) is
+
+  -- and those that they found, one each
+  abbrev pub uses_from : CurrentUse → List InsertionNote → List CurrentUse
+  uses_from held [] = []
+  uses_from held (i ∷ is) = held ∷ uses_from (left_by i) is
+
+-- the vehicle of a unit, and the use of a card, by their images
+abbrev pub vehicle_of : List ℕ → Registration
+vehicle_of x = record { 0 = bytes_at x REGISTRATION.place REGISTRATION.size }
+
+abbrev pub use_in : List ℕ → CurrentUse
+use_in x = current_use (own_sizes x) x
+
+-- of these notes the insertions of a card
+abbrev pub insertions_on : Card → List Note → List InsertionNote
+insertions_on c notes = filter (λ (i : InsertionNote). same_card c i.accepted.card) (insertions_of notes)
+
+-- an insertion that goes on; and a card of which this was found in a second, in this order, is inserted so often
+abbrev pub inserted : (second : ℕ) → Slot → Card → InsertionNote
+inserted u slot card = record { accepted = record { second = u; slot = slot; card = card }; withdrawn = None }
+
+abbrev pub insertions_at : (second : ℕ) → Slot → Card → List Verdict → List InsertionNote
+insertions_at u slot card verdicts = map (λ (v : Verdict). inserted u slot card) (filter is_accepting verdicts)
+
+-- ALL USES THAT WERE FOUND on a card in a run, one for each of its insertions, and the one that the last has left
+abbrev pub uses_on : Recording → Card → List CurrentUse
+uses_on r c = uses_from (vehicle_of r.unit) (use_in (card_image r c)) (insertions_on c (notes_of r.log (done_of r.log r.trace)))
+
+abbrev pub use_left : Recording → Card → CurrentUse
+use_left r c = use_behind (vehicle_of r.unit) (use_in (card_image r c)) (insertions_on c (notes_of r.log (done_of r.log r.trace)))
+
+-- ---- the sessions that a unit has told
+
+-- the session times of uses
+abbrev pub times_of : List CurrentUse → List ℕ
+times_of uses = map (λ (held : CurrentUse). held.session.0) uses
+
+-- those that were found on a card, one for each acceptance: in a second, and in several
+abbrev pub opened_in : Card → (ℕ → Visit → ℕ) → Told → List ℕ
+opened_in c sessions t = flat_map (λ (f : Visit × Verdict). if same_card c f.0.card && is_accepting f.1 then sessions t.second.number f.0 ∷ [] else []) t.course.found
+
+abbrev pub opened_on : Card → (ℕ → Visit → ℕ) → List Told → List ℕ
+opened_on c sessions told = flat_map (opened_in c sessions) told
+
+-- WHERE NO CALL FAILED the session times that a run told are those of the uses.
+abbrev pub TellExactly : Recording → (ℕ → Visit → ℕ) → Type 0
+TellExactly r sessions = NothingFailed r.log → (c : Card) → IsOwnValid (card_image r c) → opened_on c sessions (told_of r) ≡ times_of (uses_on r c)
+
+-- ---- as a run carries them
+
+-- what a run has noted behind these seconds, and what one second more notes
+abbrev pub notes_in : RunLog → List TraceSecond → List Note
+notes_in log ss = notes_of log (done_of log ss)
+
+abbrev pub noted_next : RunLog → List TraceSecond → TraceSecond → List Note
+noted_next log ss s = noted_in log (done_by log (went log ss).before s)
+
+-- within a second, by its log so far: where the log was `began` as it began
+abbrev pub notes_now : (began : RunLog) → List TraceSecond → (log : RunLog) → TraceSecond → List Note
+notes_now began done log s = notes_in began done ++ noted_in log (done_by log (went began done).before s)
+
+-- the vehicle of the run, the use of a card at its start, and those that these notes found on it and left
+abbrev pub vehicle_in : Origin → Registration
+vehicle_in o = vehicle_of o.recording.unit
+
+abbrev pub uses_in : Origin → Card → List Note → List CurrentUse
+uses_in o c notes = uses_from (vehicle_in o) (use_in (card_image o.recording c)) (insertions_on c notes)
+
+abbrev pub use_now : Origin → Card → List Note → CurrentUse
+use_now o c notes = use_behind (vehicle_in o) (use_in (card_image o.recording c)) (insertions_on c notes)
+
+-- THE SESSION TIMES so far are exact behind these seconds;
+abbrev pub AreExact : Origin → RunLog → List TraceSecond → (ℕ → Visit → ℕ) → Type 0
+AreExact o log done sessions = NothingFailed log → (c : Card) → IsOwnValid (card_image o.recording c) → opened_on c sessions (went log done).told ≡ times_of (uses_in o c (notes_in log done))
+
+-- and within a second, with those that were found in it so far.
+abbrev pub AreExactIn : Origin → RunLog → List TraceSecond → TraceSecond → (own : ℕ → Visit → ℕ) → Type 0
+AreExactIn o log done s own = NothingFailed log → (c : Card) → IsOwnValid (card_image o.recording c) →
+    times_of (uses_in o c (notes_in log done)) ++ opened_in c own (seen_next log done s).told ≡ times_of (uses_in o c (notes_now log done log s))
+
+-- A card is judged in a second, of which a log has told so far, and another then: this use was found at each acceptance more.
+abbrev pub FindsMore : Origin → (began : RunLog) → List TraceSecond → TraceSecond → (log later : RunLog) → Card → (accepted : List ℕ) → Type 0
+FindsMore o began done s log later card more = NothingFailed later → (c : Card) → IsOwnValid (card_image o.recording c) →
+    times_of (uses_in o c (notes_now began done later s)) ≡ times_of (uses_in o c (notes_now began done log s)) ++ (if same_card c card then more else [])
+
+-- a line that is told brings no acceptance
+abbrev pub FindsNone : Origin → (began : RunLog) → List TraceSecond → TraceSecond → (log later : RunLog) → Type 0
+FindsNone o began done s log later = NothingFailed later → (c : Card) → IsOwnValid (card_image o.recording c) → uses_in o c (notes_now began done later s) ≡ uses_in o c (notes_now began done log s)

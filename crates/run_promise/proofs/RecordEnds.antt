@@ -1,0 +1,199 @@
+-- What a run promises at its end, of what was carried to it.
+use Rattle.std.proofs.Common.{◌≡◌, ◌⊎◌, inl, inr, ⊎_elim, ℕ, ◌+◌, ◌/◌, ◌<◌, ◌≤◌, min, List, [], ◌∷◌, ◌++◌, All, Contains, filter, length, take, drop, refl, ap, sym, subst, ◌∙◌, arith}
+use Rattle.std.proofs.lemmas.List.Sums.{sum_by-append}
+use Rattle.std.proofs.lemmas.List.Elements.{All-weaker, All-append, Contains-append_left}
+use Rattle.trace_model.specs.declared.Card.{Card}
+use Rattle.trace_model.specs.Trace.{TraceSecond}
+use Rattle.run_model.specs.declared.Device.{Device}
+use Rattle.tach_media.specs.Medium.{IsCoherent}
+use Rattle.log_model.specs.declared.lines.Break.{Break}
+use Rattle.log_model.specs.declared.lines.Break.TheVariants.{Cut, Tear}
+use Rattle.log_model.specs.declared.lines.Mark.{Mark}
+use Rattle.log_model.specs.Slots.{same_card}
+use Rattle.log_model.specs.Course.{went}
+use Rattle.log_model.specs.Causes.{device_of, second_of, cards_torn, HasCauses, IsBegun, HasMoment}
+use Rattle.unit_model.specs.declared.layout.TheConstants.{HIGHEST_ODOMETER}
+use Rattle.unit_model.specs.Image.{last_kept, odometer_at}
+use Rattle.unit_minutes.specs.DayOdometers.{RecordsDay}
+use Rattle.unit_model.specs.Decoding.{Decodes}
+use Rattle.history_model.specs.Minutes.{HistoryMinute}
+use Rattle.history_model.specs.Book.{Book, all, IsMark}
+use Rattle.history_model.specs.Growth.{Rises}
+use Rattle.history_model.proofs.Told.{rises}
+use Rattle.run_unit_course.specs.Legs.{Travel, kilometres_of}
+use Rattle.run_unit_course.specs.Travelled.{MayShow}
+use Rattle.unit_rule.specs.Rule.{Started}
+use Rattle.run_unit_course.proofs.Lines.{tells-front}
+use Rattle.run_unit_course.proofs.Parts.{beyond-mark, known-more}
+use Rattle.unit_rule.specs.Odometer.{ShowsOdometer, IsBegunBy, OdometerSafe}
+use Rattle.unit_rule.proofs.Travelling.{odometer-sum, odometer-safe}
+use Rattle.device_rule.specs.Views.{UnitView, unit_view}
+use Rattle.card_image.specs.Own.{IsOwnValid}
+use Rattle.safety_model.specs.Recording.{Recording, card_image, told_of, history_of}
+use Rattle.safety_model.specs.Cards.{acceptances}
+use Rattle.safety_model.specs.Safe.{Devices, card_of, breakdowns_of, WasFound, IsUnfound, IsVerdict, IsSafe, IsCaused}
+use Rattle.run_promise.specs.Between.{Carried, IsCarried, IsFound, AreUntouched}
+use Rattle.run_promise.proofs.End.{safe-followed}
+use Rattle.run_course.specs.Followed.{Progress}
+use Rattle.run_course.specs.Caused.{AreCaused}
+use Rattle.run_course.proofs.Travelled.{legs-shown}
+use Rattle.run_promise.specs.Accounts.{so_far}
+use Rattle.run_promise.specs.Going.{IsCutFrom, AreAccounted}
+use Rattle.run_promise.proofs.Accounts.{last-of}
+use Rattle.run_promise.proofs.AccountsEnd.{ends-follow, ends-brought}
+use Rattle.run_course.proofs.Telling.{each-of}
+use Rattle.run_promise.specs.Origin.{Origin, rule_of, start_at, first_of, HasRecorded}
+use Rattle.run_promise.specs.Days.{IsBegunIn}
+use Rattle.run_promise.proofs.Whole.{is-whole}
+use Rattle.run_promise.proofs.Beside.{found-or}
+use Rattle.run_promise.specs.Ends.{recording_by, IsBeside, EndsRun}
+
+-- accounts are of the recording so far
+accounts-by : (r : Recording) (c : Card) (first : ℕ) (done : List TraceSecond) (p : Progress) (ks : List ℕ) → AreAccounted r c first done p ks → AreAccounted (so_far r done p.log) c first done p ks
+accounts-by r c first done p ks a = record {
+  each = λ u at. let k = a.each u at in (k.0, k.1, let s = k.2 in record { account = s.account; before = s.before; due = s.due; cuts = s.cuts });
+  waits = a.waits;
+}
+
+-- as many kilometres, and one leg more
+kilometres-push : (xs ys : List ℕ) (a b : ℕ) → kilometres_of xs ≡ kilometres_of ys → a ≡ b → kilometres_of (xs ++ a ∷ []) ≡ kilometres_of (ys ++ b ∷ [])
+kilometres-push xs ys a b same is =
+    sum_by-append (λ (n : ℕ). n / 3600) xs (a ∷ []) ∙ ap (λ (n : ℕ). n + kilometres_of (a ∷ [])) same ∙ ap (λ (n : ℕ). kilometres_of ys + kilometres_of (n ∷ [])) is
+    ∙ sym (sum_by-append (λ (n : ℕ). n / 3600) ys (b ∷ []))
+
+module _ (o : Origin) (done : List TraceSecond) (p : Progress) (g : Travel) (marks : List Mark) (w : Carried) (began now : Devices) where
+  abbrev r : Recording
+  r = recording_by o done p.log
+
+  module _ (h : HasRecorded o done p g marks (breakdowns_of now) w.brought) (found : IsFound r o.found began) (carried : IsCarried o.found w now) (book : w.book ≡ p.book) (told : w.marks ≡ marks) (beside : IsBeside o done p g marks now) where
+    unit-began : o.found.unit.began ≡ began.unit.clock
+    unit-began = ap (λ (s : Started). s.began) found.unit
+
+    untouched : AreUntouched r o.found now
+    untouched c never = ⊎_elim
+        (λ as_. as_)
+        (λ may. ⊎_elim
+        (λ bad. absurd (bad may.0))
+        (λ same. absurd (let lt = may.1 in omega (arith, lt, same)))
+        never)
+        (beside.spared c)
+
+    safe : IsCoherent now.unit → ((c : Card) → IsCoherent (card_of now c)) → Decodes o.recording.unit → IsSafe r w.marks began now
+    safe unit_whole card_whole decodes =
+        safe-followed r o.found w began now unit_whole card_whole decodes o.from h.followed.order h.followed.early found (ends-follow r o.from (first_of o) p w.book h.followed refl book) carried
+        (λ c valid. ends-brought r c o.from p w.book (w.brought c) h.followed refl book (accounts-by o.recording c (first_of o) done p (w.brought c) (h.accounts c valid))) untouched
+
+    causes : o.breakdowns ≡ breakdowns_of began → HasCauses (λ c u v. IsVerdict r (now.unit.left_since began.unit.clock) ((card_of now c).left_since (card_of began c).clock) c u v) (breakdowns_of began) (breakdowns_of now) r.trace r.log
+    causes same =
+        let c = subst (λ (f : Device → ℕ). AreCaused f (breakdowns_of now) done p.log) same h.caused.caused in
+        record {
+          refused = c.refused;
+          cut_seconds = c.cut_seconds;
+          off_lines = c.off_lines;
+          failed_cuts = c.failed_cuts;
+          tear_lines = c.tear_lines;
+          failed_tears = c.failed_tears;
+          torn_cards = c.torn_cards;
+          begun = λ b at. each-of (IsBegun done) p.log.breaks b c.begun at;
+          moments = λ b at. each-of (HasMoment (went p.log done).told) p.log.breaks b c.moments at;
+          order = c.order;
+          finds = c.finds;
+          judged = c.judged;
+          verdicts = λ t e v at seen.
+              subst (λ (n : ℕ). IsVerdict r (now.unit.left_since n) ((card_of now e.card).left_since (card_of began e.card).clock) e.card t.second.number v) unit-began
+              (subst (λ (n : ℕ). IsVerdict r (now.unit.left_since o.found.unit.began) ((card_of now e.card).left_since n) e.card t.second.number v) (found.clock e.card) (beside.verdicts.each t e v at seen).0);
+        }
+
+    still : o.breakdowns ≡ breakdowns_of began → (c : Card) → filter (same_card c) (cards_torn (told_of r)) ≡ [] → breakdowns_of now (device_of c) ≡ breakdowns_of began (device_of c)
+    still same c none =
+        let caused = subst (λ (f : Device → ℕ). AreCaused f (breakdowns_of now) done p.log) same h.caused.caused in
+        caused.calm_cards c (ap (λ (cs : List Card). length cs) none)
+
+    kept : (b : Break) → Contains p.log.breaks b → WasFound (now.unit.left_since began.unit.clock) b
+        ⊎ (IsUnfound b × ((c : Card) (u : ℕ) → IsOwnValid (card_image r c) → Contains (acceptances r c) u → u ≤ second_of b))
+    kept (Cut second k failed begun) at = ⊎_elim
+        (λ found_. inl (subst (λ (n : ℕ). WasFound (now.unit.left_since n) (Cut second k failed begun)) unit-began found_))
+        (λ none. inr (none.0, λ c u valid accepted. each-of (IsCutFrom u) (drop p.unfound p.log.breaks) (Cut second k failed begun) ((h.accounts c valid).each u accepted).2.cuts none.1 refl))
+        (found-or (now.unit.left_since o.found.unit.began) p.unfound p.log.breaks (Cut second k failed begun) beside.verdicts.kept at)
+    kept (Tear second slot failed begun late) at = inl tt
+
+    may-show : (x : List ℕ) → now.unit.may_leave x → (shown : ShowsOdometer (odometer_at o.recording.unit) p.book g x) → MayShow (first_of o) p.book g (last_kept x) shown.leg
+    may-show x on shown =
+        let v : UnitView = unit_view [] [] x in
+        let shows = (carried.unit.unit_holds [] []).now v (x, on, refl) in
+        let first : o.found.unit.first ≡ first_of o = ap (λ (s : Started). s.first) found.unit in
+        record {
+          mark = subst (λ (b : Book). IsMark (first_of o) (all b) (last_kept x)) book
+              (subst (λ (n : ℕ). IsMark n (all w.book) (last_kept x)) first (subst (λ (k : ℕ). IsMark o.found.unit.first (all w.book) k) (last-of [] [] x) shows.mark));
+          low = subst (λ (b : Book). All (λ (i : HistoryMinute). i.minute ≤ last_kept x) b.sure) book (subst (λ (k : ℕ). All (λ (i : HistoryMinute). i.minute ≤ k) w.book.sure) (last-of [] [] x) shows.sure);
+          side = shown.side;
+          behind = shown.behind;
+        }
+
+    odometer : (x : List ℕ) → now.unit.may_leave x → OdometerSafe r.rule r.log (told_of r) (odometer_at r.unit) x
+    odometer x on =
+        odometer-safe (rule_of o) p.log (went p.log done).told (odometer_at o.recording.unit) p.book g now.unit beside.travels
+        (λ y left shown. legs-shown (rule_of o) (start_at o) o.from (first_of o) done p h.followed h.waiting g h.legs (last_kept y) shown.leg (may-show y left shown)) x on
+
+    -- the history, behind the book
+    front : (rest : List HistoryMinute) × (history_of r ≡ all p.book ++ rest)
+    front = h.followed.follows.front
+
+    -- what comes behind it is later than any minute of it
+    comes-later : (i : HistoryMinute) → Contains (all p.book) i → All (λ j. i.minute < j.minute) front.0
+    comes-later i at =
+        beyond-mark (first_of o) (o.from / 60) ((o.from + length done) / 60) i.minute (all p.book) front.0 h.followed.early
+        (subst (λ (is : List HistoryMinute). Rises (o.from / 60) is ((o.from + length done) / 60)) front.1 (rises o.from (rule_of o) (start_at o) p.log done h.followed.order)) (inr (i, at, refl))
+
+    -- a day that was begun
+    day-begun : (x : List ℕ) (day odometer : ℕ) → IsBegunBy (odometer_at o.recording.unit) p.book g x day odometer → IsBegunIn r x day odometer
+    day-begun x day odometer b =
+        let k = h.legs.begun b.e b.begun in
+        let First : HistoryMinute → Type 0 = λ j. j.minute / 1440 ≡ day → b.i.minute ≤ j.minute in
+        let same = b.same in
+        record {
+          anew = λ n q. b.anew n (subst (λ (y : List ℕ). RecordsDay y day n) (sym h.image) q);
+          i = b.i;
+          there = subst (λ (is : List HistoryMinute). Contains is b.i) (sym front.1) (Contains-append_left (all p.book) front.0 b.i b.there);
+          has = subst (λ (n : ℕ). n ≤ last_kept x) (sym b.same) b.has;
+          day_is = ap (λ (n : ℕ). n / 1440) b.same ∙ b.day_is;
+          first = subst (All First) (sym front.1)
+              (All-append First (all p.book) front.0
+              (All-weaker (λ (j : HistoryMinute). j.minute / 1440 ≡ day → b.e.minute ≤ j.minute) First (λ j le is. subst (λ (n : ℕ). n ≤ j.minute) (sym same) (le is)) (all p.book) b.first)
+              (All-weaker (λ (j : HistoryMinute). b.i.minute < j.minute) First (λ j lt is. omega (arith, lt)) front.0 (comes-later b.i b.there)));
+          earlier = k.earlier;
+          span = k.span;
+          later = k.later;
+          are = k.are;
+          minute = k.minute;
+          decided = k.decided;
+          same = k.number ∙ sym b.same;
+          known = known-more (rule_of o) (take p.unfound p.log.breaks) p.log.breaks k.earlier (λ u is. tells-front u p.unfound p.log.breaks is) k.known;
+          legs = k.legs;
+          closed = k.closed;
+          sum_is = b.odometer_is ∙ odometer-sum (odometer_at o.recording.unit) (b.e.before ++ b.e.leg ∷ []) beside.travels.begins
+              ∙ ap (λ (n : ℕ). min (odometer_at o.recording.unit + n) HIGHEST_ODOMETER) (kilometres-push b.e.before k.legs b.e.leg k.minute.travelled (sym k.sums) (sym k.leg));
+        }
+
+    days : (x : List ℕ) → now.unit.may_leave x → (day odometer : ℕ) → RecordsDay x day odometer → RecordsDay r.unit day odometer ⊎ IsBegunIn r x day odometer
+    days x on day odometer records = ⊎_elim
+        (λ was. inl (subst (λ (y : List ℕ). RecordsDay y day odometer) h.image was))
+        (λ begun. inr (day-begun x day odometer begun))
+        (beside.travels.days x on day odometer records)
+
+    unit-later : began.unit.clock ≤ now.unit.clock
+    unit-later = subst (λ (n : ℕ). n ≤ now.unit.clock) unit-began (carried.unit.unit_holds [] []).later
+
+    pub ends-run : IsCoherent now.unit → ((c : Card) → IsCoherent (card_of now c)) → Decodes o.recording.unit → o.breakdowns ≡ breakdowns_of began → EndsRun r marks began now
+    ends-run unit_whole card_whole decodes same =
+        let all_safe : IsSafe r marks began now = subst (λ (ms : List Mark). IsSafe r ms began now) told (safe unit_whole card_whole decodes) in
+        let all_caused : IsCaused r marks began now = record { causes = causes same; kept = kept; complete = h.complete } in
+        record {
+          safe = all_safe;
+          caused = all_caused;
+          still = still same;
+          brings = λ t e v at seen. (beside.verdicts.each t e v at seen).1;
+          odometer = odometer;
+          days = days;
+          whole = λ nothing. is-whole r marks began now o.from h.followed.order nothing all_safe all_caused unit_whole unit-later;
+        }

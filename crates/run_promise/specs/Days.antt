@@ -1,0 +1,37 @@
+-- The odometers of a unit's days, at the end of a run (profile).
+use Rattle.std.specs.Prelude.{◌≡◌, ℕ, ◌+◌, ◌/◌, ◌≤◌, min, List, [], ◌∷◌, ◌++◌, All, Contains}
+use Rattle.std.specs.List.{AllByRecursion}
+use Rattle.minute_model.specs.declared.Minute.{Minute}
+use Rattle.log_model.specs.Course.{Told}
+use Rattle.log_model.specs.Spans.{spans_of}
+use Rattle.history_model.specs.Minutes.{HistoryMinute}
+use Rattle.history_model.specs.History.{decided_of}
+use Rattle.history_model.specs.Growth.{closed_limit}
+use Rattle.unit_model.specs.declared.layout.TheConstants.{HIGHEST_ODOMETER}
+use Rattle.unit_model.specs.Image.{last_kept, odometer_at}
+use Rattle.unit_minutes.specs.DayOdometers.{RecordsDay}
+use Rattle.run_unit_course.specs.Followed.{IsKnown}
+use Rattle.run_unit_course.specs.Legs.{kilometres_of, AreLegs}
+use Rattle.safety_model.specs.Recording.{Recording, told_of, history_of}
+
+-- A DAY WAS BEGUN IN A RUN, which the unit did not record at the start: by the first minute of that day in the history, and the image has it. A span
+-- has decided that minute; and the day's odometer is that of the start with the whole kilometres of the spans before, each by the limit of its
+-- cut, of which the log tells where the span has decided a minute, and of that span up to the end of the minute.
+pub record IsBegunIn (r : Recording) (x : List ℕ) (day odometer : ℕ) : Type 0 where
+  pub anew : (o : ℕ) → RecordsDay r.unit day o → ⊥
+  pub i : HistoryMinute
+  pub there : Contains (history_of r) i
+  pub has : i.minute ≤ last_kept x
+  pub day_is : i.minute / 1440 ≡ day
+  pub first : All (λ j. j.minute / 1440 ≡ day → i.minute ≤ j.minute) (history_of r)
+  pub earlier : List (List Told)
+  pub span : List Told
+  pub later : List (List Told)
+  pub are : spans_of (told_of r) ≡ earlier ++ span ∷ later
+  pub minute : Minute
+  pub decided : Contains (decided_of r.rule span) minute
+  pub same : minute.minute ≡ i.minute
+  pub known : AllByRecursion (IsKnown r.rule r.log.breaks) earlier
+  pub legs : List ℕ
+  pub closed : AreLegs r.rule (closed_limit r.log) 0 earlier legs
+  pub sum_is : odometer ≡ min (odometer_at r.unit + kilometres_of (legs ++ minute.travelled ∷ [])) HIGHEST_ODOMETER

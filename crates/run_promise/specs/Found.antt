@@ -1,0 +1,37 @@
+-- What the opening of a run found of its devices (profile).
+use Rattle.std.specs.Prelude.{ℕ, List}
+use Rattle.activity_codec.specs.declared.entries.Entry.{Entry}
+use Rattle.trace_model.specs.declared.Card.{Card}
+use Rattle.trace_model.specs.declared.Card.TheVariants.{A, B}
+use Rattle.tach_media.specs.Medium.{State}
+use Rattle.history_model.specs.Presence.{CardStart}
+use Rattle.device_rule.specs.View.{Held}
+use Rattle.device_rule.specs.Views.{UnitView}
+use Rattle.device_rule.specs.Device.{Seen}
+use Rattle.device_rule.specs.Marked.{of_unit}
+use Rattle.unit_rule.specs.Rule.{Started}
+
+-- of a card its image, what it brings, its number, and the clock; a card that is not valid has a number that no card has
+pub record CardFound : Type 0 where
+  pub image : List ℕ
+  pub start : CardStart
+  pub number : List ℕ
+  pub began : ℕ
+
+-- of the unit its days and last-kept minute, and of the cards what they bring
+pub record Found : Type 0 where
+  pub unit : Started
+  pub card_a : CardFound
+  pub card_b : CardFound
+
+abbrev pub found_of : Found → Card → CardFound
+found_of f A = f.card_a
+found_of f B = f.card_b
+
+-- the unit by what its images show where the cards have these numbers
+abbrev pub unit_seen : Found → State → Seen UnitView
+unit_seen f unit = of_unit f.card_a.number f.card_b.number unit
+
+-- What overwriting leaves of a card's entries is carried apart from the rule that joins it to the unit.
+abbrev pub AnyKept : ℕ → List Entry → Held → Type 0
+AnyKept next all held = Unit {0}

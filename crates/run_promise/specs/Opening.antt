@@ -1,0 +1,33 @@
+-- How a run begins (profile): devices that have one image each, and what the opening finds of it.
+use Rattle.std.specs.Prelude.{◌≡◌, ℕ, Some, [], List}
+use Rattle.trace_model.specs.declared.Card.{Card}
+use Rattle.tach_media.specs.Medium.{State}
+use Rattle.card_model.specs.Days.{AreDays}
+use Rattle.device_rule.specs.Fields.{card_days}
+use Rattle.device_rule.specs.Own.{own_view, own_sizes}
+use Rattle.history_model.specs.Presence.{CardStart}
+use Rattle.history_model.specs.Book.{not_begun}
+use Rattle.device_rule.specs.Views.{UnitView, unit_view, owed, beyond}
+use Rattle.device_rule.specs.Rules.{Out}
+use Rattle.run_promise.specs.Found.{Found, found_of}
+use Rattle.run_promise.specs.Between.{Carried}
+
+-- a device begins with this image alone: a read gives it, and since then a stop leaves no other
+pub record BeginsAs (x : List ℕ) (device : State) : Type 0 where
+  pub tells : device.image ≡ Some x
+  pub only : (c : List ℕ) → device.left_since device.clock c → c ≡ x
+
+-- what a card brings, by its image and what the unit's shows
+abbrev pub as_found : Card → UnitView → List ℕ → CardStart
+as_found c u x = record { entries = (own_view x).held.entries; owed = owed c u (own_view x); mark = (own_view x).mark; word = beyond (own_view x) }
+
+-- so it was found of these images of unit and card, at this clock, and the card's days are days
+pub record IsLookedAt (f : Found) (c : Card) (u x : List ℕ) (clock : ℕ) : Type 0 where
+  pub image : (found_of f c).image ≡ x
+  pub start : (found_of f c).start ≡ as_found c (unit_view f.card_a.number f.card_b.number u) x
+  pub began : (found_of f c).began ≡ clock
+  pub days : AreDays 0 (card_days (own_sizes x) x)
+
+-- what is carried before the first second: nothing is kept, and no card is accepted
+abbrev pub carried_first : (due : ℕ) → Carried
+carried_first due = record { due = due; book = not_begun; marks = []; standing = λ c. Out; brought = λ c. [] }

@@ -1,0 +1,121 @@
+-- An action that changes no slot: it is refused, or selects an activity.
+use Rattle.std.proofs.Common.{◌≡◌, ℕ, inl, suc, ◌+◌, ◌-◌, None, List, [], ◌∷◌, ◌++◌, length, refl, sym, subst, arith}
+use Rattle.activity_codec.specs.declared.values.Slot.{Slot}
+use Rattle.activity_codec.specs.declared.values.Pick.{Pick}
+use Rattle.trace_model.specs.declared.Action.TheVariants.{Select, Place, Manual}
+use Rattle.trace_model.specs.Trace.{TraceSecond}
+use Rattle.minute_model.specs.Span.{Span, picked, ungiven_of}
+use Rattle.minute_rules.specs.Kept.{Kept, StandsFor}
+use Rattle.log_model.specs.declared.lines.SlotFault.{SlotFault}
+use Rattle.log_model.specs.Log.{RunLog, Phase, In}
+use Rattle.log_model.specs.Course.{Told, Course, went}
+use Rattle.safety_model.specs.Safe.{Devices, breakdowns_of}
+use Rattle.run_course.specs.Followed.{Progress}
+use Rattle.run_course.specs.Moments.{and_refused}
+use Rattle.run_course.specs.Presence.{SlotsTell}
+use Rattle.run_course.specs.Moment.{Moment}
+use Rattle.run_course.specs.Kept.{HasDecided, AreMarkedSoFar}
+use Rattle.run_course.proofs.Moment.{action-refused, action-done}
+use Rattle.run_course.proofs.Kept.{selection-heard, nothing-else}
+use Rattle.run_promise.specs.Origin.{Origin, rule_of, start_at}
+use Rattle.run_devices.specs.Presence.{PresentStand}
+use Rattle.run_record.specs.Recorded.{Values}
+use Rattle.run_record.specs.Within.{told_before, course_in, IsFoundSo, MayBeWrittenSo, IsSparedSo, Within, GoesOn, ARefusalIsRecorded, ASelectionIsRecorded, AnEntryByHandIsRecorded, APlaceIsRecorded}
+use Rattle.run_record.proofs.Back.{back-plain}
+use Rattle.run_record.proofs.Stays.{goes-still}
+use Rattle.run_record.proofs.Written.{written-on, spared-on}
+
+module _ (o : Origin) (done : List TraceSecond) (s : TraceSecond) (at : Phase) (v : Values) (d : Devices) (w : Within o done s at [] None [] v d) where
+  abbrev p : Progress
+  p = w.b.run
+
+  abbrev told0 : List Told
+  told0 = told_before w.b done
+
+  abbrev c : Course
+  c = course_in w.b done s at v.log
+
+  -- the same course, but for what was selected and refused
+  abbrev but : List (Slot × Pick) → List (ℕ × SlotFault) → Course
+  but picks refused = record c { picks = picks; refused = refused }
+
+  acted : (log : RunLog) (next : Phase) (picks : List (Slot × Pick)) (refused : List (ℕ × SlotFault)) (minutes : Kept) (sp : Span) → Moment p (went p.log done).before s next log [] w.b.broken (breakdowns_of d) →
+      course_in w.b done s next log ≡ but picks refused → StandsFor minutes sp → ungiven_of sp ≡ ungiven_of w.sp →
+      HasDecided (rule_of o) (start_at o) told0 p w.b.span (but picks refused) None sp w.ds [] w.new → GoesOn o done s next [] None [] (record v { log = log; minutes = minutes }) d w.b w.from
+  acted log next picks refused minutes sp m is stands still decided = record {
+    began = refl;
+    from = refl;
+    within = record {
+      b = w.b;
+      lit = w.lit;
+      began = w.began;
+      unfound = w.unfound;
+      next = w.next;
+      odometer = w.odometer;
+      moment = m;
+      sp = sp;
+      minutes = stands;
+      ds = w.ds;
+      new = w.new;
+      decided = same (λ (x : Course). HasDecided (rule_of o) (start_at o) told0 p w.b.span x None sp w.ds [] w.new) decided;
+      from = w.from;
+      kept_to = w.kept_to;
+      until = let to = w.until in omega (arith, to, still);
+      stay = w.stay;
+      marked = same (λ (x : Course). AreMarkedSoFar v.marks told0 x s.number w.new) (record { unit = w.marked.unit; card = w.marked.card });
+      due = w.due;
+      standing = w.standing;
+      brought = w.brought;
+      powered = w.powered;
+      found = w.found;
+      early = w.early;
+      late = w.late;
+      more = w.more;
+      tells = same (λ (x : Course). SlotsTell (start_at o) told0 (p.book.sure ++ w.new) x.left s.number w.from x.slots v.cabin.slots) w.tells;
+      present = same (λ (x : Course). PresentStand o.found w.standing told0 x s.number w.from v.cabin)
+          (record { seated = w.present.seated; ended = λ m present card low is in_. let h = w.present.ended m present card low is in_ in record { valid = h.valid; present = h.present; session = h.session } });
+      back = λ card some. inl (back-plain o done s at [] None v d w card some);
+      verdicts = w.verdicts;
+      finds = same (λ (x : Course). IsFoundSo o w.b done x s.number w.from w.new v.marks w.brought d) (record { may = w.finds.may; taken = w.finds.taken; late = w.finds.late });
+      there = w.there;
+      few = w.few;
+      spared = λ card. same (λ (x : Course). IsSparedSo o w.b done x [] s.number v.cabin.slots d card)
+          (spared-on o w.b done c (but picks refused) [] s.number v.cabin.slots v.cabin.slots d card refl refl (goes-still s.number v.cabin.slots v.cabin.slots card refl) (w.spared card));
+      written = λ card some. same (λ (x : Course). MayBeWrittenSo o w.b done x [] s.number v.cabin.slots card)
+          (written-on o w.b done c (but picks refused) [] s.number v.cabin.slots v.cabin.slots card refl refl (goes-still s.number v.cabin.slots v.cabin.slots card refl) (w.written card some));
+      travels = w.travels;
+    };
+  }
+    where
+      same : (P : Course → Type 0) → P (but picks refused) → P (course_in w.b done s next log)
+      same P = subst P (sym is)
+
+pub refusal-recorded : (d : Devices) → ARefusalIsRecorded d
+refusal-recorded d o done s v front a rest are w fault is =
+    let p : Progress = w.b.run in
+    let c : Course = course_in w.b done s (In (length front)) v.log in
+    let done_ = action-refused p (went p.log done).before s v.log w.b.broken (breakdowns_of d) front a rest are w.moment fault is in
+    acted o done s (In (length front)) v d w (and_refused v.log (record { second = s.number; fault = fault; begun = suc (length front) })) (In (suc (length front))) c.picks (c.refused ++ (suc (length front), fault) ∷ []) v.minutes w.sp done_.0 done_.1 w.minutes refl
+    (nothing-else (rule_of o) (start_at o) (told_before w.b done) p w.b.span c (record c { refused = c.refused ++ (suc (length front), fault) ∷ [] }) None w.sp w.ds [] w.new w.decided refl refl)
+
+pub selection-recorded : (d : Devices) → ASelectionIsRecorded d
+selection-recorded d o done s v front slot pick rest are w is minutes stands =
+    let p : Progress = w.b.run in
+    let c : Course = course_in w.b done s (In (length front)) v.log in
+    let done_ = action-done p (went p.log done).before s v.log w.b.broken (breakdowns_of d) front (Select slot pick) rest are w.moment refl is in
+    acted o done s (In (length front)) v d w v.log (In (suc (length front))) (c.picks ++ (slot, pick) ∷ []) c.refused minutes (picked w.sp slot pick) done_.0 done_.1 stands refl
+    (selection-heard (rule_of o) (start_at o) (told_before w.b done) p w.b.span c (record c { picks = c.picks ++ (slot, pick) ∷ [] }) w.sp w.ds [] w.new w.decided slot pick refl refl)
+
+pub hand-recorded : (d : Devices) → AnEntryByHandIsRecorded d
+hand-recorded d o done s v front slot pick minute rest are w is =
+    let p : Progress = w.b.run in
+    let c : Course = course_in w.b done s (In (length front)) v.log in
+    let done_ = action-done p (went p.log done).before s v.log w.b.broken (breakdowns_of d) front (Manual slot pick minute) rest are w.moment refl is in
+    acted o done s (In (length front)) v d w v.log (In (suc (length front))) c.picks c.refused v.minutes w.sp done_.0 done_.1 w.minutes refl w.decided
+
+pub place-recorded : (d : Devices) → APlaceIsRecorded d
+place-recorded d o done s v front slot ending country region rest are w is =
+    let p : Progress = w.b.run in
+    let c : Course = course_in w.b done s (In (length front)) v.log in
+    let done_ = action-done p (went p.log done).before s v.log w.b.broken (breakdowns_of d) front (Place slot ending country region) rest are w.moment refl is in
+    acted o done s (In (length front)) v d w v.log (In (suc (length front))) c.picks c.refused v.minutes w.sp done_.0 done_.1 w.minutes refl w.decided

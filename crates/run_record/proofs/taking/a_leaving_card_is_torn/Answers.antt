@@ -1,0 +1,8 @@
+use Rattle.run_promise.specs.Between.{devices}
+use Rattle.run_record.proofs.Closing.{leaving-torn}
+use Rattle.run_record.proofs.taking.a_leaving_card_is_torn.Goals as goal
+
+pub returns : goal.returns
+returns g z = leaving-torn
+    (devices (g.M.Medium.state z.args.old_unit.now) (g.C.Chip.state z.args.old_a.now) (g.D.Chip.state z.args.old_b.now))
+    (devices (g.N.Medium.state z.args.unit.now) (g.E.Chip.state z.args.card_a.now) (g.F.Chip.state z.args.card_b.now))

@@ -1,0 +1,8 @@
+use Rattle.run_promise.specs.Between.{devices}
+use Rattle.run_record.proofs.Putting.{entered-next}
+use Rattle.run_record.proofs.taking.an_entered_card_is_next.Goals as goal
+
+pub returns : goal.returns
+returns g z = entered-next
+    (devices (g.M.Medium.state z.args.old_unit.now) (g.C.Chip.state z.args.old_a.now) (g.D.Chip.state z.args.old_b.now))
+    (devices (g.N.Medium.state z.args.unit.now) (g.E.Chip.state z.args.card_a.now) (g.F.Chip.state z.args.card_b.now))

@@ -1,0 +1,161 @@
+-- A card that waits in a slot is judged in a run with cards (profile): what is found of it is told, and it is accepted or not; or it is torn out.
+use Rattle.std.specs.Prelude.{◌≡◌, ◌⊎◌, ℕ, ◌/◌, ◌<◌, ◌≤◌, Bool, true, false, Some, None, List, [], ◌++◌, Contains, is_some}
+use Rattle.std.specs.List.{AllByRecursion}
+use Rattle.activity_codec.specs.declared.values.Slot.{Slot}
+use Rattle.activity_codec.specs.declared.values.Slot.TheVariants.{Driver, CoDriver}
+use Rattle.trace_model.specs.declared.Card.{Card}
+use Rattle.trace_model.specs.Trace.{TraceSecond}
+use Rattle.run_model.specs.declared.Device.TheVariants.{Unit as Recorder}
+use Rattle.log_model.specs.declared.lines.Break.{Break}
+use Rattle.log_model.specs.declared.lines.Find.{Find}
+use Rattle.log_model.specs.declared.lines.Mark.{Mark}
+use Rattle.log_model.specs.Log.{Phase, Keeping, is_accepting, found_in}
+use Rattle.log_model.specs.Slots.{in_slot}
+use Rattle.log_model.specs.Causes.{RoseBy}
+use Rattle.log_model.specs.Course.{Visit, went}
+use Rattle.device_rule.specs.Rules.{Standing}
+use Rattle.run_unit_course.specs.Legs.{all_travelled}
+use Rattle.unit_model.specs.Image.{odometer_at}
+use Rattle.unit_rule.specs.Odometer.{HasTravelled}
+use Rattle.card_image.specs.Own.{own_view, IsOwnValid}
+use Rattle.safety_model.specs.Recording.{card_image}
+use Rattle.safety_model.specs.Safe.{Devices, card_of, breakdowns_of}
+use Rattle.card_slots.specs.Kept.{IsFree, put_in, taken}
+use Rattle.run_crew.specs.declared.cabin.Cabin.{Cabin}
+use Rattle.run_crew.specs.Cards.{session_of}
+use Rattle.run_promise.specs.Found.{found_of}
+use Rattle.run_promise.specs.Cards.{IsUntouched}
+use Rattle.run_course.specs.Moments.{and_break, and_find}
+use Rattle.run_course.specs.Presence.{IsNewestAt}
+use Rattle.run_course.specs.Seconds.{kept_all}
+use Rattle.run_promise.specs.Going.{IsTakenAt}
+use Rattle.run_course.specs.Reached.{moved_at, IsTearAt, IsFindAt}
+use Rattle.run_course.specs.Telling.{IsMore, BrokeDown, WaitBut}
+use Rattle.run_devices.specs.Told.{AreFoundCards, IsPowered, IsPowerless}
+use Rattle.run_devices.specs.Presence.{IsSeated}
+use Rattle.run_promise.specs.Origin.{Origin, start_at, first_of}
+use Rattle.run_promise.specs.Beside.{HaveLeftMore}
+use Rattle.run_record.specs.Recorded.{Values, carried, AreThere}
+use Rattle.run_record.specs.Within.{course_in, VerdictBy, often, AreOld, Within, GoesOn, CutWithin}
+
+-- A CARD WAITS in a slot at a moment: it sits there and is not accepted, and has entered with this moment; all minutes before this second's are
+-- kept. Behind it these cards wait.
+pub record IsNext (o : Origin) (done : List TraceSecond) (s : TraceSecond) (at : Phase) (waits fewer : List Visit) (v : Values) (d : Devices) (w : Within o done s at waits None [] v d) (slot : Slot) (card : Card) : Type 0 where
+  pub sits_ : in_slot (course_in w.b done s at v.log).slots slot ≡ Some (record { card = card; accepted = None })
+  pub enters : (moved_at v.log (went w.b.run.log done).before s at).enters slot ≡ true
+  pub stays_in : (moved_at v.log (went w.b.run.log done).before s at).leaving slot ≡ []
+  pub but : WaitBut at slot card waits fewer
+  pub behind : AllByRecursion (λ (x : Visit). x.phase ≡ at) fewer
+  pub is_now : w.from ≡ s.number / 60
+
+-- THE SECOND GOES ON at that moment: it began as before, and no minute was kept.
+abbrev pub Behind : (o : Origin) (done : List TraceSecond) (s : TraceSecond) (at : Phase) (waits fewer : List Visit) (v later : Values) (d e : Devices) → Within o done s at waits None [] v d → Type 0
+Behind o done s at waits fewer v later d e w = GoesOn o done s at fewer None [] later e w.b w.from
+
+-- what a run has by value behind a find, with these marks, slots and sessions
+abbrev pub judged_values : Find → List Mark → Cabin → Values → Values
+judged_values f marks cabin v = record v { log = and_find v.log f; marks = marks; cabin = cabin }
+
+-- THE CARD IS ACCEPTED: it answered this newest minute, and the unit had kept this minute last.
+pub record IsAcceptedSo (o : Origin) (done : List TraceSecond) (s : TraceSecond) (at : Phase) (waits : List Visit) (v : Values) (d : Devices) (w : Within o done s at waits None [] v d) (slot : Slot) (card : Card) (cabin : Cabin) (brought : Card → List ℕ) : Type 0 where
+  pub newest : ℕ
+  pub slots_are : cabin.slots ≡ put_in slot card (Some newest) v.cabin.slots
+  pub free : IsFree v.cabin.slots.seats slot card
+  pub answered : IsNewestAt (start_at o) (w.b.run.book.sure ++ w.new) v.cabin.slots card newest s.number
+  pub kept : ℕ
+  pub brings : Contains (brought card) kept
+  pub taken_at : IsTakenAt (first_of o) w.b.run.book (kept_all w.new w.b.run.book) w.new kept
+
+-- or it is not, and sits there as before
+abbrev pub IsSeatedBy : (accepts : Bool) → (o : Origin) (done : List TraceSecond) (s : TraceSecond) (at : Phase) (waits : List Visit) (v : Values) (d : Devices) (w : Within o done s at waits None [] v d) (slot : Slot) (card : Card) (cabin : Cabin) (brought : Card → List ℕ) → Type 0
+IsSeatedBy true o done s at waits v d w slot card cabin brought = IsAcceptedSo o done s at waits v d w slot card cabin brought
+IsSeatedBy false o done s at waits v d w slot card cabin brought = cabin.slots ≡ v.cabin.slots
+
+-- a card is this one, and was accepted by this find
+abbrev pub IsAccepted : Card → (accepts : Bool) → Card → Type 0
+IsAccepted card accepts x = (x ≡ card) × (accepts ≡ true)
+
+-- A CARD WAS JUDGED, and so was found of it: that may be found of it; what was acknowledged is so still; each device goes on; and no card has a
+-- session, or was written, but for those that had one and this one where it is accepted.
+pub record IsJudged (o : Origin) (done : List TraceSecond) (s : TraceSecond) (at : Phase) (waits fewer : List Visit) (v : Values) (d e : Devices) (w : Within o done s at waits None [] v d) (card : Card) (f : Find) (marks : List Mark) (cabin : Cabin) (brought : Card → List ℕ) : Type 0 where
+  pub next : IsNext o done s at waits fewer v d w f.slot card
+  pub here : IsFindAt s at f
+  pub none : found_in v.log s.number at f.slot ≡ []
+  pub order : f.slot ≡ Driver → ((moved_at v.log (went w.b.run.log done).before s at).enters CoDriver ≡ false) ⊎ (found_in v.log s.number at CoDriver ≡ [])
+  pub seats : IsSeatedBy (is_accepting f.verdict) o done s at waits v d w f.slot card cabin brought
+  pub may : (n : ℕ) × (n ≤ often o w.b done (course_in w.b done s at v.log) s.number card)
+      × VerdictBy o w.b done n marks (e.unit.left_since o.found.unit.began) ((card_of e card).left_since (found_of o.found card).began) card s.number f.verdict
+  pub stay : (mark : Mark) → Contains v.marks mark → Contains marks mark
+  pub found : AreFoundCards o.found cabin.cards
+  pub more : (c : Card) (k : ℕ) → Contains (w.brought c) k → Contains (brought c) k
+  pub early : (c : Card) (k : ℕ) → Contains (brought c) k → k < w.due
+  pub left : HaveLeftMore o d e
+  pub there : AreThere o.found d → AreThere o.found e
+  pub sessions : (x : Card) → is_some (session_of cabin.cards x) ≡ true → (is_some (session_of v.cabin.cards x) ≡ true) ⊎ IsAccepted card (is_accepting f.verdict) x
+  pub untouched : (x : Card) → IsUntouched (found_of o.found x) (card_of d x) → IsUntouched (found_of o.found x) (card_of e x) ⊎ ((is_some (session_of v.cabin.cards x) ≡ true) ⊎ IsAccepted card (is_accepting f.verdict) x)
+  pub travels : HasTravelled (odometer_at o.recording.unit) (kept_all w.new w.b.run.book) (all_travelled w.ds w.b.travel) e.unit
+
+-- unit and cards are as the book says, and the card stands as it was judged
+pub record StandJudged (o : Origin) (done : List TraceSecond) (s : TraceSecond) (at : Phase) (waits : List Visit) (v : Values) (d e : Devices) (w : Within o done s at waits None [] v d) (card : Card) (f : Find) (marks : List Mark) (cabin : Cabin) (brought : Card → List ℕ) (standing : Card → Standing) : Type 0 where
+  pub powered : IsPowered o.found (carried (judged_values f marks cabin v) w.due (kept_all w.new w.b.run.book) standing brought) cabin.cards e
+  pub others : (x : Card) → (x ≡ card → ⊥) → standing x ≡ w.standing x
+  pub stands : is_accepting f.verdict ≡ true → IsSeated o.found standing card s.number
+
+abbrev pub ACardIsJudged : (d e : Devices) → Type 0
+ACardIsJudged d e = (o : Origin) (done : List TraceSecond) (s : TraceSecond) (at : Phase) (waits fewer : List Visit) (v : Values) → (w : Within o done s at waits None [] v d) →
+    (card : Card) (f : Find) (marks : List Mark) (cabin : Cabin) (brought : Card → List ℕ) (standing : Card → Standing) → IsJudged o done s at waits fewer v d e w card f marks cabin brought →
+    IsMore (breakdowns_of d) (breakdowns_of e) → StandJudged o done s at waits v d e w card f marks cabin brought standing → Behind o done s at waits fewer v (judged_values f marks cabin v) d e w
+
+-- OR THE UNIT FAILED behind the find: power is about to be cut. `cabin` is then the one in which the card is accepted, if it was found so.
+pub record FailedJudging (o : Origin) (done : List TraceSecond) (s : TraceSecond) (at : Phase) (waits : List Visit) (v : Values) (d e : Devices) (w : Within o done s at waits None [] v d) (f : Find) (marks : List Mark) (cabin : Cabin) (brought : Card → List ℕ) : Type 0 where
+  pub standing : Card → Standing
+  pub powerless : IsPowerless o.found (carried (judged_values f marks cabin v) w.due (kept_all w.new w.b.run.book) standing brought) e
+  pub broke : RoseBy 1 (w.b.broken Recorder) (breakdowns_of e Recorder)
+  pub no_keeping : at ≡ Keeping → ⊥
+
+abbrev pub AJudgingFails : (d e : Devices) → Type 0
+AJudgingFails d e = (o : Origin) (done : List TraceSecond) (s : TraceSecond) (at : Phase) (waits fewer : List Visit) (v : Values) → (w : Within o done s at waits None [] v d) →
+    (card : Card) (f : Find) (marks : List Mark) (cabin : Cabin) (brought : Card → List ℕ) → IsJudged o done s at waits fewer v d e w card f marks cabin brought →
+    IsMore (breakdowns_of d) (breakdowns_of e) → FailedJudging o done s at waits v d e w f marks cabin brought → CutWithin o done s at fewer None (judged_values f marks cabin v) e
+
+-- ---- a card that is torn out before it is judged
+
+-- a card is this one, which was valid and told of no later time
+abbrev pub MayBeWrittenBy : Origin → ℕ → Card → Card → Type 0
+MayBeWrittenBy o u card x = (x ≡ card) × IsOwnValid (card_image o.recording card) × ((own_view (card_image o.recording card)).stored ≤ u)
+
+abbrev pub torn_values : Break → Cabin → Values → Values
+torn_values b cabin v = record v { log = and_break v.log b; cabin = cabin }
+
+pub record IsTornNext (o : Origin) (done : List TraceSecond) (s : TraceSecond) (at : Phase) (waits fewer : List Visit) (v : Values) (d e : Devices) (w : Within o done s at waits None [] v d) (slot : Slot) (card : Card) (b : Break) (cabin : Cabin) : Type 0 where
+  pub next : IsNext o done s at waits fewer v d w slot card
+  pub here : IsTearAt s at slot true b
+  pub broke : BrokeDown card (breakdowns_of d) (breakdowns_of e)
+  pub slots_are : cabin.slots ≡ taken slot s.number v.cabin.slots
+  pub found : AreFoundCards o.found cabin.cards
+  pub sessions : AreOld v.cabin.cards cabin.cards
+  pub left : HaveLeftMore o d e
+  pub there : AreThere o.found d → AreThere o.found e
+  pub untouched : (x : Card) → IsUntouched (found_of o.found x) (card_of d x) → IsUntouched (found_of o.found x) (card_of e x) ⊎ ((is_some (session_of v.cabin.cards x) ≡ true) ⊎ MayBeWrittenBy o s.number card x)
+  pub travels : HasTravelled (odometer_at o.recording.unit) (kept_all w.new w.b.run.book) (all_travelled w.ds w.b.travel) e.unit
+
+pub record StandTorn (o : Origin) (done : List TraceSecond) (s : TraceSecond) (at : Phase) (waits : List Visit) (v : Values) (d e : Devices) (w : Within o done s at waits None [] v d) (card : Card) (b : Break) (cabin : Cabin) (standing : Card → Standing) : Type 0 where
+  pub powered : IsPowered o.found (carried (torn_values b cabin v) w.due (kept_all w.new w.b.run.book) standing w.brought) cabin.cards e
+  pub others : (x : Card) → (x ≡ card → ⊥) → standing x ≡ w.standing x
+
+abbrev pub AWaitingCardIsTorn : (d e : Devices) → Type 0
+AWaitingCardIsTorn d e = (o : Origin) (done : List TraceSecond) (s : TraceSecond) (at : Phase) (waits fewer : List Visit) (v : Values) → (w : Within o done s at waits None [] v d) →
+    (slot : Slot) (card : Card) (b : Break) (cabin : Cabin) (standing : Card → Standing) → IsTornNext o done s at waits fewer v d e w slot card b cabin →
+    StandTorn o done s at waits v d e w card b cabin standing → Behind o done s at waits fewer v (torn_values b cabin v) d e w
+
+-- or the unit failed behind that
+pub record FailedTearing (o : Origin) (done : List TraceSecond) (s : TraceSecond) (at : Phase) (waits : List Visit) (v : Values) (d e : Devices) (w : Within o done s at waits None [] v d) (b : Break) (cabin : Cabin) : Type 0 where
+  pub standing : Card → Standing
+  pub powerless : IsPowerless o.found (carried (torn_values b cabin v) w.due (kept_all w.new w.b.run.book) standing w.brought) e
+  pub broke : RoseBy 1 (w.b.broken Recorder) (breakdowns_of e Recorder)
+  pub no_keeping : at ≡ Keeping → ⊥
+
+abbrev pub ATearingFails : (d e : Devices) → Type 0
+ATearingFails d e = (o : Origin) (done : List TraceSecond) (s : TraceSecond) (at : Phase) (waits fewer : List Visit) (v : Values) → (w : Within o done s at waits None [] v d) →
+    (slot : Slot) (card : Card) (b : Break) (cabin : Cabin) → IsTornNext o done s at waits fewer v d e w slot card b cabin →
+    FailedTearing o done s at waits v d e w b cabin → CutWithin o done s at fewer None (torn_values b cabin v) e

@@ -1,0 +1,57 @@
+-- A card that waits is accepted and torn out in one call (profile): both are told, and it has left its slot.
+use Rattle.std.specs.Prelude.{◌≡◌, ℕ, true, None, List, []}
+use Rattle.trace_model.specs.declared.Card.{Card}
+use Rattle.trace_model.specs.Trace.{TraceSecond}
+use Rattle.run_model.specs.declared.Device.TheVariants.{Unit as Recorder}
+use Rattle.log_model.specs.declared.lines.Break.{Break}
+use Rattle.log_model.specs.declared.lines.Find.{Find}
+use Rattle.log_model.specs.declared.lines.Mark.{Mark}
+use Rattle.log_model.specs.Log.{Phase, Keeping, is_accepting}
+use Rattle.log_model.specs.Causes.{RoseBy}
+use Rattle.log_model.specs.Course.{Visit}
+use Rattle.device_rule.specs.Rules.{Standing}
+use Rattle.safety_model.specs.Safe.{Devices, breakdowns_of}
+use Rattle.card_slots.specs.Kept.{taken}
+use Rattle.run_crew.specs.declared.cabin.Cabin.{Cabin}
+use Rattle.run_course.specs.Seconds.{kept_all}
+use Rattle.run_course.specs.Reached.{IsTearAt}
+use Rattle.run_course.specs.Telling.{BrokeDown}
+use Rattle.run_devices.specs.Told.{AreFoundCards, IsPowered, IsPowerless}
+use Rattle.run_promise.specs.Origin.{Origin}
+use Rattle.run_record.specs.Recorded.{Values, carried}
+use Rattle.run_record.specs.Within.{AreOld, Within, CutWithin}
+use Rattle.run_record.specs.Judging.{Behind, judged_values, torn_values, IsJudged}
+
+-- what a run has by value behind find and tear
+abbrev pub lost_values : Find → Break → List Mark → (cabin after : Cabin) → Values → Values
+lost_values f b marks cabin after v = torn_values b after (judged_values f marks cabin v)
+
+-- THE CARD WAS ACCEPTED, and a later call on it failed: behind that it is in no slot. `cabin` is the one in which it is accepted.
+pub record IsLostSo (o : Origin) (done : List TraceSecond) (s : TraceSecond) (at : Phase) (waits fewer : List Visit) (v : Values) (d e : Devices) (w : Within o done s at waits None [] v d) (card : Card) (f : Find) (cabin after : Cabin) (b : Break) : Type 0 where
+  pub accepts : is_accepting f.verdict ≡ true
+  pub torn_here : IsTearAt s at f.slot true b
+  pub broke : BrokeDown card (breakdowns_of d) (breakdowns_of e)
+  pub slots_are : after.slots ≡ taken f.slot s.number cabin.slots
+  pub found : AreFoundCards o.found after.cards
+  pub sessions : AreOld v.cabin.cards after.cards
+
+pub record StandLost (o : Origin) (done : List TraceSecond) (s : TraceSecond) (at : Phase) (waits : List Visit) (v : Values) (d e : Devices) (w : Within o done s at waits None [] v d) (card : Card) (f : Find) (marks : List Mark) (cabin after : Cabin) (brought : Card → List ℕ) (b : Break) (standing : Card → Standing) : Type 0 where
+  pub powered : IsPowered o.found (carried (lost_values f b marks cabin after v) w.due (kept_all w.new w.b.run.book) standing brought) after.cards e
+  pub others : (x : Card) → (x ≡ card → ⊥) → standing x ≡ w.standing x
+
+abbrev pub ACardIsLost : (d e : Devices) → Type 0
+ACardIsLost d e = (o : Origin) (done : List TraceSecond) (s : TraceSecond) (at : Phase) (waits fewer : List Visit) (v : Values) → (w : Within o done s at waits None [] v d) →
+    (card : Card) (f : Find) (marks : List Mark) (cabin after : Cabin) (brought : Card → List ℕ) (b : Break) (standing : Card → Standing) → IsJudged o done s at waits fewer v d e w card f marks cabin brought →
+    IsLostSo o done s at waits fewer v d e w card f cabin after b → StandLost o done s at waits v d e w card f marks cabin after brought b standing → Behind o done s at waits fewer v (lost_values f b marks cabin after v) d e w
+
+-- or the unit failed behind that
+pub record FailedLosing (o : Origin) (done : List TraceSecond) (s : TraceSecond) (at : Phase) (waits : List Visit) (v : Values) (d e : Devices) (w : Within o done s at waits None [] v d) (f : Find) (marks : List Mark) (cabin after : Cabin) (brought : Card → List ℕ) (b : Break) : Type 0 where
+  pub standing : Card → Standing
+  pub powerless : IsPowerless o.found (carried (lost_values f b marks cabin after v) w.due (kept_all w.new w.b.run.book) standing brought) e
+  pub broke : RoseBy 1 (w.b.broken Recorder) (breakdowns_of e Recorder)
+  pub no_keeping : at ≡ Keeping → ⊥
+
+abbrev pub ALosingFails : (d e : Devices) → Type 0
+ALosingFails d e = (o : Origin) (done : List TraceSecond) (s : TraceSecond) (at : Phase) (waits fewer : List Visit) (v : Values) → (w : Within o done s at waits None [] v d) →
+    (card : Card) (f : Find) (marks : List Mark) (cabin after : Cabin) (brought : Card → List ℕ) (b : Break) → IsJudged o done s at waits fewer v d e w card f marks cabin brought →
+    IsLostSo o done s at waits fewer v d e w card f cabin after b → FailedLosing o done s at waits v d e w f marks cabin after brought b → CutWithin o done s at fewer None (lost_values f b marks cabin after v) e

@@ -1,5 +1,0 @@
-pub mod Seconds
-pub mod Ends
-pub mod Beside
-pub mod Unentered
-pub mod Whole

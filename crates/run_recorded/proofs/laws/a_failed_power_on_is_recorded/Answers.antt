@@ -1,5 +1,0 @@
-use Rattle.run_recorded.proofs.Seconds.{failed-recorded}
-use Rattle.run_recorded.proofs.laws.a_failed_power_on_is_recorded.Goals as goal
-
-pub returns : goal.returns
-returns c = failed-recorded

@@ -1,5 +1,0 @@
-use Rattle.run_recorded.proofs.Seconds.{second-is_recorded}
-use Rattle.run_recorded.proofs.laws.a_second_is_recorded.Goals as goal
-
-pub returns : goal.returns
-returns c = second-is_recorded

@@ -1,5 +1,0 @@
-use Rattle.run_recorded.proofs.Seconds.{found-recorded}
-use Rattle.run_recorded.proofs.laws.what_was_kept_is_found.Goals as goal
-
-pub returns : goal.returns
-returns c = found-recorded

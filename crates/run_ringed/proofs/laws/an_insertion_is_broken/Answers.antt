@@ -1,8 +1,0 @@
-use Rattle.run_rule.specs.Between.{devices}
-use Rattle.run_ringed.proofs.Around.{insertion-cut}
-use Rattle.run_ringed.proofs.laws.an_insertion_is_broken.Goals as goal
-
-pub returns : goal.returns
-returns g z = insertion-cut
-    (devices (g.M.Medium.state z.args.old_unit.now) (g.C.Chip.state z.args.old_a.now) (g.D.Chip.state z.args.old_b.now))
-    (devices (g.N.Medium.state z.args.unit.now) (g.E.Chip.state z.args.card_a.now) (g.F.Chip.state z.args.card_b.now))

@@ -1,2 +1,0 @@
-pub mod Told
-pub use Rattle.run_strung.specs.Strung

@@ -1,7 +1,0 @@
-use Rattle.run_rule.specs.Between.{devices}
-use Rattle.run_within.proofs.Cutting.{cut-recorded}
-use Rattle.run_within.proofs.laws.a_cut_is_recorded.Goals as goal
-
-pub returns : goal.returns
-returns g z = λ o done s at waits speed v w rest left.
-    cut-recorded o done s at waits speed v (devices (g.M.Medium.state z.args.unit.now) (g.C.Chip.state z.args.card_a.now) (g.D.Chip.state z.args.card_b.now)) w rest left

@@ -1,6 +1,0 @@
-use Rattle.run_rule.specs.Between.{devices}
-use Rattle.run_within.proofs.Ending.{second-over}
-use Rattle.run_within.proofs.laws.the_second_is_over.Goals as goal
-
-pub returns : goal.returns
-returns g z = λ o done s v w. second-over o done s v (devices (g.M.Medium.state z.args.unit.now) (g.C.Chip.state z.args.card_a.now) (g.D.Chip.state z.args.card_b.now)) w

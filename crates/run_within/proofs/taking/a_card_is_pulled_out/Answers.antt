@@ -1,6 +1,0 @@
-use Rattle.run_rule.specs.Between.{devices}
-use Rattle.run_within.proofs.Pulling.{pulled-out}
-use Rattle.run_within.proofs.taking.a_card_is_pulled_out.Goals as goal
-
-pub returns : goal.returns
-returns g z = pulled-out (devices (g.M.Medium.state z.args.unit.now) (g.C.Chip.state z.args.card_a.now) (g.D.Chip.state z.args.card_b.now))

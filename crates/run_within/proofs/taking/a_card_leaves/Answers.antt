@@ -1,6 +1,0 @@
-use Rattle.run_rule.specs.Between.{devices}
-use Rattle.run_within.proofs.Leaving.{card-leaves}
-use Rattle.run_within.proofs.taking.a_card_leaves.Goals as goal
-
-pub returns : goal.returns
-returns g z = card-leaves (devices (g.M.Medium.state z.args.unit.now) (g.C.Chip.state z.args.card_a.now) (g.D.Chip.state z.args.card_b.now))

@@ -1,0 +1,4 @@
+pub mod Sitting
+pub mod Moments
+pub mod OneFile
+pub mod Handing

@@ -1,5 +1,0 @@
-use Rattle.side_model.proofs.Told.{told_same}
-use Rattle.side_model.proofs.laws.seconds_are_those_of_the_course.Goals as goal
-
-pub returns : goal.returns
-returns c = told_same

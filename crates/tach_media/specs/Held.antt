@@ -1,0 +1,7 @@
+-- What is held of a piece.
+use Rattle.std.specs.Prelude.{ℕ}
+use Rattle.tach_media.specs.declared.plan.Held.{Held}
+use Rattle.tach_media.specs.Plan.{Piece, piece}
+
+abbrev pub piece_of : {b : ℕ} → Held b → Piece
+piece_of h = piece h.place h.bytes.items

@@ -1,6 +1,0 @@
-use Rattle.unit_course.proofs.Steps.{powers_not}
-use Rattle.unit_course.proofs.Seconds.{failed_seconds}
-use Rattle.unit_course.proofs.laws.a_power_on_fails.Goals as goal
-
-pub returns : goal.returns
-returns c = record { told = failed_seconds; followed = powers_not }

@@ -1,5 +1,0 @@
-use Rattle.unit_course.proofs.Steps.{begins}
-use Rattle.unit_course.proofs.laws.a_run_begins.Goals as goal
-
-pub returns : goal.returns
-returns c = begins

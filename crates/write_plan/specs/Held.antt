@@ -1,7 +1,0 @@
--- What is held of a piece.
-use Rattle.std.specs.Prelude.{ℕ}
-use Rattle.write_plan.specs.declared.plan.Held.{Held}
-use Rattle.write_plan.specs.Plan.{Piece, piece}
-
-abbrev pub piece_of : {b : ℕ} → Held b → Piece
-piece_of h = piece h.place h.bytes.items
