@@ -26,10 +26,10 @@ use crate::session::{CardSession, Kept, newest_minute, session_place};
 use crate::vehicle_use::last_use;
 use crate::words::{LATEST_MINUTE, closing};
 use activity_codec::{Activity, Entry, Owed, WORD_MINUTES};
-use card_validity::{InsertFault, Judged, judge};
-use card_layout::Application;
-use card_files::{CardEvent, CurrentUse, Vehicle, has_event, note_event};
 use card_days::Tail;
+use card_files::{CardEvent, CurrentUse, Vehicle, has_event, note_event};
+use card_layout::Application;
+use card_validity::{InsertFault, Judged, judge};
 use tach_media::{Failed, Medium};
 use tacho_types::{Odometer, Registration, TimeReal, write_registration, write_time};
 

@@ -21,10 +21,10 @@ use crate::words::{
     DAY_MINUTES, bare_word, closing, distance, entry_change, entry_word, gap_word, is_newest_day,
 };
 use activity_codec::{Activity, Entry, Pick, WORD_MINUTES};
-use card_files::{Vehicle, file_range, write_vehicle};
-use card_validity::date_of;
-use card_layout::{Application, Fid};
 use card_days::{Days, Tail};
+use card_files::{Vehicle, file_range, write_vehicle};
+use card_layout::{Application, Fid};
+use card_validity::date_of;
 use gated_ring::Ring;
 use std::marker::Model;
 use tach_media::{Failed, Medium};

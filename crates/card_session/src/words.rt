@@ -5,8 +5,8 @@ ghost use Rattle.card_session.specs.declared.words.TheConstants.{LATEST_MINUTE};
 ghost use Rattle.card_session.specs.Telling.{closing_at, gap_word, is_newest_day, entry_change, km_told};
 
 use activity_codec::{Activity, Change, Entry, Slot, WORD_MINUTES, decode_change, encode_change};
-use card_validity::date_of;
 use card_days::Tail;
+use card_validity::date_of;
 use tacho_types::Distance;
 
 /// The seconds of a day.

@@ -10,9 +10,9 @@ ghost use Rattle.card_files.specs.Rings.{place_ring};
 ghost use Rattle.card_files.specs.Noting.{IsNotingEvent, IsEventNoted, IsNotingPlace, IsPlaceNoted};
 
 use card_commands::Port;
-use card_validity::{CardLook, InsertFault, look};
-use card_layout::Application;
 use card_files::{CardEvent, note_event, note_place};
+use card_layout::Application;
+use card_validity::{CardLook, InsertFault, look};
 use tach_media::{Chip, Failed};
 use tacho_types::PlaceEntry;
 

@@ -24,9 +24,9 @@ ghost use Rattle.device_calls.specs.Entering.{of_card, unit_failed, IsInTime, Is
 
 use activity_codec::Owed;
 use card_commands::Port;
-use card_validity::{CardLook, InsertFault, look};
 use card_layout::{Application, Fid};
 use card_session::CardSession;
+use card_validity::{CardLook, InsertFault, look};
 use tach_media::{Chip, Failed, Medium};
 use tacho_types::{FullCardNumber, Odometer, Registration, TimeReal};
 use trace_model::Card;

@@ -11,12 +11,12 @@
 mod beginning;
 mod committing;
 mod entering;
-mod step_laws;
 mod leaving;
 mod mending;
 mod on_card;
 mod on_unit;
 mod owing;
+mod step_laws;
 
 // times of last use
 mod time_laws;
@@ -33,5 +33,11 @@ pub use mending::mend;
 pub use on_card::keep_on_card;
 pub use on_unit::keep_on_unit;
 pub use owing::owe;
-pub use step_laws::{a_card_out_of_its_slot_stands, a_card_sits_on, a_card_that_was_read_rests, a_first_acceptance_knows_its_words, a_note_on_a_card_leaves_the_rules, a_note_on_the_unit_leaves_the_rules, a_noted_card_is_valid, a_string_that_goes_on_is_ready, a_torn_card_is_out, a_torn_card_stands, a_unit_that_is_found_leaves_the_cards, a_valid_card_has_days, an_accepted_card_is_told, an_insertion_puts_what_is_owed};
+pub use step_laws::{
+    a_card_out_of_its_slot_stands, a_card_sits_on, a_card_that_was_read_rests,
+    a_first_acceptance_knows_its_words, a_note_on_a_card_leaves_the_rules,
+    a_note_on_the_unit_leaves_the_rules, a_noted_card_is_valid, a_string_that_goes_on_is_ready,
+    a_torn_card_is_out, a_torn_card_stands, a_unit_that_is_found_leaves_the_cards,
+    a_valid_card_has_days, an_accepted_card_is_told, an_insertion_puts_what_is_owed,
+};
 pub use time_laws::the_last_use_is_whole;

@@ -14,9 +14,9 @@ ghost use Rattle.file_view.specs.Reading.{Stands, told_at, value_at, days_size, 
 
 use crate::entry::{EntryAt, part};
 use byteorder::{BigEndian, ByteOrder};
+use card_days::Days;
 use card_files::{Vehicle, read_application};
 use card_layout::{Application, Fid, Range};
-use card_days::Days;
 use tach_media::SliceMedium;
 
 /// How many bytes Application_Identification has.

@@ -11,8 +11,8 @@ ghost use Rattle.file_view.specs.Vehicles.{vehicle_in, vehicles_told};
 
 use crate::entry::part;
 use byteorder::{BigEndian, ByteOrder};
-use card_layout::Application;
 use card_files::{Vehicle, read_vehicle};
+use card_layout::Application;
 use std::alloc::{AllocError, Global};
 
 /// The vehicle entries that are there, oldest first.

@@ -20,7 +20,9 @@ mod step;
 mod table;
 
 pub use frame::{Frame, Seen};
-pub use laws::{a_fresh_line_answers_by_the_table, a_line_goes_on, a_part_is_of_some_message, a_run_goes_on};
+pub use laws::{
+    a_fresh_line_answers_by_the_table, a_line_goes_on, a_part_is_of_some_message, a_run_goes_on,
+};
 pub use link_model::End;
 pub use scanner::Scanner;
 pub use sending::{MOST, Reply, begun, place_of, sent_on};

@@ -4,10 +4,10 @@ ghost use Rattle.link_model.specs.Answers.{refuses, sends_on};
 ghost use Rattle.link_frames.specs.Steps.{state_of, begins};
 ghost use Rattle.link_frames.specs.Sending.{reply_of, IsPart, sends_piece};
 
+use crate::Frame;
 use crate::standing::Standing;
 use crate::table::{ACKNOWLEDGE, MESSAGE, NO_MESSAGE, TRANSFER};
 use arrayvec::ArrayVec;
-use crate::Frame;
 use link_model::{Request, number_of};
 
 /// The most bytes of a message behind 76 and its number that go in one frame.

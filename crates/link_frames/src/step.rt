@@ -3,8 +3,8 @@ ghost use Rattle.link_model.specs.declared.request.Request.{Request as Asked};
 ghost use Rattle.link_model.specs.Answers.{checked, refuses};
 ghost use Rattle.link_frames.specs.Steps.{state_of, performed, asks, check_of, all_hold, failing_code};
 
-use crate::standing::Standing;
 use crate::Frame;
+use crate::standing::Standing;
 use link_model::Request;
 
 /// What a session does about a frame.

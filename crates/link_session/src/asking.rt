@@ -10,12 +10,12 @@ ghost use Rattle.unit_messages.specs.Outlines.{Outlines, IsOutlined};
 ghost use Rattle.link_frames.specs.Sending.{IsPart};
 ghost use Rattle.link_session.specs.Told.{IfBadUnit, has_failed};
 
-use link_frames::MOST;
 use arrayvec::ArrayVec;
+use link_frames::MOST;
 use link_model::Request;
 use tach_media::{Failed, Medium};
-use unit_minutes::{Journal, UnitFault};
 use unit_messages::{Outline, find_outline};
+use unit_minutes::{Journal, UnitFault};
 
 /// Why a session does not answer.
 #[derive(Clone, Copy, Debug, PartialEq, Eq)]

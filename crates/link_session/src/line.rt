@@ -14,11 +14,11 @@ ghost use Rattle.tach_media.specs.Streams.{AppendsFront};
 ghost use Rattle.link_session.specs.Lines.{listening, spelled, IsAnswered};
 ghost use Rattle.link_session.specs.Served.{Stops, StopsWithin, has_failed, IsCaused};
 
+use crate::Session;
 use crate::fault::ServeFault;
-use text_fields::write_line;
 use link_frames::{End, Frame, Scanner, Seen, write_frame};
 use tach_media::{Failed, Medium, Sink, put_all};
-use crate::Session;
+use text_fields::write_line;
 
 /// How the answers go to the sink: byte for byte, or each as a line of hexadecimal digits.
 #[derive(Clone, Copy, Debug, PartialEq, Eq)]

@@ -17,9 +17,9 @@ use crate::fault::{LinesFault, ServeFault};
 use crate::line::{Line, Spelling};
 use crate::peer::Peer;
 use crate::service::MOST;
-use text_fields::{LineFault, first_piece, read_line};
 use std::alloc::Global;
 use tach_media::{Medium, Sink};
+use text_fields::{LineFault, first_piece, read_line};
 
 /// A unit on the link that hears lines: what has come of the next one, and how many were whole.
 #[derive(Drop)]

@@ -16,8 +16,8 @@ use link_frames::{Frame, Reply, Seen, Standing, Step, begun, place_of, sent_on, 
 use link_model::Request;
 use std::marker::Model;
 use tach_media::Medium;
-use unit_minutes::Journal;
 use unit_messages::Outline;
+use unit_minutes::Journal;
 
 /// What a unit has told on the link so far, and what was found of the unit to tell it. A session judges its unit once, at the first
 /// frame whose answer hangs on it.

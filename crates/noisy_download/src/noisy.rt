@@ -12,12 +12,12 @@ ghost use Rattle.noisy_download.specs.Ending.{IsDownloaded};
 ghost use Rattle.noisy_download.specs.Listing.{Goes, IsListed, RequestIsListed, AnswerIsListed, IsUnderway};
 
 use crate::draws::drawn_event;
-use trace_text::next_drawn;
 use link_frames::End;
 use noisy_link::{MOST_PACKETS, World};
 use noisy_model::Event;
 use std::alloc::Global;
 use tach_media::{Medium, Sink};
+use trace_text::next_drawn;
 use unit_download::{DownloadFault, Tape, Wire};
 
 /// A download over a noisy link as it goes: both ends, whether the wire has the request that is asked now, and the number drawn last.

@@ -7,8 +7,8 @@ ghost use Rattle.noisy_model.specs.Ends.{Taken, request_of, brought};
 ghost use Rattle.noisy_link.specs.Sides.{asked, is_over, TakesPacket, LeavesEnd, number_left};
 
 use crate::unit_end::copy_of_any;
-use link_loader::{Downloader, LoadFault};
 use link_frames::Frame;
+use link_loader::{Downloader, LoadFault};
 use noisy_model::Packet;
 use std::alloc::Global;
 use std::marker::Model;

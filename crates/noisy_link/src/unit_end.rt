@@ -11,10 +11,10 @@ ghost use Rattle.link_frames.specs.Seen.{meant};
 ghost use Rattle.noisy_link.specs.Sides.{IsReply};
 
 use link_frames::{Frame, Seen};
+use link_session::{AnswerFault, Session};
 use noisy_model::Packet;
 use std::marker::Model;
 use tach_media::Medium;
-use link_session::{AnswerFault, Session};
 
 /// The end of a noisy link that a unit has. It answers each new request once, by a session, and the last one that comes again by the
 /// answer that it keeps.

@@ -14,13 +14,13 @@ ghost use Rattle.noisy_link.specs.Steps.{frame_of, brought_by, IsHearing, IsTaki
 
 use crate::loader_end::LoaderEnd;
 use crate::unit_end::UnitEnd;
-use link_loader::LoadFault;
 use link_frames::Frame;
+use link_loader::LoadFault;
+use link_session::AnswerFault;
 use noisy_model::{Event, Packet};
 use std::alloc::Global;
 use std::marker::Model;
 use tach_media::{Medium, Memory, Sink};
-use link_session::AnswerFault;
 use unit_download::DownloadFault;
 
 /// As many packets as go each way at most.

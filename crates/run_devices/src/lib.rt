@@ -15,6 +15,11 @@ mod string_laws;
 // steps on the devices
 mod device_laws;
 
-pub use device_laws::{a_card_that_is_put_in_leaves_what_is_carried, a_card_that_is_taken_out_leaves_what_is_carried, a_note_on_the_unit_leaves_what_is_carried, power_is_lost_and_is_back};
-pub use presence_laws::{a_minute_ends_so, a_step_leaves_so, none_is_to_be_kept, the_next_begins_so, what_a_minute_says};
+pub use device_laws::{
+    a_card_that_is_put_in_leaves_what_is_carried, a_card_that_is_taken_out_leaves_what_is_carried,
+    a_note_on_the_unit_leaves_what_is_carried, power_is_lost_and_is_back,
+};
+pub use presence_laws::{
+    a_minute_ends_so, a_step_leaves_so, none_is_to_be_kept, the_next_begins_so, what_a_minute_says,
+};
 pub use string_laws::a_string_that_each_image_holds_is_strung;

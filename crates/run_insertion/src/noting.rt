@@ -11,8 +11,8 @@ ghost use Rattle.run_crew.specs.Cabin.{crew_of};
 ghost use Rattle.run_minutes.specs.Keeping.{UnitReady, HasItsRow};
 
 use run_crew::Crew;
-use run_minutes::Keeper;
 use run_events::{card_driving, card_not_valid, card_overlap, card_unclosed};
+use run_minutes::Keeper;
 use tach_media::{Failed, Medium};
 use unit_notes::{UnitEvent, UnitNotes};
 

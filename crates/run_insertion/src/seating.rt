@@ -20,14 +20,14 @@ ghost use Rattle.run_insertion.specs.Entered.{FitsInsertion, IsSeated, IsMoved, 
 
 use crate::lines::{Entering, find, insertion_of, other_card, tell_replayed};
 use crate::noting::{note_driving, note_unclosed};
-use device_calls::{Entered, begin, note_event_on};
-use card_validity::CardLook;
 use card_layout::Application;
 use card_session::CardSession;
+use card_validity::CardLook;
+use device_calls::{Entered, begin, note_event_on};
 use log_model::{Break, Verdict};
 use run_crew::Accepted;
-use run_minutes::Keeper;
 use run_events::{card_driving, on_card};
+use run_minutes::Keeper;
 use run_outcome::{Lines, Outcome};
 use tach_media::{Chip, Failed, Medium};
 use unit_notes::UnitNotes;

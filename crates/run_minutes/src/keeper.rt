@@ -1,8 +1,8 @@
 //! What minutes are kept with.
 
 use run_crew::Cabin;
-use unit_minutes::Journal;
 use unit_memory::UnitMemory;
+use unit_minutes::Journal;
 
 /// What a run keeps its minutes with, while the unit has power.
 #[derive(Drop)]

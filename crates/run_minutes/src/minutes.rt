@@ -15,10 +15,10 @@ ghost use Rattle.run_promise.specs.Between.{devices};
 
 use crate::keeper::{Keeper, Moment};
 use activity_codec::Activity;
+use card_slots::Present;
 use log_model::{Break, Mark};
 use minute_rules::Minute;
 use run_outcome::Lines;
-use card_slots::Present;
 use tach_media::{Chip, Failed, Medium};
 use tacho_types::Odometer;
 use trace_model::Card;

@@ -7,10 +7,10 @@ ghost use Rattle.run_opening.specs.Opening.{IsAsItWas};
 ghost use Rattle.run_opening.specs.Cards.{IsFoundOn, AreTwo, IsOneNumber, IsMediumFault};
 
 use crate::fault::RunFault;
-use device_calls::look_by;
 use card_commands::{PortFault, read_sizes};
-use card_validity::InsertFault;
 use card_layout::{Application, LARGEST_IMAGE};
+use card_validity::InsertFault;
+use device_calls::look_by;
 use run_crew::Known;
 use run_model::Device;
 use tach_media::{Chip, Failed};

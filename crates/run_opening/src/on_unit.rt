@@ -11,8 +11,8 @@ ghost use Rattle.run_opening.specs.Units.{IsLoaded, IsNotLoaded, HasBrokenDown, 
 use crate::fault::RunFault;
 use run_model::Device;
 use tach_media::Medium;
-use unit_minutes::{Journal, UnitFault};
 use unit_memory::UnitMemory;
+use unit_minutes::{Journal, UnitFault};
 
 /// What the opening finds of a unit: its journal, and what it was told of the vehicle.
 #[derive(Drop)]

@@ -2,9 +2,9 @@ ghost use Rattle.std.specs.Prelude.{◌≡◌, ◌≤◌, ◌<◌, ◌+◌, ◌-
 ghost use Rattle.tach_media.specs.Medium.{LiesInside, LeavesOnly};
 ghost use Rattle.tach_media.specs.Plan.{piece, more, none, PutsAll, AreShort, IsAfterSome};
 
+use crate::{Failed, Medium};
 use arrayvec::ArrayVec;
 use std::marker::Model;
-use crate::{Failed, Medium};
 
 // A write: its place and its bytes.
 #[derive(Drop, Default)]

@@ -17,14 +17,14 @@ use crate::outcome_text::demo_text;
 use crate::record_command::refusal_of_run;
 use card_files::{CardIdentity, blank_card};
 use card_layout::LARGEST;
-use unit_download::{DownloadFault, FileSize, measure};
-use trace_text::demo_trace;
 use link_loader::Downloader;
 use run_model::Device;
 use run_outcome::Outcome;
 use std::alloc::Global;
 use tach_media::{Chip, Medium, MemSink, Sink, Source, put_all};
 use tacho_types::{Name36, Nation, Registration};
+use trace_text::demo_trace;
+use unit_download::{DownloadFault, FileSize, measure};
 use unit_memory::Identity;
 
 /// The vehicle: `13 DEMO TACHODEMO00000001 90`.

@@ -6,11 +6,11 @@ ghost use Rattle.tacho.specs.Outcomes.{count_line, mark_count, outcome_text};
 ghost use Rattle.tacho.specs.Demo.{demo_text};
 
 use arrayvec::ArrayVec;
-use unit_download::FileSize;
 use itoa::Buffer;
 use log_model::Mark;
 use run_model::Device;
 use run_outcome::{Lines, Outcome};
+use unit_download::FileSize;
 
 /// The most bytes of the seven lines: 37 of names, and in each line a space, at most 20 digits, and LF.
 pub const MOST: usize = 191;

@@ -5,10 +5,10 @@ ghost use Rattle.trace_text.specs.Trace.{IsWellFormed};
 ghost use Rattle.trace_text.specs.Demo.{drawn, part_of, day_of, demo_items};
 
 use crate::drawing::{next_drawn, pick_numbered};
+use crate::{Action, Card, Item, Items, Trace};
 use activity_codec::Slot;
 use std::alloc::Global;
 use tach_media::Memory;
-use crate::{Action, Card, Item, Items, Trace};
 
 /// 2010-03-01 00:00:00.
 pub const FIRST_SECOND: u32 = 1267401600;

@@ -5,9 +5,9 @@
 
 // text to trace
 mod line;
+mod lines_trace;
 mod read;
 mod reading;
-mod lines_trace;
 
 // the trace of a demonstration
 mod drawing;
@@ -16,7 +16,7 @@ mod drawn_trace;
 
 pub use drawing::next_drawn;
 pub use drawn_laws::a_demonstration_has_its_seconds;
-pub use drawn_trace::{DAYS, DAY_SECONDS, FIRST_SECOND, PARTS, demo_trace};
+pub use drawn_trace::{DAY_SECONDS, DAYS, FIRST_SECOND, PARTS, demo_trace};
 pub use lines_trace::{Form, Items, Trace, TraceFault};
 pub use read::read_trace;
 pub use trace_model::{Action, Card, Item};

@@ -11,8 +11,8 @@ ghost use Rattle.trace_text.specs.Trace.{IsTraceOf, IsWellFormed};
 ghost use Rattle.trace_text.specs.Judged.{IsTraceText, IsBadText, IsLongText, IsFailure};
 ghost use Rattle.trace_text.specs.Reading.{IsFaultOf};
 
-use crate::reading::Reading;
 use crate::lines_trace::{Form, Trace, TraceFault};
+use crate::reading::Reading;
 use std::alloc::Global;
 use tach_media::{Source, TakeFault, take_all};
 use text_fields::first_piece;

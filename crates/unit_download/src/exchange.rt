@@ -18,10 +18,10 @@ ghost use Rattle.unit_download.specs.Ending.{IfBad, has_failed, IsUnanswered, Is
 
 use crate::fault::DownloadFault;
 use crate::tape::Tape;
-use link_loader::{Downloader, LoadFault};
 use link_frames::{End, Frame, Seen};
-use tach_media::{Medium, Sink};
+use link_loader::{Downloader, LoadFault};
 use link_session::Session;
+use tach_media::{Medium, Sink};
 
 /// The unit's answer to a frame of the loader; both are added to the wire.
 ///

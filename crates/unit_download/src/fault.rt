@@ -1,5 +1,5 @@
-use tach_media::Memory;
 use link_session::AnswerFault;
+use tach_media::Memory;
 
 /// Why a download ended before it was finished.
 #[derive(Clone, Copy, Debug, PartialEq, Eq)]

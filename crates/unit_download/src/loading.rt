@@ -18,9 +18,9 @@ use crate::fault::DownloadFault;
 use crate::tape::Tape;
 use crate::wire::Wire;
 use link_loader::Downloader;
+use link_session::Session;
 use std::alloc::Global;
 use tach_media::{Medium, Sink};
-use link_session::Session;
 
 /// Downloads a unit: the loader's side and the unit's run against each other until the download is finished. The finished messages
 /// go to the sink, which then has the unit's file behind what it held, and the frames that pass to the wire. The unit is read, and

@@ -10,9 +10,9 @@ ghost use Rattle.unit_download.specs.Ending.{IfBad, has_failed};
 ghost use Rattle.unit_download.specs.Measures.{IsSizeOf};
 
 use crate::counting::day_count;
+use crate::{DownloadFault, Unlisted, exchange_all};
 use link_loader::Downloader;
 use tach_media::{Medium, MemSink};
-use crate::{DownloadFault, Unlisted, exchange_all};
 
 /// How many bytes a unit's file has, and how many messages of a day.
 #[derive(Clone, Copy, Debug, PartialEq, Eq)]

@@ -13,6 +13,10 @@ mod entries;
 mod notes;
 mod watch;
 
-pub use laws::{a_cut_ends_no_run, a_failing_power_on_notes_nothing, a_power_on_ends_an_interruption, a_run_begins_without_events, a_run_is_shown, a_step_is_shown, a_turn_ends_runs, the_events_of_a_run_without_cards};
+pub use laws::{
+    a_cut_ends_no_run, a_failing_power_on_notes_nothing, a_power_on_ends_an_interruption,
+    a_run_begins_without_events, a_run_is_shown, a_step_is_shown, a_turn_ends_runs,
+    the_events_of_a_run_without_cards,
+};
 pub use notes::{note_ended, note_gap};
 pub use watch::Watch;

@@ -14,8 +14,8 @@ use arrayvec::ArrayVec;
 use link_model::Request;
 use std::alloc::Global;
 use tach_media::{Failed, Medium};
-use unit_minutes::Journal;
 use unit_memory::UnitFault;
+use unit_minutes::Journal;
 
 /// Why no piece was read.
 #[derive(Clone, Copy, Debug, PartialEq, Eq)]

@@ -2,7 +2,9 @@
 ghost use Rattle.std.specs.Prelude.{◌≤◌, ◌<◌, ◌+◌, ◌*◌, length, IsTrue};
 ghost use Rattle.gated_ring.specs.Ring.{is_pointer_width};
 
-use card_files::{CardEvent, file_of, has_event, image_size, note_event, note_place, places, vehicles};
+use card_files::{
+    CardEvent, file_of, has_event, image_size, note_event, note_place, places, vehicles,
+};
 use card_layout::{Application, Fid};
 use gated_ring::{Ring, RingFault};
 use std::alloc::Global;

@@ -9,9 +9,9 @@ ghost use Rattle.card_session.specs.Inserting.{AreOwed};
 
 use activity_codec::{Activity, Entry, Owed, Pick, Slot};
 use card_files::{CardIdentity, blank_card, image_size, read_application};
-use card_validity::InsertFault;
 use card_layout::{Application, Fid};
 use card_session::{CardSession, Inserted, Kept, LATEST_MINUTE};
+use card_validity::InsertFault;
 use std::alloc::Global;
 use std::test::Fail;
 use tach_media::{Failed, Left, Medium, MemMedium, Memory, Stop};

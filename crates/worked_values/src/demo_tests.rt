@@ -1,9 +1,9 @@
 //! Two demonstrations; the numbers are worked out apart from this code.
 use activity_codec::{Pick, Slot};
-use trace_text::{Action, Card, Item, Items, Trace, demo_trace};
 use std::rt::HostRuntime;
 use std::test::Fail;
 use tach_media::Memory;
+use trace_text::{Action, Card, Item, Items, Trace, demo_trace};
 
 /// How many items a demonstration has.
 const ALL: usize = 1001;

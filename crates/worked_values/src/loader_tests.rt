@@ -1,5 +1,5 @@
-use link_loader::{Downloader, LoadFault};
 use link_frames::Frame;
+use link_loader::{Downloader, LoadFault};
 use std::alloc::Global;
 use std::test::*;
 use tach_media::MemSink;

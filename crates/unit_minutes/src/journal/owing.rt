@@ -9,11 +9,11 @@ ghost use Rattle.unit_owed.specs.Rows.{entry_word, cell_pieces, row_pieces, putt
 ghost use Rattle.unit_owed.specs.Searching.{IsSane};
 
 use super::Journal;
+use tach_media::{Failed, Medium};
+use tacho_types::{FullCardNumber, write_card_number};
 use unit_owed::{
     Asked, Entry, Owed, ask, begin_owed, begin_owed_at, has_row, owed, put_owed, put_owed_at,
 };
-use tach_media::{Failed, Medium};
-use tacho_types::{FullCardNumber, write_card_number};
 
 impl Journal {
     /// The entries that are owed to the card of a number in a session, later than a minute, in order of minutes.

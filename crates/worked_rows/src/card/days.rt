@@ -1,8 +1,8 @@
 ghost use Rattle.std.specs.Prelude.{◌≡◌, ◌≤◌, IfOk, length};
 
 use crate::card::images::{TWO_DAYS, full_string};
-use card_layout::Range;
 use card_days::{DayHead, Days, DaysFault, Tail};
+use card_layout::Range;
 use std::alloc::Global;
 use std::process::Abort;
 use std::test::Fail;

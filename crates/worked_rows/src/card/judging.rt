@@ -6,8 +6,8 @@ ghost use Rattle.card_validity.specs.Judged.{TellsSizes};
 
 use crate::card::images::{CURRENT_USE, DAYS, VEHICLES};
 use card_files::{Vehicle, blank_card, image_size, read_application};
-use card_validity::{CardLook, InsertFault, Judged, judge, look};
 use card_layout::{Application, Fid};
+use card_validity::{CardLook, InsertFault, Judged, judge, look};
 use std::alloc::Global;
 use std::process::Abort;
 use std::test::Fail;
