@@ -59,7 +59,7 @@ form_of_one word =
     else (if bytes_eq word (codes "match") then Some (Read Match)
     else (if bytes_eq word (codes "upgrade") then Some Upgrade
     else (if bytes_eq word (codes "help") || bytes_eq word (codes "--help") then Some Help
-    else (if bytes_eq word (codes "--version") then Some Version else None)))))))
+    else (if bytes_eq word (codes "--version") then Some Version else None))))))))
 
 -- `a` and `b`
 abbrev pub file_of : (letter : List ℕ) → Option Form
