@@ -75,9 +75,13 @@ enum Access {
 fn access_of(words: &Words) -> Access {
     match form_of(words) {
         Some(Form::Demo { .. }) => Access::Passing,
-        Some(Form::Serve | Form::ServeHex | Form::Download | Form::CardFile { .. }) => {
-            Access::Reading
-        }
+        Some(
+            Form::Serve
+            | Form::ServeHex
+            | Form::Download
+            | Form::DownloadNoisy { .. }
+            | Form::CardFile { .. },
+        ) => Access::Reading,
         _ => Access::Lasting,
     }
 }
