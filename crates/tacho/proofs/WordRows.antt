@@ -2,7 +2,7 @@
 use Rattle.std.specs.Prelude.{◌≡◌, Some, None, [], ◌∷◌, ◌++◌, codes, replicate, refl}
 use Rattle.minute_model.specs.declared.Rule.TheVariants.{Original, Amended}
 use Rattle.trace_model.specs.declared.Card.TheVariants.{B}
-use Rattle.tacho.specs.declared.forms.Form.TheVariants.{Minutes, Upgrade, Serve, ServeHex, Download, DownloadNoisy, Read, Help, Version}
+use Rattle.tacho.specs.declared.forms.Form.TheVariants.{Minutes, Upgrade, Serve, ServeHex, Download, Read, Help, Version}
 use Rattle.tacho.specs.declared.forms.Reading.TheVariants.{View, Match, MatchAll}
 use Rattle.tacho.specs.declared.forms.TheConstants.{PLATE}
 use Rattle.tacho.specs.Texts.{word_in, number_in}
@@ -56,10 +56,6 @@ other-dash-row = refl
 download-row : form_of (codes "download" ∷ []) ≡ Some Download
 unfolding form_of
 download-row = refl
-
-noisy-row : form_of (codes "download" ∷ codes "noisy" ∷ codes "7" ∷ []) ≡ Some (DownloadNoisy 7)
-unfolding form_of number_in
-noisy-row = refl
 
 no-noisy-row : form_of (codes "download" ∷ codes "noisy" ∷ codes "2147483648" ∷ []) ≡ None
 unfolding form_of number_in

@@ -137,6 +137,12 @@ fn form_of_one(word: &str) -> Option<Form>
     if is_text(word, "upgrade") {
         return Some(Form::Upgrade);
     }
+    if is_text(word, "help") || is_text(word, "--help") {
+        return Some(Form::Help);
+    }
+    if is_text(word, "--version") {
+        return Some(Form::Version);
+    }
     None
 }
 
