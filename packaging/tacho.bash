@@ -7,6 +7,7 @@ _tacho() {
     '2 minutes') words=2009 ;;
     '2 serve') words=--hex ;;
     '2 match') words=all ;;
+    '2 download') words=noisy ;;
     '2 card') words='a b' ;;
     '2 view') words=last ;;
     '2 match') words=all ;;

@@ -79,6 +79,7 @@ module _ (s : State) (held : Option (List ℕ)) (w : World SessionView Load) (li
         knows = knows;
         room = omega arith;
         sized = u.sized;
+        bytes = u.bytes;
       }
 
   loader_still : (v : World SessionView Load) → v.loader ≡ w.loader → (with_list v u.exchanges).loader ≡ (with_list w u.exchanges).loader

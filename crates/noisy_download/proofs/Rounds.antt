@@ -2,6 +2,7 @@
 use Rattle.std.proofs.Common.{◌≡◌, ◌∙◌, ℕ, ◌≤◌, Bool, true, false, List, [], Option, Some, None, IfSome, Result, Ok, Err, refl, sym, ap, subst, arith}
 use Rattle.std.specs.Prelude.{IsErrAnd, is_none}
 use Rattle.std.proofs.KnownBytes.{Appends-nil}
+use Rattle.card_layout.specs.Fields.{IsBytes}
 use Rattle.tach_media.proofs.Runs.{err_is}
 use Rattle.unit_memory.proofs.Told.{told_all}
 use Rattle.unit_messages.specs.declared.joining.TheConstants.{LONGEST}
@@ -19,8 +20,8 @@ use Rattle.noisy_download.specs.Ending.{IsDownloaded}
 use Rattle.noisy_download.specs.Listing.{IsUnderway, Goes}
 
 -- nothing has happened
-pub underway_none : (image held : Option (List ℕ)) (w : World SessionView Load) (wire : List Passed) → (load : Load) × (load.loading ≡ begun) × (LONGEST ≤ load.room) × (w ≡ fresh_world (fresh Idle) load) → wire ≡ [] → Sized image → IsUnderway image held w false wire held
-underway_none image held w wire (load, begins, room, is) none sized =
+pub underway_none : (image held : Option (List ℕ)) (w : World SessionView Load) (wire : List Passed) → (load : Load) × (load.loading ≡ begun) × (LONGEST ≤ load.room) × (w ≡ fresh_world (fresh Idle) load) → wire ≡ [] → Sized image → IfSome image IsBytes → IsUnderway image held w false wire held
+underway_none image held w wire (load, begins, room, is) none sized bytes =
     subst (λ (x : World SessionView Load). IsUnderway image held x false wire held) (sym is)
     (record {
       load = load;
@@ -34,6 +35,7 @@ underway_none image held w wire (load, begins, room, is) none sized =
       knows = told_all image _ (λ x told. fresh_knows Idle x);
       room = room;
       sized = sized;
+      bytes = bytes;
     })
 
 module _ (held : Option (List ℕ)) (w : World SessionView Load) (listed : Bool) (wire : List Passed) (sunk : Option (List ℕ)) where
@@ -65,7 +67,7 @@ nothing_first r image held wire is none =
     (record {
       downloaded = nothing_began {T = Unit {0}} (Err Memory) image held wire refl none;
       file = tt;
-      front = told_all image _ (λ x told bytes. (0, Appends-nil held));
+      front = told_all image _ (λ x told. (0, Appends-nil held));
       changed = λ same. absurd (cc);
       bad = tt;
       nothing = tt;

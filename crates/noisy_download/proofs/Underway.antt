@@ -5,7 +5,9 @@ use Rattle.std.specs.List.{AllByRecursion}
 use Rattle.std.specs.Io.KnownBytes.{Appends, Keeps}
 use Rattle.std.proofs.KnownBytes.{Appends-kept}
 use Rattle.tach_media.specs.Medium.{State}
-use Rattle.card_layout.specs.Fields.{IsBytes}
+use Rattle.tach_media.specs.Streams.{AppendsFront}
+use Rattle.tach_media.proofs.Runs.{both_told}
+use Rattle.message_model.specs.Sending.{unit_file}
 use Rattle.unit_model.specs.Decoding.{Decodes, first_bad_place}
 use Rattle.unit_memory.proofs.Told.{one_told, told_all}
 use Rattle.unit_messages.specs.declared.joining.TheConstants.{LONGEST}
@@ -88,6 +90,7 @@ kept_underway image held w listed wire sunk now u keeps = record {
   knows = u.knows;
   room = u.room;
   sized = u.sized;
+  bytes = u.bytes;
 }
 
 module _ (s : State) (held : Option (List ℕ)) (w : World SessionView Load) (listed : Bool) (wire : List Passed) (sunk : Option (List ℕ)) (u : IsUnderway s.image held w listed wire sunk) where
@@ -150,11 +153,11 @@ module _ (s : State) (held : Option (List ℕ)) (w : World SessionView Load) (li
 
   -- AN END AT THE REQUEST THAT IS ASKED NOW.
   pub ended : (fault : DownloadFault) (sent : List ℕ) (behind grown : List Passed) → asked w.loader.side ≡ Some sent → IsUnanswered s.image fault mid.state sent behind → grown ≡ u.exchanges ++ behind
-      → (fault ≡ Changed → IfSome s.image (λ x. IsBytes x → ⊥)) → IfBad fault (λ p. IfSome s.image (λ x. first_bad_place x ≡ Some p)) → IfBad fault (λ p. Keeps held sunk) → IsDownloaded (Err fault) s.image grown held sunk
+      → (fault ≡ Changed → IfSome s.image (λ x. ⊥)) → IfBad fault (λ p. IfSome s.image (λ x. first_bad_place x ≡ Some p)) → IfBad fault (λ p. Keeps held sunk) → IsDownloaded (Err fault) s.image grown held sunk
   ended fault sent behind grown asks unanswered grown_is changed bad nothing = record {
     downloaded = unanswered_ends talking sent asks fault behind unanswered (Err fault) grown refl grown_is;
     file = tt;
-    front = unanswered_front talking sent asks;
+    front = both_told s.image (λ x. AppendsFront held sunk (unit_file x)) u.bytes (unanswered_front talking sent asks) (λ x told fit front. front fit);
     changed = λ is. changed (same_fault is);
     bad = bad;
     nothing = nothing;
@@ -211,7 +214,10 @@ module _ (s : State) (held : Option (List ℕ)) (w : World SessionView Load) (li
       let reply = subst (λ (x : SessionView). IsReply s.image x request v.unit.kept v.unit.side) i.side (silent_reply v place r.packet request r.is r.new_one happens) in
       let none : IsReply s.image mid request None v.unit.side = subst (λ (o : Option (List ℕ)). IsReply s.image mid request o v.unit.side) silent.none reply in
       let unanswered : IsUnanswered s.image Changed mid.state request (of_loader request ∷ []) = (refl, (v.unit.side.state, none.replies)) in
-      ended Changed request (of_loader request ∷ []) wire i.asks unanswered i.wire_is (λ is. unanswered_untold talking request i.asks Changed (of_loader request ∷ []) unanswered (λ f asks. judged_decodes v.unit.side none.knows (none.judged ∙ by_asking (is_judged mid) (asks_unit mid.state (Right request)) asks)) refl) tt tt
+      ended Changed request (of_loader request ∷ []) wire i.asks unanswered i.wire_is (λ is.
+      both_told s.image (λ x. ⊥) u.bytes
+      (unanswered_untold talking request i.asks Changed (of_loader request ∷ []) unanswered (λ f asks. judged_decodes v.unit.side none.knows (none.judged ∙ by_asking (is_judged mid) (asks_unit mid.state (Right request)) asks)) refl)
+      (λ x told fit none. none fit)) tt tt
     where
       by_asking : (a b : Bool) → b ≡ true → (a || b) ≡ true
       by_asking true b is = refl
@@ -234,8 +240,8 @@ module _ (s : State) (held : Option (List ℕ)) (w : World SessionView Load) (li
       record {
         downloaded = untaken_ends talking it.request asks fault w.unit.side s filled frame a untaken (Err fault) grown refl whole;
         file = tt;
-        front = untaken_front talking it.request asks fault w.unit.side s filled frame a untaken;
-        changed = λ is. untaken_untold talking it.request asks fault w.unit.side s filled frame a untaken (same_fault is);
+        front = both_told s.image (λ x. AppendsFront held filled (unit_file x)) u.bytes (untaken_front talking it.request asks fault w.unit.side s filled frame a untaken) (λ x told fit front. front fit);
+        changed = λ is. both_told s.image (λ x. ⊥) u.bytes (untaken_untold talking it.request asks fault w.unit.side s filled frame a untaken (same_fault is)) (λ x told fit none. none fit);
         bad = not_so (λ p. IfSome s.image (λ x. first_bad_place x ≡ Some p)) fault not_bad;
         nothing = not_so (λ p. Keeps held filled) fault not_bad;
       }
@@ -260,7 +266,7 @@ module _ (s : State) (held : Option (List ℕ)) (w : World SessionView Load) (li
       let stage : w.loader.side.loading.stage ≡ Finished = finished_so w.loader.side.loading.stage over in
       record {
         downloaded = subst (λ (l : List Passed). IsDownload {T = Unit {0}} (Ok tt) s.image l held sunk) (sym (done_by listed u.lists over)) (talking_done tt talking stage);
-        file = talking_file talking stage;
+        file = both_told s.image (λ x. Decodes x × Appends held sunk (unit_file x)) u.bytes (talking_file talking stage) (λ x told fit file. (file.0, file.1 fit));
         front = tt;
         changed = λ is. absurd (cc);
         bad = tt;

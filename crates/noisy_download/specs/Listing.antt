@@ -2,6 +2,7 @@
 use Rattle.std.specs.Prelude.{◌≡◌, ℕ, ◌+◌, ◌<◌, ◌≤◌, Bool, true, false, List, [], ◌∷◌, ◌++◌, Option, Some, None, IfSome, slice_get, Result, Ok, Err}
 use Rattle.std.specs.List.{AllByRecursion}
 use Rattle.std.specs.Io.KnownBytes.{Appends}
+use Rattle.card_layout.specs.Fields.{IsBytes}
 use Rattle.unit_messages.specs.declared.joining.TheConstants.{LONGEST}
 use Rattle.link_model.specs.Answers.{Idle}
 use Rattle.link_session.specs.Told.{SessionView, Knows, fresh}
@@ -89,6 +90,7 @@ pub record IsUnderway (image held : Option (List ℕ)) (w : World SessionView Lo
   pub knows : IfSome image (Knows w.unit.side)
   pub room : LONGEST ≤ w.loader.side.room
   pub sized : Sized image
+  pub bytes : IfSome image IsBytes
 
 -- it goes on, or it has ended
 abbrev pub Goes : Result (Unit {0}) DownloadFault → (image held : Option (List ℕ)) → World SessionView Load → (listed : Bool) → (wire : List Passed) → (sunk : Option (List ℕ)) → Type 0

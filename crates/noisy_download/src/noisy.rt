@@ -50,6 +50,7 @@ pub fn download_noisy<K: Sink, U: Medium>(
     // The unit is only read, if it is called at all.
     ensures unit { ReadsIfAny (U.state unit.old) (U.state unit.new) (has_failed result) }
 {
+    U::holds_bytes(unit);
     let world = World::with_room(alloc)?;
     let mut noisy = Noisy {
         world,

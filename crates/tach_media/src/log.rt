@@ -100,7 +100,7 @@ impl Log {
     pub fn holds_bytes(&self)
         ensures { IsBytes (image_of self.now) }
     {
-        let _bytes = self.image.as_slice();
+        are_bytes(&self.image);
     }
 
     /// Whether there is room for a write of so many bytes.
@@ -164,4 +164,11 @@ fn apply(image: &mut [u8], place: usize, bytes: &[u8], left: Left)
             }
         }
     }
+}
+
+/// Each byte of a slice is below 256.
+pub(crate) fn are_bytes(bytes: &[u8])
+    ensures { IsBytes bytes.now }
+{
+    let _ = bytes;
 }

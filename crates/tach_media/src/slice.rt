@@ -2,6 +2,7 @@ ghost use Rattle.std.specs.Prelude.{◌≡◌, ◌+◌, ◌<◌, ◌≤◌, ◌^
 ghost use Rattle.tach_media.specs.Medium.{bytes_at, LeavesOnly, Reads, HasCause, Unchanged, revivable};
 ghost use Rattle.tach_media.specs.SliceMedium.{slice_state, slice_coherent};
 
+use crate::log::are_bytes;
 use crate::{Failed, Medium};
 use std::marker::Model;
 
@@ -75,6 +76,6 @@ impl<'a> Medium for SliceMedium<'a> {
     }
 
     fn holds_bytes(&self) {
-        let _bytes = self.bytes;
+        are_bytes(self.bytes);
     }
 }

@@ -13,14 +13,15 @@ use Rattle.unit_download.specs.declared.wire.Passed.{Passed}
 use Rattle.unit_download.specs.declared.fault.DownloadFault.{DownloadFault}
 use Rattle.unit_download.specs.declared.fault.DownloadFault.TheVariants as download
 use Rattle.unit_download.specs.Ending.{IsDownload, IfBad, has_failed}
+use Rattle.noisy_download.specs.Ending.{IsDownloaded}
 use Rattle.run_outcome.specs.declared.outcome.Outcome.{Outcome}
 use Rattle.tacho.specs.declared.end.Fault.TheVariants.{Done, Usage, BadUnit, ReadFault, WriteFault, MediumFault, Memory, Changed}
-use Rattle.tacho.specs.declared.forms.Form.TheVariants.{Download}
+use Rattle.tacho.specs.declared.forms.Form.TheVariants.{Download, DownloadNoisy}
 use Rattle.tacho.specs.End.{ended_with, is_medium_fault}
 use Rattle.tacho.specs.Outside.{Outside, SinkTold, memory_of}
 use Rattle.tacho.specs.Outcomes.{IsEmpty}
-use Rattle.tacho.specs.Downloading.{end_of_download}
-use Rattle.tacho.specs.Program.{Ends}
+use Rattle.tacho.specs.Downloading.{end_of_download, EndsDownload}
+use Rattle.tacho.specs.Program.{Ends, HasCauses}
 use Rattle.tacho.proofs.Services.{reads-rose}
 
 -- a download never ends for words in no form, or for the source
@@ -114,6 +115,43 @@ finished old new before after r changed write reads no_unit no_sink = by old.ima
     by (Some x) (Err download.WriteFault) changed write reads = absurd (no_sink (write refl))
     by (Some x) (Err download.Memory) changed write reads = inr (inl refl)
 
+-- so it ends, and by these causes
+download-form : (old new : Outside) (wire : List Passed) (r : Result (Unit {0}) DownloadFault)
+    → IsDownload r old.unit.image wire old.sink.held new.sink.held
+    → OnOk r (IfSome old.unit.image (λ x. Decodes x × Appends old.sink.held new.sink.held (unit_file x)))
+    → OnErr r (IfSome old.unit.image (λ x. AppendsFront old.sink.held new.sink.held (unit_file x)))
+    → (r ≡ Err download.Changed → IfSome old.unit.image (λ x. ⊥))
+    → IfErr r (λ fault. IfBad fault (λ p. IfSome old.unit.image (λ x. first_bad_place x ≡ Some p)))
+    → IfErr r (λ fault. IfBad fault (λ p. Keeps old.sink.held new.sink.held))
+    → (r ≡ Err download.WriteFault → Rose old.sink.faults new.sink.faults)
+    → ReadsIfAny old.unit new.unit (has_failed r)
+    → EndsDownload old new wire (end_of_download r)
+download-form old new wire r downloaded file front changed bad nothing write reads = record {
+  ended = r;
+  ends = refl;
+  downloaded = downloaded;
+  file = λ is. of-done r is file;
+  front = λ undone. of-not r undone front;
+  bad_unit = λ place is. of-bad (λ p. IfSome old.unit.image (λ x. first_bad_place x ≡ Some p)) r place is bad;
+  nothing = λ place is. of-bad (λ p. Keeps old.sink.held new.sink.held) r place is nothing;
+  changed = λ is. changed (of-changed r is);
+  finishes = λ no_unit no_sink. finished old.unit new.unit old.sink new.sink r changed write reads no_unit no_sink;
+  unit = subst (λ (failed : Bool). ReadsIfAny old.unit new.unit failed) (failed-is r) reads;
+}
+
+download-causes : (old new : Outside) (r : Result (Unit {0}) DownloadFault)
+    → (r ≡ Err download.WriteFault → Rose old.sink.faults new.sink.faults)
+    → old.source.faults ≤ new.source.faults → old.sink.faults ≤ new.sink.faults
+    → ReadsIfAny old.unit new.unit (has_failed r)
+    → HasCauses old new (end_of_download r)
+download-causes old new r write reads_count writes_count reads = record {
+  read_fault = λ is. absurd (not-read r is);
+  write_fault = λ is. write (of-write r is);
+  medium_fault = λ device is. of-unit old new r device is reads;
+  reads = reads_count;
+  writes = writes_count;
+}
+
 -- so the call ends that was asked for it
 pub download-ends : (old new : Outside) (wire : List Passed) (r : Result (Unit {0}) DownloadFault)
     → IsDownload r old.unit.image wire old.sink.held new.sink.held
@@ -130,25 +168,25 @@ pub download-ends : (old new : Outside) (wire : List Passed) (r : Result (Unit {
 download-ends old new wire r downloaded file front changed bad nothing write reads_count writes_count reads outcome none = record {
   status = refl;
   usage = (λ is. absurd (not-usage r is), λ no_form. absurd (cc));
-  form = record {
-    ended = r;
-    ends = refl;
-    downloaded = downloaded;
-    file = λ is. of-done r is file;
-    front = λ undone. of-not r undone front;
-    bad_unit = λ place is. of-bad (λ p. IfSome old.unit.image (λ x. first_bad_place x ≡ Some p)) r place is bad;
-    nothing = λ place is. of-bad (λ p. Keeps old.sink.held new.sink.held) r place is nothing;
-    changed = λ is. changed (of-changed r is);
-    finishes = λ no_unit no_sink. finished old.unit new.unit old.sink new.sink r changed write reads no_unit no_sink;
-    unit = subst (λ (failed : Bool). ReadsIfAny old.unit new.unit failed) (failed-is r) reads;
-  };
+  form = download-form old new wire r downloaded file front changed bad nothing write reads;
   unrecorded = none;
   unpassed = tt;
-  causes = record {
-    read_fault = λ is. absurd (not-read r is);
-    write_fault = λ is. write (of-write r is);
-    medium_fault = λ device is. of-unit old new r device is reads;
-    reads = reads_count;
-    writes = writes_count;
-  };
+  causes = download-causes old new r write reads_count writes_count reads;
+}
+
+-- and over a noisy link
+pub download-noisy-ends : (seed : ℕ) (old new : Outside) (wire : List Passed) (r : Result (Unit {0}) DownloadFault)
+    → IsDownloaded r old.unit.image wire old.sink.held new.sink.held
+    → (r ≡ Err download.WriteFault → Rose old.sink.faults new.sink.faults)
+    → old.source.faults ≤ new.source.faults → old.sink.faults ≤ new.sink.faults
+    → ReadsIfAny old.unit new.unit (has_failed r)
+    → (outcome : Outcome) → IsEmpty outcome
+    → Ends (Some (DownloadNoisy seed)) old new (ended_with outcome wire (end_of_download r))
+download-noisy-ends seed old new wire r d write reads_count writes_count reads outcome none = record {
+  status = refl;
+  usage = (λ is. absurd (not-usage r is), λ no_form. absurd (cc));
+  form = download-form old new wire r d.downloaded d.file d.front d.changed d.bad d.nothing write reads;
+  unrecorded = none;
+  unpassed = tt;
+  causes = download-causes old new r write reads_count writes_count reads;
 }

@@ -57,6 +57,10 @@ download-row : form_of (codes "download" ∷ []) ≡ Some Download
 unfolding form_of
 download-row = refl
 
+no-noisy-row : form_of (codes "download" ∷ codes "noisy" ∷ codes "2147483648" ∷ []) ≡ None
+unfolding form_of number_in
+no-noisy-row = refl
+
 view-row : form_of (codes "view" ∷ []) ≡ Some (Read (View None))
 unfolding form_of
 view-row = refl

@@ -37,7 +37,7 @@ length-zeros n = length-replicate n 0
 
 zeros-bytes : (n : ℕ) → IsBytes (zeros n)
 unfolding zeros
-zeros-bytes n i = ⊎_elim (λ inside. omega (arith, get_or-replicate n i 0 0 inside)) (λ past. omega (arith, get_or_past (replicate n 0) i 0 (omega (arith, past, length-replicate {A = ℕ} n 0)))) (cases_lt i n)
+zeros-bytes n i = ⊎_elim (λ inside. omega (arith, get_or-replicate {A = ℕ} n i 0 0 inside)) (λ past. omega (arith, get_or_past {X = ℕ} (replicate n 0) i 0 (omega (arith, past, length-replicate {A = ℕ} n 0)))) (cases_lt i n)
 
 pub blank_bytes : (broken : Bool) → HoldsBytes (blank_state broken)
 blank_bytes broken = record {

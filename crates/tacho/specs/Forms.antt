@@ -7,7 +7,7 @@ use Rattle.tacho_types.specs.declared.texts.Registration.{Registration}
 use Rattle.card_files.specs.declared.new_card.CardIdentity.{CardIdentity}
 use Rattle.unit_memory.specs.declared.format.Identity.{Identity}
 use Rattle.tacho.specs.declared.forms.Form.{Form}
-use Rattle.tacho.specs.declared.forms.Form.TheVariants.{Minutes, Record, FormatCard, FormatUnit, Upgrade, Serve, ServeHex, Download, Read, CardFile, Demo, Help, Version}
+use Rattle.tacho.specs.declared.forms.Form.TheVariants.{Minutes, Record, FormatCard, FormatUnit, Upgrade, Serve, ServeHex, Download, DownloadNoisy, Read, CardFile, Demo, Help, Version}
 use Rattle.tacho.specs.declared.forms.Reading.TheVariants.{View, Match, MatchAll}
 use Rattle.tacho.specs.declared.forms.TheConstants.{CARD_NUMBER, NAME, PLATE, VIN, NATION_MOST, LIMIT_LEAST, LIMIT_MOST, LAST_LEAST, LAST_MOST, SEED_MOST}
 use Rattle.tacho_types.specs.Texts.{padded_text}
@@ -113,9 +113,20 @@ last_form count = do
 abbrev pub view_of : (which count : List ℕ) → Option Form
 view_of which count = if bytes_eq which (codes "last") then last_form count else None
 
--- `view` and what follows it
+-- `noisy X`, X from 0 to 2147483647
+abbrev pub noisy_form : List ℕ → Option Form
+noisy_form seed = do
+  seed ← number_in 0 SEED_MOST seed
+  Some (DownloadNoisy seed)
+
+abbrev pub noisy_of : (which seed : List ℕ) → Option Form
+noisy_of which seed = if bytes_eq which (codes "noisy") then noisy_form seed else None
+
+-- `view` or `download`, and what follows it
 abbrev pub form_of_three : (command which count : List ℕ) → Option Form
-form_of_three command which count = if bytes_eq command (codes "view") then view_of which count else None
+form_of_three command which count =
+    if bytes_eq command (codes "view") then view_of which count
+    else (if bytes_eq command (codes "download") then noisy_of which count else None)
 
 -- what the words ask for; nothing where they are in no form
 unfoldable pub form_of : List (List ℕ) → Option Form

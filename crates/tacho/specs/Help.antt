@@ -21,6 +21,7 @@ help_text = as_lines (
     codes "tacho serve                              answer a downloader's frames" ∷
     codes "tacho serve --hex                        answer frames that are lines of hexadecimal digits" ∷
     codes "tacho download > FILE                    write the unit's file" ∷
+    codes "tacho download noisy X > FILE            write it over a link that loses and repeats, drawn from X" ∷
     codes "tacho card a|b > FILE                    write a card's file" ∷
     codes "tacho view < FILE                        print the minutes of a unit's file, or a card's entries" ∷
     codes "tacho view last N < FILE                 print its last N days (1 to 366)" ∷
@@ -36,7 +37,7 @@ help_text = as_lines (
 
 -- the version, and that of the toolchain which proves it
 unfoldable pub version_text : List ℕ
-version_text = as_lines (codes "tacho 1.0.0" ∷ codes "rattle-kit-13f logic dac8208d650f15bf" ∷ [])
+version_text = as_lines (codes "tacho 1.1.0" ∷ codes "rattle-kit-13f logic dac8208d650f15bf" ∷ [])
 
 -- all is done, or the sink failed
 abbrev pub IsTextEnd : Fault → Type 0

@@ -12,7 +12,7 @@ use Rattle.tacho.specs.declared.end.Ended.{Ended}
 use Rattle.run_outcome.specs.declared.outcome.Outcome.{Outcome}
 use Rattle.unit_download.specs.declared.wire.Passed.{Passed}
 use Rattle.tacho.specs.declared.forms.Form.{Form}
-use Rattle.tacho.specs.declared.forms.Form.TheVariants.{Minutes, Record, FormatCard, FormatUnit, Upgrade, Serve, ServeHex, Download, Read, CardFile, Demo, Help, Version}
+use Rattle.tacho.specs.declared.forms.Form.TheVariants.{Minutes, Record, FormatCard, FormatUnit, Upgrade, Serve, ServeHex, Download, DownloadNoisy, Read, CardFile, Demo, Help, Version}
 use Rattle.tacho.specs.End.{status_of, IsBeforeDevices}
 use Rattle.tacho.specs.Outside.{Outside, memory_of}
 use Rattle.tacho.specs.Minutes.{EndsMinutes}
@@ -44,6 +44,7 @@ EndsForm Upgrade old new ended = EndsUpgrade old.unit new.unit old.sink new.sink
 EndsForm Serve old new ended = EndsServe old new ended.fault
 EndsForm ServeHex old new ended = EndsServeHex old new ended.fault
 EndsForm Download old new ended = EndsDownload old new ended.wire ended.fault
+EndsForm (DownloadNoisy seed) old new ended = EndsDownload old new ended.wire ended.fault
 EndsForm (Read reading) old new ended = EndsReading (Prints reading) (IsBad reading) old new ended.fault
 EndsForm (CardFile A) old new ended = EndsCard CardA old.card_a new.card_a old.sink new.sink ended.fault
 EndsForm (CardFile B) old new ended = EndsCard CardB old.card_b new.card_b old.sink new.sink ended.fault
@@ -57,9 +58,10 @@ IsUnrecorded (Some Record) outcome = Unit {0}
 IsUnrecorded (Some (Demo seed)) outcome = Unit {0}
 IsUnrecorded asked outcome = IsEmpty outcome
 
--- but for `download` no frame passed
+-- but for `download`, also `download noisy`, no frame passed
 abbrev pub IsUnpassed : Option Form → List Passed → Type 0
 IsUnpassed (Some Download) wire = Unit {0}
+IsUnpassed (Some (DownloadNoisy seed)) wire = Unit {0}
 IsUnpassed asked wire = wire ≡ []
 
 -- What a form leaves as it was: all but the sink and what it names. Each argument says that one of them is as it was.
@@ -74,6 +76,7 @@ LeavesOthers (Some Upgrade) source unit card_a card_b = source × card_a × card
 LeavesOthers (Some Serve) source unit card_a card_b = card_a × card_b
 LeavesOthers (Some ServeHex) source unit card_a card_b = card_a × card_b
 LeavesOthers (Some Download) source unit card_a card_b = source × card_a × card_b
+LeavesOthers (Some (DownloadNoisy seed)) source unit card_a card_b = source × card_a × card_b
 LeavesOthers (Some (Read reading)) source unit card_a card_b = unit × card_a × card_b
 LeavesOthers (Some (CardFile A)) source unit card_a card_b = source × unit × card_b
 LeavesOthers (Some (CardFile B)) source unit card_a card_b = source × unit × card_a
@@ -100,11 +103,12 @@ pub record Ends (asked : Option Form) (old new : Outside) (ended : Ended) : Type
   pub causes : HasCauses old new ended.fault
 
 -- what reads all of its source before it uses a device or prints, if it reads any: each form but `serve`, `serve --hex`, `download`,
--- `card a` and `card b`, which write as they read, and `demo`, which reads none
+-- `download noisy`, `card a` and `card b`, which write as they read, and `demo`, which reads none
 abbrev pub ReadsFirst : Option Form → Type 0
 ReadsFirst (Some Serve) = ⊥
 ReadsFirst (Some ServeHex) = ⊥
 ReadsFirst (Some Download) = ⊥
+ReadsFirst (Some (DownloadNoisy seed)) = ⊥
 ReadsFirst (Some (CardFile card)) = ⊥
 ReadsFirst (Some (Demo seed)) = ⊥
 ReadsFirst asked = Unit {0}

@@ -3,7 +3,7 @@ ghost use Rattle.std.specs.Prelude.{◌≡◌, ◌∷◌, ◌+◌, ◌≤◌, If
 ghost use Rattle.std.specs.List.{list_all};
 ghost use Rattle.tacho_types.specs.Texts.{padded_text};
 ghost use Rattle.tacho.specs.Texts.{is_character, is_word, begins_with_dash, word_in, number_in};
-ghost use Rattle.tacho.specs.Forms.{name_in, card_in, registration_in, unit_in, form_of_one, form_of_two, file_of, demo_of, view_of, form_of_three, format_of, form_of_six, form_of};
+ghost use Rattle.tacho.specs.Forms.{name_in, card_in, registration_in, unit_in, form_of_one, form_of_two, file_of, demo_of, view_of, noisy_of, form_of_three, format_of, form_of_six, form_of};
 
 use crate::words::Words;
 use card_files::CardIdentity;
@@ -62,6 +62,8 @@ pub enum Form {
     ServeHex,
     /// `download`: the unit's file is written.
     Download,
+    /// `download noisy X`: the same over a link that loses, repeats and delays, as it is drawn from this number, from 0 to 2147483647.
+    DownloadNoisy { seed: u32 },
     /// What a file tells is printed: it is read to its end first.
     Read { reading: Reading },
     /// `card a` and `card b`: the card's file is written.
@@ -135,6 +137,12 @@ fn form_of_one(word: &str) -> Option<Form>
     if is_text(word, "upgrade") {
         return Some(Form::Upgrade);
     }
+    if is_text(word, "help") || is_text(word, "--help") {
+        return Some(Form::Help);
+    }
+    if is_text(word, "--version") {
+        return Some(Form::Version);
+    }
     None
 }
 
@@ -190,6 +198,22 @@ fn form_of_three(command: &str, which: &str, count: &str) -> Option<Form>
 {
     if is_text(command, "view") {
         return view_of(which, count);
+    }
+    if is_text(command, "download") {
+        return noisy_of(which, count);
+    }
+    None
+}
+
+/// Which noisy download is asked for.
+fn noisy_of(which: &str, seed: &str) -> Option<Form>
+    ensures { result ≡ noisy_of which.now seed.now }
+{
+    if is_text(which, "noisy") {
+        let Some(seed) = number(seed, 0, SEED_MOST) else {
+            return None;
+        };
+        return Some(Form::DownloadNoisy { seed });
     }
     None
 }

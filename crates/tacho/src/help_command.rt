@@ -14,6 +14,7 @@ tacho record < TRACE                     record a trace on unit.img, card-a.img 
 tacho serve                              answer a downloader's frames
 tacho serve --hex                        answer frames that are lines of hexadecimal digits
 tacho download > FILE                    write the unit's file
+tacho download noisy X > FILE            write it over a link that loses and repeats, drawn from X
 tacho card a|b > FILE                    write a card's file
 tacho view < FILE                        print the minutes of a unit's file, or a card's entries
 tacho view last N < FILE                 print its last N days (1 to 366)
@@ -29,7 +30,7 @@ Example: (echo start 1267401600; echo run 3600 50) | tacho minutes
 ";
 
 /// What `--version` prints: the version, and that of the toolchain which proves it.
-const VERSION: &[u8] = b"tacho 1.0.0
+const VERSION: &[u8] = b"tacho 1.1.0
 rattle-kit-13f logic dac8208d650f15bf
 ";
 

@@ -72,12 +72,16 @@ enum Access {
     Reading,
 }
 
-fn access(words: &Words) -> Access {
+fn access_of(words: &Words) -> Access {
     match form_of(words) {
         Some(Form::Demo { .. }) => Access::Passing,
-        Some(Form::Serve | Form::ServeHex | Form::Download | Form::CardFile { .. }) => {
-            Access::Reading
-        }
+        Some(
+            Form::Serve
+            | Form::ServeHex
+            | Form::Download
+            | Form::DownloadNoisy { .. }
+            | Form::CardFile { .. },
+        ) => Access::Reading,
         _ => Access::Lasting,
     }
 }
@@ -106,7 +110,7 @@ fn run(rt: &HostRuntime) -> Ended {
     let _third = File::open(rt, "/");
     match words_of(rt) {
         Ok(words) => {
-            let access = access(&words);
+            let access = access_of(&words);
             tacho(
                 rt.alloc(),
                 &words,

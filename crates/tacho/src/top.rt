@@ -23,6 +23,7 @@ use crate::words::Words;
 use card_download::write_card_file;
 use card_files::CardIdentity;
 use link_session::{Peer, serve, serve_lines};
+use noisy_download::download_noisy;
 use run_model::{Card, Device};
 use run_outcome::Outcome;
 use std::alloc::Global;
@@ -37,7 +38,8 @@ use unit_download::{Wire, download};
 /// line is recorded on the unit alone.
 /// `serve` answers the frames among the bytes of the source by the messages of the unit, and writes the answers to the sink;
 /// `serve --hex` the same of lines of hexadecimal digits.
-/// `download` downloads the unit, and writes its file, message by message, to the sink.
+/// `download` downloads the unit, and writes its file, message by message, to the sink; `download noisy X` the same over a link that loses,
+/// repeats and delays.
 /// `view` reads a unit file or a card file from the source, and writes the view text of its minutes or entries to the sink.
 /// `match` reads a unit file and a card file from the source, and writes whether the card's entries stand in the unit file to the sink;
 /// `match all` all that differ.
@@ -131,6 +133,11 @@ fn perform<S: Peer<K>, K: Sink, U: Medium, C: Chip>(
         Form::Download => {
             let mut wire = Wire::new(alloc);
             let done = download(alloc, sink, unit, &mut wire);
+            Ended::with(nothing, wire, download_end(done))
+        }
+        Form::DownloadNoisy { seed } => {
+            let mut wire = Wire::new(alloc);
+            let done = download_noisy(alloc, seed, sink, unit, &mut wire);
             Ended::with(nothing, wire, download_end(done))
         }
         Form::Read { reading } => {

@@ -90,7 +90,7 @@ pub fn exchange_all<K: Sink, U: Medium, T: Tape>(
     // The unit is only read, if it is called at all.
     ensures unit { ReadsIfAny (U.state unit.old) (U.state unit.new) (has_failed result) }
 {
-    unit.holds_bytes();
+    U::holds_bytes(unit);
     let mut session = Session::new();
     while let Some(sent) = loader.next() {
         let frame = answer_to(&mut session, sent, unit, wire)?;

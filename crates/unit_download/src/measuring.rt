@@ -41,7 +41,7 @@ pub fn measure<U: Medium>(
     ensures bad { IfErr result (λ fault. IfBad fault (λ p. IfSome (U.state unit.old).image (λ x. first_bad_place x ≡ Some p))) }
     ensures unit { ReadsIfAny (U.state unit.old) (U.state unit.new) (has_failed result) }
 {
-    unit.holds_bytes();
+    U::holds_bytes(unit);
     let mut tape = Unlisted::new();
     if let Err(fault) = exchange_all(loader, file, unit, &mut tape) {
         return Err(fault);

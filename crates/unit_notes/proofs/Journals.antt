@@ -113,6 +113,9 @@ overs_low = omega arith
 overs_before_places : 576 + 4 ≤ 2379240
 overs_before_places = omega arith
 
+overs_before_speeds : 576 + 4 ≤ 2393644
+overs_before_speeds = omega arith
+
 insertions_low : 2115044 + 4 ≤ 2379240
 insertions_low = omega arith
 
@@ -324,6 +327,7 @@ more_decodes y long decodes =
     (one_more_few y long was.overs)
     (high_number 576 4 2115044 y c 2048 same overs_low was.insertions)
     (high_number 576 4 2379240 y c 255 same overs_before_places was.places)
+    (high_number 576 4 2393644 y c 1440 same overs_before_speeds was.speeds)
     decodes
 
 pub over_decodes : (begin : ℕ) (front x c : List ℕ) → length x ≡ 2485808 → IsNotingOver begin front x c → Decodes x → Decodes c

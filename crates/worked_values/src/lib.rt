@@ -26,6 +26,8 @@ mod message_tests;
 #[cfg(test)]
 mod minute_tests;
 #[cfg(test)]
+mod noisy_tests;
+#[cfg(test)]
 mod service_tests;
 #[cfg(test)]
 mod slot_tests;

@@ -1,4 +1,6 @@
 use Rattle.std.proofs.Common.{◌∙◌, Ok, Err, sym, ap, arith}
+use Rattle.card_layout.specs.Fields.{IsBytes}
+use Rattle.tach_media.proofs.Runs.{if_told}
 use Rattle.unit_minutes.proofs.IfAny.{read_same}
 use Rattle.unit_memory.proofs.Told.{carried}
 use Rattle.unit_messages.proofs.Calls.{no_call, any_then}
@@ -19,7 +21,7 @@ loop-round-init g c =
     let s = g.U.Medium.state c.args.unit.now in
     let whole = g.met.U.Medium.coherent c.args.unit.now in
     record {
-      underway = underway_none s.image (g.K.Sink.held c.args.sink.now) c.in_ok-world.world c.args.wire.now c.in_ok-world.ensures c.requires.fresh (λ x told. omega (arith, whole.sized x told, c.requires.unit.sized, c.requires.unit.behind));
+      underway = underway_none s.image (g.K.Sink.held c.args.sink.now) c.in_ok-world.world c.args.wire.now c.in_ok-world.ensures c.requires.fresh (λ x told. omega (arith, whole.sized x told, c.requires.unit.sized, c.requires.unit.behind)) (if_told s.image IsBytes c.holds_bytes.ensures.told);
       going = fresh_going c.in_ok-world.world c.in_ok-world.ensures;
       reads = no_call s;
       counts = omega arith;

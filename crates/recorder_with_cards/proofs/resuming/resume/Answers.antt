@@ -745,6 +745,11 @@ returns-clause-takes g c =
 
 -- ---- breaks, and what failed
 
+pub returns-in_err-accept_anew-clause-more : goal.returns-in_err-accept_anew-clause-more
+returns-in_err-accept_anew-clause-more g c =
+    let at = (goal.at.returns-in_err-accept_anew-clause-more g c).After-moment-at in
+    anew-more (first_card g at) Driver c.moment-at.result c.args.speed (mid g at) c.accept_anew.new.run (out g at) c.accept_anew.new.outcome c.accept_anew.ensures.accepted
+
 pub returns-in_err-accept_anew-2-clause-more : goal.returns-in_err-accept_anew-2-clause-more
 returns-in_err-accept_anew-2-clause-more g c = more-two g (goal.at.returns-in_err-accept_anew-2-clause-more g c).After-accept_anew-2
 
@@ -753,6 +758,10 @@ returns-clause-more g c =
     let cards = more-two g (both g c) in
     let gap = c.note_gap.ensures.more in
     omega (arith, cards, gap)
+
+pub returns-in_err-accept_anew-clause-cause : goal.returns-in_err-accept_anew-clause-cause
+returns-in_err-accept_anew-clause-cause g c =
+    subst (λ (f : Bool). HasCause (g.M.Medium.state c.args.unit.now) (g.M.Medium.state c.accept_anew.new.unit) f) (failed-one g c) (cause_after c.in_ok-mend.ensures.cause c.in_err-accept_anew.ensures.cause)
 
 pub returns-in_err-accept_anew-2-clause-cause : goal.returns-in_err-accept_anew-2-clause-cause
 returns-in_err-accept_anew-2-clause-cause g c =

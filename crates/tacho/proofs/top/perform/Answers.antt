@@ -3,7 +3,7 @@ use Rattle.tacho.specs.Read.{Prints, IsBad}
 use Rattle.tacho.proofs.Endings.{ends-minutes, minutes-ends, ends-reading, reading-ends, help-ends, version-ends, no-other-end}
 use Rattle.tacho.proofs.Services.{serve-ends}
 use Rattle.tacho.proofs.LineServices.{serve-hex-ends}
-use Rattle.tacho.proofs.Downloads.{download-ends}
+use Rattle.tacho.proofs.Downloads.{download-ends, download-noisy-ends}
 use Rattle.tacho.proofs.Upgraded.{upgrade-ends, upgrade-spares}
 use Rattle.tacho.proofs.top.perform.Goals as goal
 
@@ -55,6 +55,16 @@ returns-in-Download-clause-ends g c =
 
 pub returns-in-Download-clause-spares : goal.returns-in-Download-clause-spares
 returns-in-Download-clause-spares g c = rw c.in-Download.is (record { others = (refl, refl, refl); cards = λ is. absurd (cc); before = λ none. absurd none; nothing = λ none. absurd none; unprinted = λ none. absurd none })
+
+pub returns-in-DownloadNoisy-clause-ends : goal.returns-in-DownloadNoisy-clause-ends
+returns-in-DownloadNoisy-clause-ends g c =
+    let e = c.download_noisy-done.ensures in
+    rw (c.in-DownloadNoisy.is, c.with-in-DownloadNoisy.ensures, c.download_end-in-DownloadNoisy.ensures)
+    (download-noisy-ends c.in-DownloadNoisy.seed _ _ c.download_noisy-done.new.wire c.download_noisy-done.result e.downloaded e.cause (omega arith) e.counts e.unit c.nothing-nothing.result c.nothing-nothing.ensures)
+
+pub returns-in-DownloadNoisy-clause-spares : goal.returns-in-DownloadNoisy-clause-spares
+returns-in-DownloadNoisy-clause-spares g c =
+    rw c.in-DownloadNoisy.is (record { others = (refl, refl, refl); cards = λ is. absurd (cc); before = λ none. absurd none; nothing = λ none. absurd none; unprinted = λ none. absurd none })
 
 pub returns-in-Upgrade-clause-ends : goal.returns-in-Upgrade-clause-ends
 returns-in-Upgrade-clause-ends g c =
