@@ -1,0 +1,14 @@
+use Rattle.file_view.specs.Histories.{minutes_on}
+use Rattle.day_reports.proofs.Shown.{card_shown}
+use Rattle.day_reports.proofs.cards.card_chart.Goals as goal
+
+pub returns-clause-text : goal.returns-clause-text
+returns-clause-text c =
+    let shown = card_shown (minutes_on c.lines-lines.result.now) c.in-Ok.history c.lines-lines.ensures.entries in
+    record {
+      entries = c.in-Ok.history;
+      text = c.in_ok-totals.totals.items;
+      shows = c.in-Ok.ensures.entries;
+      totals = rw shown at c.in_ok-totals.ensures;
+      chart = rw (c.as_slice.ensures.value, shown) at c.in_ok-text.ensures;
+    }

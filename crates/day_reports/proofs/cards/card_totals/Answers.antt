@@ -1,0 +1,8 @@
+use Rattle.file_view.specs.Histories.{minutes_on}
+use Rattle.day_reports.proofs.Shown.{card_shown}
+use Rattle.day_reports.proofs.cards.card_totals.Goals as goal
+
+pub returns-clause-text : goal.returns-clause-text
+returns-clause-text c =
+    let shown = card_shown (minutes_on c.lines.result.now) c.in-Ok.history c.lines.ensures.entries in
+    record { entries = c.in-Ok.history; shows = c.in-Ok.ensures.entries; totals = rw shown at c.in_ok-text.ensures }

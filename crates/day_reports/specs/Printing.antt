@@ -1,0 +1,46 @@
+-- The totals and the picture of a file, of all its days or of the last so many (profile).
+use Rattle.std.specs.Prelude.{ℕ, Option, List, [], map}
+use Rattle.activity_codec.specs.declared.entries.Entry.{Entry}
+use Rattle.unit_model.specs.Days.{UnitMinute}
+use Rattle.view_text.specs.Entries.{entry_shown}
+use Rattle.file_view.specs.Histories.{minute_shown}
+use Rattle.file_view.specs.Showing.{ShowsCardFile}
+use Rattle.file_view.specs.UnitShowing.{ShowsUnitFile}
+use Rattle.slot_bars.specs.declared.seen.Gap.{Gap}
+use Rattle.day_totals.specs.declared.figures.Distance.{Distance}
+use Rattle.day_totals.specs.Text.{IsUnitTotals, IsCardTotals}
+use Rattle.day_chart.specs.Chart.{IsUnitChart, IsCardChart}
+use Rattle.unit_marks.specs.Marks.{TellsMarks}
+
+-- THE TOTALS of a unit file: of the minutes that its view shows, with its gaps and its distances
+pub record PrintsUnitTotals (last : Option ℕ) (bytes out : List ℕ) : Type 0 where
+  pub minutes : List UnitMinute
+  pub gaps : List Gap
+  pub distances : List Distance
+  pub shows : ShowsUnitFile last bytes minutes
+  pub tells : TellsMarks bytes gaps distances
+  pub totals : IsUnitTotals gaps distances (map minute_shown minutes) out
+
+-- those of a card file: of the entries that its view shows
+pub record PrintsCardTotals (last : Option ℕ) (bytes out : List ℕ) : Type 0 where
+  pub entries : List Entry
+  pub shows : ShowsCardFile last bytes entries
+  pub totals : IsCardTotals [] (map entry_shown entries) out
+
+-- THE PICTURE of a unit file, and of a card file: of the same minutes, with the totals as its text
+pub record PrintsUnitChart (last : Option ℕ) (bytes out : List ℕ) : Type 0 where
+  pub minutes : List UnitMinute
+  pub gaps : List Gap
+  pub distances : List Distance
+  pub text : List ℕ
+  pub shows : ShowsUnitFile last bytes minutes
+  pub tells : TellsMarks bytes gaps distances
+  pub totals : IsUnitTotals gaps distances (map minute_shown minutes) text
+  pub chart : IsUnitChart gaps text (map minute_shown minutes) out
+
+pub record PrintsCardChart (last : Option ℕ) (bytes out : List ℕ) : Type 0 where
+  pub entries : List Entry
+  pub text : List ℕ
+  pub shows : ShowsCardFile last bytes entries
+  pub totals : IsCardTotals [] (map entry_shown entries) text
+  pub chart : IsCardChart text (map entry_shown entries) out

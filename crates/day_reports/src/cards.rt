@@ -1,0 +1,59 @@
+//! The totals and the picture of a card file.
+ghost use Rattle.std.specs.Prelude.{◌≡◌, ◌<◌, ◌^◌, List, map, length, IfOk, IfErr};
+ghost use Rattle.file_view.specs.Faults.{IfBadFile};
+ghost use Rattle.file_view.specs.CardFiles.{IsBadCardFile};
+ghost use Rattle.file_view.specs.Showing.{ShowsCardFile};
+ghost use Rattle.day_reports.specs.Printing.{PrintsCardTotals, PrintsCardChart};
+
+use file_view::{CardHistory, ViewFault, last_days, read_card_file};
+use std::alloc::Global;
+
+/// The totals of a card file, of all days or of the newest so many. Its distances are not read.
+///
+/// # Errors
+///
+/// As those of `file_view::read_card_file`.
+pub fn card_totals(alloc: Global, b: &[u8], last: Option<u32>) -> Result<Vec<u8>, ViewFault>
+    requires { length b.now < 2 ^ 32 }
+    ensures text { IfOk result (λ text. PrintsCardTotals last b.now text.items) }
+    ensures bad { IfErr result (λ fault. IfBadFile fault (λ place. IsBadCardFile place b.now)) }
+{
+    let history = match card_history(alloc, b, last) {
+        Ok(history) => history,
+        Err(fault) => return Err(fault),
+    };
+    let text = day_totals::card_days_text(alloc, history.lines(), &[])?;
+    Ok(text)
+}
+
+/// The picture of a card file, of all days or of the newest so many.
+///
+/// # Errors
+///
+/// As those of `file_view::read_card_file`.
+pub fn card_chart(alloc: Global, b: &[u8], last: Option<u32>) -> Result<Vec<u8>, ViewFault>
+    requires { length b.now < 2 ^ 32 }
+    ensures text { IfOk result (λ text. PrintsCardChart last b.now text.items) }
+    ensures bad { IfErr result (λ fault. IfBadFile fault (λ place. IsBadCardFile place b.now)) }
+{
+    let history = match card_history(alloc, b, last) {
+        Ok(history) => history,
+        Err(fault) => return Err(fault),
+    };
+    let lines = history.lines();
+    let totals = day_totals::card_days_text(alloc, lines, &[])?;
+    let text = day_chart::card_chart(alloc, lines, totals.as_slice())?;
+    Ok(text)
+}
+
+/// The entries of a card file, of all days or of the newest so many.
+fn card_history(alloc: Global, b: &[u8], last: Option<u32>) -> Result<CardHistory, ViewFault>
+    requires { length b.now < 2 ^ 32 }
+    ensures entries { IfOk result (λ h. ShowsCardFile last b.now h) }
+    ensures bad { IfErr result (λ fault. IfBadFile fault (λ place. IsBadCardFile place b.now)) }
+{
+    match last {
+        Some(n) => last_days(alloc, b, n),
+        None => read_card_file(alloc, b),
+    }
+}

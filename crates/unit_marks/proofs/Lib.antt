@@ -1,0 +1,5 @@
+pub mod Empty
+pub mod Placing
+pub mod Laid
+pub mod Telling
+mod Rows

@@ -1,0 +1,23 @@
+-- Worked rows, computed by the checker: minutes that lie whole in an interruption, and what an odometer gained.
+use Rattle.std.proofs.Common.{◌≡◌, List, [], ◌∷◌, refl}
+use Rattle.slot_bars.specs.declared.seen.Gap.{Gap}
+use Rattle.unit_marks.specs.Marks.{whole_minutes, gap_of, distances_of}
+
+-- from 00:01:01 to 00:04:30 the minutes 2 and 3 are whole
+whole : whole_minutes 61 270 ≡ record { first = 2; behind = 4 }
+whole = refl
+
+-- from a minute's first second it counts, to a minute's first second the one before is the last
+sharp : whole_minutes 120 240 ≡ record { first = 2; behind = 4 }
+sharp = refl
+
+-- type 08, longest of its day; type 07 is no interruption
+interruption : gap_of (8 ∷ 1 ∷ 0 ∷ 0 ∷ 0 ∷ 120 ∷ 0 ∷ 0 ∷ 0 ∷ 240 ∷ []) ≡ record { first = 2; behind = 4 } ∷ []
+interruption = refl
+
+over_speeding : gap_of (7 ∷ 1 ∷ 0 ∷ 0 ∷ 0 ∷ 120 ∷ 0 ∷ 0 ∷ 0 ∷ 240 ∷ []) ≡ []
+over_speeding = refl
+
+-- 412 km until the next day that is told; of the last day, and where the odometer is less, nothing
+gained : distances_of (record { date = 86400; odometer = 1000 } ∷ record { date = 259200; odometer = 1412 } ∷ record { date = 345600; odometer = 5 } ∷ []) ≡ record { day = 1; km = 412 } ∷ []
+gained = refl

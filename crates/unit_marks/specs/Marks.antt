@@ -1,0 +1,63 @@
+-- The distances of days, and the interruptions of the power, that a unit file tells (profile).
+use Rattle.std.specs.Prelude.{◌≡◌, ℕ, ◌+◌, ◌-◌, ◌/◌, ◌==◌, ◌&&◌, nat_lt, nat_le, if◌then◌else◌, List, [], ◌∷◌, ◌++◌, map}
+use Rattle.card_layout.specs.Images.{number_at}
+use Rattle.message_model.specs.Messages.{Message, DayMessage, AnOverview, ADay, AnEventList, ASpeedList, ATechnical, IsUnitFile}
+use Rattle.slot_bars.specs.declared.seen.Gap.{Gap}
+use Rattle.day_totals.specs.declared.figures.Distance.{Distance}
+use Rattle.file_view.specs.UnitFiles.{days_told}
+use Rattle.unit_marks.specs.declared.marks.Midnight.{Midnight}
+use Rattle.unit_marks.specs.declared.marks.TheConstants.{POWER_INTERRUPTION, EVENT_BEGIN, EVENT_END}
+
+-- an event: its type, its begin and its end, in seconds
+abbrev pub kind_in : List ℕ → ℕ
+kind_in event = number_at event 0 1
+
+abbrev pub begin_in : List ℕ → ℕ
+begin_in event = number_at event EVENT_BEGIN 4
+
+abbrev pub end_in : List ℕ → ℕ
+end_in event = number_at event EVENT_END 4
+
+-- the minutes that lie whole between two seconds
+abbrev pub whole_minutes : (begin end : ℕ) → Gap
+whole_minutes begin end = record { first = (begin + 59) / 60; behind = end / 60 }
+
+-- THE GAPS that events tell: the minutes that lie whole in an interruption of the power
+abbrev pub gap_of : List ℕ → List Gap
+gap_of event = if kind_in event == POWER_INTERRUPTION then whole_minutes (begin_in event) (end_in event) ∷ [] else []
+
+abbrev pub gaps_of : List (List ℕ) → List Gap
+gaps_of [] = []
+gaps_of (event ∷ events) = gap_of event ++ gaps_of events
+
+-- those of a file, in the order of its events
+abbrev pub gaps_told : List Message → List Gap
+gaps_told [] = []
+gaps_told (AnEventList m ∷ ms) = gaps_of m.events ++ gaps_told ms
+gaps_told (AnOverview m ∷ ms) = gaps_told ms
+gaps_told (ADay m ∷ ms) = gaps_told ms
+gaps_told (ASpeedList m ∷ ms) = gaps_told ms
+gaps_told (ATechnical m ∷ ms) = gaps_told ms
+
+-- the midnight that the message of a day tells
+abbrev pub midnight_of : DayMessage → Midnight
+midnight_of m = record { date = m.date; odometer = m.odometer }
+
+-- what the odometer gained from a midnight to a later one
+abbrev pub gained : Midnight → Midnight → List Distance
+gained day next =
+    if nat_lt day.date next.date && nat_le day.odometer next.odometer then record { day = day.date / 86400; km = next.odometer - day.odometer } ∷ []
+    else []
+
+-- THE DISTANCES of days: what the odometer gained until the next midnight that is told, where that is later and the odometer no less
+abbrev pub distances_of : List Midnight → List Distance
+distances_of [] = []
+distances_of (day ∷ []) = []
+distances_of (day ∷ next ∷ days) = gained day next ++ distances_of (next ∷ days)
+
+-- the bytes are a unit file that tells these gaps and distances
+pub record TellsMarks (bytes : List ℕ) (gaps : List Gap) (distances : List Distance) : Type 0 where
+  pub messages : List Message
+  pub file : IsUnitFile messages bytes
+  pub gaps_are : gaps ≡ gaps_told messages
+  pub distances_are : distances ≡ distances_of (map midnight_of (days_told messages))
