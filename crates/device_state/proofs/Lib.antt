@@ -1,0 +1,4 @@
+pub mod Dated
+pub mod Joining
+pub mod ToldCards
+pub mod ToldUnits

@@ -1,0 +1,5 @@
+pub mod Units
+pub mod Cards
+pub mod Devices
+pub mod Values
+pub mod Lines

@@ -1,0 +1,35 @@
+-- Bytes of a device as text that stands on a line (profile).
+use Rattle.std.specs.Prelude.{ℕ, ◌+◌, ◌/◌, ◌%◌, ◌==◌, ◌&&◌, not, nat_lt, nat_le, Bool, if◌then◌else◌, List, [], ◌∷◌, ◌++◌, codes}
+use Rattle.std.specs.List.{flat_map}
+
+-- a byte in front of others, but no space in front of none
+abbrev pub in_front : ℕ → List ℕ → List ℕ
+in_front b [] = if b == 32 then [] else b ∷ []
+in_front b (c ∷ bytes) = b ∷ c ∷ bytes
+
+-- without the spaces at the end
+abbrev pub cut : List ℕ → List ℕ
+cut [] = []
+cut (b ∷ bytes) = in_front b (cut bytes)
+
+-- a byte stands as it is: a printable character of ASCII, but no `\`
+abbrev pub is_plain : ℕ → Bool
+is_plain b = nat_le 0x20 b && nat_le b 0x7E && not (b == 92)
+
+-- a hexadecimal digit, in lower case
+abbrev pub hex_digit : ℕ → ℕ
+hex_digit n = if nat_lt n 10 then 48 + n else 87 + n
+
+abbrev pub two_hex : ℕ → List ℕ
+two_hex b = hex_digit (b / 16) ∷ hex_digit (b % 16) ∷ []
+
+abbrev pub four_hex : ℕ → List ℕ
+four_hex n = two_hex (n / 256) ++ two_hex (n % 256)
+
+-- a byte as it is, or as `\x` and two digits
+abbrev pub byte_text : ℕ → List ℕ
+byte_text b = if is_plain b then b ∷ [] else 92 ∷ 120 ∷ two_hex b
+
+-- BYTES AS TEXT: without the spaces at the end, each byte as it is or as `\x` and two digits
+abbrev pub shown : List ℕ → List ℕ
+shown bytes = flat_map byte_text (cut bytes)
