@@ -1,0 +1,6 @@
+mod Parts
+mod Answering
+mod Turning
+mod Taking
+mod LoadTurning
+mod Hearing
