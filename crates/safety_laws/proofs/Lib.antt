@@ -1,4 +1,5 @@
 pub mod Sitting
 pub mod Moments
+pub mod Again
 pub mod OneFile
 pub mod Handing

@@ -33,14 +33,14 @@ use Rattle.safety_laws.specs.Whole.{IsReady, MayBegin, brought_in, IsSitting, Is
 use Rattle.safety_laws.proofs.Sitting.{sizes-told, own-valid, above, brought-open, brought-shut, Sits, own, holds-open, shut_bound, holds-shut, sits-of}
 
 -- a card that holds its string
-record Stays (app : Application) (image : List ℕ) (brought : List Entry) (x : List ℕ) : Type 0 where
+pub record Stays (app : Application) (image : List ℕ) (brought : List Entry) (x : List ℕ) : Type 0 where
   pub sizes : own_sizes x ≡ app
   pub long : length x ≡ length image
   pub valid : IsValid app x
   pub next : ℕ
   pub holds : HoldsSince app image brought next x
 
-shown : (image : List ℕ) → IsReady image → (brought : List Entry) (x : List ℕ) → Stays (own_sizes image) image brought x → IsShown image brought x
+pub shown : (image : List ℕ) → IsReady image → (brought : List Entry) (x : List ℕ) → Stays (own_sizes image) image brought x → IsShown image brought x
 shown image ready brought x so = record {
   sizes = so.sizes;
   long = so.long;
@@ -108,7 +108,7 @@ module _ (image : List ℕ) (ready : IsReady image) where
     same_long : length x ≡ length image
     same_long = (inserting_keeps app registration odometer now owed may.long image x (omega (arith, use_inside app, ready.fits)) moment).1
 
-    insert_stays : Stays app image (brought_in image owed) x
+    pub insert_stays : Stays app image (brought_in image owed) x
     insert_stays = ⊎_elim
         (λ none.
         let bound = max (shut_bound image ready) (suc (newest_minute (end_mark app image) (card_days app image))) in

@@ -11,4 +11,4 @@ mod session_laws;
 mod download_laws;
 
 pub use download_laws::{a_view_shows_the_unit, what_is_kept_is_handed_out};
-pub use session_laws::a_session_is_whole;
+pub use session_laws::{a_session_is_whole, a_stopped_insertion_ends_with_the_same_entries};
