@@ -28,6 +28,8 @@ mod minute_tests;
 #[cfg(test)]
 mod noisy_tests;
 #[cfg(test)]
+mod packet_tests;
+#[cfg(test)]
 mod service_tests;
 #[cfg(test)]
 mod slot_tests;

@@ -108,6 +108,28 @@ const BEFORE: &[u8] = b"start 1267401600\ninsert driver a\nrun 60 0\nrun 179 50\
 
 const BEHIND: &[u8] = b"start 1267401600\ninsert driver a\nrun 60 0\nrun 180 50\n";
 
+/// A keep of the card: a drive up to the second before it, and that second too; and the words of the card that is torn out in it, once it has come
+/// again.
+#[derive(Clone, Copy)]
+struct Keep {
+    before: &'static [u8],
+    behind: &'static [u8],
+    words: &'static [u16],
+}
+
+/// Its first one, of the minute before it drives, and the next one.
+const FIRST_KEEP: Keep = Keep {
+    before: b"start 1267401600\ninsert driver a\nrun 60 0\nrun 119 50\n",
+    behind: b"start 1267401600\ninsert driver a\nrun 60 0\nrun 120 50\n",
+    words: &[0x0000, 0x1801, 0x2002],
+};
+
+const NEXT_KEEP: Keep = Keep {
+    before: BEFORE,
+    behind: BEHIND,
+    words: &[0x0000, 0x1801, 0x2003],
+};
+
 /// A run on new devices that stop so, and whether the first card has these words then.
 fn run_tells(alloc: Global, text: &[u8], stops: Stops, words: &[u16]) -> Result<(Ran, bool), Fail> {
     let mut d = new_devices(alloc, stops)?;
@@ -223,18 +245,23 @@ fn two(alloc: Global, first: Stop, second: Stop) -> Result<Stops, AllocError> {
 
 /// The run in which the card comes once more, whether the card has its entries then, and the type and the begin of the session that is noted on it as
 /// not closed.
-fn run_once_more(alloc: Global, stops: Stops) -> Result<(Ran, bool, [u8; 5]), Fail> {
+fn run_once_more(alloc: Global, stops: Stops, words: &[u16]) -> Result<(Ran, bool, [u8; 5]), Fail> {
     let mut d = new_devices(alloc, stops)?;
     let ran = d.run(alloc, ONCE_MORE)?;
-    let is_told = d.card_tells(alloc, &[0x0000u16, 0x1801, 0x2003])?;
+    let is_told = d.card_tells(alloc, words)?;
     Ok((ran, is_told, unclosed_on(&mut d.card_a)?))
 }
 
 /// The card that the first stop has torn out is put in again, and stopped by a call of that: put in once more it has the same entries, and the session
 /// that was not closed is noted on it.
-fn torn_twice(rt: &(impl Abort + AllocGlobal), first: Stop, second: Stop) -> Result<(), Fail> {
+fn torn_twice(
+    rt: &(impl Abort + AllocGlobal),
+    words: &[u16],
+    first: Stop,
+    second: Stop,
+) -> Result<(), Fail> {
     let alloc = rt.alloc();
-    let (ran, is_told, unclosed) = run_once_more(alloc, two(alloc, first, second)?)?;
+    let (ran, is_told, unclosed) = run_once_more(alloc, two(alloc, first, second)?, words)?;
     let tear = Break::Tear {
         second: T0 + 360,
         slot: Slot::Driver,
@@ -250,26 +277,39 @@ fn torn_twice(rt: &(impl Abort + AllocGlobal), first: Stop, second: Stop) -> Res
 }
 
 /// Each call of its coming again.
-fn torn_again(rt: &(impl Abort + AllocGlobal), call: u64, left: Left) -> Result<(), Fail> {
+fn torn_again(
+    rt: &(impl Abort + AllocGlobal),
+    words: &[u16],
+    call: u64,
+    left: Left,
+) -> Result<(), Fail> {
     let alloc = rt.alloc();
     let first = Stop { call, left };
     let from = calls_with(alloc, UNTIL, Stops::one(alloc, Device::CardA, first)?)?.card_a;
     let to = calls_with(alloc, AGAIN, Stops::one(alloc, Device::CardA, first)?)?.card_a;
     assert!(rt; from < to);
     for call in from..to {
-        torn_twice(rt, first, Stop { call, left })?;
+        torn_twice(rt, words, first, Stop { call, left })?;
     }
     Ok(())
 }
 
-/// The same for each call of that keeping.
-fn torn_in_repair(rt: &(impl Abort + AllocGlobal), left: Left) -> Result<(), Fail> {
+/// The same for each call of a keep.
+fn torn_in_keep(rt: &(impl Abort + AllocGlobal), keep: Keep, left: Left) -> Result<(), Fail> {
     let alloc = rt.alloc();
-    let from = calls_of(alloc, BEFORE)?.card_a;
-    let to = calls_of(alloc, BEHIND)?.card_a;
+    let from = calls_of(alloc, keep.before)?.card_a;
+    let to = calls_of(alloc, keep.behind)?.card_a;
     assert!(rt; from < to);
     for first in from..to {
-        torn_again(rt, first, left)?;
+        torn_again(rt, keep.words, first, left)?;
+    }
+    Ok(())
+}
+
+/// Of the first keep, and of the next one.
+fn torn_in_repair(rt: &(impl Abort + AllocGlobal), left: Left) -> Result<(), Fail> {
+    for keep in [FIRST_KEEP, NEXT_KEEP] {
+        torn_in_keep(rt, keep, left)?;
     }
     Ok(())
 }

@@ -1,10 +1,12 @@
-//! Each call of each device of an hour is stopped, in a run of its own, and many calls of all devices in longer runs: two cards are exchanged, one
-//! of them is torn out and put in again, and the power is cut. All that was acknowledged is there; and behind one more run the cards have what the
-//! unit tells of their slots. So it is by the original rule of minutes, and by the amended one.
+//! Each call of each device is stopped, in a run of its own: of six minutes with two drivers, behind which both are put in once more; of an hour, in which
+//! two cards are exchanged, one of them is torn out and put in again, and the power is cut; and many calls of all devices in longer runs. All that was
+//! acknowledged is there; and behind one more run the cards have what the unit tells of their slots, and the file of each matches that of the unit. So it
+//! is by the original rule of minutes, and by the amended one.
 ghost use Rattle.tach_media.specs.MemMedium.{memory_state};
 ghost use Rattle.unit_model.specs.Image.{IsUnit};
 
 use crate::recording::Recorded;
+use crate::runs::matching::{card_file, entries_that_match, unit_file};
 use crate::runs::ran::Ran;
 use crate::runs::running::{Devices, Stops, calls_by, new_devices_by};
 use minute_model::Rule;
@@ -22,6 +24,26 @@ const MINUTES: u16 = 130;
 
 /// The opening of a run alone.
 const START: &[u8] = b"start 1267401600\n";
+
+/// Six minutes with two drivers, of whom the first one comes once more, where a stop has torn out the card; else the line is refused.
+const SHORT: &[u8] = b"start 1267401600
+insert driver a
+insert codriver b
+run 60 0
+run 300 50
+insert driver a
+run 60 0
+";
+
+/// Ten minutes behind the first second both come again.
+const SHORT_AGAIN: &[u8] = b"start 1267402200
+insert driver a
+insert codriver b
+run 300 0
+withdraw driver
+withdraw codriver
+run 60 0
+";
 
 /// An hour: two cards are put in, and exchange their slots; one of them is pulled out and comes back; the power is cut; both are withdrawn. A
 /// line that finds its slot full, or empty, or no power, is refused.
@@ -74,7 +96,7 @@ run 60 0
 ";
 
 /// Two hours behind the first second both come again, and are withdrawn.
-const SECOND: &[u8] = b"start 1267408800
+const HOUR_AGAIN: &[u8] = b"start 1267408800
 insert driver a
 insert codriver b
 run 300 0
@@ -145,6 +167,23 @@ impl AllTold {
     }
 }
 
+/// What a run records, and what the one behind it.
+#[derive(Clone, Copy)]
+struct Traces {
+    first: &'static [u8],
+    second: &'static [u8],
+}
+
+const MINUTES_OF_TWO: Traces = Traces {
+    first: SHORT,
+    second: SHORT_AGAIN,
+};
+
+const HOUR_OF_TWO: Traces = Traces {
+    first: HOUR,
+    second: HOUR_AGAIN,
+};
+
 /// Four of these blocks.
 fn blocks(alloc: Global) -> Result<Vec<u8>, AllocError> {
     let mut text = START.to_vec(alloc)?;
@@ -155,13 +194,14 @@ fn blocks(alloc: Global) -> Result<Vec<u8>, AllocError> {
 }
 
 /// What both runs tell, and whether all that was acknowledged is there: behind the first one, and behind both, where the cards have just what the unit
-/// tells of their slots.
+/// tells of their slots; and whether the file of each then matches that of the unit.
 #[derive(Clone, Copy)]
 struct Both {
     first: Ran,
     second: Ran,
     holds: bool,
     agree: bool,
+    matched: bool,
 }
 
 impl Both {
@@ -173,6 +213,7 @@ impl Both {
             && self.second.refused == 0
             && self.holds
             && self.agree
+            && self.matched
     }
 }
 
@@ -187,31 +228,55 @@ fn run_first(alloc: Global, d: &mut Devices, text: &[u8]) -> Result<(Recorded, b
 }
 
 /// The second one, behind one that told this, on a unit that is read anew.
-fn run_second(alloc: Global, d: &mut Devices, first: &Outcome) -> Result<(Ran, bool), Fail> {
+fn run_second(
+    alloc: Global,
+    d: &mut Devices,
+    text: &[u8],
+    first: &Outcome,
+) -> Result<(Ran, bool), Fail> {
     d.renew_unit(alloc)?;
-    let recorded = d.record(alloc, SECOND)?;
+    let recorded = d.record(alloc, text)?;
     let told = told_by_all(alloc, d)?;
     let holds = told.hold_all(first) && told.hold_all(&recorded.outcome) && told.agree();
     Ok((Ran::of(&recorded), holds))
 }
 
-/// The rule of minutes of the unit of a run, and what a call that is stopped leaves.
+/// Whether each card has entries, and its file matches that of the unit.
+fn match_both(alloc: Global, d: &mut Devices) -> Result<bool, Fail> {
+    let image = d.unit_image(alloc)?;
+    let unit = unit_file(alloc, image)?;
+    let card_a = card_file(alloc, &mut d.card_a)?;
+    let card_b = card_file(alloc, &mut d.card_b)?;
+    let a = entries_that_match(alloc, unit.as_slice(), card_a.as_slice())?;
+    let b = entries_that_match(alloc, unit.as_slice(), card_b.as_slice())?;
+    Ok(a.unwrap_or(0) > 0 && b.unwrap_or(0) > 0)
+}
+
+/// What is recorded, by which rule of minutes, and what a call that is stopped leaves.
 #[derive(Clone, Copy)]
 struct Manner {
+    traces: Traces,
     rule: Rule,
     left: Left,
 }
 
 /// Both runs, with these stops in the first.
-fn run_both(alloc: Global, rule: Rule, text: &[u8], stops: Stops) -> Result<Both, Fail> {
+fn run_both(
+    alloc: Global,
+    rule: Rule,
+    first: &[u8],
+    second: &[u8],
+    stops: Stops,
+) -> Result<Both, Fail> {
     let mut d = new_devices_by(alloc, rule, stops)?;
-    let (recorded, holds) = run_first(alloc, &mut d, text)?;
-    let (second, agree) = run_second(alloc, &mut d, &recorded.outcome)?;
+    let (recorded, holds) = run_first(alloc, &mut d, first)?;
+    let (again, agree) = run_second(alloc, &mut d, second, &recorded.outcome)?;
     Ok(Both {
         first: Ran::of(&recorded),
-        second,
+        second: again,
         holds,
         agree,
+        matched: match_both(alloc, &mut d)?,
     })
 }
 
@@ -228,7 +293,8 @@ fn stop_call(
         left: manner.left,
     };
     let stops = Stops::one(alloc, device, stop)?;
-    let both = run_both(alloc, manner.rule, HOUR, stops)?;
+    let traces = manner.traces;
+    let both = run_both(alloc, manner.rule, traces.first, traces.second, stops)?;
     assert!(rt; both.is_whole(), "{call}");
     assert!(rt; both.first.failed == 1, "{call}");
     Ok(())
@@ -250,11 +316,10 @@ fn stop_calls(
 }
 
 /// Each call of each device, from the end of the opening to the last of a run without a stop.
-fn stop_each(rt: &(impl Abort + AllocGlobal), rule: Rule, left: Left) -> Result<(), Fail> {
+fn stop_each(rt: &(impl Abort + AllocGlobal), manner: Manner) -> Result<(), Fail> {
     let alloc = rt.alloc();
-    let manner = Manner { rule, left };
-    let opening = calls_by(alloc, rule, START)?;
-    let whole = calls_by(alloc, rule, HOUR)?;
+    let opening = calls_by(alloc, manner.rule, START)?;
+    let whole = calls_by(alloc, manner.rule, manner.traces.first)?;
     for device in [Device::Unit, Device::CardA, Device::CardB] {
         stop_calls(rt, manner, device, opening.of(device), whole.of(device))?;
     }
@@ -277,7 +342,7 @@ fn stop_often(rt: &(impl Abort + AllocGlobal), left: Left) -> Result<(), Fail> {
             card_a: stops(alloc, 6, card_a, 150, 1, left)?,
             card_b: stops(alloc, 5, card_b, 160, 1, left)?,
         };
-        let both = run_both(alloc, Rule::Original, &text, stops)?;
+        let both = run_both(alloc, Rule::Original, &text, HOUR_AGAIN, stops)?;
         assert!(rt; both.is_whole());
         assert!(rt; both.first.breaks >= 17);
     }
@@ -292,32 +357,57 @@ fn many_stops_in_a_run(rt: HostRuntime) -> Result<(), Fail> {
     Ok(())
 }
 
+/// Each call of six minutes by this rule.
+fn stop_minutes(rt: &(impl Abort + AllocGlobal), rule: Rule) -> Result<(), Fail> {
+    let traces = MINUTES_OF_TWO;
+    for left in [Left::Before, Left::After, Left::Torn(0xFF)] {
+        stop_each(rt, Manner { traces, rule, left })?;
+    }
+    Ok(())
+}
+
+/// Each call of an hour.
+fn stop_hour(rt: &(impl Abort + AllocGlobal), rule: Rule, left: Left) -> Result<(), Fail> {
+    let traces = HOUR_OF_TWO;
+    stop_each(rt, Manner { traces, rule, left })
+}
+
+#[test]
+fn minutes_of_two_drivers(rt: HostRuntime) -> Result<(), Fail> {
+    stop_minutes(&rt, Rule::Original)
+}
+
+#[test]
+fn minutes_of_two_drivers_by_the_amended_rule(rt: HostRuntime) -> Result<(), Fail> {
+    stop_minutes(&rt, Rule::Amended)
+}
+
 #[test]
 fn before_a_write(rt: HostRuntime) -> Result<(), Fail> {
-    stop_each(&rt, Rule::Original, Left::Before)
+    stop_hour(&rt, Rule::Original, Left::Before)
 }
 
 #[test]
 fn after_a_write(rt: HostRuntime) -> Result<(), Fail> {
-    stop_each(&rt, Rule::Original, Left::After)
+    stop_hour(&rt, Rule::Original, Left::After)
 }
 
 #[test]
 fn within_a_write(rt: HostRuntime) -> Result<(), Fail> {
-    stop_each(&rt, Rule::Original, Left::Torn(0xFF))
+    stop_hour(&rt, Rule::Original, Left::Torn(0xFF))
 }
 
 #[test]
 fn before_a_write_by_the_amended_rule(rt: HostRuntime) -> Result<(), Fail> {
-    stop_each(&rt, Rule::Amended, Left::Before)
+    stop_hour(&rt, Rule::Amended, Left::Before)
 }
 
 #[test]
 fn after_a_write_by_the_amended_rule(rt: HostRuntime) -> Result<(), Fail> {
-    stop_each(&rt, Rule::Amended, Left::After)
+    stop_hour(&rt, Rule::Amended, Left::After)
 }
 
 #[test]
 fn within_a_write_by_the_amended_rule(rt: HostRuntime) -> Result<(), Fail> {
-    stop_each(&rt, Rule::Amended, Left::Torn(0xFF))
+    stop_hour(&rt, Rule::Amended, Left::Torn(0xFF))
 }
