@@ -61,7 +61,7 @@ unfolding days_of
 items-few x = omega (arith, days-count (starts (3 * PARTS) DAYS x), length-starts (3 * PARTS) DAYS x)
 
 -- what is held stays so
-keeps-same : (held : Option (List ℕ)) → Keeps held held
+pub keeps-same : (held : Option (List ℕ)) → Keeps held held
 keeps-same None = tt
 keeps-same (Some bytes) = refl
 

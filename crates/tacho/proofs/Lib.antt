@@ -10,6 +10,7 @@ pub mod Endings
 pub mod Views
 pub mod Formats
 pub mod Upgraded
+pub mod Stated
 pub mod WordRows
 pub mod Recordings
 pub mod Unbroken
@@ -24,5 +25,6 @@ pub mod CardRuns
 pub mod Services
 pub mod LineServices
 pub mod Downloads
+pub mod PacketServices
 pub mod CardEnds
 pub mod Demo

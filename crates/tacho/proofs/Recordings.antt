@@ -15,7 +15,7 @@ use Rattle.run_opening.specs.declared.fault.RunFault.TheVariants as run
 use Rattle.run_outcome.specs.declared.outcome.Outcome.{Outcome}
 use Rattle.run_outcome.specs.Room.{IsReserved}
 use Rattle.tacho.specs.declared.end.Fault.{Fault}
-use Rattle.tacho.specs.declared.end.Fault.TheVariants.{Done, Usage, BadTrace, TooLong, BadUnit, ClockBack, SameCard, ReadFault, WriteFault, MediumFault, Memory, BadFile, BadCard, Changed}
+use Rattle.tacho.specs.declared.end.Fault.TheVariants.{Done, Usage, BadTrace, TooLong, BadUnit, ClockBack, SameCard, ReadFault, WriteFault, MediumFault, Memory, BadFile, BadCard, Changed, FileFault, LinkEnded}
 use Rattle.tacho.specs.declared.forms.Form.TheVariants.{Record}
 use Rattle.tacho.specs.End.{end_of, ended_by, IsBeforeDevices}
 use Rattle.tacho.specs.Outside.{Outside, SourceTold}
@@ -76,6 +76,8 @@ refused-no-run Memory refused run = refused
 refused-no-run (BadFile place) refused run = refused
 refused-no-run (BadCard field) refused run = refused
 refused-no-run Changed refused run = refused
+refused-no-run FileFault refused run = refused
+refused-no-run LinkEnded refused run = refused
 
 refused-late : (fault : Fault) → IsRefusal fault → IsBeforeDevices fault → ⊥
 refused-late (BadUnit place) refused early = early
@@ -92,6 +94,8 @@ refused-late Memory refused early = refused
 refused-late (BadFile place) refused early = refused
 refused-late (BadCard field) refused early = refused
 refused-late Changed refused early = refused
+refused-late FileFault refused early = refused
+refused-late LinkEnded refused early = refused
 
 refused-ends : (fault : Fault) → IsRefusal fault → IsRecordEnd fault
 refused-ends (BadUnit place) refused = tt
@@ -108,6 +112,8 @@ refused-ends Memory refused = tt
 refused-ends (BadFile place) refused = refused
 refused-ends (BadCard field) refused = refused
 refused-ends Changed refused = refused
+refused-ends FileFault refused = refused
+refused-ends LinkEnded refused = refused
 
 -- THE RUN WAS REFUSED
 pub ends-refused : (old new : Outside) (outcome : Outcome) (fault : Fault)

@@ -67,7 +67,7 @@ of-bad read wrote Bad (Err service.Failed) place is cause = absurd (cc)
 of-bad read wrote Bad (Err service.TooLong) place is cause = absurd (cc)
 
 -- the unit failed where the call ends so
-failed-is : (r : Result (Unit {0}) ServeFault) → has_failed r ≡ is_medium_fault (end_of_service r)
+pub failed-is : (r : Result (Unit {0}) ServeFault) → has_failed r ≡ is_medium_fault (end_of_service r)
 failed-is (Ok done) = refl
 failed-is (Err service.ReadFault) = refl
 failed-is (Err service.WriteFault) = refl

@@ -22,7 +22,7 @@ use Rattle.recorder_with_cards.specs.Ends.{recording_of}
 use Rattle.recorder_with_cards.proofs.WholeOdometer.{whole-odometer, day-whole}
 use Rattle.run_outcome.specs.declared.outcome.Outcome.{Outcome}
 use Rattle.tacho.specs.declared.end.Fault.{Fault}
-use Rattle.tacho.specs.declared.end.Fault.TheVariants.{Done, Usage, BadTrace, TooLong, BadUnit, ClockBack, SameCard, ReadFault, WriteFault, MediumFault, Memory, BadFile, BadCard, Changed}
+use Rattle.tacho.specs.declared.end.Fault.TheVariants.{Done, Usage, BadTrace, TooLong, BadUnit, ClockBack, SameCard, ReadFault, WriteFault, MediumFault, Memory, BadFile, BadCard, Changed, FileFault, LinkEnded}
 use Rattle.tacho.specs.Blank.{no_image}
 use Rattle.tacho.specs.Alone.{IsForUnit, NoVerdict, StartsAs, IsUnitFault, IsRefusedAlone}
 use Rattle.tacho.specs.Outside.{Outside, memory_of}
@@ -173,6 +173,8 @@ run-done old new Memory is rose sound = absurd is
 run-done old new (BadFile place) is rose sound = absurd is
 run-done old new (BadCard field) is rose sound = absurd is
 run-done old new Changed is rose sound = absurd is
+run-done old new FileFault is rose sound = absurd is
+run-done old new LinkEnded is rose sound = absurd is
 
 -- THE RUN IS DONE
 pub unit-run : (old new : Outside) (outcome : Outcome) (start : ℕ) (items : List Item) → IsForUnit items

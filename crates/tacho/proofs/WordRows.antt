@@ -2,8 +2,8 @@
 use Rattle.std.specs.Prelude.{◌≡◌, Some, None, [], ◌∷◌, ◌++◌, codes, replicate, refl}
 use Rattle.minute_model.specs.declared.Rule.TheVariants.{Original, Amended}
 use Rattle.trace_model.specs.declared.Card.TheVariants.{B}
-use Rattle.tacho.specs.declared.forms.Form.TheVariants.{Minutes, Upgrade, Serve, ServeHex, Download, Read, Help, Version}
-use Rattle.tacho.specs.declared.forms.Reading.TheVariants.{View, Match, MatchAll}
+use Rattle.tacho.specs.declared.forms.Form.TheVariants.{Minutes, Upgrade, State, Serve, ServeHex, ServePackets, Download, DownloadPackets, Read, Help, Version}
+use Rattle.tacho.specs.declared.forms.Reading.TheVariants.{View, Match, MatchAll, Totals}
 use Rattle.tacho.specs.declared.forms.TheConstants.{PLATE}
 use Rattle.tacho.specs.Texts.{word_in, number_in}
 use Rattle.trace_model.specs.Names.{card_named}
@@ -28,6 +28,10 @@ misspelled-row = refl
 upgrade-row : form_of (codes "upgrade" ∷ []) ≡ Some Upgrade
 unfolding form_of
 upgrade-row = refl
+
+state-row : form_of (codes "state" ∷ []) ≡ Some State
+unfolding form_of
+state-row = refl
 
 serve-row : form_of (codes "serve" ∷ []) ≡ Some Serve
 unfolding form_of
@@ -57,6 +61,14 @@ download-row : form_of (codes "download" ∷ []) ≡ Some Download
 unfolding form_of
 download-row = refl
 
+serve-packets-row : form_of (codes "serve" ∷ codes "packets" ∷ []) ≡ Some ServePackets
+unfolding form_of
+serve-packets-row = refl
+
+download-packets-row : form_of (codes "download" ∷ codes "packets" ∷ []) ≡ Some DownloadPackets
+unfolding form_of
+download-packets-row = refl
+
 no-noisy-row : form_of (codes "download" ∷ codes "noisy" ∷ codes "2147483648" ∷ []) ≡ None
 unfolding form_of number_in
 no-noisy-row = refl
@@ -72,6 +84,14 @@ match-row = refl
 match-all-row : form_of (codes "match" ∷ codes "all" ∷ []) ≡ Some (Read MatchAll)
 unfolding form_of
 match-all-row = refl
+
+totals-row : form_of (codes "totals" ∷ []) ≡ Some (Read (Totals None))
+unfolding form_of
+totals-row = refl
+
+chart-too-many-row : form_of (codes "chart" ∷ codes "last" ∷ codes "367" ∷ []) ≡ None
+unfolding form_of number_in
+chart-too-many-row = refl
 
 not-last-row : form_of (codes "view" ∷ codes "first" ∷ codes "1" ∷ []) ≡ None
 unfolding form_of

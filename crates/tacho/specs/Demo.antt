@@ -18,7 +18,7 @@ use Rattle.unit_download.specs.declared.measuring.FileSize.{FileSize}
 use Rattle.unit_download.specs.Measures.{IsSizeOf}
 use Rattle.tacho.specs.declared.demo_command.TheConstants.{VEHICLE, CARD}
 use Rattle.tacho.specs.declared.end.Fault.{Fault}
-use Rattle.tacho.specs.declared.end.Fault.TheVariants.{Done, Usage, BadTrace, TooLong, BadUnit, ReadFault, WriteFault, MediumFault, Memory, BadFile, BadCard, Changed}
+use Rattle.tacho.specs.declared.end.Fault.TheVariants.{Done, Usage, BadTrace, TooLong, BadUnit, ReadFault, WriteFault, MediumFault, Memory, BadFile, BadCard, Changed, FileFault, LinkEnded}
 use Rattle.tacho.specs.Outside.{Outside}
 use Rattle.tacho.specs.Outcomes.{IsEmpty, IsRun, refusal_of_run, count_line, outcome_text}
 use Rattle.tacho.specs.CardsRecorded.{devices_of, AreSound}
@@ -49,6 +49,8 @@ IsDemoEnd (TooLong n) = ⊥
 IsDemoEnd ReadFault = ⊥
 IsDemoEnd (BadFile place) = ⊥
 IsDemoEnd (BadCard field) = ⊥
+IsDemoEnd FileFault = ⊥
+IsDemoEnd LinkEnded = ⊥
 IsDemoEnd _ = Unit {0}
 
 -- unit and card a tell an image, card b started with this one alone, and no clock has come to its end

@@ -7,8 +7,9 @@ use Rattle.tacho_types.specs.declared.texts.Registration.{Registration}
 use Rattle.card_files.specs.declared.new_card.CardIdentity.{CardIdentity}
 use Rattle.unit_memory.specs.declared.format.Identity.{Identity}
 use Rattle.tacho.specs.declared.forms.Form.{Form}
-use Rattle.tacho.specs.declared.forms.Form.TheVariants.{Minutes, Record, FormatCard, FormatUnit, Upgrade, Serve, ServeHex, Download, DownloadNoisy, Read, CardFile, Demo, Help, Version}
-use Rattle.tacho.specs.declared.forms.Reading.TheVariants.{View, Match, MatchAll}
+use Rattle.tacho.specs.declared.forms.Form.TheVariants.{Minutes, Record, FormatCard, FormatUnit, Upgrade, State, Serve, ServeHex, ServePackets, Download, DownloadNoisy, DownloadPackets, Read, CardFile, Demo, Help, Version}
+use Rattle.tacho.specs.declared.forms.Reading.{Reading}
+use Rattle.tacho.specs.declared.forms.Reading.TheVariants.{View, Match, MatchAll, Totals, Chart}
 use Rattle.tacho.specs.declared.forms.TheConstants.{CARD_NUMBER, NAME, PLATE, VIN, NATION_MOST, LIMIT_LEAST, LIMIT_MOST, LAST_LEAST, LAST_MOST, SEED_MOST}
 use Rattle.tacho_types.specs.Texts.{padded_text}
 use Rattle.tacho.specs.Texts.{word_in, number_in}
@@ -48,18 +49,30 @@ unit_in nation plate vin limit = do
   limit ← number_in LIMIT_LEAST LIMIT_MOST limit
   Some (record { vin = vin; registration = registration; limit = limit })
 
--- `minutes`, `record`, `serve`, `download`, `view`, `match` and `upgrade`; `help`, also `--help`, and `--version`
+-- `view`, `match`, `totals` and `chart`
+abbrev pub reading_of : List ℕ → Option Reading
+reading_of word =
+    if bytes_eq word (codes "view") then Some (View None)
+    else (if bytes_eq word (codes "match") then Some Match
+    else (if bytes_eq word (codes "totals") then Some (Totals None)
+    else (if bytes_eq word (codes "chart") then Some (Chart None) else None)))
+
+abbrev pub read_form : List ℕ → Option Form
+read_form word = do
+  reading ← reading_of word
+  Some (Read reading)
+
+-- `minutes`, `record`, `serve`, `download`, `upgrade` and `state`; `help`, also `--help`, and `--version`; and what is told of a file
 abbrev pub form_of_one : List ℕ → Option Form
 form_of_one word =
     if bytes_eq word (codes "minutes") then Some (Minutes Original)
     else (if bytes_eq word (codes "record") then Some Record
     else (if bytes_eq word (codes "serve") then Some Serve
     else (if bytes_eq word (codes "download") then Some Download
-    else (if bytes_eq word (codes "view") then Some (Read (View None))
-    else (if bytes_eq word (codes "match") then Some (Read Match)
     else (if bytes_eq word (codes "upgrade") then Some Upgrade
+    else (if bytes_eq word (codes "state") then Some State
     else (if bytes_eq word (codes "help") || bytes_eq word (codes "--help") then Some Help
-    else (if bytes_eq word (codes "--version") then Some Version else None))))))))
+    else (if bytes_eq word (codes "--version") then Some Version else read_form word)))))))
 
 -- `a` and `b`
 abbrev pub file_of : (letter : List ℕ) → Option Form
@@ -73,14 +86,17 @@ demo_of seed = do
   seed ← number_in 0 SEED_MOST seed
   Some (Demo seed)
 
--- `minutes 2009` and `match all`; `serve --hex`, of which the second word alone begins with `-`; `card` and `demo`, and what follows them
+-- `minutes 2009` and `match all`; `serve --hex`, of which the second word alone begins with `-`; `serve packets` and `download packets`;
+-- `card` and `demo`, and what follows them
 abbrev pub form_of_two : (command option : List ℕ) → Option Form
 form_of_two command option =
     if bytes_eq command (codes "minutes") && bytes_eq option (codes "2009") then Some (Minutes Amended)
     else (if bytes_eq command (codes "serve") && bytes_eq option (codes "--hex") then Some ServeHex
+    else (if bytes_eq command (codes "serve") && bytes_eq option (codes "packets") then Some ServePackets
+    else (if bytes_eq command (codes "download") && bytes_eq option (codes "packets") then Some DownloadPackets
     else (if bytes_eq command (codes "match") && bytes_eq option (codes "all") then Some (Read MatchAll)
     else (if bytes_eq command (codes "card") then file_of option
-    else (if bytes_eq command (codes "demo") then demo_of option else None))))
+    else (if bytes_eq command (codes "demo") then demo_of option else None))))))
 
 -- `unit N PLATE VIN LIMIT`
 abbrev pub unit_form : (nation plate vin limit : List ℕ) → Option Form
@@ -105,13 +121,15 @@ form_of_six command what first second third fourth =
     if bytes_eq command (codes "format") then format_of what first second third fourth else None
 
 -- `last N`, N from 1 to 366
-abbrev pub last_form : List ℕ → Option Form
-last_form count = do
-  days ← number_in LAST_LEAST LAST_MOST count
-  Some (Read (View (Some days)))
+abbrev pub last_in : (which count : List ℕ) → Option ℕ
+last_in which count = if bytes_eq which (codes "last") then number_in LAST_LEAST LAST_MOST count else None
 
-abbrev pub view_of : (which count : List ℕ) → Option Form
-view_of which count = if bytes_eq which (codes "last") then last_form count else None
+-- `view`, `totals` and `chart`, of so many last days
+abbrev pub days_form : (command : List ℕ) (days : ℕ) → Option Form
+days_form command days =
+    if bytes_eq command (codes "view") then Some (Read (View (Some days)))
+    else (if bytes_eq command (codes "totals") then Some (Read (Totals (Some days)))
+    else (if bytes_eq command (codes "chart") then Some (Read (Chart (Some days))) else None))
 
 -- `noisy X`, X from 0 to 2147483647
 abbrev pub noisy_form : List ℕ → Option Form
@@ -122,11 +140,15 @@ noisy_form seed = do
 abbrev pub noisy_of : (which seed : List ℕ) → Option Form
 noisy_of which seed = if bytes_eq which (codes "noisy") then noisy_form seed else None
 
--- `view` or `download`, and what follows it
+-- one of these, and `last N` behind it
+abbrev pub last_form : (command which count : List ℕ) → Option Form
+last_form command which count = do
+  days ← last_in which count
+  days_form command days
+
+-- `download` and what follows it, or one of these
 abbrev pub form_of_three : (command which count : List ℕ) → Option Form
-form_of_three command which count =
-    if bytes_eq command (codes "view") then view_of which count
-    else (if bytes_eq command (codes "download") then noisy_of which count else None)
+form_of_three command which count = if bytes_eq command (codes "download") then noisy_of which count else last_form command which count
 
 -- what the words ask for; nothing where they are in no form
 unfoldable pub form_of : List (List ℕ) → Option Form

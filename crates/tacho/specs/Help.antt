@@ -20,16 +20,23 @@ help_text = as_lines (
     codes "tacho record < TRACE                     record a trace on unit.img, card-a.img and card-b.img" ∷
     codes "tacho serve                              answer a downloader's frames" ∷
     codes "tacho serve --hex                        answer frames that are lines of hexadecimal digits" ∷
+    codes "tacho serve packets                      answer a downloader's packets, which may be lost and repeated" ∷
     codes "tacho download > FILE                    write the unit's file" ∷
     codes "tacho download noisy X > FILE            write it over a link that loses and repeats, drawn from X" ∷
+    codes "tacho download packets                   ask a unit by packets, and write its file to unit.ddd" ∷
     codes "tacho card a|b > FILE                    write a card's file" ∷
     codes "tacho view < FILE                        print the minutes of a unit's file, or a card's entries" ∷
     codes "tacho view last N < FILE                 print its last N days (1 to 366)" ∷
+    codes "tacho totals < FILE                      print the hours of each day of such a file" ∷
+    codes "tacho totals last N < FILE               print those of its last N days" ∷
+    codes "tacho chart < FILE > PICTURE             draw its days as one SVG" ∷
+    codes "tacho chart last N < FILE > PICTURE      draw its last N days" ∷
     codes "tacho match < FILES                      say whether a card's file, behind a unit's, stands in that" ∷
     codes "tacho match all < FILES                  print each difference, and the counts" ∷
     codes "tacho format unit N PLATE VIN LIMIT      make a new unit in unit.img: what it held is lost" ∷
     codes "tacho format a|b N NUMBER SURNAME FIRST  make a new card in card-a.img or card-b.img, likewise" ∷
     codes "tacho upgrade                            give the unit the amended rule of minutes, for good" ∷
+    codes "tacho state                              print what the unit and the cards tell of themselves" ∷
     codes "tacho demo X                             record forty days drawn from X on a new unit and card a" ∷
     codes "tacho help, tacho --help                 print these lines" ∷
     codes "tacho --version                          print the version, and that of the toolchain" ∷

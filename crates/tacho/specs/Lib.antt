@@ -14,10 +14,13 @@ pub mod CardsRecorded
 pub mod Recorded
 pub mod Formatting
 pub mod Upgrading
+pub mod State
 pub mod Serving
 pub mod Downloading
+pub mod Packets
 pub mod View
 pub mod Match
+pub mod Reports
 pub mod Read
 pub mod CardFile
 pub mod Demo

@@ -12,7 +12,7 @@ use Rattle.trace_model.specs.declared.Item.{Item}
 use Rattle.trace_text.specs.declared.lines_trace.Form.TheVariants.{Whole}
 use Rattle.trace_text.specs.Judged.{IsTraceText}
 use Rattle.tacho.specs.declared.end.Fault.{Fault}
-use Rattle.tacho.specs.declared.end.Fault.TheVariants.{Done, Usage, BadUnit, ClockBack, SameCard, WriteFault, MediumFault, BadFile, BadCard, Changed}
+use Rattle.tacho.specs.declared.end.Fault.TheVariants.{Done, Usage, BadUnit, ClockBack, SameCard, WriteFault, MediumFault, BadFile, BadCard, Changed, FileFault, LinkEnded}
 use Rattle.tacho.specs.Outside.{Outside}
 
 -- an outcome has no line
@@ -45,6 +45,8 @@ IsRecordEnd Usage = ⊥
 IsRecordEnd (BadFile place) = ⊥
 IsRecordEnd (BadCard field) = ⊥
 IsRecordEnd Changed = ⊥
+IsRecordEnd FileFault = ⊥
+IsRecordEnd LinkEnded = ⊥
 IsRecordEnd _ = Unit {0}
 
 -- the trace was recorded, whether or not that could be printed

@@ -1,5 +1,5 @@
 -- THE PROGRAM: how its one call ends, and what it leaves untouched (profile). What each form promises stands in the form's own
--- file: Minutes, Recorded, Serving, Downloading, Read, CardFile, Formatting, Upgrading, Demo, Help.
+-- file: Minutes, Recorded, Serving, Downloading, Packets, Read, CardFile, Formatting, Upgrading, State, Demo, Help.
 use Rattle.std.specs.Prelude.{◌≡◌, ◌↔◌, ◌≤◌, List, [], Option, Some, None, IfSome}
 use Rattle.tach_media.specs.Medium.{State, Rose}
 use Rattle.trace_model.specs.declared.Card.TheVariants.{A, B}
@@ -12,7 +12,7 @@ use Rattle.tacho.specs.declared.end.Ended.{Ended}
 use Rattle.run_outcome.specs.declared.outcome.Outcome.{Outcome}
 use Rattle.unit_download.specs.declared.wire.Passed.{Passed}
 use Rattle.tacho.specs.declared.forms.Form.{Form}
-use Rattle.tacho.specs.declared.forms.Form.TheVariants.{Minutes, Record, FormatCard, FormatUnit, Upgrade, Serve, ServeHex, Download, DownloadNoisy, Read, CardFile, Demo, Help, Version}
+use Rattle.tacho.specs.declared.forms.Form.TheVariants.{Minutes, Record, FormatCard, FormatUnit, Upgrade, State as AskState, Serve, ServeHex, ServePackets, Download, DownloadNoisy, DownloadPackets, Read, CardFile, Demo, Help, Version}
 use Rattle.tacho.specs.End.{status_of, IsBeforeDevices}
 use Rattle.tacho.specs.Outside.{Outside, memory_of}
 use Rattle.tacho.specs.Minutes.{EndsMinutes}
@@ -20,9 +20,11 @@ use Rattle.tacho.specs.Outcomes.{IsEmpty}
 use Rattle.tacho.specs.Recorded.{EndsRecord}
 use Rattle.tacho.specs.Serving.{EndsServe, EndsServeHex}
 use Rattle.tacho.specs.Downloading.{EndsDownload}
+use Rattle.tacho.specs.Packets.{EndsServePackets, IsPacketsEnd}
 use Rattle.tacho.specs.Read.{Prints, IsBad, EndsReading}
 use Rattle.tacho.specs.Formatting.{IsCard, EndsIssue, EndsMaking}
 use Rattle.tacho.specs.Upgrading.{EndsUpgrade}
+use Rattle.tacho.specs.State.{EndsState}
 use Rattle.tacho.specs.CardFile.{EndsCard}
 use Rattle.tacho.specs.Demo.{EndsDemo}
 use Rattle.tacho.specs.Help.{help_text, version_text, EndsText}
@@ -41,10 +43,13 @@ EndsForm (FormatCard A identity) old new ended = EndsIssue CardA identity old.ca
 EndsForm (FormatCard B identity) old new ended = EndsIssue CardB identity old.card_b new.card_b old.sink new.sink ended.fault
 EndsForm (FormatUnit identity) old new ended = EndsMaking identity old.unit new.unit old.sink new.sink ended.fault
 EndsForm Upgrade old new ended = EndsUpgrade old.unit new.unit old.sink new.sink ended.fault
+EndsForm AskState old new ended = EndsState old new ended.fault
 EndsForm Serve old new ended = EndsServe old new ended.fault
 EndsForm ServeHex old new ended = EndsServeHex old new ended.fault
+EndsForm ServePackets old new ended = EndsServePackets old new ended.fault
 EndsForm Download old new ended = EndsDownload old new ended.wire ended.fault
 EndsForm (DownloadNoisy seed) old new ended = EndsDownload old new ended.wire ended.fault
+EndsForm DownloadPackets old new ended = IsPacketsEnd ended.fault
 EndsForm (Read reading) old new ended = EndsReading (Prints reading) (IsBad reading) old new ended.fault
 EndsForm (CardFile A) old new ended = EndsCard CardA old.card_a new.card_a old.sink new.sink ended.fault
 EndsForm (CardFile B) old new ended = EndsCard CardB old.card_b new.card_b old.sink new.sink ended.fault
@@ -73,10 +78,13 @@ LeavesOthers (Some (FormatCard A identity)) source unit card_a card_b = source �
 LeavesOthers (Some (FormatCard B identity)) source unit card_a card_b = source × unit × card_a
 LeavesOthers (Some (FormatUnit identity)) source unit card_a card_b = source × card_a × card_b
 LeavesOthers (Some Upgrade) source unit card_a card_b = source × card_a × card_b
+LeavesOthers (Some AskState) source unit card_a card_b = source
 LeavesOthers (Some Serve) source unit card_a card_b = card_a × card_b
 LeavesOthers (Some ServeHex) source unit card_a card_b = card_a × card_b
+LeavesOthers (Some ServePackets) source unit card_a card_b = card_a × card_b
 LeavesOthers (Some Download) source unit card_a card_b = source × card_a × card_b
 LeavesOthers (Some (DownloadNoisy seed)) source unit card_a card_b = source × card_a × card_b
+LeavesOthers (Some DownloadPackets) source unit card_a card_b = unit × card_a × card_b
 LeavesOthers (Some (Read reading)) source unit card_a card_b = unit × card_a × card_b
 LeavesOthers (Some (CardFile A)) source unit card_a card_b = source × unit × card_b
 LeavesOthers (Some (CardFile B)) source unit card_a card_b = source × unit × card_a
@@ -103,12 +111,16 @@ pub record Ends (asked : Option Form) (old new : Outside) (ended : Ended) : Type
   pub causes : HasCauses old new ended.fault
 
 -- what reads all of its source before it uses a device or prints, if it reads any: each form but `serve`, `serve --hex`, `download`,
--- `download noisy`, `card a` and `card b`, which write as they read, and `demo`, which reads none
+-- `download noisy`, `serve packets`, `download packets`, `card a` and `card b`, which write as they read, and `state` and `demo`,
+-- which read none
 abbrev pub ReadsFirst : Option Form → Type 0
+ReadsFirst (Some AskState) = ⊥
 ReadsFirst (Some Serve) = ⊥
 ReadsFirst (Some ServeHex) = ⊥
+ReadsFirst (Some ServePackets) = ⊥
 ReadsFirst (Some Download) = ⊥
 ReadsFirst (Some (DownloadNoisy seed)) = ⊥
+ReadsFirst (Some DownloadPackets) = ⊥
 ReadsFirst (Some (CardFile card)) = ⊥
 ReadsFirst (Some (Demo seed)) = ⊥
 ReadsFirst asked = Unit {0}

@@ -5,12 +5,13 @@ use Rattle.tach_media.specs.Medium.{Rose}
 use Rattle.tach_media.specs.Streams.{AppendsFront}
 use Rattle.card_match.specs.Files.{IsBadSource}
 use Rattle.tacho.specs.declared.forms.Reading.{Reading}
-use Rattle.tacho.specs.declared.forms.Reading.TheVariants.{View, Match, MatchAll}
+use Rattle.tacho.specs.declared.forms.Reading.TheVariants.{View, Match, MatchAll, Totals, Chart}
 use Rattle.tacho.specs.declared.end.Fault.{Fault}
 use Rattle.tacho.specs.declared.end.Fault.TheVariants.{Done, TooLong, ReadFault, WriteFault, Memory, BadFile}
 use Rattle.tacho.specs.Outside.{Outside}
 use Rattle.tacho.specs.View.{PrintsFile, IsBadFile}
 use Rattle.tacho.specs.Match.{PrintsMatch, PrintsDifferences}
+use Rattle.tacho.specs.Reports.{PrintsTotals, PrintsChart}
 
 -- a source has at most so many bytes
 abbrev pub most_bytes : ℕ
@@ -21,12 +22,16 @@ abbrev pub Prints : Reading → (bytes out : List ℕ) → Type 0
 Prints (View last) bytes out = PrintsFile last bytes out
 Prints Match bytes out = PrintsMatch bytes out
 Prints MatchAll bytes out = PrintsDifferences bytes out
+Prints (Totals last) bytes out = PrintsTotals last bytes out
+Prints (Chart last) bytes out = PrintsChart last bytes out
 
 -- the bytes are outside the grammar, first at this place
 abbrev pub IsBad : Reading → (place : ℕ) → List ℕ → Type 0
 IsBad (View last) place bytes = IsBadFile place bytes
 IsBad Match place bytes = IsBadSource place bytes
 IsBad MatchAll place bytes = IsBadSource place bytes
+IsBad (Totals last) place bytes = IsBadFile place bytes
+IsBad (Chart last) place bytes = IsBadFile place bytes
 
 -- the file is bad at a place of which this holds, or memory ran out
 abbrev pub IsUnshown : (ℕ → Type 0) → Fault → Type 0

@@ -37,6 +37,10 @@ pub enum Fault {
     Memory,
     /// The unit gave no answer to a frame of the loader, or one that the loader refuses.
     Changed,
+    /// The file of a download by packets failed.
+    FileFault,
+    /// The source of a download by packets ended before the download did.
+    LinkEnded,
 }
 
 /// How the call ended.
@@ -75,6 +79,8 @@ impl Ended {
             Fault::BadFile(_) => 11,
             Fault::BadCard(_) => 12,
             Fault::Changed => 13,
+            Fault::FileFault => 8,
+            Fault::LinkEnded => 14,
         };
         Ended {
             status,

@@ -3,7 +3,7 @@ ghost use Rattle.std.specs.Prelude.{◌≡◌, ◌∷◌, ◌+◌, ◌≤◌, If
 ghost use Rattle.std.specs.List.{list_all};
 ghost use Rattle.tacho_types.specs.Texts.{padded_text};
 ghost use Rattle.tacho.specs.Texts.{is_character, is_word, begins_with_dash, word_in, number_in};
-ghost use Rattle.tacho.specs.Forms.{name_in, card_in, registration_in, unit_in, form_of_one, form_of_two, file_of, demo_of, view_of, noisy_of, form_of_three, format_of, form_of_six, form_of};
+ghost use Rattle.tacho.specs.Forms.{name_in, card_in, registration_in, unit_in, reading_of, form_of_one, form_of_two, file_of, demo_of, last_in, days_form, last_form, noisy_of, form_of_three, format_of, form_of_six, form_of};
 
 use crate::words::Words;
 use card_files::CardIdentity;
@@ -34,10 +34,10 @@ pub const LIMIT_LEAST: u8 = 1;
 /// The greatest speed limit in km/h.
 pub const LIMIT_MOST: u8 = 254;
 
-/// The least number of days that `view last N` takes.
+/// The least number of days that `last N` takes.
 pub const LAST_LEAST: u32 = 1;
 
-/// The greatest number of days that `view last N` takes: so many days a unit keeps.
+/// The greatest number of days that `last N` takes: so many days a unit keeps.
 pub const LAST_MOST: u32 = 366;
 
 /// The greatest number that a demonstration is drawn from.
@@ -56,14 +56,20 @@ pub enum Form {
     FormatUnit { identity: Identity },
     /// `upgrade`: the unit gets version 2 with the amended rule of minutes.
     Upgrade,
+    /// `state`: what the unit and the cards tell of themselves is printed.
+    State,
     /// `serve`: the unit answers the frames among the bytes of the source.
     Serve,
     /// `serve --hex`: the same of lines of hexadecimal digits, each answer as a line.
     ServeHex,
+    /// `serve packets`: the unit's end of a link of packets.
+    ServePackets,
     /// `download`: the unit's file is written.
     Download,
     /// `download noisy X`: the same over a link that loses, repeats and delays, as it is drawn from this number, from 0 to 2147483647.
     DownloadNoisy { seed: u32 },
+    /// `download packets`: the loader's end of a link of packets; the unit's file goes to a file.
+    DownloadPackets,
     /// What a file tells is printed: it is read to its end first.
     Read { reading: Reading },
     /// `card a` and `card b`: the card's file is written.
@@ -85,6 +91,10 @@ pub enum Reading {
     Match,
     /// `match all`: which of them do not, and how they differ.
     MatchAll,
+    /// `totals`: the hours of each day of a unit file or a card file; `totals last N`: of its last so many.
+    Totals { last: Option<u32> },
+    /// `chart`: a picture of these days; `chart last N`: of the last so many.
+    Chart { last: Option<u32> },
 }
 
 /// What the words ask for, if they are in a form that is known. The test takes no memory.
@@ -124,24 +134,39 @@ fn form_of_one(word: &str) -> Option<Form>
     if is_text(word, "download") {
         return Some(Form::Download);
     }
-    if is_text(word, "view") {
-        return Some(Form::Read {
-            reading: Reading::View { last: None },
-        });
-    }
-    if is_text(word, "match") {
-        return Some(Form::Read {
-            reading: Reading::Match,
-        });
-    }
     if is_text(word, "upgrade") {
         return Some(Form::Upgrade);
+    }
+    if is_text(word, "state") {
+        return Some(Form::State);
     }
     if is_text(word, "help") || is_text(word, "--help") {
         return Some(Form::Help);
     }
     if is_text(word, "--version") {
         return Some(Form::Version);
+    }
+    let Some(reading) = reading_of(word) else {
+        return None;
+    };
+    Some(Form::Read { reading })
+}
+
+/// What is told of a file by one word.
+fn reading_of(word: &str) -> Option<Reading>
+    ensures { result ≡ reading_of word.now }
+{
+    if is_text(word, "view") {
+        return Some(Reading::View { last: None });
+    }
+    if is_text(word, "match") {
+        return Some(Reading::Match);
+    }
+    if is_text(word, "totals") {
+        return Some(Reading::Totals { last: None });
+    }
+    if is_text(word, "chart") {
+        return Some(Reading::Chart { last: None });
     }
     None
 }
@@ -157,6 +182,12 @@ fn form_of_two(command: &str, option: &str) -> Option<Form>
     }
     if is_text(command, "serve") && is_text(option, "--hex") {
         return Some(Form::ServeHex);
+    }
+    if is_text(command, "serve") && is_text(option, "packets") {
+        return Some(Form::ServePackets);
+    }
+    if is_text(command, "download") && is_text(option, "packets") {
+        return Some(Form::DownloadPackets);
     }
     if is_text(command, "match") && is_text(option, "all") {
         return Some(Form::Read {
@@ -196,13 +227,10 @@ fn demo_of(seed: &str) -> Option<Form>
 fn form_of_three(command: &str, which: &str, count: &str) -> Option<Form>
     ensures { result ≡ form_of_three command.now which.now count.now }
 {
-    if is_text(command, "view") {
-        return view_of(which, count);
-    }
     if is_text(command, "download") {
         return noisy_of(which, count);
     }
-    None
+    last_form(command, which, count)
 }
 
 /// Which noisy download is asked for.
@@ -218,16 +246,44 @@ fn noisy_of(which: &str, seed: &str) -> Option<Form>
     None
 }
 
-/// Of how many last days the view is to be.
-fn view_of(which: &str, count: &str) -> Option<Form>
-    ensures { result ≡ view_of which.now count.now }
+/// `last N` behind one of the words that tell of days.
+fn last_form(command: &str, which: &str, count: &str) -> Option<Form>
+    ensures { result ≡ last_form command.now which.now count.now }
+{
+    let Some(days) = last_in(which, count) else {
+        return None;
+    };
+    days_form(command, days)
+}
+
+/// Of how many last days is to be told.
+fn last_in(which: &str, count: &str) -> Option<u32>
+    ensures { result ≡ last_in which.now count.now }
 {
     if is_text(which, "last") {
-        let Some(days) = number(count, LAST_LEAST, LAST_MOST) else {
-            return None;
-        };
+        return number(count, LAST_LEAST, LAST_MOST);
+    }
+    None
+}
+
+/// What is told of so many last days.
+fn days_form(command: &str, days: u32) -> Option<Form>
+    ensures { result ≡ days_form command.now days }
+{
+    let last = Some(days);
+    if is_text(command, "view") {
         return Some(Form::Read {
-            reading: Reading::View { last: Some(days) },
+            reading: Reading::View { last },
+        });
+    }
+    if is_text(command, "totals") {
+        return Some(Form::Read {
+            reading: Reading::Totals { last },
+        });
+    }
+    if is_text(command, "chart") {
+        return Some(Form::Read {
+            reading: Reading::Chart { last },
         });
     }
     None

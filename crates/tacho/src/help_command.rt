@@ -13,16 +13,23 @@ tacho minutes 2009 < TRACE               print them by the rule as amended in 20
 tacho record < TRACE                     record a trace on unit.img, card-a.img and card-b.img
 tacho serve                              answer a downloader's frames
 tacho serve --hex                        answer frames that are lines of hexadecimal digits
+tacho serve packets                      answer a downloader's packets, which may be lost and repeated
 tacho download > FILE                    write the unit's file
 tacho download noisy X > FILE            write it over a link that loses and repeats, drawn from X
+tacho download packets                   ask a unit by packets, and write its file to unit.ddd
 tacho card a|b > FILE                    write a card's file
 tacho view < FILE                        print the minutes of a unit's file, or a card's entries
 tacho view last N < FILE                 print its last N days (1 to 366)
+tacho totals < FILE                      print the hours of each day of such a file
+tacho totals last N < FILE               print those of its last N days
+tacho chart < FILE > PICTURE             draw its days as one SVG
+tacho chart last N < FILE > PICTURE      draw its last N days
 tacho match < FILES                      say whether a card's file, behind a unit's, stands in that
 tacho match all < FILES                  print each difference, and the counts
 tacho format unit N PLATE VIN LIMIT      make a new unit in unit.img: what it held is lost
 tacho format a|b N NUMBER SURNAME FIRST  make a new card in card-a.img or card-b.img, likewise
 tacho upgrade                            give the unit the amended rule of minutes, for good
+tacho state                              print what the unit and the cards tell of themselves
 tacho demo X                             record forty days drawn from X on a new unit and card a
 tacho help, tacho --help                 print these lines
 tacho --version                          print the version, and that of the toolchain
@@ -53,7 +60,7 @@ pub fn print_version<K: Sink>(sink: &mut K) -> Result<(), Fault>
 }
 
 /// Prints a text.
-fn print_text<K: Sink>(text: &[u8], sink: &mut K) -> Result<(), Fault>
+pub(crate) fn print_text<K: Sink>(text: &[u8], sink: &mut K) -> Result<(), Fault>
     ensures ends { EndsText text.now (record { held = K.held sink.old; faults = K.faults sink.old })
         (record { held = K.held sink.new; faults = K.faults sink.new }) (end_of result) }
     ensures counts { K.faults sink.old ≤ K.faults sink.new }

@@ -1,5 +1,5 @@
-//! The program: it hands its words and its streams to the top call, prints the fault's line on standard error, and ends
-//! with its status.
+//! The program: it hands its words and its streams to the top call, prints a line on standard error for each call that failed in a run, and
+//! the fault's, and ends with its status.
 #![tactic(auto)]
 
 ghost use Rattle.tach_media.specs.Medium.{IsUntouched};
@@ -18,9 +18,12 @@ mod match_command;
 mod minutes;
 mod minutes_command;
 mod outcome_text;
+mod packets_command;
 mod reading_command;
 mod record_command;
+mod report_command;
 mod serve_command;
+mod state_command;
 mod top;
 mod upgrade_command;
 mod view_command;
@@ -29,12 +32,14 @@ mod words;
 use card_commands::SimCard;
 use card_layout::LARGEST_IMAGE;
 use end::{Ended, Fault};
+use failure_lines::put_failures;
 use forms::{Form, form_of};
+use packet_service::FileSink;
 use run_model::Device;
 use std::fs::File;
 use std::io::ErrorKind;
 use std::process::ExitCode;
-use std::{env, io, str};
+use std::{env, fs, io, str};
 use tach_media::{FileMedium, Medium, StdSink, StdSource};
 use tacho_types::{FullCardNumber, write_card_number};
 use top::{nothing, tacho};
@@ -70,6 +75,8 @@ enum Access {
     Passing,
     /// It reads them: also such as can't be written, and beside other forms that read.
     Reading,
+    /// The same of those that are there: it makes none.
+    Looking,
 }
 
 fn access_of(words: &Words) -> Access {
@@ -78,10 +85,12 @@ fn access_of(words: &Words) -> Access {
         Some(
             Form::Serve
             | Form::ServeHex
+            | Form::ServePackets
             | Form::Download
             | Form::DownloadNoisy { .. }
             | Form::CardFile { .. },
         ) => Access::Reading,
+        Some(Form::State) => Access::Looking,
         _ => Access::Lasting,
     }
 }
@@ -99,6 +108,15 @@ fn file<'a>(
         Access::Lasting => FileMedium::new(rt, path, size),
         Access::Passing => FileMedium::without_waiting(rt, path, size),
         Access::Reading => FileMedium::for_reading(rt, path, size),
+        Access::Looking => FileMedium::for_reading(rt, path_there(rt, path), size),
+    }
+}
+
+/// The path of a file that is there and has bytes; of any other one that no file has, so that none is made.
+fn path_there<'a>(rt: &HostRuntime, path: &'a str) -> &'a str {
+    match fs::metadata(rt, path) {
+        Ok(metadata) if metadata.len() > 0 => path,
+        _ => "",
     }
 }
 
@@ -116,6 +134,7 @@ fn run(rt: &HostRuntime) -> Ended {
                 &words,
                 &mut StdSource::new(rt.stdin()),
                 &mut StdSink::new(rt.stdout()),
+                &mut FileSink::new(rt, "unit.ddd"),
                 &mut file(rt, "unit.img", IMAGE_SIZE, access),
                 &mut SimCard::new(file(rt, "card-a.img", LARGEST_IMAGE, access)),
                 &mut SimCard::new(file(rt, "card-b.img", LARGEST_IMAGE, access)),
@@ -156,11 +175,14 @@ fn tell(rt: &HostRuntime, fault: Fault) -> io::Result<()> {
         Fault::BadFile(place) => eprintln!(rt; "bad file at {place}"),
         Fault::BadCard(field) => eprintln!(rt; "bad card field {field}"),
         Fault::Changed => eprintln!(rt; "unit changed"),
+        Fault::FileFault => eprintln!(rt; "write fault unit.ddd"),
+        Fault::LinkEnded => eprintln!(rt; "link ended"),
     }
 }
 
 fn main(rt: HostRuntime) -> ExitCode {
     let ended = run(&rt);
+    let _ = put_failures(&mut StdSink::new(rt.stderr()), &ended.outcome.breaks);
     let _ = tell(&rt, ended.fault);
     ExitCode::from(ended.status)
 }

@@ -6,6 +6,8 @@ ghost use Rattle.tacho.specs.declared.forms.Form.TheVariants.{Record as FormOfRe
 ghost use Rattle.tacho.specs.Outcomes.{IsEmpty, IsToldForUnit};
 ghost use Rattle.tacho.specs.Program.{AreDevices, Ends, Spares};
 ghost use Rattle.tacho.specs.Serving.{AnswersWaiting};
+ghost use Rattle.tacho.specs.Packets.{WritesFile};
+ghost use Rattle.tach_media.specs.Medium.{Rose};
 
 use crate::card_command::card_end;
 use crate::demo_command::demo;
@@ -15,15 +17,19 @@ use crate::format_command::{format_card, make_unit};
 use crate::forms::{Form, form_of};
 use crate::help_command::{print_help, print_version};
 use crate::minutes_command::print_minutes;
+use crate::packets_command::packets_end;
 use crate::reading_command::print_reading;
 use crate::record_command::record;
 use crate::serve_command::{lines_end, service_end};
+use crate::state_command::print_state;
 use crate::upgrade_command::upgrade_unit;
 use crate::words::Words;
 use card_download::write_card_file;
 use card_files::CardIdentity;
+use device_state::devices_state;
 use link_session::{Peer, serve, serve_lines};
 use noisy_download::download_noisy;
+use packet_service::{download_packets, serve_packets};
 use run_model::{Card, Device};
 use run_outcome::Outcome;
 use std::alloc::Global;
@@ -37,7 +43,8 @@ use unit_download::{Wire, download};
 /// `record` reads a trace, records it on the unit and the cards, and writes five lines of counts to the sink; a trace without a card's
 /// line is recorded on the unit alone.
 /// `serve` answers the frames among the bytes of the source by the messages of the unit, and writes the answers to the sink;
-/// `serve --hex` the same of lines of hexadecimal digits.
+/// `serve --hex` the same of lines of hexadecimal digits; `serve packets` answers packets, and `download packets` asks by them, and writes
+/// the unit's file to the file.
 /// `download` downloads the unit, and writes its file, message by message, to the sink; `download noisy X` the same over a link that loses,
 /// repeats and delays.
 /// `view` reads a unit file or a card file from the source, and writes the view text of its minutes or entries to the sink.
@@ -48,13 +55,14 @@ use unit_download::{Wire, download};
 /// counts to the sink.
 /// `format a` and `format b` issue the card anew, of the largest sizes, `format unit` makes the unit new; they write
 /// `formatted` to the sink. `upgrade` gives the unit version 2 with the amended rule of minutes, and writes `upgraded`, or `already 2`
-/// where the unit had it. No other device is used than the form's.
+/// where the unit had it. `state` reads the unit and the cards, and writes what they tell of themselves, a line each. No other device is used than the form's.
 /// `help` and `--help` write the forms to the sink, a line each, and `--version` the version.
-pub fn tacho<S: Peer<K>, K: Sink, U: Medium, C: Chip>(
+pub fn tacho<S: Peer<K>, K: Sink, F: Sink, U: Medium, C: Chip>(
     alloc: Global,
     words: &Words,
     source: &mut S,
     sink: &mut K,
+    file: &mut F,
     unit: &mut U,
     card_a: &mut C,
     card_b: &mut C,
@@ -78,19 +86,24 @@ pub fn tacho<S: Peer<K>, K: Sink, U: Medium, C: Chip>(
     ensures in_time { AnswersWaiting (form_of words.now)
         (outside S.left S.faults K.held K.faults U.state C.state C.card source.old sink.old unit.old card_a.old card_b.old)
         (outside S.left S.faults K.held K.faults U.state C.state C.card source.new sink.new unit.new card_a.new card_b.new) (S.asked source.old) (S.asked source.new) }
+
+    // The file has what a download by packets put out; no other form touches it.
+    ensures file { WritesFile (form_of words.now) (S.left source.old) (S.left source.new) (record { link = K.held sink.old; file = F.held file.old })
+        (record { link = K.held sink.new; file = F.held file.new }) (Rose (F.faults file.old) (F.faults file.new)) (file.new ≡ file.old) result.fault }
 {
     match form_of(words) {
         None => Ended::of(alloc, nothing(alloc), Fault::Usage),
-        Some(form) => perform(alloc, form, source, sink, unit, card_a, card_b),
+        Some(form) => perform(alloc, form, source, sink, file, unit, card_a, card_b),
     }
 }
 
 /// Does what a form of the words asks for.
-fn perform<S: Peer<K>, K: Sink, U: Medium, C: Chip>(
+fn perform<S: Peer<K>, K: Sink, F: Sink, U: Medium, C: Chip>(
     alloc: Global,
     form: Form,
     source: &mut S,
     sink: &mut K,
+    file: &mut F,
     unit: &mut U,
     card_a: &mut C,
     card_b: &mut C,
@@ -104,6 +117,8 @@ fn perform<S: Peer<K>, K: Sink, U: Medium, C: Chip>(
     ensures in_time { AnswersWaiting (Some form)
         (outside S.left S.faults K.held K.faults U.state C.state C.card source.old sink.old unit.old card_a.old card_b.old)
         (outside S.left S.faults K.held K.faults U.state C.state C.card source.new sink.new unit.new card_a.new card_b.new) (S.asked source.old) (S.asked source.new) }
+    ensures file { WritesFile (Some form) (S.left source.old) (S.left source.new) (record { link = K.held sink.old; file = F.held file.old })
+        (record { link = K.held sink.new; file = F.held file.new }) (Rose (F.faults file.old) (F.faults file.new)) (file.new ≡ file.old) result.fault }
 {
     let nothing = nothing(alloc);
     match form {
@@ -122,6 +137,10 @@ fn perform<S: Peer<K>, K: Sink, U: Medium, C: Chip>(
             make_unit(&identity, unit, sink),
         ),
         Form::Upgrade => Ended::after(alloc, nothing, upgrade_unit(unit, sink)),
+        Form::State => {
+            let told = devices_state(unit, card_a, card_b);
+            Ended::after(alloc, nothing, print_state(alloc, &told, sink))
+        }
         Form::Serve => Ended::of(alloc, nothing, service_end(serve(source, sink, unit))),
         Form::ServeHex => {
             Ended::of(
@@ -130,6 +149,16 @@ fn perform<S: Peer<K>, K: Sink, U: Medium, C: Chip>(
                 lines_end(serve_lines(alloc, source, sink, unit)),
             )
         }
+        Form::ServePackets => Ended::of(
+            alloc,
+            nothing,
+            service_end(serve_packets(source, sink, unit)),
+        ),
+        Form::DownloadPackets => Ended::of(
+            alloc,
+            nothing,
+            packets_end(download_packets(alloc, source, sink, file)),
+        ),
         Form::Download => {
             let mut wire = Wire::new(alloc);
             let done = download(alloc, sink, unit, &mut wire);

@@ -31,7 +31,7 @@ pub fn file_view(alloc: Global, last: Option<u32>, b: &[u8]) -> Result<Vec<u8>, 
 }
 
 /// Whether a file is read as a unit file.
-fn is_unit_file(b: &[u8]) -> bool
+pub fn is_unit_file(b: &[u8]) -> bool
     ensures { result ≡ is_unit_file b.now }
 {
     match b {
@@ -97,7 +97,7 @@ fn card_history(alloc: Global, last: Option<u32>, b: &[u8]) -> Result<CardHistor
 }
 
 /// The end where a file is not shown.
-fn refusal(fault: ViewFault) -> Fault
+pub fn refusal(fault: ViewFault) -> Fault
     ensures { result ≡ view_refusal_of fault }
 {
     match fault {

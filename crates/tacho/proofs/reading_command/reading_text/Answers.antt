@@ -17,3 +17,15 @@ returns-in-MatchAll-clause-text c = rw c.in-MatchAll.is c.match_all_answer.ensur
 
 pub returns-in-MatchAll-clause-err : goal.returns-in-MatchAll-clause-err
 returns-in-MatchAll-clause-err c = rw c.in-MatchAll.is c.match_all_answer.ensures.err
+
+pub returns-in-Totals-clause-text : goal.returns-in-Totals-clause-text
+returns-in-Totals-clause-text c = rw c.in-Totals.is c.file_totals.ensures.text
+
+pub returns-in-Totals-clause-err : goal.returns-in-Totals-clause-err
+returns-in-Totals-clause-err c = rw c.in-Totals.is c.file_totals.ensures.err
+
+pub returns-in-Chart-clause-text : goal.returns-in-Chart-clause-text
+returns-in-Chart-clause-text c = rw c.in-Chart.is c.file_chart.ensures.text
+
+pub returns-in-Chart-clause-err : goal.returns-in-Chart-clause-err
+returns-in-Chart-clause-err c = rw c.in-Chart.is c.file_chart.ensures.err

@@ -4,7 +4,10 @@ use Rattle.tacho.proofs.Endings.{ends-minutes, minutes-ends, ends-reading, readi
 use Rattle.tacho.proofs.Services.{serve-ends}
 use Rattle.tacho.proofs.LineServices.{serve-hex-ends}
 use Rattle.tacho.proofs.Downloads.{download-ends, download-noisy-ends}
+use Rattle.tacho.proofs.PacketServices.{serve-packets-ends, download-packets-ends, packets-filed}
+use Rattle.tach_media.specs.Medium.{Rose}
 use Rattle.tacho.proofs.Upgraded.{upgrade-ends, upgrade-spares}
+use Rattle.tacho.proofs.Stated.{state-ends}
 use Rattle.tacho.proofs.top.perform.Goals as goal
 
 pub returns-in-Minutes-clause-ends : goal.returns-in-Minutes-clause-ends
@@ -32,6 +35,37 @@ returns-in-ServeHex-clause-ends g c =
 
 pub returns-in-ServeHex-clause-spares : goal.returns-in-ServeHex-clause-spares
 returns-in-ServeHex-clause-spares g c = rw c.in-ServeHex.is (record { others = (refl, refl); cards = λ is. absurd (cc); before = λ none. absurd none; nothing = λ none. absurd none; unprinted = λ none. absurd none })
+
+pub returns-in-ServePackets-clause-ends : goal.returns-in-ServePackets-clause-ends
+returns-in-ServePackets-clause-ends g c =
+    let e = c.serve_packets.ensures in
+    rw (c.in-ServePackets.is, c.of-in-ServePackets.ensures, c.service_end-in-ServePackets.ensures)
+    (serve-packets-ends _ _ c.serve_packets.result e.served e.end e.cause e.unit e.counts c.nothing-nothing.result c.nothing-nothing.ensures)
+
+pub returns-in-ServePackets-clause-spares : goal.returns-in-ServePackets-clause-spares
+returns-in-ServePackets-clause-spares g c = rw c.in-ServePackets.is (record { others = (refl, refl); cards = λ is. absurd (cc); before = λ none. absurd none; nothing = λ none. absurd none; unprinted = λ none. absurd none })
+
+pub returns-in-ServePackets-clause-in_time : goal.returns-in-ServePackets-clause-in_time
+returns-in-ServePackets-clause-in_time g c = rw c.in-ServePackets.is c.serve_packets.ensures.in_time
+
+pub returns-in-DownloadPackets-clause-ends : goal.returns-in-DownloadPackets-clause-ends
+returns-in-DownloadPackets-clause-ends g c =
+    let e = c.download_packets.ensures in
+    rw (c.in-DownloadPackets.is, c.of-in-DownloadPackets.ensures, c.packets_end.ensures)
+    (download-packets-ends _ _ c.download_packets.result (Rose (g.F.Sink.faults c.args.file.now) (g.F.Sink.faults c.download_packets.new.file)) e.cause e.counts.0 e.counts.1 c.nothing-nothing.result c.nothing-nothing.ensures)
+
+pub returns-in-DownloadPackets-clause-spares : goal.returns-in-DownloadPackets-clause-spares
+returns-in-DownloadPackets-clause-spares g c = rw c.in-DownloadPackets.is (record { others = (refl, refl, refl); cards = λ is. absurd (cc); before = λ none. absurd none; nothing = λ none. absurd none; unprinted = λ none. absurd none })
+
+pub returns-in-DownloadPackets-clause-in_time : goal.returns-in-DownloadPackets-clause-in_time
+returns-in-DownloadPackets-clause-in_time g c = rw c.in-DownloadPackets.is c.download_packets.ensures.in_time
+
+pub returns-in-DownloadPackets-clause-file : goal.returns-in-DownloadPackets-clause-file
+returns-in-DownloadPackets-clause-file g c =
+    let e = c.download_packets.ensures in
+    rw (c.in-DownloadPackets.is, c.of-in-DownloadPackets.ensures, c.packets_end.ensures)
+    (packets-filed c.download_packets.result (g.S.Source.left c.args.source.now) (g.S.Source.left c.download_packets.new.source) _ _ (Rose (g.S.Source.faults c.args.source.now) (g.S.Source.faults c.download_packets.new.source))
+    (Rose (g.K.Sink.faults c.args.sink.now) (g.K.Sink.faults c.download_packets.new.link)) (Rose (g.F.Sink.faults c.args.file.now) (g.F.Sink.faults c.download_packets.new.file)) e.loaded e.cause)
 
 pub returns-in-Serve-clause-in_time : goal.returns-in-Serve-clause-in_time
 returns-in-Serve-clause-in_time g c = rw c.in-Serve.is c.serve.ensures.in_time
@@ -76,6 +110,17 @@ pub returns-in-Upgrade-clause-spares : goal.returns-in-Upgrade-clause-spares
 returns-in-Upgrade-clause-spares g c =
     let e = c.upgrade_unit.ensures in
     rw (c.in-Upgrade.is, c.after-in-Upgrade.ensures) (upgrade-spares c.upgrade_unit.result e.ends refl refl refl e.nothing)
+
+pub returns-in-State-clause-ends : goal.returns-in-State-clause-ends
+returns-in-State-clause-ends g c =
+    let d = c.devices_state-told.ensures in
+    rw (c.in-State.is, c.after-in-State.ensures)
+    (state-ends c.devices_state-told.result _ _ c.nothing-nothing.result c.print_state.result
+    (record { unit = d.unit; card_a = d.card_a; card_b = d.card_b; reads_unit = d.reads_unit; reads_a = d.reads_a; reads_b = d.reads_b })
+    c.print_state.ensures.prints c.nothing-nothing.ensures (omega arith) c.print_state.ensures.counts)
+
+pub returns-in-State-clause-spares : goal.returns-in-State-clause-spares
+returns-in-State-clause-spares g c = rw c.in-State.is (record { others = refl; cards = λ is. absurd (cc); before = λ none. absurd none; nothing = λ none. absurd none; unprinted = λ none. absurd none })
 
 pub returns-in-Help-clause-ends : goal.returns-in-Help-clause-ends
 returns-in-Help-clause-ends g c =
