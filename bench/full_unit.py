@@ -28,8 +28,8 @@ def words():
     return b"".join(struct.pack(">HH", m % 2 * 0x1800 + m, 0x8000 + m % 2 * 0x0800 + m) for m in range(1440))
 
 
-def full_image():
-    """The unit's image."""
+def full_image(words_of=lambda n: words()):
+    """The unit's image; the words of a day by its number."""
     image = bytearray(2485808)
 
     def put(at, data):
@@ -39,7 +39,7 @@ def full_image():
     put(564, struct.pack(">II", NEWEST * 1440 + 1439, 9999999))
     put(1024, struct.pack(">I", DAYS - 1))
     for n, date in enumerate(DATES):
-        put(1028 + 5776 * n, struct.pack(">IIHxxxxxx", date, 9000000, WORDS) + words())
+        put(1028 + 5776 * n, struct.pack(">IIHxxxxxx", date, 9000000, WORDS) + words_of(n))
     put(2115044, struct.pack(">I", INSERTIONS - 1) + b"".join(map(insertion, range(INSERTIONS))))
     put(2379240, struct.pack(">I", PLACES - 1) + b"".join(map(place, range(PLACES))))
     return bytes(image)

@@ -91,6 +91,11 @@ def minutes_of(text):
     return found
 
 
+def date_of(minute):
+    """The date of a minute."""
+    return (datetime.date(1970, 1, 1) + datetime.timedelta(days=minute // MINUTES_OF_DAY)).isoformat()
+
+
 def shown(folder, words):
     """The minutes that `view` shows of what `download` or `card` prints there, or why there are none."""
     status, file, line = run(words, folder)
