@@ -1,5 +1,5 @@
 -- The values that are told lie on days that a time of four bytes can name.
-use Rattle.std.proofs.Common.{◌≡◌, ℕ, ◌+◌, ◌*◌, ◌/◌, ◌<◌, true, false, Option, Some, None, Result, Ok, Err, List, [], ◌∷◌, ◌++◌, arith}
+use Rattle.std.proofs.Common.{◌≡◌, ℕ, ◌+◌, ◌*◌, ◌/◌, ◌<◌, true, Option, Some, None, Result, Ok, Err, List, [], ◌∷◌, ◌++◌, arith}
 use Rattle.std.specs.Prelude.{◌==◌, nat_lt, max}
 use Rattle.std.specs.List.{flat_map}
 use Rattle.std.proofs.lemmas.Bool.Decides.{nat_tests}
@@ -22,7 +22,7 @@ use Rattle.device_state.specs.declared.devices.DevicesTold.{DevicesTold}
 use Rattle.device_state.specs.declared.unit.UnitTold.{UnitTold}
 use Rattle.device_state.specs.declared.values.TheConstants.{FIRST_START, LAST_START}
 use Rattle.device_state.specs.Values.{dated, minute_value, second_value, day_value, start_by, start_value, use_value, vehicle_value}
-use Rattle.device_state.specs.Lines.{owed_line, vehicle_lines, time_lines, unit_lines, card_lines, lines_of_unit, lines_of_card, state_lines}
+use Rattle.device_state.specs.Lines.{owed_line, vehicle_lines, time_lines, unit_lines, lines_of_unit, lines_of_card, state_lines}
 
 below : (n k : ℕ) → nat_lt n k ≡ true → n < k
 below n k is = grind (arith, nat_tests)

@@ -1,5 +1,5 @@
 -- What a card tells is what its image tells.
-use Rattle.std.proofs.Common.{◌≡◌, ◌∙◌, ℕ, Some, None, Ok, Err, List, ap, sym}
+use Rattle.std.proofs.Common.{◌≡◌, ◌∙◌, ℕ, Some, Ok, Err, List, ap, sym}
 use Rattle.card_layout.specs.declared.files.Application.{Application}
 use Rattle.card_layout.specs.declared.files.Fid.{Fid}
 use Rattle.card_layout.specs.Application.{application_in}
@@ -11,14 +11,14 @@ use Rattle.std.specs.Prelude.{Option, max}
 use Rattle.card_files.specs.declared.vehicle.Vehicle.{Vehicle}
 use Rattle.card_commands.specs.Ports.{IsJudged}
 use Rattle.card_retention.specs.Entries.{newest_word}
-use Rattle.card_image.specs.Fields.{end_mark, session_time, card_days, card_number, newest_vehicle}
+use Rattle.card_image.specs.Fields.{end_mark, session_time, card_days, card_number}
 use Rattle.card_image.specs.View.{counting}
 use Rattle.card_image.specs.Judging.{first_bad_file}
 use Rattle.card_image.specs.Own.{own_sizes, own_bad_file}
 use Rattle.card_validity.specs.declared.looking.CardLook.{CardLook}
 use Rattle.card_validity.specs.Judged.{IsLook, identification_field}
 use Rattle.device_state.specs.declared.card.CardFault.TheVariants.{BadFile}
-use Rattle.device_state.specs.Cards.{look_by, card_told, TellsCard}
+use Rattle.device_state.specs.Cards.{look_by, TellsCard}
 
 -- a look by its fields
 abbrev made : FullCardNumber → (surname first : List ℕ) → TimeReal → (session newest : ℕ) → Option Vehicle → CardLook

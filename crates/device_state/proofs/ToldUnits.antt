@@ -1,16 +1,14 @@
 -- What a unit tells is what its image tells.
 use Rattle.std.proofs.Common.{◌≡◌, ◌∙◌, ℕ, ◌+◌, ◌-◌, ◌<◌, ◌≤◌, Option, Some, None, option_map, Err, IfSome, List, [], ◌∷◌, ◌++◌, length, map, take, set, ap, sym, refl, arith}
-use Rattle.std.specs.Prelude.{slice_get, slice_index}
 use Rattle.std.specs.List.{range_with_len}
 use Rattle.std.proofs.lemmas.List.{take_more_set}
 use Rattle.std.proofs.lemmas.List.FromFn.{map-range_with_len_more}
 use Rattle.std.proofs.lemmas.Option.{slice_get_past}
 use Rattle.activity_codec.specs.declared.entries.Entry.{Entry}
 use Rattle.minute_model.specs.declared.Rule.{Rule}
-use Rattle.tacho_types.specs.declared.texts.Registration.{Registration}
 use Rattle.tach_media.specs.Medium.{bytes_at}
 use Rattle.tach_media.proofs.Runs.{if_told}
-use Rattle.unit_model.specs.declared.layout.TheConstants.{VIN, REGISTRATION, SPEED_LIMIT}
+use Rattle.unit_model.specs.declared.layout.TheConstants.{VIN, REGISTRATION}
 use Rattle.unit_model.specs.Decoding.{first_bad_place}
 use Rattle.unit_model.specs.Image.{last_kept, odometer_at, recorded, recorded_indices, slot_date}
 use Rattle.unit_model.specs.Versions.{version_of, rule_byte_of, rule_by, rule_of}

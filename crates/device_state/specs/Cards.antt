@@ -1,5 +1,5 @@
 -- What a card tells of itself, by its image (profile).
-use Rattle.std.specs.Prelude.{◌≡◌, ℕ, max, Bool, true, false, Option, Some, None, Result, Ok, Err, List}
+use Rattle.std.specs.Prelude.{◌≡◌, ℕ, max, Bool, true, false, Some, None, Result, Ok, Err, List}
 use Rattle.card_layout.specs.Application.{first_bad_field, application_in}
 use Rattle.card_layout.specs.declared.files.Application.{Application}
 use Rattle.tacho_types.specs.Numbers.{time_of}

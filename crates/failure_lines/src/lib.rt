@@ -1,7 +1,10 @@
-//! What is told of the failed calls of a run (profile): a line for each break that one of them made, and behind them how many there are.
+//! What is told of failures on standard error (profile): a line for each break that a failed call of a run made, and behind them how many
+//! there are; and a line of what the file system of a device lacks.
 #![tactic(auto)]
 
+mod lack;
 mod line;
 mod lines;
 
+pub use lack::put_missing;
 pub use lines::put_failures;

@@ -113,7 +113,7 @@ fn two_digits(n: u32) -> [u8; 2]
 }
 
 /// Adds bytes, for which there is room.
-fn add(text: &mut ArrayVec<u8, MOST>, bytes: &[u8])
+pub fn add(text: &mut ArrayVec<u8, MOST>, bytes: &[u8])
     requires { array_vec_len text.old + length bytes.now ≤ MOST }
     ensures items { text.new.items ≡ text.old.items ++ bytes.now }
     ensures len { array_vec_len text.new ≡ array_vec_len text.old + length bytes.now }

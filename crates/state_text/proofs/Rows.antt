@@ -1,5 +1,5 @@
 -- Worked rows.
-use Rattle.std.proofs.Common.{◌≡◌, ℕ, List, [], ◌∷◌, refl}
+use Rattle.std.proofs.Common.{◌≡◌, [], ◌∷◌, refl}
 use Rattle.std.specs.Prelude.{codes}
 use Rattle.run_model.specs.declared.Device.TheVariants.{Unit as OfUnit, CardA}
 use Rattle.state_text.specs.declared.line.Name.TheVariants as name

@@ -1,7 +1,6 @@
 -- The text of lines and of one more.
 use Rattle.std.proofs.Common.{◌≡◌, ◌∙◌, ℕ, suc, zero, ◌<◌, List, [], ◌∷◌, ◌++◌, length, get_or, refl, ap, sym, arith, append_assoc, append-nil}
 use Rattle.run_model.specs.declared.Device.TheVariants.{Unit as OfUnit}
-use Rattle.tacho_types.specs.Calendar.{IsDateText}
 use Rattle.tacho_types.specs.declared.calendar.TheConstants.{DAYS}
 use Rattle.state_text.specs.declared.line.Line.{Line}
 use Rattle.state_text.specs.declared.line.Name.TheVariants.{Whole}

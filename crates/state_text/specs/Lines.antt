@@ -1,22 +1,14 @@
--- The lines that are told of a device: what each is called, and on which day its value lies (profile).
+-- The lines that are told of a device: what stands behind its name, and on which day its value lies (profile).
 use Rattle.std.specs.Prelude.{ℕ, ◌/◌, ◌<◌, List, [], codes}
 use Rattle.std.specs.List.{AllByRecursion}
 use Rattle.minute_model.specs.declared.Rule.{Rule}
 use Rattle.minute_model.specs.declared.Rule.TheVariants.{Original, Amended}
-use Rattle.run_model.specs.declared.Device.{Device}
-use Rattle.run_model.specs.declared.Device.TheVariants as device
 use Rattle.tacho_types.specs.declared.calendar.TheConstants.{DAYS}
 use Rattle.state_text.specs.declared.line.Line.{Line}
 use Rattle.state_text.specs.declared.line.Name.{Name}
 use Rattle.state_text.specs.declared.line.Name.TheVariants as name
 use Rattle.state_text.specs.declared.line.Value.{Value}
 use Rattle.state_text.specs.declared.line.Value.TheVariants as value
-
--- what a device is called
-abbrev pub device_name : Device → List ℕ
-device_name device.Unit = codes "unit"
-device_name device.CardA = codes "card-a"
-device_name device.CardB = codes "card-b"
 
 -- what stands behind a device's name
 abbrev pub name_text : Name → List ℕ

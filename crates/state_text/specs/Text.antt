@@ -8,7 +8,8 @@ use Rattle.state_text.specs.declared.line.Line.{Line}
 use Rattle.state_text.specs.declared.line.OwedTo.{OwedTo}
 use Rattle.state_text.specs.declared.line.Value.{Value}
 use Rattle.state_text.specs.declared.line.Value.TheVariants.{Valid, Unread, BadAt, BadField, BadFile, Nothing, Count, ByRule, Vin, Plate, Card, Holder, Owed, Day, Minute, Second}
-use Rattle.state_text.specs.Lines.{device_name, name_text, rule_name, day_of}
+use Rattle.run_model.specs.Names.{device_name}
+use Rattle.state_text.specs.Lines.{name_text, rule_name, day_of}
 use Rattle.state_text.specs.Shown.{four_hex, shown}
 
 -- a registration: the nation's number and the plate, as `13 M-AB-1`; between them stands the code page, which is not told

@@ -1,6 +1,7 @@
 //! The lines that are told of a device.
 ghost use Rattle.std.specs.Prelude.{◌≡◌};
-ghost use Rattle.state_text.specs.Lines.{device_name, name_text, rule_name, day_of};
+ghost use Rattle.run_model.specs.Names.{device_name};
+ghost use Rattle.state_text.specs.Lines.{name_text, rule_name, day_of};
 
 use minute_model::Rule;
 use run_model::Device;

@@ -1,5 +1,6 @@
 pub mod Chip
 pub mod Counting
+pub mod Files
 pub mod Log
 pub mod LogLaws
 pub mod Medium

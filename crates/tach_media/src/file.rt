@@ -1,3 +1,5 @@
+ghost use Rattle.std.specs.Prelude.{◌≡◌, None, true, false, is_some};
+ghost use Rattle.tach_media.specs.Files.{missing_in, unlocked};
 ghost use Rattle.tach_media.specs.Medium.{IsUntouched};
 
 use crate::{Counts, Failed, Medium};
@@ -33,6 +35,24 @@ impl Access {
     }
 }
 
+/// What a file system lacks that a medium asks of it.
+#[derive(Clone, Copy, Debug, PartialEq, Eq)]
+pub enum Missing {
+    /// Its files can't be locked, so that two programs could write one file at once.
+    Locks,
+    /// Its folders can't be synchronised, so that a power cut could take the name of a new file.
+    SynchronisedFolders,
+}
+
+// Why a file is not reached.
+#[derive(Clone, Copy)]
+enum Unreached {
+    // It can be neither opened nor made, or somebody else has its lock.
+    Refused,
+    // Its file system lacks this.
+    Lacking(Missing),
+}
+
 // The file under a medium.
 #[derive(Drop)]
 enum Backing {
@@ -43,13 +63,16 @@ enum Backing {
     // It can be neither opened nor made, or somebody else has its lock, or a write could not be synchronised, so that nobody
     // knows what a power cut leaves of it: every call fails.
     Lost,
+    // Its file system lacks this: every call fails.
+    Lacking(Missing),
 }
 
 /// A file, as a medium of a fixed size: of a longer file only the front, of a shorter one a read past its end is a fault.
 ///
 /// The first call opens the file, and makes it, as zeros, where it is missing or has no byte, as a making that was stopped leaves
 /// it. From then on it is locked; where another program has locked it, every call fails. Every write stands on the disk before
-/// `Ok`, and so does the name of a file that was made. It tells nothing of its content.
+/// `Ok`, and so does the name of a file that was made. Where the file system lacks what that takes every call fails too, and
+/// `missing` tells what. It tells nothing of its content.
 #[derive(Drop)]
 pub struct FileMedium<'a, R: Files<File = File>> {
     files: &'a R,
@@ -59,42 +82,59 @@ pub struct FileMedium<'a, R: Files<File = File>> {
     size: u32,
     clock: u64,
     counts: Counts,
+    ghost broken: { is_some (missing_in backing) ≡ true → counts.works ≡ false },
 }
 
 impl<'a, R: Files<File = File>> FileMedium<'a, R> {
     /// A medium of so many bytes in the file at this path.
     pub fn new(files: &'a R, path: &'a str, size: u32) -> FileMedium<'a, R>
-        ensures { IsUntouched size (⟦<FileMedium<'a, R> as Medium>⟧.state result) }
+        ensures untouched { IsUntouched size (⟦<FileMedium<'a, R> as Medium>⟧.state result) }
+        ensures missing { missing_in result.backing ≡ None }
+    {
+        FileMedium::asking(files, path, size, Access::Lasting)
+    }
+
+    /// The same for what need not outlive a power cut, as a demonstration: no write waits for the disk.
+    pub fn without_waiting(files: &'a R, path: &'a str, size: u32) -> FileMedium<'a, R>
+        ensures untouched { IsUntouched size (⟦<FileMedium<'a, R> as Medium>⟧.state result) }
+        ensures missing { missing_in result.backing ≡ None }
+    {
+        FileMedium::asking(files, path, size, Access::Passing)
+    }
+
+    /// The same for what only reads: the file may be one that can't be written, and others that only read may have it at the
+    /// same time. Every write fails.
+    pub fn for_reading(files: &'a R, path: &'a str, size: u32) -> FileMedium<'a, R>
+        ensures untouched { IsUntouched size (⟦<FileMedium<'a, R> as Medium>⟧.state result) }
+        ensures missing { missing_in result.backing ≡ None }
+    {
+        FileMedium::asking(files, path, size, Access::Reading)
+    }
+
+    // One that asks so for its file.
+    fn asking(files: &'a R, path: &'a str, size: u32, access: Access) -> FileMedium<'a, R>
+        ensures untouched { IsUntouched size (⟦<FileMedium<'a, R> as Medium>⟧.state result) }
+        ensures missing { missing_in result.backing ≡ None }
     {
         FileMedium {
             files,
             path,
             backing: Backing::Unopened,
-            access: Access::Lasting,
+            access,
             size,
             clock: 0,
             counts: Counts::new(),
         }
     }
 
-    /// The same for what need not outlive a power cut, as a demonstration: no write waits for the disk.
-    pub fn without_waiting(files: &'a R, path: &'a str, size: u32) -> FileMedium<'a, R>
-        ensures { IsUntouched size (⟦<FileMedium<'a, R> as Medium>⟧.state result) }
+    /// What the file system lacks, where a call has failed for that. The medium does not work then, and each call fails.
+    pub fn missing(&self) -> Option<Missing>
+        ensures told { result ≡ missing_in self.now.backing }
+        ensures works { is_some result ≡ true → (⟦<FileMedium<'a, R> as Medium>⟧.state self.now).works ≡ false }
     {
-        FileMedium {
-            access: Access::Passing,
-            ..FileMedium::new(files, path, size)
-        }
-    }
-
-    /// The same for what only reads: the file may be one that can't be written, and others that only read may have it at the
-    /// same time. Every write fails.
-    pub fn for_reading(files: &'a R, path: &'a str, size: u32) -> FileMedium<'a, R>
-        ensures { IsUntouched size (⟦<FileMedium<'a, R> as Medium>⟧.state result) }
-    {
-        FileMedium {
-            access: Access::Reading,
-            ..FileMedium::new(files, path, size)
+        match &self.backing {
+            Backing::Lacking(missing) => Some(*missing),
+            _ => None,
         }
     }
 }
@@ -181,62 +221,71 @@ fn reach<R: Files<File = File>>(
             _ => owned(files, path, size),
         };
         *backing = match opened {
-            Some(file) => Backing::Open(file),
-            None => Backing::Lost,
+            Ok(file) => Backing::Open(file),
+            Err(Unreached::Refused) => Backing::Lost,
+            Err(Unreached::Lacking(missing)) => Backing::Lacking(missing),
         };
     }
 }
 
 // The file that nobody else has, to be read and written.
-fn owned<R: Files<File = File>>(files: &R, path: &str, size: u32) -> Option<File> {
+fn owned<R: Files<File = File>>(files: &R, path: &str, size: u32) -> Result<File, Unreached> {
     let mut options = OpenOptions::new();
     options.read(true).write(true);
     match options.open(files, path) {
         Ok(file) => {
             let file = locked(file)?;
-            if !is_empty(&file) || is_filled(files, path, &file, size) {
-                return Some(file);
+            if is_empty(&file) {
+                refilled(files, path, &file, size)?;
             }
-            None
+            Ok(file)
         }
         Err(error) if error.kind() == ErrorKind::NotFound => made(files, path, size),
-        Err(_) => None,
+        Err(_) => Err(Unreached::Refused),
     }
 }
 
 // The file that only others who read it have, to be read. One that is to be made is made first.
-fn shared<R: Files<File = File>>(files: &R, path: &str, size: u32) -> Option<File> {
+fn shared<R: Files<File = File>>(files: &R, path: &str, size: u32) -> Result<File, Unreached> {
     if is_pipe(files, path) {
-        return None;
+        return Err(Unreached::Refused);
     }
     match File::open(files, path) {
         Ok(file) => {
             let file = lent(file)?;
             if !is_empty(&file) {
-                return Some(file);
+                return Ok(file);
             }
         }
         Err(error) if error.kind() == ErrorKind::NotFound => {}
-        Err(_) => return None,
+        Err(_) => return Err(Unreached::Refused),
     }
     lent(owned(files, path, size)?)
 }
 
 // A file that nobody else has locked.
-fn locked(file: File) -> Option<File> {
-    if file.try_lock().is_ok() {
-        Some(file)
-    } else {
-        None
+fn locked(file: File) -> Result<File, Unreached> {
+    match file.try_lock() {
+        Ok(()) => Ok(file),
+        Err(refusal) => Err(unlocked(refusal)),
     }
 }
 
 // A file that nobody has locked but to read it.
-fn lent(file: File) -> Option<File> {
-    if file.try_lock_shared().is_ok() {
-        Some(file)
-    } else {
-        None
+fn lent(file: File) -> Result<File, Unreached> {
+    match file.try_lock_shared() {
+        Ok(()) => Ok(file),
+        Err(refusal) => Err(unlocked(refusal)),
+    }
+}
+
+// Why a file is not locked: somebody else has its lock, or its file system has none.
+fn unlocked(refusal: TryLockError) -> Unreached
+    ensures { result ≡ unlocked refusal }
+{
+    match refusal {
+        TryLockError::WouldBlock => Unreached::Refused,
+        TryLockError::Error(_) => Unreached::Lacking(Missing::Locks),
     }
 }
 
@@ -255,30 +304,55 @@ fn is_pipe<R: Files<File = File>>(files: &R, path: &str) -> bool {
 
 // A new file of so many zeros. One that could be neither locked nor filled, or whose name does not stand in its folder, is taken
 // away again; one that another program has locked meanwhile is left to it, which fills it.
-fn made<R: Files<File = File>>(files: &R, path: &str, size: u32) -> Option<File> {
+fn made<R: Files<File = File>>(files: &R, path: &str, size: u32) -> Result<File, Unreached> {
     let mut options = OpenOptions::new();
     options.read(true).write(true).create_new(true);
-    let file = options.open(files, path).ok()?;
-    match file.try_lock() {
-        Ok(()) => {
-            if is_filled(files, path, &file, size) {
-                return Some(file);
-            }
-        }
-        Err(TryLockError::WouldBlock) => return None,
-        Err(TryLockError::Error(_)) => {}
-    }
+    let Ok(file) = options.open(files, path) else {
+        return Err(Unreached::Refused);
+    };
+    let unreached = match file.try_lock() {
+        Ok(()) => match filled(files, path, &file, size) {
+            Ok(()) => return Ok(file),
+            Err(unreached) => unreached,
+        },
+        Err(TryLockError::WouldBlock) => return Err(Unreached::Refused),
+        Err(refusal) => unlocked(refusal),
+    };
     let _ = files.remove_file(path);
-    None
+    Err(unreached)
+}
+
+// Fills a file that has no byte. One that can't be filled has none again, so that the next call makes it anew.
+fn refilled<R: Files<File = File>>(
+    files: &R,
+    path: &str,
+    file: &File,
+    size: u32,
+) -> Result<(), Unreached> {
+    let done = filled(files, path, file, size);
+    if done.is_err() {
+        let _ = file.set_len(0);
+    }
+    done
 }
 
 // Fills a file with so many zeros, and waits until they and its name stand on the disk. It has its name still: another program
 // that could not fill it may have taken it away before this one locked it.
-fn is_filled<R: Files<File = File>>(files: &R, path: &str, file: &File, size: u32) -> bool {
-    file.set_len(size as u64).is_ok()
-        && file.sync_all().is_ok()
-        && is_named(files, path)
-        && has_name(file)
+fn filled<R: Files<File = File>>(
+    files: &R,
+    path: &str,
+    file: &File,
+    size: u32,
+) -> Result<(), Unreached> {
+    if file.set_len(size as u64).is_err() || file.sync_all().is_err() {
+        return Err(Unreached::Refused);
+    }
+    named(files, path)?;
+    if has_name(file) {
+        Ok(())
+    } else {
+        Err(Unreached::Refused)
+    }
 }
 
 // Whether a file has a name.
@@ -290,19 +364,25 @@ fn has_name(file: &File) -> bool {
 }
 
 // Waits until the name of a file stands in its folder.
-fn is_named<R: Files<File = File>>(files: &R, path: &str) -> bool {
+fn named<R: Files<File = File>>(files: &R, path: &str) -> Result<(), Unreached> {
     let folder = match path.rsplit_once('/') {
         None => ".",
         Some((folder, _name)) if folder.is_empty() => "/",
         Some((folder, _name)) => folder,
     };
-    match File::open(files, folder) {
-        Ok(folder) => folder.sync_all().is_ok(),
-        Err(_) => false,
+    let Ok(folder) = File::open(files, folder) else {
+        return Err(Unreached::Refused);
+    };
+    if folder.sync_all().is_ok() {
+        Ok(())
+    } else {
+        Err(Unreached::Lacking(Missing::SynchronisedFolders))
     }
 }
 
-fn read(backing: &Backing, place: u32, out: &mut [u8]) -> bool {
+fn read(backing: &Backing, place: u32, out: &mut [u8]) -> bool
+    ensures { result ≡ true → missing_in backing.now ≡ None }
+{
     match backing {
         Backing::Open(file) => file.read_exact_at(out, place as u64).is_ok(),
         _ => false,
@@ -317,10 +397,12 @@ fn write(backing: &Backing, place: u32, bytes: &[u8]) -> bool {
 }
 
 // Waits until what was written stands on the disk. A file of which that cannot be said is lost.
-fn stands(access: Access, backing: &mut Backing) -> bool {
-    let stands = match backing {
+fn stands(access: Access, backing: &mut Backing) -> bool
+    ensures { result ≡ true → missing_in backing.new ≡ None }
+{
+    let stands = match &*backing {
         Backing::Open(file) => !access.waits() || file.sync_data().is_ok(),
-        _ => false,
+        _ => return false,
     };
     if !stands {
         *backing = Backing::Lost;

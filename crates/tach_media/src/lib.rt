@@ -37,7 +37,7 @@ pub use absent_chip::AbsentChip;
 pub use chip::{Answer, Chip};
 use counts::Counts;
 pub use fault::{Failed, Memory};
-pub use file::FileMedium;
+pub use file::{FileMedium, Missing};
 pub use log::Left;
 use log::Log;
 pub use medium::Medium;

@@ -1,7 +1,9 @@
 use std::fs;
+use std::fs::File;
+use std::os::fd::AsRawFd;
 use std::os::unix::fs::symlink;
 use std::test::Fail;
-use tach_media::{FileMedium, Medium};
+use tach_media::{FileMedium, Medium, Missing};
 
 #[test]
 fn a_file_is_made_written_and_read(rt: HostRuntime) -> Result<(), Fail> {
@@ -57,6 +59,7 @@ fn a_file_that_another_has_locked(rt: HostRuntime) -> Result<(), Fail> {
         let mut second = FileMedium::new(&rt, "tach_media_locked", 8);
         assert!(rt; first.write_at(0, b"abcd").is_ok());
         assert!(rt; second.read_at(0, &mut out).is_err());
+        assert_eq!(rt; second.missing(), None);
         assert!(rt; second.revive().is_err());
         assert!(rt; second.write_at(0, b"efgh").is_err());
         assert!(rt; first.read_at(0, &mut out).is_ok());
@@ -163,6 +166,29 @@ fn a_file_without_a_byte_is_made(rt: HostRuntime) -> Result<(), Fail> {
     assert!(rt; missing.read_at(60, &mut out).is_ok());
     assert_eq!(rt; fs::metadata(&rt, "tach_media_empty")?.len(), 64);
     fs::remove_file(&rt, "tach_media_empty")?;
+    Ok(())
+}
+
+/// By the folder of the files that a process has open each can be opened anew, and no name there stands on a disk.
+#[test]
+fn a_folder_that_cannot_be_synchronised(rt: HostRuntime) -> Result<(), Fail> {
+    let mut out = [9u8; 4];
+    let kept = File::create(&rt, "tach_media_open")?;
+    let number = kept.as_raw_fd();
+    let path = format!(in rt.alloc(); "/proc/self/fd/{number}")?;
+    let mut medium = FileMedium::new(&rt, path.as_str(), 8);
+    assert_eq!(rt; medium.missing(), None);
+    assert!(rt; medium.read_at(0, &mut out).is_err());
+    assert_eq!(rt; medium.missing(), Some(Missing::SynchronisedFolders));
+    assert!(rt; medium.write_at(0, b"abcd").is_err());
+    assert!(rt; medium.revive().is_err());
+    assert_eq!(rt; medium.missing(), Some(Missing::SynchronisedFolders));
+    assert_eq!(rt; fs::metadata(&rt, "tach_media_open")?.len(), 0);
+    let mut made = FileMedium::new(&rt, "tach_media_open", 8);
+    assert!(rt; made.read_at(4, &mut out).is_ok());
+    assert!(rt; out == [0; 4]);
+    assert_eq!(rt; made.missing(), None);
+    fs::remove_file(&rt, "tach_media_open")?;
     Ok(())
 }
 

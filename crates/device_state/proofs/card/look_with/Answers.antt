@@ -1,4 +1,4 @@
-use Rattle.std.proofs.Common.{◌≡◌, ℕ, Some, Result, Ok, Err, IfErr, IfSome, ap, subst, ◌∙◌}
+use Rattle.std.proofs.Common.{◌≡◌, Some, Result, Ok, Err, IfErr, IfSome, ap, subst, ◌∙◌}
 use Rattle.tach_media.proofs.Runs.{both_told, from_told}
 use Rattle.card_layout.specs.Application.{application_in}
 use Rattle.card_commands.specs.Ports.{IsJudged}

@@ -1,4 +1,4 @@
-use Rattle.std.proofs.Common.{◌≡◌, ◌∙◌, ◌++◌, ℕ, List, None, ◌<◌, take, get_or, length, ap, sym, arith}
+use Rattle.std.proofs.Common.{◌∙◌, ◌++◌, List, None, ◌<◌, take, get_or, length, ap, sym, arith}
 use Rattle.std.specs.List.{flat_map}
 use Rattle.std.proofs.lemmas.List.{take_more, flat_map_more}
 use Rattle.state_text.specs.declared.line.Line.{Line}

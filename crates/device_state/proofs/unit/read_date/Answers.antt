@@ -1,4 +1,4 @@
-use Rattle.std.proofs.Common.{◌≡◌, ◌∙◌, sym, inl, arith}
+use Rattle.std.proofs.Common.{sym, inl}
 use Rattle.tach_media.proofs.Runs.{no_reads}
 use Rattle.unit_memory.proofs.Told.{one_told}
 use Rattle.tach_media.proofs.Runs.{both_told}

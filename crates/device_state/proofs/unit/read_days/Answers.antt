@@ -1,4 +1,4 @@
-use Rattle.std.proofs.Common.{◌≡◌, ◌∙◌, ℕ, ◌-◌, Option, IfSome, ap, inl, refl, arith}
+use Rattle.std.proofs.Common.{◌≡◌, ◌∙◌, ◌-◌, IfSome, ap, inl, refl, arith}
 use Rattle.unit_memory.proofs.Told.{carried, three_told}
 use Rattle.device_state.specs.Units.{date_at}
 use Rattle.device_state.proofs.ToldUnits.{days-made}

@@ -4,7 +4,7 @@ use Rattle.unit_model.specs.Image.{last_kept}
 use Rattle.unit_owed.specs.Owed.{owed_to}
 use Rattle.unit_memory.proofs.Told.{carried, three_told}
 use Rattle.device_calls.proofs.Enters.{unit-still}
-use Rattle.device_state.specs.Units.{row_number, owed_in}
+use Rattle.device_state.specs.Units.{row_number}
 use Rattle.device_state.proofs.ToldUnits.{row-told}
 use Rattle.device_state.proofs.unit.read_row.Goals as goal
 

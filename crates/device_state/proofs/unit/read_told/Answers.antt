@@ -2,10 +2,8 @@ use Rattle.std.proofs.Common.{◌≡◌, ◌∙◌, ℕ, List, Option, IfSome, m
 use Rattle.std.specs.List.{range_with_len}
 use Rattle.tach_media.proofs.Runs.{reads_then}
 use Rattle.unit_model.specs.Image.{last_kept}
-use Rattle.unit_memory.specs.Identified.{AreFacts}
 use Rattle.unit_memory.proofs.Told.{carried, one_told, four_told}
-use Rattle.unit_minutes.specs.Image.{IsFoundBy}
-use Rattle.device_state.specs.Units.{days_told, owed_in, unit_told}
+use Rattle.device_state.specs.Units.{days_told, owed_in}
 use Rattle.device_state.proofs.ToldUnits.{unit-made}
 use Rattle.device_state.proofs.unit.read_told.Goals as goal
 

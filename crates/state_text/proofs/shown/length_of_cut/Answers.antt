@@ -1,4 +1,4 @@
-use Rattle.std.proofs.Common.{◌≡◌, ◌∙◌, ◌≤◌, ℕ, ◌+◌, ◌<◌, take, get_or, length, ap, subst, sym, arith}
+use Rattle.std.proofs.Common.{◌∙◌, ◌≤◌, ℕ, ◌+◌, ◌<◌, take, get_or, length, ap, subst, sym, arith}
 use Rattle.std.proofs.lemmas.List.{take_all}
 use Rattle.state_text.specs.Shown.{cut}
 use Rattle.state_text.proofs.Cutting.{cut-more, end-within}

@@ -1,6 +1,6 @@
-use Rattle.std.proofs.Common.{◌≡◌, ◌∙◌, ◌++◌, ℕ, List, ◌+◌, ◌<◌, take, get_or, length, ap, sym, arith}
+use Rattle.std.proofs.Common.{◌∙◌, ◌++◌, ℕ, List, ◌<◌, take, get_or, length, ap, sym, arith}
 use Rattle.std.specs.List.{flat_map}
-use Rattle.std.proofs.lemmas.List.{take_more, take_all, flat_map_more}
+use Rattle.std.proofs.lemmas.List.{take_more, flat_map_more}
 use Rattle.state_text.specs.Shown.{byte_text}
 use Rattle.state_text.proofs.shown.write_bytes.Goals as goal
 

@@ -1,4 +1,4 @@
-use Rattle.std.proofs.Common.{◌≡◌, ℕ, ◌+◌, ◌<◌, take, length, get_or, arith}
+use Rattle.std.proofs.Common.{◌<◌, take, length, get_or, arith}
 use Rattle.std.proofs.lemmas.List.{take_more}
 use Rattle.state_text.proofs.Texts.{no_line, lines-more, dated-at}
 use Rattle.state_text.proofs.text.lines_text.Goals as goal

@@ -1,7 +1,8 @@
 use Rattle.std.proofs.Common.{ℕ, subst}
 use Rattle.std.specs.Prelude.{codes}
 use Rattle.tacho_types.specs.Calendar.{IsDateText}
-use Rattle.state_text.specs.Lines.{device_name, name_text}
+use Rattle.run_model.specs.Names.{device_name}
+use Rattle.state_text.specs.Lines.{name_text}
 use Rattle.state_text.specs.Text.{value_text}
 use Rattle.state_text.proofs.Joining.{five_pieces}
 use Rattle.state_text.proofs.text.write_line.Goals as goal

@@ -1,0 +1,23 @@
+-- What is told of a device whose file system lacks what its medium asks of it (profile).
+use Rattle.std.specs.Prelude.{ℕ, Option, Some, None, List, [], ◌++◌, codes}
+use Rattle.run_model.specs.Names.{device_name}
+use Rattle.run_model.specs.declared.Device.{Device}
+use Rattle.run_model.specs.declared.Device.TheVariants.{Unit as OfUnit, CardA, CardB}
+use Rattle.tach_media.specs.declared.file.Missing.{Missing}
+use Rattle.tach_media.specs.declared.file.Missing.TheVariants.{Locks, SynchronisedFolders}
+
+-- what is missing
+abbrev pub missing_name : Missing → List ℕ
+missing_name Locks = codes "locks"
+missing_name SynchronisedFolders = codes "synchronised folders"
+
+-- a line: `unit: no locks in its file system`
+abbrev pub missing_line : Device → Missing → List ℕ
+missing_line device missing = device_name device ++ codes ": no " ++ missing_name missing ++ codes " in its file system\n"
+
+-- WHAT IS TOLD of the unit and the cards: one line, of the first of them that lacks something; nothing where none does
+abbrev pub missing_text : (unit card_a card_b : Option Missing) → List ℕ
+missing_text (Some missing) card_a card_b = missing_line OfUnit missing
+missing_text None (Some missing) card_b = missing_line CardA missing
+missing_text None None (Some missing) = missing_line CardB missing
+missing_text None None None = []
