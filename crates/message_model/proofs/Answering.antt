@@ -5,8 +5,8 @@ use Rattle.std.proofs.lemmas.Bool.Decides.{nat_tests}
 use Rattle.unit_model.specs.Days.{StoredDay}
 use Rattle.link_model.specs.declared.request.Request.{Request}
 use Rattle.link_model.specs.declared.request.Request.TheVariants.{Day as AskDay, Events as AskEvents, Speed as AskSpeed, Technical as AskTechnical}
-use Rattle.message_model.specs.Messages.{Message, AnOverview, ADay, AnEventList, ATechnical}
-use Rattle.message_model.specs.Sending.{sent_days, day_at, Follow, overview_of, day_message_of, event_message_of, technical_message_of, message_of, messages_of, requests_of}
+use Rattle.message_model.specs.Messages.{Message, AnOverview, ADay, AnEventList, ASpeedList, ATechnical}
+use Rattle.message_model.specs.Sending.{sent_days, day_at, Follow, overview_of, day_message_of, event_message_of, speed_message_of, technical_message_of, message_of, messages_of, requests_of}
 
 -- no day begins later than a second
 abbrev AllUpTo : ℕ → List StoredDay → Type 0
@@ -35,7 +35,7 @@ module _ (x : List ℕ) where
   abbrev told : StoredDay → Message
   told d = ADay (day_message_of x d)
 
-  ends : flat_map answer (AskEvents ∷ AskSpeed ∷ AskTechnical ∷ []) ≡ AnEventList (event_message_of x) ∷ ATechnical (technical_message_of x) ∷ []
+  ends : flat_map answer (AskEvents ∷ AskSpeed ∷ AskTechnical ∷ []) ≡ AnEventList (event_message_of x) ∷ ASpeedList (speed_message_of x) ∷ ATechnical (technical_message_of x) ∷ []
   unfolding message_of
   ends = refl
 
@@ -45,7 +45,7 @@ module _ (x : List ℕ) where
       ap (λ (o : Option StoredDay). option_to_list (option_map told o)) (ap (λ (ds : List StoredDay). day_at d.date ds) is ∙ found date front d rest all lt)
 
   days_answered : (date : ℕ) (front rest : List StoredDay) → sent_days x ≡ front ++ rest → AllUpTo date front → Follow date rest → flat_map answer (map (λ d. AskDay d.date) rest ++ AskEvents ∷ AskSpeed ∷ AskTechnical ∷ [])
-      ≡ map told rest ++ AnEventList (event_message_of x) ∷ ATechnical (technical_message_of x) ∷ []
+      ≡ map told rest ++ AnEventList (event_message_of x) ∷ ASpeedList (speed_message_of x) ∷ ATechnical (technical_message_of x) ∷ []
   days_answered date front [] is all follow = ends
   days_answered date front (d ∷ rest) is all follow =
       ap (λ (l : List Message). l ++ flat_map answer (map (λ d. AskDay d.date) rest ++ AskEvents ∷ AskSpeed ∷ AskTechnical ∷ [])) (day_answered date front d rest is all follow.0)

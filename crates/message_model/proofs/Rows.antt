@@ -1,11 +1,11 @@
 -- Worked rows of a download: a day's message of a small day, and the minutes that a small file shows.
-use Rattle.std.proofs.Common.{◌≡◌, ℕ, ◌*◌, List, [], ◌∷◌, ◌++◌, length, refl, replicate, map}
+use Rattle.std.proofs.Common.{◌≡◌, ℕ, ◌+◌, ◌*◌, List, [], ◌∷◌, ◌++◌, length, refl, replicate, map}
 use Rattle.link_model.specs.Answers.{cuts}
 use Rattle.unit_model.specs.Days.{StoredDay}
-use Rattle.message_model.specs.Messages.{Overview, AnOverview, ADay, ATechnical, message_bytes}
+use Rattle.message_model.specs.Messages.{Overview, AnOverview, ADay, ASpeedList, ATechnical, content_of, message_bytes}
 use Rattle.message_model.specs.Sending.{zeros, day_message, period_of}
-use Rattle.message_model.specs.declared.sizes.TheConstants.{INSERTION, PLACE}
-use Rattle.message_model.specs.Records.{insertion_ring, unit_place_ring}
+use Rattle.message_model.specs.declared.sizes.TheConstants.{INSERTION, PLACE, SPEED_BLOCK}
+use Rattle.message_model.specs.Records.{insertion_ring, unit_place_ring, speed_ring}
 use Rattle.message_model.specs.Showing.{minutes_in}
 
 -- 2010-03-01 at 120000 km: rest and no card in both slots at 00:00, work with a card for the driver at 00:07
@@ -89,3 +89,17 @@ pieces_of_253 = refl
 
 pieces_of_502 : map (λ (piece : List ℕ). length piece) (cuts (zeros 502) 3) ≡ 251 ∷ 251 ∷ 0 ∷ []
 pieces_of_502 = refl
+
+-- a message of detailed speed without a block has 130 bytes behind 76 and its number; with 59 it has 3906
+no_block : length (content_of (ASpeedList (record { blocks = []; signature = zeros 128 }))) ≡ 130
+no_block = refl
+
+many_blocks : length (content_of (ASpeedList (record { blocks = replicate 59 (replicate 64 1); signature = zeros 128 }))) ≡ 3906
+many_blocks = refl
+
+-- which go in 16 pieces, of which the last has 141
+last_piece : length (content_of (ASpeedList (record { blocks = replicate 59 (replicate 64 1); signature = zeros 128 }))) ≡ 15 * 251 + 141
+last_piece = refl
+
+speed_width : (speed_ring.width ≡ SPEED_BLOCK) × (speed_ring.gate ≡ 0) × (speed_ring.base ≡ 2393644)
+speed_width = (refl, refl, refl)

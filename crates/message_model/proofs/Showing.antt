@@ -5,8 +5,8 @@ use Rattle.std.specs.List.{range_with_len}
 use Rattle.std.proofs.lemmas.Bool.Decides.{nat_tests}
 use Rattle.unit_model.specs.Days.{StoredDay, ShownDay, UnitMinute, slot_bit, word_state, word_minute, bare, state_by, state_after, state_at, day_of, minute_by, minute_at, minutes_shown, day_shown, minutes_of, day_kept}
 use Rattle.unit_model.specs.Image.{last_kept, unit_days, recorded, unit_minutes}
-use Rattle.message_model.specs.Messages.{ADay, AnEventList, ATechnical, EventMessage, TechnicalMessage}
-use Rattle.message_model.specs.Sending.{sent_days, overview_of, day_message_of, event_message_of, technical_message_of, messages_of}
+use Rattle.message_model.specs.Messages.{ADay, AnEventList, ASpeedList, ATechnical, EventMessage, SpeedMessage, TechnicalMessage}
+use Rattle.message_model.specs.Sending.{sent_days, overview_of, day_message_of, event_message_of, speed_message_of, technical_message_of, messages_of}
 use Rattle.message_model.specs.Showing.{minutes_told, minutes_in}
 
 -- words behind a minute say nothing of the minutes up to it
@@ -53,16 +53,16 @@ day_same k d = by (day_of d == k / 1440) refl
         let few : minutes_shown k (day_of d) ≡ k % 1440 + 1 = ap (λ (b : Bool). cond b (k % 1440 + 1) 1440) is in
         ap (λ (ms : List UnitMinute). record { day = day_of d; minutes = ms }) (map_range (minute_at less) (minute_at d) 0 (minutes_shown k (day_of d)) (λ t low. minute_same t (omega (arith, low, few))))
 
-module _ (k : ℕ) (x : List ℕ) (e : EventMessage) (t : TechnicalMessage) where
-  days_told : (days : List StoredDay) → flat_map (minutes_told (Some (60 * k))) (map (λ d. ADay (day_message_of x d)) (map (day_kept k) days) ++ AnEventList e ∷ ATechnical t ∷ []) ≡ minutes_of (map (day_shown k) days)
+module _ (k : ℕ) (x : List ℕ) (e : EventMessage) (v : SpeedMessage) (t : TechnicalMessage) where
+  days_told : (days : List StoredDay) → flat_map (minutes_told (Some (60 * k))) (map (λ d. ADay (day_message_of x d)) (map (day_kept k) days) ++ AnEventList e ∷ ASpeedList v ∷ ATechnical t ∷ []) ≡ minutes_of (map (day_shown k) days)
   unfolding day_message_of
   days_told [] = refl
   days_told (d ∷ days) =
       let whole : 60 * k / 60 ≡ k = omega arith in
-      ap (λ (l : List UnitMinute). l ++ flat_map (minutes_told (Some (60 * k))) (map (λ d. ADay (day_message_of x d)) (map (day_kept k) days) ++ AnEventList e ∷ ATechnical t ∷ []))
+      ap (λ (l : List UnitMinute). l ++ flat_map (minutes_told (Some (60 * k))) (map (λ d. ADay (day_message_of x d)) (map (day_kept k) days) ++ AnEventList e ∷ ASpeedList v ∷ ATechnical t ∷ []))
       (ap (λ (n : ℕ). (day_shown n (day_kept k d)).minutes) whole ∙ ap (λ (s : ShownDay). s.minutes) (day_same k d))
       ∙ ap (λ (l : List UnitMinute). (day_shown k d).minutes ++ l) (days_told days)
 
 pub file_minutes : (x : List ℕ) → minutes_in (messages_of x) ≡ unit_minutes x
 unfolding messages_of unit_minutes recorded sent_days overview_of
-file_minutes x = days_told (last_kept x) x (event_message_of x) (technical_message_of x) (filter (λ d. nat_le (day_of d) (last_kept x / 1440)) (unit_days x))
+file_minutes x = days_told (last_kept x) x (event_message_of x) (speed_message_of x) (technical_message_of x) (filter (λ d. nat_le (day_of d) (last_kept x / 1440)) (unit_days x))

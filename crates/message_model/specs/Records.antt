@@ -1,8 +1,9 @@
--- The insertions and places of a unit's image (Appendix 1, VuCardIWRecord, VuPlaceDailyWorkPeriodRecord).
+-- The insertions, places and speeds of a unit's image (Appendix 1, VuCardIWRecord, VuPlaceDailyWorkPeriodRecord, VuDetailedSpeedBlock).
 use Rattle.std.specs.Prelude.{ℕ, List, [], ◌∷◌}
 use Rattle.card_layout.specs.Fields.{total_width, place_in, number_in}
 use Rattle.unit_model.specs.Ring.{Shape}
-use Rattle.unit_model.specs.declared.layout.TheConstants.{INSERTIONS, INSERTION_SLOTS, PLACES, PLACE_SLOTS}
+use Rattle.unit_model.specs.declared.layout.TheConstants.{INSERTIONS, INSERTION_SLOTS, PLACES, PLACE_SLOTS, SPEEDS, SPEED_SLOTS}
+use Rattle.message_model.specs.declared.sizes.TheConstants.{SPEED_BLOCK}
 
 -- an insertion: surname, first names, card number, expiry, time, odometer, slot, withdrawal time and odometer, the previous vehicle and the
 -- time of the withdrawal from it, the manual flag
@@ -20,6 +21,10 @@ insertion_ring = record { base = INSERTIONS.place; width = total_width insertion
 -- its places, likewise
 abbrev pub unit_place_ring : Shape
 unit_place_ring = record { base = PLACES.place; width = total_width place_widths; count = PLACE_SLOTS; pointer_width = 4; gate = place_in place_widths 1 }
+
+-- its blocks of detailed speed: one is there where its time is not 0
+abbrev pub speed_ring : Shape
+speed_ring = record { base = SPEEDS.place; width = SPEED_BLOCK; count = SPEED_SLOTS; pointer_width = 4; gate = 0 }
 
 -- when a card was inserted, and when it was withdrawn, 0 where it was not
 abbrev pub insertion_time : List ℕ → ℕ

@@ -10,8 +10,8 @@ use Rattle.unit_model.specs.Days.{StoredDay, days_kept}
 use Rattle.unit_model.specs.Image.{number_of as number_in, last_kept, unit_days}
 use Rattle.link_model.specs.declared.request.Request.{Request}
 use Rattle.link_model.specs.declared.request.Request.TheVariants.{Overview as AskOverview, Day as AskDay, Events as AskEvents, Speed as AskSpeed, Technical as AskTechnical}
-use Rattle.message_model.specs.Records.{insertion_ring, unit_place_ring, insertion_time, withdrawal_time, place_time}
-use Rattle.message_model.specs.Messages.{Overview, DayMessage, EventMessage, TechnicalMessage, Message, AnOverview, ADay, AnEventList, ATechnical, content_of, message_bytes}
+use Rattle.message_model.specs.Records.{insertion_ring, unit_place_ring, speed_ring, insertion_time, withdrawal_time, place_time}
+use Rattle.message_model.specs.Messages.{Overview, DayMessage, EventMessage, SpeedMessage, TechnicalMessage, Message, AnOverview, ADay, AnEventList, ASpeedList, ATechnical, content_of, message_bytes}
 
 -- a field's bytes
 abbrev pub field_of : Field → List ℕ → List ℕ
@@ -106,6 +106,10 @@ event_message_of x =
       signature = zeros 128;
     }
 
+-- the blocks of detailed speed, oldest first
+unfoldable pub speed_message_of : List ℕ → SpeedMessage
+speed_message_of x = record { blocks = ring_list speed_ring x; signature = zeros 128 }
+
 unfoldable pub technical_message_of : List ℕ → TechnicalMessage
 technical_message_of x =
     record { identification = field_of IDENTIFICATION x; sensor = field_of SENSOR x; calibrations = []; signature = zeros 128 }
@@ -114,12 +118,12 @@ technical_message_of x =
 abbrev pub day_at : ℕ → List StoredDay → Option StoredDay
 day_at second days = find (λ d. nat_eq d.date second) days
 
--- the message that answers a request: none for a day that is not recorded, and none of detailed speed
+-- the message that answers a request: none for a day that is not recorded
 unfoldable pub message_of : List ℕ → Request → Option Message
 message_of x AskOverview = Some (AnOverview (overview_of x))
 message_of x (AskDay second) = option_map (λ d. ADay (day_message_of x d)) (day_at second (sent_days x))
 message_of x AskEvents = Some (AnEventList (event_message_of x))
-message_of x AskSpeed = None
+message_of x AskSpeed = Some (ASpeedList (speed_message_of x))
 message_of x AskTechnical = Some (ATechnical (technical_message_of x))
 
 -- what stands behind 76 and the number in the answer to a request, as the link's table takes it
@@ -135,11 +139,11 @@ abbrev pub Follow : (date : ℕ) → List StoredDay → Type 0
 Follow date [] = Unit {0}
 Follow date (d ∷ ds) = (date < d.date) × Follow d.date ds
 
--- the messages of a unit's image in their order: overview, each recorded day, events and faults, technical data
+-- the messages of a unit's image in their order: overview, each recorded day, events and faults, detailed speed, technical data
 unfoldable pub messages_of : List ℕ → List Message
 messages_of x =
     AnOverview (overview_of x) ∷ (map (λ d. ADay (day_message_of x d)) (sent_days x)
-    ++ AnEventList (event_message_of x) ∷ ATechnical (technical_message_of x) ∷ [])
+    ++ AnEventList (event_message_of x) ∷ ASpeedList (speed_message_of x) ∷ ATechnical (technical_message_of x) ∷ [])
 
 -- the unit file: these messages one after the other
 unfoldable pub unit_file : List ℕ → List ℕ

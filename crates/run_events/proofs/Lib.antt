@@ -14,6 +14,9 @@ pub mod Offs
 pub mod Crews
 pub mod WatchFed
 pub mod Noted
+pub mod Minutes
+pub mod NoteSpeeds
+pub mod Behind
 pub mod Pairs
 pub mod Turned
 pub mod CrewsFed

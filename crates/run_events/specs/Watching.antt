@@ -7,6 +7,7 @@ use Rattle.event_model.specs.Runs.{last_run, ended_runs}
 use Rattle.event_model.specs.Spans.{DriverSecond, SpeedSecond, bare_of, over_of, in_a_row}
 use Rattle.event_rules.specs.Bare as bare_feed
 use Rattle.event_rules.specs.Speeding as over_feed
+use Rattle.speed_store.specs.Feeding as minute
 use Rattle.run_crew.specs.declared.cards.Crew.{Crew}
 use Rattle.run_events.specs.declared.watch.Ended.{Ended}
 use Rattle.run_events.specs.declared.watch.Watch.{Watch}
@@ -84,13 +85,18 @@ pub record StandsFor (w : Watch) (seconds : List CrewSecond) : Type 0 where
   pub over_begin : w.over_begin ≡ first_crew (last_run (is_fast w.over.limit) seconds)
   pub last : w.last ≡ last_crew seconds
 
--- for some seconds, none of them at 0, up to a next one
-pub record Watches (w : Watch) (next : ℕ) : Type 0 where
+-- its events are watched for some seconds, none of them at 0, up to a next one
+pub record WatchesEvents (w : Watch) (next : ℕ) : Type 0 where
   pub seconds : List CrewSecond
   pub stands : StandsFor w seconds
   pub bare_next : bare_feed.IsNext w.bare next
   pub over_next : over_feed.IsNext w.over.run next
   pub late : AllByRecursion (λ (s : CrewSecond). 0 < s.number) seconds
+
+-- and so are the speeds of the minute that goes on
+pub record Watches (w : Watch) (next : ℕ) : Type 0 where
+  pub events : WatchesEvents w next
+  pub speeds : minute.Follows w.speeds next
 
 -- what has ended with the second before, with its cards
 abbrev pub bare_ended : Ended → Option BareWith

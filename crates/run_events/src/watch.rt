@@ -1,17 +1,20 @@
 //! The events of a power span as its seconds come: they are fed by runs, and noted where they have ended.
-ghost use Rattle.std.specs.Prelude.{◌≡◌, ◌≢◌, ◌+◌, ◌<◌, ◌≤◌, ◌^◌, true, Option, Some, None, [], IfSome, OnOk, is_err, unwrap_or, if◌then◌else◌};
+ghost use Rattle.std.specs.Prelude.{◌≡◌, ◌≢◌, ℕ, ◌+◌, ◌%◌, ◌<◌, ◌≤◌, ◌^◌, true, Option, Some, None, [], IfSome, OnOk, is_err, unwrap_or, if◌then◌else◌};
 ghost use Rattle.tach_media.specs.Medium.{HasCause, LeavesOnly};
 ghost use Rattle.unit_model.specs.Image.{IsUnit};
 ghost use Rattle.unit_notes.specs.Journal.{LeavesJournal};
+ghost use Rattle.speed_store.specs.Feeding as minute;
+ghost use Rattle.run_events.specs.Blocks.{IsBlockPut, IsPuttingBlock, IsWatchedOn};
 ghost use Rattle.run_crew.specs.declared.cards.Crew.{Crew};
 ghost use Rattle.run_events.specs.Entries.{number_or_no_card};
-ghost use Rattle.run_events.specs.Watching.{StandsFor, Watches, is_bare_at, bare_ended, over_ended};
-ghost use Rattle.run_events.specs.Noting.{IsBareNoted, IsNotingBare, IsFastNoted, IsNotingFast, AreNoted, AreBeingNoted, IsFed, IsWatched};
+ghost use Rattle.run_events.specs.Watching.{StandsFor, Watches, WatchesEvents, is_bare_at, bare_ended, over_ended};
+ghost use Rattle.run_events.specs.Noting.{IsBareNoted, IsNotingBare, IsFastNoted, IsNotingFast, AreNoted, AreBeingNoted, IsFed};
 
 use crate::entries::{card_bare, number_or_zeros};
 use event_model::{Over, Span};
 use event_rules::{NoCardRun, Overspeed};
 use run_crew::Crew;
+use speed_store::{Block, SpeedMinute, add_block};
 use tach_media::{Failed, Medium};
 use tacho_types::FullCardNumber;
 use unit_memory::UnitMemory;
@@ -28,6 +31,8 @@ pub struct Watch {
     pub over_begin: Option<Crew>,
     /// The cards at the last second.
     pub last: Crew,
+    /// The speeds of the minute that goes on.
+    pub speeds: SpeedMinute,
 }
 
 /// What has ended with the second before: driving without a card, and an over speeding, with the cards at the first second of each and
@@ -46,6 +51,7 @@ impl Watch {
     pub fn new(limit: u8) -> Watch
         ensures stands { StandsFor result [] }
         ensures limit { (result.over.limit ≡ limit) × (result.limit ≡ limit) }
+        ensures speeds { (next : ℕ) → minute.StandsFor result.speeds [] next }
     {
         Watch {
             bare: NoCardRun::new(),
@@ -54,11 +60,12 @@ impl Watch {
             bare_begin: None,
             over_begin: None,
             last: Crew::default(),
+            speeds: SpeedMinute::new(),
         }
     }
 
     /// So many seconds more at one speed, one at least, from `first` on, with these cards accepted in them: what has ended with the
-    /// second before them is noted, driving without a card first.
+    /// second before them is noted, driving without a card first. Before that the block of the minute is added that ends with them.
     ///
     /// # Errors
     ///
@@ -73,7 +80,8 @@ impl Watch {
         unit: &mut M,
     ) -> Result<(), Failed>
         requires some { 0 < n }
-        requires low { 0 < first }
+        requires low { 60 ≤ first }
+        requires minute { first % 60 + n ≤ 60 }
         requires fits { first + n ≤ 2 ^ 32 }
         requires limit { self.old.limit ≡ self.old.over.limit }
         requires watches { Watches self.old first }
@@ -81,13 +89,15 @@ impl Watch {
         requires works { (M.state unit.old).works ≡ true }
         ensures watches { Watches self.new (first + n) }
         ensures limit { self.new.limit ≡ self.new.over.limit }
-        ensures watched { IsWatched (is_err result) self.old self.new first n speed crew (M.state unit.old) (M.state unit.new) }
+        ensures watched { IsWatchedOn (is_err result) self.old self.new first n speed crew (M.state unit.old) (M.state unit.new) }
         ensures journal { LeavesOnly (M.state unit.old) (M.state unit.new) LeavesJournal }
         ensures unit { IsUnit (M.state unit.new) }
         ensures cause { HasCause (M.state unit.old) (M.state unit.new) (is_err result) }
-        ensures most { (M.state unit.new).clock ≤ (M.state unit.old).clock + 10 }
+        ensures most { (M.state unit.new).clock ≤ (M.state unit.old).clock + 15 }
     {
+        let block = self.speeds.feed(first, n, speed);
         let ended = self.feed(first, n, speed, crew);
+        put_block(&block, unit)?;
         note_ended(memory, &ended, unit)
     }
 
@@ -97,10 +107,11 @@ impl Watch {
         requires low { 0 < first }
         requires fits { first + n ≤ 2 ^ 32 }
         requires limit { self.old.limit ≡ self.old.over.limit }
-        requires watches { Watches self.old first }
-        ensures watches { Watches self.new (first + n) }
+        requires watches { WatchesEvents self.old first }
+        ensures watches { WatchesEvents self.new (first + n) }
         ensures limit { self.new.limit ≡ self.new.over.limit }
         ensures fed { IsFed self.old self.new first n speed crew result }
+        ensures speeds { self.new.speeds ≡ self.old.speeds }
         ensures bare { IfSome result.bare (λ s. 0 < s.begin) }
         ensures over { IfSome result.over (λ o. 0 < o.begin) }
     {
@@ -134,6 +145,24 @@ fn begin_of(goes_on: bool, begin: Option<Crew>, crew: Crew) -> Option<Crew>
         Some(begin.unwrap_or(crew))
     } else {
         None
+    }
+}
+
+// The block of a minute is added, if there is one.
+fn put_block<M: Medium>(block: &Option<Block>, unit: &mut M) -> Result<(), Failed>
+    requires unit { IsUnit (M.state unit.old) }
+    requires works { (M.state unit.old).works ≡ true }
+    requires time { IfSome block.now (λ b. 0 < b.time) }
+    ensures put { OnOk result (IfSome (M.state unit.old).image (λ x. IfSome (M.state unit.new).image (IsBlockPut block.now x))) }
+    ensures moments { LeavesOnly (M.state unit.old) (M.state unit.new) (IsPuttingBlock block.now) }
+    ensures journal { LeavesOnly (M.state unit.old) (M.state unit.new) LeavesJournal }
+    ensures unit { IsUnit (M.state unit.new) }
+    ensures cause { HasCause (M.state unit.old) (M.state unit.new) (is_err result) }
+    ensures most { (M.state unit.new).clock ≤ (M.state unit.old).clock + 5 }
+{
+    match block {
+        None => Ok(()),
+        Some(block) => add_block(unit, block),
     }
 }
 

@@ -1,2 +1,4 @@
 pub mod Leaving
 pub mod Speeds
+pub mod Blocks
+pub mod Spans

@@ -1,1 +1,2 @@
 pub mod Speeds
+pub mod Spans

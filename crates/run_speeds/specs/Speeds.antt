@@ -1,5 +1,5 @@
 -- What a unit carries of the blocks of detailed speed of a run (profile): in each image that a stop might have left of it.
-use Rattle.std.specs.Prelude.{◌≡◌, ◌⊎◌, ℕ, ◌≤◌, Bool, true, List, ◌++◌}
+use Rattle.std.specs.Prelude.{◌≡◌, ◌⊎◌, ℕ, ◌≤◌, Bool, true, false, Option, IfSome, is_some, option_to_list, List, ◌++◌}
 use Rattle.std.specs.List.{AllByRecursion}
 use Rattle.card_layout.specs.Images.{bytes_at}
 use Rattle.tach_media.specs.Medium.{State}
@@ -57,3 +57,11 @@ pub record LeavesSpeeds (old new : State) : Type 0 where
   pub later : old.clock ≤ new.clock
   pub now : (c : List ℕ) → new.may_leave c → (x : List ℕ) × old.may_leave x × HasSameSpeeds x c
   pub since : (t : ℕ) (c : List ℕ) → t ≤ old.clock → new.left_since t c → old.left_since t c ⊎ ((x : List ℕ) × old.may_leave x × HasSameSpeeds x c)
+
+-- ---- a block more
+
+-- CALLS CARRY A BLOCK, if there is one, behind all that the unit carries; where one of them failed, a block that is not sure
+pub record CarriesBlock (block : Option Block) (failed : Bool) (old new : State) : Type 0 where
+  pub later : old.clock ≤ new.clock
+  pub carries : is_some old.image ≡ true → (is_sure : Block → Bool) (start : List ℕ) (began : ℕ) (blocks : List Block) → (failed ≡ true → IfSome block (λ b. is_sure b ≡ false)) →
+      HasSpeeds is_sure start began blocks old → HasSpeeds is_sure start began (blocks ++ option_to_list block) new

@@ -1,14 +1,10 @@
--- The ring of the blocks of detailed speed in a unit's image (profile).
+-- What the ring of detailed speed holds in a unit's image (profile).
 use Rattle.std.specs.Prelude.{◌≡◌, ℕ, List, ◌++◌, map}
-use Rattle.unit_model.specs.Ring.{Shape, PointsInside, ring_list, IsDense, newest_of}
-use Rattle.unit_model.specs.declared.layout.TheConstants.{SPEEDS}
-use Rattle.speed_model.specs.declared.block.TheConstants.{BLOCK_SIZE, BLOCK_SLOTS}
+use Rattle.unit_model.specs.Ring.{PointsInside, ring_list, IsDense, newest_of}
+pub use Rattle.message_model.specs.Records.{speed_ring}
+use Rattle.speed_model.specs.declared.block.TheConstants.{BLOCK_SLOTS}
 use Rattle.speed_model.specs.declared.block.Block.{Block}
 use Rattle.speed_model.specs.Blocks.{block_bytes}
-
--- a block is there where its time is not 0
-abbrev pub speed_ring : Shape
-speed_ring = record { base = SPEEDS.place; width = BLOCK_SIZE; count = BLOCK_SLOTS; pointer_width = 4; gate = 0 }
 
 -- THE BLOCKS OF AN IMAGE, oldest first
 abbrev pub stored_blocks : List ℕ → List (List ℕ)

@@ -1,4 +1,5 @@
 //! A minute's speeds.
+use message_model::sizes::SPEED_BLOCK;
 use unit_model::layout::SPEED_SLOTS;
 
 /// A minute's speeds in km/h, second by second, and the number of its first second.
@@ -9,7 +10,7 @@ pub struct Block {
 }
 
 /// The size of a block in bytes (Annex IB, Appendix 1, VuDetailedSpeedBlock).
-pub const BLOCK_SIZE: u32 = 64;
+pub const BLOCK_SIZE: u32 = SPEED_BLOCK;
 
 /// How many blocks a unit has room for.
 pub const BLOCK_SLOTS: u32 = SPEED_SLOTS;

@@ -1,5 +1,6 @@
 -- The speeds of a minute as its seconds come.
-use Rattle.std.proofs.Common.{◌≡◌, IfSome, ℕ, zero, suc, ◌+◌, ◌-◌, ◌/◌, ◌%◌, ◌<◌, ◌≤◌, ◌==◌, ◌&&◌, Bool, true, false, cond, Option, Some, None, List, [], ◌∷◌, ◌++◌, length, replicate, filter_map, option_to_list, refl, sym, ◌∙◌, ap, subst, arith, append_assoc, append-nil, length-append}
+use Rattle.std.proofs.Common.{◌≡◌, IfSome, ℕ, zero, suc, ◌+◌, ◌-◌, ◌/◌, ◌%◌, ◌<◌, ◌≤◌, ◌==◌, ◌&&◌, Bool, true, false, cond, Option, Some, None, List, [], ◌∷◌, ◌++◌, length, replicate, filter_map, option_to_list, refl, sym, ◌∙◌, ap, subst, arith, append_assoc, append-nil, length-append, nat_lt}
+use Rattle.std.proofs.lemmas.Bool.{eqb-true, ltb-true, ltb-false}
 use Rattle.std.proofs.lemmas.Bool.Decides.{nat_tests}
 use Rattle.std.proofs.lemmas.List.{length-map, map-append}
 use Rattle.std.proofs.lemmas.List.Elements.{filter_map-append}
@@ -8,7 +9,7 @@ use Rattle.std.specs.List.{AllByRecursion}
 use Rattle.event_model.specs.Spans.{SpeedSecond, InARow, first_of, numbers, speeds, at_speed}
 use Rattle.speed_model.specs.declared.block.Block.{Block}
 use Rattle.speed_model.specs.Blocks.{minute_of, lies_in, with_second, minutes_of, is_moving, block_of, blocks_of}
-use Rattle.speed_store.specs.Feeding.{with_going, IsEarlier, StandsFor, block_in}
+use Rattle.speed_store.specs.Feeding.{with_going, IsEarlier, StandsFor, block_in, block_at}
 
 abbrev second_at : (number speed : ℕ) → SpeedSecond
 second_at number speed = record { number = number; speed = speed }
@@ -236,3 +237,39 @@ ends (suc n) kept seconds next speed h last =
 pub time-behind : (o : Option Block) (time end : ℕ) → IfSome o (λ b. b.time ≡ time) → time + 60 ≡ end → IfSome o (λ b. b.time + 60 ≡ end)
 time-behind None time end is at = tt
 time-behind (Some b) time end is at = ap (λ (k : ℕ). k + 60) is ∙ at
+
+-- ---- the speeds of a block are sixty
+
+pub sixty-in : (o : Option Block) (time : ℕ) (kept : List ℕ) → o ≡ block_in time kept → IfSome o (λ b. length b.speeds ≡ 60)
+sixty-in o time kept is = subst (λ (p : Option Block). IfSome p (λ b. length b.speeds ≡ 60)) (sym is) (by (length kept == 60) (is_moving kept) refl)
+  where
+    by : (whole moving : Bool) → (length kept == 60) ≡ whole → IfSome {T = Block} (cond (whole && moving) (Some (record { time = time; speeds = kept })) None) (λ b. length b.speeds ≡ 60)
+    by true true sixty = eqb-true (length kept) 60 sixty
+    by true false sixty = tt
+    by false moving sixty = tt
+
+-- ---- THE BLOCK OF A MINUTE, by what is kept of it
+
+pub given-at : (n : ℕ) (kept : List ℕ) (seconds : List SpeedSecond) (next speed : ℕ) → 0 < n → next % 60 + n ≤ 60 → StandsFor kept seconds next →
+    blocks_of (seconds ++ at_speed next n speed) ≡ blocks_of seconds ++ option_to_list (block_at kept next n speed)
+given-at zero kept seconds next speed some le h = absurd (omega (arith, some))
+given-at (suc n) kept seconds next speed some le h = by (nat_lt (next % 60 + suc n) 60) refl
+  where
+    by : (b : Bool) → nat_lt (next % 60 + suc n) 60 ≡ b →
+        blocks_of (seconds ++ at_speed next (suc n) speed) ≡ blocks_of seconds ++ option_to_list (cond b None (block_in (next + suc n - 60) (kept ++ replicate (suc n) speed)))
+    by true less = (grows (suc n) kept seconds next speed h (ltb-true (next % 60 + suc n) 60 less)).1 ∙ sym (append-nil (blocks_of seconds))
+    by false more =
+        let high = ltb-false (next % 60 + suc n) 60 more in
+        (ends n kept seconds next speed h (omega (arith, le, high))).1
+
+pub time-at : (n : ℕ) (kept : List ℕ) (next speed : ℕ) → next % 60 + n ≤ 60 → IfSome (block_at kept next n speed) (λ b. b.time + 60 ≡ next + n)
+time-at n kept next speed le = by (nat_lt (next % 60 + n) 60) refl
+  where
+    at : 60 ≤ next % 60 + n → (whole moving : Bool) → IfSome {T = Block} (cond (whole && moving) (Some (record { time = next + n - 60; speeds = kept ++ replicate n speed })) None) (λ b. b.time + 60 ≡ next + n)
+    at high true true = omega (arith, high)
+    at high true false = tt
+    at high false moving = tt
+
+    by : (b : Bool) → nat_lt (next % 60 + n) 60 ≡ b → IfSome {T = Block} (cond b None (block_in (next + n - 60) (kept ++ replicate n speed))) (λ b. b.time + 60 ≡ next + n)
+    by true less = tt
+    by false more = at (ltb-false (next % 60 + n) 60 more) (length (kept ++ replicate n speed) == 60) (is_moving (kept ++ replicate n speed))

@@ -1,5 +1,5 @@
 -- What the speeds that are kept of a minute stand for.
-use Rattle.std.specs.Prelude.{◌≡◌, ℕ, ◌-◌, ◌/◌, ◌%◌, ◌<◌, ◌≤◌, ◌==◌, ◌&&◌, Option, Some, None, List, [], ◌∷◌, ◌++◌, length, if◌then◌else◌}
+use Rattle.std.specs.Prelude.{◌≡◌, ℕ, ◌+◌, ◌-◌, ◌/◌, ◌%◌, ◌<◌, ◌≤◌, ◌==◌, ◌&&◌, nat_lt, Option, Some, None, List, [], ◌∷◌, ◌++◌, length, replicate, if◌then◌else◌}
 use Rattle.std.specs.List.{AllByRecursion}
 use Rattle.event_model.specs.Spans.{SpeedSecond, InARow, numbers, speeds}
 use Rattle.speed_model.specs.declared.block.Block.{Block}
@@ -33,3 +33,7 @@ Follows kept next = (seconds : List SpeedSecond) × StandsFor kept seconds next
 -- the block of a minute that began at this second and of which these speeds are kept: where they are all, and one is moving
 abbrev pub block_in : (time : ℕ) → (kept : List ℕ) → Option Block
 block_in time kept = if length kept == 60 && is_moving kept then Some (record { time = time; speeds = kept }) else None
+
+-- the block of the minute that ends with n seconds more at one speed
+abbrev pub block_at : (kept : List ℕ) → (next n speed : ℕ) → Option Block
+block_at kept next n speed = if nat_lt (next % 60 + n) 60 then None else block_in (next + n - 60) (kept ++ replicate n speed)

@@ -1,3 +1,4 @@
 pub mod Feeding
 pub mod Faults
 pub mod Stores
+pub mod Finding

@@ -3,6 +3,7 @@
 #![tactic(auto)]
 
 mod fault;
+mod finding;
 mod laws;
 mod minute;
 mod ring;

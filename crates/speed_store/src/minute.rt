@@ -49,6 +49,7 @@ impl SpeedMinute {
         ensures fed { (seconds : List SpeedSecond) → StandsFor self.old seconds second → StandsFor self.new (seconds ++ at_speed second n speed) (second + n) }
         ensures given { (seconds : List SpeedSecond) → StandsFor self.old seconds second → blocks_of (seconds ++ at_speed second n speed) ≡ blocks_of seconds ++ option_to_list result }
         ensures time { IfSome result (λ b. b.time + 60 ≡ second + n) }
+        ensures whole { IfSome result (λ b. length b.speeds ≡ 60) }
     {
         self.put(n, speed);
         let behind = second % SECONDS + n;

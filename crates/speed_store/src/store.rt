@@ -1,17 +1,19 @@
 //! The blocks of a unit, counted and read.
-ghost use Rattle.std.specs.Prelude.{◌≡◌, ◌≢◌, ◌≤◌, ◌<◌, ◌+◌, ◌==◌, true, IfOk, IfErr, IfSome, OnOk, is_err, if◌then◌else◌};
+ghost use Rattle.std.specs.Prelude.{◌≡◌, ◌≢◌, ◌≤◌, ◌<◌, ◌+◌, ◌==◌, true, IfOk, IfErr, IfSome, OnOk, is_err, if◌then◌else◌, get_or};
 ghost use Rattle.tach_media.specs.Medium.{LeavesOnly, Reads, HasCause, IsSettled, Rose, last_count};
-ghost use Rattle.gated_ring.specs.Ring.{pointer, gate_of};
+ghost use Rattle.gated_ring.specs.Ring.{pointer, gate_of, indices};
 ghost use Rattle.gated_ring.specs.Change.{IsAdding, IsAdded};
 ghost use Rattle.unit_model.specs.declared.layout.TheConstants.{IMAGE_SIZE};
 ghost use Rattle.unit_model.specs.Image.{IsUnit};
 ghost use Rattle.speed_model.specs.declared.block.TheConstants.{BLOCK_SLOTS};
 ghost use Rattle.speed_model.specs.Blocks.{block_bytes};
 ghost use Rattle.speed_model.specs.Stored.{speed_ring};
+ghost use Rattle.speed_store.specs.Finding.{IsBlockAt};
 ghost use Rattle.speed_store.specs.Faults.{IfBadPointer, has_failed};
 ghost use Rattle.speed_store.specs.Stores.{Holds, there_count, with_one};
 
 use crate::SpeedFault;
+use crate::finding::{block_at, index_of};
 use crate::ring::{POINTER, add_block, blocks};
 use gated_ring::Ring;
 use speed_model::{BLOCK_SIZE, BLOCK_SLOTS, Block};
@@ -60,6 +62,22 @@ impl SpeedStore {
         self.count
     }
 
+    /// The block of this number, the oldest of all with 0; it writes nothing.
+    ///
+    /// # Errors
+    ///
+    /// `Failed` where the medium failed.
+    pub fn block<M: Medium>(&self, unit: &mut M, nth: u16) -> Result<Block, Failed>
+        requires unit { IsUnit (M.state unit.old) }
+        requires nth { nth < self.now }
+        ensures block { IfOk result (λ block. IfSome (M.state unit.old).image (λ x. Holds self.now x → IsBlockAt x (get_or (indices speed_ring x) nth 0) block)) }
+        ensures reads { Reads (M.state unit.old) (M.state unit.new) (is_err result) }
+    {
+        let index = index_of(unit, nth)?;
+        let block = block_at(unit, index)?;
+        Ok(block)
+    }
+
     /// Adds the newest block. A stop leaves the blocks before, those without the oldest where all places were taken, or those with
     /// the new one; no other byte of the unit changes.
     ///
@@ -95,10 +113,10 @@ impl SpeedStore {
 }
 
 // Where the time of a block stands.
-fn time_place(index: u32) -> u32
+pub(crate) fn time_place(index: u32) -> u32
     requires { index < BLOCK_SLOTS }
     ensures place { result ≡ gate_of speed_ring index }
-    ensures inside { result + 4 ≤ IMAGE_SIZE }
+    ensures inside { result + 64 ≤ IMAGE_SIZE }
 {
     SPEEDS.place + POINTER as u32 + index * BLOCK_SIZE
 }

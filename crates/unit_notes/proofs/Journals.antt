@@ -11,13 +11,13 @@ use Rattle.tacho_types.specs.declared.numbers.Odometer.{Odometer}
 use Rattle.gated_ring.specs.Ring.{size_of, place_of}
 use Rattle.gated_ring.specs.Change.{IsAdding}
 use Rattle.event_model.specs.declared.kinds.TheConstants.{OVER_SPEEDING}
-use Rattle.message_model.specs.Records.{insertion_ring, unit_place_ring}
+use Rattle.message_model.specs.Records.{insertion_ring, unit_place_ring, speed_ring}
 use Rattle.note_model.specs.Tables.{table_of}
 use Rattle.unit_model.specs.Days.{word_minute}
 use Rattle.unit_model.specs.Decoding.{Decodes, is_version_good, is_rule_good, cell_place}
 use Rattle.unit_minutes.specs.Beside.{SameJournal}
 use Rattle.unit_minutes.proofs.Beside.{decodes_beside, passes_beside}
-use Rattle.unit_notes.specs.Journal.{KeepsJournal}
+use Rattle.unit_notes.specs.Journal.{KeepsJournal, LeavesJournal}
 use Rattle.unit_notes.specs.Noting.{IsWithdrawing, IsEventNoted, IsNotingOver, with_first, with_one_more}
 use Rattle.unit_notes.proofs.Types.{table_inside}
 
@@ -34,6 +34,15 @@ keeps a n x c (inr high) same = record {
   front = part_before a n 0 572 x c same (omega (arith, high.0));
   rest = part_before a n 580 2114464 x c same (omega (arith, high.0));
   spare = part_after a n 2393642 2 x c same high.1;
+  same_length = same.same_length;
+}
+
+-- nor what is written in the ring of detailed speed
+speeds_keep : (x c : List ℕ) → SameOutside 2393644 92164 x c → KeepsJournal x c
+speeds_keep x c same = record {
+  front = part_before 2393644 92164 0 572 x c same (omega arith);
+  rest = part_before 2393644 92164 580 2114464 x c same (omega arith);
+  spare = part_before 2393644 92164 2393642 2 x c same (omega arith);
   same_length = same.same_length;
 }
 
@@ -124,6 +133,15 @@ insertions_end = omega arith
 
 insertions_before_speeds : 2115044 + 264196 ≤ 2393644
 insertions_before_speeds = omega arith
+
+overs_low_speeds : 576 + 4 ≤ 2393644
+overs_low_speeds = omega arith
+
+insertions_low_speeds : 2115044 + 4 ≤ 2393644
+insertions_low_speeds = omega arith
+
+places_low_speeds : 2379240 + 4 ≤ 2393644
+places_low_speeds = omega arith
 
 places_before_speeds : 2379240 + 7144 ≤ 2393644
 places_before_speeds = omega arith
@@ -265,6 +283,21 @@ place_decodes head x c adding decodes =
     (adding.step was.places).points
     (high_number 2379240 7144 2393644 x c 1440 adding.outside places_before_speeds was.speeds)
     decodes
+
+-- a change of the ring of detailed speed that leaves its pointer an index
+speeds_decode : (x c : List ℕ) → SameOutside 2393644 92164 x c → (number_at x 2393644 4 < 1440 → number_at c 2393644 4 < 1440) → Decodes x → Decodes c
+speeds_decode x c same points decodes =
+    let was = passes_beside x decodes in
+    still_decodes x c (speeds_keep x c same)
+    (overs_few (number_at c 576 4) (low_number 2393644 92164 576 x c 256 same overs_low_speeds (overs_below x decodes)))
+    (low_number 2393644 92164 2115044 x c 2048 same insertions_low_speeds was.insertions)
+    (low_number 2393644 92164 2379240 x c 255 same places_low_speeds was.places)
+    (points was.speeds)
+    decodes
+
+-- a block that is being added to it
+pub block_adding : (head x c : List ℕ) → IsAdding speed_ring head x c → LeavesJournal x c
+block_adding head x c adding = record { keeps = speeds_keep x c adding.outside; decodes = speeds_decode x c adding.outside (λ inside. (adding.step inside).points) }
 
 -- a change of one insertion, behind the ring's pointer
 entry_decodes : (i : ℕ) (x c : List ℕ) → i < 2048 → SameOutside (place_of insertion_ring i) 129 x c → Decodes x → Decodes c

@@ -3,7 +3,7 @@ use Rattle.std.proofs.lemmas.List.{append-nil, length-map}
 use Rattle.event_model.specs.Spans.{SpeedSecond, at_speed}
 use Rattle.speed_model.specs.Blocks.{blocks_of}
 use Rattle.speed_store.specs.Feeding.{StandsFor, block_in}
-use Rattle.speed_store.proofs.Feeding.{grows, Ends, ends, time-behind}
+use Rattle.speed_store.proofs.Feeding.{grows, Ends, ends, time-behind, sixty-in}
 use Rattle.speed_store.proofs.minute.SpeedMinute.feed.Goals as goal
 
 pub put-requires : goal.put-requires
@@ -35,3 +35,6 @@ returns-clause-given c = λ seconds h.
 
 pub returns-clause-time : goal.returns-clause-time
 returns-clause-time c = time-behind c.close.result (c.args.second - (60 - c.args.n)) (c.args.second + c.args.n) c.close.ensures.time (omega (arith, c.requires.minute, c.if-behind-lt-SECONDS.false))
+
+pub returns-clause-whole : goal.returns-clause-whole
+returns-clause-whole c = sixty-in c.close.result (c.args.second - (60 - c.args.n)) c.put.new.self c.close.ensures.block
