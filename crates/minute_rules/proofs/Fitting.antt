@@ -66,7 +66,7 @@ waited-fits next n (Some count) act codriver c h =
     let e = with_run-going (with_run c.driver Work (c.open_seconds + (120 - count))) act (n - (120 - count)) in
     rw ends (record { driver = omega (arith, d, e, more, h.driver); codriver = omega (arith, k, h.codriver); travelled = omega (arith, h.travelled) }))
 
-times-most : (n speed : ℕ) → speed ≤ 255 → n * speed ≤ 255 * n
+pub times-most : (n speed : ℕ) → speed ≤ 255 → n * speed ≤ 255 * n
 times-most zero speed le = omega arith
 times-most (suc n) speed le = let rest = times-most n speed le in omega (arith, rest, le)
 

@@ -107,6 +107,17 @@ times-more : (n speed : ℕ) → n * speed + 1 * speed ≡ (n + 1) * speed
 times-more zero speed = omega arith
 times-more (suc n) speed = let rest = times-more n speed in grind (arith, rest)
 
+-- so many of one, and so many more
+pub times-both : (a b speed : ℕ) → a * speed + b * speed ≡ (a + b) * speed
+times-both a zero speed = let e : a + 0 ≡ a = omega arith in (let z : a * speed + 0 * speed ≡ a * speed = omega arith in z) ∙ ap (λ (n : ℕ). n * speed) (sym e)
+times-both a (suc b) speed =
+    let rest = times-both a b speed in
+    let one : b * speed + 1 * speed ≡ (b + 1) * speed = times-more b speed in
+    let more : (a + b) * speed + 1 * speed ≡ (a + b + 1) * speed = times-more (a + b) speed in
+    let e : b + 1 ≡ suc b = omega arith in
+    let f : a + b + 1 ≡ a + suc b = omega arith in
+    ap (λ (n : ℕ). a * speed + n * speed) (sym e) ∙ (let s : a * speed + (b + 1) * speed ≡ (a + b + 1) * speed = omega (arith, rest, one, more) in s) ∙ ap (λ (n : ℕ). n * speed) f
+
 pub driven-more : (n speed : ℕ) (k : Kept) → driven 1 speed (driven n speed k) ≡ driven (n + 1) speed k
 driven-more n speed k =
     let e : k.next + n + 1 ≡ k.next + (n + 1) = omega arith in

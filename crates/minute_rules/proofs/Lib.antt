@@ -6,3 +6,5 @@ pub mod Selecting
 pub mod Feeding
 pub mod Classing
 pub mod Giving
+pub mod GoingOn
+pub mod Parts

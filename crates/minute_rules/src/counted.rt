@@ -1,10 +1,12 @@
 //! What is counted of one minute.
-ghost use Rattle.std.specs.Prelude.{◌^◌, ◌-◌, ◌≡◌, ◌+◌, ◌*◌, ◌≤◌, map, length};
+ghost use Rattle.std.specs.Prelude.{◌^◌, ◌-◌, ◌≡◌, ◌+◌, ◌*◌, ◌<◌, ◌≤◌, map, length};
 ghost use Rattle.std.specs.List.{AllByRecursion};
 ghost use Rattle.activity_codec.specs.Activity.{is_driving};
+ghost use Rattle.std.specs.Bool.{OnFalse};
+ghost use Rattle.minute_rules.specs.Alike.{further};
 ghost use Rattle.minute_rules.specs.Counted.{Fits, closed, opened, with_driver, with_codriver, moved, waited, waits_on, past_waited, drivers_longest, class_by};
 
-use crate::tally::Tally;
+use crate::tally::{Tally, tallies_differ};
 use activity_codec::{Activity, Steps};
 use arrayvec::ArrayVec;
 use minute_model::{Rule, WAIT};
@@ -128,6 +130,20 @@ impl Counted {
         }
     }
 
+    /// The same, so much further on.
+    pub fn further(self, more: u64) -> Self
+        requires { self.travelled + more < 2 ^ 64 }
+        ensures { result ≡ further more self }
+    {
+        Counted {
+            driver: self.driver,
+            open_seconds: self.open_seconds,
+            drives: self.drives,
+            codriver: self.codriver,
+            travelled: self.travelled + more,
+        }
+    }
+
     /// The driver's longest activity: what is open counts as WORK.
     pub fn drivers_longest(self) -> Activity
         requires { Fits (2 ^ 32 - 1) self }
@@ -149,6 +165,45 @@ pub fn close_all<L: Ledger>(minutes: &mut [Counted], act: Activity, steps: &mut 
         minutes[i].close(act);
         steps.tick();
     }
+}
+
+/// Whether one is so and the other is not.
+fn flags_differ(one: bool, other: bool) -> bool
+    ensures { OnFalse result (one ≡ other) }
+{
+    if one {
+        return !other;
+    }
+    other
+}
+
+/// Whether something else is counted of one minute than of another.
+pub fn counts_differ(one: Counted, other: Counted) -> bool
+    ensures { OnFalse result (one ≡ other) }
+{
+    if one.open_seconds != other.open_seconds || one.travelled != other.travelled {
+        return true;
+    }
+    let drives = flags_differ(one.drives, other.drives);
+    let drivers = tallies_differ(one.driver, other.driver);
+    let codrivers = tallies_differ(one.codriver, other.codriver);
+    if drives || drivers || codrivers {
+        return true;
+    }
+    false
+}
+
+/// Whether something else is counted of some minutes than of as many others.
+pub fn differ(ones: &[Counted], others: &[Counted]) -> bool
+    requires { length ones.now ≡ length others.now }
+    ensures { OnFalse result (ones.now ≡ others.now) }
+{
+    for i in 0..ones.len() {
+        if counts_differ(ones[i], others[i]) {
+            return true;
+        }
+    }
+    false
 }
 
 /// Where the wait since the stop ends in the next seconds, the open seconds get WORK.

@@ -7,4 +7,4 @@ mod slots;
 mod tally;
 
 pub use minute_model::{Minute, Rule};
-pub use minutes::{Decided, Minutes};
+pub use minutes::{Alike, Decided, Minutes};

@@ -3,10 +3,15 @@ ghost use Rattle.std.specs.Prelude.{◌^◌, ◌≡◌, ◌+◌, ◌-◌, ◌*�
 ghost use Rattle.activity_codec.specs.Activity.{activity_of};
 ghost use Rattle.minute_model.specs.Minute.{minutes_ahead};
 ghost use Rattle.minute_model.specs.Span.{Span, activity_next, begin, fed, fed_many, picked, settled, decided_in, travelled_of, end_of};
+ghost use Rattle.std.specs.List.{AllByRecursion};
+ghost use Rattle.std.specs.Bool.{OnTrue, OnFalse};
+ghost use Rattle.minute_rules.specs.Alike.{later, moment_of, decided_alike};
 ghost use Rattle.minute_rules.specs.Kept.{StandsFor};
 
-use crate::counted::{Counted, PAST, close_all, driver_class, end_late, still_waiting};
-use crate::slots::{CodriverSlot, DriverSlot};
+use crate::counted::{
+    Counted, PAST, close_all, counts_differ, differ, driver_class, end_late, still_waiting,
+};
+use crate::slots::{CodriverSlot, DriverSlot, codrivers_differ, drivers_differ};
 use activity_codec::{Activity, Pick, Slot, Steps};
 use arrayvec::ArrayVec;
 use minute_model::{Minute, Rule};
@@ -15,6 +20,15 @@ use std::sync::ledger::{Blank, Ledger};
 
 /// The minutes that one call decides, in order.
 pub type Decided = ArrayVec<Minute, 3>;
+
+/// What a run of seconds at one speed decides: how many seconds they were, and minutes so many times, each time a minute later
+/// at that speed.
+#[derive(Drop)]
+pub struct Alike {
+    pub seconds: u32,
+    pub decided: Decided,
+    pub times: u32,
+}
 
 /// A span of seconds with power, so far.
 ///
@@ -33,6 +47,17 @@ pub struct Minutes {
     here: Counted,
     driver: DriverSlot,
     codriver: CodriverSlot,
+}
+
+/// What is kept of a span but for the minutes before that of the next second.
+#[derive(Clone, Copy)]
+pub struct Moment {
+    pub rule: Rule,
+    pub next: u32,
+    pub owing: u32,
+    pub here: Counted,
+    pub driver: DriverSlot,
+    pub codriver: CodriverSlot,
 }
 
 impl Model for Minutes {
@@ -148,6 +173,132 @@ impl Minutes {
         }
         self.run(n, speed, steps);
         self.end_minute()
+    }
+
+    /// Feeds the next seconds at one speed, some of so many: those that are left of the next second's minute; or that minute,
+    /// where it is whole, and all whole minutes behind it, where they go on alike.
+    ///
+    /// The number of the next second and `most` together are at most 4294967295.
+    pub fn feed_long<L: Ledger>(&mut self, most: u32, speed: u8, steps: &mut Steps<L>) -> Alike
+        requires some { 0 < most }
+        requires fits { self.old.next + most ≤ 2 ^ 32 - 1 }
+        ensures seconds { (0 < result.seconds) × (result.seconds ≤ most) }
+        ensures fed { (span : Span) → StandsFor self.old span → StandsFor self.new (fed_many span speed result.seconds) }
+        ensures given { (span : Span) → StandsFor self.old span → decided_in (fed_many span speed result.seconds) ≡ decided_in span ++ decided_alike speed result }
+        ensures next { self.new.next ≡ self.old.next + result.seconds }
+        ensures late { AllByRecursion (λ m. m.minute + result.times ≤ 2 ^ 32 - 1) result.decided.items }
+    {
+        let n = most.min(60 - self.next % 60);
+        let more = (most - n) / 60;
+        if n < 60 || more == 0 {
+            return self.feed_within(n, speed, steps);
+        }
+        self.feed_alike(more, speed, steps)
+    }
+
+    /// Seconds of one minute.
+    fn feed_within<L: Ledger>(&mut self, n: u32, speed: u8, steps: &mut Steps<L>) -> Alike
+        requires some { 0 < n }
+        requires fits { self.old.next + n ≤ 2 ^ 32 - 1 }
+        requires minute { self.old.next % 60 + n ≤ 60 }
+        ensures seconds { result.seconds ≡ n }
+        ensures fed { (span : Span) → StandsFor self.old span → StandsFor self.new (fed_many span speed result.seconds) }
+        ensures given { (span : Span) → StandsFor self.old span → decided_in (fed_many span speed result.seconds) ≡ decided_in span ++ decided_alike speed result }
+        ensures next { self.new.next ≡ self.old.next + result.seconds }
+        ensures late { AllByRecursion (λ m. m.minute + result.times ≤ 2 ^ 32 - 1) result.decided.items }
+    {
+        self.run(n, speed, steps);
+        let decided = self.end_minute();
+        Alike {
+            seconds: n,
+            decided,
+            times: 1,
+        }
+    }
+
+    /// A whole minute, and so many more where they go on alike.
+    fn feed_alike<L: Ledger>(&mut self, more: u32, speed: u8, steps: &mut Steps<L>) -> Alike
+        requires whole { self.old.next % 60 ≡ 0 }
+        requires fits { self.old.next + 60 + 60 * more ≤ 2 ^ 32 - 1 }
+        ensures seconds { (0 < result.seconds) × (result.seconds ≤ 60 + 60 * more) }
+        ensures fed { (span : Span) → StandsFor self.old span → StandsFor self.new (fed_many span speed result.seconds) }
+        ensures given { (span : Span) → StandsFor self.old span → decided_in (fed_many span speed result.seconds) ≡ decided_in span ++ decided_alike speed result }
+        ensures next { self.new.next ≡ self.old.next + result.seconds }
+        ensures late { AllByRecursion (λ m. m.minute + result.times ≤ 2 ^ 32 - 1) result.decided.items }
+    {
+        let then = self.later(1, speed);
+        self.run(60, speed, steps);
+        let decided = self.end_minute();
+        if self.is_as(&then) {
+            let after = self.later(more, speed);
+            *self = after;
+            return Alike {
+                seconds: 60 + 60 * more,
+                decided,
+                times: 1 + more,
+            };
+        }
+        Alike {
+            seconds: 60,
+            decided,
+            times: 1,
+        }
+    }
+
+    /// The same, so many minutes later at this speed.
+    fn later(&self, minutes: u32, speed: u8) -> Minutes
+        requires { self.now.next + 60 * minutes ≤ 2 ^ 32 - 1 }
+        ensures { result ≡ later minutes speed self.now }
+    {
+        let more = 60 * minutes as u64 * speed as u64;
+        let were = self.past.as_slice();
+        let mut past = ArrayVec::new();
+        for i in 0..were.len() {
+            past.push(were[i].further(more));
+        }
+        Minutes {
+            rule: self.rule,
+            next: self.next + 60 * minutes,
+            owing: self.owing,
+            past,
+            here: self.here.further(more),
+            driver: self.driver,
+            codriver: self.codriver,
+        }
+    }
+
+    /// Whether they are the same, with all minutes that are kept of a long span.
+    fn is_as(&self, other: &Minutes) -> bool
+        ensures { OnTrue result ((self.now ≡ other.now) × (length self.now.past ≡ PAST)) }
+    {
+        if self.past.len() != PAST || other.past.len() != PAST {
+            return false;
+        }
+        let past = self.past.as_slice();
+        let theirs = other.past.as_slice();
+        if differ(past, theirs) {
+            return false;
+        }
+        let moment = self.moment();
+        let others = other.moment();
+        if moments_differ(moment, others) {
+            return false;
+        }
+        true
+    }
+
+    /// All but the minutes before that of the next second.
+    fn moment(&self) -> Moment
+        ensures { result ≡ moment_of self.now }
+    {
+        Moment {
+            rule: self.rule,
+            next: self.next,
+            owing: self.owing,
+            here: self.here,
+            driver: self.driver,
+            codriver: self.codriver,
+        }
     }
 
     /// A settling at the next second: gives the minutes before the next second's minute that were not given yet.
@@ -319,6 +470,24 @@ impl Minutes {
             Counted::default()
         }
     }
+}
+
+/// Whether something else is kept, but for the minutes before that of the next second.
+fn moments_differ(one: Moment, other: Moment) -> bool
+    ensures { OnFalse result (one ≡ other) }
+{
+    let first = ahead(one.rule);
+    let second = ahead(other.rule);
+    if first != second || one.next != other.next || one.owing != other.owing {
+        return true;
+    }
+    let counts = counts_differ(one.here, other.here);
+    let drivers = drivers_differ(one.driver, other.driver);
+    let codrivers = codrivers_differ(one.codriver, other.codriver);
+    if counts || drivers || codrivers {
+        return true;
+    }
+    false
 }
 
 /// How many whole minutes after a minute may bear on it.

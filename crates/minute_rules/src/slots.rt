@@ -1,7 +1,9 @@
 //! What is selected for each slot.
 ghost use Rattle.std.specs.Prelude.{◌≡◌, Some, None};
+ghost use Rattle.std.specs.Bool.{OnFalse};
 ghost use Rattle.minute_rules.specs.Kept.{early_with, driver_heard, codriver_heard};
 
+use crate::tally::acts_differ;
 use activity_codec::Pick;
 
 /// What is selected for the driver.
@@ -62,4 +64,74 @@ impl CodriverSlot {
         }
         self.picked = None;
     }
+}
+
+/// Whether they are two selections.
+fn picks_differ(one: Pick, other: Pick) -> bool
+    ensures { OnFalse result (one ≡ other) }
+{
+    let first = one.activity();
+    let second = other.activity();
+    if acts_differ(first, second) {
+        return true;
+    }
+    false
+}
+
+/// Whether something else is selected.
+fn selections_differ(one: Option<Pick>, other: Option<Pick>) -> bool
+    ensures { OnFalse result (one ≡ other) }
+{
+    match (one, other) {
+        (None, None) => false,
+        (Some(first), Some(second)) => {
+            if picks_differ(first, second) {
+                return true;
+            }
+            false
+        }
+        (None, Some(_)) | (Some(_), None) => true,
+    }
+}
+
+/// Whether the waits are two.
+fn waits_differ(one: Option<u32>, other: Option<u32>) -> bool
+    ensures { OnFalse result (one ≡ other) }
+{
+    match (one, other) {
+        (None, None) => false,
+        (Some(first), Some(second)) => {
+            if first != second {
+                return true;
+            }
+            false
+        }
+        (None, Some(_)) | (Some(_), None) => true,
+    }
+}
+
+/// Whether something else is selected for the driver.
+pub fn drivers_differ(one: DriverSlot, other: DriverSlot) -> bool
+    ensures { OnFalse result (one ≡ other) }
+{
+    let current = picks_differ(one.current, other.current);
+    let waiting = waits_differ(one.waiting, other.waiting);
+    let early = selections_differ(one.early, other.early);
+    let picked = selections_differ(one.picked, other.picked);
+    if current || waiting || early || picked {
+        return true;
+    }
+    false
+}
+
+/// Whether something else is selected for the co-driver.
+pub fn codrivers_differ(one: CodriverSlot, other: CodriverSlot) -> bool
+    ensures { OnFalse result (one ≡ other) }
+{
+    let current = picks_differ(one.current, other.current);
+    let picked = selections_differ(one.picked, other.picked);
+    if current || picked {
+        return true;
+    }
+    false
 }

@@ -1,5 +1,7 @@
 //! Runs of equal seconds, counted as they come.
 ghost use Rattle.std.specs.Prelude.{◌^◌, ◌-◌, ◌≡◌, ◌+◌, ◌≤◌};
+ghost use Rattle.activity_codec.specs.Activity.{same_activity};
+ghost use Rattle.std.specs.Bool.{OnFalse};
 ghost use Rattle.minute_rules.specs.Tally.{with_run, longest_in};
 
 use activity_codec::Activity;
@@ -56,4 +58,37 @@ impl Tally {
             self.going
         }
     }
+}
+
+/// Whether they are the same.
+fn is_same(one: Activity, other: Activity) -> bool
+    ensures { result ≡ same_activity one other }
+{
+    one == other
+}
+
+/// Whether they are two activities.
+pub fn acts_differ(one: Activity, other: Activity) -> bool
+    ensures { OnFalse result (one ≡ other) }
+{
+    let same = is_same(one, other);
+    if same {
+        return false;
+    }
+    true
+}
+
+/// Whether they are two tallies.
+pub fn tallies_differ(one: Tally, other: Tally) -> bool
+    ensures { OnFalse result (one ≡ other) }
+{
+    if one.best_seconds != other.best_seconds || one.going_seconds != other.going_seconds {
+        return true;
+    }
+    let bests = acts_differ(one.best, other.best);
+    let goings = acts_differ(one.going, other.going);
+    if bests || goings {
+        return true;
+    }
+    false
 }

@@ -78,7 +78,7 @@ fn has(held: &[u8], place: usize, bytes: &[u8]) -> bool {
     held[place..].starts_with(bytes)
 }
 
-// An overview, events, and technical data.
+// An overview, events, detailed speed without a block, and technical data.
 #[test]
 fn a_new_unit_is_downloaded(rt: HostRuntime) -> Result<(), Fail> {
     let alloc = rt.alloc();
@@ -86,14 +86,15 @@ fn a_new_unit_is_downloaded(rt: HostRuntime) -> Result<(), Fail> {
     let ended = downloaded(alloc, &mut unit, 2000)?;
     assert_eq!(rt; ended.answer, Ok(()));
     let held = ended.held.as_slice();
-    assert_eq!(rt; held.len(), 623 + 143 + 267);
+    assert_eq!(rt; held.len(), 623 + 143 + 132 + 267);
     assert!(rt; has(held, 0, &[0x76, 1]));
     assert!(rt; has(held, 623, &[0x76, 3]));
-    assert!(rt; has(held, 766, &[0x76, 5]));
+    assert!(rt; has(held, 766, &[0x76, 4, 0, 0]));
+    assert!(rt; has(held, 898, &[0x76, 5]));
     Ok(())
 }
 
-// Start, diagnostic, upload; three pieces, a day, events, no speed, two pieces; exit, stop.
+// Start, diagnostic, upload; three pieces, a day, events, speed, two pieces; exit, stop.
 #[test]
 fn a_day_is_downloaded(rt: HostRuntime) -> Result<(), Fail> {
     let alloc = rt.alloc();
@@ -102,13 +103,14 @@ fn a_day_is_downloaded(rt: HostRuntime) -> Result<(), Fail> {
     let ended = downloaded(alloc, &mut unit, 2000)?;
     assert_eq!(rt; ended.answer, Ok(()));
     let held = ended.held.as_slice();
-    assert_eq!(rt; held.len(), 623 + 152 + 143 + 267);
+    assert_eq!(rt; held.len(), 623 + 152 + 143 + 132 + 267);
     assert!(rt; has(held, 623, &[0x76, 2, 0x4B, 0x8B, 0x03, 0x80]));
+    assert!(rt; has(held, 918, &[0x76, 4, 0, 0]));
     let frames = ended.wire.frames();
     assert_eq!(rt; frames.len(), 26);
     assert!(rt; is_at(frames, 8, &[0x83, 0x76, 0, 2]));
     assert!(rt; is_at(frames, 12, &[0x36, 2, 0x4B, 0x8B, 0x03, 0x80]));
-    assert!(rt; is_at(frames, 17, &[0x7F, 0x36, 0xFA]));
+    assert!(rt; is_at(frames, 16, &[0x36, 4]));
     assert!(rt; is_at(frames, 25, &[0xC2]));
     Ok(())
 }
@@ -155,6 +157,6 @@ fn frames_may_go_unlisted(rt: HostRuntime) -> Result<(), Fail> {
     loader.reserve()?;
     let answer = exchange_all(&mut loader, &mut sink, &mut unit, &mut Unlisted::new());
     assert_eq!(rt; answer, Ok(()));
-    assert_eq!(rt; sink.held().len(), 623 + 143 + 267);
+    assert_eq!(rt; sink.held().len(), 623 + 143 + 132 + 267);
     Ok(())
 }

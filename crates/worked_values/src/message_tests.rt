@@ -99,7 +99,8 @@ fn new_unit<M: Medium>(rt: &impl Abort, alloc: Global, unit: &mut M)
     assert_eq!(rt; overview, whole(Request::Overview, 623));
     let events = read(alloc, unit, &Request::Events);
     assert_eq!(rt; events, whole(Request::Events, 143));
-    assert_eq!(rt; read(alloc, unit, &Request::Speed), Ok(None));
+    let speed = read(alloc, unit, &Request::Speed);
+    assert_eq!(rt; speed, whole(Request::Speed, 132));
 }
 
 #[test]

@@ -303,13 +303,8 @@ impl Fed {
         Ok(())
     }
 
-    /// So many seconds at a speed, cut at the ends of minutes.
-    fn run<L: Ledger>(
-        &mut self,
-        seconds: u32,
-        speed: u8,
-        steps: &mut Steps<L>,
-    ) -> Result<(), Fail> {
+    /// So many seconds at a speed are more of the whole.
+    fn note(&mut self, seconds: u32, speed: u8) -> Result<(), Fail> {
         for _i in 0..seconds {
             self.whole.seconds.push(Second {
                 speed,
@@ -317,6 +312,47 @@ impl Fed {
             })?;
             self.coming = STILL;
         }
+        Ok(())
+    }
+
+    /// So many seconds at a speed, of which minutes that go on alike are fed at once.
+    fn run_long<L: Ledger>(
+        &mut self,
+        seconds: u32,
+        speed: u8,
+        steps: &mut Steps<L>,
+    ) -> Result<(), Fail> {
+        self.note(seconds, speed)?;
+        let mut left = seconds;
+        for _piece in 0..seconds {
+            if left == 0 || left > 10000 || self.minutes.next() > 4000000000 {
+                return Ok(());
+            }
+            let alike = self.minutes.feed_long(left, speed, steps);
+            for turn in 0..alike.times {
+                for minute in alike.decided.as_slice() {
+                    self.given.push(Minute {
+                        minute: minute.minute.saturating_add(turn),
+                        travelled: minute
+                            .travelled
+                            .saturating_add(60 * turn as u64 * speed as u64),
+                        ..*minute
+                    })?;
+                }
+            }
+            left = left.saturating_sub(alike.seconds);
+        }
+        Ok(())
+    }
+
+    /// So many seconds at a speed, cut at the ends of minutes.
+    fn run<L: Ledger>(
+        &mut self,
+        seconds: u32,
+        speed: u8,
+        steps: &mut Steps<L>,
+    ) -> Result<(), Fail> {
+        self.note(seconds, speed)?;
         let mut left = seconds;
         for _piece in 0..seconds {
             let n = left.min(60 - self.minutes.next() % 60);
@@ -332,13 +368,14 @@ impl Fed {
 
     /// One step of a random span.
     fn step<L: Ledger>(&mut self, dice: &mut Dice, steps: &mut Steps<L>) -> Result<(), Fail> {
-        match dice.below(9) {
+        match dice.below(11) {
             0 | 1 => self.select(Slot::Driver, dice.pick()),
             2 => self.select(Slot::CoDriver, dice.pick()),
             3 => self.settle()?,
             4 | 5 => self.run(dice.below(60) + 1, dice.below(90) as u8 + 1, steps)?,
             6 => self.run(dice.below(200) + 1, 0, steps)?,
             7 => self.run(118 + dice.below(5), 0, steps)?,
+            8 | 9 => self.run_long(dice.below(900) + 1, (dice.below(2) * 50) as u8, steps)?,
             _ => self.run(1, (dice.below(2) * 40) as u8, steps)?,
         }
         Ok(())

@@ -123,7 +123,7 @@ fn noise_does_not_show(rt: HostRuntime) -> Result<(), Fail> {
     let first = noisy_file(alloc, 0, &mut other)?;
     let mut third = unit_with(alloc, image(alloc)?)?;
     let second = noisy_file(alloc, 7, &mut third)?;
-    assert_eq!(rt; sink.held().len(), 623 + 143 + 267);
+    assert_eq!(rt; sink.held().len(), 623 + 143 + 132 + 267);
     assert!(rt; first.0.as_slice() == sink.held());
     assert!(rt; second.0.as_slice() == sink.held());
     assert_eq!(rt; first.1, wire.len());

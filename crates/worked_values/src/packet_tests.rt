@@ -93,7 +93,7 @@ fn each_answer_is_taken_once(rt: HostRuntime) -> Result<(), Fail> {
         download_packets(alloc, &mut source, &mut link, &mut file),
         Ok(())
     );
-    assert_eq!(rt; file.held().len(), 623 + 143 + 267);
+    assert_eq!(rt; file.held().len(), 623 + 143 + 132 + 267);
     assert!(rt; file.held() == wanted.held());
     assert!(rt; link.held() == requests.held());
     Ok(())
