@@ -193,6 +193,10 @@ module _ (x : List ℕ) (can : CanBeLoaded x) where
   unfolding message_of
   has_events is = absurd (cc)
 
+  has_speed : message_of x AskSpeed ≡ None → ⊥
+  unfolding message_of
+  has_speed is = absurd (cc)
+
   has_technical : message_of x AskTechnical ≡ None → ⊥
   unfolding message_of
   has_technical is = absurd (cc)
@@ -214,10 +218,7 @@ module _ (x : List ℕ) (can : CanBeLoaded x) where
           (refusal (AskDay second) asked is) (lack_taken end (AskDay second) (next_day second end) refl) goes.left_is whole goes.together
           (begun_few [] (0x7F ∷ 0x36 ∷ 0xFA ∷ []) refl (omega arith))
       by AskEvents asked is whole = absurd (has_events is)
-      by AskSpeed asked is whole =
-          step_by unit unit (at_stage end (Asked AskSpeed)) (at_stage end (Asked AskTechnical)) out (request_bytes AskSpeed) (0x7F ∷ 0x36 ∷ 0xFA ∷ []) [] refl
-          (refusal AskSpeed asked is) (lack_taken end AskSpeed (Asked AskTechnical) refl) refl whole (up, tt, refl)
-          (begun_few [] (0x7F ∷ 0x36 ∷ 0xFA ∷ []) refl (omega arith))
+      by AskSpeed asked is whole = absurd (has_speed is)
       by AskTechnical asked is whole = absurd (has_technical is)
 
   -- what the unit answers, and the loader does about it

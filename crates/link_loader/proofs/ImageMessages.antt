@@ -12,20 +12,20 @@ use Rattle.unit_model.specs.Decoding.{front_checks, ring_checks}
 use Rattle.unit_model.proofs.Checks.{passes, good_of, front_split, rings_split}
 use Rattle.link_model.specs.declared.request.Request.{Request}
 use Rattle.link_model.specs.declared.request.Request.TheVariants.{Overview as AskOverview, Day as AskDay, Events as AskEvents, Speed as AskSpeed, Technical as AskTechnical}
-use Rattle.message_model.specs.Records.{insertion_ring, unit_place_ring}
-use Rattle.message_model.specs.Messages.{Message, AnOverview, ADay, AnEventList, ATechnical, DayMessage, AreEntries, IsMessage, IsOverview, IsDayMessage, IsEventMessage, IsTechnicalMessage, IsUnitFile, message_bytes, overview_bytes, day_bytes, event_bytes, technical_bytes}
-use Rattle.message_model.specs.Sending.{field_of, event_table, over_table, fault_table, entries_in, touches_day, place_in_day, sent_days, period_of, overview_of, day_message_of, event_message_of, technical_message_of, day_at, message_of, messages_of, unit_file}
+use Rattle.message_model.specs.Records.{insertion_ring, unit_place_ring, speed_ring}
+use Rattle.message_model.specs.Messages.{Message, AnOverview, ADay, AnEventList, ASpeedList, ATechnical, DayMessage, AreEntries, IsMessage, IsOverview, IsDayMessage, IsEventMessage, IsSpeedMessage, IsTechnicalMessage, IsUnitFile, message_bytes, overview_bytes, day_bytes, event_bytes, speed_bytes, technical_bytes}
+use Rattle.message_model.specs.Sending.{field_of, event_table, over_table, fault_table, entries_in, touches_day, place_in_day, sent_days, period_of, overview_of, day_message_of, event_message_of, speed_message_of, technical_message_of, day_at, message_of, messages_of, unit_file}
 use Rattle.unit_messages.proofs.SentDays.{sent_at, recorded_good}
 use Rattle.link_loader.specs.Talking.{AreDays, IsUnitImage, CanBeLoaded}
 use Rattle.link_loader.proofs.ImageParts.{part_long, number_low, filter_few, table_sized, table_few, ring_sized, ring_few}
-use Rattle.link_loader.proofs.Short.{overview_few, day_long, event_few, technical_few}
+use Rattle.link_loader.proofs.Short.{overview_few, day_long, event_few, speed_few, technical_few}
 use Rattle.link_loader.proofs.ImageDays.{ok, sent_is, days_good, IsSent, sent_good}
 
--- the pointers of insertions and places are indices, and over speedings are few
-pointers : (x : List ℕ) → list_all passes (ring_checks x) ≡ true → (pointer insertion_ring x < 2048) × (pointer unit_place_ring x < 255)
+-- the pointers of insertions, places and blocks of speeds are indices, and over speedings are few
+pointers : (x : List ℕ) → list_all passes (ring_checks x) ≡ true → (pointer insertion_ring x < 2048) × (pointer unit_place_ring x < 255) × (pointer speed_ring x < 1440)
 pointers x all =
     let rings = rings_split x all in
-    (rings.insertions, rings.places)
+    (rings.insertions, rings.places, rings.speeds)
 
 few_over : (x : List ℕ) → list_all passes (front_checks x) ≡ true → number_of x OVER_COUNT ≤ 255
 few_over x all = (front_split x all).overs
@@ -87,7 +87,10 @@ module _ (x : List ℕ) (image : IsUnitImage x) where
   placed : unit_place_ring.base + size_of unit_place_ring ≤ length x
   placed = let e : 2386384 ≤ length x = omega (arith, sized) in e
 
-  at_entries : (pointer insertion_ring x < 2048) × (pointer unit_place_ring x < 255)
+  driven : speed_ring.base + size_of speed_ring ≤ length x
+  driven = let e : 2485808 ≤ length x = omega (arith, sized) in e
+
+  at_entries : (pointer insertion_ring x < 2048) × (pointer unit_place_ring x < 255) × (pointer speed_ring x < 1440)
   at_entries = pointers x (good_of x image.decodes).rings
 
   overview_good : IsOverview (overview_of x)
@@ -168,6 +171,17 @@ module _ (x : List ℕ) (image : IsUnitImage x) where
         signed = refl;
       }
 
+  blocks_few : length (speed_message_of x).blocks ≤ 1440
+  unfolding speed_message_of
+  blocks_few = ring_few speed_ring x driven at_entries.2
+
+  speed_good : IsSpeedMessage (speed_message_of x)
+  unfolding speed_message_of
+  speed_good = record {
+    blocks = record { few = (let most = blocks_few in let few : length (ring_list speed_ring x) < 65536 = omega (arith, most) in few); sized = ring_sized speed_ring x driven at_entries.2 };
+    signed = refl;
+  }
+
   technical_good : IsTechnicalMessage (technical_message_of x)
   unfolding technical_message_of
   technical_good =
@@ -176,7 +190,7 @@ module _ (x : List ℕ) (image : IsUnitImage x) where
 
   -- what is said of each message that there is
   module _ (P : Message → Type 0) (first : P (AnOverview (overview_of x))) (each : (d : StoredDay) → IsGoodDay d → P (ADay (day_message_of x d))) (events : P (AnEventList (event_message_of x)))
-      (last : P (ATechnical (technical_message_of x))) where
+      (speeds : P (ASpeedList (speed_message_of x))) (last : P (ATechnical (technical_message_of x))) where
     of_day : (second : ℕ) (ds : List StoredDay) → Each IsGoodDay ds → IfSome (option_map (λ d. ADay (day_message_of x d)) (day_at second ds)) P
     of_day second [] all = tt
     of_day second (d ∷ ds) all = by (of_day second ds all.1) (nat_eq d.date second)
@@ -190,7 +204,7 @@ module _ (x : List ℕ) (image : IsUnitImage x) where
     of_request AskOverview = first
     of_request (AskDay second) = of_day second (sent_days x) each_good
     of_request AskEvents = events
-    of_request AskSpeed = tt
+    of_request AskSpeed = speeds
     of_request AskTechnical = last
 
     of_days : (ds : List StoredDay) → Each IsGoodDay ds → All P (map (λ d. ADay (day_message_of x d)) ds)
@@ -201,13 +215,16 @@ module _ (x : List ℕ) (image : IsUnitImage x) where
     unfolding messages_of
     of_file =
         let days = map (λ d. ADay (day_message_of x d)) (sent_days x) in
-        let behind = AnEventList (event_message_of x) ∷ ATechnical (technical_message_of x) ∷ [] in
+        let technical = ATechnical (technical_message_of x) ∷ [] in
+        let speed = ASpeedList (speed_message_of x) ∷ technical in
+        let behind = AnEventList (event_message_of x) ∷ speed in
         All-cons P (AnOverview (overview_of x)) (days ++ behind) first
         (All-append P days behind (of_days (sent_days x) each_good)
-        (All-cons P (AnEventList (event_message_of x)) (ATechnical (technical_message_of x) ∷ []) events (All-cons P (ATechnical (technical_message_of x)) [] last (All-nil P))))
+        (All-cons P (AnEventList (event_message_of x)) speed events
+        (All-cons P (ASpeedList (speed_message_of x)) technical speeds (All-cons P (ATechnical (technical_message_of x)) [] last (All-nil P)))))
 
   pub grammar : (request : Request) → IfSome (message_of x request) IsMessage
-  grammar = of_request IsMessage overview_good (λ d good. good.0) event_good technical_good
+  grammar = of_request IsMessage overview_good (λ d good. good.0) event_good speed_good technical_good
 
   -- and none is longer than a day with all entries and words
   day_room : (d : StoredDay) → IsGoodDay d → length (message_bytes (ADay (day_message_of x d))) ≤ 277236
@@ -225,6 +242,7 @@ module _ (x : List ℕ) (image : IsUnitImage x) where
   room = of_request (λ m. length (message_bytes m) ≤ 277236)
       (other_room (overview_bytes (overview_of x)) (overview_few (overview_of x) overview_good)) day_room
       (other_room (event_bytes (event_message_of x)) (event_few (event_message_of x) event_good))
+      (other_room (speed_bytes (speed_message_of x)) (speed_few (speed_message_of x) speed_good blocks_few))
       (other_room (technical_bytes (technical_message_of x)) (technical_few (technical_message_of x) technical_good))
 
   pub can_be_loaded : CanBeLoaded x
@@ -232,4 +250,4 @@ module _ (x : List ℕ) (image : IsUnitImage x) where
 
   pub file_good : IsUnitFile (messages_of x) (unit_file x)
   unfolding messages_of unit_file
-  file_good = record { some = some_member (AnOverview (overview_of x)) (map (λ d. ADay (day_message_of x d)) (sent_days x) ++ AnEventList (event_message_of x) ∷ ATechnical (technical_message_of x) ∷ []); each = of_file IsMessage overview_good (λ d good. good.0) event_good technical_good; spelled = refl }
+  file_good = record { some = some_member (AnOverview (overview_of x)) (map (λ d. ADay (day_message_of x d)) (sent_days x) ++ AnEventList (event_message_of x) ∷ ASpeedList (speed_message_of x) ∷ ATechnical (technical_message_of x) ∷ []); each = of_file IsMessage overview_good (λ d good. good.0) event_good speed_good technical_good; spelled = refl }

@@ -6,8 +6,8 @@ use Rattle.card_layout.specs.Fields.{joined}
 use Rattle.unit_model.specs.Days.{StoredDay}
 use Rattle.link_model.specs.declared.request.Request.{Request}
 use Rattle.link_model.specs.declared.request.Request.TheVariants.{Overview as AskOverview, Day as AskDay, Events as AskEvents, Speed as AskSpeed, Technical as AskTechnical}
-use Rattle.message_model.specs.Messages.{Message, AnOverview, ADay, AnEventList, ATechnical, message_bytes}
-use Rattle.message_model.specs.Sending.{Follow, sent_days, day_at, overview_of, day_message_of, event_message_of, technical_message_of, messages_of, unit_file}
+use Rattle.message_model.specs.Messages.{Message, AnOverview, ADay, AnEventList, ASpeedList, ATechnical, message_bytes}
+use Rattle.message_model.specs.Sending.{Follow, sent_days, day_at, overview_of, day_message_of, event_message_of, speed_message_of, technical_message_of, messages_of, unit_file}
 use Rattle.link_loader.specs.declared.stage.Stage.{Stage}
 use Rattle.link_loader.specs.declared.stage.Stage.TheVariants.{Start, Diagnostic, Upload, Asked, Acknowledged, Exit, Stop, Finished}
 use Rattle.link_loader.specs.Talking.{AreDays}
@@ -119,12 +119,15 @@ module _ (x : List ℕ) where
   abbrev pub told : StoredDay → Message
   told d = ADay (day_message_of x d)
 
-  -- technical data; events and technical data; days and these
+  -- technical data; speeds and technical data; events and these; days and these
   abbrev pub technical_left : List ℕ
   technical_left = message_bytes (ATechnical (technical_message_of x)) ++ []
 
+  abbrev pub speed_left : List ℕ
+  speed_left = message_bytes (ASpeedList (speed_message_of x)) ++ technical_left
+
   abbrev pub events_left : List ℕ
-  events_left = message_bytes (AnEventList (event_message_of x)) ++ technical_left
+  events_left = message_bytes (AnEventList (event_message_of x)) ++ speed_left
 
   abbrev pub days_left : List StoredDay → List ℕ
   days_left [] = events_left
@@ -134,7 +137,7 @@ module _ (x : List ℕ) where
   left_at AskOverview = unit_file x
   left_at (AskDay second) = days_left (from_day second (sent_days x))
   left_at AskEvents = events_left
-  left_at AskSpeed = technical_left
+  left_at AskSpeed = speed_left
   left_at AskTechnical = technical_left
 
   -- what is left of the file at a stage
@@ -148,7 +151,7 @@ module _ (x : List ℕ) where
   left Stop = []
   left Finished = []
 
-  days_spelled : (ds : List StoredDay) → joined (map message_bytes (map told ds ++ AnEventList (event_message_of x) ∷ ATechnical (technical_message_of x) ∷ [])) ≡ days_left ds
+  days_spelled : (ds : List StoredDay) → joined (map message_bytes (map told ds ++ AnEventList (event_message_of x) ∷ ASpeedList (speed_message_of x) ∷ ATechnical (technical_message_of x) ∷ [])) ≡ days_left ds
   days_spelled [] = refl
   days_spelled (d ∷ ds) = ap (λ (l : List ℕ). message_bytes (told d) ++ l) (days_spelled ds)
 

@@ -1,5 +1,5 @@
 -- The pieces of a message of the grammar can be counted.
-use Rattle.std.proofs.Common.{◌≡◌, ◌∙◌, ℕ, suc, ◌+◌, ◌*◌, ◌<◌, List, [], ◌∷◌, length, arith, length-append}
+use Rattle.std.proofs.Common.{◌≡◌, ◌∙◌, ℕ, suc, ◌+◌, ◌*◌, ◌<◌, ◌≤◌, List, [], ◌∷◌, length, arith, length-append}
 use Rattle.std.specs.List.{AllByRecursion}
 use Rattle.std.proofs.lemmas.List.Elements.{recursion_from_All}
 use Rattle.byteorder.specs.Endian.{big_bytes}
@@ -78,6 +78,12 @@ speed_short m is =
     let blocks = counted_long 2 64 m.blocks is.blocks in
     let few : length m.blocks < 65536 = is.blocks.few in
     simp length-append (omega (arith, blocks, few, is.signed))
+
+-- of as many blocks as there is room for
+pub speed_few : (m : SpeedMessage) → IsSpeedMessage m → length m.blocks ≤ 1440 → length (speed_bytes m) < 100000
+speed_few m is most =
+    let blocks = counted_long 2 64 m.blocks is.blocks in
+    simp length-append (omega (arith, blocks, most, is.signed))
 
 pub technical_few : (m : TechnicalMessage) → IsTechnicalMessage m → length (technical_bytes m) < 100000
 technical_few m is =

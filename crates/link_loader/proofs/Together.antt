@@ -8,14 +8,14 @@ use Rattle.link_model.specs.declared.request.Request.{Request}
 use Rattle.link_model.specs.declared.request.Request.TheVariants.{Overview as AskOverview, Day as AskDay, Events as AskEvents, Speed as AskSpeed, Technical as AskTechnical}
 use Rattle.link_model.specs.Answers.{LinkState, is_upload}
 use Rattle.link_model.specs.Answers as states
-use Rattle.message_model.specs.Messages.{Message, AnOverview, AnEventList, ATechnical, message_bytes, content_of}
-use Rattle.message_model.specs.Sending.{Follow, sent_days, day_at, period_of, overview_of, day_message_of, event_message_of, technical_message_of, message_of}
+use Rattle.message_model.specs.Messages.{Message, AnOverview, AnEventList, ASpeedList, ATechnical, message_bytes, content_of}
+use Rattle.message_model.specs.Sending.{Follow, sent_days, day_at, period_of, overview_of, day_message_of, event_message_of, speed_message_of, technical_message_of, message_of}
 use Rattle.unit_messages.specs.Reading.{request_of}
 use Rattle.link_loader.specs.declared.stage.Stage.{Stage}
 use Rattle.link_loader.specs.declared.stage.Stage.TheVariants.{Start, Diagnostic, Upload, Asked, Acknowledged, Exit, Stop, Finished}
 use Rattle.link_loader.specs.Stages.{first_day, next_day, behind_message, end_told}
 use Rattle.link_loader.specs.Talking.{AreDays, CanBeLoaded}
-use Rattle.link_loader.proofs.Rest.{from_day, day_found, day_lost, none_left, all_left, told, technical_left, days_left, left_at, left, file_spelled}
+use Rattle.link_loader.proofs.Rest.{from_day, day_found, day_lost, none_left, all_left, told, technical_left, speed_left, days_left, left_at, left, file_spelled}
 use Rattle.link_loader.proofs.Transfers.{came}
 
 above_none : (n : ℕ) → 0 < n → (n == 0) ≡ false
@@ -149,6 +149,6 @@ module _ (x : List ℕ) (can : CanBeLoaded x) (unit : LinkState) (up : is_upload
   unfolding message_of
   sent_behind AskOverview end m asked is = fixed AskOverview end (AnOverview (overview_of x)) m is (overview_behind end)
   sent_behind (AskDay second) end m asked is = day_behind second end (day_at second (sent_days x)) m asked refl is
-  sent_behind AskEvents end m asked is = fixed AskEvents end (AnEventList (event_message_of x)) m is (record { asked = refl; rest = technical_left x; spelled = refl; goes = record { together = (up, tt, refl); left_is = refl } })
-  sent_behind AskSpeed end m asked is = absurd (cc)
+  sent_behind AskEvents end m asked is = fixed AskEvents end (AnEventList (event_message_of x)) m is (record { asked = refl; rest = speed_left x; spelled = refl; goes = record { together = (up, tt, refl); left_is = refl } })
+  sent_behind AskSpeed end m asked is = fixed AskSpeed end (ASpeedList (speed_message_of x)) m is (record { asked = refl; rest = technical_left x; spelled = refl; goes = record { together = (up, tt, refl); left_is = refl } })
   sent_behind AskTechnical end m asked is = fixed AskTechnical end (ATechnical (technical_message_of x)) m is (record { asked = refl; rest = []; spelled = refl; goes = record { together = (up, refl); left_is = refl } })

@@ -14,7 +14,7 @@ use arrayvec::ArrayVec;
 use link_frames::MOST;
 use link_model::Request;
 use tach_media::{Failed, Medium};
-use unit_messages::{Outline, find_outline};
+use unit_messages::{Outline, find_next_outline};
 use unit_minutes::{Journal, UnitFault};
 
 /// Why a session does not answer.
@@ -115,5 +115,5 @@ fn outline_of<M: Medium>(
             return Ok(Some(*message));
         }
     }
-    find_outline(journal, unit, request)
+    find_next_outline(journal, unit, known, request)
 }

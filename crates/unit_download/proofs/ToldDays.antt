@@ -6,8 +6,8 @@ use Rattle.tach_media.specs.Medium.{State, IsCoherent, HoldsBytes}
 use Rattle.unit_model.specs.Days.{StoredDay}
 use Rattle.unit_model.specs.Image.{IsUnit}
 use Rattle.unit_model.specs.Decoding.{Decodes}
-use Rattle.message_model.specs.Messages.{Message, DayMessage, ADay, AnEventList, ATechnical, IsUnitFile}
-use Rattle.message_model.specs.Sending.{sent_days, messages_of, unit_file, day_message_of, event_message_of, technical_message_of}
+use Rattle.message_model.specs.Messages.{Message, DayMessage, ADay, AnEventList, ASpeedList, ATechnical, IsUnitFile}
+use Rattle.message_model.specs.Sending.{sent_days, messages_of, unit_file, day_message_of, event_message_of, speed_message_of, technical_message_of}
 use Rattle.link_loader.proofs.ImageMessages.{file_good}
 use Rattle.unit_download.specs.declared.measuring.FileSize.{FileSize}
 use Rattle.unit_download.specs.Measures.{day_count, IsSizeOf}
@@ -18,7 +18,7 @@ days-of f (d ∷ ds) rest = omega (arith, days-of f ds rest)
 
 pub days-told : (x : List ℕ) → day_count (messages_of x) ≡ length (sent_days x)
 unfolding messages_of
-days-told x = omega (arith, days-of (λ d. day_message_of x d) (sent_days x) (AnEventList (event_message_of x) ∷ ATechnical (technical_message_of x) ∷ []))
+days-told x = omega (arith, days-of (λ d. day_message_of x d) (sent_days x) (AnEventList (event_message_of x) ∷ ASpeedList (speed_message_of x) ∷ ATechnical (technical_message_of x) ∷ []))
 
 -- so what was downloaded was measured
 pub measured-by : (s : State) (held : List ℕ) (m : FileSize) → IsCoherent s → IsUnit s → m.bytes ≡ length held → ((messages : List Message) → IsUnitFile messages held → m.days ≡ day_count messages)

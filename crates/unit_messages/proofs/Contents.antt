@@ -6,15 +6,15 @@ use Rattle.gated_ring.specs.Ring.{ring_list}
 use Rattle.unit_model.specs.declared.layout.TheConstants.{VIN, REGISTRATION, IDENTIFICATION, SENSOR, STATE_CERTIFICATE, UNIT_CERTIFICATE}
 use Rattle.unit_model.specs.Days.{StoredDay}
 use Rattle.unit_model.specs.Image.{words_at}
-use Rattle.link_model.specs.declared.request.Request.TheVariants.{Overview as AskOverview, Day as AskDay, Events as AskEvents, Technical as AskTechnical}
-use Rattle.message_model.specs.Records.{insertion_ring, unit_place_ring}
+use Rattle.link_model.specs.declared.request.Request.TheVariants.{Overview as AskOverview, Day as AskDay, Events as AskEvents, Speed as AskSpeed, Technical as AskTechnical}
+use Rattle.message_model.specs.Records.{insertion_ring, unit_place_ring, speed_ring}
 use Rattle.message_model.specs.Messages.{ADay, counted, word_bytes, message_bytes}
-use Rattle.message_model.specs.Sending.{field_of, message_of, overview_of, day_message_of, event_message_of, technical_message_of, entries_in, event_table, over_table, fault_table, touches_day, place_in_day}
+use Rattle.message_model.specs.Sending.{field_of, message_of, overview_of, day_message_of, event_message_of, speed_message_of, technical_message_of, entries_in, event_table, over_table, fault_table, touches_day, place_in_day}
 use Rattle.unit_messages.specs.Windows.{Sight, passed}
 use Rattle.unit_messages.specs.declared.outline.Times.{Times}
 use Rattle.unit_messages.specs.declared.outline.DayOutline.{DayOutline}
 use Rattle.unit_messages.specs.declared.outline.EventOutline.{EventOutline}
-use Rattle.unit_messages.specs.declared.outline.Plan.TheVariants.{Overview, Day, Events, Technical}
+use Rattle.unit_messages.specs.declared.outline.Plan.TheVariants.{Overview, Day, Events, Speed, Technical}
 use Rattle.unit_messages.specs.Outlines.{AreTimes, IsDayOf, AreEventsOf, HasPassed, bytes_sent}
 use Rattle.unit_messages.proofs.Joints.{then_passed}
 
@@ -27,6 +27,9 @@ overview_parts x t =
 
 abbrev pub technical_parts : List ℕ → List ℕ
 technical_parts x = 0x76 ∷ 5 ∷ (field_of IDENTIFICATION x ++ (field_of SENSOR x ++ replicate 129 0))
+
+abbrev pub speed_parts : List ℕ → List ℕ
+speed_parts x = 0x76 ∷ 4 ∷ (counted 2 (ring_list speed_ring x) ++ replicate 128 0)
 
 abbrev pub event_parts : List ℕ → EventOutline → List ℕ
 event_parts x e =
@@ -57,6 +60,10 @@ overview_sent x t are =
 pub technical_sent : (x : List ℕ) → bytes_sent x AskTechnical ≡ Some (technical_parts x)
 unfolding message_of technical_message_of
 technical_sent x = refl
+
+pub speed_sent : (x : List ℕ) → bytes_sent x AskSpeed ≡ Some (speed_parts x)
+unfolding message_of speed_message_of
+speed_sent x = refl
 
 pub event_sent : (x : List ℕ) (e : EventOutline) → AreEventsOf x e → bytes_sent x AskEvents ≡ Some (event_parts x e)
 unfolding message_of event_message_of
@@ -98,6 +105,10 @@ technical_passed x w u1 u2 u3 e1 e2 e3 = (technical_parts x, technical_sent x, b
         let p2 : u3 ≡ passed u1 ((a ++ b) ++ z) = then_passed u3 u2 u1 (a ++ b) z f2 f3 in
         let p1 : u3 ≡ passed w (0x76 ∷ 5 ∷ ((a ++ b) ++ z)) = then_passed u3 u1 w (0x76 ∷ 5 ∷ []) ((a ++ b) ++ z) e1 p2 in
         p1 ∙ ap (λ (l : List ℕ). passed w (0x76 ∷ 5 ∷ l)) (append_assoc a b z)
+
+pub speed_passed : (x : List ℕ) (n : ℕ) (w u1 u2 u3 : Sight) → u1 ≡ passed w (0x76 ∷ 4 ∷ []) → u2 ≡ passed u1 (counted 2 (ring_list speed_ring x)) → u3 ≡ passed u2 (replicate 128 0) → HasPassed (Speed n) x w u3
+speed_passed x n w u1 u2 u3 e1 e2 e3 =
+    (speed_parts x, speed_sent x, then_passed u3 u1 w (0x76 ∷ 4 ∷ []) (counted 2 (ring_list speed_ring x) ++ replicate 128 0) e1 (then_passed u3 u2 u1 (counted 2 (ring_list speed_ring x)) (replicate 128 0) e2 e3))
 
 pub events_passed : (x : List ℕ) (e : EventOutline) (w u1 u2 u3 u4 u5 u6 u7 u8 : Sight) → AreEventsOf x e → u1 ≡ passed w (0x76 ∷ 3 ∷ []) → u2 ≡ passed u1 (counted 1 (entries_in fault_table x)) → u3 ≡ passed u2 (counted 1 (entries_in event_table x))
     → u4 ≡ passed u3 (replicate 4 0) → u5 ≡ passed u4 (big_bytes 4 e.first_over) → u6 ≡ passed u5 (big_bytes 1 e.over_count) → u7 ≡ passed u6 (counted 1 (entries_in over_table x)) → u8 ≡ passed u7 (replicate 129 0)

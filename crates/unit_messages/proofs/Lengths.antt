@@ -6,10 +6,11 @@ use Rattle.link_model.specs.declared.request.Request.{Request}
 use Rattle.byteorder.specs.Endian.{big_bytes}
 use Rattle.byteorder.specs.Numbers.{length-bytes_high_first}
 use Rattle.card_layout.specs.Fields.{joined}
-use Rattle.gated_ring.specs.Ring.{next, pointer}
+use Rattle.gated_ring.specs.Ring.{next, pointer, ring_list}
 use Rattle.gated_ring.proofs.Orders.{next_below}
+use Rattle.message_model.specs.Records.{speed_ring}
 use Rattle.unit_model.specs.declared.layout.Field.{Field}
-use Rattle.unit_model.specs.declared.layout.TheConstants.{VIN, REGISTRATION, IDENTIFICATION, SENSOR, STATE_CERTIFICATE, UNIT_CERTIFICATE, IMAGE_SIZE, INSERTIONS, PLACES, EVENTS, OVERS, FAULTS}
+use Rattle.unit_model.specs.declared.layout.TheConstants.{VIN, REGISTRATION, IDENTIFICATION, SENSOR, STATE_CERTIFICATE, UNIT_CERTIFICATE, IMAGE_SIZE, INSERTIONS, PLACES, EVENTS, OVERS, FAULTS, SPEEDS}
 use Rattle.unit_model.specs.Image.{words_at}
 use Rattle.message_model.specs.Messages.{counted, word_bytes}
 use Rattle.message_model.specs.Sending.{field_of, entries_in, event_table, over_table, fault_table}
@@ -19,14 +20,14 @@ use Rattle.unit_messages.specs.declared.outline.Times.{Times}
 use Rattle.unit_messages.specs.declared.outline.DayOutline.{DayOutline}
 use Rattle.unit_messages.specs.declared.outline.EventOutline.{EventOutline}
 use Rattle.unit_messages.specs.declared.outline.Plan.{Plan}
-use Rattle.unit_messages.specs.declared.outline.Plan.TheVariants.{Overview, Day, Events, Technical}
+use Rattle.unit_messages.specs.declared.outline.Plan.TheVariants.{Overview, Day, Events, Speed, Technical}
 use Rattle.unit_messages.specs.Windows.{Sight, passed}
-use Rattle.unit_messages.specs.Chosen.{AreEntries, ring_of, chosen_in_ring, insertions_on, places_on, entries_of, shape_of}
-use Rattle.unit_messages.specs.Outlines.{Outlines, HasPassed, IsDayOf, AreEventsOf, bytes_sent, asked, length_of}
+use Rattle.unit_messages.specs.Chosen.{AreEntries, ring_of, chosen_in_ring, insertions_on, places_on, speed_blocks, entries_of, shape_of}
+use Rattle.unit_messages.specs.Outlines.{Outlines, HasPassed, IsDayOf, AreEventsOf, AreBlocksOf, bytes_sent, asked, length_of}
 use Rattle.unit_messages.specs.Sent.{IsPiece}
 use Rattle.unit_messages.proofs.Windows.{words_long}
-use Rattle.unit_messages.proofs.Rings.{ring_long, table_long}
-use Rattle.unit_messages.proofs.Contents.{overview_parts, technical_parts, event_parts, day_parts, insertions_in, places_in, overview_sent, technical_sent, event_sent, day_sent_as}
+use Rattle.unit_messages.proofs.Rings.{ring_long, speeds_are, table_long}
+use Rattle.unit_messages.proofs.Contents.{overview_parts, technical_parts, event_parts, speed_parts, day_parts, insertions_in, places_in, overview_sent, technical_sent, event_sent, speed_sent, day_sent_as}
 
 field_long : (f : Field) (x : List ℕ) → f.place + f.size ≤ length x → length (field_of f x) ≡ f.size
 field_long f x inside = omega (arith, inside, length-take f.size (drop f.place x), length-drop f.place x)
@@ -117,11 +118,24 @@ day_long x d long is =
         let l2 = both_long o (i ++ (w ++ (p ++ z))) 3 (2 + d.insertions * 129 + (2 + 2 * d.words + (1 + d.places * 28 + 130))) e2 l3 in
         omega (arith, e1, length-append a (o ++ (i ++ (w ++ (p ++ z)))), l2)
 
+blocks_are : AreEntries speed_blocks
+blocks_are = record { inside = omega arith; gate = omega arith; narrow = omega arith; few = omega arith; room = omega arith }
+
+speed_long : (x : List ℕ) (n : ℕ) → IMAGE_SIZE ≤ length x → AreBlocksOf x n → 132 + 64 * n ≡ length (speed_parts x)
+speed_long x n long are =
+    let all = speeds_are x in
+    let b = ring_sized 2 SPEEDS.place n speed_blocks x blocks_are long refl are.pointer (are.blocks ∙ ap length (sym all)) in
+    by (counted 2 (ring_list speed_ring x)) (replicate 128 0) (ap (λ (l : List (List ℕ)). length (counted 2 l)) (sym all) ∙ b) refl
+  where
+    by : (b z : List ℕ) → length b ≡ 2 + n * 64 → length z ≡ 128 → 132 + 64 * n ≡ length (0x76 ∷ 4 ∷ (b ++ z))
+    by b z e1 e2 = omega (arith, both_long b z (2 + n * 64) 128 e1 e2)
+
 -- a message has as many bytes as its outline says
 pub length_told : (o : Plan) (x : List ℕ) → IMAGE_SIZE ≤ length x → Outlines o x → IfSome (bytes_sent x (asked o)) (λ bytes. length_of o ≡ length bytes)
 length_told (Overview t) x long is = subst (λ (m : Option (List ℕ)). IfSome m (λ bytes. 623 ≡ length bytes)) (sym (overview_sent x t is)) (overview_long x t long)
 length_told (Day d) x long is = subst (λ (m : Option (List ℕ)). IfSome m (λ bytes. 144 + 129 * d.insertions + 2 * d.words + 28 * d.places ≡ length bytes)) (sym (day_sent_as x d is)) (day_long x d long is)
 length_told (Events e) x long is = subst (λ (m : Option (List ℕ)). IfSome m (λ bytes. 143 + 82 * e.faults + 83 * e.events + 31 * e.overs ≡ length bytes)) (sym (event_sent x e is)) (events_long x e long is)
+length_told (Speed n) x long is = subst (λ (m : Option (List ℕ)). IfSome m (λ bytes. 132 + 64 * n ≡ length bytes)) (sym (speed_sent x)) (speed_long x n long is)
 length_told Technical x long is = subst (λ (m : Option (List ℕ)). IfSome m (λ bytes. 267 ≡ length bytes)) (sym (technical_sent x)) (technical_long x long)
 
 pub length_by : (o : Plan) (x : List ℕ) (n : ℕ) → n ≡ length_of o → IMAGE_SIZE ≤ length x → Outlines o x → IfSome (bytes_sent x (asked o)) (λ bytes. n ≡ length bytes)
@@ -149,6 +163,7 @@ sent_some : (o : Plan) (x : List ℕ) → IMAGE_SIZE ≤ length x → Outlines o
 sent_some (Overview t) x long is = (overview_parts x t, overview_sent x t is, overview_long x t long)
 sent_some (Day d) x long is = (day_parts x d, day_sent_as x d is, day_long x d long is)
 sent_some (Events e) x long is = (event_parts x e, event_sent x e is, events_long x e long is)
+sent_some (Speed n) x long is = (speed_parts x, speed_sent x, speed_long x n long is)
 sent_some Technical x long is = (technical_parts x, technical_sent x, technical_long x long)
 
 pub whole_is : (o : Plan) (x items : List ℕ) (turns : ℕ) → IMAGE_SIZE ≤ length x → Outlines o x → turns ≡ length_of o / 252 + 1 → ((b : List ℕ) → bytes_sent x (asked o) ≡ Some b → items ≡ take (turns * 252) b)

@@ -13,5 +13,6 @@ mod Joints
 mod Rings
 mod Contents
 mod Lengths
+mod Dating
 mod Outlining
 mod Faulting

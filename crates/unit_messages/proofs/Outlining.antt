@@ -13,12 +13,13 @@ use Rattle.unit_minutes.specs.Image.{IsNotes}
 use Rattle.unit_minutes.specs.Reading.{AreRight, IsOfDate, IsRecordedDay}
 use Rattle.unit_minutes.specs.declared.journal.reading.UnitDay.{UnitDay}
 use Rattle.unit_minutes.proofs.Shown.{shown}
-use Rattle.link_model.specs.declared.request.Request.TheVariants.{Day as AskDay, Speed as AskSpeed}
-use Rattle.message_model.specs.Records.{insertion_ring, unit_place_ring}
+use Rattle.link_model.specs.declared.request.Request.TheVariants.{Day as AskDay}
+use Rattle.message_model.specs.Records.{insertion_ring, unit_place_ring, speed_ring}
 use Rattle.message_model.specs.Messages.{ADay}
 use Rattle.message_model.specs.Sending.{sent_days, message_of, day_message_of, period_of, day_at, touches_day, place_in_day}
 use Rattle.unit_messages.specs.declared.outline.Times.{Times}
 use Rattle.unit_messages.specs.declared.outline.DayOutline.{DayOutline}
+use Rattle.unit_messages.specs.Counts.{AreCounted}
 use Rattle.unit_messages.specs.Outlines.{AreTimes, IsDayOf}
 use Rattle.unit_messages.proofs.SentDays.{sent_at, sent_are, counts_few, found_none, day_sent}
 
@@ -27,6 +28,9 @@ pub pointers_inside : (x : List ℕ) → Decodes x → PointsInside insertion_ri
 pointers_inside x decodes =
     let rings = rings_split x (good_of x decodes).rings in
     (rings.insertions, rings.places)
+
+pub speeds_inside : (x : List ℕ) → Decodes x → PointsInside speed_ring x
+speeds_inside x decodes = (rings_split x (good_of x decodes).rings).speeds
 
 -- and there are at most 255 over speedings
 pub overs_few : (x : List ℕ) → Decodes x → number_in x OVER_COUNT ≤ 255
@@ -44,8 +48,8 @@ pub day_outlined : (j : Notes) (ok : IsNotes j) (x : List ℕ) (date : ℕ) (d :
     → (o.date ≡ date) × (o.odometer ≡ d.odometer.0) × (o.words_place ≡ d.place + 16) × (o.words ≡ d.words)
     → PointsInside insertion_ring x × PointsInside unit_place_ring x
     → (o.insertions ≡ length (filter (touches_day date) (ring_list insertion_ring x))) × (o.places ≡ length (filter (place_in_day date) (ring_list unit_place_ring x)))
-    → IsDayOf x o
-day_outlined j ok x date d o decodes right is same inside counts =
+    → AreCounted o.counts x → IsDayOf x o
+day_outlined j ok x date d o decodes right is same inside counts counted =
     let sent = day_sent j ok x decodes right date d is in
     let date_is : o.date ≡ date = same.0 in
     let place_is : slot_place sent.index + 16 ≡ o.words_place = omega (arith, sent.place, same.2) in
@@ -59,6 +63,7 @@ day_outlined j ok x date d o decodes right is same inside counts =
       places = counts.1 ∙ ap (λ (n : ℕ). length (filter (place_in_day n) (ring_list unit_place_ring x))) (sym date_is);
       insertion_pointer = inside.0;
       place_pointer = inside.1;
+      counted = counted;
     }
 
 -- the times of an overview where no day is recorded, and by the oldest day
@@ -93,8 +98,3 @@ times_some j ok x t d decodes right oldest now begin end =
     first_of : (k : ℕ) (l : List ℕ) (i : ℕ) → slice_get l 0 ≡ Some i → period_of k (map (sent_at x) l) ≡ (slot_date x i, k)
     first_of k [] i is = absurd (cc)
     first_of k (a ∷ l) i is = let same : a ≡ i = cc in ap (λ (n : ℕ). (slot_date x n, k)) same
-
--- of detailed speed there is no message
-pub speed_none : (x : List ℕ) → message_of x AskSpeed ≡ None
-unfolding message_of
-speed_none x = refl

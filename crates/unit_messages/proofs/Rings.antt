@@ -4,19 +4,20 @@ use Rattle.std.specs.Prelude.{◌==◌}
 use Rattle.std.specs.List.{range_with_len}
 use Rattle.card_layout.specs.Images.{bytes_at, number_at}
 use Rattle.card_layout.specs.Fields.{joined}
-use Rattle.gated_ring.specs.Ring.{Shape, order, next, pointer, indices as ring_indices}
+use Rattle.gated_ring.specs.Ring.{Shape, order, next, pointer, ring_list, indices as ring_indices}
 use Rattle.gated_ring.proofs.Orders.{Each, range_each, each_append, next_below}
 use Rattle.std.proofs.lemmas.List.{append-nil, length-map}
 use Rattle.std.proofs.lemmas.List.FromFn.{length-map-range_with_len}
 use Rattle.byteorder.specs.Endian.{big_bytes}
 use Rattle.unit_model.specs.Image.{words_at}
 use Rattle.message_model.specs.Messages.{counted, word_bytes}
-use Rattle.unit_model.specs.declared.layout.TheConstants.{IMAGE_SIZE}
+use Rattle.unit_model.specs.declared.layout.TheConstants.{IMAGE_SIZE, SPEEDS}
+use Rattle.message_model.specs.Records.{speed_ring}
 use Rattle.message_model.specs.Sending.{entries_in}
 use Rattle.unit_messages.specs.declared.entries.Choice.{Choice}
 use Rattle.unit_messages.specs.declared.entries.Choice.TheVariants.{Each as AnyEntry}
 use Rattle.unit_messages.specs.declared.entries.Entries.{Entries}
-use Rattle.unit_messages.specs.Chosen.{chosen, chosen_at, shape_of, ring_of, chosen_in_ring, AreEntries}
+use Rattle.unit_messages.specs.Chosen.{chosen, chosen_at, shape_of, ring_of, chosen_in_ring, speed_blocks, AreEntries}
 use Rattle.unit_messages.specs.Windows.{Sight, passed}
 use Rattle.unit_messages.proofs.Choosing.{chosen_round}
 use Rattle.unit_messages.proofs.Counting.{all_counted}
@@ -35,6 +36,10 @@ ring_is place e x at =
 filter_all : (l : List (List ℕ)) → filter (chosen AnyEntry) l ≡ l
 filter_all [] = refl
 filter_all (a ∷ l) = ap (λ (m : List (List ℕ)). a ∷ m) (filter_all l)
+
+-- and all blocks of detailed speed
+pub speeds_are : (x : List ℕ) → chosen_in_ring SPEEDS.place speed_blocks x ≡ ring_list speed_ring x
+speeds_are x = filter_all (ring_list speed_ring x)
 
 pub table_is : (e : Entries) (x : List ℕ) → e.choice ≡ AnyEntry → chosen_at (shape_of e) e.choice x (range_with_len 0 e.count) ≡ entries_in (shape_of e) x
 table_is e x each = ap (λ (c : Choice). chosen_at (shape_of e) c x (range_with_len 0 e.count)) each ∙ filter_all (entries_in (shape_of e) x)

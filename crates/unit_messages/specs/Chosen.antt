@@ -2,7 +2,7 @@
 use Rattle.std.specs.Prelude.{ℕ, ◌+◌, ◌*◌, ◌≤◌, Bool, true, not, ◌&&◌, ◌==◌, cond, List, [], ◌∷◌, map, filter}
 use Rattle.card_layout.specs.Images.{number_at}
 use Rattle.gated_ring.specs.Ring.{Shape, is_there, entry_at, ring_list}
-use Rattle.unit_model.specs.declared.layout.TheConstants.{INSERTIONS, INSERTION_SLOTS, PLACES, PLACE_SLOTS, IMAGE_SIZE}
+use Rattle.unit_model.specs.declared.layout.TheConstants.{INSERTIONS, INSERTION_SLOTS, PLACES, PLACE_SLOTS, SPEEDS, SPEED_SLOTS, IMAGE_SIZE}
 use Rattle.message_model.specs.Sending.{touches_day, place_in_day}
 use Rattle.unit_messages.specs.declared.entries.Choice.{Choice}
 use Rattle.unit_messages.specs.declared.entries.Choice.TheVariants.{Each, Touching, PlaceOn}
@@ -43,12 +43,15 @@ pub record AreEntries (e : Entries) : Type 0 where
   pub few : e.count ≤ INSERTION_SLOTS
   pub room : room_of e.choice ≤ e.width
 
--- the insertions that touch a day, its places, and all entries of a table
+-- the insertions that touch a day, its places, the blocks of detailed speed, and all entries of a table
 abbrev pub insertions_on : ℕ → Entries
 insertions_on date = record { base = INSERTIONS.place + 4; width = 129; count = INSERTION_SLOTS; gate = 94; choice = Touching date }
 
 abbrev pub places_on : ℕ → Entries
 places_on date = record { base = PLACES.place + 4; width = 28; count = PLACE_SLOTS; gate = 18; choice = PlaceOn date }
+
+abbrev pub speed_blocks : Entries
+speed_blocks = record { base = SPEEDS.place + 4; width = 64; count = SPEED_SLOTS; gate = 0; choice = Each }
 
 abbrev pub entries_of : (base width count : ℕ) → Entries
 entries_of base width count = record { base = base; width = width; count = count; gate = 2; choice = Each }

@@ -6,3 +6,4 @@ pub mod Chosen
 pub mod Outlines
 pub mod Sent
 pub mod Faults
+pub mod Counts

@@ -1,8 +1,8 @@
 //! The entries of the unit's memory that a message has, read in blocks in the order of their ring.
 ghost use Rattle.unit_model.specs.declared.layout.TheConstants.{IMAGE_SIZE};
-ghost use Rattle.std.specs.Prelude.{◌≡◌, ◌≤◌, ◌<◌, ◌+◌, ◌*◌, ◌-◌, ℕ, List, IfOk, OnOk, IfSome, length, is_err};
+ghost use Rattle.std.specs.Prelude.{◌≡◌, ◌==◌, ◌≤◌, ◌<◌, ◌+◌, ◌*◌, ◌-◌, not, ℕ, List, IfOk, OnOk, IfSome, length, is_err};
 ghost use Rattle.std.specs.List.{range_with_len};
-ghost use Rattle.card_layout.specs.Images.{bytes_at};
+ghost use Rattle.card_layout.specs.Images.{bytes_at, number_at};
 ghost use Rattle.card_layout.specs.Fields.{joined};
 ghost use Rattle.tach_media.specs.Medium.{Reads};
 ghost use Rattle.gated_ring.specs.Ring.{order};
@@ -38,16 +38,16 @@ pub struct Entries {
 /// Where an insertion has its time, and the time of its withdrawal.
 pub(crate) const INSERTION_TIME: u32 = 94;
 
-const WITHDRAWAL_TIME: usize = 102;
+pub(crate) const WITHDRAWAL_TIME: usize = 102;
 
 /// Where a place has its time, behind the card's number.
 pub(crate) const PLACE_TIME: u32 = 18;
 
 // How many entries are read at once.
-const AT_ONCE: u32 = 31;
+pub(crate) const AT_ONCE: u32 = 31;
 
 // The room for them, where they are of the widest, as an insertion is.
-const BLOCK: usize = 3999;
+pub(crate) const BLOCK: usize = 3999;
 
 // Whether a second lies in the day that begins at another.
 fn is_in_day(date: u32, second: u32) -> bool
@@ -56,8 +56,16 @@ fn is_in_day(date: u32, second: u32) -> bool
     second / DAY_SECONDS * DAY_SECONDS == date
 }
 
+// The first second of the day in which a time of an entry lies.
+pub(crate) fn date_of(entry: &[u8], place: usize) -> u32
+    requires { place + 4 ≤ length entry.now }
+    ensures { (date : ℕ) → is_in_day date (number_at entry.now place 4) ≡ (date == result) }
+{
+    four_in(entry, place) / DAY_SECONDS * DAY_SECONDS
+}
+
 // How many of the entries that are left are read at once.
-fn at_once(left: u32) -> u32
+pub(crate) fn at_once(left: u32) -> u32
     requires { 0 < left }
     ensures some { 0 < result }
     ensures few { result ≤ AT_ONCE }
@@ -85,7 +93,7 @@ impl Choice {
 
 impl Entries {
     // Where the entry at an index begins, of so many that are read at once.
-    fn place_of(&self, index: u32, count: u32) -> u32
+    pub(crate) fn place_of(&self, index: u32, count: u32) -> u32
         requires entries { AreEntries self.now }
         requires inside { index + count ≤ self.now.count }
         ensures place { result ≡ self.now.base + index * self.now.width }
@@ -95,13 +103,22 @@ impl Entries {
     }
 
     // How many bytes so many entries have.
-    fn bytes_of(&self, count: u32) -> u32
+    pub(crate) fn bytes_of(&self, count: u32) -> u32
         requires entries { AreEntries self.now }
         requires few { count ≤ AT_ONCE }
         ensures bytes { result ≡ count * self.now.width }
         ensures few { result ≤ BLOCK }
     {
         count * self.width
+    }
+
+    // Whether an entry is there.
+    pub(crate) fn is_there(&self, entry: &[u8]) -> bool
+        requires entries { AreEntries self.now }
+        requires whole { length entry.now ≡ self.now.width }
+        ensures { result ≡ not (number_at entry.now self.now.gate 4 == 0) }
+    {
+        four_in(entry, self.gate as usize) != 0
     }
 
     // Whether an entry is there and meant.
@@ -131,7 +148,7 @@ impl Entries {
     }
 
     // An entry of some that were read at once.
-    fn entry_in<'a>(&self, block: &'a [u8], turn: u32) -> &'a [u8]
+    pub(crate) fn entry_in<'a>(&self, block: &'a [u8], turn: u32) -> &'a [u8]
         requires entries { AreEntries self.now }
         requires few { turn < AT_ONCE }
         requires inside { turn * self.now.width + self.now.width ≤ length block.now }

@@ -12,6 +12,6 @@ mod window;
 
 pub use joining::{JoinFault, Joiner, split_at};
 pub use link_model::Request;
-pub use outline::{Outline, find_outline};
+pub use outline::{Outline, find_next_outline, find_outline};
 pub use reading::{BadMessage, MessageRead, OverviewRead, day_words, overview, read_message};
 pub use sending::{MessageFault, PieceFault, message, piece};

@@ -5,18 +5,22 @@ ghost use Rattle.std.specs.Prelude.{ℕ, List, Some, min, ◌≡◌, ◌≤◌, 
 ghost use Rattle.unit_minutes.specs.Reading.{ReadsIfAny};
 ghost use Rattle.unit_messages.specs.declared.joining.TheConstants.{LONGEST};
 ghost use Rattle.unit_messages.specs.Sent.{IsPiece};
+ghost use Rattle.message_model.specs.Records.{speed_ring};
+ghost use Rattle.unit_messages.specs.Counts.{AreCounted, AreInRange};
 ghost use Rattle.unit_messages.specs.Outlines.{Outlines, HasPassed, IsDayInRange, IsEventInRange, bytes_sent, asked, length_of};
 
 mod content;
+mod counts;
 mod finding;
 mod rows;
 
 use crate::window::{ROOM, Window};
 use arrayvec::ArrayVec;
-use content::{pass_day, pass_events, pass_overview, pass_technical};
-pub use finding::find_outline;
+use content::{pass_day, pass_events, pass_overview, pass_speed, pass_technical};
+use counts::Counts;
+pub use finding::{find_next_outline, find_outline};
 use link_model::Request;
-use message_model::sizes::{EVENT, FAULT, INSERTION, OVER, PLACE};
+use message_model::sizes::{EVENT, FAULT, INSERTION, OVER, PLACE, SPEED_BLOCK};
 use std::marker::Model;
 use tach_media::{Failed, Medium};
 
@@ -32,6 +36,9 @@ pub const DAY_LENGTH: u32 = 144;
 /// How many bytes the message of events and faults has beside these and the over speedings.
 pub const EVENTS_LENGTH: u32 = 143;
 
+/// How many bytes the message of detailed speed has beside its blocks.
+pub const SPEED_LENGTH: u32 = 132;
+
 /// What an overview tells beside fields of the image: the unit's time, and the period's begin and end.
 #[derive(Clone, Copy, Debug, PartialEq, Eq)]
 pub struct Times {
@@ -41,7 +48,7 @@ pub struct Times {
 }
 
 /// A day as its message has it: its first second, the odometer then, where its words stand and how many they are, and how many
-/// insertions and places it has.
+/// insertions and places it has; and how many the dates beside it have, so that the rings are not looked through for each day.
 #[derive(Clone, Copy, Debug, PartialEq, Eq)]
 pub struct DayOutline {
     pub date: u32,
@@ -50,6 +57,7 @@ pub struct DayOutline {
     pub words: u32,
     pub insertions: u32,
     pub places: u32,
+    pub counts: Counts,
 }
 
 /// How many faults, events and over speedings there are; the begin of the first over speeding, and their number.
@@ -68,6 +76,8 @@ pub enum Plan {
     Overview(Times),
     Day(DayOutline),
     Events(EventOutline),
+    /// How many blocks there are.
+    Speed(u32),
     Technical,
 }
 
@@ -99,7 +109,19 @@ impl Outline {
             Plan::Overview(_) => Request::Overview,
             Plan::Day(day) => Request::Day(day.date),
             Plan::Events(_) => Request::Events,
+            Plan::Speed(_) => Request::Speed,
             Plan::Technical => Request::Technical,
+        }
+    }
+
+    /// How many insertions and places other dates have, where the message is a day's.
+    fn counts(&self) -> Option<Counts>
+        ensures range { IfSome result AreInRange }
+        ensures counted { (x : List ℕ) → Outlines self.now x → IfSome result (λ c. AreCounted c x) }
+    {
+        match self.plan {
+            Plan::Day(day) => Some(day.counts),
+            Plan::Overview(_) | Plan::Events(_) | Plan::Speed(_) | Plan::Technical => None,
         }
     }
 
@@ -144,6 +166,7 @@ impl Outline {
             Plan::Overview(_) => OVERVIEW_LENGTH,
             Plan::Day(day) => day_total(day),
             Plan::Events(events) => event_total(events),
+            Plan::Speed(blocks) => speed_total(blocks),
             Plan::Technical => TECHNICAL_LENGTH,
         }
     }
@@ -167,6 +190,7 @@ impl Outline {
             Plan::Overview(times) => pass_overview(unit, times, window),
             Plan::Day(day) => pass_day(unit, day, window),
             Plan::Events(events) => pass_events(unit, events, window),
+            Plan::Speed(blocks) => pass_speed(unit, blocks, window),
             Plan::Technical => pass_technical(unit, window),
         }
     }
@@ -190,4 +214,14 @@ fn event_total(events: EventOutline) -> u32
     ensures few { result ≤ LONGEST }
 {
     EVENTS_LENGTH + FAULT * events.faults + EVENT * events.events + OVER * events.overs
+}
+
+// How many bytes the message of detailed speed has.
+fn speed_total(blocks: u32) -> u32
+    requires { blocks ≤ speed_ring.count }
+    ensures len { result ≡ length_of (Plan.Speed blocks) }
+    ensures some { 2 ≤ result }
+    ensures few { result ≤ LONGEST }
+{
+    SPEED_LENGTH + SPEED_BLOCK * blocks
 }

@@ -88,8 +88,8 @@ impl From<UnitFault> for PieceFault {
 }
 
 /// Reads at most 252 bytes of the message that answers a request, from a place on, and tells the message's length; at its end
-/// and behind it there are none. `None` exactly where there is no such message: for a day that is not recorded, and for
-/// detailed speed. Then `out` is as it was. The unit is judged first; nothing is written to it. Of a unit that tells nothing
+/// and behind it there are none. `None` exactly where there is no such message: for a day that is not recorded. Then
+/// `out` is as it was. The unit is judged first; nothing is written to it. Of a unit that tells nothing
 /// there are as many bytes as the length that is told says.
 ///
 /// # Errors
@@ -137,8 +137,8 @@ fn piece_of<M: Medium>(
     Ok(Some(len))
 }
 
-/// Reads the message that answers a request. `None` exactly where there is no such message: for a day that is not recorded, and
-/// for detailed speed. The unit is judged first; nothing is written to it.
+/// Reads the message that answers a request. `None` exactly where there is no such message: for a day that is not recorded. The
+/// unit is judged first; nothing is written to it.
 ///
 /// # Errors
 ///

@@ -3,13 +3,14 @@ ghost use Rattle.unit_model.specs.declared.layout.TheConstants.{IMAGE_SIZE};
 ghost use Rattle.std.specs.Prelude.{◌≡◌, ◌≤◌, ◌+◌, ◌++◌, OnOk, IfSome, is_err};
 ghost use Rattle.byteorder.specs.Endian.{big_bytes};
 ghost use Rattle.unit_minutes.specs.Reading.{ReadsIfAny};
+ghost use Rattle.message_model.specs.Records.{speed_ring};
 ghost use Rattle.message_model.specs.Sending.{field_of};
 ghost use Rattle.unit_messages.specs.Windows.{passed};
-ghost use Rattle.unit_messages.specs.Outlines.{IsDayInRange, IsEventInRange, AreTimes, IsDayOf, AreEventsOf, HasPassed};
+ghost use Rattle.unit_messages.specs.Outlines.{IsDayInRange, IsEventInRange, AreTimes, IsDayOf, AreEventsOf, AreBlocksOf, HasPassed};
 
 use crate::outline::rows::{
-    event_entries, fault_entries, over_entries, pass_byte, pass_insertions, pass_places,
-    pass_table, pass_words,
+    event_entries, fault_entries, over_entries, pass_blocks, pass_byte, pass_insertions,
+    pass_places, pass_table, pass_words,
 };
 use crate::outline::{DayOutline, EventOutline, Plan, Times};
 use crate::parts::SERVICE;
@@ -137,5 +138,22 @@ pub fn pass_day<M: Medium>(unit: &mut M, day: DayOutline, window: &mut Window) -
     pass_words(unit, day, window)?;
     pass_places(unit, day, window)?;
     window.pass(&[0; 130]);
+    Ok(())
+}
+
+/// The message of detailed speed passes by: its blocks behind their count, and zeros.
+///
+/// # Errors
+///
+/// `Failed` where the unit failed.
+pub fn pass_speed<M: Medium>(unit: &mut M, blocks: u32, window: &mut Window) -> Result<(), Failed>
+    requires unit { (M.state unit.old).size ≡ IMAGE_SIZE }
+    requires range { blocks ≤ speed_ring.count }
+    ensures passed { OnOk result (IfSome (M.state unit.old).image (λ x. AreBlocksOf x blocks → HasPassed (Plan.Speed blocks) x window.old window.new)) }
+    ensures reads { ReadsIfAny (M.state unit.old) (M.state unit.new) (is_err result) }
+{
+    window.pass(&[SERVICE, 4]);
+    pass_blocks(unit, blocks, window)?;
+    window.pass(&[0; 128]);
     Ok(())
 }

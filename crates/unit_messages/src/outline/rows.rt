@@ -1,5 +1,5 @@
 //! The entries and words of a message, behind their counts.
-ghost use Rattle.unit_model.specs.declared.layout.TheConstants.{IMAGE_SIZE, INSERTIONS, INSERTION_SLOTS, PLACES, EVENTS, OVERS, FAULTS};
+ghost use Rattle.unit_model.specs.declared.layout.TheConstants.{IMAGE_SIZE, INSERTIONS, INSERTION_SLOTS, PLACES, EVENTS, OVERS, FAULTS, SPEEDS};
 ghost use Rattle.std.specs.Prelude.{◌≡◌, ◌==◌, ◌≤◌, ◌<◌, ◌+◌, ◌*◌, ◌^◌, if◌then◌else◌, OnOk, IfSome, is_err, filter, length};
 ghost use Rattle.byteorder.specs.Endian.{big_bytes};
 ghost use Rattle.card_layout.specs.Images.{number_at};
@@ -7,11 +7,11 @@ ghost use Rattle.card_layout.specs.Fields.{joined};
 ghost use Rattle.gated_ring.specs.Ring.{ring_list, PointsInside};
 ghost use Rattle.unit_model.specs.Image.{words_at};
 ghost use Rattle.unit_minutes.specs.Reading.{ReadsIfAny};
-ghost use Rattle.message_model.specs.Records.{insertion_ring, unit_place_ring};
+ghost use Rattle.message_model.specs.Records.{insertion_ring, unit_place_ring, speed_ring};
 ghost use Rattle.message_model.specs.Messages.{counted, word_bytes};
 ghost use Rattle.message_model.specs.Sending.{entries_in, touches_day, place_in_day};
 ghost use Rattle.unit_messages.specs.Windows.{passed};
-ghost use Rattle.unit_messages.specs.Chosen.{AreEntries, shape_of, insertions_on, places_on, entries_of, chosen_in_ring};
+ghost use Rattle.unit_messages.specs.Chosen.{AreEntries, shape_of, insertions_on, places_on, speed_blocks, entries_of, chosen_in_ring};
 ghost use Rattle.unit_messages.specs.Outlines.{IsDayInRange};
 
 use crate::entries::{Choice, Entries, INSERTION_TIME, PLACE_TIME};
@@ -19,7 +19,9 @@ use crate::outline::DayOutline;
 use crate::window::Window;
 use message_model::sizes;
 use tach_media::{Failed, Medium, read_number};
-use unit_model::layout::{EVENTS, FAULTS, INSERTION_SLOTS, INSERTIONS, OVERS, PLACE_SLOTS, PLACES};
+use unit_model::layout::{
+    EVENTS, FAULTS, INSERTION_SLOTS, INSERTIONS, OVERS, PLACE_SLOTS, PLACES, SPEED_SLOTS, SPEEDS,
+};
 
 /// How many places there are for faults, events and over speedings.
 const FAULT_PLACES: u32 = 24;
@@ -58,6 +60,21 @@ pub fn places_on(date: u32) -> Entries
         count: PLACE_SLOTS,
         gate: PLACE_TIME,
         choice: Choice::PlaceOn(date),
+    }
+}
+
+/// The blocks of detailed speed, of which each begins with its time.
+pub fn speed_blocks() -> Entries
+    ensures is { result ≡ speed_blocks }
+    ensures base { result.base ≡ SPEEDS.place + 4 }
+    ensures entries { AreEntries result }
+{
+    Entries {
+        base: SPEEDS.place + 4,
+        width: sizes::SPEED_BLOCK,
+        count: SPEED_SLOTS,
+        gate: 0,
+        choice: Choice::Each,
     }
 }
 
@@ -237,5 +254,18 @@ pub fn pass_places<M: Medium>(
     let entries = places_on(day.date);
     pass_byte(window, day.places);
     pass_ring(unit, PLACES.place, &entries, day.places, window)?;
+    Ok(())
+}
+
+/// The blocks of detailed speed pass by, behind their count.
+pub fn pass_blocks<M: Medium>(unit: &mut M, blocks: u32, window: &mut Window) -> Result<(), Failed>
+    requires unit { (M.state unit.old).size ≡ IMAGE_SIZE }
+    requires few { blocks ≤ speed_ring.count }
+    ensures passed { OnOk result (IfSome (M.state unit.old).image (λ x. PointsInside speed_ring x → blocks ≡ length (ring_list speed_ring x) → window.new ≡ passed window.old (counted 2 (ring_list speed_ring x)))) }
+    ensures reads { ReadsIfAny (M.state unit.old) (M.state unit.new) (is_err result) }
+{
+    let entries = speed_blocks();
+    pass_count(window, blocks);
+    pass_ring(unit, SPEEDS.place, &entries, blocks, window)?;
     Ok(())
 }

@@ -1,7 +1,7 @@
 use Rattle.std.proofs.Common.{◌≡◌, ◌∙◌, sym, subst, IfSome}
 use Rattle.std.specs.Prelude.{OnOk}
 use Rattle.unit_messages.specs.declared.outline.Plan.{Plan}
-use Rattle.unit_messages.specs.declared.outline.Plan.TheVariants.{Overview, Day, Events, Technical}
+use Rattle.unit_messages.specs.declared.outline.Plan.TheVariants.{Overview, Day, Events, Speed, Technical}
 use Rattle.unit_messages.specs.Outlines.{Outlines, HasPassed, IsInRange}
 use Rattle.unit_memory.proofs.Told.{one_told}
 use Rattle.std.proofs.lemmas.Result.{on_ok_weaker}
@@ -21,6 +21,14 @@ pub returns-in-Events-clause-passed : goal.returns-in-Events-clause-passed
 returns-in-Events-clause-passed g c =
     let is : Events c.in-Events.events ≡ c.args.self.now = sym c.in-Events.is ∙ c.self.view_is in
     subst (λ (o : Plan). OnOk c.pass_events.result (IfSome (g.M.Medium.state c.args.unit.now).image (λ x. Outlines o x → HasPassed o x c.args.window.now c.pass_events.new.window))) is c.pass_events.ensures.passed
+
+pub returns-in-Speed-clause-passed : goal.returns-in-Speed-clause-passed
+returns-in-Speed-clause-passed g c =
+    let is : Speed c.in-Speed.blocks ≡ c.args.self.now = sym c.in-Speed.is ∙ c.self.view_is in
+    subst (λ (o : Plan). OnOk c.pass_speed.result (IfSome (g.M.Medium.state c.args.unit.now).image (λ x. Outlines o x → HasPassed o x c.args.window.now c.pass_speed.new.window))) is c.pass_speed.ensures.passed
+
+pub pass_speed-requires-clause-range : goal.pass_speed-requires-clause-range
+pass_speed-requires-clause-range g c = subst IsInRange c.in-Speed.is c.self.invariant
 
 pub returns-in-Technical-clause-passed : goal.returns-in-Technical-clause-passed
 returns-in-Technical-clause-passed g c =

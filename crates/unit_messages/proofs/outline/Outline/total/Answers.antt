@@ -2,6 +2,12 @@ use Rattle.std.proofs.Common.{◌∙◌, sym, ap, subst}
 use Rattle.unit_messages.specs.Outlines.{IsInRange, length_of}
 use Rattle.unit_messages.proofs.outline.Outline.total.Goals as goal
 
+pub speed_total-requires : goal.speed_total-requires
+speed_total-requires c = subst IsInRange c.in-Speed.is c.self.invariant
+
+pub returns-in-Speed-clause-len : goal.returns-in-Speed-clause-len
+returns-in-Speed-clause-len c = c.speed_total.ensures.len ∙ ap length_of (sym c.in-Speed.is ∙ c.self.view_is)
+
 pub day_total-requires : goal.day_total-requires
 day_total-requires c = subst IsInRange c.in-Day.is c.self.invariant
 

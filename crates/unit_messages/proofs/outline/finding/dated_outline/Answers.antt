@@ -8,7 +8,7 @@ use Rattle.unit_minutes.proofs.IfAny.{read_same}
 use Rattle.unit_minutes.specs.Reading.{AreRight, IsOfDate, IsSlotPlace}
 use Rattle.unit_minutes.specs.declared.journal.reading.UnitDay.{UnitDay}
 use Rattle.link_model.specs.declared.request.Request.TheVariants.{Day as AskDay}
-use Rattle.unit_messages.specs.Outlines.{IsOutlined, asked}
+use Rattle.unit_messages.specs.Outlines.{Outlines, IsOutlined, asked}
 use Rattle.unit_messages.proofs.Calls.{any_then}
 use Rattle.unit_messages.proofs.Joints.{at_told}
 use Rattle.unit_messages.proofs.Outlining.{none_sent}
@@ -43,6 +43,9 @@ found_outline-requires-clause-right g c = carried (AreRight c.args.journal.now) 
 
 pub found_outline-requires-clause-decodes : goal.found_outline-requires-clause-decodes
 found_outline-requires-clause-decodes g c = carried Decodes (sym (read_same c.in_ok-found.ensures.reads)) c.requires.decodes
+
+pub found_outline-requires-clause-known : goal.found_outline-requires-clause-known
+found_outline-requires-clause-known g c = carried (λ x. IfSome c.args.known.now (λ o. Outlines o x)) (sym (read_same c.in_ok-found.ensures.reads)) c.requires.known
 
 pub found_outline-requires-clause-found : goal.found_outline-requires-clause-found
 found_outline-requires-clause-found g c =

@@ -11,7 +11,7 @@ returns-clause-outlined g c =
     told_all (g.M.Medium.state c.args.unit.now).image _ (λ x told. (
       ap AskDay c.in_ok-outline.ensures.day.0,
       day_outlined c.args.journal.now c.last_kept-kept.ensures.shape x d.date.0 d c.in_ok-outline.outline (at_told _ x told c.requires.decodes) (at_told _ x told c.requires.right) (at_told _ x told c.requires.found)
-          c.in_ok-outline.ensures.day (at_told _ x told c.in_ok-outline.ensures.pointers) (at_told _ x told c.in_ok-outline.ensures.counts),
+          c.in_ok-outline.ensures.day (at_told _ x told c.in_ok-outline.ensures.pointers) (at_told _ x told c.in_ok-outline.ensures.counts) (at_told _ x told c.in_ok-outline.ensures.counted),
     ))
 
 pub returns-clause-request : goal.returns-clause-request
