@@ -1,6 +1,10 @@
 -- The totals and the picture of a file, of all its days or of the last so many (profile).
-use Rattle.std.specs.Prelude.{ℕ, Option, List, [], map}
+use Rattle.std.specs.Prelude.{◌≡◌, ℕ, ◌/◌, Option, List, map}
 use Rattle.activity_codec.specs.declared.entries.Entry.{Entry}
+use Rattle.card_layout.specs.declared.files.Application.{Application}
+use Rattle.card_model.specs.Days.{Day}
+use Rattle.card_model.specs.Walk.{days_of}
+use Rattle.card_image.specs.CardFile.{FileEntry, IsCardFile, string_alone}
 use Rattle.unit_model.specs.Days.{UnitMinute}
 use Rattle.view_text.specs.Entries.{entry_shown}
 use Rattle.file_view.specs.Histories.{minute_shown}
@@ -21,11 +25,26 @@ pub record PrintsUnitTotals (last : Option ℕ) (bytes out : List ℕ) : Type 0 
   pub tells : TellsMarks bytes gaps distances
   pub totals : IsUnitTotals gaps distances (map minute_shown minutes) out
 
--- those of a card file: of the entries that its view shows
+-- the distance that a day of a card tells
+abbrev pub distance_of : Day → Distance
+distance_of d = record { day = d.date / 86400; km = d.km }
+
+-- the bytes are a card file whose days tell these distances, oldest first
+pub record TellsDistances (bytes : List ℕ) (distances : List Distance) : Type 0 where
+  pub app : Application
+  pub days : List ℕ
+  pub vehicles : List ℕ
+  pub entries : List FileEntry
+  pub file : IsCardFile app days vehicles entries bytes
+  pub distances_are : distances ≡ map distance_of (days_of (string_alone app) days)
+
+-- those of a card file: of the entries that its view shows, with the distances of its days
 pub record PrintsCardTotals (last : Option ℕ) (bytes out : List ℕ) : Type 0 where
   pub entries : List Entry
+  pub distances : List Distance
   pub shows : ShowsCardFile last bytes entries
-  pub totals : IsCardTotals [] (map entry_shown entries) out
+  pub tells : TellsDistances bytes distances
+  pub totals : IsCardTotals distances (map entry_shown entries) out
 
 -- THE PICTURE of a unit file, and of a card file: of the same minutes, with the totals as its text
 pub record PrintsUnitChart (last : Option ℕ) (bytes out : List ℕ) : Type 0 where
@@ -40,7 +59,9 @@ pub record PrintsUnitChart (last : Option ℕ) (bytes out : List ℕ) : Type 0 w
 
 pub record PrintsCardChart (last : Option ℕ) (bytes out : List ℕ) : Type 0 where
   pub entries : List Entry
+  pub distances : List Distance
   pub text : List ℕ
   pub shows : ShowsCardFile last bytes entries
-  pub totals : IsCardTotals [] (map entry_shown entries) text
+  pub tells : TellsDistances bytes distances
+  pub totals : IsCardTotals distances (map entry_shown entries) text
   pub chart : IsCardChart text (map entry_shown entries) out

@@ -3,12 +3,13 @@ ghost use Rattle.std.specs.Prelude.{◌≡◌, ◌<◌, ◌^◌, List, map, leng
 ghost use Rattle.file_view.specs.Faults.{IfBadFile};
 ghost use Rattle.file_view.specs.CardFiles.{IsBadCardFile};
 ghost use Rattle.file_view.specs.Showing.{ShowsCardFile};
-ghost use Rattle.day_reports.specs.Printing.{PrintsCardTotals, PrintsCardChart};
+ghost use Rattle.day_reports.specs.Printing.{PrintsCardTotals, PrintsCardChart, TellsDistances};
 
+use crate::distances::card_distances;
 use file_view::{CardHistory, ViewFault, last_days, read_card_file};
 use std::alloc::Global;
 
-/// The totals of a card file, of all days or of the newest so many. Its distances are not read.
+/// The totals of a card file, of all days or of the newest so many.
 ///
 /// # Errors
 ///
@@ -22,7 +23,11 @@ pub fn card_totals(alloc: Global, b: &[u8], last: Option<u32>) -> Result<Vec<u8>
         Ok(history) => history,
         Err(fault) => return Err(fault),
     };
-    let text = day_totals::card_days_text(alloc, history.lines(), &[])?;
+    let distances = match card_distances(alloc, b) {
+        Ok(distances) => distances,
+        Err(fault) => return Err(fault),
+    };
+    let text = day_totals::card_days_text(alloc, history.lines(), distances.as_slice())?;
     Ok(text)
 }
 
@@ -40,8 +45,12 @@ pub fn card_chart(alloc: Global, b: &[u8], last: Option<u32>) -> Result<Vec<u8>,
         Ok(history) => history,
         Err(fault) => return Err(fault),
     };
+    let distances = match card_distances(alloc, b) {
+        Ok(distances) => distances,
+        Err(fault) => return Err(fault),
+    };
     let lines = history.lines();
-    let totals = day_totals::card_days_text(alloc, lines, &[])?;
+    let totals = day_totals::card_days_text(alloc, lines, distances.as_slice())?;
     let text = day_chart::card_chart(alloc, lines, totals.as_slice())?;
     Ok(text)
 }

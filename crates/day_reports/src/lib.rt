@@ -2,6 +2,7 @@
 #![tactic(auto)]
 
 mod cards;
+mod distances;
 mod units;
 
 pub use cards::{card_chart, card_totals};

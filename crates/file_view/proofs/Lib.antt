@@ -11,6 +11,7 @@ pub mod UnitOneWay
 pub mod Marks
 pub mod Loading
 pub mod Telling
+pub mod HandDays
 pub mod UnitStates
 pub mod UnitFronts
 pub mod UnitDays

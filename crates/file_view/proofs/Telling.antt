@@ -1,5 +1,5 @@
 -- The entries of the days that are shown, one day more and all of them.
-use Rattle.std.proofs.Common.{◌≡◌, ◌∙◌, ℕ, ◌+◌, ◌-◌, ◌<◌, ◌≤◌, Option, Some, None, List, ◌++◌, length, take, drop, get_or, refl, ap, sym, subst, arith}
+use Rattle.std.proofs.Common.{◌≡◌, ◌∙◌, ℕ, ◌+◌, ◌-◌, ◌<◌, ◌≤◌, Option, Some, None, List, [], ◌++◌, length, take, drop, get_or, refl, ap, sym, subst, arith}
 use Rattle.std.proofs.Math.Seq.{take-length}
 use Rattle.std.proofs.lemmas.List.{take_more, length-drop, get_or-drop}
 use Rattle.activity_codec.specs.declared.entries.Entry.{Entry}
@@ -16,6 +16,19 @@ use Rattle.card_image.specs.CardFile.{string_alone, shown_entries}
 use Rattle.file_view.specs.CardFiles.{mark_of, last_entries}
 use Rattle.file_view.specs.Showing.{before_last, entries_told}
 use Rattle.file_view.proofs.Entries.{days_more}
+
+-- the days of the string, and the heads that were read
+abbrev pub day_none : Day
+day_none = record { date = 0; counter = 0; km = 0; words = [] }
+
+abbrev pub head_none : DayHead
+head_none = record { place = 0; date = record { 0 = 0 }; counter = record { 0 = 0 }; km = record { 0 = 0 }; words = 0 }
+
+pub holds_own : (r : StringShape) (n : ℕ) (x : List ℕ) → r ≡ record { base = 0; size = n } → Holds r x (days_of (record { base = 0; size = n }) x) → Holds r x (days_of r x)
+holds_own r n x is holds = subst (λ (ds : List Day). Holds r x ds) (ap (λ (s : StringShape). days_of s x) (sym is)) holds
+
+pub inside_own : (r : StringShape) (x : List ℕ) → r ≡ record { base = 0; size = length x - 4 } → 4 ≤ length x → r.base + (4 + r.size) ≤ length x
+inside_own r x is long = omega (arith, ap (λ (s : StringShape). s.base) is, ap (λ (s : StringShape). s.size) is, long)
 
 pub day_step : (mark : ℕ) (days : List Day) (k : ℕ) (d : Day) → k < length days → entries_up_to mark (take k days) ++ day_entries mark (get_or days k d) ≡ entries_up_to mark (take (k + 1) days)
 day_step mark days k d low = sym (ap (λ (l : List Day). entries_up_to mark l) (take_more days k d low) ∙ days_more mark (take k days) (get_or days k d))

@@ -8,4 +8,5 @@ pub mod Deciding
 pub mod Reading
 pub mod Walking
 pub mod Showing
+pub mod ByHand
 pub mod UnitShowing

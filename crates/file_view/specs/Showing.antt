@@ -3,7 +3,10 @@ use Rattle.std.specs.Prelude.{◌≡◌, ℕ, ◌-◌, nat_le, if◌then◌else�
 use Rattle.activity_codec.specs.declared.entries.Entry.{Entry}
 use Rattle.activity_codec.specs.declared.words.Change.{Change}
 use Rattle.card_layout.specs.declared.files.Application.{Application}
-use Rattle.card_image.specs.CardFile.{FileEntry, IsCardFile, shown_entries}
+use Rattle.card_days.specs.declared.head.DayHead.{DayHead}
+use Rattle.card_days.specs.Heads.{heads_of}
+use Rattle.card_model.specs.Walk.{days_of}
+use Rattle.card_image.specs.CardFile.{FileEntry, IsCardFile, shown_entries, string_alone}
 use Rattle.file_view.specs.CardFiles.{last_entries}
 
 -- how many of so many days stand before those that are shown
@@ -24,6 +27,15 @@ pub record ShowsCardFile (last : Option ℕ) (bytes : List ℕ) (shown : List En
   pub entries : List FileEntry
   pub file : IsCardFile app days vehicles entries bytes
   pub shown_are : shown ≡ entries_told last app days vehicles
+
+-- the bytes are a card file, and these are the heads of the days of its string, oldest first
+pub record TellsHeads (bytes : List ℕ) (heads : List DayHead) : Type 0 where
+  pub app : Application
+  pub days : List ℕ
+  pub vehicles : List ℕ
+  pub entries : List FileEntry
+  pub file : IsCardFile app days vehicles entries bytes
+  pub heads_are : heads ≡ heads_of (string_alone app) days (days_of (string_alone app) days)
 
 -- the entry that a change tells of a minute, if it tells one
 abbrev pub entry_of : ℕ → Option Change → List Entry

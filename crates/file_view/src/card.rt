@@ -4,10 +4,11 @@ ghost use Rattle.std.specs.List.{AllByRecursion};
 ghost use Rattle.activity_codec.specs.declared.entries.Entry.{Entry as CardEntry};
 ghost use Rattle.activity_codec.specs.Words.{change_of};
 ghost use Rattle.card_layout.specs.Application.{IsApplication};
-ghost use Rattle.card_image.specs.CardFile.{FileEntry, IsCardFile, shown_entries};
+ghost use Rattle.card_image.specs.CardFile.{FileEntry, IsCardFile, shown_entries, string_alone};
 ghost use Rattle.card_layout.specs.declared.files.Application.{Application as Sizes};
 ghost use Rattle.card_model.specs.Days.{Day};
 ghost use Rattle.card_model.specs.Walk.{days_of};
+ghost use Rattle.card_days.specs.Heads.{heads_of};
 ghost use Rattle.card_retention.specs.Entries.{day_entries, entries_up_to};
 ghost use Rattle.card_retention.specs.Retains.{Rise};
 ghost use Rattle.view_model.specs.Lines.{lines_of, same_card, day_of_minute};
@@ -19,7 +20,7 @@ ghost use Rattle.file_view.specs.Histories.{AreLines, minutes_on, entry_told};
 ghost use Rattle.file_view.specs.Reading.{AreParts, days_part, vehicles_part, vehicles_size};
 ghost use Rattle.file_view.specs.Vehicles.{ShowsCard};
 ghost use Rattle.file_view.specs.Walking.{IsDayAt};
-ghost use Rattle.file_view.specs.Showing.{ShowsCardFile, entries_told, entry_up_to, before_last};
+ghost use Rattle.file_view.specs.Showing.{ShowsCardFile, TellsHeads, entries_told, entry_up_to, before_last};
 
 use crate::ViewFault;
 use crate::entry::part;
@@ -131,6 +132,20 @@ pub fn last_days(alloc: Global, b: &[u8], n: u32) -> Result<CardHistory, ViewFau
     read_days(alloc, b, Some(n))
 }
 
+/// The heads of the days of a card file's string, oldest first. It refuses as `read_card_file` does.
+pub fn day_heads(alloc: Global, b: &[u8]) -> Result<Vec<DayHead>, ViewFault>
+    requires { length b.now < 2 ^ 32 }
+    ensures heads { IfOk result (λ heads. TellsHeads b.now heads.items) }
+    ensures bad { IfErr result (λ fault. IfBadFile fault (λ place. IsBadCardFile place b.now)) }
+{
+    let parts = match Parts::read(b) {
+        Ok(parts) => parts,
+        Err(place) => return Err(ViewFault::BadFile(place)),
+    };
+    let all = string_heads(alloc, b, parts)?;
+    Ok(all)
+}
+
 /// The view text of entries.
 pub fn card_text(alloc: Global, h: &CardHistory) -> Result<Vec<u8>, Memory>
     ensures { IfOk result (λ text. IsCardView (map entry_shown h.now) text.items) }
@@ -152,6 +167,20 @@ fn read_days(alloc: Global, b: &[u8], last: Option<u32>) -> Result<CardHistory, 
     };
     let lines = card_lines(alloc, b, parts, last)?;
     Ok(CardHistory { lines })
+}
+
+/// The heads of the days of the string.
+fn string_heads(alloc: Global, b: &[u8], parts: Parts) -> Result<Vec<DayHead>, AllocError>
+    requires short { length b.now < 2 ^ 32 }
+    requires parts { AreParts b.now parts }
+    ensures { IfOk result (λ heads. heads.items ≡ heads_of (string_alone parts.app) (days_part b.now parts) (days_of (string_alone parts.app) (days_part b.now parts))) }
+{
+    let file = part(b, parts.days, days_len(parts.app));
+    let Some(string) = load_days(file) else {
+        return Ok(Vec::new(alloc));
+    };
+    let all = heads(alloc, &string, file)?;
+    Ok(all)
 }
 
 /// The lines of the entries.
@@ -194,7 +223,7 @@ pub fn first_of(count: usize, last: Option<u32>) -> usize
 }
 
 /// The minute of the last use that the vehicle entries tell; 0 without one.
-fn end_mark(app: Application, value: &[u8]) -> u32
+pub fn end_mark(app: Application, value: &[u8]) -> u32
     requires sound { IsApplication app }
     requires good { are_vehicles (Some app) value.now ≡ true }
     requires len { length value.now ≡ vehicles_size app }

@@ -7,14 +7,16 @@ mod day_words;
 mod entry;
 mod fault;
 mod front;
+mod hands;
 mod laws;
 mod parts;
 mod string;
 mod unit;
 mod vehicles;
 
-pub use card::{CardHistory, CardRead, card_text, last_days, read_card, read_card_file};
+pub use card::{CardHistory, CardRead, card_text, day_heads, last_days, read_card, read_card_file};
 pub use fault::ViewFault;
 pub use front::{FrontRead, read_front};
+pub use hands::by_hand;
 pub use laws::{a_card_file_does_not_fail, a_unit_file_does_not_fail};
 pub use unit::{UnitHistory, last_messages, read_download, unit_text};

@@ -62,7 +62,7 @@ fn head_after(string: &Days, file: &[u8], head: &DayHead) -> Option<DayHead>
 }
 
 /// A word of a day that is there, counted from 0.
-fn word(string: &Days, file: &[u8], head: &DayHead, index: u16) -> u16
+pub fn word(string: &Days, file: &[u8], head: &DayHead, index: u16) -> u16
     requires fits { 4 + string.now.shape.size ≤ length file.now }
     requires alone { string.now.shape.base ≡ 0 }
     requires short { length file.now < 2 ^ 32 }

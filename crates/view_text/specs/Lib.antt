@@ -2,3 +2,4 @@ pub mod Exact
 pub mod Growing
 pub mod Adding
 pub mod Entries
+pub mod ByHand

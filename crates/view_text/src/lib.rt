@@ -2,11 +2,13 @@
 //! each day that begins. A minute that shows what the one before it shows only moves the end of the last line.
 #![tactic(auto)]
 
+mod by_hand;
 mod lines;
 mod shown;
 mod text;
 mod views;
 
+pub use by_hand::by_hand_text;
 pub use lines::add_minute;
 pub use shown::Shown;
 pub use text::lines_text;

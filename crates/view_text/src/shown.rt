@@ -105,14 +105,29 @@ fn is_same_slot(one: Slot, other: Slot) -> bool
 fn write_state(text: &mut Vec<u8>, state: State) -> Result<(), AllocError>
     ensures { OnOk result (text.new.items ≡ text.old.items ++ state_words state) }
 {
-    text.extend_from_slice(state.act.name())?;
-    text.extend_from_slice(b",")?;
-    text.extend_from_slice(if state.present {
-        b"in".as_slice()
-    } else {
-        b"out"
-    })?;
+    text.extend_from_slice(state_name(state))?;
     Ok(())
+}
+
+// The words of a state, as one text.
+fn state_name(state: State) -> &'static [u8]
+    ensures { result.now ≡ state_words state }
+{
+    if state.present {
+        match state.act {
+            Activity::Rest => b"rest,in".as_slice(),
+            Activity::Available => b"available,in",
+            Activity::Work => b"work,in",
+            Activity::Driving => b"drive,in",
+        }
+    } else {
+        match state.act {
+            Activity::Rest => b"rest,out".as_slice(),
+            Activity::Available => b"available,out",
+            Activity::Work => b"work,out",
+            Activity::Driving => b"drive,out",
+        }
+    }
 }
 
 fn crew_name(crew: bool) -> &'static [u8]

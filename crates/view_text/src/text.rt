@@ -1,45 +1,60 @@
 //! The text of lines.
-ghost use Rattle.std.specs.Prelude.{◌≡◌, ◌++◌, ◌<◌, IfOk, OnOk};
+ghost use Rattle.std.specs.Prelude.{◌≡◌, ◌++◌, ◌<◌, IfOk, OnOk, codes};
 ghost use Rattle.std.specs.List.{AllByRecursion};
 ghost use Rattle.view_model.specs.Lines.{day_of_minute};
 ghost use Rattle.view_model.specs.Text.{IsTextOf, clock_text};
-ghost use Rattle.view_text.specs.Adding.{AddsLine, AddsDay};
+ghost use Rattle.tacho_types.specs.Calendar.{IsDateText};
+ghost use Rattle.view_text.specs.Adding.{AddsDay, AddsLine};
 
 use crate::shown::Shown;
+use arrayvec::ArrayVec;
 use std::alloc::{AllocError, Global};
 use tacho_types::{DAYS, day_text};
 use view_model::Line;
 
-/// The text of lines, one after another.
+/// The text of lines, one after another. The date of a day is made once for lines that follow one another on it.
 pub fn lines_text<T: Shown>(alloc: Global, lines: &[Line<T>]) -> Result<Vec<u8>, AllocError>
     requires { AllByRecursion (λ line. day_of_minute line.first < DAYS) lines.now }
     ensures { IfOk result (λ text. IsTextOf T.words lines.now text.items) }
 {
     let mut text = Vec::new(alloc);
+    let mut day = 0;
+    let mut date = day_text(day);
     for line in lines {
-        write_line(&mut text, *line)?;
+        let own = line.first / 1440;
+        date = date_on(date, day, own);
+        day = own;
+        write_line(&mut text, date.as_slice(), *line)?;
     }
     Ok(text)
 }
 
-/// One more line.
-fn write_line<T: Shown>(text: &mut Vec<u8>, line: Line<T>) -> Result<(), AllocError>
-    requires { day_of_minute line.first < DAYS }
+/// The date of a day, by that of a day before, which may be the same.
+fn date_on(date: ArrayVec<u8, 10>, before: u32, day: u32) -> ArrayVec<u8, 10>
+    requires range { day < DAYS }
+    requires before { IsDateText before date.items }
+    ensures { IsDateText day result.items }
+{
+    if day == before {
+        return date;
+    }
+    day_text(day)
+}
+
+/// One more line, on a day of this date.
+fn write_line<T: Shown>(text: &mut Vec<u8>, date: &[u8], line: Line<T>) -> Result<(), AllocError>
+    requires { IsDateText (day_of_minute line.first) date.now }
     ensures { OnOk result (AddsLine T.words text.old.items text.new.items line) }
 {
-    write_day(text, line.first / 1440)?;
-    text.extend_from_slice(b" ")?;
-    write_clock(text, line.first)?;
-    text.extend_from_slice(b"-")?;
-    write_clock(text, line.last)?;
-    text.extend_from_slice(b" ")?;
+    text.extend_from_slice(date)?;
+    write_span(text, line.first, line.last)?;
     line.shown.write(text)?;
     text.extend_from_slice(b"\n")?;
     Ok(())
 }
 
 /// The date of a day number.
-fn write_day(text: &mut Vec<u8>, day: u32) -> Result<(), AllocError>
+pub fn write_day(text: &mut Vec<u8>, day: u32) -> Result<(), AllocError>
     requires { day < DAYS }
     ensures { OnOk result (AddsDay text.old.items text.new.items day) }
 {
@@ -49,7 +64,7 @@ fn write_day(text: &mut Vec<u8>, day: u32) -> Result<(), AllocError>
 }
 
 /// The time of day of a minute.
-fn write_clock(text: &mut Vec<u8>, minute: u32) -> Result<(), AllocError>
+pub fn write_clock(text: &mut Vec<u8>, minute: u32) -> Result<(), AllocError>
     ensures { OnOk result (text.new.items ≡ text.old.items ++ clock_text minute) }
 {
     let hour = minute % 1440 / 60;
@@ -62,5 +77,32 @@ fn write_clock(text: &mut Vec<u8>, minute: u32) -> Result<(), AllocError>
         48 + (minute % 10) as u8,
     ];
     text.extend_from_slice(&clock)?;
+    Ok(())
+}
+
+/// The times of day of the first and of the last minute, behind the date.
+fn write_span(text: &mut Vec<u8>, first: u32, last: u32) -> Result<(), AllocError>
+    ensures { OnOk result (text.new.items ≡ text.old.items ++ (codes " " ++ clock_text first ++ codes "-" ++ clock_text last ++ codes " ")) }
+{
+    let hour = first % 1440 / 60;
+    let minute = first % 60;
+    let last_hour = last % 1440 / 60;
+    let last_minute = last % 60;
+    let span = [
+        b' ',
+        48 + (hour / 10) as u8,
+        48 + (hour % 10) as u8,
+        b':',
+        48 + (minute / 10) as u8,
+        48 + (minute % 10) as u8,
+        b'-',
+        48 + (last_hour / 10) as u8,
+        48 + (last_hour % 10) as u8,
+        b':',
+        48 + (last_minute / 10) as u8,
+        48 + (last_minute % 10) as u8,
+        b' ',
+    ];
+    text.extend_from_slice(&span)?;
     Ok(())
 }

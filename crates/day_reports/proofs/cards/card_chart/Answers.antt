@@ -7,8 +7,10 @@ returns-clause-text c =
     let shown = card_shown (minutes_on c.lines-lines.result.now) c.in-Ok.history c.lines-lines.ensures.entries in
     record {
       entries = c.in-Ok.history;
+      distances = c.in-Ok-card_distances.distances.items;
       text = c.in_ok-totals.totals.items;
       shows = c.in-Ok.ensures.entries;
-      totals = rw shown at c.in_ok-totals.ensures;
-      chart = rw (c.as_slice.ensures.value, shown) at c.in_ok-text.ensures;
+      tells = c.in-Ok-card_distances.ensures.distances;
+      totals = rw (c.as_slice.ensures.value, shown) at c.in_ok-totals.ensures;
+      chart = rw (c.as_slice-2.ensures.value, shown) at c.in_ok-text.ensures;
     }

@@ -5,4 +5,10 @@ use Rattle.day_reports.proofs.cards.card_totals.Goals as goal
 pub returns-clause-text : goal.returns-clause-text
 returns-clause-text c =
     let shown = card_shown (minutes_on c.lines.result.now) c.in-Ok.history c.lines.ensures.entries in
-    record { entries = c.in-Ok.history; shows = c.in-Ok.ensures.entries; totals = rw shown at c.in_ok-text.ensures }
+    record {
+      entries = c.in-Ok.history;
+      distances = c.in-Ok-card_distances.distances.items;
+      shows = c.in-Ok.ensures.entries;
+      tells = c.in-Ok-card_distances.ensures.distances;
+      totals = rw (c.as_slice.ensures.value, shown) at c.in_ok-text.ensures;
+    }

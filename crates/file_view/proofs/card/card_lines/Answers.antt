@@ -21,22 +21,9 @@ use Rattle.file_view.specs.Showing.{before_last}
 use Rattle.file_view.proofs.Lines.{are_lines, minutes_back, entries_back}
 use Rattle.file_view.proofs.Entries.{entries_low, shown_low}
 use Rattle.file_view.proofs.Rising.{shown_rise}
-use Rattle.file_view.proofs.Telling.{day_step, told_all, shown_day, shown_count}
+use Rattle.file_view.proofs.Telling.{day_none, head_none, holds_own, inside_own, day_step, told_all, shown_day, shown_count}
 use Rattle.file_view.proofs.Walks.{heads_count}
 use Rattle.file_view.proofs.card.card_lines.Goals as goal
-
--- the days of the string, and the heads that were read
-abbrev day_none : Day
-day_none = record { date = 0; counter = 0; km = 0; words = [] }
-
-abbrev head_none : DayHead
-head_none = record { place = 0; date = record { 0 = 0 }; counter = record { 0 = 0 }; km = record { 0 = 0 }; words = 0 }
-
-holds_own : (r : StringShape) (n : ℕ) (x : List ℕ) → r ≡ record { base = 0; size = n } → Holds r x (days_of (record { base = 0; size = n }) x) → Holds r x (days_of r x)
-holds_own r n x is holds = subst (λ (ds : List Day). Holds r x ds) (ap (λ (s : StringShape). days_of s x) (sym is)) holds
-
-inside_own : (r : StringShape) (x : List ℕ) → r ≡ record { base = 0; size = length x - 4 } → 4 ≤ length x → r.base + (4 + r.size) ≤ length x
-inside_own r x is long = omega (arith, ap (λ (s : StringShape). s.base) is, ap (λ (s : StringShape). s.size) is, long)
 
 pub add_day-requires-clause-place : goal.add_day-requires-clause-place
 add_day-requires-clause-place c =
