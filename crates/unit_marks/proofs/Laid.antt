@@ -11,13 +11,13 @@ use Rattle.message_model.specs.Messages.{DayMessage, EventMessage, ADay, AnEvent
 use Rattle.unit_messages.specs.Reading.{BeginsWith}
 
 -- the number that stands behind some bytes
-number_behind : (pre tail : List ℕ) (w n : ℕ) → n < 256 ^ w → number_at (pre ++ (big_bytes w n ++ tail)) (length pre) w ≡ n
+pub number_behind : (pre tail : List ℕ) (w n : ℕ) → n < 256 ^ w → number_at (pre ++ (big_bytes w n ++ tail)) (length pre) w ≡ n
 number_behind pre tail w n low =
     ap (λ (l : List ℕ). big_number w (take w l)) (drop_at pre (big_bytes w n ++ tail) (length pre) refl)
     ∙ ap (big_number w) (take_at (big_bytes w n) tail w (length-bytes_high_first w n)) ∙ big_number-big_bytes w n low
 
 -- entries of one size, as long as they are many
-joined_length : (size : ℕ) (es : List (List ℕ)) → All (λ e. length e ≡ size) es → length (joined es) ≡ length es * size
+pub joined_length : (size : ℕ) (es : List (List ℕ)) → All (λ e. length e ≡ size) es → length (joined es) ≡ length es * size
 joined_length size [] all = omega arith
 joined_length size (e ∷ es) all =
     let first : length e ≡ size = all 0 e (omega arith) in
@@ -40,12 +40,12 @@ odometer_laid m b begins =
     by date odometer rest more = simp append_assoc
 
 -- what stands behind a front
-skip : (front rest : List ℕ) (p : ℕ) → drop (length front + p) (front ++ rest) ≡ drop p rest
+pub skip : (front rest : List ℕ) (p : ℕ) → drop (length front + p) (front ++ rest) ≡ drop p rest
 skip [] rest p = ap (λ (k : ℕ). drop k rest) (let z : 0 + p ≡ p = omega arith in z)
 skip (x ∷ front) rest p = ap (λ (k : ℕ). drop k (x ∷ front ++ rest)) (let z : length (x ∷ front) + p ≡ suc (length front + p) = omega arith in z) ∙ skip front rest p
 
 -- an entry among some of one size
-entry_at : (size : ℕ) (entries : List (List ℕ)) (rest : List ℕ) (i : ℕ) → All (λ e. length e ≡ size) entries → i < length entries
+pub entry_at : (size : ℕ) (entries : List (List ℕ)) (rest : List ℕ) (i : ℕ) → All (λ e. length e ≡ size) entries → i < length entries
     → bytes_at (joined entries ++ rest) (size * i) size ≡ get_or entries i []
 entry_at size [] rest i sized low = absurd (omega (arith, low))
 entry_at size (e ∷ entries) rest zero sized low =

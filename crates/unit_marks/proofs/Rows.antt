@@ -1,6 +1,5 @@
 -- Worked rows, computed by the checker: minutes that lie whole in an interruption, and what an odometer gained.
-use Rattle.std.proofs.Common.{◌≡◌, List, [], ◌∷◌, refl}
-use Rattle.slot_bars.specs.declared.seen.Gap.{Gap}
+use Rattle.std.proofs.Common.{◌≡◌, [], ◌∷◌, refl}
 use Rattle.unit_marks.specs.Marks.{whole_minutes, gap_of, distances_of}
 
 -- from 00:01:01 to 00:04:30 the minutes 2 and 3 are whole

@@ -1,4 +1,4 @@
-use Rattle.std.proofs.Common.{◌≡◌, ◌∙◌, ℕ, List, [], ◌++◌, length, get_or, drop, ap, sym, arith, append_assoc, append-nil, length-drop}
+use Rattle.std.proofs.Common.{◌∙◌, List, ◌++◌, length, get_or, drop, ap, sym, arith, append_assoc, append-nil, length-drop}
 use Rattle.day_totals.specs.declared.figures.Distance.{Distance}
 use Rattle.unit_marks.specs.declared.marks.Midnight.{Midnight}
 use Rattle.unit_marks.specs.Marks.{gained, distances_of}

@@ -1,0 +1,4 @@
+pub mod Laid
+pub mod Telling
+pub mod Lines
+mod Rows
