@@ -3,7 +3,9 @@ use Rattle.std.proofs.Common.{◌≡◌, ◌∙◌, ◌⊎◌, ℕ, ◌≤◌, B
 use Rattle.tach_media.specs.Medium.{State, HasCause, Rose, revivable}
 use Rattle.safety_model.specs.Safe.{Devices}
 use Rattle.run_promise.specs.Between.{devices}
-use Rattle.run_minutes.specs.Later.{IsLater, AreLater}
+use Rattle.run_speeds.specs.Speeds.{LeavesSpeeds}
+use Rattle.run_speeds.proofs.Leaving.{leaves-none, leaves-then}
+use Rattle.run_minutes.specs.Later.{IsLater, AreAfter, AreLater}
 
 -- ---- one device
 
@@ -49,23 +51,43 @@ state-revived old new failed clock cause = record { clock = clock; faults = caus
 
 -- ---- the three
 
-pub later-same : (d : Devices) → AreLater d d
-later-same d = record { unit = state-same d.unit; card_a = state-same d.card_a; card_b = state-same d.card_b }
+pub after-same : (d : Devices) → AreAfter d d
+after-same d = record { unit = state-same d.unit; card_a = state-same d.card_a; card_b = state-same d.card_b }
 
-pub later-then : (d e f : Devices) → AreLater d e → AreLater e f → AreLater d f
-later-then d e f first next = record {
+pub after-then : (d e f : Devices) → AreAfter d e → AreAfter e f → AreAfter d f
+after-then d e f first next = record {
   unit = state-then d.unit e.unit f.unit first.unit next.unit;
   card_a = state-then d.card_a e.card_a f.card_a first.card_a next.card_a;
   card_b = state-then d.card_b e.card_b f.card_b first.card_b next.card_b;
 }
 
 -- calls on the unit alone
-pub later-of-unit : (u v a b : State) → IsLater u v → AreLater (devices u a b) (devices v a b)
-later-of-unit u v a b unit = record { unit = unit; card_a = state-same a; card_b = state-same b }
+pub after-of-unit : (u v a b : State) → IsLater u v → AreAfter (devices u a b) (devices v a b)
+after-of-unit u v a b unit = record { unit = unit; card_a = state-same a; card_b = state-same b }
+
+-- ---- the three, where the detailed speed is left as it is
+
+pub after-of : (d e : Devices) → AreLater d e → AreAfter d e
+after-of d e later = record { unit = later.unit; card_a = later.card_a; card_b = later.card_b }
+
+pub later-same : (d : Devices) → AreLater d d
+later-same d = record { unit = state-same d.unit; card_a = state-same d.card_a; card_b = state-same d.card_b; speeds = leaves-none d.unit }
+
+pub later-then : (d e f : Devices) → AreLater d e → AreLater e f → AreLater d f
+later-then d e f first next = record {
+  unit = state-then d.unit e.unit f.unit first.unit next.unit;
+  card_a = state-then d.card_a e.card_a f.card_a first.card_a next.card_a;
+  card_b = state-then d.card_b e.card_b f.card_b first.card_b next.card_b;
+  speeds = leaves-then d.unit e.unit f.unit first.speeds next.speeds;
+}
+
+-- calls on the unit alone
+pub later-of-unit : (u v a b : State) → IsLater u v → LeavesSpeeds u v → AreLater (devices u a b) (devices v a b)
+later-of-unit u v a b unit speeds = record { unit = unit; card_a = state-same a; card_b = state-same b; speeds = speeds }
 
 -- on the unit and one card
-pub later-of-a : (u v a x b : State) → IsLater u v → IsLater a x → AreLater (devices u a b) (devices v x b)
-later-of-a u v a x b unit card = record { unit = unit; card_a = card; card_b = state-same b }
+pub later-of-a : (u v a x b : State) → IsLater u v → IsLater a x → LeavesSpeeds u v → AreLater (devices u a b) (devices v x b)
+later-of-a u v a x b unit card speeds = record { unit = unit; card_a = card; card_b = state-same b; speeds = speeds }
 
-pub later-of-b : (u v a b y : State) → IsLater u v → IsLater b y → AreLater (devices u a b) (devices v a y)
-later-of-b u v a b y unit card = record { unit = unit; card_a = state-same a; card_b = card }
+pub later-of-b : (u v a b y : State) → IsLater u v → IsLater b y → LeavesSpeeds u v → AreLater (devices u a b) (devices v a y)
+later-of-b u v a b y unit card speeds = record { unit = unit; card_a = state-same a; card_b = card; speeds = speeds }

@@ -21,6 +21,9 @@ pub mod MinuteBooked
 pub mod DecidedBooked
 pub mod MarksBooked
 pub mod Faults
+pub mod Speeds
 pub mod Later
 pub mod Calm
 pub mod Rests
+pub mod Goes
+pub mod SoFar

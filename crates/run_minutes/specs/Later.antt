@@ -4,6 +4,7 @@ use Rattle.tach_media.specs.Medium.{State, Rose}
 use Rattle.log_model.specs.declared.lines.Break.{Break}
 use Rattle.log_model.specs.Causes.{is_cut, has_failed}
 use Rattle.safety_model.specs.Safe.{Devices}
+use Rattle.run_speeds.specs.Speeds.{LeavesSpeeds}
 use Rattle.run_crew.specs.declared.cards.Accepted.{Accepted}
 use Rattle.run_crew.specs.declared.cards.Cards.{Cards}
 use Rattle.run_minutes.specs.Keeping.{tears_of}
@@ -16,10 +17,17 @@ pub record IsLater (old new : State) : Type 0 where
   pub unbroken : Rose old.faults new.faults ⊎ (new.breakdowns ≡ old.breakdowns)
 
 -- THE THREE DEVICES after some calls
+pub record AreAfter (old new : Devices) : Type 0 where
+  pub unit : IsLater old.unit new.unit
+  pub card_a : IsLater old.card_a new.card_a
+  pub card_b : IsLater old.card_b new.card_b
+
+-- AND SO AFTER CALLS THAT LEAVE THE DETAILED SPEED of the unit as it is
 pub record AreLater (old new : Devices) : Type 0 where
   pub unit : IsLater old.unit new.unit
   pub card_a : IsLater old.card_a new.card_a
   pub card_b : IsLater old.card_b new.card_b
+  pub speeds : LeavesSpeeds old.unit new.unit
 
 -- how many of these are tears that a failed call made
 abbrev pub failed_tears : List Break → ℕ

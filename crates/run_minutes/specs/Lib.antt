@@ -8,3 +8,5 @@ pub mod Owing
 pub mod Decided
 pub mod Faults
 pub mod Later
+pub mod Stand
+pub mod Kept

@@ -1,16 +1,17 @@
 //! The entry of a minute is brought onto the card that was present in a slot.
-ghost use Rattle.std.specs.Prelude.{◌≡◌, ◌≢◌, ℕ, ◌+◌, ◌-◌, ◌/◌, ◌<◌, ◌≤◌, ◌^◌, false, Option, Some, OnOk, length, is_some, is_err};
+ghost use Rattle.std.specs.Prelude.{◌≡◌, ◌≢◌, ℕ, ◌+◌, ◌-◌, ◌/◌, ◌<◌, ◌≤◌, ◌^◌, Option, Some, OnOk, length, is_some, is_err};
 ghost use Rattle.trace_model.specs.declared.Card.{Card};
-ghost use Rattle.trace_model.specs.declared.Card.TheVariants.{A, B};
 ghost use Rattle.tach_media.specs.Medium.{LeavesOnly, HasCause, HasBroken};
 ghost use Rattle.card_session.specs.declared.words.TheConstants.{LATEST_MINUTE};
 ghost use Rattle.unit_notes.specs.Journal.{LeavesJournal};
 ghost use Rattle.run_crew.specs.Cards.{known_of, session_of};
 ghost use Rattle.run_crew.specs.Cabin.{Stands, IsBehind, crew_of};
 ghost use Rattle.run_minutes.specs.Owing.{BooksCard, BooksBrought};
-ghost use Rattle.run_minutes.specs.Later.{IsLater, AreLater, AreCalm, RestBy};
+ghost use Rattle.run_minutes.specs.Kept.{IsAnother};
+ghost use Rattle.run_minutes.specs.Later.{IsLater};
+ghost use Rattle.run_minutes.specs.Stand.{StandsAfter, KeepingGoes, CallsOnly, standing};
 ghost use Rattle.run_promise.specs.Between.{devices};
-ghost use Rattle.run_minutes.specs.Keeping.{UnitReady, CardReady, HasItsRow, HasLeftMore, IsReady, AreEmptied, SessionsGoOn, Fate, IsBrought, IsNotingFault, tears_of, session_at, state_at, is_this};
+ghost use Rattle.run_minutes.specs.Keeping.{UnitReady, CardReady, HasItsRow, HasLeftMore, IsReady, Fate, IsBrought, IsNotingFault, tears_of, session_at, state_at};
 
 use crate::keeper::{Keeper, Moment};
 use card_session::Kept;
@@ -51,10 +52,8 @@ impl Keeper {
         ensures rows { (card : Card) → HasItsRow self.old.cabin.cards (M.state unit.old) card → OnOk result (HasItsRow self.new.cabin.cards (M.state unit.new) card) }
         ensures card { CardReady (known_of self.new.cabin.cards which) (C.card card.new) (C.state card.new) }
         ensures size { (C.state card.new).size ≡ (C.state card.old).size }
-        ensures clock { (C.state card.old).clock ≤ (C.state card.new).clock }
         ensures card_keeps { HasLeftMore (C.state card.old) (C.state card.new) }
         ensures tells { is_some (C.state card.new).image ≡ is_some (C.state card.old).image }
-        ensures more { (C.state card.old).breakdowns ≤ (C.state card.new).breakdowns }
         ensures bare { session_of self.old.cabin.cards which ≡ None → card.new ≡ card.old }
         ensures broken { HasBroken (C.state card.old) (C.state card.new) (tears_of (session_of self.old.cabin.cards which) - tears_of (session_of self.new.cabin.cards which)) }
         ensures stands { (from : ℕ) (leaving : Option Card) → from ≤ kept.now.entry.minute + 1 → Stands from leaving self.old.cabin → Stands (kept.now.entry.minute + 1) leaving self.new.cabin }
@@ -84,7 +83,7 @@ impl Keeper {
     /// # Errors
     ///
     /// `Failed` where the unit failed, as it noted the fault.
-    pub fn bring<M: Medium, C: Chip, D: Chip>(
+    pub(crate) fn bring<M: Medium, C: Chip, D: Chip>(
         &mut self,
         present: Option<Card>,
         kept: &Kept,
@@ -107,34 +106,19 @@ impl Keeper {
         ensures brought { (fate : Fate) × IsBrought present kept.now at (is_err result) self.old self.new marks.old marks.new breaks.old breaks.new fate (M.state unit.old) (M.state unit.new) (state_at present (C.state card_a.old) (D.state card_b.old)) (state_at present (C.state card_a.new) (D.state card_b.new))
             × LeavesOnly (M.state unit.old) (M.state unit.new) (IsNotingFault fate at.second (crew_of self.new.cabin))
             × BooksBrought present kept.now (is_err result) fate self.old.cabin.cards self.new.cabin.cards (devices (M.state unit.old) (C.state card_a.old) (D.state card_b.old)) (devices (M.state unit.new) (C.state card_a.new) (D.state card_b.new)) }
-        ensures a_rests { is_this present A ≡ false → card_a.new ≡ card_a.old }
-        ensures b_rests { is_this present B ≡ false → card_b.new ≡ card_b.old }
-        ensures a_broken { HasBroken (C.state card_a.old) (C.state card_a.new) (tears_of self.old.cabin.cards.a.accepted - tears_of self.new.cabin.cards.a.accepted) }
-        ensures b_broken { HasBroken (D.state card_b.old) (D.state card_b.new) (tears_of self.old.cabin.cards.b.accepted - tears_of self.new.cabin.cards.b.accepted) }
+        ensures stands { StandsAfter at (is_err result)
+            (standing self.old marks.old breaks.old (M.state unit.old) (C.state card_a.old) (D.state card_b.old)
+            (C.card card_a.old) (D.card card_b.old))
+            (standing self.new marks.new breaks.new (M.state unit.new) (C.state card_a.new) (D.state card_b.new)
+            (C.card card_a.new) (D.card card_b.new)) }
+        ensures goes { KeepingGoes
+            (standing self.old marks.old breaks.old (M.state unit.old) (C.state card_a.old) (D.state card_b.old)
+            (C.card card_a.old) (D.card card_b.old))
+            (standing self.new marks.new breaks.new (M.state unit.new) (C.state card_a.new) (D.state card_b.new)
+            (C.card card_a.new) (D.card card_b.new)) }
+        ensures calls { CallsOnly (IsAnother present) self.old.cabin.cards card_a.old card_a.new card_b.old card_b.new }
         ensures journal { LeavesOnly (M.state unit.old) (M.state unit.new) LeavesJournal }
-        ensures cause { HasCause (M.state unit.old) (M.state unit.new) (is_err result) }
-        ensures ready { OnOk result (IsReady self.new (M.state unit.new) (C.card card_a.new) (D.card card_b.new) (C.state card_a.new) (D.state card_b.new)) }
-        ensures seats { AreEmptied self.old.cabin.slots.seats self.new.cabin.slots.seats }
-        ensures sessions { SessionsGoOn self.old.cabin.cards self.new.cabin.cards }
-        ensures card_a { CardReady self.new.cabin.cards.a (C.card card_a.new) (C.state card_a.new) }
-        ensures card_b { CardReady self.new.cabin.cards.b (D.card card_b.new) (D.state card_b.new) }
-        ensures size_a { (C.state card_a.new).size ≡ (C.state card_a.old).size }
-        ensures size_b { (D.state card_b.new).size ≡ (D.state card_b.old).size }
-        ensures clock_a { (C.state card_a.old).clock ≤ (C.state card_a.new).clock }
-        ensures clock_b { (D.state card_b.old).clock ≤ (D.state card_b.new).clock }
-        ensures a_keeps { HasLeftMore (C.state card_a.old) (C.state card_a.new) }
-        ensures b_keeps { HasLeftMore (D.state card_b.old) (D.state card_b.new) }
-        ensures tells_a { is_some (C.state card_a.new).image ≡ is_some (C.state card_a.old).image }
-        ensures tells_b { is_some (D.state card_b.new).image ≡ is_some (D.state card_b.old).image }
-        ensures more_a { (C.state card_a.old).breakdowns ≤ (C.state card_a.new).breakdowns }
-        ensures more_b { (D.state card_b.old).breakdowns ≤ (D.state card_b.new).breakdowns }
-        ensures a_bare { self.old.cabin.cards.a.accepted ≡ None → card_a.new ≡ card_a.old }
-        ensures b_bare { self.old.cabin.cards.b.accepted ≡ None → card_b.new ≡ card_b.old }
-        ensures rows { (card : Card) → HasItsRow self.old.cabin.cards (M.state unit.old) card → OnOk result (HasItsRow self.new.cabin.cards (M.state unit.new) card) }
-        ensures stands { (from : ℕ) (leaving : Option Card) → from ≤ kept.now.entry.minute + 1 → Stands from leaving self.old.cabin → Stands (kept.now.entry.minute + 1) leaving self.new.cabin }
-        ensures later { AreLater (devices (M.state unit.old) (C.state card_a.old) (D.state card_b.old)) (devices (M.state unit.new) (C.state card_a.new) (D.state card_b.new)) }
-        ensures calm { AreCalm breaks.old.items breaks.new.items (devices (M.state unit.old) (C.state card_a.old) (D.state card_b.old)) (devices (M.state unit.new) (C.state card_a.new) (D.state card_b.new)) }
-        ensures rests { RestBy self.old.cabin.cards self.new.cabin.cards (devices (M.state unit.old) (C.state card_a.old) (D.state card_b.old)) (devices (M.state unit.new) (C.state card_a.new) (D.state card_b.new)) }
+        ensures cabin { (from : ℕ) (leaving : Option Card) → from ≤ kept.now.entry.minute + 1 → Stands from leaving self.old.cabin → Stands (kept.now.entry.minute + 1) leaving self.new.cabin }
     {
         match present {
             None => Ok(()),

@@ -1,19 +1,19 @@
 //! A minute is kept by the unit, and then on the cards that were present in it.
-ghost use Rattle.run_minutes.specs.Faults.{last_faults, NotesFaults};
-ghost use Rattle.std.specs.Prelude.{◌≡◌, ◌≢◌, ℕ, ◌+◌, ◌-◌, ◌/◌, ◌<◌, ◌≤◌, false, Option, IfSome, ◌∷◌, [], OnOk, OnErr, length, is_some, is_err};
-ghost use Rattle.tach_media.specs.Medium.{HasCause, HasBroken};
+ghost use Rattle.run_minutes.specs.Faults.{NotesFaults};
+ghost use Rattle.std.specs.Prelude.{◌≡◌, ◌<◌, ◌≤◌, IfSome, ◌∷◌, [], OnOk, OnErr, length, is_some, is_err};
+ghost use Rattle.tach_media.specs.Medium.{HasCause};
 ghost use Rattle.card_session.specs.declared.words.TheConstants.{LATEST_MINUTE};
 ghost use Rattle.unit_model.specs.declared.layout.TheConstants.{HIGHEST_ODOMETER};
 ghost use Rattle.unit_model.specs.Image.{IsUnit};
-ghost use Rattle.run_crew.specs.Cabin.{Stands, MayBeKept, AreTwo};
+ghost use Rattle.run_crew.specs.Cabin.{AreTwo};
 ghost use Rattle.trace_model.specs.declared.Card.{Card};
-ghost use Rattle.trace_model.specs.declared.Card.TheVariants.{A, B};
-ghost use Rattle.run_minutes.specs.Keeping.{UnitReady, CardReady, IsReady, HasItsRow, HasLeftMore, HaveRows, AreEmptied, SessionsGoOn, kept_in, is_this, tears_of, most_tears, with_lines, TellsPresent};
-ghost use Rattle.run_minutes.specs.Minutes.{Round, IsMinute, unit_mark};
-ghost use Rattle.run_minutes.specs.Books.{BooksMinute};
+ghost use Rattle.run_minutes.specs.Keeping.{UnitReady, IsReady, HasItsRow, HasLeftMore, HaveRows, kept_in, with_lines, TellsPresent};
+ghost use Rattle.run_minutes.specs.Minutes.{unit_mark};
 ghost use Rattle.run_minutes.specs.Owing.{BooksPut, BooksOwed, TravelsOn};
-ghost use Rattle.run_minutes.specs.Later.{AreLater, AreCalm, RestBy};
+ghost use Rattle.run_minutes.specs.Kept.{IsAbsent, MayKeep, Keeps};
+ghost use Rattle.run_minutes.specs.Stand.{StandsAfter, KeepingGoes, CallsOnly, standing};
 ghost use Rattle.run_promise.specs.Between.{devices};
+ghost use Rattle.run_speeds.specs.Speeds.{LeavesSpeeds};
 
 use crate::keeper::{Keeper, Moment};
 use activity_codec::{Entry, Slot};
@@ -66,6 +66,7 @@ impl Keeper {
         ensures travelled { TravelsOn (M.state unit.old) (M.state unit.new) }
         ensures unit_keeps { HasLeftMore (M.state unit.old) (M.state unit.new) }
         ensures quiet { NotesFaults (is_err result) [] (M.state unit.old) (M.state unit.new) }
+        ensures speeds { LeavesSpeeds (M.state unit.old) (M.state unit.new) }
         ensures booked { BooksPut present entry.now (is_err result) self.old.cabin.cards (devices (M.state unit.old) (C.state card_a.now) (D.state card_b.now)) (devices (M.state unit.new) (C.state card_a.now) (D.state card_b.now)) }
         ensures clock { (M.state unit.old).clock ≤ (M.state unit.new).clock }
         ensures tells { is_some (M.state unit.new).image ≡ is_some (M.state unit.old).image }
@@ -128,6 +129,7 @@ impl Keeper {
         ensures rows { (card : Card) → HasItsRow self.old.cabin.cards (M.state unit.old) card → OnOk result (HasItsRow self.new.cabin.cards (M.state unit.new) card) }
         ensures unit_keeps { HasLeftMore (M.state unit.old) (M.state unit.new) }
         ensures quiet { NotesFaults (is_err result) [] (M.state unit.old) (M.state unit.new) }
+        ensures speeds { LeavesSpeeds (M.state unit.old) (M.state unit.new) }
         ensures booked { TellsPresent minute.now present → BooksOwed present minute.now (is_err result) (record { keeper = self.old; marks = marks.old; breaks = record { items = []; room = 0 } }) (record { keeper = self.new; marks = marks.new; breaks = record { items = []; room = 0 } }) (devices (M.state unit.old) (C.state card_a.now) (D.state card_b.now)) (devices (M.state unit.new) (C.state card_a.now) (D.state card_b.now)) }
         ensures clock { (M.state unit.old).clock ≤ (M.state unit.new).clock }
         ensures tells { is_some (M.state unit.new).image ≡ is_some (M.state unit.old).image }
@@ -152,7 +154,7 @@ impl Keeper {
     ///
     /// `Failed` where the unit failed: then the minute may be there or not; or it is there, and the fault of a card that was torn out
     /// may be noted or not.
-    pub fn keep_minute<M: Medium, C: Chip, D: Chip>(
+    pub(crate) fn keep_minute<M: Medium, C: Chip, D: Chip>(
         &mut self,
         minute: &KeptMinute,
         present: Present,
@@ -163,57 +165,27 @@ impl Keeper {
         marks: &mut Lines<Mark>,
         breaks: &mut Lines<Break>,
     ) -> Result<(), Failed>
-        requires ready { IsReady self.old (M.state unit.old) (C.card card_a.old) (D.card card_b.old) (C.state card_a.old) (D.state card_b.old) }
-        requires rows { HaveRows self.old.cabin.cards (M.state unit.old) present }
-        requires kept { MayBeKept self.old.cabin.cards minute.now.minute present }
-        requires low { 1440 ≤ minute.now.minute }
-        requires later { self.old.journal.kept < minute.now.minute }
-        requires small { minute.now.minute ≤ LATEST_MINUTE }
-        requires odometer { minute.now.odometer.0 ≤ HIGHEST_ODOMETER }
-        requires minute { self.old.cabin.slots.minute ≤ at.second / 60 }
-        requires second { at.second ≢ 0 }
-        requires marks { length marks.old.items + 3 ≤ marks.old.room }
-        requires breaks { length breaks.old.items + most_tears self.old.cabin.cards ≤ breaks.old.room }
-        ensures same { (self.new.memory ≡ self.old.memory) × (self.new.odometer ≡ self.old.odometer) × (self.new.cabin.slots.past ≡ self.old.cabin.slots.past) }
-        ensures last { OnOk result (self.new.journal.kept ≡ minute.now.minute) }
-        ensures minute { self.new.cabin.slots.minute ≤ at.second / 60 }
-        ensures kept { (round : Option Round) × IsMinute present minute.now at (is_err result) (record { keeper = self.old; marks = marks.old; breaks = breaks.old }) (record { keeper = self.new; marks = marks.new; breaks = breaks.new }) (C.state card_a.old) (C.state card_a.new) (D.state card_b.old) (D.state card_b.new) round
-            × (TellsPresent minute.now present → BooksMinute present minute.now (is_err result) round (record { keeper = self.old; marks = marks.old; breaks = breaks.old }) (record { keeper = self.new; marks = marks.new; breaks = breaks.new }) (devices (M.state unit.old) (C.state card_a.old) (D.state card_b.old)) (devices (M.state unit.new) (C.state card_a.new) (D.state card_b.new)))
-            × NotesFaults (is_err result) (last_faults present at round self.old.cabin) (M.state unit.old) (M.state unit.new) }
-        ensures a_rests { is_this present.driver A ≡ false → is_this present.codriver A ≡ false → card_a.new ≡ card_a.old }
-        ensures b_rests { is_this present.driver B ≡ false → is_this present.codriver B ≡ false → card_b.new ≡ card_b.old }
-        ensures unit { IsUnit (M.state unit.new) }
-        ensures more { length breaks.old.items ≤ length breaks.new.items }
-        ensures ready { OnOk result (IsReady self.new (M.state unit.new) (C.card card_a.new) (D.card card_b.new) (C.state card_a.new) (D.state card_b.new)) }
-        ensures rows { (card : Card) → HasItsRow self.old.cabin.cards (M.state unit.old) card → OnOk result (HasItsRow self.new.cabin.cards (M.state unit.new) card) }
-        ensures stands { (from : ℕ) (leaving : Option Card) → from ≤ minute.now.minute + 1 → Stands from leaving self.old.cabin → Stands (minute.now.minute + 1) leaving self.new.cabin }
-        ensures seats { AreEmptied self.old.cabin.slots.seats self.new.cabin.slots.seats }
-        ensures sessions { SessionsGoOn self.old.cabin.cards self.new.cabin.cards }
-        ensures card_a { CardReady self.new.cabin.cards.a (C.card card_a.new) (C.state card_a.new) }
-        ensures card_b { CardReady self.new.cabin.cards.b (D.card card_b.new) (D.state card_b.new) }
-        ensures size_a { (C.state card_a.new).size ≡ (C.state card_a.old).size }
-        ensures size_b { (D.state card_b.new).size ≡ (D.state card_b.old).size }
-        ensures clock_a { (C.state card_a.old).clock ≤ (C.state card_a.new).clock }
-        ensures clock_b { (D.state card_b.old).clock ≤ (D.state card_b.new).clock }
-        ensures unit_keeps { HasLeftMore (M.state unit.old) (M.state unit.new) }
-        ensures a_keeps { HasLeftMore (C.state card_a.old) (C.state card_a.new) }
-        ensures b_keeps { HasLeftMore (D.state card_b.old) (D.state card_b.new) }
-        ensures tells_a { is_some (C.state card_a.new).image ≡ is_some (C.state card_a.old).image }
-        ensures tells_b { is_some (D.state card_b.new).image ≡ is_some (D.state card_b.old).image }
-        ensures more_a { (C.state card_a.old).breakdowns ≤ (C.state card_a.new).breakdowns }
-        ensures more_b { (D.state card_b.old).breakdowns ≤ (D.state card_b.new).breakdowns }
-        ensures a_bare { self.old.cabin.cards.a.accepted ≡ None → card_a.new ≡ card_a.old }
-        ensures b_bare { self.old.cabin.cards.b.accepted ≡ None → card_b.new ≡ card_b.old }
-        ensures marks { (marks.new.room ≡ marks.old.room) × (length marks.new.items ≤ length marks.old.items + 3) }
-        ensures breaks { (breaks.new.room ≡ breaks.old.room) × (length breaks.new.items + most_tears self.new.cabin.cards ≤ length breaks.old.items + most_tears self.old.cabin.cards) }
-        ensures a_broken { HasBroken (C.state card_a.old) (C.state card_a.new) (tears_of self.old.cabin.cards.a.accepted - tears_of self.new.cabin.cards.a.accepted) }
-        ensures b_broken { HasBroken (D.state card_b.old) (D.state card_b.new) (tears_of self.old.cabin.cards.b.accepted - tears_of self.new.cabin.cards.b.accepted) }
-        ensures clock { (M.state unit.old).clock ≤ (M.state unit.new).clock }
-        ensures tells { is_some (M.state unit.new).image ≡ is_some (M.state unit.old).image }
-        ensures cause { HasCause (M.state unit.old) (M.state unit.new) (is_err result) }
-        ensures later { AreLater (devices (M.state unit.old) (C.state card_a.old) (D.state card_b.old)) (devices (M.state unit.new) (C.state card_a.new) (D.state card_b.new)) }
-        ensures calm { AreCalm breaks.old.items breaks.new.items (devices (M.state unit.old) (C.state card_a.old) (D.state card_b.old)) (devices (M.state unit.new) (C.state card_a.new) (D.state card_b.new)) }
-        ensures rests { RestBy self.old.cabin.cards self.new.cabin.cards (devices (M.state unit.old) (C.state card_a.old) (D.state card_b.old)) (devices (M.state unit.new) (C.state card_a.new) (D.state card_b.new)) }
+        requires ready { IsReady self.old (M.state unit.old) (C.card card_a.old) (D.card card_b.old)
+            (C.state card_a.old) (D.state card_b.old) }
+        requires may { MayKeep minute.now present at
+            (standing self.old marks.old breaks.old (M.state unit.old) (C.state card_a.old) (D.state card_b.old)
+            (C.card card_a.old) (D.card card_b.old)) }
+        ensures stands { StandsAfter at (is_err result)
+            (standing self.old marks.old breaks.old (M.state unit.old) (C.state card_a.old) (D.state card_b.old)
+            (C.card card_a.old) (D.card card_b.old))
+            (standing self.new marks.new breaks.new (M.state unit.new) (C.state card_a.new) (D.state card_b.new)
+            (C.card card_a.new) (D.card card_b.new)) }
+        ensures goes { KeepingGoes
+            (standing self.old marks.old breaks.old (M.state unit.old) (C.state card_a.old) (D.state card_b.old)
+            (C.card card_a.old) (D.card card_b.old))
+            (standing self.new marks.new breaks.new (M.state unit.new) (C.state card_a.new) (D.state card_b.new)
+            (C.card card_a.new) (D.card card_b.new)) }
+        ensures kept { Keeps minute.now present at (is_err result)
+            (standing self.old marks.old breaks.old (M.state unit.old) (C.state card_a.old) (D.state card_b.old)
+            (C.card card_a.old) (D.card card_b.old))
+            (standing self.new marks.new breaks.new (M.state unit.new) (C.state card_a.new) (D.state card_b.new)
+            (C.card card_a.new) (D.card card_b.new)) }
+        ensures calls { CallsOnly (IsAbsent present) self.old.cabin.cards card_a.old card_a.new card_b.old card_b.new }
     {
         let driver = kept_in(minute, Slot::Driver);
         let codriver = kept_in(minute, Slot::CoDriver);

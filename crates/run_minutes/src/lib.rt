@@ -6,7 +6,10 @@ mod bringing;
 mod keeper;
 mod keeping;
 mod minutes;
+mod recorder;
+mod recording;
 mod tearing;
 
 pub use keeper::{Keeper, Moment};
 pub use minutes::odometer_after;
+pub use recorder::{Recorder, Stands};

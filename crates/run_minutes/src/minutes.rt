@@ -10,7 +10,9 @@ ghost use Rattle.run_crew.specs.Cabin.{Stands};
 ghost use Rattle.run_minutes.specs.Keeping.{IsReady, CardReady, HasItsRow, HasLeftMore, HaveRows, AreEmptied, SessionsGoOn, tears_of, most_tears};
 ghost use Rattle.run_minutes.specs.Minutes.{odometer_by, kept_of, AreDue, kept_after, AreKeptUpTo, Reach, IsReach};
 ghost use Rattle.run_minutes.specs.Decided.{BooksAll};
+ghost use Rattle.run_minutes.specs.Kept.{MayKeepAll, KeepsAll};
 ghost use Rattle.run_minutes.specs.Later.{AreLater, AreCalm, RestBy};
+ghost use Rattle.run_minutes.specs.Stand.{StandsAfter, KeepingGoes, AreBare, standing};
 ghost use Rattle.run_promise.specs.Between.{devices};
 
 use crate::keeper::{Keeper, Moment};
@@ -58,7 +60,49 @@ fn kept_of(minute: &Minute, present: Present, stored: u32) -> KeptMinute
 }
 
 impl Keeper {
-    /// Keeps decided minutes, in their order, up to the first that fails.
+    // Decided minutes are kept, in their order, up to the first that fails: the loop of both calls of this kind.
+    pub(crate) fn keep_decided<M: Medium, C: Chip, D: Chip>(
+        &mut self,
+        decided: &[Minute],
+        at: Moment,
+        unit: &mut M,
+        card_a: &mut C,
+        card_b: &mut D,
+        marks: &mut Lines<Mark>,
+        breaks: &mut Lines<Break>,
+    ) -> Result<(), Failed>
+        requires ready { IsReady self.old (M.state unit.old) (C.card card_a.old) (D.card card_b.old)
+            (C.state card_a.old) (D.state card_b.old) }
+        requires may { MayKeepAll decided.now at
+            (standing self.old marks.old breaks.old (M.state unit.old) (C.state card_a.old) (D.state card_b.old)
+            (C.card card_a.old) (D.card card_b.old)) }
+        ensures stands { StandsAfter at (is_err result)
+            (standing self.old marks.old breaks.old (M.state unit.old) (C.state card_a.old) (D.state card_b.old)
+            (C.card card_a.old) (D.card card_b.old))
+            (standing self.new marks.new breaks.new (M.state unit.new) (C.state card_a.new) (D.state card_b.new)
+            (C.card card_a.new) (D.card card_b.new)) }
+        ensures goes { KeepingGoes
+            (standing self.old marks.old breaks.old (M.state unit.old) (C.state card_a.old) (D.state card_b.old)
+            (C.card card_a.old) (D.card card_b.old))
+            (standing self.new marks.new breaks.new (M.state unit.new) (C.state card_a.new) (D.state card_b.new)
+            (C.card card_a.new) (D.card card_b.new)) }
+        ensures kept { KeepsAll decided.now at (is_err result)
+            (standing self.old marks.old breaks.old (M.state unit.old) (C.state card_a.old) (D.state card_b.old)
+            (C.card card_a.old) (D.card card_b.old))
+            (standing self.new marks.new breaks.new (M.state unit.new) (C.state card_a.new) (D.state card_b.new)
+            (C.card card_a.new) (D.card card_b.new)) }
+        ensures bare { AreBare self.old.cabin.cards card_a.old card_a.new card_b.old card_b.new }
+    {
+        for minute in decided {
+            let present = self.cabin.present(minute.minute);
+            let kept = kept_of(minute, present, self.odometer);
+            self.keep_minute(&kept, present, at, unit, card_a, card_b, marks, breaks)?;
+        }
+        Ok(())
+    }
+
+    /// Keeps decided minutes, in their order, up to the first that fails: as `Recorder::keep_all` does, for callers that have
+    /// the devices apart.
     ///
     /// # Errors
     ///
@@ -123,11 +167,6 @@ impl Keeper {
         ensures calm { AreCalm breaks.old.items breaks.new.items (devices (M.state unit.old) (C.state card_a.old) (D.state card_b.old)) (devices (M.state unit.new) (C.state card_a.new) (D.state card_b.new)) }
         ensures rests { RestBy self.old.cabin.cards self.new.cabin.cards (devices (M.state unit.old) (C.state card_a.old) (D.state card_b.old)) (devices (M.state unit.new) (C.state card_a.new) (D.state card_b.new)) }
     {
-        for minute in decided {
-            let present = self.cabin.present(minute.minute);
-            let kept = kept_of(minute, present, self.odometer);
-            self.keep_minute(&kept, present, at, unit, card_a, card_b, marks, breaks)?;
-        }
-        Ok(())
+        self.keep_decided(decided, at, unit, card_a, card_b, marks, breaks)
     }
 }

@@ -1,19 +1,24 @@
-use Rattle.std.proofs.Common.{rules, ◌≡◌, Bool, false, Option, Some, None, ap, sym, subst}
+use Rattle.std.proofs.Common.{rules, ◌≡◌, Bool, true, false, Option, Some, None, refl, ap, sym, subst}
 use Rattle.std.specs.Prelude.{is_err}
 use Rattle.trace_model.specs.declared.Card.{Card}
 use Rattle.trace_model.specs.declared.Card.TheVariants.{A, B}
 use Rattle.tach_media.specs.Medium.{State, LeavesOnly}
 use Rattle.run_crew.specs.Cabin.{crew_of}
+use Rattle.run_crew.specs.Cards.{session_of}
 use Rattle.run_promise.specs.Between.{devices}
 use Rattle.run_minutes.specs.declared.keeper.Keeper.{Keeper}
-use Rattle.run_minutes.specs.Keeping.{Fate, Still, IsBrought, IsNotingFault, state_at}
+use Rattle.run_minutes.specs.Keeping.{Fate, Still, IsBrought, IsNotingFault, is_this, state_at}
 use Rattle.run_minutes.specs.Owing.{BooksBrought}
-use Rattle.tach_media.proofs.Runs.{starts}
+use Rattle.run_minutes.specs.Stand.{standing}
+use Rattle.run_minutes.proofs.Goes.{bare-none, keeping_none, goes_of_a, goes_of_b, stands_none, stands_of_a, stands_of_b}
+use Rattle.run_minutes.proofs.Units.{unit-stays}
+use Rattle.tach_media.proofs.Runs.{ok_gives, starts}
 use Rattle.run_minutes.proofs.Fates.{nobody-brought}
 use Rattle.run_minutes.proofs.Brought.{brought-booked, nobody-booked}
-use Rattle.run_minutes.proofs.Later.{state-by, later-same, later-of-a, later-of-b}
-use Rattle.run_minutes.proofs.Calm.{brought-calm, calm-same, calm-of-a, calm-of-b}
-use Rattle.run_minutes.proofs.Rests.{brought-rests, rest-none, rest-of-a, rest-of-b}
+use Rattle.run_minutes.proofs.Speeds.{fault-leaves}
+use Rattle.run_minutes.proofs.Later.{state-by, later-of-a, later-of-b}
+use Rattle.run_minutes.proofs.Calm.{brought-calm, calm-of-a, calm-of-b}
+use Rattle.run_minutes.proofs.Rests.{brought-rests, rest-of-a, rest-of-b}
 use Rattle.run_minutes.proofs.keeper.Keeper.bring.Goals as goal
 
 pub returns-in-None-clause-brought : goal.returns-in-None-clause-brought
@@ -71,41 +76,97 @@ returns-in-Some-B-clause-brought g c =
       brought-booked B c.args.kept.now was.0 k.cabin v.cabin c.args.at.second U V X Y Z (g.met.M.Medium.coherent c.args.unit.now) (ap (λ (q : Keeper). q.cabin) was.1.keeper) c.bring_to-in-Some-B.ensures.journal failed c.bring_to-in-Some-B.ensures.cause.works was.3,
     )
 
--- ---- what holds of the devices after any calls
+-- ---- all goes on
 
-pub returns-in-None-clause-later : goal.returns-in-None-clause-later
-returns-in-None-clause-later g c = later-same (devices (g.M.Medium.state c.args.unit.now) (g.C.Chip.state c.args.card_a.now) (g.D.Chip.state c.args.card_b.now))
+pub returns-in-None-clause-goes : goal.returns-in-None-clause-goes
+returns-in-None-clause-goes g c =
+    keeping_none (standing c.args.self.now c.args.marks.now c.args.breaks.now (g.M.Medium.state c.args.unit.now) (g.C.Chip.state c.args.card_a.now) (g.D.Chip.state c.args.card_b.now) (g.C.Chip.card c.args.card_a.now) (g.D.Chip.card c.args.card_b.now))
 
-pub returns-in-Some-A-clause-later : goal.returns-in-Some-A-clause-later
-returns-in-Some-A-clause-later g c = later-of-a (g.M.Medium.state c.args.unit.now) (g.M.Medium.state c.bring_to.new.unit) (g.C.Chip.state c.args.card_a.now) (g.C.Chip.state c.bring_to.new.card) (g.D.Chip.state c.args.card_b.now) (state-by (g.M.Medium.state c.args.unit.now) (g.M.Medium.state c.bring_to.new.unit) (is_err c.bring_to.result) c.bring_to.ensures.journal.later c.bring_to.ensures.cause) c.bring_to.ensures.later
+pub returns-in-Some-A-clause-goes : goal.returns-in-Some-A-clause-goes
+returns-in-Some-A-clause-goes g c =
+    let e = c.bring_to.ensures in
+    let U = g.M.Medium.state c.args.unit.now in
+    let V = g.M.Medium.state c.bring_to.new.unit in
+    let X = g.C.Chip.state c.args.card_a.now in
+    let Y = g.C.Chip.state c.bring_to.new.card in
+    let Z = g.D.Chip.state c.args.card_b.now in
+    let b = e.brought.1 in
+    let rests : (session_of c.args.self.now.cabin.cards A ≡ None) → Y.breakdowns ≡ X.breakdowns = λ none. ap (λ (s : State). s.breakdowns) (ap g.C.Chip.state (e.bare none)) in
+    goes_of_a c.args.kept.now c.args.at (is_err c.bring_to.result) c.args.self.now c.bring_to.new.self c.args.marks.now c.bring_to.new.marks c.args.breaks.now c.bring_to.new.breaks e.brought.0 U V X Y Z (g.C.Chip.card c.args.card_a.now) (g.C.Chip.card c.bring_to.new.card) (g.D.Chip.card c.args.card_b.now)
+    e.journal.keeps e.journal.tells b (record { size = e.size; tells = e.tells; keeps = e.card_keeps; broken = e.broken })
+    (later-of-a U V X Y Z (state-by U V (is_err c.bring_to.result) e.journal.later e.cause) e.later (fault-leaves e.brought.0 c.args.at.second (crew_of c.bring_to.new.self.cabin) U V (g.met.M.Medium.coherent c.args.unit.now) e.brought.2))
+    (calm-of-a U V X Y Z (brought-calm A _ _ _ _ _ _ _ _ _ _ _ _ _ _ b rests))
+    (rest-of-a c.args.self.now.cabin.cards c.bring_to.new.self.cabin.cards U V X Y Z (brought-rests A _ _ _ _ _ _ _ _ _ _ _ _ _ _ b rests))
 
-pub returns-in-Some-B-clause-later : goal.returns-in-Some-B-clause-later
-returns-in-Some-B-clause-later g c = later-of-b (g.M.Medium.state c.args.unit.now) (g.M.Medium.state c.bring_to-in-Some-B.new.unit) (g.C.Chip.state c.args.card_a.now) (g.D.Chip.state c.args.card_b.now) (g.D.Chip.state c.bring_to-in-Some-B.new.card) (state-by (g.M.Medium.state c.args.unit.now) (g.M.Medium.state c.bring_to-in-Some-B.new.unit) (is_err c.bring_to-in-Some-B.result) c.bring_to-in-Some-B.ensures.journal.later c.bring_to-in-Some-B.ensures.cause) c.bring_to-in-Some-B.ensures.later
+pub returns-in-Some-B-clause-goes : goal.returns-in-Some-B-clause-goes
+returns-in-Some-B-clause-goes g c =
+    let e = c.bring_to-in-Some-B.ensures in
+    let U = g.M.Medium.state c.args.unit.now in
+    let V = g.M.Medium.state c.bring_to-in-Some-B.new.unit in
+    let X = g.D.Chip.state c.args.card_b.now in
+    let Y = g.D.Chip.state c.bring_to-in-Some-B.new.card in
+    let Z = g.C.Chip.state c.args.card_a.now in
+    let b = e.brought.1 in
+    let rests : (session_of c.args.self.now.cabin.cards B ≡ None) → Y.breakdowns ≡ X.breakdowns = λ none. ap (λ (s : State). s.breakdowns) (ap g.D.Chip.state (e.bare none)) in
+    goes_of_b c.args.kept.now c.args.at (is_err c.bring_to-in-Some-B.result) c.args.self.now c.bring_to-in-Some-B.new.self c.args.marks.now c.bring_to-in-Some-B.new.marks c.args.breaks.now c.bring_to-in-Some-B.new.breaks e.brought.0 U V X Y Z (g.D.Chip.card c.args.card_b.now) (g.D.Chip.card c.bring_to-in-Some-B.new.card) (g.C.Chip.card c.args.card_a.now)
+    e.journal.keeps e.journal.tells b (record { size = e.size; tells = e.tells; keeps = e.card_keeps; broken = e.broken })
+    (later-of-b U V Z X Y (state-by U V (is_err c.bring_to-in-Some-B.result) e.journal.later e.cause) e.later (fault-leaves e.brought.0 c.args.at.second (crew_of c.bring_to-in-Some-B.new.self.cabin) U V (g.met.M.Medium.coherent c.args.unit.now) e.brought.2))
+    (calm-of-b U V Z X Y (brought-calm B _ _ _ _ _ _ _ _ _ _ _ _ _ _ b rests))
+    (rest-of-b c.args.self.now.cabin.cards c.bring_to-in-Some-B.new.self.cabin.cards U V Z X Y (brought-rests B _ _ _ _ _ _ _ _ _ _ _ _ _ _ b rests))
 
--- ---- where no tear of a failed call is told no card has broken down
+-- ---- how it stands
 
-pub returns-in-None-clause-calm : goal.returns-in-None-clause-calm
-returns-in-None-clause-calm g c = calm-same (devices (g.M.Medium.state c.args.unit.now) (g.C.Chip.state c.args.card_a.now) (g.D.Chip.state c.args.card_b.now))
+pub returns-in-None-clause-stands : goal.returns-in-None-clause-stands
+returns-in-None-clause-stands g c =
+    stands_none (standing c.args.self.now c.args.marks.now c.args.breaks.now (g.M.Medium.state c.args.unit.now) (g.C.Chip.state c.args.card_a.now) (g.D.Chip.state c.args.card_b.now) (g.C.Chip.card c.args.card_a.now) (g.D.Chip.card c.args.card_b.now))
+    c.args.at c.requires.ready c.requires.minute
 
-pub returns-in-Some-A-clause-calm : goal.returns-in-Some-A-clause-calm
-returns-in-Some-A-clause-calm g c = calm-of-a (g.M.Medium.state c.args.unit.now) (g.M.Medium.state c.bring_to.new.unit) (g.C.Chip.state c.args.card_a.now) (g.C.Chip.state c.bring_to.new.card) (g.D.Chip.state c.args.card_b.now) (brought-calm A _ _ _ _ _ _ _ _ _ _ _ _ _ _ c.bring_to.ensures.brought.1 (λ none. ap (λ (s : State). s.breakdowns) (ap g.C.Chip.state (c.bring_to.ensures.bare none))))
+pub returns-in-Some-A-clause-stands : goal.returns-in-Some-A-clause-stands
+returns-in-Some-A-clause-stands g c =
+    let e = c.bring_to.ensures in
+    let U = g.M.Medium.state c.args.unit.now in
+    let V = g.M.Medium.state c.bring_to.new.unit in
+    let X = g.C.Chip.state c.args.card_a.now in
+    let Y = g.C.Chip.state c.bring_to.new.card in
+    let Z = g.D.Chip.state c.args.card_b.now in
+    stands_of_a c.args.kept.now c.args.at (is_err c.bring_to.result) c.args.self.now c.bring_to.new.self c.args.marks.now c.bring_to.new.marks c.args.breaks.now c.bring_to.new.breaks e.brought.0 U V X Y Z (g.C.Chip.card c.args.card_a.now) (g.C.Chip.card c.bring_to.new.card) (g.D.Chip.card c.args.card_b.now)
+    (unit-stays e.journal c.requires.ready.unit_ready.is_unit) e.cause (λ well. ok_gives c.bring_to.result e.ready well) (λ well card h. ok_gives c.bring_to.result (e.rows card h) well)
+    e.brought.1 c.requires.minute e.card c.requires.ready.card_b
 
-pub returns-in-Some-B-clause-calm : goal.returns-in-Some-B-clause-calm
-returns-in-Some-B-clause-calm g c = calm-of-b (g.M.Medium.state c.args.unit.now) (g.M.Medium.state c.bring_to-in-Some-B.new.unit) (g.C.Chip.state c.args.card_a.now) (g.D.Chip.state c.args.card_b.now) (g.D.Chip.state c.bring_to-in-Some-B.new.card) (brought-calm B _ _ _ _ _ _ _ _ _ _ _ _ _ _ c.bring_to-in-Some-B.ensures.brought.1 (λ none. ap (λ (s : State). s.breakdowns) (ap g.D.Chip.state (c.bring_to-in-Some-B.ensures.bare none))))
+pub returns-in-Some-B-clause-stands : goal.returns-in-Some-B-clause-stands
+returns-in-Some-B-clause-stands g c =
+    let e = c.bring_to-in-Some-B.ensures in
+    let U = g.M.Medium.state c.args.unit.now in
+    let V = g.M.Medium.state c.bring_to-in-Some-B.new.unit in
+    let X = g.D.Chip.state c.args.card_b.now in
+    let Y = g.D.Chip.state c.bring_to-in-Some-B.new.card in
+    let Z = g.C.Chip.state c.args.card_a.now in
+    stands_of_b c.args.kept.now c.args.at (is_err c.bring_to-in-Some-B.result) c.args.self.now c.bring_to-in-Some-B.new.self c.args.marks.now c.bring_to-in-Some-B.new.marks c.args.breaks.now c.bring_to-in-Some-B.new.breaks e.brought.0 U V X Y Z (g.D.Chip.card c.args.card_b.now) (g.D.Chip.card c.bring_to-in-Some-B.new.card) (g.C.Chip.card c.args.card_a.now)
+    (unit-stays e.journal c.requires.ready.unit_ready.is_unit) e.cause (λ well. ok_gives c.bring_to-in-Some-B.result e.ready well) (λ well card h. ok_gives c.bring_to-in-Some-B.result (e.rows card h) well)
+    e.brought.1 c.requires.minute e.card c.requires.ready.card_a
 
--- ---- a card whose session goes on has not broken down
+-- ---- which cards are not called
 
-pub returns-in-None-clause-rests : goal.returns-in-None-clause-rests
-returns-in-None-clause-rests g c = rest-none c.args.self.now.cabin.cards c.args.self.now.cabin.cards (g.M.Medium.state c.args.unit.now) (g.M.Medium.state c.args.unit.now) (g.C.Chip.state c.args.card_a.now) (g.D.Chip.state c.args.card_b.now)
+pub returns-in-None-clause-calls : goal.returns-in-None-clause-calls
+returns-in-None-clause-calls g c = record {
+  bare = bare-none c.args.self.now.cabin.cards c.args.card_a.now c.args.card_b.now;
+  out = record { card_a = λ out. refl; card_b = λ out. refl };
+}
 
-pub returns-in-Some-A-clause-rests : goal.returns-in-Some-A-clause-rests
-returns-in-Some-A-clause-rests g c =
-    let b = c.bring_to.ensures.brought.1 in
-    rest-of-a c.args.self.now.cabin.cards c.bring_to.new.self.cabin.cards (g.M.Medium.state c.args.unit.now) (g.M.Medium.state c.bring_to.new.unit) (g.C.Chip.state c.args.card_a.now) (g.C.Chip.state c.bring_to.new.card) (g.D.Chip.state c.args.card_b.now)
-    (brought-rests A _ _ _ _ _ _ _ _ _ _ _ _ _ _ b (λ none. ap (λ (s : State). s.breakdowns) (ap g.C.Chip.state (c.bring_to.ensures.bare none))))
+pub returns-in-Some-A-clause-calls : goal.returns-in-Some-A-clause-calls
+returns-in-Some-A-clause-calls g c =
+    let is : c.args.present ≡ Some A = search rules in
+    let called : is_this c.args.present A ≡ true = ap (λ (o : Option Card). is_this o A) is in
+    record {
+      bare = record { card_a = c.bring_to.ensures.bare; card_b = λ none. refl };
+      out = record { card_a = λ out. let other : is_this c.args.present A ≡ false = out in absurd (cc); card_b = λ out. refl };
+    }
 
-pub returns-in-Some-B-clause-rests : goal.returns-in-Some-B-clause-rests
-returns-in-Some-B-clause-rests g c =
-    let b = c.bring_to-in-Some-B.ensures.brought.1 in
-    rest-of-b c.args.self.now.cabin.cards c.bring_to-in-Some-B.new.self.cabin.cards (g.M.Medium.state c.args.unit.now) (g.M.Medium.state c.bring_to-in-Some-B.new.unit) (g.C.Chip.state c.args.card_a.now) (g.D.Chip.state c.args.card_b.now) (g.D.Chip.state c.bring_to-in-Some-B.new.card)
-    (brought-rests B _ _ _ _ _ _ _ _ _ _ _ _ _ _ b (λ none. ap (λ (s : State). s.breakdowns) (ap g.D.Chip.state (c.bring_to-in-Some-B.ensures.bare none))))
+pub returns-in-Some-B-clause-calls : goal.returns-in-Some-B-clause-calls
+returns-in-Some-B-clause-calls g c =
+    let is : c.args.present ≡ Some B = search rules in
+    let called : is_this c.args.present B ≡ true = ap (λ (o : Option Card). is_this o B) is in
+    record {
+      bare = record { card_a = λ none. refl; card_b = c.bring_to-in-Some-B.ensures.bare };
+      out = record { card_a = λ out. refl; card_b = λ out. let other : is_this c.args.present B ≡ false = out in absurd (cc) };
+    }

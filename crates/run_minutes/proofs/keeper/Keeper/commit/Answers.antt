@@ -15,6 +15,8 @@ use Rattle.run_minutes.proofs.Sessions.{some-goes}
 use Rattle.run_minutes.proofs.Units.{left-then}
 use Rattle.run_minutes.proofs.Faults.{notes-then, notes-nothing, keeping-nothing}
 use Rattle.run_minutes.proofs.MinuteBegun.{put-at, told_with, cut-first, cut-second, kept-or-cut}
+use Rattle.run_speeds.proofs.Leaving.{leaves-then}
+use Rattle.run_minutes.proofs.Speeds.{keeping-leaves}
 use Rattle.run_minutes.proofs.keeper.Keeper.commit.Goals as goal
 
 pub owe_to-requires-2-clause-row : goal.owe_to-requires-2-clause-row
@@ -144,6 +146,31 @@ returns-clause-quiet g c =
     let n = c.args.minute.now.odometer.0 in
     notes-then [] [] false U U1 V c.in_ok-owe_to.ensures.quiet (notes-then [] [] false U1 U2 V c.in_ok-owe_to-2.ensures.quiet
     (notes-nothing false U2 V (IsKeeping km n) (g.met.M.Medium.coherent c.owe_to-2.new.unit) (g.met.M.Medium.coherent c.commit.new.unit) c.in_ok-commit.ensures.moments (λ x y h. keeping-nothing km n x y h)))
+
+-- ---- and the detailed speed is left as it is
+
+pub returns-in_err-owe_to-clause-speeds : goal.returns-in_err-owe_to-clause-speeds
+returns-in_err-owe_to-clause-speeds g c = c.in_err-owe_to.ensures.speeds
+
+pub returns-in_err-owe_to-2-clause-speeds : goal.returns-in_err-owe_to-2-clause-speeds
+returns-in_err-owe_to-2-clause-speeds g c =
+    leaves-then (g.M.Medium.state c.args.unit.now) (g.M.Medium.state c.owe_to.new.unit) (g.M.Medium.state c.owe_to-2.new.unit) c.in_ok-owe_to.ensures.speeds c.in_err-owe_to-2.ensures.speeds
+
+pub returns-in_err-commit-clause-speeds : goal.returns-in_err-commit-clause-speeds
+returns-in_err-commit-clause-speeds g c =
+    let U1 = g.M.Medium.state c.owe_to.new.unit in
+    let U2 = g.M.Medium.state c.owe_to-2.new.unit in
+    let V = g.M.Medium.state c.commit.new.unit in
+    leaves-then (g.M.Medium.state c.args.unit.now) U1 V c.in_ok-owe_to.ensures.speeds
+    (leaves-then U1 U2 V c.in_ok-owe_to-2.ensures.speeds (keeping-leaves (kept_minute c.args.minute.now) c.args.minute.now.odometer.0 U2 V (g.met.M.Medium.coherent c.owe_to-2.new.unit) c.in_err-commit.ensures.moments))
+
+pub returns-clause-speeds : goal.returns-clause-speeds
+returns-clause-speeds g c =
+    let U1 = g.M.Medium.state c.owe_to.new.unit in
+    let U2 = g.M.Medium.state c.owe_to-2.new.unit in
+    let V = g.M.Medium.state c.commit.new.unit in
+    leaves-then (g.M.Medium.state c.args.unit.now) U1 V c.in_ok-owe_to.ensures.speeds
+    (leaves-then U1 U2 V c.in_ok-owe_to-2.ensures.speeds (keeping-leaves (kept_minute c.args.minute.now) c.args.minute.now.odometer.0 U2 V (g.met.M.Medium.coherent c.owe_to-2.new.unit) c.in_ok-commit.ensures.moments))
 
 -- each card that has its row has it still
 pub returns-clause-rows : goal.returns-clause-rows

@@ -10,6 +10,8 @@ use Rattle.trace_model.specs.declared.Card.{Card}
 use Rattle.run_minutes.specs.Keeping.{HasItsRow}
 use Rattle.run_minutes.proofs.EntryPut.{row-known, books-put-a, books-put-b}
 use Rattle.run_minutes.proofs.Faults.{notes-nothing, putting-nothing}
+use Rattle.run_speeds.proofs.Leaving.{leaves-none}
+use Rattle.run_minutes.proofs.Speeds.{putting-leaves}
 use Rattle.run_minutes.proofs.keeper.Keeper.owe_to.Goals as goal
 
 pub returns-in-A-clause-booked : goal.returns-in-A-clause-booked
@@ -35,6 +37,18 @@ returns-in-B-clause-quiet g c =
     let number = card_number_bytes c.number_or_zeros-number.result in
     notes-nothing _ (g.M.Medium.state c.args.unit.now) (g.M.Medium.state c.owe-in-B.new.unit) (IsPutting number c.args.entry.now) (g.met.M.Medium.coherent c.args.unit.now) (g.met.M.Medium.coherent c.owe-in-B.new.unit) c.owe-in-B.ensures.moments
     (λ x y h. putting-nothing number c.args.entry.now x y h)
+
+-- nor is the detailed speed written
+pub returns-in_default-clause-speeds : goal.returns-in_default-clause-speeds
+returns-in_default-clause-speeds g c = leaves-none (g.M.Medium.state c.args.unit.now)
+
+pub returns-in-A-clause-speeds : goal.returns-in-A-clause-speeds
+returns-in-A-clause-speeds g c =
+    putting-leaves (card_number_bytes c.number_or_zeros-number.result) c.args.entry.now (g.M.Medium.state c.args.unit.now) (g.M.Medium.state c.owe.new.unit) (g.met.M.Medium.coherent c.args.unit.now) c.owe.ensures.moments
+
+pub returns-in-B-clause-speeds : goal.returns-in-B-clause-speeds
+returns-in-B-clause-speeds g c =
+    putting-leaves (card_number_bytes c.number_or_zeros-number.result) c.args.entry.now (g.M.Medium.state c.args.unit.now) (g.M.Medium.state c.owe-in-B.new.unit) (g.met.M.Medium.coherent c.args.unit.now) c.owe-in-B.ensures.moments
 
 pub owe-requires-clause-low : goal.owe-requires-clause-low
 owe-requires-clause-low g c =

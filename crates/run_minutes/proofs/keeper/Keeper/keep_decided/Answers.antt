@@ -1,0 +1,71 @@
+use Rattle.std.proofs.Common.{rules, ◌≡◌, true, refl, arith}
+use Rattle.std.specs.Prelude.{is_err}
+use Rattle.run_minutes.proofs.Goes.{bare-none, bare-then, keeping_then, stands_then, stands_by}
+use Rattle.run_minutes.proofs.SoFar.{so-none, so-all, so-more, so-cut, may-next, stands-next, ended-next}
+use Rattle.run_minutes.proofs.keeper.Keeper.keep_decided.Goals as goal
+
+pub loop-minute-init : goal.loop-minute-init
+loop-minute-init g c = record {
+  so = so-none c.args.decided.now c.args.at c.requires.may c.requires.ready;
+  bare = bare-none c.args.self.now.cabin.cards c.args.card_a.now c.args.card_b.now;
+}
+
+pub present-present-requires : goal.present-present-requires
+present-present-requires g c = record { ended = ended-next c.args.decided.now c.args.at c.requires.may c.loop-minute.minute-index c.loop-minute.invariant.so c.loop-minute-test.true }
+
+pub kept_of-kept-requires : goal.kept_of-kept-requires
+kept_of-kept-requires g c = let same = c.loop-minute.invariant.so.goes.odometer in let low = c.requires.may.odometer in omega (arith, same, low)
+
+pub keep_minute-requires-clause-ready : goal.keep_minute-requires-clause-ready
+keep_minute-requires-clause-ready g c = c.loop-minute.invariant.so.behind.ready refl
+
+pub keep_minute-requires-clause-may : goal.keep_minute-requires-clause-may
+keep_minute-requires-clause-may g c =
+    let so = c.loop-minute.invariant.so in
+    let low = c.loop-minute-test.true in
+    let i = c.loop-minute.minute-index in
+    may-next c.args.decided.now c.args.at c.requires.may i so low c.present-present.result c.present-present.ensures.present c.kept_of-kept.ensures
+    (c.present-present.ensures.stands _ c.requires.may.leaving (omega arith) (stands-next c.args.decided.now c.args.at c.requires.may i so low))
+
+pub loop-minute-preserved : goal.loop-minute-preserved
+loop-minute-preserved g c =
+    let so = c.loop-minute.invariant.so in
+    let e = c.in_ok-keep_minute.ensures in
+    record {
+      so = so-more c.args.decided.now c.args.at c.requires.may c.loop-minute.minute-index so c.loop-minute-test.true c.present-present.result c.present-present.ensures.present c.kept_of-kept.ensures e.goes e.stands e.kept;
+      bare = bare-then c.args.self.now.cabin.cards c.loop-minute.self.cabin.cards c.args.card_a.now c.loop-minute.card_a c.keep_minute.new.card_a c.args.card_b.now c.loop-minute.card_b c.keep_minute.new.card_b so.goes.sessions c.loop-minute.invariant.bare e.calls.bare;
+    }
+
+-- ---- all of them are kept
+
+pub returns-clause-stands : goal.returns-clause-stands
+returns-clause-stands g c = c.loop-minute.invariant.so.behind
+
+pub returns-clause-goes : goal.returns-clause-goes
+returns-clause-goes g c = c.loop-minute.invariant.so.goes
+
+pub returns-clause-kept : goal.returns-clause-kept
+returns-clause-kept g c = so-all c.args.decided.now c.args.at c.requires.may c.loop-minute.minute-index c.loop-minute.invariant.so (omega (arith, c.loop-minute-test.false))
+
+pub returns-clause-bare : goal.returns-clause-bare
+returns-clause-bare g c = c.loop-minute.invariant.bare
+
+-- ---- the unit failed
+
+pub returns-in_err-keep_minute-clause-stands : goal.returns-in_err-keep_minute-clause-stands
+returns-in_err-keep_minute-clause-stands g c =
+    let failed : true ≡ is_err c.from_residual.result = search rules in
+    stands_by failed (stands_then c.loop-minute.invariant.so.behind c.in_err-keep_minute.ensures.stands)
+
+pub returns-in_err-keep_minute-clause-goes : goal.returns-in_err-keep_minute-clause-goes
+returns-in_err-keep_minute-clause-goes g c = keeping_then c.loop-minute.invariant.so.goes c.in_err-keep_minute.ensures.goes
+
+pub returns-in_err-keep_minute-clause-kept : goal.returns-in_err-keep_minute-clause-kept
+returns-in_err-keep_minute-clause-kept g c =
+    let failed : true ≡ is_err c.from_residual.result = search rules in
+    let e = c.in_err-keep_minute.ensures in
+    so-cut c.args.decided.now c.args.at c.requires.may c.loop-minute.minute-index c.loop-minute.invariant.so c.loop-minute-test.true c.present-present.result c.present-present.ensures.present failed c.kept_of-kept.ensures e.goes e.kept
+
+pub returns-in_err-keep_minute-clause-bare : goal.returns-in_err-keep_minute-clause-bare
+returns-in_err-keep_minute-clause-bare g c =
+    bare-then c.args.self.now.cabin.cards c.loop-minute.self.cabin.cards c.args.card_a.now c.loop-minute.card_a c.keep_minute.new.card_a c.args.card_b.now c.loop-minute.card_b c.keep_minute.new.card_b c.loop-minute.invariant.so.goes.sessions c.loop-minute.invariant.bare c.in_err-keep_minute.ensures.calls.bare
