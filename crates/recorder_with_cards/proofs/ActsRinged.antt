@@ -181,5 +181,5 @@ refused-ringed o done s speed run before d now front a rest are h fault is after
     let all : s.actions ≡ (front ++ a ∷ []) ++ rest = are ∙ sym (append_assoc front (a ∷ []) rest) in
     let number : length (front ++ a ∷ []) ≡ suc (length front) = let long = length-append front (a ∷ []) in omega (arith, long) in
     ringed-on o done s (length front) (suc (length front)) run run before after d d h (front ++ a ∷ []) rest all number (refused o done s speed run before d now front a rest are w fault is after told)
-    (refused-now o done s speed run before d now front a rest are h.evented fault is after told) (record { watch = refl; memory = refl })
+    (refused-now o done s speed run before d now front a rest are h.evented fault is after told) (record { watch = refl; memory = refl; power = refl; next = refl })
     (subst (λ (q : Outcome). RingsWithin o done s w.within.b.run.log (front ++ a ∷ []) run (log_of q) h.spans h.told d) (sym told) rings)

@@ -11,7 +11,7 @@ use Rattle.run_acts.specs.declared.run.Run.{Run}
 use Rattle.recorder_with_cards.specs.Acting.{put_count, refused_by, IsSelected, IsFine}
 use Rattle.log_model.specs.declared.lines.SlotFault.{SlotFault}
 use Rattle.log_model.specs.declared.lines.SlotFault.TheVariants.{Occupied, Elsewhere}
-use Rattle.log_model.specs.Slots.{refusal, other_slot, holds}
+use Rattle.log_model.specs.Slots.{Slots, refusal, other_slot, holds}
 use Rattle.card_slots.specs.declared.seats.Seat.{Seat}
 use Rattle.card_slots.specs.Calls.{Seats, seat_in, is_card, logged, sitting_of}
 
@@ -54,6 +54,15 @@ fine-selected (Withdraw slot) failed old new so fine = tt
 fine-selected (Tear slot) failed old new so fine = tt
 fine-selected (Place slot ending country region) failed old new so fine = tt
 fine-selected (Manual slot pick minute) failed old new so fine = tt
+
+-- nor is it refused
+pub refused-selected : (slots : Slots) (speed : ℕ) (action : Action) (fault : SlotFault) (run : Run) → refusal slots speed action ≡ Some fault → IsSelected action run run
+refused-selected slots speed (Select slot pick) fault run is = absurd (cc)
+refused-selected slots speed (Insert slot card) fault run is = tt
+refused-selected slots speed (Withdraw slot) fault run is = tt
+refused-selected slots speed (Tear slot) fault run is = tt
+refused-selected slots speed (Place slot ending country region) fault run is = tt
+refused-selected slots speed (Manual slot pick minute) fault run is = tt
 
 -- an insertion counts as one
 pub count-is : (action : Action) → insertion_count (Act action) ≡ put_count action

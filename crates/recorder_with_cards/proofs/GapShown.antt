@@ -117,7 +117,7 @@ note-lines None slot at old new breaks after fell is = lines-none at.second brea
 note-lines (Some card) slot at old new breaks after false is = ([], ap (λ (l : Listed Break). l.items) is.0.told, tt)
 note-lines (Some card) slot at old new breaks after true is = (tear_of slot at ∷ [], ap (λ (l : Listed Break). l.items) is.0.told, (refl, tt))
 
-gap-lines : (gap : Option Span) (at : Moment) (failed : Bool) (old new : Run) (breaks after : Listed Break) (reach : GapReach) → IsGapNoted gap at failed old new breaks after reach → HasLines at.second breaks after
+pub gap-lines : (gap : Option Span) (at : Moment) (failed : Bool) (old new : Run) (breaks after : Listed Break) (reach : GapReach) → IsGapNoted gap at failed old new breaks after reach → HasLines at.second breaks after
 gap-lines None at failed old new breaks after NoGap is = lines-none at.second breaks after is.2
 gap-lines None at failed old new breaks after UnitFailed is = absurd is
 gap-lines None at failed old new breaks after DriverFell is = absurd is

@@ -63,7 +63,7 @@ ending-here (Unnoted entered clock) e = tt
 ending-here (Seated entered clock entry) e = tt
 ending-here (Lost entered clock entry) e = (refl, tt)
 
-accepted-of : (e : Entering) (old new : Run) (before after : Outcome) → IsAccepted e old new before after → TellsMoreOf e.at.second before.breaks.items after.breaks.items
+pub accepted-of : (e : Entering) (old new : Run) (before after : Outcome) → IsAccepted e old new before after → TellsMoreOf e.at.second before.breaks.items after.breaks.items
 accepted-of e old new before after is = (breaks_by (ending_of is.way) e, ap (λ (o : Outcome). o.breaks.items) is.left.outcome, ending-here (ending_of is.way) e)
 
 inserted-of : (slot : Slot) (card : Card) (at : Moment) (speed : ℕ) (failed : Bool) (old new : Run) (before after : Outcome) → IsInserted slot card at speed failed old new before after → TellsMoreOf at.second before.breaks.items after.breaks.items

@@ -1,3 +1,5 @@
+pub mod Again
+pub mod EnteredSpeeds
 pub mod EnteredRings
 pub mod EnteredTold
 pub mod CameFirst
@@ -78,4 +80,6 @@ pub mod GapOnCard
 pub mod WakesCards
 pub mod GapShown
 pub mod OffCards
+pub mod SpeedsSoFar
+pub mod SpeedsUnlit
 pub mod SecondsCards

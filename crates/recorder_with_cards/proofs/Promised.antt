@@ -76,6 +76,11 @@ use Rattle.run_opening.specs.Cards.{IsFoundOn, number_by}
 use Rattle.run_opening.specs.declared.opening.Opened.{Opened}
 use Rattle.run_opening.proofs.Told.{valid-known}
 use Rattle.run_outcome.specs.declared.outcome.Outcome.{Outcome}
+use Rattle.speed_model.specs.declared.block.Block.{Block}
+use Rattle.run_speeds.specs.Speeds.{HasSpeeds}
+use Rattle.run_speeds.specs.Spans.{is_sure_block}
+use Rattle.run_speeds.proofs.Speeds.{speeds-begin}
+use Rattle.run_speeds.proofs.Spans.{no-blocks}
 use Rattle.run_acts.specs.declared.run.Run.{Run}
 use Rattle.run_acts.specs.declared.run.Power.{Power}
 use Rattle.run_acts.specs.declared.run.Power.TheVariants.{Lit, Due}
@@ -93,6 +98,7 @@ use Rattle.run_acts.proofs.Numbers.{own-long}
 use Rattle.recorder_with_cards.specs.Carded.{RunCarded}
 use Rattle.recorder_with_cards.specs.Ends.{BeginAs, recorded_with, recording_of, opened_with, origin_of, MayRecord, EndsTrace}
 use Rattle.recorder_with_cards.specs.Side.{ShowTheSide}
+use Rattle.recorder_with_cards.proofs.Again.{begins-anew}
 use Rattle.recorder_with_cards.proofs.SideShown.{insertions-inside, places-inside, side-shown}
 use Rattle.recorder_with_cards.proofs.Written.{are-written, keep-holders}
 use Rattle.recorder_with_cards.specs.Placed.{ShowsPlaces}
@@ -232,6 +238,8 @@ module _ (x a b : List ℕ) (start : ℕ) (items : List Item) (began now : Devic
         let hr = h.evented.recorded.recorded in
         keeps-rows x a b y ((is-carried (seconds_of start items) (values_of run out) (carried (values_of run out) hr.due hr.book hr.standing hr.brought) h.evented.recorded.supply hr.held).unit.rows y left);
     kept = end-kept o ss run out now h.evented.recorded h.spans h.ringed.spans_are h.stored;
+    speeds = carded.speeds.blocks;
+    again = begins-anew r out.marks.items began now run-ends.safe may.numbers;
     last = unit-last.1;
     dense = record {
       insertions = λ dense y left. (h.ringed.ringed.insertions (record { points = insertions-inside x may.decodes; dense = dense }) y left).shows.carries.dense;
@@ -522,8 +530,8 @@ module _ (x a b : List ℕ) (start : ℕ) (began now : Devices) (opened : Opened
     -- and its cards show what they held
     pub starts-carded : (run : Run) (out : Outcome) → run.power ≡ Due → run.next ≡ start → run.begun ≡ 0 → run.unfound ≡ 0 → run.keeper.memory ≡ opened.unit.memory → run.keeper.cabin.slots ≡ nothing_yet →
         ((c : Card) → known_in run.keeper.cabin.cards c ≡ known_of opened c) → ((c : Card) → session_of run.keeper.cabin.cards c ≡ None) → out.breaks.items ≡ [] → out.refused.items ≡ [] → out.finds.items ≡ [] → out.marks.items ≡ [] →
-        run.noted ≡ 0 → RunCarded first-o [] run out now
-    starts-carded run out due next begun unfound memory slots same bare breaks refused finds marks noted = record {
+        run.noted ≡ 0 → now.unit.clock ≡ began.unit.clock → RunCarded first-o [] run out now
+    starts-carded run out due next begun unfound memory slots same bare breaks refused finds marks noted clock_unit = record {
       ringed = starts-ringed run out due next begun unfound memory slots same bare breaks refused finds marks noted;
       vehicle = ap (λ (bs : List ℕ). record { 0 = bs }) (ap (λ (i : UnitFacts). i.registration.0) memory ∙ ready.memory.registration);
       cards = λ c valid. record {
@@ -531,5 +539,12 @@ module _ (x a b : List ℕ) (start : ℕ) (began now : Devices) (opened : Opened
         exact = λ none. ap (uses_in first-o c) (sym (no-notes (log_of out)));
         are = subst (λ (seen : List Seen). AreUses (images_in first-o now c) [] (accepted_on c seen)) (sym (no-seen (log_of out))) tt;
         shows = start-shown c (vehicle_in first-o) (sizes_in first-o c) (card_image first-o.recording c) (log_of out) (card_of now c) (λ y left. only c y ((whole c).counts_now (found_of f c).began y (there.clocks c) left));
+      };
+      speeds = record {
+        watched = λ on. absurd (let bad : Due ≡ Lit = sym due ∙ on in cc);
+        blocks = λ ring.
+            subst (λ (bs : List Block). HasSpeeds (is_sure_block (log_of out)) x began.unit.clock bs now.unit) (sym (no-blocks (log_of out)))
+            (speeds-begin (is_sure_block (log_of out)) x began.unit.clock now.unit ring (omega (arith, clock_unit)) only_unit
+            (λ y left. ready.begins.unit.only y (subst (λ (n : ℕ). now.unit.left_since n y) (sym clock_unit) left)));
       };
     }

@@ -43,6 +43,9 @@ use Rattle.recorder_with_cards.proofs.Staying.{kept-memory, up-to-memory}
 use Rattle.recorder_with_cards.proofs.RingsHeld.{in-ringed_lit, in-ringed_cut}
 use Rattle.recorder_with_cards.proofs.CardsHeld.{first-are, to-began}
 use Rattle.recorder_with_cards.proofs.OffCards.{off-cut-cards}
+use Rattle.run_acts.specs.Speeds.{SpeedsBehind}
+use Rattle.recorder_with_cards.proofs.SpeedsSoFar.{runs, lit-has}
+use Rattle.recorder_with_cards.proofs.SpeedsUnlit.{dark-behind, off-speeds}
 
 -- ---- the memory of the unit's identity stays
 
@@ -76,18 +79,6 @@ over-lit false run = refl
 pub over-vehicle : (b : Bool) (run : Run) → (over_by b run).keeper.memory.registration ≡ run.keeper.memory.registration
 over-vehicle true run = refl
 over-vehicle false run = refl
-
-runs : (before : Before) (next : ℕ) (supply : Supply) → Supplies Lit supply → IsSupplied supply before next → before.running ≡ true
-runs before next (IsLit (t ∷ span)) h power = power.running
-runs before next (IsLit []) h power = absurd h
-runs before next IsDue h power = absurd h
-runs before next IsLost h power = absurd h
-
-lit-has : (before : Before) (s : TraceSecond) (next : ℕ) (supply : Supply) → Supplies Lit supply → IsSupplied supply before next → s.number ≡ next → s.has_power ≡ true → has_power before s ≡ true
-lit-has before s next (IsLit (t ∷ span)) h power number given = lit-power (t ∷ span) before s next power number given
-lit-has before s next (IsLit []) h power number given = absurd h
-lit-has before s next IsDue h power number given = absurd h
-lit-has before s next IsLost h power number given = absurd h
 
 pub begins-cards : (o : Origin) (done : List TraceSecond) (run : Run) (out : Outcome) (d : Devices) → RunCarded o done run out d → run.power ≡ Lit → (s : TraceSecond) → s.number ≡ run.next → s.has_power ≡ true → CardsIn o done s (log_of out) (take 0 s.actions) (log_of out) d
 begins-cards o done run out d h lit s number given =
@@ -152,6 +143,7 @@ module _ (o : Origin) (done : List TraceSecond) (old : Run) (before : Outcome) (
         ringed = dark-ringed o done old before d h.ringed (suc n) speed begun actions some away_ fits new after is told;
         vehicle = ap (λ (x : Run). x.keeper.memory.registration) is ∙ h.vehicle;
         cards = subst (λ (q : Outcome). CardsBehind o (done ++ driven (suc n) old.next speed actions) (log_of q) d) (sym told) (lost-behind speed actions (before.refused.items ++ refused_dark old.next actions) supply none.1 n fits);
+        speeds = dark-behind o done old before d r h.speeds (suc n) speed begun actions some none fits new after is told;
       }
 
   -- AN `off` LINE
@@ -161,6 +153,7 @@ module _ (o : Origin) (done : List TraceSecond) (old : Run) (before : Outcome) (
     ringed = off-ringed o done old before d h.ringed sits (suc n) some breaks told new is;
     vehicle = ap (λ (x : Run). x.keeper.memory.registration) is ∙ ap (λ (m : UnitFacts). m.registration) (off-memory (is_lit old.power) old) ∙ h.vehicle;
     cards = subst (λ (l : Listed Break). CardsBehind o (done ++ dark (suc n) old.next) (log_of (record before { breaks = l })) d) (sym told) (by old.power refl r.supply refl r.powers);
+    speeds = off-speeds o done old before d r h.speeds (suc n) breaks told new is;
   }
     where
       plain : CardsBehind o (done ++ dark (suc n) old.next) (log_of (record before { breaks = with_lines [] before.breaks })) d
@@ -202,11 +195,13 @@ at-turn o done s begun run out d many some true lit h =
 at-turn o done s begun run out d many some false dark_ h = (in-ringed_cut o done s run out d begun h.ringed, h.vehicle, (h.ringed.evented.cut, h.cards))
 
 pub turned-carded : {all : List TraceSecond} (o : Origin) (done : List TraceSecond) (s : TraceSecond) (n speed begun : ℕ) (old new : Run) (before after : Outcome) (d e : Devices) → length s.actions ≡ begun → 0 < s.number → InSecondCarded o done s begun old before d →
-    IsTurnOf (is_lit old.power) n speed begun old new before after → (InSecondRinged o done s begun old before d → RunRinged o all new after e) → (CardsAtBy (is_lit old.power) o done s begun old before d → CardsBehind o all (log_of after) e) → RunCarded o all new after e
-turned-carded o done s n speed begun old new before after d e many some h turned ringed cards =
+    IsTurnOf (is_lit old.power) n speed begun old new before after → (InSecondRinged o done s begun old before d → RunRinged o all new after e) → (CardsAtBy (is_lit old.power) o done s begun old before d → CardsBehind o all (log_of after) e) →
+    SpeedsBehind o all new after e → RunCarded o all new after e
+turned-carded o done s n speed begun old new before after d e many some h turned ringed cards speeds =
     let at = at-turn o done s begun old before d many some (is_lit old.power) refl h in
     record {
       ringed = ringed at.0;
       vehicle = ap (λ (m : UnitFacts). m.registration) (turn-memory (is_lit old.power) n speed begun old new before after turned) ∙ at.1;
       cards = cards at.2;
+      speeds = speeds;
     }

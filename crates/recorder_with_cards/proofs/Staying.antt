@@ -17,16 +17,22 @@ use Rattle.run_acts.specs.Acting.{IsSettled, IsClosedBehind, IsWithdrawn, IsPlac
 use Rattle.recorder_with_cards.specs.Accepting.{IsInserted}
 use Rattle.recorder_with_cards.specs.Acting.{IsDone}
 
--- both are the same
+-- both are the same, and so are power and second
 pub record StaysWatched (old new : Run) : Type 0 where
   pub watch : new.watch ≡ old.watch
   pub memory : new.keeper.memory ≡ old.keeper.memory
+  pub power : new.power ≡ old.power
+  pub next : new.next ≡ old.next
 
 pub watched-then : (a b c : Run) → StaysWatched a b → StaysWatched b c → StaysWatched a c
-watched-then a b c first later = record { watch = later.watch ∙ first.watch; memory = later.memory ∙ first.memory }
+watched-then a b c first later = record { watch = later.watch ∙ first.watch; memory = later.memory ∙ first.memory; power = later.power ∙ first.power; next = later.next ∙ first.next }
 
 watched-is : (a b : Run) → b ≡ a → StaysWatched a b
-watched-is a b is = record { watch = ap (λ (r : Run). r.watch) is; memory = ap (λ (r : Run). r.keeper.memory) is }
+watched-is a b is = record { watch = ap (λ (r : Run). r.watch) is; memory = ap (λ (r : Run). r.keeper.memory) is; power = ap (λ (r : Run). r.power) is; next = ap (λ (r : Run). r.next) is }
+
+-- nothing but the minutes has changed
+watched-only : (old new : Run) → new ≡ record old { minutes = new.minutes } → StaysWatched old new
+watched-only old new only = record { watch = ap (λ (r : Run). r.watch) only; memory = ap (λ (r : Run). r.keeper.memory) only; power = ap (λ (r : Run). r.power) only; next = ap (λ (r : Run). r.next) only }
 
 -- ---- minutes are kept
 
@@ -44,6 +50,8 @@ pub settled-watched : (at : Moment) (failed : Bool) (old new : Run) (before afte
 settled-watched at failed old new before after is = record {
   watch = ap (λ (r : Run). r.watch) is.only;
   memory = up-to-memory is.decided at failed (told_of old before) (told_of new after) is.kept;
+  power = ap (λ (r : Run). r.power) is.only;
+  next = ap (λ (r : Run). r.next) is.only;
 }
 
 -- ---- of each action
@@ -54,30 +62,34 @@ closed-watched card slot at old new before after is =
     record {
       watch = ap (λ (r : Run). r.watch) is.closed.run ∙ settled.watch;
       memory = ap (λ (r : Run). r.keeper.memory) is.closed.run ∙ settled.memory;
+      power = ap (λ (r : Run). r.power) is.closed.run ∙ settled.power;
+      next = ap (λ (r : Run). r.next) is.closed.run ∙ settled.next;
     }
 
 withdrawn-watched : (card : Option Card) (slot : Slot) (at : Moment) (failed : Bool) (old new : Run) (before after : Outcome) → IsWithdrawn card slot at failed old new before after → StaysWatched old new
 withdrawn-watched None slot at failed old new before after is = watched-is old new is.0
-withdrawn-watched (Some card) slot at failed old new before after (inl cut) = let s = settled-watched at true _ new before after cut.1 in record { watch = s.watch; memory = s.memory }
+withdrawn-watched (Some card) slot at failed old new before after (inl cut) = let s = settled-watched at true _ new before after cut.1 in record { watch = s.watch; memory = s.memory; power = s.power; next = s.next }
 withdrawn-watched (Some card) slot at failed old new before after (inr closed) = closed-watched card slot at old new before after closed
 
 inserted-watched : (slot : Slot) (card : Card) (at : Moment) (speed : ℕ) (failed : Bool) (old new : Run) (before after : Outcome) → IsInserted slot card at speed failed old new before after → StaysWatched old new
-inserted-watched slot card at speed failed old new before after (inl cut) = let s = settled-watched at true _ new before after cut.1 in record { watch = s.watch; memory = s.memory }
+inserted-watched slot card at speed failed old new before after (inl cut) = let s = settled-watched at true _ new before after cut.1 in record { watch = s.watch; memory = s.memory; power = s.power; next = s.next }
 inserted-watched slot card at speed failed old new before after (inr behind) =
     let s = settled-watched at false _ behind.between before behind.told behind.settled_first in
     let a = behind.accepted in
     record {
       watch = ap (λ (r : Run). r.watch) a.only ∙ s.watch;
       memory = ap (λ (k : Keeper). k.memory) a.left.keeper ∙ s.memory;
+      power = ap (λ (r : Run). r.power) a.only ∙ s.power;
+      next = ap (λ (r : Run). r.next) a.only ∙ s.next;
     }
 
 pulled-watched : (card : Option Card) (second : ℕ) (old : Run) → StaysWatched old (pulled_run card second old)
-pulled-watched None second old = record { watch = refl; memory = refl }
-pulled-watched (Some card) second old = record { watch = refl; memory = refl }
+pulled-watched None second old = record { watch = refl; memory = refl; power = refl; next = refl }
+pulled-watched (Some card) second old = record { watch = refl; memory = refl; power = refl; next = refl }
 
 noted-watched : (fell : Bool) (card : Card) (second : ℕ) (old : Run) → StaysWatched old (noted_run fell card second old)
-noted-watched false card second old = record { watch = refl; memory = refl }
-noted-watched true card second old = record { watch = refl; memory = refl }
+noted-watched false card second old = record { watch = refl; memory = refl; power = refl; next = refl }
+noted-watched true card second old = record { watch = refl; memory = refl; power = refl; next = refl }
 
 placed-watched : (card : Option Card) (slot : Slot) (at : Moment) (old new : Run) (breaks after : Listed Break) (fell : Bool) → IsPlaced card slot at old new breaks after fell → StaysWatched old new
 placed-watched None slot at old new breaks after fell is = watched-is old new is.0
@@ -85,7 +97,7 @@ placed-watched (Some card) slot at old new breaks after fell is = watched-then o
 
 -- AN ACTION leaves both
 pub done-watched : (action : Action) (at : Moment) (speed : ℕ) (failed : Bool) (old new : Run) (before after : Outcome) → IsDone action at speed failed old new before after → StaysWatched old new
-done-watched (Select slot pick) at speed failed old new before after is = record { watch = ap (λ (r : Run). r.watch) is.1.0; memory = ap (λ (r : Run). r.keeper.memory) is.1.0 }
+done-watched (Select slot pick) at speed failed old new before after is = watched-only old new is.1.0
 done-watched (Insert slot card) at speed failed old new before after is = inserted-watched slot card at speed failed old new before after is
 done-watched (Withdraw slot) at speed failed old new before after is = withdrawn-watched (card_in (seat_in old.keeper.cabin.slots.seats slot)) slot at failed old new before after is
 done-watched (Tear slot) at speed failed old new before after is =

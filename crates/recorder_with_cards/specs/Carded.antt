@@ -15,13 +15,15 @@ use Rattle.run_acts.specs.Recording.{log_of}
 use Rattle.run_acts.specs.Evented.{LastAt}
 use Rattle.run_acts.specs.RunRinged.{RunRinged, WithinRinged, CutRinged}
 use Rattle.run_acts.specs.RunCards.{vehicle_in, CardsBehind, CardsIn}
+use Rattle.run_acts.specs.Speeds.{SpeedsBehind}
 use Rattle.recorder_with_cards.specs.Recorded.{BeginsBy, ActsBy, SecondsBy, HasRunBy, ItemBy}
 
--- BETWEEN TWO SECONDS: each card shows the events of these seconds
+-- BETWEEN TWO SECONDS: each card shows the events of these seconds, and the unit carries their blocks of detailed speed
 pub record RunCarded (o : Origin) (done : List TraceSecond) (run : Run) (out : Outcome) (d : Devices) : Type 0 where
   pub ringed : RunRinged o done run out d
   pub vehicle : run.keeper.memory.registration ≡ vehicle_in o
   pub cards : CardsBehind o done (log_of out) d
+  pub speeds : SpeedsBehind o done run out d
 
 -- WITHIN A SECOND, while there is power, behind so many of its actions: and of these
 pub record WithinCarded (o : Origin) (done : List TraceSecond) (s : TraceSecond) (n : ℕ) (run : Run) (out : Outcome) (d : Devices) : Type 0 where

@@ -4,6 +4,7 @@ ghost use Rattle.tach_media.specs.Medium.{HasCause};
 ghost use Rattle.log_model.specs.Slots.{other_slot};
 ghost use Rattle.card_slots.specs.Calls.{seat_in, card_in};
 ghost use Rattle.run_acts.specs.declared.run.Power.TheVariants.{Lit};
+ghost use Rattle.run_speeds.specs.Speeds.{LeavesSpeeds};
 ghost use Rattle.run_minutes.specs.Later.{IsLater, AreLater, AreCalm, IsCalm};
 ghost use Rattle.run_acts.specs.Going.{first_second, end_of_seconds, IsHeld, IsLit};
 ghost use Rattle.run_acts.specs.Room.{falls_of, bare_count, Takes};
@@ -64,6 +65,7 @@ pub(crate) fn accept_here<M: Medium, C: Chip, D: Chip>(
     ensures clock_card { (C.state card.old).clock ≤ (C.state card.new).clock }
     ensures cause { HasCause (M.state unit.old) (M.state unit.new) (is_err result) }
     ensures later { IsLater (C.state card.old) (C.state card.new) }
+    ensures speeds { LeavesSpeeds (M.state unit.old) (M.state unit.new) }
     ensures calm { IsCalm outcome.old.breaks.items outcome.new.breaks.items (C.state card.old) (C.state card.new) }
 {
     let mut noted = run.noted;

@@ -2,7 +2,7 @@
 ghost use Rattle.std.specs.Prelude.{◌≡◌, ℕ, ◌+◌, ◌-◌, ◌%◌, ◌<◌, ◌≤◌, OnOk, length};
 ghost use Rattle.run_promise.specs.Between.{devices};
 ghost use Rattle.run_minutes.specs.Books.{HaveTime};
-ghost use Rattle.run_minutes.specs.Later.{AreLater, AreCalm};
+ghost use Rattle.run_minutes.specs.Later.{AreAfter, AreCalm};
 ghost use Rattle.run_outcome.specs.Broken.{BreaksDown};
 ghost use Rattle.run_acts.specs.Going.{largest_number, end_of_seconds, IsGoing};
 ghost use Rattle.run_acts.specs.Room.{HasRoom};
@@ -42,7 +42,7 @@ pub(crate) fn drive<M: Medium, C: Chip, D: Chip>(
     ensures ringed { length (actions_in (between from to items.now)) ≡ to - from → to - from ≤ largest_number → RingsSeconds result seconds speed (actions_in (between from to items.now)) run.old run.new outcome.old outcome.new (devices (M.state unit.old) (C.state card_a.old) (D.state card_b.old)) (devices (M.state unit.new) (C.state card_a.new) (D.state card_b.new)) }
     ensures cards { length (actions_in (between from to items.now)) ≡ to - from → to - from ≤ largest_number → CardsSeconds result seconds speed (actions_in (between from to items.now)) run.old run.new outcome.old outcome.new (devices (M.state unit.old) (C.state card_a.old) (D.state card_b.old)) (devices (M.state unit.new) (C.state card_a.new) (D.state card_b.new)) }
     ensures time { HaveTime (devices (M.state unit.new) (C.state card_a.new) (D.state card_b.new)) → HaveTime (devices (M.state unit.old) (C.state card_a.old) (D.state card_b.old)) }
-    ensures later { AreLater (devices (M.state unit.old) (C.state card_a.old) (D.state card_b.old)) (devices (M.state unit.new) (C.state card_a.new) (D.state card_b.new)) }
+    ensures later { AreAfter (devices (M.state unit.old) (C.state card_a.old) (D.state card_b.old)) (devices (M.state unit.new) (C.state card_a.new) (D.state card_b.new)) }
     ensures calm { AreCalm outcome.old.breaks.items outcome.new.breaks.items (devices (M.state unit.old) (C.state card_a.old) (D.state card_b.old)) (devices (M.state unit.new) (C.state card_a.new) (D.state card_b.new)) }
     ensures gone { HasGone result seconds run.old run.new outcome.new (M.state unit.new) (C.card card_a.new) (D.card card_b.new) (C.state card_a.new) (D.state card_b.new) }
     ensures room { (left offs insertions actions : ℕ) → HasRoom run.old outcome.old (seconds + left) offs (insertions_in from to items.now + insertions) (to - from + actions) → OnOk result (HasRoom run.new outcome.new left offs insertions actions) }
@@ -74,7 +74,7 @@ fn drive_on<M: Medium, C: Chip, D: Chip>(
     ensures ringed { RingsMore result seconds speed run.old run.new outcome.old outcome.new (devices (M.state unit.old) (C.state card_a.old) (D.state card_b.old)) (devices (M.state unit.new) (C.state card_a.new) (D.state card_b.new)) }
     ensures cards { CardsMore result seconds speed run.old run.new outcome.old outcome.new (devices (M.state unit.old) (C.state card_a.old) (D.state card_b.old)) (devices (M.state unit.new) (C.state card_a.new) (D.state card_b.new)) }
     ensures time { HaveTime (devices (M.state unit.new) (C.state card_a.new) (D.state card_b.new)) → HaveTime (devices (M.state unit.old) (C.state card_a.old) (D.state card_b.old)) }
-    ensures later { AreLater (devices (M.state unit.old) (C.state card_a.old) (D.state card_b.old)) (devices (M.state unit.new) (C.state card_a.new) (D.state card_b.new)) }
+    ensures later { AreAfter (devices (M.state unit.old) (C.state card_a.old) (D.state card_b.old)) (devices (M.state unit.new) (C.state card_a.new) (D.state card_b.new)) }
     ensures calm { AreCalm outcome.old.breaks.items outcome.new.breaks.items (devices (M.state unit.old) (C.state card_a.old) (D.state card_b.old)) (devices (M.state unit.new) (C.state card_a.new) (D.state card_b.new)) }
     ensures gone { HasGone result seconds run.old run.new outcome.new (M.state unit.new) (C.card card_a.new) (D.card card_b.new) (C.state card_a.new) (D.state card_b.new) }
     ensures room { (left offs insertions actions : ℕ) → HasRoom run.old outcome.old (seconds + left) offs insertions actions → OnOk result (HasRoom run.new outcome.new left offs insertions actions) }
@@ -108,7 +108,7 @@ fn step<M: Medium, C: Chip, D: Chip>(
     ensures ringed { RingsMore result n speed run.old run.new outcome.old outcome.new (devices (M.state unit.old) (C.state card_a.old) (D.state card_b.old)) (devices (M.state unit.new) (C.state card_a.new) (D.state card_b.new)) }
     ensures cards { CardsMore result n speed run.old run.new outcome.old outcome.new (devices (M.state unit.old) (C.state card_a.old) (D.state card_b.old)) (devices (M.state unit.new) (C.state card_a.new) (D.state card_b.new)) }
     ensures time { HaveTime (devices (M.state unit.new) (C.state card_a.new) (D.state card_b.new)) → HaveTime (devices (M.state unit.old) (C.state card_a.old) (D.state card_b.old)) }
-    ensures later { AreLater (devices (M.state unit.old) (C.state card_a.old) (D.state card_b.old)) (devices (M.state unit.new) (C.state card_a.new) (D.state card_b.new)) }
+    ensures later { AreAfter (devices (M.state unit.old) (C.state card_a.old) (D.state card_b.old)) (devices (M.state unit.new) (C.state card_a.new) (D.state card_b.new)) }
     ensures calm { AreCalm outcome.old.breaks.items outcome.new.breaks.items (devices (M.state unit.old) (C.state card_a.old) (D.state card_b.old)) (devices (M.state unit.new) (C.state card_a.new) (D.state card_b.new)) }
     ensures gone { HasGone result n run.old run.new outcome.new (M.state unit.new) (C.card card_a.new) (D.card card_b.new) (C.state card_a.new) (D.state card_b.new) }
     ensures room { (left offs insertions actions : ℕ) → HasRoom run.old outcome.old (n + left) offs insertions actions → OnOk result (HasRoom run.new outcome.new left offs insertions actions) }

@@ -8,7 +8,7 @@ ghost use Rattle.unit_model.specs.Image.{IsUnit};
 ghost use Rattle.run_outcome.specs.Room.{off_count, IsReserved};
 ghost use Rattle.run_promise.specs.Between.{devices};
 ghost use Rattle.run_minutes.specs.Books.{HaveTime};
-ghost use Rattle.run_minutes.specs.Later.{AreLater, AreCalm};
+ghost use Rattle.run_minutes.specs.Later.{AreAfter, AreCalm};
 ghost use Rattle.run_acts.specs.Recording.{log_of};
 ghost use Rattle.log_model.specs.Causes.{cuts, tears};
 ghost use Rattle.tach_media.specs.Medium.{HasBroken};
@@ -57,7 +57,7 @@ pub fn run_trace<U: Medium, C: Chip>(
         → IfErr result (λ fault. IsKeptFrom x a b trace.now.start (devices (U.state unit.old) (C.state card_a.old) (C.state card_b.old)) (devices (U.state unit.new) (C.state card_a.new) (C.state card_b.new)) fault × (outcome.new ≡ outcome.old)) }
     ensures refused { IfErr result (IsRefusedBy trace.now.start outcome.old outcome.new (U.state unit.old) (U.state unit.new) (C.state card_a.old) (C.state card_a.new) (C.state card_b.old) (C.state card_b.new)) }
     ensures unit { IsUnit (U.state unit.new) }
-    ensures later { AreLater (devices (U.state unit.old) (C.state card_a.old) (C.state card_b.old)) (devices (U.state unit.new) (C.state card_a.new) (C.state card_b.new)) }
+    ensures later { AreAfter (devices (U.state unit.old) (C.state card_a.old) (C.state card_b.old)) (devices (U.state unit.new) (C.state card_a.new) (C.state card_b.new)) }
     // Each cut that a failed call made is a breakdown of the unit more, whatever it tells.
     ensures broke { HasBroken (U.state unit.old) (U.state unit.new) (length (cuts true (log_of outcome.new))) }
     // And each breakdown has its cut: where no failed call has cut the power of a run that is recorded, the unit has not broken down.
@@ -65,6 +65,8 @@ pub fn run_trace<U: Medium, C: Chip>(
     // The same of the cards: where no failed call has torn one out, neither has broken down.
     ensures still { OnOk result (tears true (log_of outcome.new) ≡ [] → ((C.state card_a.new).breakdowns ≡ (C.state card_a.old).breakdowns) × ((C.state card_b.new).breakdowns ≡ (C.state card_b.old).breakdowns)) }
 {
+    card_a.holds_bytes();
+    card_b.holds_bytes();
     let opened = judge(unit, card_a, card_b, trace.start)?;
     let mut run = Run::new(trace.start, opened);
     let mut first = 0;
@@ -119,7 +121,7 @@ fn go_on<M: Medium, C: Chip, D: Chip>(
     ensures ringed { length (actions_in (between from to items.now)) ≡ to - from → RingsItem result item (actions_in (between from to items.now)) run.old run.new outcome.old outcome.new (devices (M.state unit.old) (C.state card_a.old) (D.state card_b.old)) (devices (M.state unit.new) (C.state card_a.new) (D.state card_b.new)) }
     ensures cards { length (actions_in (between from to items.now)) ≡ to - from → CardsItem result item (actions_in (between from to items.now)) run.old run.new outcome.old outcome.new (devices (M.state unit.old) (C.state card_a.old) (D.state card_b.old)) (devices (M.state unit.new) (C.state card_a.new) (D.state card_b.new)) }
     ensures time { HaveTime (devices (M.state unit.new) (C.state card_a.new) (D.state card_b.new)) → HaveTime (devices (M.state unit.old) (C.state card_a.old) (D.state card_b.old)) }
-    ensures later { AreLater (devices (M.state unit.old) (C.state card_a.old) (D.state card_b.old)) (devices (M.state unit.new) (C.state card_a.new) (D.state card_b.new)) }
+    ensures later { AreAfter (devices (M.state unit.old) (C.state card_a.old) (D.state card_b.old)) (devices (M.state unit.new) (C.state card_a.new) (D.state card_b.new)) }
     ensures calm { AreCalm outcome.old.breaks.items outcome.new.breaks.items (devices (M.state unit.old) (C.state card_a.old) (D.state card_b.old)) (devices (M.state unit.new) (C.state card_a.new) (D.state card_b.new)) }
     ensures gone { HasGone result (item_seconds item) run.old run.new outcome.new (M.state unit.new) (C.card card_a.new) (D.card card_b.new) (C.state card_a.new) (D.state card_b.new) }
     ensures idle { OnOk result (has_seconds item ≡ false → (run.new ≡ run.old) × (outcome.new ≡ outcome.old)) }

@@ -38,6 +38,10 @@ pub mod Torn
 pub mod Turned
 pub mod Room
 pub mod TurnBooked
+pub mod BlockNoted
+pub mod Speeds
+pub mod SpeedLogs
+pub mod SpeedsTurn
 pub mod TurnNoted
 pub mod Apart
 pub mod NoneComes

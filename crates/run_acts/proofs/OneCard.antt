@@ -22,6 +22,7 @@ use Rattle.run_acts.proofs.CardNotes.{both-cards, on-none}
 use Rattle.run_minutes.proofs.Calm.{calm-of-a, calm-of-b, card-by}
 use Rattle.run_promise.specs.Between.{devices}
 use Rattle.run_crew.specs.Cards.{known_of, session_of}
+use Rattle.run_speeds.specs.Speeds.{LeavesSpeeds}
 use Rattle.run_minutes.proofs.Later.{later-of-a, later-of-b}
 use Rattle.run_acts.proofs.RingedSecond.{left-after}
 use Rattle.run_acts.proofs.Cabins.{noted-a, noted-b, noted_cabin, at-same, cabin-going, cabin-held, keeper-only, noted-falls, noted-is, noted-minute, noted-past, noted-sessions, ready-same}
@@ -114,9 +115,9 @@ pub card-is : (card : Card) (U X Z : State) → X ≡ card_of (arranged card U X
 card-is A U X Z = refl
 card-is B U X Z = refl
 
-pub later-by : (card : Card) (U V X Y Z : State) → IsLater U V → IsLater X Y → AreLater (arranged card U X Z) (arranged card V Y Z)
-later-by A U V X Y Z unit mine = later-of-a U V X Y Z unit mine
-later-by B U V X Y Z unit mine = later-of-b U V Z X Y unit mine
+pub later-by : (card : Card) (U V X Y Z : State) → IsLater U V → IsLater X Y → LeavesSpeeds U V → AreLater (arranged card U X Z) (arranged card V Y Z)
+later-by A U V X Y Z unit mine speeds = later-of-a U V X Y Z unit mine speeds
+later-by B U V X Y Z unit mine speeds = later-of-b U V Z X Y unit mine speeds
 
 pub calm-by : (card : Card) {before after : List Break} (U V X Y Z : State) → IsCalm before after X Y → AreCalm before after (arranged card U X Z) (arranged card V Y Z)
 calm-by A U V X Y Z mine = calm-of-a U V X Y Z mine

@@ -25,6 +25,7 @@ use Rattle.run_crew.specs.Cabin.{Stands, KnowsEnded}
 use Rattle.run_crew.proofs.Moves.{cut-stands, end-stands}
 use Rattle.run_events.specs.Watching.{Watches}
 use Rattle.run_events.specs.Watching as watching
+use Rattle.speed_store.specs.Feeding as minute_speeds
 use Rattle.run_events.specs.declared.watch.Watch.{Watch}
 use Rattle.unit_minutes.specs.declared.notes.Notes.{Notes}
 use Rattle.run_minutes.specs.declared.keeper.Keeper.{Keeper}
@@ -230,13 +231,16 @@ module _ {U A0 B0 : State} {chip_a chip_b : CardState} (run : Run) where
 
 -- ---- a span begins
 
-fresh-watches : (w : Watch) (next : ℕ) → watching.StandsFor w [] → Watches w next
-fresh-watches w next stands = record {
-  seconds = [];
-  stands = stands;
-  bare_next = λ some. absurd (let none = ap (λ (b : Bare). b.seconds) stands.bare.run in omega (arith, some, none));
-  over_next = λ some. absurd (let none = ap (λ (f : Fast). f.seconds) stands.over.run in omega (arith, some, none));
-  late = tt;
+fresh-watches : (w : Watch) (next : ℕ) → watching.StandsFor w [] → minute_speeds.StandsFor w.speeds [] next → Watches w next
+fresh-watches w next stands speeds = record {
+  events = record {
+    seconds = [];
+    stands = stands;
+    bare_next = λ some. absurd (let none = ap (λ (b : Bare). b.seconds) stands.bare.run in omega (arith, some, none));
+    over_next = λ some. absurd (let none = ap (λ (f : Fast). f.seconds) stands.over.run in omega (arith, some, none));
+    late = tt;
+  };
+  speeds = ([], speeds);
 }
 
 ready-bare : (known : Known) (chip : CardState) (card : State) → known.accepted ≡ None → CardAt known chip card → IsKnown known → CardReady known chip card
@@ -270,7 +274,7 @@ module _ {U V A0 B0 : State} {chip_a chip_b : CardState} (rule : Rule) (old new 
             (none-later (HaveRows old.keeper.cabin.cards V) 0 old.keeper.cabin.slots.minute m old.keeper.cabin.cards old.keeper.cabin.slots.past
             (let le = h.held.minute in omega (arith, le, from, is)) (d.stands 0).past);
         entries = λ card. subst (λ (o : Option Accepted). IfSome o (λ (s : Accepted). (s.entry < insertion_ring.count) × (s.noted ≤ new.noted))) (sym (ap (λ (c : Cabin). session_of c.cards card) cabin ∙ bare card)) tt;
-        watches = fresh-watches new.watch new.next begun.watch;
+        watches = fresh-watches new.watch new.next begun.watch (begun.speeds new.next);
         limit = begun.limit.1 ∙ sym begun.limit.0;
       }
 

@@ -17,6 +17,7 @@ pub mod Noting
 pub mod Settling
 pub mod Devices
 pub mod Faults
+pub mod Speeds
 pub mod Named
 pub mod Evented
 pub mod ActsEvented

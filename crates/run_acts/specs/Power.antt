@@ -7,6 +7,7 @@ use Rattle.log_model.specs.declared.lines.Break.{Break}
 use Rattle.run_crew.specs.declared.cabin.Cabin.{Cabin}
 use Rattle.run_crew.specs.Cabin.{with_power_lost, with_minute_ended}
 use Rattle.run_events.specs.Watching as watching
+use Rattle.speed_store.specs.Feeding as minute_speeds
 use Rattle.run_outcome.specs.Lines.{cut_at}
 use Rattle.unit_minutes.specs.declared.notes.Notes.{Notes}
 use Rattle.run_acts.specs.declared.run.Run.{Run}
@@ -68,4 +69,5 @@ pub record IsSpanBegun (rule : Rule) (old new : Run) (journal : Notes) : Type 0 
   pub keeper : new.keeper ≡ record old.keeper { journal = journal; odometer = journal.odometer }
   pub minutes : StandsFor new.minutes (begin rule old.next)
   pub watch : watching.StandsFor new.watch []
+  pub speeds : (next : ℕ) → minute_speeds.StandsFor new.watch.speeds [] next
   pub limit : (new.watch.over.limit ≡ old.keeper.memory.limit) × (new.watch.limit ≡ old.keeper.memory.limit)

@@ -10,6 +10,7 @@ ghost use Rattle.unit_model.specs.Image.{IsUnit};
 ghost use Rattle.card_slots.specs.Calls.{seat_in, card_in};
 ghost use Rattle.log_model.specs.Log.{In};
 ghost use Rattle.unit_notes.specs.Journal.{LeavesJournal};
+ghost use Rattle.run_speeds.specs.Speeds.{LeavesSpeeds};
 ghost use Rattle.run_minutes.specs.Later.{AreLater, AreCalm};
 ghost use Rattle.run_promise.specs.Between.{devices};
 ghost use Rattle.run_acts.specs.NotedEvents.{NotesEvents};
@@ -160,6 +161,7 @@ fn note_on<M: Medium, C: Chip>(
     ensures places { LeavesPlaces (session_of run.old.keeper.cabin.cards which) (C.state card.old) (C.state card.new) }
     ensures events { NotesFall (λ fell. IsNotedOn which slot (now_moment run.old) run.old run.new breaks.old breaks.new fell) run.old.next (is_err result) run.new (devices (M.state unit.old) (C.state card.old) (C.state card.old)) (devices (M.state unit.new) (C.state card.new) (C.state card.new)) }
     ensures rings { LeavesRings (M.state unit.old) (M.state unit.new) }
+    ensures speeds { LeavesSpeeds (M.state unit.old) (M.state unit.new) }
     ensures journal { LeavesOnly (M.state unit.old) (M.state unit.new) LeavesJournal }
     ensures moments { IfSome (session_of run.old.keeper.cabin.cards which) (λ a. LeavesOnly (C.state card.old) (C.state card.new) (IsNote a.session.application)) }
     ensures value { IfSome (session_of run.old.keeper.cabin.cards which) (λ a. IsValue a.session) }

@@ -10,6 +10,7 @@ ghost use Rattle.unit_notes.specs.Journal.{LeavesJournal};
 ghost use Rattle.card_slots.specs.Calls.{seat_in, card_in};
 ghost use Rattle.run_crew.specs.Cards.{known_of, session_of};
 ghost use Rattle.run_crew.specs.Cabin.{Stands, number_of_seat};
+ghost use Rattle.run_speeds.specs.Speeds.{LeavesSpeeds};
 ghost use Rattle.run_minutes.specs.Keeping.{UnitReady, CardReady, HasItsRow};
 ghost use Rattle.run_minutes.specs.Minutes.{odometer_by};
 ghost use Rattle.run_minutes.specs.Later.{AreLater, AreCalm};
@@ -146,6 +147,7 @@ fn note_place_in<M: Medium, C: Chip>(
     ensures places { MayTakePlace (session_of run.old.keeper.cabin.cards which) entry.now (C.state card.old) (C.state card.new) }
     ensures events { NotesFall (λ fell. IsNotedOn which slot at run.old run.new breaks.old breaks.new fell) at.second (is_err result) run.new (devices (M.state unit.old) (C.state card.old) (C.state card.old)) (devices (M.state unit.new) (C.state card.new) (C.state card.new)) }
     ensures rings { LeavesRings (M.state unit.old) (M.state unit.new) }
+    ensures speeds { LeavesSpeeds (M.state unit.old) (M.state unit.new) }
     ensures journal { LeavesOnly (M.state unit.old) (M.state unit.new) LeavesJournal }
     ensures moments { IfSome (session_of run.old.keeper.cabin.cards which) (λ a. LeavesOnly (C.state card.old) (C.state card.new) (IsNote a.session.application)) }
     ensures value { IfSome (session_of run.old.keeper.cabin.cards which) (λ a. IsValue a.session) }

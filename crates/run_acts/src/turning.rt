@@ -1,5 +1,5 @@
 //! Seconds of one minute at one speed.
-ghost use Rattle.std.specs.Prelude.{◌≡◌, ◌≢◌, ℕ, ◌+◌, ◌-◌, ◌*◌, ◌/◌, ◌%◌, ◌<◌, ◌≤◌, ◌^◌, true, false, Option, IfSome, All, OnOk, length, is_some, is_err};
+ghost use Rattle.std.specs.Prelude.{◌≡◌, ◌≢◌, ℕ, ◌+◌, ◌-◌, ◌*◌, ◌/◌, ◌%◌, ◌<◌, ◌≤◌, ◌^◌, true, false, not, Option, IfSome, All, OnOk, length, is_some, is_err};
 ghost use Rattle.trace_model.specs.declared.Card.{Card};
 ghost use Rattle.tach_media.specs.Medium.{HasCause, HasBroken};
 ghost use Rattle.unit_model.specs.declared.layout.TheConstants.{HIGHEST_ODOMETER};
@@ -18,11 +18,12 @@ ghost use Rattle.run_acts.specs.Booked.{IsTurnReach, BooksTurn, IsBookedTurn};
 ghost use Rattle.run_acts.specs.Devices.{DevicesGoOn};
 ghost use Rattle.run_acts.specs.Recording.{RecordsTurn};
 ghost use Rattle.run_acts.specs.Faults.{NotesKeeping, NotesTurn};
+ghost use Rattle.run_acts.specs.Speeds.{BringsBlock, SpeedsTurn};
 ghost use Rattle.run_acts.specs.Evented.{EventsTurn, EventsLitTurn};
 ghost use Rattle.run_acts.specs.RunRinged.{RingsTurn};
 ghost use Rattle.run_acts.specs.RunCards.{CardsTurn};
 ghost use Rattle.run_acts.specs.declared.run.Run.{Run};
-ghost use Rattle.run_minutes.specs.Later.{AreLater, AreCalm};
+ghost use Rattle.run_minutes.specs.Later.{AreAfter, AreCalm};
 ghost use Rattle.run_outcome.specs.Broken.{BreaksDown};
 ghost use Rattle.run_promise.specs.Between.{devices};
 
@@ -59,6 +60,8 @@ pub fn turn<M: Medium, C: Chip, D: Chip>(
     ensures ringed { RingsTurn n speed begun run.old run.new outcome.old outcome.new (devices (M.state unit.old) (C.state card_a.old) (D.state card_b.old)) (devices (M.state unit.new) (C.state card_a.new) (D.state card_b.new)) }
     // And each card shows the events that they brought it.
     ensures cards { CardsTurn n speed begun run.old run.new outcome.old outcome.new (devices (M.state unit.old) (C.state card_a.old) (D.state card_b.old)) (devices (M.state unit.new) (C.state card_a.new) (D.state card_b.new)) }
+    // And the unit carries the blocks of detailed speed that they bring.
+    ensures speeds { SpeedsTurn n speed begun run.old run.new outcome.old outcome.new (devices (M.state unit.old) (C.state card_a.old) (D.state card_b.old)) (devices (M.state unit.new) (C.state card_a.new) (D.state card_b.new)) }
     ensures recorded { RecordsTurn n speed begun run.old run.new outcome.old outcome.new (devices (M.state unit.old) (C.state card_a.old) (D.state card_b.old)) (devices (M.state unit.new) (C.state card_a.new) (D.state card_b.new)) }
     ensures clock { (M.state unit.old).clock ≤ (M.state unit.new).clock }
     ensures clock_a { (C.state card_a.old).clock ≤ (C.state card_a.new).clock }
@@ -71,7 +74,7 @@ pub fn turn<M: Medium, C: Chip, D: Chip>(
     ensures breaks { length outcome.old.breaks.items ≤ length outcome.new.breaks.items }
     ensures refused { outcome.new.refused ≡ outcome.old.refused }
     ensures finds { outcome.new.finds ≡ outcome.old.finds }
-    ensures later { AreLater (devices (M.state unit.old) (C.state card_a.old) (D.state card_b.old)) (devices (M.state unit.new) (C.state card_a.new) (D.state card_b.new)) }
+    ensures later { AreAfter (devices (M.state unit.old) (C.state card_a.old) (D.state card_b.old)) (devices (M.state unit.new) (C.state card_a.new) (D.state card_b.new)) }
     ensures calm { AreCalm outcome.old.breaks.items outcome.new.breaks.items (devices (M.state unit.old) (C.state card_a.old) (D.state card_b.old)) (devices (M.state unit.new) (C.state card_a.new) (D.state card_b.new)) }
     ensures broke { BreaksDown outcome.old.breaks.items outcome.new.breaks.items (M.state unit.old) (M.state unit.new) }
 {
@@ -103,6 +106,7 @@ fn lit_turn<M: Medium, C: Chip, D: Chip>(
     ensures turned { IsLitTurn n speed begun run.old run.new outcome.old outcome.new }
     ensures evented { EventsLitTurn n speed begun run.old run.new outcome.old outcome.new (devices (M.state unit.old) (C.state card_a.old) (D.state card_b.old)) (devices (M.state unit.new) (C.state card_a.new) (D.state card_b.new)) }
     ensures noted { NotesTurn n speed begun run.old run.new outcome.old outcome.new (M.state unit.old) (M.state unit.new) }
+    ensures speeds { BringsBlock n speed (not (is_lit run.new.power)) run.old run.new (M.state unit.old) (M.state unit.new) }
     ensures booked { IsBookedTurn n speed begun run.old run.new outcome.old outcome.new (devices (M.state unit.old) (C.state card_a.old) (D.state card_b.old)) (devices (M.state unit.new) (C.state card_a.new) (D.state card_b.new)) }
     ensures clock { (M.state unit.old).clock ≤ (M.state unit.new).clock }
     ensures clock_a { (C.state card_a.old).clock ≤ (C.state card_a.new).clock }
@@ -114,7 +118,7 @@ fn lit_turn<M: Medium, C: Chip, D: Chip>(
     ensures breaks { length outcome.old.breaks.items ≤ length outcome.new.breaks.items }
     ensures refused { outcome.new.refused ≡ outcome.old.refused }
     ensures finds { outcome.new.finds ≡ outcome.old.finds }
-    ensures later { AreLater (devices (M.state unit.old) (C.state card_a.old) (D.state card_b.old)) (devices (M.state unit.new) (C.state card_a.new) (D.state card_b.new)) }
+    ensures later { AreAfter (devices (M.state unit.old) (C.state card_a.old) (D.state card_b.old)) (devices (M.state unit.new) (C.state card_a.new) (D.state card_b.new)) }
     ensures calm { AreCalm outcome.old.breaks.items outcome.new.breaks.items (devices (M.state unit.old) (C.state card_a.old) (D.state card_b.old)) (devices (M.state unit.new) (C.state card_a.new) (D.state card_b.new)) }
     ensures broke { BreaksDown outcome.old.breaks.items outcome.new.breaks.items (M.state unit.old) (M.state unit.new) }
 {
@@ -164,11 +168,13 @@ fn keep_turn<M: Medium, C: Chip, D: Chip>(
     requires marks { length outcome.old.marks.items + 3 * length decided.now ≤ outcome.old.marks.room }
     requires breaks { length outcome.old.breaks.items + most_tears run.old.keeper.cabin.cards ≤ outcome.old.breaks.room }
     requires some { 0 < n }
-    requires low { 0 < run.old.next }
+    requires low { 60 ≤ run.old.next }
+    requires within { run.old.next % 60 + n ≤ 60 }
     requires fits { run.old.next + n ≤ 2 ^ 32 }
     requires limit { run.old.watch.limit ≡ run.old.watch.over.limit }
     requires watches { Watches run.old.watch run.old.next }
     ensures kept { IsKeptInTurn decided.now n speed at (is_err result) run.old run.new outcome.old outcome.new }
+    ensures speeds { BringsBlock n speed (is_err result) run.old run.new (M.state unit.old) (M.state unit.new) }
     ensures noted { NotesKeeping decided.now n speed at (is_err result) run.old run.new outcome.old outcome.new (M.state unit.old) (M.state unit.new) }
     ensures booked { (reach : Reach) × IsTurnReach decided.now at (is_err result) (told_of run.old outcome.old) (told_of run.new outcome.new) reach
         × BooksTurn decided.now (is_err result) reach (told_of run.old outcome.old) (told_of run.new outcome.new) (devices (M.state unit.old) (C.state card_a.old) (D.state card_b.old)) (devices (M.state unit.new) (C.state card_a.new) (D.state card_b.new)) }
@@ -194,7 +200,7 @@ fn keep_turn<M: Medium, C: Chip, D: Chip>(
     ensures a_broken { HasBroken (C.state card_a.old) (C.state card_a.new) (tears_of run.old.keeper.cabin.cards.a.accepted - tears_of run.new.keeper.cabin.cards.a.accepted) }
     ensures b_broken { HasBroken (D.state card_b.old) (D.state card_b.new) (tears_of run.old.keeper.cabin.cards.b.accepted - tears_of run.new.keeper.cabin.cards.b.accepted) }
     ensures cause { HasCause (M.state unit.old) (M.state unit.new) (is_err result) }
-    ensures later { AreLater (devices (M.state unit.old) (C.state card_a.old) (D.state card_b.old)) (devices (M.state unit.new) (C.state card_a.new) (D.state card_b.new)) }
+    ensures later { AreAfter (devices (M.state unit.old) (C.state card_a.old) (D.state card_b.old)) (devices (M.state unit.new) (C.state card_a.new) (D.state card_b.new)) }
     ensures calm { AreCalm outcome.old.breaks.items outcome.new.breaks.items (devices (M.state unit.old) (C.state card_a.old) (D.state card_b.old)) (devices (M.state unit.new) (C.state card_a.new) (D.state card_b.new)) }
 {
     let crew = run.keeper.cabin.crew();

@@ -12,6 +12,7 @@ ghost use Rattle.unit_notes.specs.Journal.{LeavesJournal};
 ghost use Rattle.card_slots.specs.Calls.{seat_in, card_in};
 ghost use Rattle.run_crew.specs.Cards.{known_of, session_of};
 ghost use Rattle.run_crew.specs.Cabin.{Stands};
+ghost use Rattle.run_speeds.specs.Speeds.{LeavesSpeeds};
 ghost use Rattle.run_minutes.specs.Keeping.{UnitReady, CardReady, HasItsRow, tears_of, with_lines};
 ghost use Rattle.run_acts.specs.declared.run.Power.TheVariants.{Lit};
 ghost use Rattle.run_acts.specs.Going.{first_second, end_of_seconds, IsHeld, IsLit};
@@ -133,6 +134,7 @@ fn close<M: Medium, C: Chip>(
         × (closing ≡ Closed → ClosesOnCard slot run.old.minutes (session_of run.old.keeper.cabin.cards which) (C.state card.old) (C.state card.new)) }
     ensures events { NotesClosing which slot at (is_err result) run.old run.new breaks.old breaks.new (devices (M.state unit.old) (C.state card.old) (C.state card.old)) (devices (M.state unit.new) (C.state card.new) (C.state card.new)) }
     ensures journal { LeavesOnly (M.state unit.old) (M.state unit.new) LeavesJournal }
+    ensures speeds { LeavesSpeeds (M.state unit.old) (M.state unit.new) }
     ensures rings { is_some (M.state unit.old).image ≡ true → ClosesSo which slot at (is_err result) run.old run.new breaks.old breaks.new (M.state unit.old) (M.state unit.new) }
     ensures left { IfSome (session_of run.old.keeper.cabin.cards which) (λ s. (act : Activity) × LeavesOnly (C.state card.old) (C.state card.new) (λ x c. IsSession s.session x → IsCardClosing s.session act x c)) }
     ensures shut { ShutsSo which slot at run.old run.new breaks.old breaks.new (C.state card.old) (C.state card.new) }
@@ -178,6 +180,7 @@ fn note_withdrawal<M: Medium>(
     ensures quiet { SaysNoMore (M.state unit.old) (M.state unit.new) }
     ensures rings { is_some (M.state unit.old).image ≡ true → WritesWithdrawal (record { index = entry; behind = run.now.noted - noted }) at.second (is_err result) run.now (M.state unit.old) (M.state unit.new) }
     ensures journal { LeavesOnly (M.state unit.old) (M.state unit.new) LeavesJournal }
+    ensures speeds { LeavesSpeeds (M.state unit.old) (M.state unit.new) }
     ensures cause { HasCause (M.state unit.old) (M.state unit.new) (is_err result) }
 {
     if run.noted - noted >= INSERTIONS {

@@ -3,3 +3,4 @@
 mod events;
 mod rows;
 mod running;
+mod speeds;

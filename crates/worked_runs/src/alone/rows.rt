@@ -258,7 +258,8 @@ fn a_unit_that_fails_in_the_opening_is_told(rt: HostRuntime) -> Result<(), Fail>
 fn a_minute_takes_three_writes(rt: HostRuntime) -> Result<(), Fail> {
     let alloc = rt.alloc();
     let writes = count_run(alloc, DRIVE, Vec::new(alloc))?.writes;
-    // three a minute, two more where the day begins, and two for the words of the second minute
-    assert_eq!(rt; writes, 58 * 3 + 2 + 2);
+    // three a minute, two more where the day begins, and two for the words of the second minute; and of the 59 blocks of detailed speed
+    // two for the first and three for each other one
+    assert_eq!(rt; writes, 58 * 3 + 2 + 2 + 2 + 58 * 3);
     Ok(())
 }

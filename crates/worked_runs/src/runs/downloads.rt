@@ -62,7 +62,7 @@ struct Loaded {
 
 fn load(alloc: Global, image: Vec<u8>) -> Result<Loaded, Fail> {
     let mut unit = unit_with(alloc, image, NO_ROOM, Vec::new(alloc))?;
-    let mut sink = MemSink::new(Vec::with_capacity(alloc, 4096)?, Vec::new(alloc));
+    let mut sink = MemSink::new(Vec::with_capacity(alloc, 32768)?, Vec::new(alloc));
     let mut wire = Wire::new(alloc);
     if download(alloc, &mut sink, &mut unit, &mut wire).is_err() {
         return Err(Fail::from("a download that is refused"));
@@ -79,7 +79,7 @@ fn load(alloc: Global, image: Vec<u8>) -> Result<Loaded, Fail> {
 fn served(alloc: Global, image: Vec<u8>, heard: Vec<u8>, told: &[u8]) -> Result<Option<u64>, Fail> {
     let mut unit = unit_with(alloc, image, NO_ROOM, Vec::new(alloc))?;
     let mut source = MemSource::new(heard, Vec::new(alloc));
-    let mut answers = MemSink::new(Vec::with_capacity(alloc, 8192)?, Vec::new(alloc));
+    let mut answers = MemSink::new(Vec::with_capacity(alloc, 32768)?, Vec::new(alloc));
     if serve(&mut source, &mut answers, &mut unit).is_err() {
         return Err(Fail::from("a service that is refused"));
     }
@@ -111,14 +111,14 @@ fn asks_by_its_frames_alone(
     Ok(())
 }
 
-// an overview, a day of four words with one insertion, no event, and technical data
+// an overview, a day of four words with one insertion, no event, detailed speed of 59 minutes, and technical data
 #[test]
 fn an_hour_with_a_driver_is_downloaded(rt: HostRuntime) -> Result<(), Fail> {
-    asks_by_its_frames_alone(&rt, DRIVE, 623 + 281 + 143 + 267)
+    asks_by_its_frames_alone(&rt, DRIVE, 623 + 281 + 143 + (132 + 59 * 64) + 267)
 }
 
-// four insertions, and the words of two slots
+// four insertions, the words of two slots, and detailed speed of 270 and of 119 minutes
 #[test]
 fn a_day_with_two_drivers_is_downloaded(rt: HostRuntime) -> Result<(), Fail> {
-    asks_by_its_frames_alone(&rt, DAY, 623 + 684 + 143 + 267)
+    asks_by_its_frames_alone(&rt, DAY, 623 + 684 + 143 + (132 + 389 * 64) + 267)
 }

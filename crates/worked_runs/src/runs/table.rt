@@ -357,13 +357,10 @@ fn many_stops_in_a_run(rt: HostRuntime) -> Result<(), Fail> {
     Ok(())
 }
 
-/// Each call of six minutes by this rule.
-fn stop_minutes(rt: &(impl Abort + AllocGlobal), rule: Rule) -> Result<(), Fail> {
+/// Each call of six minutes.
+fn stop_minutes(rt: &(impl Abort + AllocGlobal), rule: Rule, left: Left) -> Result<(), Fail> {
     let traces = MINUTES_OF_TWO;
-    for left in [Left::Before, Left::After, Left::Torn(0xFF)] {
-        stop_each(rt, Manner { traces, rule, left })?;
-    }
-    Ok(())
+    stop_each(rt, Manner { traces, rule, left })
 }
 
 /// Each call of an hour.
@@ -373,13 +370,33 @@ fn stop_hour(rt: &(impl Abort + AllocGlobal), rule: Rule, left: Left) -> Result<
 }
 
 #[test]
-fn minutes_of_two_drivers(rt: HostRuntime) -> Result<(), Fail> {
-    stop_minutes(&rt, Rule::Original)
+fn six_minutes_before_a_write(rt: HostRuntime) -> Result<(), Fail> {
+    stop_minutes(&rt, Rule::Original, Left::Before)
 }
 
 #[test]
-fn minutes_of_two_drivers_by_the_amended_rule(rt: HostRuntime) -> Result<(), Fail> {
-    stop_minutes(&rt, Rule::Amended)
+fn six_minutes_after_a_write(rt: HostRuntime) -> Result<(), Fail> {
+    stop_minutes(&rt, Rule::Original, Left::After)
+}
+
+#[test]
+fn six_minutes_within_a_write(rt: HostRuntime) -> Result<(), Fail> {
+    stop_minutes(&rt, Rule::Original, Left::Torn(0xFF))
+}
+
+#[test]
+fn six_minutes_before_a_write_by_the_amended_rule(rt: HostRuntime) -> Result<(), Fail> {
+    stop_minutes(&rt, Rule::Amended, Left::Before)
+}
+
+#[test]
+fn six_minutes_after_a_write_by_the_amended_rule(rt: HostRuntime) -> Result<(), Fail> {
+    stop_minutes(&rt, Rule::Amended, Left::After)
+}
+
+#[test]
+fn six_minutes_within_a_write_by_the_amended_rule(rt: HostRuntime) -> Result<(), Fail> {
+    stop_minutes(&rt, Rule::Amended, Left::Torn(0xFF))
 }
 
 #[test]

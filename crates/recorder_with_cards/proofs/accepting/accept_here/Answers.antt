@@ -30,6 +30,8 @@ use Rattle.run_minutes.specs.declared.keeper.Moment.{Moment}
 use Rattle.recorder_with_cards.proofs.Judged.{mine-time, found-by, judged-by, judged-notes, judged-noting}
 use Rattle.recorder_with_cards.proofs.EnteredEvented.{judged-evented}
 use Rattle.recorder_with_cards.proofs.NoSession.{seat-answers}
+use Rattle.run_insertion.specs.Noted.{notes_by}
+use Rattle.recorder_with_cards.proofs.EnteredSpeeds.{entered-leaves}
 use Rattle.recorder_with_cards.proofs.EnteredRings.{accept-writes}
 use Rattle.recorder_with_cards.proofs.EnteredRinged.{judged-ringed}
 use Rattle.run_acts.proofs.EnteredFacts.{known, unit-told, mine-back}
@@ -326,6 +328,12 @@ returns-clause-ringed g c = λ room o done s n waits fewer at next spans odomete
 
 pub returns-clause-later : goal.returns-clause-later
 returns-clause-later g c = c.accept-answer.ensures.later
+
+pub returns-clause-speeds : goal.returns-clause-speeds
+returns-clause-speeds g c =
+    let w = c.accept-answer.ensures.entered in
+    entered-leaves (notes_by (ending_of w.0) c.args.entering c.args.run.now.noted (measured w.0 c.args.entering c.args.run.now.keeper).cabin) (is_err c.accept-answer.result) (g.M.Medium.state c.args.unit.now) (g.M.Medium.state c.accept-answer.new.unit)
+    (g.met.M.Medium.coherent c.args.unit.now) w.1.notes
 
 -- ---- its events on the card
 

@@ -59,10 +59,10 @@ returns-in-B-clause-ringed g c = λ room.
 -- ---- what holds of the devices after any calls
 
 pub returns-in-A-clause-later : goal.returns-in-A-clause-later
-returns-in-A-clause-later g c = later-of-a (g.M.Medium.state c.args.unit.now) (g.M.Medium.state c.accept_here.new.unit) (g.C.Chip.state c.args.card_a.now) (g.C.Chip.state c.accept_here.new.card) (g.D.Chip.state c.args.card_b.now) (state-by (g.M.Medium.state c.args.unit.now) (g.M.Medium.state c.accept_here.new.unit) _ c.accept_here.ensures.clock c.accept_here.ensures.cause) c.accept_here.ensures.later
+returns-in-A-clause-later g c = later-of-a (g.M.Medium.state c.args.unit.now) (g.M.Medium.state c.accept_here.new.unit) (g.C.Chip.state c.args.card_a.now) (g.C.Chip.state c.accept_here.new.card) (g.D.Chip.state c.args.card_b.now) (state-by (g.M.Medium.state c.args.unit.now) (g.M.Medium.state c.accept_here.new.unit) _ c.accept_here.ensures.clock c.accept_here.ensures.cause) c.accept_here.ensures.later c.accept_here.ensures.speeds
 
 pub returns-in-B-clause-later : goal.returns-in-B-clause-later
-returns-in-B-clause-later g c = later-of-b (g.M.Medium.state c.args.unit.now) (g.M.Medium.state c.accept_here-in-B.new.unit) (g.C.Chip.state c.args.card_a.now) (g.D.Chip.state c.args.card_b.now) (g.D.Chip.state c.accept_here-in-B.new.card) (state-by (g.M.Medium.state c.args.unit.now) (g.M.Medium.state c.accept_here-in-B.new.unit) _ c.accept_here-in-B.ensures.clock c.accept_here-in-B.ensures.cause) c.accept_here-in-B.ensures.later
+returns-in-B-clause-later g c = later-of-b (g.M.Medium.state c.args.unit.now) (g.M.Medium.state c.accept_here-in-B.new.unit) (g.C.Chip.state c.args.card_a.now) (g.D.Chip.state c.args.card_b.now) (g.D.Chip.state c.accept_here-in-B.new.card) (state-by (g.M.Medium.state c.args.unit.now) (g.M.Medium.state c.accept_here-in-B.new.unit) _ c.accept_here-in-B.ensures.clock c.accept_here-in-B.ensures.cause) c.accept_here-in-B.ensures.later c.accept_here-in-B.ensures.speeds
 
 -- ---- its events on the card
 

@@ -23,7 +23,7 @@ use Rattle.run_acts.proofs.Standing.{cut-at}
 use Rattle.run_acts.proofs.Torn.{cut-falls}
 use Rattle.recorder_with_cards.specs.Acting.{put_count, moment_of, IsDone, IsActedBy, CallsNone}
 use Rattle.recorder_with_cards.proofs.ActsRecorded.{cut, left, refused}
-use Rattle.recorder_with_cards.proofs.Allowed.{fine-selected}
+use Rattle.recorder_with_cards.proofs.Allowed.{fine-selected, refused-selected}
 use Rattle.recorder_with_cards.proofs.Rooms.{few-wait, room-cut}
 use Rattle.run_note_record.specs.Noting.{Acting}
 use Rattle.run_acts.specs.Evented.{EventsGoOn, WithinEvented}
@@ -163,6 +163,9 @@ module _ (g : Over) (c : After-carry_out g) where
           })
 
 -- ---- the unit failed: power is lost
+
+pub returns-in-Err-clause-selected : goal.returns-in-Err-clause-selected
+returns-in-Err-clause-selected g c = refused-selected (logged c.args.run.now.keeper.cabin.slots.seats) c.args.speed c.args.action _ c.args.run.now (sym c.in-Err.ensures)
 
 pub returns-then-is_err-clause-selected : goal.returns-then-is_err-clause-selected
 returns-then-is_err-clause-selected g c = fine-selected c.args.action (is_err c.carry_out.result) c.args.run.now c.cut.new.self (let failed : is_err c.carry_out.result ≡ true = sym c.is_err.ensures.value ∙ c.if-is_err.true in failed) c.carry_out.ensures.fine

@@ -22,10 +22,13 @@ use Rattle.recorder_with_cards.proofs.Rooms.{room-less}
 use Rattle.recorder_with_cards.proofs.Dark.{away-dark}
 use Rattle.run_acts.specs.RunRinged.{RunRinged, InSecondRinged}
 use Rattle.recorder_with_cards.proofs.SecondsRinged.{dark-ringed}
-use Rattle.run_minutes.proofs.Later.{later-then}
+use Rattle.run_minutes.proofs.Later.{after-of, after-then}
 use Rattle.run_outcome.proofs.Broken.{broke-then}
 use Rattle.recorder_with_cards.specs.Carded.{RunCarded, InSecondCarded}
 use Rattle.recorder_with_cards.proofs.SecondsCards.{turned-carded, dark-carded}
+use Rattle.run_speeds.specs.Speeds.{LeavesSpeeds}
+use Rattle.run_speeds.proofs.Leaving.{leaves-then}
+use Rattle.recorder_with_cards.proofs.SpeedsSoFar.{CameSo, came-begun, came-acted, in-second, carded-in}
 use Rattle.run_minutes.proofs.Calm.{calm-then}
 use Rattle.run_minutes.specs.Books.{HaveTime}
 use Rattle.std.specs.Prelude.{Ok}
@@ -83,6 +86,24 @@ module _ (g : Over) (c : After-drive_on g) where
 
   time-one : HaveTime dev4 → HaveTime dev1
   time-one time = c.act_all.ensures.time (time-two time)
+
+  leaves : LeavesSpeeds (g.M.Medium.state c.args.unit.now) (g.M.Medium.state c.act_all.new.unit)
+  leaves = leaves-then (g.M.Medium.state c.args.unit.now) (g.M.Medium.state c.begin_second.new.unit) (g.M.Medium.state c.act_all.new.unit) c.in_ok-has_power.ensures.later.speeds c.act_all.ensures.later.speeds
+
+  -- there was power: so far the second has come, behind its actions
+  module _ (given : c.in_ok-has_power.has_power ≡ true) where
+    has-given : has_power c.args.run.now.power c.args.run.now.next ≡ true
+    has-given = sym c.in_ok-has_power.ensures.power ∙ given
+
+    begins : CameSo c.args.run.now.next c.args.run.now c.begin_second.new.run c.args.outcome.now c.begin_second.new.outcome
+    begins =
+        came-begun c.args.speed c.args.run.now.next c.args.run.now c.begin_second.new.run c.args.outcome.now c.begin_second.new.outcome dev0 dev1 refl
+        (λ on. let is = c.in_ok-has_power.ensures.lit on in (is.1, is.2)) (λ dark. c.in_ok-has_power.ensures.noted dark has-given)
+
+    came : CameSo c.args.run.now.next c.args.run.now c.act_all.new.run c.args.outcome.now c.act_all.new.outcome
+    came =
+        came-acted c.args.run.now.next c.args.speed 0 (between c.args.from c.args.to c.args.items.now) c.args.run.now c.begin_second.new.run c.act_all.new.run c.args.outcome.now c.begin_second.new.outcome c.act_all.new.outcome refl begins
+        (subst (λ (b : Bool). AreActed b c.args.speed 0 (between c.args.from c.args.to c.args.items.now) c.begin_second.new.run c.act_all.new.run c.begin_second.new.outcome c.act_all.new.outcome) given c.act_all.ensures.acted)
 
   -- there was no power: nothing was called
   module _ (away : c.in_ok-has_power.has_power ≡ false) where
@@ -226,10 +247,12 @@ pub returns-in_err-has_power-clause-time : goal.returns-in_err-has_power-clause-
 returns-in_err-has_power-clause-time g c = time-before (devices (g.M.Medium.state c.args.unit.now) (g.C.Chip.state c.args.card_a.now) (g.D.Chip.state c.args.card_b.now)) (devices (g.M.Medium.state c.begin_second.new.unit) (g.C.Chip.state c.begin_second.new.card_a) (g.D.Chip.state c.begin_second.new.card_b)) c.in_err-has_power.ensures.clock c.in_err-has_power.ensures.clock_a c.in_err-has_power.ensures.clock_b
 
 pub returns-clause-later : goal.returns-clause-later
-returns-clause-later g c = later-then (dev0 g c) (dev1 g c) (dev4 g c) c.in_ok-has_power.ensures.later (later-then (dev1 g c) (dev2 g c) (dev4 g c) c.act_all.ensures.later (later-then (dev2 g c) (dev3 g c) (dev4 g c) c.turn.ensures.later c.drive_on.ensures.later))
+returns-clause-later g c = after-then (dev0 g c) (dev1 g c) (dev4 g c) (after-of (dev0 g c) (dev1 g c) c.in_ok-has_power.ensures.later) (after-then (dev1 g c) (dev2 g c) (dev4 g c) (after-of (dev1 g c) (dev2 g c) c.act_all.ensures.later) (after-then (dev2 g c) (dev3 g c) (dev4 g c) c.turn.ensures.later c.drive_on.ensures.later))
 
 pub returns-in_err-has_power-clause-later : goal.returns-in_err-has_power-clause-later
-returns-in_err-has_power-clause-later g c = c.in_err-has_power.ensures.later
+returns-in_err-has_power-clause-later g c =
+    after-of (devices (g.M.Medium.state c.args.unit.now) (g.C.Chip.state c.args.card_a.now) (g.D.Chip.state c.args.card_b.now)) (devices (g.M.Medium.state c.begin_second.new.unit) (g.C.Chip.state c.begin_second.new.card_a) (g.D.Chip.state c.begin_second.new.card_b))
+    c.in_err-has_power.ensures.later
 
 -- ---- what is recorded, with its events and rings
 
@@ -269,7 +292,10 @@ returns-clause-cards g c = λ many few o done r time.
     turned-carded o done s 1 c.args.speed c.number_of-begun.result c.act_all.new.run c.turn.new.run c.act_all.new.outcome c.turn.new.outcome (dev2 g c) (dev3 g c) (many ∙ sym number) positive
     (subst (λ (n : ℕ). InSecondCarded o done s n c.act_all.new.run c.act_all.new.outcome (dev2 g c)) (sym number) acted) c.turn.ensures.turned
     (λ x. c.turn.ensures.ringed o done s (now-acted g c) (many ∙ sym number) (λ more. absurd (omega (arith, more))) x (time-three g c time))
-    (λ x. c.turn.ensures.cards o done s (now-acted g c) (many ∙ sym number) (λ more. absurd (omega (arith, more))) x (time-three g c time)))
+    (λ x. c.turn.ensures.cards o done s (now-acted g c) (many ∙ sym number) (λ more. absurd (omega (arith, more))) x (time-three g c time))
+    (c.turn.ensures.speeds o done s (now-acted g c) (many ∙ sym number) (λ more. absurd (omega (arith, more)))
+    (in-second o done s c.args.run.now c.act_all.new.run c.args.outcome.now c.act_all.new.outcome (dev0 g c) (dev2 g c) r.ringed.evented.recorded r.speeds refl refl (has-given g c lit) (came g c lit) (leaves g c) c.number_of-begun.result
+    (carded-in (is_lit c.act_all.new.run.power) o done s c.number_of-begun.result c.act_all.new.run c.act_all.new.outcome (dev2 g c) (subst (λ (n : ℕ). InSecondCarded o done s n c.act_all.new.run c.act_all.new.outcome (dev2 g c)) (sym number) acted))) (time-three g c time)))
     (λ away. dark-carded o done c.args.run.now c.args.outcome.now (dev0 g c) r c.requires.going.low 1 c.args.speed c.number_of-begun.result (acts g c) (omega arith) (none-given g c away) (omega arith) c.turn.new.run c.turn.new.outcome (passed-on g c away many few) (refused-all g c away many few)) in
     run-then RunCarded c.drive_on.result o done c.args.seconds c.args.run.now.next c.turn.new.run.next c.args.speed (acts g c) c.drive_on.new.run c.drive_on.new.outcome (dev4 g c) c.requires.some (later-by-one g c)
     (c.drive_on.ensures.cards o (done ++ driven 1 c.args.run.now.next c.args.speed (acts g c)) (done, s, refl, refl) behind time)

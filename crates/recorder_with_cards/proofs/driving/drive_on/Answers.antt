@@ -11,7 +11,7 @@ use Rattle.run_acts.specs.Evented.{LastAt}
 use Rattle.run_acts.specs.RunRinged.{RunRinged}
 use Rattle.recorder_with_cards.specs.Carded.{RunCarded}
 use Rattle.recorder_with_cards.proofs.SecondsEvented.{last-more}
-use Rattle.run_minutes.proofs.Later.{later-same, later-then}
+use Rattle.run_minutes.proofs.Later.{after-same, after-then}
 use Rattle.run_outcome.proofs.Broken.{broke-none, broke-then}
 use Rattle.run_minutes.proofs.Calm.{calm-then, calm-same}
 use Rattle.recorder_with_cards.proofs.driving.drive_on.Goals as goal
@@ -32,7 +32,7 @@ loop-left-init g c = record {
       subst (λ (n : ℕ). LastAt (done ++ driven n c.args.run.now.next c.args.speed []) c.args.speed × RunCarded o (done ++ driven n c.args.run.now.next c.args.speed []) c.args.run.now c.args.outcome.now d) (let e : 0 ≡ c.args.seconds - c.args.seconds = omega arith in e)
       (subst (λ (ss : List TraceSecond). LastAt ss c.args.speed × RunCarded o ss c.args.run.now c.args.outcome.now d) (sym (append-nil done)) (last, r));
   time = λ h. h;
-  later = later-same (devices (g.M.Medium.state c.args.unit.now) (g.C.Chip.state c.args.card_a.now) (g.D.Chip.state c.args.card_b.now));
+  later = after-same (devices (g.M.Medium.state c.args.unit.now) (g.C.Chip.state c.args.card_a.now) (g.D.Chip.state c.args.card_b.now));
   calm = calm-same (devices (g.M.Medium.state c.args.unit.now) (g.C.Chip.state c.args.card_a.now) (g.D.Chip.state c.args.card_b.now));
   broke = broke-none c.args.outcome.now.breaks.items {old = (g.M.Medium.state c.args.unit.now)} {new = (g.M.Medium.state c.args.unit.now)} (omega arith);
   unfound = c.requires.unfound;
@@ -85,7 +85,7 @@ loop-left-preserved g c =
           ∙ ap (λ (m : ℕ). driven m c.args.run.now.next c.args.speed []) (let e : so + n ≡ c.args.seconds - (left - n) = omega (arith, few, most) in e)))
           (last-more n c.loop-left.run.next c.args.speed (done ++ driven so c.args.run.now.next c.args.speed []) was.0, c.in_ok-step.ensures.cards o (done ++ driven so c.args.run.now.next c.args.speed []) was.0 was.1 time);
       time = λ h. v.time (c.in_ok-step.ensures.time h);
-      later = later-then (devices (g.M.Medium.state c.args.unit.now) (g.C.Chip.state c.args.card_a.now) (g.D.Chip.state c.args.card_b.now)) (devices (g.M.Medium.state c.loop-left.unit) (g.C.Chip.state c.loop-left.card_a) (g.D.Chip.state c.loop-left.card_b)) (devices (g.M.Medium.state c.step.new.unit) (g.C.Chip.state c.step.new.card_a) (g.D.Chip.state c.step.new.card_b)) v.later c.in_ok-step.ensures.later;
+      later = after-then (devices (g.M.Medium.state c.args.unit.now) (g.C.Chip.state c.args.card_a.now) (g.D.Chip.state c.args.card_b.now)) (devices (g.M.Medium.state c.loop-left.unit) (g.C.Chip.state c.loop-left.card_a) (g.D.Chip.state c.loop-left.card_b)) (devices (g.M.Medium.state c.step.new.unit) (g.C.Chip.state c.step.new.card_a) (g.D.Chip.state c.step.new.card_b)) v.later c.in_ok-step.ensures.later;
       calm = calm-then (devices (g.M.Medium.state c.args.unit.now) (g.C.Chip.state c.args.card_a.now) (g.D.Chip.state c.args.card_b.now)) (devices (g.M.Medium.state c.loop-left.unit) (g.C.Chip.state c.loop-left.card_a) (g.D.Chip.state c.loop-left.card_b)) (devices (g.M.Medium.state c.step.new.unit) (g.C.Chip.state c.step.new.card_a) (g.D.Chip.state c.step.new.card_b)) v.calm c.in_ok-step.ensures.calm;
       broke = broke-then c.loop-left.invariant.broke c.in_ok-step.ensures.broke;
       unfound = e.unfound;
@@ -126,7 +126,7 @@ pub returns-clause-later : goal.returns-clause-later
 returns-clause-later g c = c.loop-left.invariant.later
 
 pub returns-in_err-step-clause-later : goal.returns-in_err-step-clause-later
-returns-in_err-step-clause-later g c = later-then (devices (g.M.Medium.state c.args.unit.now) (g.C.Chip.state c.args.card_a.now) (g.D.Chip.state c.args.card_b.now)) (devices (g.M.Medium.state c.loop-left.unit) (g.C.Chip.state c.loop-left.card_a) (g.D.Chip.state c.loop-left.card_b)) (devices (g.M.Medium.state c.step.new.unit) (g.C.Chip.state c.step.new.card_a) (g.D.Chip.state c.step.new.card_b)) c.loop-left.invariant.later c.in_err-step.ensures.later
+returns-in_err-step-clause-later g c = after-then (devices (g.M.Medium.state c.args.unit.now) (g.C.Chip.state c.args.card_a.now) (g.D.Chip.state c.args.card_b.now)) (devices (g.M.Medium.state c.loop-left.unit) (g.C.Chip.state c.loop-left.card_a) (g.D.Chip.state c.loop-left.card_b)) (devices (g.M.Medium.state c.step.new.unit) (g.C.Chip.state c.step.new.card_a) (g.D.Chip.state c.step.new.card_b)) c.loop-left.invariant.later c.in_err-step.ensures.later
 
 -- ---- what is recorded, with its events and rings
 

@@ -13,10 +13,11 @@ use Rattle.run_acts.specs.Room.{cuts_from, cuts_within}
 use Rattle.recorder_with_cards.proofs.Rooms.{room-less}
 use Rattle.run_acts.specs.RunRinged.{RunRinged, InSecondRinged}
 use Rattle.recorder_with_cards.proofs.SecondsRinged.{dark-ringed}
-use Rattle.run_minutes.proofs.Later.{later-then}
+use Rattle.run_minutes.proofs.Later.{after-of, after-then}
 use Rattle.run_outcome.proofs.Broken.{broke-then}
 use Rattle.recorder_with_cards.specs.Carded.{RunCarded, InSecondCarded}
 use Rattle.recorder_with_cards.proofs.SecondsCards.{turned-carded, dark-carded}
+use Rattle.recorder_with_cards.proofs.SpeedsSoFar.{CameSo, came-begun, in-second, carded-in}
 use Rattle.run_minutes.proofs.Calm.{calm-then}
 use Rattle.recorder_with_cards.specs.Recorded.{Between, HasBegunBy, Inside}
 use Rattle.run_minutes.specs.Books.{HaveTime}
@@ -49,6 +50,16 @@ module _ (g : Over) (c : After-turn g) where
   time-begun : HaveTime dev2 → HaveTime dev1
   time-begun time = time-before dev1 dev2 c.turn.ensures.clock c.turn.ensures.clock_a c.turn.ensures.clock_b time
 
+  -- there was power: so far the second has come
+  module _ (given : c.in_ok-begin_second.field-0 ≡ true) where
+    has-given : has_power c.args.run.now.power c.args.run.now.next ≡ true
+    has-given = sym c.in_ok-begin_second.ensures.power ∙ given
+
+    came : CameSo c.args.run.now.next c.args.run.now c.begin_second.new.run c.args.outcome.now c.begin_second.new.outcome
+    came =
+        came-begun c.args.speed c.args.run.now.next c.args.run.now c.begin_second.new.run c.args.outcome.now c.begin_second.new.outcome dev0 dev1 refl
+        (λ on. let is = c.in_ok-begin_second.ensures.lit on in (is.1, is.2)) (λ dark. c.in_ok-begin_second.ensures.noted dark has-given)
+
   -- there was no power: nothing was called
   module _ (away : c.in_ok-begin_second.field-0 ≡ false) where
     none-given : has_power c.args.run.now.power c.args.run.now.next ≡ false
@@ -74,11 +85,11 @@ module _ (g : Over) (c : After-turn g) where
 
   -- what is carried behind them
   stepped : (R : Between) (I : Inside) (o : Origin) (done : List TraceSecond) → HasBegunBy R I (Ok c.in_ok-begin_second.field-0) o done second c.begin_second.new.run c.begin_second.new.outcome dev1 →
-      (I o done second 0 c.begin_second.new.run c.begin_second.new.outcome dev1 → R o (done ++ second ∷ driven (c.args.n - 1) (c.args.run.now.next + 1) c.args.speed []) c.turn.new.run c.turn.new.outcome dev2) →
+      (c.in_ok-begin_second.field-0 ≡ true → I o done second 0 c.begin_second.new.run c.begin_second.new.outcome dev1 → R o (done ++ second ∷ driven (c.args.n - 1) (c.args.run.now.next + 1) c.args.speed []) c.turn.new.run c.turn.new.outcome dev2) →
       (c.in_ok-begin_second.field-0 ≡ false → R o (done ++ driven c.args.n c.args.run.now.next c.args.speed []) c.turn.new.run c.turn.new.outcome dev0) → R o (done ++ driven c.args.n c.args.run.now.next c.args.speed []) c.turn.new.run c.turn.new.outcome dev2
   stepped R I o done begun lit dark_so =
       by-power R I c.in_ok-begin_second.field-0 o done second c.begin_second.new.run c.begin_second.new.outcome dev1 begun
-      (λ lit_ in_. subst (λ (ss : List TraceSecond). R o ss c.turn.new.run c.turn.new.outcome dev2) (ap (λ (ss : List TraceSecond). done ++ ss) (sym (first-driven c.args.n c.args.run.now.next c.args.speed [] c.requires.some))) (lit in_))
+      (λ lit_ in_. subst (λ (ss : List TraceSecond). R o ss c.turn.new.run c.turn.new.outcome dev2) (ap (λ (ss : List TraceSecond). done ++ ss) (sym (first-driven c.args.n c.args.run.now.next c.args.speed [] c.requires.some))) (lit lit_ in_))
       (λ away was_. still away (λ (x : Devices). R o (done ++ driven c.args.n c.args.run.now.next c.args.speed []) c.turn.new.run c.turn.new.outcome x) (dark_so away))
 
 pub begin_second-requires-clause-room : goal.begin_second-requires-clause-room
@@ -124,17 +135,19 @@ pub returns-in_err-begin_second-clause-time : goal.returns-in_err-begin_second-c
 returns-in_err-begin_second-clause-time g c = time-before (devices (g.M.Medium.state c.args.unit.now) (g.C.Chip.state c.args.card_a.now) (g.D.Chip.state c.args.card_b.now)) (devices (g.M.Medium.state c.begin_second.new.unit) (g.C.Chip.state c.begin_second.new.card_a) (g.D.Chip.state c.begin_second.new.card_b)) c.in_err-begin_second.ensures.clock c.in_err-begin_second.ensures.clock_a c.in_err-begin_second.ensures.clock_b
 
 pub returns-clause-later : goal.returns-clause-later
-returns-clause-later g c = later-then (dev0 g c) (dev1 g c) (dev2 g c) c.in_ok-begin_second.ensures.later c.turn.ensures.later
+returns-clause-later g c = after-then (dev0 g c) (dev1 g c) (dev2 g c) (after-of (dev0 g c) (dev1 g c) c.in_ok-begin_second.ensures.later) c.turn.ensures.later
 
 pub returns-in_err-begin_second-clause-later : goal.returns-in_err-begin_second-clause-later
-returns-in_err-begin_second-clause-later g c = c.in_err-begin_second.ensures.later
+returns-in_err-begin_second-clause-later g c =
+    after-of (devices (g.M.Medium.state c.args.unit.now) (g.C.Chip.state c.args.card_a.now) (g.D.Chip.state c.args.card_b.now)) (devices (g.M.Medium.state c.begin_second.new.unit) (g.C.Chip.state c.begin_second.new.card_a) (g.D.Chip.state c.begin_second.new.card_b))
+    c.in_err-begin_second.ensures.later
 
 -- ---- what is recorded, with its events and rings
 
 pub returns-clause-ringed : goal.returns-clause-ringed
 returns-clause-ringed g c = λ o done last r time.
     stepped g c RunRinged InSecondRinged o done (c.in_ok-begin_second.ensures.ringed o done (second g c) (record { number = refl; given = refl; speed_is = refl }) r (time-begun g c time))
-    (λ in_. c.turn.ensures.ringed o done (second g c) (now-begun g c) refl (λ more. (refl, last)) in_ time)
+    (λ lit_ in_. c.turn.ensures.ringed o done (second g c) (now-begun g c) refl (λ more. (refl, last)) in_ time)
     (λ away. dark-ringed o done c.args.run.now c.args.outcome.now (dev0 g c) r c.args.n c.args.speed 0 [] c.requires.some (none-given g c away) c.requires.minute c.turn.new.run c.turn.new.outcome (passed-on g c away) (refused-none g c away))
 
 pub returns-in_err-begin_second-clause-ringed : goal.returns-in_err-begin_second-clause-ringed
@@ -149,9 +162,12 @@ returns-clause-cards g c = λ o done last r time.
     let low = c.requires.going.low in
     let positive : 0 < c.args.run.now.next = omega (arith, low) in
     stepped g c RunCarded InSecondCarded o done (c.in_ok-begin_second.ensures.cards o done (second g c) (record { number = refl; given = refl; speed_is = refl }) r (time-begun g c time))
-    (λ in_. turned-carded o done (second g c) c.args.n c.args.speed 0 c.begin_second.new.run c.turn.new.run c.begin_second.new.outcome c.turn.new.outcome (dev1 g c) (dev2 g c) refl positive in_ c.turn.ensures.turned
+    (λ lit_ in_. turned-carded o done (second g c) c.args.n c.args.speed 0 c.begin_second.new.run c.turn.new.run c.begin_second.new.outcome c.turn.new.outcome (dev1 g c) (dev2 g c) refl positive in_ c.turn.ensures.turned
     (λ x. c.turn.ensures.ringed o done (second g c) (now-begun g c) refl (λ more. (refl, last)) x time)
-    (λ x. c.turn.ensures.cards o done (second g c) (now-begun g c) refl (λ more. refl) x time))
+    (λ x. c.turn.ensures.cards o done (second g c) (now-begun g c) refl (λ more. refl) x time)
+    (c.turn.ensures.speeds o done (second g c) (now-begun g c) refl (λ more. refl)
+    (in-second o done (second g c) c.args.run.now c.begin_second.new.run c.args.outcome.now c.begin_second.new.outcome (dev0 g c) (dev1 g c) r.ringed.evented.recorded r.speeds refl refl (has-given g c lit_) (came g c lit_) c.in_ok-begin_second.ensures.later.speeds 0
+    (carded-in (is_lit c.begin_second.new.run.power) o done (second g c) 0 c.begin_second.new.run c.begin_second.new.outcome (dev1 g c) in_)) time))
     (λ away. dark-carded o done c.args.run.now c.args.outcome.now (dev0 g c) r c.requires.going.low c.args.n c.args.speed 0 [] c.requires.some (none-given g c away) c.requires.minute c.turn.new.run c.turn.new.outcome (passed-on g c away) (refused-none g c away))
 
 pub returns-in_err-begin_second-clause-cards : goal.returns-in_err-begin_second-clause-cards

@@ -29,6 +29,9 @@ use Rattle.run_note_record.specs.Steps.{spans_cut}
 use Rattle.run_note_record.proofs.RingsWaking.{behind-stays}
 use Rattle.run_acts.specs.RunRinged.{seats_of, with_cut, InSecondRinged, RunRinged}
 use Rattle.run_acts.specs.RunCards.{CardsBehind}
+use Rattle.run_acts.specs.Speeds.{SpeedsBehind}
+use Rattle.run_acts.proofs.SpeedLogs.{blocks-same}
+use Rattle.recorder_with_cards.proofs.EnteredSpeeds.{reading-leaves}
 use Rattle.recorder_with_cards.proofs.WokenRinged.{places-beside, read-leaves, comes-of, unpowered-ringed, cut-ringed}
 use Rattle.recorder_with_cards.proofs.CutOff.{cut-as}
 use Rattle.recorder_with_cards.proofs.Read.{may-of, rule-known, read-on, left-on, unit-tells, unit-decodes, not-bad, image-of, at-image}
@@ -95,10 +98,18 @@ module _ (g : Over) (c : After-open_unit g) where
   shown : (o : Origin) (done : List TraceSecond) → CardsBehind o done (log_of out) dev0 → CardsBehind o done (log_of out) dev1
   shown o done = unit-alone o done (log_of out) (g.M.Medium.state c.args.unit.now) (g.M.Medium.state c.open_unit.new.unit) (g.C.Chip.state c.args.card_a.now) (g.D.Chip.state c.args.card_b.now)
 
+  -- the detailed speed stays
+  speeds : (o : Origin) (done : List TraceSecond) → SpeedsBehind o done run out dev0 → SpeedsBehind o done run out dev1
+  speeds o done h = record {
+    watched = λ lit. absurd (never-lit lit);
+    blocks = blocks-same o (log_of out) (log_of out) (λ u has. has) done done dev0 dev1 refl (reading-leaves (g.M.Medium.state c.args.unit.now) (g.M.Medium.state c.open_unit.new.unit) whole c.open_unit.ensures.leaves) h.blocks;
+  }
+
   later : AreLater dev0 dev1
   later =
       let same = c.open_unit.ensures.clock in
       later-of-unit (g.M.Medium.state c.args.unit.now) (g.M.Medium.state c.open_unit.new.unit) (g.C.Chip.state c.args.card_a.now) (g.D.Chip.state c.args.card_b.now) (state-revived (g.M.Medium.state c.args.unit.now) (g.M.Medium.state c.open_unit.new.unit) _ (omega (arith, same)) c.open_unit.ensures.cause)
+      (reading-leaves (g.M.Medium.state c.args.unit.now) (g.M.Medium.state c.open_unit.new.unit) whole c.open_unit.ensures.leaves)
 
   calm : AreCalm out.breaks.items out.breaks.items dev0 dev1
   calm = calm-of-unit (g.M.Medium.state c.args.unit.now) (g.M.Medium.state c.open_unit.new.unit) (g.C.Chip.state c.args.card_a.now) (g.D.Chip.state c.args.card_b.now)
@@ -254,7 +265,7 @@ returns-in-Err-Failed-clause-ringed g c = λ room o done s now all has time. rin
 pub returns-in-Ok-clause-cards : goal.returns-in-Ok-clause-cards
 returns-in-Ok-clause-cards g c = λ room o done s now all has time.
     let at = (goal.at.returns-in-Ok-clause-cards g c).After-open_unit in
-    c.found.ensures.cards room o done s now (record { ringed = ringed g at o done has all.ringed; vehicle = all.vehicle; cards = shown g at o done all.cards }) has time
+    c.found.ensures.cards room o done s now (record { ringed = ringed g at o done has all.ringed; vehicle = all.vehicle; cards = shown g at o done all.cards; speeds = speeds g at o done all.speeds }) has time
 
 pub returns-in-Err-BadUnit-clause-cards : goal.returns-in-Err-BadUnit-clause-cards
 returns-in-Err-BadUnit-clause-cards g c = λ room o done s now all has time. absurd (returns-in-Err-BadUnit-clause-recorded g c room o done s now all.ringed.evented.recorded has time)

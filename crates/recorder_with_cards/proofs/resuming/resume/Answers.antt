@@ -42,6 +42,7 @@ use Rattle.run_note_record.specs.Steps.{nobody, spans_cut}
 use Rattle.run_note_record.proofs.RingsWaking.{behind-stays}
 use Rattle.run_acts.specs.Ringing.{seating_of}
 use Rattle.run_acts.specs.RunRinged.{RingsWithin, RingsGoOn, with_cut}
+use Rattle.recorder_with_cards.proofs.EnteredSpeeds.{mending-leaves}
 use Rattle.recorder_with_cards.proofs.WokenRinged.{WakesRinged, in-both, places-beside, mend-leaves, unpowered-ringed, wakes-ringed, driver-ringed, codriver-ringed, woken-rings, spans-before, goes-odometer}
 use Rattle.recorder_with_cards.proofs.WokenStored.{unmended-stored}
 use Rattle.recorder_with_cards.proofs.StoredCalls.{mend-stays}
@@ -208,6 +209,7 @@ module _ (g : Over) (c : After-moment-at g) where
 
   later : AreLater dev0 mended
   later = later-of-unit (g.M.Medium.state c.args.unit.now) (g.M.Medium.state c.mend.new.unit) (g.C.Chip.state c.args.card_a.now) (g.D.Chip.state c.args.card_b.now) (state-by (g.M.Medium.state c.args.unit.now) (g.M.Medium.state c.mend.new.unit) _ c.mend.ensures.clock c.mend.ensures.cause)
+      (mending-leaves c.args.journal (g.M.Medium.state c.args.unit.now) (g.M.Medium.state c.mend.new.unit) (g.met.M.Medium.coherent c.args.unit.now) c.mend.ensures.moments)
 
   calm : AreCalm out.breaks.items out.breaks.items dev0 mended
   calm = calm-of-unit (g.M.Medium.state c.args.unit.now) (g.M.Medium.state c.mend.new.unit) (g.C.Chip.state c.args.card_a.now) (g.D.Chip.state c.args.card_b.now)
@@ -1093,6 +1095,7 @@ returns-clause-cards g c = λ room o origin done s supply v r stay may number gi
 
 pub returns-in_err-mend-clause-later : goal.returns-in_err-mend-clause-later
 returns-in_err-mend-clause-later g c = later-of-unit (g.M.Medium.state c.args.unit.now) (g.M.Medium.state c.mend.new.unit) (g.C.Chip.state c.args.card_a.now) (g.D.Chip.state c.args.card_b.now) (state-by (g.M.Medium.state c.args.unit.now) (g.M.Medium.state c.mend.new.unit) _ c.mend.ensures.clock c.mend.ensures.cause)
+    (mending-leaves c.args.journal (g.M.Medium.state c.args.unit.now) (g.M.Medium.state c.mend.new.unit) (g.met.M.Medium.coherent c.args.unit.now) c.mend.ensures.moments)
 
 pub returns-in_err-accept_anew-clause-later : goal.returns-in_err-accept_anew-clause-later
 returns-in_err-accept_anew-clause-later g c = later-one g (goal.at.returns-in_err-accept_anew-clause-later g c).After-accept_anew

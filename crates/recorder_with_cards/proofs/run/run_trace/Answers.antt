@@ -19,6 +19,7 @@ use Rattle.recorder_with_cards.specs.Ends.{opened_with, origin_of}
 use Rattle.recorder_with_cards.specs.Recorded.{actions_in}
 use Rattle.recorder_with_cards.specs.Items.{between, insertions_in}
 use Rattle.recorder_with_cards.proofs.Waiting.{Waits, waits-none, waits-more, seconds-none, seconds-more, total-parts}
+use Rattle.recorder_with_cards.proofs.Again.{all-bytes}
 use Rattle.recorder_with_cards.proofs.Promised.{both, more-devices, chip_of, begins-with, promised, may-record, is-found, starts-carded}
 use Rattle.std.specs.Prelude.{IfErr}
 use Rattle.std.proofs.lemmas.Grind.{common_steps}
@@ -33,7 +34,7 @@ use Rattle.run_acts.specs.Room.{cuts_from, HasRoom}
 use Rattle.recorder_with_cards.proofs.Rooms.{room-less}
 use Rattle.recorder_with_cards.proofs.Items.{each-at, insertions-left, waiting-most, room-behind}
 use Rattle.recorder_with_cards.proofs.Start.{if-err, none-yet, no-falls, no-seats, room-start}
-use Rattle.run_minutes.proofs.Later.{later-then}
+use Rattle.run_minutes.proofs.Later.{after-then}
 use Rattle.recorder_with_cards.proofs.Later.{state-as-it-was}
 use Rattle.run_acts.specs.Recording.{log_of}
 use Rattle.run_outcome.proofs.Broken.{broke-none, broke-then, broke-all, broke-nothing, calm-all}
@@ -111,7 +112,7 @@ loop-i-init g c =
           (g.met.U.Medium.coherent c.judge.new.unit)
           chips
           (both (λ k. IsFoundOn (known_of opened k) (chips k) (card_of now k)) e.found_a e.found_b)
-          (both (λ k. All (λ n. n < 256) (card_image (opened_with x a b) k)) h.bytes_a h.bytes_b)
+          (both (λ k. All (λ n. n < 256) (card_image (opened_with x a b) k)) (all-bytes a (c.holds_bytes.ensures.told a h.of_a.tells)) (all-bytes b (c.holds_bytes-2.ensures.told b h.of_b.tells)))
           (both (λ k. (card_of now k).clock ≡ (card_of began k).clock) c.judge.ensures.card_a.clock c.judge.ensures.card_b.clock)
           (more-devices (g.U.Medium.state c.args.unit.now) (g.U.Medium.state c.judge.new.unit) (g.C.Chip.state c.args.card_a.now) (g.C.Chip.state c.judge.new.card_a) (g.C.Chip.state c.args.card_b.now) (g.C.Chip.state c.judge.new.card_b)
           c.judge.ensures.unit.breakdowns (e.card_a_works.unbroken refl) (e.card_b_works.unbroken refl))
@@ -119,7 +120,7 @@ loop-i-init g c =
           run c.args.outcome.now c.new-run.ensures.power next c.new-run.ensures.begun c.new-run.ensures.unfound (ap (λ (k : Keeper). k.memory) keeper) slots
           (both (λ k. known_in run.keeper.cabin.cards k ≡ known_of opened k) (ap (λ (k : Keeper). k.cabin.cards.a) keeper) (ap (λ (k : Keeper). k.cabin.cards.b) keeper))
           (none-yet run.keeper.cabin.cards a_none b_none)
-          (ap (λ (l : Listed Break). l.items) q.reserved.breaks) (ap (λ (l : Listed Refused). l.items) q.reserved.refused) (ap (λ (l : Listed Find). l.items) q.reserved.finds) (ap (λ (l : Listed Mark). l.items) q.reserved.marks) c.new-run.ensures.noted);
+          (ap (λ (l : Listed Break). l.items) q.reserved.breaks) (ap (λ (l : Listed Refused). l.items) q.reserved.refused) (ap (λ (l : Listed Find). l.items) q.reserved.finds) (ap (λ (l : Listed Mark). l.items) q.reserved.marks) c.new-run.ensures.noted c.judge.ensures.unit.clock);
     }
 
 -- ---- an item
@@ -169,7 +170,7 @@ loop-i-preserved g c =
       unfound = e.unfound;
       waits = subst (λ (n : ℕ). Waits items n (i + 1)) (sym waits) (waits-more items i c.loop-i.first item c.get-item.ensures v.first c.requires.well.runs v.waits);
       time = λ h. v.time (f.time h);
-      later = later-then (devices (g.U.Medium.state c.args.unit.now) (g.C.Chip.state c.args.card_a.now) (g.C.Chip.state c.args.card_b.now)) (devices (g.U.Medium.state c.loop-i.unit) (g.C.Chip.state c.loop-i.card_a) (g.C.Chip.state c.loop-i.card_b)) (devices (g.U.Medium.state c.go_on.new.unit) (g.C.Chip.state c.go_on.new.card_a) (g.C.Chip.state c.go_on.new.card_b)) v.later f.later;
+      later = after-then (devices (g.U.Medium.state c.args.unit.now) (g.C.Chip.state c.args.card_a.now) (g.C.Chip.state c.args.card_b.now)) (devices (g.U.Medium.state c.loop-i.unit) (g.C.Chip.state c.loop-i.card_a) (g.C.Chip.state c.loop-i.card_b)) (devices (g.U.Medium.state c.go_on.new.unit) (g.C.Chip.state c.go_on.new.card_a) (g.C.Chip.state c.go_on.new.card_b)) v.later f.later;
       calm = calm-then (devices (g.U.Medium.state c.args.unit.now) (g.C.Chip.state c.args.card_a.now) (g.C.Chip.state c.args.card_b.now)) (devices (g.U.Medium.state c.loop-i.unit) (g.C.Chip.state c.loop-i.card_a) (g.C.Chip.state c.loop-i.card_b)) (devices (g.U.Medium.state c.go_on.new.unit) (g.C.Chip.state c.go_on.new.card_a) (g.C.Chip.state c.go_on.new.card_b)) v.calm f.calm;
       broke = broke-then v.broke f.broke;
       told = v.told;
@@ -245,7 +246,7 @@ pub returns-clause-later : goal.returns-clause-later
 returns-clause-later g c = c.loop-i.invariant.later
 
 pub returns-in_err-go_on-clause-later : goal.returns-in_err-go_on-clause-later
-returns-in_err-go_on-clause-later g c = later-then (devices (g.U.Medium.state c.args.unit.now) (g.C.Chip.state c.args.card_a.now) (g.C.Chip.state c.args.card_b.now)) (devices (g.U.Medium.state c.loop-i.unit) (g.C.Chip.state c.loop-i.card_a) (g.C.Chip.state c.loop-i.card_b)) (devices (g.U.Medium.state c.go_on.new.unit) (g.C.Chip.state c.go_on.new.card_a) (g.C.Chip.state c.go_on.new.card_b)) c.loop-i.invariant.later c.in_err-go_on.ensures.later
+returns-in_err-go_on-clause-later g c = after-then (devices (g.U.Medium.state c.args.unit.now) (g.C.Chip.state c.args.card_a.now) (g.C.Chip.state c.args.card_b.now)) (devices (g.U.Medium.state c.loop-i.unit) (g.C.Chip.state c.loop-i.card_a) (g.C.Chip.state c.loop-i.card_b)) (devices (g.U.Medium.state c.go_on.new.unit) (g.C.Chip.state c.go_on.new.card_a) (g.C.Chip.state c.go_on.new.card_b)) c.loop-i.invariant.later c.in_err-go_on.ensures.later
 
 pub returns-in_err-opened-clause-later : goal.returns-in_err-opened-clause-later
 returns-in_err-opened-clause-later g c = record { unit = state-as-it-was (g.U.Medium.state c.args.unit.now) (g.U.Medium.state c.judge.new.unit) c.judge.ensures.unit; card_a = state-as-it-was (g.C.Chip.state c.args.card_a.now) (g.C.Chip.state c.judge.new.card_a) c.judge.ensures.card_a; card_b = state-as-it-was (g.C.Chip.state c.args.card_b.now) (g.C.Chip.state c.judge.new.card_b) c.judge.ensures.card_b }

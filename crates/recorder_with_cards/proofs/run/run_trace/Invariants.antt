@@ -9,7 +9,7 @@ use Rattle.recorder_with_cards.specs.Ends.{BeginAs, MayRecord, opened_with, orig
 use Rattle.recorder_with_cards.proofs.Waiting.{Waits}
 use Rattle.run_outcome.specs.Room.{offs, insertions}
 use Rattle.run_acts.specs.Room.{HasRoom}
-use Rattle.run_minutes.specs.Later.{AreLater, AreCalm}
+use Rattle.run_minutes.specs.Later.{AreAfter, AreCalm}
 use Rattle.run_outcome.specs.Broken.{BreaksDown}
 use Rattle.recorder_with_cards.proofs.run.run_trace.Given as goal
 
@@ -22,7 +22,7 @@ invariant-loop-i g l = record {
   unfound : l.run.unfound ≤ length l.outcome.breaks.items;
   waits : Waits l.trace.items l.first l.i;
   time : HaveTime (devices (g.U.Medium.state l.unit) (g.C.Chip.state l.card_a) (g.C.Chip.state l.card_b)) → HaveTime (devices (g.U.Medium.state l.fn.unit) (g.C.Chip.state l.fn.card_a) (g.C.Chip.state l.fn.card_b));
-  later : AreLater (devices (g.U.Medium.state l.fn.unit) (g.C.Chip.state l.fn.card_a) (g.C.Chip.state l.fn.card_b)) (devices (g.U.Medium.state l.unit) (g.C.Chip.state l.card_a) (g.C.Chip.state l.card_b));
+  later : AreAfter (devices (g.U.Medium.state l.fn.unit) (g.C.Chip.state l.fn.card_a) (g.C.Chip.state l.fn.card_b)) (devices (g.U.Medium.state l.unit) (g.C.Chip.state l.card_a) (g.C.Chip.state l.card_b));
   calm : AreCalm l.fn.outcome.breaks.items l.outcome.breaks.items (devices (g.U.Medium.state l.fn.unit) (g.C.Chip.state l.fn.card_a) (g.C.Chip.state l.fn.card_b)) (devices (g.U.Medium.state l.unit) (g.C.Chip.state l.card_a) (g.C.Chip.state l.card_b));
   broke : BreaksDown l.fn.outcome.breaks.items l.outcome.breaks.items (g.U.Medium.state l.fn.unit) (g.U.Medium.state l.unit);
   told : (x a b : List ℕ) → BeginAs x a b (devices (g.U.Medium.state l.fn.unit) (g.C.Chip.state l.fn.card_a) (g.C.Chip.state l.fn.card_b)) → MayRecord x a b l.trace.start × IsFound (opened_with x a b) (found_in (opened_with x a b) (devices (g.U.Medium.state l.fn.unit) (g.C.Chip.state l.fn.card_a) (g.C.Chip.state l.fn.card_b))) (devices (g.U.Medium.state l.fn.unit) (g.C.Chip.state l.fn.card_a) (g.C.Chip.state l.fn.card_b));

@@ -21,6 +21,7 @@ use Rattle.run_promise.specs.Between.{devices}
 use Rattle.run_acts.specs.Noting.{fall_events, IsNoteRecorded, NotesFall}
 use Rattle.run_acts.proofs.NotedEvents.{same-noted, noted-any}
 use Rattle.run_rings.proofs.Same.{rings-left}
+use Rattle.run_speeds.specs.Speeds.{LeavesSpeeds}
 use Rattle.run_minutes.proofs.Later.{state-by, later-same}
 use Rattle.card_files.specs.declared.card_event.CardEvent.{CardEvent}
 use Rattle.safety_model.specs.Safe.{card_of, Devices}
@@ -60,6 +61,7 @@ NotesThere state chip which slot event result old new breaks after U V x y = rec
   places : LeavesPlaces (session_of old.keeper.cabin.cards which) (state x) (state y);
   events : NotesFall (λ fell. IsNotedOn which slot (now_moment old) old new breaks after fell) old.next (is_err result) new (devices U (state x) (state x)) (devices V (state y) (state y));
   rings : LeavesRings U V;
+  speeds : LeavesSpeeds U V;
   journal : LeavesOnly U V LeavesJournal;
   moments : IfSome (session_of old.keeper.cabin.cards which) (λ a. LeavesOnly (state x) (state y) (IsNote a.session.application));
   value : IfSome (session_of old.keeper.cabin.cards which) (λ a. IsValue a.session);
@@ -136,7 +138,7 @@ module _ (g : Over) (c : In-Some-number_in g) (k : OneCard c.in-Some.card (g.C.C
   later : AreLater first last
   later =
       subst (λ (m : Devices). AreLater m last) (sym (k.beside_it (g.M.Medium.state c.args.unit.now)))
-      (later-by k.which (g.M.Medium.state c.args.unit.now) k.unit (k.state k.before) (k.state k.after) k.beside (state-by (g.M.Medium.state c.args.unit.now) k.unit _ e.journal.later e.cause) (state-by (k.state k.before) (k.state k.after) e.noted.0 e.clock_card e.noted.3))
+      (later-by k.which (g.M.Medium.state c.args.unit.now) k.unit (k.state k.before) (k.state k.after) k.beside (state-by (g.M.Medium.state c.args.unit.now) k.unit _ e.journal.later e.cause) (state-by (k.state k.before) (k.state k.after) e.noted.0 e.clock_card e.noted.3) e.speeds)
 
   calm : AreCalm c.args.breaks.now.items k.breaks.items first last
   calm =

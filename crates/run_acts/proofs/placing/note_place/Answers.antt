@@ -43,6 +43,8 @@ use Rattle.run_crew.specs.declared.cards.Cards.{Cards}
 use Rattle.run_rings.proofs.Same.{rings-left}
 use Rattle.run_acts.specs.Ringing.{WritesPlace}
 use Rattle.run_acts.proofs.Ringing.{place-broken, place-then}
+use Rattle.run_speeds.specs.Speeds.{LeavesSpeeds}
+use Rattle.run_events.proofs.NoteSpeeds.{place-leaves}
 use Rattle.run_minutes.proofs.Later.{state-by, later-same, later-then, later-of-unit}
 use Rattle.run_note_record.specs.Noting.{Acting}
 use Rattle.run_note_record.specs.Bringing.{NotFound}
@@ -103,6 +105,7 @@ module _ (g : Over) (c : In_ok-note_place g) where
 
   later-noted : AreLater first middle
   later-noted = later-of-unit (g.M.Medium.state c.args.unit.now) (g.M.Medium.state c.note_place.new.unit) (g.C.Chip.state c.args.card_a.now) (g.D.Chip.state c.args.card_b.now) (state-by (g.M.Medium.state c.args.unit.now) (g.M.Medium.state c.note_place.new.unit) _ c.note_place.ensures.journal.later c.note_place.ensures.cause)
+      (place-leaves (unit_place_bytes c.in-Some-number_in.number c.args.entry.now) (g.M.Medium.state c.args.unit.now) (g.M.Medium.state c.note_place.new.unit) (g.met.M.Medium.coherent c.args.unit.now) c.note_place.ensures.moments)
 
 pub note_place_in-requires-clause-ready : goal.note_place_in-requires-clause-ready
 note_place_in-requires-clause-ready g c = ready-then g (goal.at.note_place_in-requires-clause-ready g c).In_ok-note_place
@@ -121,6 +124,7 @@ NotesThere state chip which slot entry at result old new breaks after U V x y = 
   places : MayTakePlace (session_of old.keeper.cabin.cards which) entry (state x) (state y);
   events : NotesFall (λ fell. IsNotedOn which slot at old new breaks after fell) at.second (is_err result) new (devices U (state x) (state x)) (devices V (state y) (state y));
   rings : LeavesRings U V;
+  speeds : LeavesSpeeds U V;
   journal : LeavesOnly U V LeavesJournal;
   moments : IfSome (session_of old.keeper.cabin.cards which) (λ a. LeavesOnly (state x) (state y) (IsNote a.session.application));
   value : IfSome (session_of old.keeper.cabin.cards which) (λ a. IsValue a.session);
@@ -192,7 +196,7 @@ module _ (g : Over) (c : In_ok-note_place g) (k : OneCard c.in-Some.card (g.C.Ch
   later =
       later-then (first g c) (middle g c) last (later-noted g c)
       (subst (λ (m : Devices). AreLater m last) (sym (k.beside_it (g.M.Medium.state c.note_place.new.unit)))
-      (later-by k.which (g.M.Medium.state c.note_place.new.unit) k.unit (k.state k.before) (k.state k.after) k.beside (state-by (g.M.Medium.state c.note_place.new.unit) k.unit _ e.journal.later e.cause) (state-by (k.state k.before) (k.state k.after) e.noted.0 e.clock_card e.noted.3)))
+      (later-by k.which (g.M.Medium.state c.note_place.new.unit) k.unit (k.state k.before) (k.state k.after) k.beside (state-by (g.M.Medium.state c.note_place.new.unit) k.unit _ e.journal.later e.cause) (state-by (k.state k.before) (k.state k.after) e.noted.0 e.clock_card e.noted.3) e.speeds))
 
   calm : AreCalm c.args.breaks.now.items k.breaks.items (first g c) last
   calm =
@@ -476,6 +480,7 @@ returns-in_err-note_place-clause-rings g c = λ tells.
 
 pub returns-in_err-note_place-clause-later : goal.returns-in_err-note_place-clause-later
 returns-in_err-note_place-clause-later g c = later-of-unit (g.M.Medium.state c.args.unit.now) (g.M.Medium.state c.note_place.new.unit) (g.C.Chip.state c.args.card_a.now) (g.D.Chip.state c.args.card_b.now) (state-by (g.M.Medium.state c.args.unit.now) (g.M.Medium.state c.note_place.new.unit) _ c.note_place.ensures.journal.later c.note_place.ensures.cause)
+    (place-leaves (unit_place_bytes c.in-Some-number_in.number c.args.entry.now) (g.M.Medium.state c.args.unit.now) (g.M.Medium.state c.note_place.new.unit) (g.met.M.Medium.coherent c.args.unit.now) c.note_place.ensures.moments)
 
 pub returns-in_err-note_place-clause-evented : goal.returns-in_err-note_place-clause-evented
 returns-in_err-note_place-clause-evented g c = λ late ending country region speed before is o done s now front rest are n allowed w events time.

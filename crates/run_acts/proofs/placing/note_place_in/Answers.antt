@@ -20,6 +20,8 @@ use Rattle.run_promise.specs.Between.{devices}
 use Rattle.run_acts.proofs.NotedEvents.{one-noted, same-noted, noted-any}
 use Rattle.unit_notes.specs.Noting.{IsNotingEvent}
 use Rattle.run_rings.proofs.Same.{rings-left, rings-moments, table-outside}
+use Rattle.run_speeds.proofs.Leaving.{leaves-none}
+use Rattle.run_events.proofs.NoteSpeeds.{event-leaves-speeds}
 use Rattle.run_acts.specs.CardNotes.{NotesOn}
 use Rattle.run_acts.proofs.CardNotes.{on-session, place-noted}
 use Rattle.run_acts.specs.CardWrites.{PlaceOn}
@@ -193,6 +195,15 @@ returns-then-is_err-clause-rings g c =
 
 pub returns-clause-rings : goal.returns-clause-rings
 returns-clause-rings g c = rings-left (g.M.Medium.state c.args.unit.now)
+
+-- ---- the detailed speed
+
+pub returns-then-is_err-clause-speeds : goal.returns-then-is_err-clause-speeds
+returns-then-is_err-clause-speeds g c =
+    event-leaves-speeds CARD_FAULT (fault_of c.args.at.second (crew_of c.tear.new.self.cabin)) (g.M.Medium.state c.args.unit.now) (g.M.Medium.state c.tear.new.unit) (g.met.M.Medium.coherent c.args.unit.now) c.tear.ensures.moments
+
+pub returns-clause-speeds : goal.returns-clause-speeds
+returns-clause-speeds g c = leaves-none (g.M.Medium.state c.args.unit.now)
 
 -- ---- the events that the card shows
 

@@ -2,7 +2,8 @@ use Rattle.std.proofs.Common.{rules, ◌≡◌, ◌∙◌, inl, inr, Bool, true,
 use Rattle.std.specs.Prelude.{is_err, not}
 use Rattle.tach_media.proofs.Runs.{on_ok, cause_after}
 use Rattle.run_crew.specs.declared.cards.Crew.{Crew}
-use Rattle.run_events.specs.Noting.{IsFed, IsWatched}
+use Rattle.run_events.specs.Noting.{IsFed}
+use Rattle.run_events.specs.Blocks.{IsWatchedOn}
 use Rattle.run_acts.specs.declared.run.Run.{Run}
 use Rattle.run_insertion.proofs.Noted.{noted-ready, noted-row}
 use Rattle.run_promise.specs.Between.{devices}
@@ -14,7 +15,9 @@ use Rattle.run_acts.proofs.GoesOn.{same-left, noted-devices}
 use Rattle.run_acts.specs.Faults.{NotesKeeping}
 use Rattle.run_acts.proofs.TurnBooked.{turn-cut, turn-noted}
 use Rattle.run_acts.proofs.TurnNoted.{keeping-then, keeping-cut}
-use Rattle.run_minutes.proofs.Later.{state-by, later-then, later-of-unit}
+use Rattle.run_acts.specs.Speeds.{BringsBlock}
+use Rattle.run_acts.proofs.Speeds.{brings-kept, brings-watched}
+use Rattle.run_minutes.proofs.Later.{state-by, after-of, after-then, after-of-unit}
 use Rattle.run_minutes.proofs.Calm.{calm-of-unit, calm-then}
 use Rattle.run_acts.proofs.turning.keep_turn.Goals as goal
 
@@ -128,7 +131,7 @@ returns-clause-noted g c =
     let failed : Bool = is_err c.turn.result in
     keeping-then c.args.decided.now c.args.n c.args.speed c.args.at failed c.args.run.now (record c.args.run.now { keeper = c.keep_all.new.self; watch = c.turn.new.self }) c.args.outcome.now
     (record c.args.outcome.now { marks = c.keep_all.new.marks; breaks = c.keep_all.new.breaks }) (g.M.Medium.state c.args.unit.now) V W was.0 was.1 (g.met.M.Medium.coherent c.keep_all.new.unit) (g.met.M.Medium.coherent c.turn.new.unit) was.3
-    (subst (λ (crew : Crew). IsWatched failed c.args.run.now.watch c.turn.new.self c.args.run.now.next c.args.n c.args.speed crew V W) c.crew-crew.ensures w) c.turn.ensures.cause.works
+    (subst (λ (crew : Crew). IsWatchedOn failed c.args.run.now.watch c.turn.new.self c.args.run.now.next c.args.n c.args.speed crew V W) c.crew-crew.ensures w) c.turn.ensures.cause.works
 
 pub returns-in_err-keep_all-clause-noted : goal.returns-in_err-keep_all-clause-noted
 returns-in_err-keep_all-clause-noted g c =
@@ -141,13 +144,28 @@ returns-in_err-keep_all-clause-noted g c =
     subst (λ (f : Bool). NotesKeeping c.args.decided.now c.args.n c.args.speed c.args.at f c.args.run.now run c.args.outcome.now told U V) failed
     (keeping-cut c.args.decided.now c.args.n c.args.speed c.args.at c.args.run.now run c.args.outcome.now told U V was.0 was.1 refl was.3)
 
+-- ---- the block of a minute
+
+pub returns-clause-speeds : goal.returns-clause-speeds
+returns-clause-speeds g c =
+    brings-watched c.args.n c.args.speed (is_err c.turn.result) c.args.run.now (record c.args.run.now { keeper = c.keep_all.new.self; watch = c.turn.new.self }) _ (g.M.Medium.state c.args.unit.now) (g.M.Medium.state c.keep_all.new.unit)
+    (g.M.Medium.state c.turn.new.unit) c.keep_all.ensures.later.speeds c.in_ok-keep_all.ensures.tells c.turn.ensures.watched
+
+pub returns-in_err-keep_all-clause-speeds : goal.returns-in_err-keep_all-clause-speeds
+returns-in_err-keep_all-clause-speeds g c =
+    let failed : true ≡ is_err c.from_residual.result = search rules in
+    let run : Run = record c.args.run.now { keeper = c.keep_all.new.self } in
+    let U = g.M.Medium.state c.args.unit.now in
+    let V = g.M.Medium.state c.keep_all.new.unit in
+    subst (λ (f : Bool). BringsBlock c.args.n c.args.speed f c.args.run.now run U V) failed (brings-kept c.args.n c.args.speed c.args.run.now run U V c.requires.some c.requires.within c.keep_all.ensures.later.speeds)
+
 -- ---- what holds of the devices after any calls
 
 pub returns-in_err-keep_all-clause-later : goal.returns-in_err-keep_all-clause-later
-returns-in_err-keep_all-clause-later g c = c.keep_all.ensures.later
+returns-in_err-keep_all-clause-later g c = after-of (devices (g.M.Medium.state c.args.unit.now) (g.C.Chip.state c.args.card_a.now) (g.D.Chip.state c.args.card_b.now)) (devices (g.M.Medium.state c.keep_all.new.unit) (g.C.Chip.state c.keep_all.new.card_a) (g.D.Chip.state c.keep_all.new.card_b)) c.keep_all.ensures.later
 
 pub returns-clause-later : goal.returns-clause-later
-returns-clause-later g c = later-then (devices (g.M.Medium.state c.args.unit.now) (g.C.Chip.state c.args.card_a.now) (g.D.Chip.state c.args.card_b.now)) (devices (g.M.Medium.state c.keep_all.new.unit) (g.C.Chip.state c.keep_all.new.card_a) (g.D.Chip.state c.keep_all.new.card_b)) (devices (g.M.Medium.state c.turn.new.unit) (g.C.Chip.state c.keep_all.new.card_a) (g.D.Chip.state c.keep_all.new.card_b)) c.keep_all.ensures.later (later-of-unit (g.M.Medium.state c.keep_all.new.unit) (g.M.Medium.state c.turn.new.unit) (g.C.Chip.state c.keep_all.new.card_a) (g.D.Chip.state c.keep_all.new.card_b) (state-by (g.M.Medium.state c.keep_all.new.unit) (g.M.Medium.state c.turn.new.unit) _ c.turn.ensures.journal.later c.turn.ensures.cause))
+returns-clause-later g c = after-then (devices (g.M.Medium.state c.args.unit.now) (g.C.Chip.state c.args.card_a.now) (g.D.Chip.state c.args.card_b.now)) (devices (g.M.Medium.state c.keep_all.new.unit) (g.C.Chip.state c.keep_all.new.card_a) (g.D.Chip.state c.keep_all.new.card_b)) (devices (g.M.Medium.state c.turn.new.unit) (g.C.Chip.state c.keep_all.new.card_a) (g.D.Chip.state c.keep_all.new.card_b)) (after-of (devices (g.M.Medium.state c.args.unit.now) (g.C.Chip.state c.args.card_a.now) (g.D.Chip.state c.args.card_b.now)) (devices (g.M.Medium.state c.keep_all.new.unit) (g.C.Chip.state c.keep_all.new.card_a) (g.D.Chip.state c.keep_all.new.card_b)) c.keep_all.ensures.later) (after-of-unit (g.M.Medium.state c.keep_all.new.unit) (g.M.Medium.state c.turn.new.unit) (g.C.Chip.state c.keep_all.new.card_a) (g.D.Chip.state c.keep_all.new.card_b) (state-by (g.M.Medium.state c.keep_all.new.unit) (g.M.Medium.state c.turn.new.unit) _ c.turn.ensures.journal.later c.turn.ensures.cause))
 
 -- ---- where no tear of a failed call is told no card has broken down
 

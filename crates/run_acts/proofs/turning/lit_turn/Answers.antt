@@ -31,6 +31,8 @@ use Rattle.run_acts.specs.Evented.{EventsLitTurn}
 use Rattle.run_acts.specs.Booked.{IsBookedTurn}
 use Rattle.run_acts.specs.Turning.{IsLitTurn, cut_breaks, cut_where}
 use Rattle.run_acts.specs.Faults.{NotesTurn}
+use Rattle.run_acts.specs.Speeds.{BringsBlock}
+use Rattle.run_acts.proofs.Speeds.{brings-cut, brings-on}
 use Rattle.run_minutes.specs.declared.keeper.Keeper.{Keeper}
 use Rattle.minute_model.specs.declared.Minute.{Minute}
 use Rattle.run_acts.proofs.turning.lit_turn.Given.{Over}
@@ -191,6 +193,9 @@ module _ (g : Over) (c : After-is_err g) where
     abbrev noted : NotesTurn c.args.n c.args.speed c.args.begun c.args.run.now new c.args.outcome.now after (g.M.Medium.state c.args.unit.now) (g.M.Medium.state c.keep_turn-kept.new.unit)
     noted = (turned, rw c.as_slice.ensures.value at (rw fails at c.keep_turn-kept.ensures.noted))
 
+    brought : BringsBlock c.args.n c.args.speed failed (record c.args.run.now { minutes = c.feed-decided.new.minutes }) c.keep_turn-kept.new.run (g.M.Medium.state c.args.unit.now) (g.M.Medium.state c.keep_turn-kept.new.unit)
+    brought = rw fails at c.keep_turn-kept.ensures.speeds
+
     evented : EventsLitTurn c.args.n c.args.speed c.args.begun c.args.run.now new c.args.outcome.now after first_devices last_devices
     evented =
         turn-events c.args.n c.args.speed c.args.begun c.args.run.now new c.args.outcome.now after first_devices last_devices power c.requires.going.low c.requires.lit c.requires.some c.requires.minute c.requires.small booked
@@ -213,6 +218,11 @@ returns-then-is_err-clause-booked g c = booked g (goal.at.returns-then-is_err-cl
 
 pub returns-then-is_err-clause-noted : goal.returns-then-is_err-clause-noted
 returns-then-is_err-clause-noted g c = noted g (goal.at.returns-then-is_err-clause-noted g c).After-is_err true c.if-is_err.true c.cut.new.self (told-cut g c) c.cut.ensures.run (is-cut g c)
+
+pub returns-then-is_err-clause-speeds : goal.returns-then-is_err-clause-speeds
+returns-then-is_err-clause-speeds g c =
+    brings-cut c.args.n c.args.speed (c.args.run.now.next + c.args.n - 1) c.args.run.now c.feed-decided.new.minutes c.keep_turn-kept.new.run c.cut.new.self (g.M.Medium.state c.args.unit.now) (g.M.Medium.state c.keep_turn-kept.new.unit) c.cut.ensures.run
+    (brought g (goal.at.returns-then-is_err-clause-speeds g c).After-is_err true c.if-is_err.true c.cut.new.self (told-cut g c) c.cut.ensures.run (is-cut g c))
 
 pub returns-then-is_err-clause-evented : goal.returns-then-is_err-clause-evented
 returns-then-is_err-clause-evented g c = evented g (goal.at.returns-then-is_err-clause-evented g c).After-is_err true c.if-is_err.true c.cut.new.self (told-cut g c) c.cut.ensures.run (is-cut g c)
@@ -262,6 +272,11 @@ returns-else-is_err-clause-booked g c = booked g (goal.at.returns-else-is_err-cl
 
 pub returns-else-is_err-clause-noted : goal.returns-else-is_err-clause-noted
 returns-else-is_err-clause-noted g c = noted g (goal.at.returns-else-is_err-clause-noted g c).After-is_err false c.if-is_err.false c.keep_turn-kept.new.run c.keep_turn-kept.new.outcome refl refl
+
+pub returns-else-is_err-clause-speeds : goal.returns-else-is_err-clause-speeds
+returns-else-is_err-clause-speeds g c =
+    brings-on c.args.n c.args.speed c.args.run.now c.feed-decided.new.minutes c.keep_turn-kept.new.run (g.M.Medium.state c.args.unit.now) (g.M.Medium.state c.keep_turn-kept.new.unit) (ap (λ (r : Run). r.power) c.keep_turn-kept.ensures.kept.only ∙ c.requires.lit)
+    (brought g (goal.at.returns-else-is_err-clause-speeds g c).After-is_err false c.if-is_err.false c.keep_turn-kept.new.run c.keep_turn-kept.new.outcome refl refl)
 
 pub returns-else-is_err-clause-evented : goal.returns-else-is_err-clause-evented
 returns-else-is_err-clause-evented g c = evented g (goal.at.returns-else-is_err-clause-evented g c).After-is_err false c.if-is_err.false c.keep_turn-kept.new.run c.keep_turn-kept.new.outcome refl refl

@@ -12,7 +12,7 @@ use Rattle.run_acts.specs.Turning.{IsTurnOf}
 use Rattle.run_acts.specs.Recording.{InSecondBy, RunWithin, RunCut, RunRecorded, log_of, Supplies}
 use Rattle.run_acts.proofs.TurnRecorded.{turn-lit, turn-dark}
 use Rattle.run_acts.proofs.Room.{room-dark}
-use Rattle.run_minutes.proofs.Later.{later-same}
+use Rattle.run_minutes.proofs.Later.{after-same}
 use Rattle.run_outcome.proofs.Broken.{broke-none}
 use Rattle.run_unit_course.specs.Followed.{Lost as IsLost}
 use Rattle.run_note_record.specs.Noting.{Acting}
@@ -28,6 +28,8 @@ use Rattle.run_acts.proofs.Comings.{leaves-more}
 use Rattle.run_acts.proofs.Ringing.{turn-leaves}
 use Rattle.run_acts.proofs.RingedTurn.{dark-ringed, seconds-ringed}
 use Rattle.run_acts.specs.RunCards.{CardsAtBy}
+use Rattle.run_acts.specs.Speeds.{SpeedsBehind, SpeedsInBy}
+use Rattle.run_acts.proofs.SpeedsTurn.{dark-speeds, seconds-speeds}
 use Rattle.run_acts.proofs.CardTurn.{dark-cards, seconds-shown}
 use Rattle.run_minutes.proofs.Calm.{calm-same}
 use Rattle.run_acts.proofs.turning.turn.Goals as goal
@@ -112,7 +114,7 @@ returns-clause-noted g c = λ lit. (c.lit_turn.new.run, c.lit_turn.ensures.noted
 -- ---- what holds of the devices after any calls
 
 pub returns-then-not-is_lit-clause-later : goal.returns-then-not-is_lit-clause-later
-returns-then-not-is_lit-clause-later g c = later-same (devices (g.M.Medium.state c.args.unit.now) (g.C.Chip.state c.args.card_a.now) (g.D.Chip.state c.args.card_b.now))
+returns-then-not-is_lit-clause-later g c = after-same (devices (g.M.Medium.state c.args.unit.now) (g.C.Chip.state c.args.card_a.now) (g.D.Chip.state c.args.card_b.now))
 
 pub returns-clause-later : goal.returns-clause-later
 returns-clause-later g c = c.lit_turn.ensures.later
@@ -239,6 +241,32 @@ returns-clause-cards g c = λ o done s now actions none there time.
     let low : 0 < run.next = let first = c.requires.going.low in omega (arith, first) in
     seconds-shown c.args.n c.args.speed c.args.begun run c.lit_turn.new.run before after d e (c.requires.going.lit lit) r.0.lit c.requires.some c.requires.minute c.requires.small low c.lit_turn.ensures.booked
     o done s now actions (λ more. none (omega (arith, more))) r.0 time r.1
+
+-- ---- and the blocks of detailed speed
+
+pub returns-then-not-is_lit-clause-speeds : goal.returns-then-not-is_lit-clause-speeds
+returns-then-not-is_lit-clause-speeds g c = λ o done s now actions none there time.
+    let run = c.args.run.now in
+    let before = c.args.outcome.now in
+    let d : Devices = devices (g.M.Medium.state c.args.unit.now) (g.C.Chip.state c.args.card_a.now) (g.D.Chip.state c.args.card_b.now) in
+    let dark : is_lit run.power ≡ false = sym c.is_lit.ensures ∙ c.if-not-is_lit.true in
+    let r : SpeedsInBy false o done s c.args.begun run before d = subst (λ (b : Bool). SpeedsInBy b o done s c.args.begun run before d) dark there in
+    subst (λ (x : Run). SpeedsBehind o (done ++ s ∷ driven (c.args.n - 1) (s.number + 1) c.args.speed []) x before d) (sym c.pass.ensures)
+    (dark-speeds c.args.n c.args.speed c.args.begun run before d c.requires.some c.requires.minute o done s now r.0 r.1)
+
+pub returns-clause-speeds : goal.returns-clause-speeds
+returns-clause-speeds g c = λ o done s now actions none there time.
+    let run = c.args.run.now in
+    let before = c.args.outcome.now in
+    let after = c.lit_turn.new.outcome in
+    let d : Devices = devices (g.M.Medium.state c.args.unit.now) (g.C.Chip.state c.args.card_a.now) (g.D.Chip.state c.args.card_b.now) in
+    let e : Devices = devices (g.M.Medium.state c.lit_turn.new.unit) (g.C.Chip.state c.lit_turn.new.card_a) (g.D.Chip.state c.lit_turn.new.card_b) in
+    let lit : is_lit run.power ≡ true = sym c.is_lit.ensures ∙ c.if-not-is_lit.false in
+    let at : SpeedsInBy true o done s c.args.begun run before d = subst (λ (b : Bool). SpeedsInBy b o done s c.args.begun run before d) lit there in
+    let r : SpeedsInBy true o done s (length s.actions) run before d = subst (λ (k : ℕ). SpeedsInBy true o done s k run before d) (sym actions) at in
+    subst (λ (x : Run). SpeedsBehind o (done ++ s ∷ driven (c.args.n - 1) (s.number + 1) c.args.speed []) x after e) (sym c.pass-2.ensures)
+    (seconds-speeds c.args.n c.args.speed c.args.begun run c.lit_turn.new.run before after d e (c.requires.going.lit lit) r.0.lit c.requires.some c.requires.minute c.requires.small c.lit_turn.ensures.booked c.lit_turn.ensures.speeds
+    o done s now actions (λ more. none (omega (arith, more))) r.0 time r.1 r.2)
 
 -- ---- where no tear of a failed call is told no card has broken down
 

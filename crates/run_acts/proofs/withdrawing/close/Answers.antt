@@ -40,6 +40,8 @@ use Rattle.run_outcome.specs.Lines.{Listed}
 use Rattle.log_model.specs.declared.lines.Break.{Break}
 use Rattle.run_minutes.proofs.Calm.{card-beside, card-fell, card-rests}
 use Rattle.run_acts.specs.Power.{with_cabin}
+use Rattle.run_speeds.proofs.Leaving.{leaves-none}
+use Rattle.run_events.proofs.NoteSpeeds.{event-leaves-speeds}
 use Rattle.run_acts.proofs.withdrawing.close.Given.{Over}
 use Rattle.run_acts.proofs.withdrawing.close.Goals.{In_default, In_default-sizes, After-note_withdrawal, After-tear}
 use Rattle.run_acts.proofs.withdrawing.close.Goals as goal
@@ -227,6 +229,21 @@ returns-in-Err-clause-events g c =
       notes = one-noted U V X X Y Y (g.met.M.Medium.coherent c.args.unit.now) (g.met.M.Medium.coherent c.tear.new.unit) c.requires.ready.is_unit (entry_of CARD_FAULT c.args.at.second c.args.at.second crew crew) (is_err c.tear.result)
           (λ well. ok_gives c.tear.result c.tear.ensures.noted well) c.tear.ensures.moments c.tear.ensures.cause.works;
     }
+
+-- ---- the detailed speed
+
+pub returns-in_default-clause-speeds : goal.returns-in_default-clause-speeds
+returns-in_default-clause-speeds g c = leaves-none (g.M.Medium.state c.args.unit.now)
+
+pub returns-in_default-sizes-clause-speeds : goal.returns-in_default-sizes-clause-speeds
+returns-in_default-sizes-clause-speeds g c = leaves-none (g.M.Medium.state c.args.unit.now)
+
+pub returns-in-Ok-leave-clause-speeds : goal.returns-in-Ok-leave-clause-speeds
+returns-in-Ok-leave-clause-speeds g c = c.note_withdrawal.ensures.speeds
+
+pub returns-in-Err-clause-speeds : goal.returns-in-Err-clause-speeds
+returns-in-Err-clause-speeds g c =
+    event-leaves-speeds CARD_FAULT (fault_of c.args.at.second (crew_of c.tear.new.self.cabin)) (g.M.Medium.state c.args.unit.now) (g.M.Medium.state c.tear.new.unit) (g.met.M.Medium.coherent c.args.unit.now) c.tear.ensures.moments
 
 -- ---- the rings
 

@@ -9,6 +9,8 @@ use Rattle.message_model.specs.Records.{insertion_ring}
 use Rattle.run_note_record.specs.Ringed.{Seating}
 use Rattle.run_acts.specs.Ringing.{odometer_of, Withdraws}
 use Rattle.run_acts.proofs.Ringing.{withdrawal-gone, withdrawal-noted}
+use Rattle.run_speeds.proofs.Leaving.{leaves-none}
+use Rattle.run_events.proofs.NoteSpeeds.{withdrawal-leaves}
 use Rattle.run_acts.proofs.withdrawing.note_withdrawal.Goals as goal
 
 pub returns-then-run-noted-ge-INSERTIONS-clause-quiet : goal.returns-then-run-noted-ge-INSERTIONS-clause-quiet
@@ -19,6 +21,16 @@ returns-clause-quiet g c =
     let time : TimeReal = record { 0 = c.args.at.second } in
     says-of (g.M.Medium.state c.args.unit.now) (g.M.Medium.state c.note_withdrawal.new.unit) (g.met.M.Medium.coherent c.args.unit.now) (IsWithdrawing c.args.entry time c.odometer_now-odometer.result)
     (withdrawing-nothing c.args.entry time c.odometer_now-odometer.result c.requires.entry) c.note_withdrawal.ensures.moments
+
+-- ---- the detailed speed
+
+pub returns-then-run-noted-ge-INSERTIONS-clause-speeds : goal.returns-then-run-noted-ge-INSERTIONS-clause-speeds
+returns-then-run-noted-ge-INSERTIONS-clause-speeds g c = leaves-none (g.M.Medium.state c.args.unit.now)
+
+pub returns-clause-speeds : goal.returns-clause-speeds
+returns-clause-speeds g c =
+    withdrawal-leaves c.args.entry (record { 0 = c.args.at.second }) c.odometer_now-odometer.result (g.M.Medium.state c.args.unit.now) (g.M.Medium.state c.note_withdrawal.new.unit) c.requires.entry (g.met.M.Medium.coherent c.args.unit.now)
+    c.note_withdrawal.ensures.moments
 
 -- ---- the rings
 

@@ -45,6 +45,7 @@ use Rattle.run_rings.proofs.Same.{rings-left}
 use Rattle.run_acts.specs.Ringing.{WithdrawsSo, ClosesRings, ClosesSo}
 use Rattle.run_acts.proofs.Comings.{closes-more}
 use Rattle.run_acts.proofs.Ringing.{settling-leaves, closes-behind}
+use Rattle.run_speeds.specs.Speeds.{LeavesSpeeds}
 use Rattle.run_minutes.proofs.Later.{state-by, later-same, later-then}
 use Rattle.tach_media.specs.Medium.{State, LeavesOnly, HasBroken, HasCause}
 use Rattle.run_note_record.specs.Noting.{Acting}
@@ -197,6 +198,7 @@ Closes state chip which slot at result old new breaks after U V x y = record {
   closed : (closing : Closing) × IsClosed which slot at old new breaks after closing × HasBroken (state x) (state y) (closed_falls closing) × (closing ≡ Closed → ClosesOnCard slot old.minutes (session_of old.keeper.cabin.cards which) (state x) (state y));
   events : NotesClosing which slot at (is_err result) old new breaks after (devices U (state x) (state x)) (devices V (state y) (state y));
   journal : LeavesOnly U V LeavesJournal;
+  speeds : LeavesSpeeds U V;
   rings : is_some U.image ≡ true → ClosesSo which slot at (is_err result) old new breaks after U V;
   left : IfSome (session_of old.keeper.cabin.cards which) (λ s. (act : Activity) × LeavesOnly (state x) (state y) (λ i n. IsSession s.session i → IsCardClosing s.session act i n));
   shut : ShutsSo which slot at old new breaks after (state x) (state y);
@@ -286,7 +288,7 @@ module _ (g : Over) (c : In_ok-settle g) (k : OneCard c.in-Some.card (g.C.Chip.s
   later : AreLater first_ last
   later =
       later-then first_ between last (subst (λ (m : Devices). AreLater first_ m) (k.beside_it (g.M.Medium.state c.settle.new.unit)) c.settle.ensures.later)
-      (later-by k.which (g.M.Medium.state c.settle.new.unit) k.unit (k.state k.before) (k.state k.after) k.beside (state-by (g.M.Medium.state c.settle.new.unit) k.unit _ closes.journal.later closes.cause) closes.later)
+      (later-by k.which (g.M.Medium.state c.settle.new.unit) k.unit (k.state k.before) (k.state k.after) k.beside (state-by (g.M.Medium.state c.settle.new.unit) k.unit _ closes.journal.later closes.cause) closes.later closes.speeds)
 
   calm : AreCalm c.args.outcome.now.breaks.items k.breaks.items first_ last
   calm =
@@ -641,6 +643,11 @@ pub returns-in_err-settle-clause-rings : goal.returns-in_err-settle-clause-rings
 returns-in_err-settle-clause-rings g c = λ tells.
     subst (λ (o : Option Card). WithdrawsSo o c.args.slot c.args.at (is_err c.from_residual.result) c.args.run.now c.settle.new.run c.args.outcome.now c.settle.new.outcome (g.M.Medium.state c.args.unit.now) (g.M.Medium.state c.settle.new.unit)) (sym (seat-left g c))
     (inl (sym (failed g c), cut-first g c, settling-leaves c.args.at true (with_cabin c.leave.new.self c.args.run.now) c.settle.new.run c.args.outcome.now c.settle.new.outcome (g.M.Medium.state c.args.unit.now) (g.M.Medium.state c.settle.new.unit) c.in_err-settle.ensures.noted))
+
+pub returns-in_err-settle-clause-withdrawn : goal.returns-in_err-settle-clause-withdrawn
+returns-in_err-settle-clause-withdrawn g c =
+    subst (λ (o : Option Card). IsWithdrawn o c.args.slot c.args.at (is_err c.from_residual.result) c.args.run.now c.settle.new.run c.args.outcome.now c.settle.new.outcome) (sym (seat-left g c))
+    (inl (sym (failed g c), cut-first g c))
 
 pub returns-in_err-settle-clause-shut : goal.returns-in_err-settle-clause-shut
 returns-in_err-settle-clause-shut g c = λ card there. inl (sym (failed g c), cut-first g c)
