@@ -6,7 +6,7 @@ use Rattle.run_model.specs.declared.Device.{Device}
 use Rattle.run_model.specs.declared.Device.TheVariants.{Unit as OfUnit, CardA, CardB}
 use Rattle.log_model.specs.Causes.{cuts, tears}
 use Rattle.safety_model.specs.Safe.{breakdowns_of}
-use Rattle.recorder_with_cards.specs.Words.{AreLater, log_of, IsFoundLater, HaveTime}
+use Rattle.recorder_with_cards.specs.Words.{AreAfter, log_of, IsFoundLater, HaveTime}
 use Rattle.trace_model.specs.declared.Card.TheVariants.{A, B}
 use Rattle.trace_model.specs.declared.Item.{Item}
 use Rattle.trace_text.specs.declared.lines_trace.Form.TheVariants.{Whole}
@@ -72,13 +72,13 @@ refused-when start before after U V X Y Z W by empty refused =
     ⊎_elim (λ h. inl (record { cause = h.0; same_unit = h.1; same_a = h.2; same_b = h.3; empty = subst IsEmpty (sym h.4) empty })) (λ late. inr late) refused
 
 -- where no call failed no device broke down
-none-broke : (old new : Outside) → AreSound old new → AreLater (devices_of old) (devices_of new) → (device : Device) → breakdowns_of (devices_of new) device ≡ breakdowns_of (devices_of old) device
+none-broke : (old new : Outside) → AreSound old new → AreAfter (devices_of old) (devices_of new) → (device : Device) → breakdowns_of (devices_of new) device ≡ breakdowns_of (devices_of old) device
 none-broke old new sound later OfUnit = ⊎_elim (λ rose. absurd (sound.unit rose)) (λ same. same) later.unit.unbroken
 none-broke old new sound later CardA = ⊎_elim (λ rose. absurd (sound.card_a rose)) (λ same. same) later.card_a.unbroken
 none-broke old new sound later CardB = ⊎_elim (λ rose. absurd (sound.card_b rose)) (λ same. same) later.card_b.unbroken
 
 module _ (old new : Outside) (outcome : Outcome) (start : ℕ) (items : List Item) (not_unit : IsForUnit items → ⊥)
-    (later : AreLater (devices_of old) (devices_of new)) (broke : HasBroken old.unit new.unit (length (cuts true (log_of outcome))))
+    (later : AreAfter (devices_of old) (devices_of new)) (broke : HasBroken old.unit new.unit (length (cuts true (log_of outcome))))
     (is_read : (text : List ℕ) (s : ℕ) (is : List Item) → old.source.left ≡ Some text → IsTraceText Whole text s is → (start ≡ s) × (items ≡ is)) where
   same-trace : (s : ℕ) (is : List Item) → IsTold old s is → (start ≡ s) × (items ≡ is)
   same-trace s is told = is_read told.text s is told.told told.trace

@@ -1,5 +1,5 @@
 -- A unit and a card that were made new: a run begins with their images alone.
-use Rattle.std.proofs.Common.{⊎_elim, ◌≡◌, ◌∙◌, ap, sym, refl, ℕ, ◌+◌, ◌<◌, ◌≤◌, true, List, [], ◌++◌, length, drop, All, is_some, Option, None, Some, option_map, arith, append-nil}
+use Rattle.std.proofs.Common.{⊎_elim, ◌≡◌, ◌∙◌, ap, sym, refl, ℕ, ◌+◌, ◌<◌, ◌≤◌, true, List, [], ◌++◌, length, drop, is_some, Option, None, Some, option_map, arith, append-nil}
 use Rattle.std.proofs.lemmas.List.{drop_all}
 use Rattle.trace_model.specs.declared.Card.{Card}
 use Rattle.trace_model.specs.declared.Card.TheVariants.{A, B}
@@ -10,7 +10,7 @@ use Rattle.tach_media.specs.Medium.{State, IsCoherent, IsSettled, put}
 use Rattle.safety_model.specs.Safe.{Devices, card_of, breakdowns_of}
 use Rattle.run_promise.specs.Opening.{BeginsAs}
 use Rattle.run_promise.specs.Between.{devices}
-use Rattle.recorder_with_cards.specs.Words.{HaveTime, AreLater}
+use Rattle.recorder_with_cards.specs.Words.{HaveTime, AreAfter}
 use Rattle.run_outcome.specs.declared.outcome.Outcome.{Outcome}
 use Rattle.run_opening.specs.declared.fault.RunFault.{RunFault}
 use Rattle.run_opening.specs.declared.fault.RunFault.TheVariants.{MediumFault, BadUnit, ClockBack, SameCard}
@@ -66,7 +66,7 @@ ends-anew x a b start items out U V X Y Z now unit card unit_same card_same befo
     broken CardB = refl
 
 -- no clock stood at its last value before, where none does now
-pub time-before : (d e : Devices) → AreLater d e → HaveTime e → HaveTime d
+pub time-before : (d e : Devices) → AreAfter d e → HaveTime e → HaveTime d
 time-before d e later time = record {
   unit = let clock = later.unit.clock in omega (arith, clock, time.unit);
   card_a = let clock = later.card_a.clock in omega (arith, clock, time.card_a);
@@ -94,12 +94,10 @@ only-failed x a b start began now (ClockBack kept second) may h =
 only-failed x a b start began now (SameCard number) may h = may.numbers (h.cause.2 A).0 (h.cause.2 B).0 ((h.cause.2 A).1 ∙ sym (h.cause.2 B).1)
 
 -- once the unit and card a are new, each device has its image alone
-pub begins-new : (x a b : List ℕ) (U V X Y Z : State) → IsCoherent X → length a ≡ X.size → X.behind ≡ 0 → All (λ n. n < 256) a → MayBeAnew b (devices U X Z)
+pub begins-new : (x a b : List ℕ) (U V X Y Z : State) → IsCoherent X → length a ≡ X.size → X.behind ≡ 0 → MayBeAnew b (devices U X Z)
     → V.image ≡ option_map (λ _. x) U.image → IsSettled V → Y.image ≡ option_map (put 0 a) X.image → IsSettled Y → BeginAs x a b (devices V Y Z)
-begins-new x a b U V X Y Z whole size behind bytes may unit unit_settled card card_settled = record {
+begins-new x a b U V X Y Z whole size behind may unit unit_settled card card_settled = record {
   of_unit = unit-new x U V unit may.unit_tells unit_settled;
   of_a = card-new a X Y whole size behind card may.card_tells card_settled;
   of_b = may.of_b;
-  bytes_a = bytes;
-  bytes_b = may.bytes_b;
 }

@@ -1,6 +1,7 @@
 -- A run's promise goes by the clocks and the breakdowns of the devices as it began, and by nothing else of them.
-use Rattle.std.proofs.Common.{◌≡◌, ◌∙◌, inl, inr, ⊎_elim, ℕ, List, subst, ◌⊎◌}
+use Rattle.std.proofs.Common.{◌≡◌, ◌∙◌, inl, inr, ⊎_elim, ℕ, List, sym, subst, ◌⊎◌}
 use Rattle.trace_model.specs.declared.Card.{Card}
+use Rattle.trace_model.specs.declared.Card.TheVariants.{A, B}
 use Rattle.trace_model.specs.declared.Item.{Item}
 use Rattle.run_model.specs.declared.Device.{Device}
 use Rattle.log_model.specs.Causes.{HasCauses, device_of}
@@ -16,6 +17,8 @@ use Rattle.safety_model.specs.Side.{holder_of, notes_in, IsPrevious}
 use Rattle.unit_model.specs.Image.{recorded, last_kept}
 use Rattle.run_outcome.specs.declared.outcome.Outcome.{Outcome}
 use Rattle.recorder_with_cards.specs.Ends.{recording_of, EndsTrace}
+use Rattle.run_speeds.specs.Speeds.{HasSpeeds}
+use Rattle.run_speeds.specs.Spans.{blocks_by, is_sure_block}
 use Rattle.recorder_with_cards.specs.Still.{KeepsHolder}
 use Rattle.recorder_with_cards.specs.Side.{ShowsSide, HasComeBefore, TellsAtStart}
 use Rattle.recorder_with_cards.specs.KeptAfter.{TellsKept}
@@ -91,4 +94,7 @@ module _ (x a b : List ℕ) (start : ℕ) (items : List Item) (out : Outcome) (p
     places = h.places;
     cards = λ c. subst (λ (n : ℕ). ShowsItsEvents r c n (card_of now c)) (cards c) (h.cards c);
     rows = subst (λ (n : ℕ). (y : List ℕ) → now.unit.left_since n y → KeepsRows r.unit r.card_a r.card_b y) unit h.rows;
+    again = λ u ca cb left left_a left_b.
+        h.again u ca cb (subst (λ (n : ℕ). now.unit.left_since n u) (sym unit) left) (subst (λ (n : ℕ). now.card_a.left_since n ca) (sym (cards A)) left_a) (subst (λ (n : ℕ). now.card_b.left_since n cb) (sym (cards B)) left_b);
+    speeds = λ ring. subst (λ (n : ℕ). HasSpeeds (is_sure_block r.log) r.unit n (blocks_by r.log r.trace) now.unit) unit (h.speeds ring);
   }

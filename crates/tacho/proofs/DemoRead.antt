@@ -29,6 +29,9 @@ use Rattle.log_model.specs.declared.lines.Break.TheVariants.{Cut, Tear}
 use Rattle.run_outcome.specs.declared.outcome.Outcome.{Outcome}
 use Rattle.recorder_with_cards.specs.Words.{ShowsStays}
 use Rattle.recorder_with_cards.specs.Ends.{recording_of, EndsTrace}
+use Rattle.run_speeds.specs.Speeds.{LeavesSpeeds}
+use Rattle.run_speeds.specs.Spans.{blocks_by, is_sure_block}
+use Rattle.run_speeds.proofs.Speeds.{speeds-on}
 use Rattle.recorder_with_cards.specs.Side.{ShowsSide, HasComeBefore, TellsAtStart}
 use Rattle.recorder_with_cards.specs.CardEvents.{ShowsItsEvents}
 use Rattle.recorder_with_cards.specs.LastKept.{TellsLast}
@@ -52,6 +55,9 @@ module _ (U V : State) (is : IsRead U V) where
 
   now-back : (c : List ℕ) → V.may_leave c → U.may_leave c
   now-back c left = ⊎_elim (λ was. was) (λ new. absurd new.2) (is.leaves.now c left)
+
+  speeds-read : LeavesSpeeds U V
+  speeds-read = record { later = omega (arith, is.clock); now = λ c left. (c, now-back c left, refl); since = λ t c low left. inl (back t c low left) }
 
   mark-read : (start : List ShownDay) (past : List HistoryMinute) (lost : List (List HistoryMinute)) (m : Mark) → UnitMarkHolds start past lost U m → UnitMarkHolds start past lost V m
   mark-read start past lost m h = record {
@@ -220,6 +226,8 @@ module _ (U V : State) (is : IsRead U V) where
                 befores = record { comings = s.befores.comings; lines = s.befores.lines; merged = s.befores.merged; tells = λ dense y left. s.befores.tells dense y (now-back y left) };
               };
           rows = λ y left. h.rows y (back p.unit.clock y before left);
+          again = λ u ca cb left left_a left_b. h.again u ca cb (back p.unit.clock u before left) left_a left_b;
+          speeds = λ ring. speeds-on (is_sure_block r.log) r.unit p.unit.clock (blocks_by r.log r.trace) U V (h.speeds ring) speeds-read;
           kept = more-found (U.left_since p.unit.clock) (V.left_since p.unit.clock) (λ y left. is.leaves.keeps p.unit.clock y before left) r.log (spans_of (told_of r)) h.kept;
           last = last-read (recorded r.unit) (history_of r) (lost_of r) out.marks.items p.unit.clock (last_kept r.unit) before h.ends.safe.unit h.last;
           dense = record { insertions = λ dense y left. h.dense.insertions dense y (now-back y left); places = λ dense y left. h.dense.places dense y (now-back y left) };

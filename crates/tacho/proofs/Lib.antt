@@ -4,6 +4,7 @@ pub mod DemoRead
 pub mod WordLists
 pub mod Spelled
 pub mod Fed
+pub mod LineRuns
 pub mod Below
 pub mod EndLaws
 pub mod Endings

@@ -1,8 +1,7 @@
 -- What stands for no card is no valid card, and no call fails on it that leaves it as it was.
-use Rattle.std.proofs.Common.{◌≡◌, ◌∙◌, ℕ, ◌+◌, ◌-◌, ◌/◌, ◌≤◌, ◌<◌, Bool, true, false, Option, Some, None, List, All, replicate, take, is_some, refl, ap, sym, arith, lit<, lit≤, inl}
+use Rattle.std.proofs.Common.{◌≡◌, ◌∙◌, ℕ, ◌+◌, ◌-◌, ◌/◌, ◌≤◌, ◌<◌, Bool, true, false, Option, Some, None, List, replicate, take, is_some, refl, ap, sym, arith, lit<, lit≤, inl}
 use Rattle.std.proofs.Math.Nat.{le-max_left}
 use Rattle.std.proofs.lemmas.List.{drop-replicate, take-replicate}
-use Rattle.std.proofs.lemmas.List.Elements.{All-replicate}
 use Rattle.card_layout.specs.Images.{bytes_at}
 use Rattle.card_layout.specs.declared.files.TheConstants.{LARGEST_IMAGE}
 use Rattle.card_layout.specs.Application.{first_bad_field, application_in}
@@ -20,10 +19,6 @@ use Rattle.tacho.specs.Blank.{zeros, no_image, blank_state}
 pub zeros-read : (n place len : ℕ) → place + len ≤ n → replicate len 0 ≡ bytes_at (zeros n) place len
 unfolding zeros
 zeros-read n place len inside = sym (ap (take len) (drop-replicate place n 0) ∙ take-replicate len (n - place) 0 (omega (arith, inside)))
-
-zeros-bytes : (n : ℕ) → All (λ (m : ℕ). m < 256) (zeros n)
-unfolding zeros
-zeros-bytes n = All-replicate (λ (m : ℕ). m < 256) n 0 (lit< tt)
 
 ten-zeros : first_bad_field (replicate 10 0) ≡ Some 1
 unfolding first_bad_field
@@ -109,8 +104,6 @@ begins-alone x unit a b whole alone = record {
   of_unit = one-image x unit whole alone;
   of_a = record { tells = refl; only = λ c left. sym left };
   of_b = record { tells = refl; only = λ c left. sym left };
-  bytes_a = zeros-bytes LARGEST_IMAGE;
-  bytes_b = zeros-bytes LARGEST_IMAGE;
 }
 
 pub time-alone : (unit : State) (a b : Bool) → unit.clock < last_count → HaveTime (devices unit (blank_state a) (blank_state b))

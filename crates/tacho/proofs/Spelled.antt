@@ -34,7 +34,7 @@ true-le : (m n : ℕ) → nat_le m n ≡ true → m ≤ n
 true-le m n is = grind (arith, nat_tests)
 
 -- a number in the range
-in-range : (least most n : ℕ) (text : List ℕ) → n < 2 ^ 32 → text ≡ decimal n → least ≤ n → n ≤ most → number_in least most text ≡ Some n
+pub in-range : (least most n : ℕ) (text : List ℕ) → n < 2 ^ 32 → text ≡ decimal n → least ≤ n → n ≤ most → number_in least most text ≡ Some n
 unfolding number_in
 in-range least most n text small is low high =
     let e = value-of n text small is in

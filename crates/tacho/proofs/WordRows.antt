@@ -1,13 +1,17 @@
 -- Words and what they ask for, computed.
-use Rattle.std.specs.Prelude.{◌≡◌, Some, None, [], ◌∷◌, ◌++◌, codes, replicate, refl}
+use Rattle.std.specs.Prelude.{◌≡◌, ℕ, Option, Some, None, [], ◌∷◌, ◌++◌, codes, replicate, refl}
+use Rattle.std.proofs.Common.{ap, sym, arith}
+use Rattle.std.proofs.lemmas.Fmt.{decimal_digit}
+use Rattle.std.specs.Fmt.{digits}
 use Rattle.minute_model.specs.declared.Rule.TheVariants.{Original, Amended}
 use Rattle.trace_model.specs.declared.Card.TheVariants.{B}
-use Rattle.tacho.specs.declared.forms.Form.TheVariants.{Minutes, Upgrade, State, Serve, ServeHex, ServePackets, Download, DownloadPackets, Read, Help, Version}
-use Rattle.tacho.specs.declared.forms.Reading.TheVariants.{View, Match, MatchAll, Totals}
-use Rattle.tacho.specs.declared.forms.TheConstants.{PLATE}
+use Rattle.tacho.specs.declared.forms.Form.TheVariants.{Minutes, Upgrade, State, Serve, ServeHex, ServePackets, Download, DownloadNoisy, DownloadPackets, Read, Help, Version}
+use Rattle.tacho.specs.declared.forms.Reading.TheVariants.{View, ByHand, Match, MatchAll, Totals, Speeds}
+use Rattle.tacho.specs.declared.forms.TheConstants.{PLATE, SEED_MOST}
 use Rattle.tacho.specs.Texts.{word_in, number_in}
 use Rattle.trace_model.specs.Names.{card_named}
-use Rattle.tacho.specs.Forms.{name_in, form_of}
+use Rattle.tacho.specs.Forms.{◌>>=◌, name_in, form_of}
+use Rattle.tacho.proofs.Spelled.{in-range}
 
 minutes-row : form_of (codes "minutes" ∷ []) ≡ Some (Minutes Original)
 unfolding form_of
@@ -69,6 +73,13 @@ download-packets-row : form_of (codes "download" ∷ codes "packets" ∷ []) ≡
 unfolding form_of
 download-packets-row = refl
 
+seven-row : number_in 0 SEED_MOST (codes "7") ≡ Some 7
+seven-row = in-range 0 SEED_MOST 7 (codes "7") (omega arith) (sym (decimal_digit 7 (omega arith))) (omega arith) (omega arith)
+
+noisy-row : form_of (codes "download" ∷ codes "noisy" ∷ codes "7" ∷ []) ≡ Some (DownloadNoisy 7)
+unfolding form_of
+noisy-row = ap (λ (o : Option ℕ). o >>= (λ seed. Some (DownloadNoisy seed))) seven-row
+
 no-noisy-row : form_of (codes "download" ∷ codes "noisy" ∷ codes "2147483648" ∷ []) ≡ None
 unfolding form_of number_in
 no-noisy-row = refl
@@ -76,6 +87,10 @@ no-noisy-row = refl
 view-row : form_of (codes "view" ∷ []) ≡ Some (Read (View None))
 unfolding form_of
 view-row = refl
+
+by-hand-row : form_of (codes "view" ∷ codes "manual" ∷ []) ≡ Some (Read ByHand)
+unfolding form_of
+by-hand-row = refl
 
 match-row : form_of (codes "match" ∷ []) ≡ Some (Read Match)
 unfolding form_of
@@ -92,6 +107,18 @@ totals-row = refl
 chart-too-many-row : form_of (codes "chart" ∷ codes "last" ∷ codes "367" ∷ []) ≡ None
 unfolding form_of number_in
 chart-too-many-row = refl
+
+speeds-row : form_of (codes "speeds" ∷ []) ≡ Some (Read (Speeds None))
+unfolding form_of
+speeds-row = refl
+
+speeds-last-row : form_of (codes "speeds" ∷ codes "last" ∷ codes "1440" ∷ []) ≡ Some (Read (Speeds (Some 1440)))
+unfolding form_of number_in digits
+speeds-last-row = refl
+
+speeds-too-many-row : form_of (codes "speeds" ∷ codes "last" ∷ codes "1441" ∷ []) ≡ None
+unfolding form_of number_in
+speeds-too-many-row = refl
 
 not-last-row : form_of (codes "view" ∷ codes "first" ∷ codes "1" ∷ []) ≡ None
 unfolding form_of

@@ -33,6 +33,8 @@ use Rattle.run_opening.specs.declared.fault.RunFault.{RunFault}
 use Rattle.run_opening.specs.declared.fault.RunFault.TheVariants.{MediumFault, BadUnit, ClockBack, SameCard}
 use Rattle.run_opening.specs.Units.{IsUnitRefused}
 use Rattle.recorder_with_cards.specs.Words.{log_of, IsFoundLater}
+use Rattle.run_speeds.specs.Speeds.{HasSpeedRing, HasSpeeds}
+use Rattle.run_speeds.specs.Spans.{blocks_by, is_sure_block}
 use Rattle.run_outcome.specs.declared.outcome.Outcome.{Outcome}
 use Rattle.recorder_with_cards.specs.Ends.{recording_of}
 use Rattle.recorder_with_cards.specs.KeptAfter.{TellsKept}
@@ -118,6 +120,8 @@ pub record IsAlone (cards : Start) (x : List ℕ) (start : ℕ) (items : List It
   -- the rings of insertions and places show what they showed
   pub insertions : IsDense insertion_ring x → (y : List ℕ) → unit.may_leave y → ShowsOld insertion_ring x y
   pub places : IsDense unit_place_ring x → (y : List ℕ) → unit.may_leave y → ShowsOld unit_place_ring x y
+  -- where its ring was dense, each image that a stop may leave carries the blocks of detailed speed of the run
+  pub speeds : HasSpeedRing x → HasSpeeds (is_sure_block (log_of o)) x clock (blocks_by (log_of o) (seconds_of start items)) unit
   -- what was found kept after its cuts was so
   pub kept : TellsKept (recording_of x no_image no_image start items o) clock unit
   -- the last-kept minute of each image that a stop might have left since the start is that of the last minute which it shows

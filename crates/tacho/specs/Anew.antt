@@ -1,5 +1,5 @@
 -- A run of a trace on a unit and a card that are made new before it (profile).
-use Rattle.std.specs.Prelude.{◌≡◌, ◌≤◌, ℕ, List, true, is_some, All, ◌<◌}
+use Rattle.std.specs.Prelude.{◌≡◌, ◌≤◌, ℕ, List, true, is_some}
 use Rattle.tach_media.specs.Medium.{State, Rose}
 use Rattle.trace_model.specs.declared.Item.{Item}
 use Rattle.unit_model.specs.NewImage.{new_image}
@@ -30,7 +30,6 @@ pub record MayBeAnew (card_b : List ℕ) (old : Devices) : Type 0 where
   pub unit_tells : is_some old.unit.image ≡ true
   pub card_tells : is_some old.card_a.image ≡ true
   pub of_b : BeginsAs card_b old.card_b
-  pub bytes_b : All (λ n. n < 256) card_b
 
 -- THE TRACE WAS RECORDED on a new unit, a new card a, and card b, with these images: once those were made, at these clocks, all is recorded
 -- that a run promises.

@@ -6,7 +6,7 @@ use Rattle.log_model.specs.Causes.{cuts, tears}
 use Rattle.safety_model.specs.Safe.{Devices, breakdowns_of}
 use Rattle.run_promise.specs.Between.{devices}
 use Rattle.run_promise.specs.Whole.{NothingFailed}
-use Rattle.recorder_with_cards.specs.Words.{HaveTime, AreLater, log_of, IsFoundLater}
+use Rattle.recorder_with_cards.specs.Words.{HaveTime, AreAfter, log_of, IsFoundLater}
 use Rattle.run_opening.specs.Opening.{IsRefused, IsAsItWas}
 use Rattle.run_opening.specs.declared.fault.RunFault.{RunFault}
 use Rattle.tacho.specs.Alone.{IsForUnit}
@@ -79,7 +79,7 @@ pub record EndsWithCards (old new : Outside) (outcome : Outcome) (fault : Fault)
       → (MayRecord unit card_a card_b start → ⊥) → IsRefusedBy unit card_a card_b start old new fault
   -- WHATEVER THE DEVICES TELL: no clock and no count has fallen, and none broke down but where a call failed; and a refusal came in the opening,
   -- with each device as it was and no outcome, or of a unit that was read anew at a power-on.
-  pub later : AreLater (devices_of old) (devices_of new)
+  pub later : AreAfter (devices_of old) (devices_of new)
   pub early : (start : ℕ) (items : List Item) → IsTold old start items → IsRefusal fault → IsNotRecorded start (devices_of old) (devices_of new) outcome fault
   -- Each cut that a failed call made is a breakdown of the unit more.
   pub broke : HasBroken old.unit new.unit (length (cuts true (log_of outcome)))

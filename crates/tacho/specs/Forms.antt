@@ -9,8 +9,8 @@ use Rattle.unit_memory.specs.declared.format.Identity.{Identity}
 use Rattle.tacho.specs.declared.forms.Form.{Form}
 use Rattle.tacho.specs.declared.forms.Form.TheVariants.{Minutes, Record, FormatCard, FormatUnit, Upgrade, State, Serve, ServeHex, ServePackets, Download, DownloadNoisy, DownloadPackets, Read, CardFile, Demo, Help, Version}
 use Rattle.tacho.specs.declared.forms.Reading.{Reading}
-use Rattle.tacho.specs.declared.forms.Reading.TheVariants.{View, Match, MatchAll, Totals, Chart}
-use Rattle.tacho.specs.declared.forms.TheConstants.{CARD_NUMBER, NAME, PLATE, VIN, NATION_MOST, LIMIT_LEAST, LIMIT_MOST, LAST_LEAST, LAST_MOST, SEED_MOST}
+use Rattle.tacho.specs.declared.forms.Reading.TheVariants.{View, ByHand, Match, MatchAll, Totals, Chart, Speeds}
+use Rattle.tacho.specs.declared.forms.TheConstants.{CARD_NUMBER, NAME, PLATE, VIN, NATION_MOST, LIMIT_LEAST, LIMIT_MOST, LAST_LEAST, LAST_MOST, SPEEDS_MOST, SEED_MOST}
 use Rattle.tacho_types.specs.Texts.{padded_text}
 use Rattle.tacho.specs.Texts.{word_in, number_in}
 
@@ -49,13 +49,14 @@ unit_in nation plate vin limit = do
   limit ← number_in LIMIT_LEAST LIMIT_MOST limit
   Some (record { vin = vin; registration = registration; limit = limit })
 
--- `view`, `match`, `totals` and `chart`
+-- `view`, `match`, `totals`, `chart` and `speeds`
 abbrev pub reading_of : List ℕ → Option Reading
 reading_of word =
     if bytes_eq word (codes "view") then Some (View None)
     else (if bytes_eq word (codes "match") then Some Match
     else (if bytes_eq word (codes "totals") then Some (Totals None)
-    else (if bytes_eq word (codes "chart") then Some (Chart None) else None)))
+    else (if bytes_eq word (codes "chart") then Some (Chart None)
+    else (if bytes_eq word (codes "speeds") then Some (Speeds None) else None))))
 
 abbrev pub read_form : List ℕ → Option Form
 read_form word = do
@@ -86,7 +87,7 @@ demo_of seed = do
   seed ← number_in 0 SEED_MOST seed
   Some (Demo seed)
 
--- `minutes 2009` and `match all`; `serve --hex`, of which the second word alone begins with `-`; `serve packets` and `download packets`;
+-- `minutes 2009`, `match all` and `view manual`; `serve --hex`, of which the second word alone begins with `-`; `serve packets` and `download packets`;
 -- `card` and `demo`, and what follows them
 abbrev pub form_of_two : (command option : List ℕ) → Option Form
 form_of_two command option =
@@ -95,8 +96,9 @@ form_of_two command option =
     else (if bytes_eq command (codes "serve") && bytes_eq option (codes "packets") then Some ServePackets
     else (if bytes_eq command (codes "download") && bytes_eq option (codes "packets") then Some DownloadPackets
     else (if bytes_eq command (codes "match") && bytes_eq option (codes "all") then Some (Read MatchAll)
+    else (if bytes_eq command (codes "view") && bytes_eq option (codes "manual") then Some (Read ByHand)
     else (if bytes_eq command (codes "card") then file_of option
-    else (if bytes_eq command (codes "demo") then demo_of option else None))))))
+    else (if bytes_eq command (codes "demo") then demo_of option else None)))))))
 
 -- `unit N PLATE VIN LIMIT`
 abbrev pub unit_form : (nation plate vin limit : List ℕ) → Option Form
@@ -120,9 +122,9 @@ abbrev pub form_of_six : (command what first second third fourth : List ℕ) →
 form_of_six command what first second third fourth =
     if bytes_eq command (codes "format") then format_of what first second third fourth else None
 
--- `last N`, N from 1 to 366
-abbrev pub last_in : (which count : List ℕ) → Option ℕ
-last_in which count = if bytes_eq which (codes "last") then number_in LAST_LEAST LAST_MOST count else None
+-- `last N`, N from 1 to so many
+abbrev pub last_in : (most : ℕ) → (which count : List ℕ) → Option ℕ
+last_in most which count = if bytes_eq which (codes "last") then number_in LAST_LEAST most count else None
 
 -- `view`, `totals` and `chart`, of so many last days
 abbrev pub days_form : (command : List ℕ) (days : ℕ) → Option Form
@@ -140,15 +142,23 @@ noisy_form seed = do
 abbrev pub noisy_of : (which seed : List ℕ) → Option Form
 noisy_of which seed = if bytes_eq which (codes "noisy") then noisy_form seed else None
 
--- one of these, and `last N` behind it
+-- one of these, and `last N` behind it, N from 1 to 366
 abbrev pub last_form : (command which count : List ℕ) → Option Form
 last_form command which count = do
-  days ← last_in which count
+  days ← last_in LAST_MOST which count
   days_form command days
 
--- `download` and what follows it, or one of these
+-- `last N` behind `speeds`, N from 1 to 1440
+abbrev pub speeds_of : (which count : List ℕ) → Option Form
+speeds_of which count = do
+  minutes ← last_in SPEEDS_MOST which count
+  Some (Read (Speeds (Some minutes)))
+
+-- `download` and `speeds` and what follows them, or one of these
 abbrev pub form_of_three : (command which count : List ℕ) → Option Form
-form_of_three command which count = if bytes_eq command (codes "download") then noisy_of which count else last_form command which count
+form_of_three command which count =
+    if bytes_eq command (codes "download") then noisy_of which count
+    else (if bytes_eq command (codes "speeds") then speeds_of which count else last_form command which count)
 
 -- what the words ask for; nothing where they are in no form
 unfoldable pub form_of : List (List ℕ) → Option Form

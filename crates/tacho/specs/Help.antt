@@ -27,10 +27,13 @@ help_text = as_lines (
     codes "tacho card a|b > FILE                    write a card's file" ∷
     codes "tacho view < FILE                        print the minutes of a unit's file, or a card's entries" ∷
     codes "tacho view last N < FILE                 print its last N days (1 to 366)" ∷
+    codes "tacho view manual < FILE                 print the entries by hand of a card's file" ∷
     codes "tacho totals < FILE                      print the hours of each day of such a file" ∷
     codes "tacho totals last N < FILE               print those of its last N days" ∷
     codes "tacho chart < FILE > PICTURE             draw its days as one SVG" ∷
     codes "tacho chart last N < FILE > PICTURE      draw its last N days" ∷
+    codes "tacho speeds < FILE                      print the speed of each minute of a unit's file" ∷
+    codes "tacho speeds last N < FILE               print that of its last N minutes (1 to 1440)" ∷
     codes "tacho match < FILES                      say whether a card's file, behind a unit's, stands in that" ∷
     codes "tacho match all < FILES                  print each difference, and the counts" ∷
     codes "tacho format unit N PLATE VIN LIMIT      make a new unit in unit.img: what it held is lost" ∷
@@ -44,7 +47,7 @@ help_text = as_lines (
 
 -- the version, and that of the toolchain which proves it
 unfoldable pub version_text : List ℕ
-version_text = as_lines (codes "tacho 1.1.0" ∷ codes "rattle-kit-13f logic dac8208d650f15bf" ∷ [])
+version_text = as_lines (codes "tacho 1.2.0" ∷ codes "rattle-kit-13f logic dac8208d650f15bf" ∷ [])
 
 -- all is done, or the sink failed
 abbrev pub IsTextEnd : Fault → Type 0

@@ -6,6 +6,7 @@ pub mod End
 pub mod Outside
 pub mod Reading
 pub mod Minutes
+pub mod LineRuns
 pub mod Blank
 pub mod Alone
 pub mod Outcomes

@@ -4,12 +4,14 @@ use Rattle.std.specs.Io.KnownBytes.{Appends, IsAtEnd}
 use Rattle.tach_media.specs.Medium.{Rose}
 use Rattle.tach_media.specs.Streams.{AppendsFront}
 use Rattle.card_match.specs.Files.{IsBadSource}
+use Rattle.file_view.specs.UnitFiles.{IsBadUnitFile}
+use Rattle.unit_speeds.specs.Text.{PrintsSpeeds}
 use Rattle.tacho.specs.declared.forms.Reading.{Reading}
-use Rattle.tacho.specs.declared.forms.Reading.TheVariants.{View, Match, MatchAll, Totals, Chart}
+use Rattle.tacho.specs.declared.forms.Reading.TheVariants.{View, ByHand, Match, MatchAll, Totals, Chart, Speeds}
 use Rattle.tacho.specs.declared.end.Fault.{Fault}
 use Rattle.tacho.specs.declared.end.Fault.TheVariants.{Done, TooLong, ReadFault, WriteFault, Memory, BadFile}
 use Rattle.tacho.specs.Outside.{Outside}
-use Rattle.tacho.specs.View.{PrintsFile, IsBadFile}
+use Rattle.tacho.specs.View.{PrintsFile, IsBadFile, PrintsByHand, IsNoCardFile}
 use Rattle.tacho.specs.Match.{PrintsMatch, PrintsDifferences}
 use Rattle.tacho.specs.Reports.{PrintsTotals, PrintsChart}
 
@@ -20,18 +22,22 @@ most_bytes = 16777216
 -- what is printed of a source of these bytes
 abbrev pub Prints : Reading → (bytes out : List ℕ) → Type 0
 Prints (View last) bytes out = PrintsFile last bytes out
+Prints ByHand bytes out = PrintsByHand bytes out
 Prints Match bytes out = PrintsMatch bytes out
 Prints MatchAll bytes out = PrintsDifferences bytes out
 Prints (Totals last) bytes out = PrintsTotals last bytes out
 Prints (Chart last) bytes out = PrintsChart last bytes out
+Prints (Speeds last) bytes out = PrintsSpeeds last bytes out
 
 -- the bytes are outside the grammar, first at this place
 abbrev pub IsBad : Reading → (place : ℕ) → List ℕ → Type 0
 IsBad (View last) place bytes = IsBadFile place bytes
+IsBad ByHand place bytes = IsNoCardFile place bytes
 IsBad Match place bytes = IsBadSource place bytes
 IsBad MatchAll place bytes = IsBadSource place bytes
 IsBad (Totals last) place bytes = IsBadFile place bytes
 IsBad (Chart last) place bytes = IsBadFile place bytes
+IsBad (Speeds last) place bytes = IsBadUnitFile place bytes
 
 -- the file is bad at a place of which this holds, or memory ran out
 abbrev pub IsUnshown : (ℕ → Type 0) → Fault → Type 0

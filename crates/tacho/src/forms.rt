@@ -3,7 +3,7 @@ ghost use Rattle.std.specs.Prelude.{◌≡◌, ◌∷◌, ◌+◌, ◌≤◌, If
 ghost use Rattle.std.specs.List.{list_all};
 ghost use Rattle.tacho_types.specs.Texts.{padded_text};
 ghost use Rattle.tacho.specs.Texts.{is_character, is_word, begins_with_dash, word_in, number_in};
-ghost use Rattle.tacho.specs.Forms.{name_in, card_in, registration_in, unit_in, reading_of, form_of_one, form_of_two, file_of, demo_of, last_in, days_form, last_form, noisy_of, form_of_three, format_of, form_of_six, form_of};
+ghost use Rattle.tacho.specs.Forms.{name_in, card_in, registration_in, unit_in, reading_of, form_of_one, form_of_two, file_of, demo_of, last_in, days_form, last_form, speeds_of, noisy_of, form_of_three, format_of, form_of_six, form_of};
 
 use crate::words::Words;
 use card_files::CardIdentity;
@@ -39,6 +39,9 @@ pub const LAST_LEAST: u32 = 1;
 
 /// The greatest number of days that `last N` takes: so many days a unit keeps.
 pub const LAST_MOST: u32 = 366;
+
+/// The greatest number of minutes that `speeds last N` takes: so many minutes of detailed speed a unit keeps.
+pub const SPEEDS_MOST: u32 = 1440;
 
 /// The greatest number that a demonstration is drawn from.
 pub const SEED_MOST: u32 = 2147483647;
@@ -87,6 +90,8 @@ pub enum Form {
 pub enum Reading {
     /// `view`: the days of a unit file or a card file; `view last N`: its last so many, from 1 to 366.
     View { last: Option<u32> },
+    /// `view manual`: the entries by hand of a card file.
+    ByHand,
     /// `match`: whether the entries of a card file stand in a unit file.
     Match,
     /// `match all`: which of them do not, and how they differ.
@@ -95,6 +100,8 @@ pub enum Reading {
     Totals { last: Option<u32> },
     /// `chart`: a picture of these days; `chart last N`: of the last so many.
     Chart { last: Option<u32> },
+    /// `speeds`: the detailed speed of a unit file; `speeds last N`: of its last so many minutes, from 1 to 1440.
+    Speeds { last: Option<u32> },
 }
 
 /// What the words ask for, if they are in a form that is known. The test takes no memory.
@@ -168,6 +175,9 @@ fn reading_of(word: &str) -> Option<Reading>
     if is_text(word, "chart") {
         return Some(Reading::Chart { last: None });
     }
+    if is_text(word, "speeds") {
+        return Some(Reading::Speeds { last: None });
+    }
     None
 }
 
@@ -192,6 +202,11 @@ fn form_of_two(command: &str, option: &str) -> Option<Form>
     if is_text(command, "match") && is_text(option, "all") {
         return Some(Form::Read {
             reading: Reading::MatchAll,
+        });
+    }
+    if is_text(command, "view") && is_text(option, "manual") {
+        return Some(Form::Read {
+            reading: Reading::ByHand,
         });
     }
     if is_text(command, "card") {
@@ -230,6 +245,9 @@ fn form_of_three(command: &str, which: &str, count: &str) -> Option<Form>
     if is_text(command, "download") {
         return noisy_of(which, count);
     }
+    if is_text(command, "speeds") {
+        return speeds_of(which, count);
+    }
     last_form(command, which, count)
 }
 
@@ -250,18 +268,31 @@ fn noisy_of(which: &str, seed: &str) -> Option<Form>
 fn last_form(command: &str, which: &str, count: &str) -> Option<Form>
     ensures { result ≡ last_form command.now which.now count.now }
 {
-    let Some(days) = last_in(which, count) else {
+    let Some(days) = last_in(which, count, LAST_MOST) else {
         return None;
     };
     days_form(command, days)
 }
 
-/// Of how many last days is to be told.
-fn last_in(which: &str, count: &str) -> Option<u32>
-    ensures { result ≡ last_in which.now count.now }
+/// `last N` behind the word that tells of minutes.
+fn speeds_of(which: &str, count: &str) -> Option<Form>
+    ensures { result ≡ speeds_of which.now count.now }
+{
+    let Some(minutes) = last_in(which, count, SPEEDS_MOST) else {
+        return None;
+    };
+    let last = Some(minutes);
+    Some(Form::Read {
+        reading: Reading::Speeds { last },
+    })
+}
+
+/// Of how many last ones is to be told, if of no more than so many.
+fn last_in(which: &str, count: &str, most: u32) -> Option<u32>
+    ensures { result ≡ last_in most which.now count.now }
 {
     if is_text(which, "last") {
-        return number(count, LAST_LEAST, LAST_MOST);
+        return number(count, LAST_LEAST, most);
     }
     None
 }

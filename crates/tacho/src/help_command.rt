@@ -20,10 +20,13 @@ tacho download packets                   ask a unit by packets, and write its fi
 tacho card a|b > FILE                    write a card's file
 tacho view < FILE                        print the minutes of a unit's file, or a card's entries
 tacho view last N < FILE                 print its last N days (1 to 366)
+tacho view manual < FILE                 print the entries by hand of a card's file
 tacho totals < FILE                      print the hours of each day of such a file
 tacho totals last N < FILE               print those of its last N days
 tacho chart < FILE > PICTURE             draw its days as one SVG
 tacho chart last N < FILE > PICTURE      draw its last N days
+tacho speeds < FILE                      print the speed of each minute of a unit's file
+tacho speeds last N < FILE               print that of its last N minutes (1 to 1440)
 tacho match < FILES                      say whether a card's file, behind a unit's, stands in that
 tacho match all < FILES                  print each difference, and the counts
 tacho format unit N PLATE VIN LIMIT      make a new unit in unit.img: what it held is lost
@@ -37,7 +40,7 @@ Example: (echo start 1267401600; echo run 3600 50) | tacho minutes
 ";
 
 /// What `--version` prints: the version, and that of the toolchain which proves it.
-const VERSION: &[u8] = b"tacho 1.1.0
+const VERSION: &[u8] = b"tacho 1.2.0
 rattle-kit-13f logic dac8208d650f15bf
 ";
 

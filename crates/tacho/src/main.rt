@@ -1,5 +1,5 @@
-//! The program: it hands its words and its streams to the top call, prints a line on standard error for each call that failed in a run, and
-//! the fault's, and ends with its status.
+//! The program: it hands its words and its streams to the top call, prints on standard error what a device's file system lacks, a line for each
+//! call that failed in a run, and the fault's, and ends with its status.
 #![tactic(auto)]
 
 ghost use Rattle.tach_media.specs.Medium.{IsUntouched};
@@ -32,7 +32,7 @@ mod words;
 use card_commands::SimCard;
 use card_layout::LARGEST_IMAGE;
 use end::{Ended, Fault};
-use failure_lines::put_failures;
+use failure_lines::{put_failures, put_missing};
 use forms::{Form, form_of};
 use packet_service::FileSink;
 use run_model::Device;
@@ -122,6 +122,7 @@ fn path_there<'a>(rt: &HostRuntime, path: &'a str) -> &'a str {
 
 /// The top call over the program's streams, and over the unit and the cards in the working folder's files. A stream that is closed has left its number
 /// free: a folder takes it, which can be neither read nor written, so that no device's file gets it, over which then would be written what is printed.
+/// Where a device's file system lacks what its file asks of it, one line on standard error says what.
 fn run(rt: &HostRuntime) -> Ended {
     let _first = File::open(rt, "/");
     let _second = File::open(rt, "/");
@@ -129,16 +130,26 @@ fn run(rt: &HostRuntime) -> Ended {
     match words_of(rt) {
         Ok(words) => {
             let access = access_of(&words);
-            tacho(
+            let mut unit = file(rt, "unit.img", IMAGE_SIZE, access);
+            let mut card_a = SimCard::new(file(rt, "card-a.img", LARGEST_IMAGE, access));
+            let mut card_b = SimCard::new(file(rt, "card-b.img", LARGEST_IMAGE, access));
+            let ended = tacho(
                 rt.alloc(),
                 &words,
                 &mut StdSource::new(rt.stdin()),
                 &mut StdSink::new(rt.stdout()),
                 &mut FileSink::new(rt, "unit.ddd"),
-                &mut file(rt, "unit.img", IMAGE_SIZE, access),
-                &mut SimCard::new(file(rt, "card-a.img", LARGEST_IMAGE, access)),
-                &mut SimCard::new(file(rt, "card-b.img", LARGEST_IMAGE, access)),
-            )
+                &mut unit,
+                &mut card_a,
+                &mut card_b,
+            );
+            let _ = put_missing(
+                &mut StdSink::new(rt.stderr()),
+                unit.missing(),
+                card_a.medium().missing(),
+                card_b.medium().missing(),
+            );
+            ended
         }
         Err(fault) => Ended::of(rt.alloc(), nothing(rt.alloc()), fault),
     }

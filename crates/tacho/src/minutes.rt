@@ -1,8 +1,9 @@
 //! The decided minutes of a trace, as the lines of their view.
-ghost use Rattle.std.specs.Prelude.{◌≡◌, ◌+◌, ◌<◌, ◌≤◌, ◌++◌, List, IfOk, OnOk, false};
+ghost use Rattle.std.specs.Prelude.{◌≡◌, ℕ, ◌+◌, ◌<◌, ◌≤◌, ◌++◌, List, map, IfOk, OnOk, false};
 ghost use Rattle.minute_model.specs.declared.Minute.{Minute as Decided};
 ghost use Rattle.std.specs.List.{AllByRecursion};
 ghost use Rattle.minute_model.specs.Span.{Span, fed_many, decided_in};
+ghost use Rattle.minute_rules.specs.Alike.{minute_later, repeated, decided_alike};
 ghost use Rattle.minute_rules.specs.Kept.{StandsFor};
 ghost use Rattle.trace_model.specs.Trace.{item_seconds};
 ghost use Rattle.trace_text.specs.declared.lines_trace.Form.TheVariants.{Minutes as FormOfMinutes};
@@ -11,15 +12,22 @@ ghost use Rattle.trace_text.specs.Trace.{IsWellFormed};
 ghost use Rattle.tacho.specs.Feeding.{fed_item};
 ghost use Rattle.view_model.specs.Lines.{lines_of, same_unit};
 ghost use Rattle.tacho.specs.Minutes.{without_card, minutes_printed, lines_shown};
+ghost use Rattle.tacho.specs.LineRuns.{shown_run, ended_at};
+ghost use Rattle.view_model.specs.declared.Viewed.{Viewed as ViewedMinute};
 
 use activity_codec::{Activity, Steps};
-use minute_rules::{Minute, Minutes, Rule};
+use minute_rules::{Alike, Minute, Minutes, Rule};
 use std::alloc::{AllocError, Global};
 use std::marker::Brand;
 use std::sync::ledger::{Blank, Ledger};
 use trace_text::{Action, Item, Trace};
 use view_model::{Line, State, UnitShown, Viewed};
 use view_text::add_minute;
+
+/// How many minutes a day has, and the number of its last one.
+const MINUTES_OF_DAY: u32 = 1440;
+
+const LAST_OF_DAY: u32 = 1439;
 
 /// The last second that a time of four bytes can name.
 pub const LAST_TIME: u32 = 4294967295;
@@ -82,7 +90,7 @@ fn run(
     run_pieces::<Brand>(minutes, lines, seconds, speed, Blank::new(1))
 }
 
-/// `run`, at most a minute at a time, by steps that nobody counts.
+/// `run`, a minute at a time or minutes that go on alike, by steps that nobody counts.
 fn run_pieces<L: Ledger>(
     minutes: &mut Minutes,
     lines: &mut Vec<Line<UnitShown>>,
@@ -102,30 +110,96 @@ fn run_pieces<L: Ledger>(
     let mut steps = Steps::<L>::new(blank);
     let mut left = seconds;
     while left > 0 {
-        let n = left.min(60 - minutes.next() % 60);
-        let decided = minutes.feed_run(n, speed, &mut steps);
-        show(lines, decided.as_slice())?;
-        left -= n;
+        let alike = minutes.feed_long(left, speed, &mut steps);
+        show(lines, &alike)?;
+        left -= alike.seconds;
     }
     Ok(())
 }
 
-/// Further minutes.
-fn show(lines: &mut Vec<Line<UnitShown>>, minutes: &[Minute]) -> Result<(), AllocError>
-    ensures { (before : List Decided) → lines.old.items ≡ lines_shown before → OnOk result (lines.new.items ≡ lines_shown (before ++ minutes.now)) }
+/// Further minutes that are decided alike.
+fn show(lines: &mut Vec<Line<UnitShown>>, alike: &Alike) -> Result<(), AllocError>
+    requires { AllByRecursion (λ m. m.minute + alike.now.times ≤ LAST_TIME) alike.now.decided.items }
+    ensures { (speed : ℕ) (before : List Decided) → lines.old.items ≡ lines_shown before → OnOk result (lines.new.items ≡ lines_shown (before ++ decided_alike speed alike.now)) }
+{
+    let decided = alike.decided.as_slice();
+    let count = decided.len();
+    if count == 1 {
+        return show_run(lines, with_no_card(decided[0], 0), alike.times);
+    }
+    show_each(lines, decided, alike.times)
+}
+
+/// Further minutes, so many times, each time a minute later.
+fn show_each(
+    lines: &mut Vec<Line<UnitShown>>,
+    minutes: &[Minute],
+    times: u32,
+) -> Result<(), AllocError>
+    requires { AllByRecursion (λ m. m.minute + times ≤ LAST_TIME) minutes.now }
+    ensures { (speed : ℕ) (before : List Decided) → lines.old.items ≡ lines_shown before → OnOk result (lines.new.items ≡ lines_shown (before ++ repeated speed times minutes.now)) }
+{
+    for turn in 0..times {
+        show_later(lines, minutes, turn)?;
+    }
+    Ok(())
+}
+
+/// A minute so many times, each time a minute later: those of a day go onto one line.
+fn show_run(
+    lines: &mut Vec<Line<UnitShown>>,
+    minute: Viewed<UnitShown>,
+    times: u32,
+) -> Result<(), AllocError>
+    requires { minute.minute + times ≤ LAST_TIME }
+    ensures { (before : List (ViewedMinute UnitShown)) → lines.old.items ≡ lines_of same_unit before → OnOk result (lines.new.items ≡ lines_of same_unit (before ++ shown_run minute times)) }
+{
+    let mut done = 0;
+    while done < times {
+        let next = Viewed {
+            minute: minute.minute + done,
+            shown: minute.shown,
+        };
+        add_minute(lines, next)?;
+        let more = (times - done - 1).min(LAST_OF_DAY - next.minute % MINUTES_OF_DAY);
+        end_at(lines.as_mut_slice(), next.minute + more);
+        done += 1 + more;
+    }
+    Ok(())
+}
+
+/// The last line ends with this minute.
+fn end_at(lines: &mut [Line<UnitShown>], minute: u32)
+    ensures { lines.new ≡ ended_at minute lines.old }
+{
+    let count = lines.len();
+    if count > 0 {
+        lines[count - 1].last = minute;
+    }
+}
+
+/// Further minutes, so many minutes later.
+fn show_later(
+    lines: &mut Vec<Line<UnitShown>>,
+    minutes: &[Minute],
+    later: u32,
+) -> Result<(), AllocError>
+    requires { AllByRecursion (λ m. m.minute + later ≤ LAST_TIME) minutes.now }
+    ensures { (speed : ℕ) (before : List Decided) → lines.old.items ≡ lines_shown before → OnOk result (lines.new.items ≡ lines_shown (before ++ map (minute_later later speed) minutes.now)) }
 {
     for minute in minutes {
-        add_minute(lines, with_no_card(*minute))?;
+        add_minute(lines, with_no_card(*minute, later))?;
     }
     Ok(())
 }
 
-/// What a unit without a card shows of a minute.
-fn with_no_card(minute: Minute) -> Viewed<UnitShown>
-    ensures { result ≡ without_card minute }
+/// What a unit without a card shows of a minute, so many minutes later.
+fn with_no_card(minute: Minute, later: u32) -> Viewed<UnitShown>
+    requires { minute.minute + later ≤ LAST_TIME }
+    ensures { (speed : ℕ) → result ≡ without_card (minute_later later speed minute) }
 {
     Viewed {
-        minute: minute.minute,
+        minute: minute.minute + later,
         shown: UnitShown {
             driver: out(minute.driver),
             codriver: out(minute.codriver),

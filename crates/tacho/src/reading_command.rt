@@ -9,8 +9,8 @@ ghost use Rattle.tacho.specs.Read.{most_bytes, Prints, IsBad, IsUnshown, IsReadi
 use crate::end::Fault;
 use crate::forms::Reading;
 use crate::match_command::{match_all_answer, match_answer};
-use crate::report_command::{file_chart, file_totals};
-use crate::view_command::file_view;
+use crate::report_command::{file_chart, file_speeds, file_totals};
+use crate::view_command::{file_view, hand_view};
 use std::alloc::Global;
 use tach_media::{Sink, Source, TakeFault, put_all, take_all};
 
@@ -64,9 +64,11 @@ fn reading_text(alloc: Global, reading: Reading, b: &[u8]) -> Result<Vec<u8>, Fa
 {
     match reading {
         Reading::View { last } => file_view(alloc, last, b),
+        Reading::ByHand => hand_view(alloc, b),
         Reading::Match => match_answer(alloc, b),
         Reading::MatchAll => match_all_answer(alloc, b),
         Reading::Totals { last } => file_totals(alloc, last, b),
         Reading::Chart { last } => file_chart(alloc, last, b),
+        Reading::Speeds { last } => file_speeds(alloc, last, b),
     }
 }

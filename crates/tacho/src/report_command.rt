@@ -1,8 +1,10 @@
-//! What `totals` and `chart` print: the hours of each day of a unit file or of a card file, and a picture of the days.
+//! What `totals`, `chart` and `speeds` print: the hours of each day of a unit file or of a card file, a picture of the days, and the
+//! detailed speed of a unit file.
 ghost use Rattle.std.specs.Prelude.{◌<◌, ◌^◌, IfOk, IfErr, length};
 ghost use Rattle.file_view.specs.CardFiles.{IsBadCardFile};
 ghost use Rattle.file_view.specs.UnitFiles.{IsBadUnitFile};
 ghost use Rattle.day_reports.specs.Printing.{PrintsUnitTotals, PrintsCardTotals, PrintsUnitChart, PrintsCardChart};
+ghost use Rattle.unit_speeds.specs.Text.{PrintsSpeeds};
 ghost use Rattle.tacho.specs.View.{IsBadFile};
 ghost use Rattle.tacho.specs.Reports.{PrintsTotals, PrintsChart};
 ghost use Rattle.tacho.specs.Read.{IsUnshown};
@@ -11,6 +13,7 @@ use crate::end::Fault;
 use crate::view_command::{is_unit_file, refusal};
 use day_reports::{card_chart, card_totals, unit_chart, unit_totals};
 use std::alloc::Global;
+use unit_speeds::speeds_text;
 
 /// The totals of a file, of all its days or of the last so many.
 pub fn file_totals(alloc: Global, last: Option<u32>, b: &[u8]) -> Result<Vec<u8>, Fault>
@@ -79,6 +82,18 @@ fn card_chart_text(alloc: Global, last: Option<u32>, b: &[u8]) -> Result<Vec<u8>
     ensures err { IfErr result (IsUnshown (λ place. IsBadCardFile place b.now)) }
 {
     match card_chart(alloc, b, last) {
+        Ok(text) => Ok(text),
+        Err(fault) => Err(refusal(fault)),
+    }
+}
+
+/// The detailed speed of a unit file, of all its minutes or of the last so many.
+pub fn file_speeds(alloc: Global, last: Option<u32>, b: &[u8]) -> Result<Vec<u8>, Fault>
+    requires { length b.now < 2 ^ 32 }
+    ensures text { IfOk result (λ text. PrintsSpeeds last b.now text.items) }
+    ensures err { IfErr result (IsUnshown (λ place. IsBadUnitFile place b.now)) }
+{
+    match speeds_text(alloc, b, last) {
         Ok(text) => Ok(text),
         Err(fault) => Err(refusal(fault)),
     }

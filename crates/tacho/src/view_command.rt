@@ -1,19 +1,20 @@
-//! What `view` and `view last N` print: the view text of a unit file or of a card file.
+//! What `view`, `view last N` and `view manual` print: the view text of a unit file or of a card file, or of a card file's entries by hand.
 ghost use Rattle.std.specs.Prelude.{◌≡◌, ◌<◌, ◌^◌, IfOk, IfErr, length};
 ghost use Rattle.file_view.specs.Faults.{IfBadFile};
 ghost use Rattle.file_view.specs.CardFiles.{IsBadCardFile};
 ghost use Rattle.file_view.specs.UnitFiles.{IsBadUnitFile};
 ghost use Rattle.file_view.specs.Showing.{ShowsCardFile};
 ghost use Rattle.file_view.specs.UnitShowing.{ShowsUnitFile};
-ghost use Rattle.tacho.specs.View.{is_unit_file, PrintsUnit, PrintsCard, PrintsFile, IsBadFile, view_refusal_of};
+ghost use Rattle.tacho.specs.View.{is_unit_file, PrintsUnit, PrintsCard, PrintsFile, IsBadFile, PrintsHands, PrintsByHand, IsNoCardFile, view_refusal_of};
 ghost use Rattle.tacho.specs.Read.{IsUnshown};
 
 use crate::end::Fault;
 use file_view::{
-    CardHistory, UnitHistory, ViewFault, card_text, last_days, last_messages, read_card_file,
-    read_download, unit_text,
+    CardHistory, UnitHistory, ViewFault, by_hand, card_text, last_days, last_messages,
+    read_card_file, read_download, unit_text,
 };
 use std::alloc::Global;
+use view_text::by_hand_text;
 
 /// The first byte of a message of a unit file (Annex IB, Appendix 7, 2.2.6); a card file begins with no such byte.
 const MESSAGE: u8 = 0x76;
@@ -93,6 +94,34 @@ fn card_history(alloc: Global, last: Option<u32>, b: &[u8]) -> Result<CardHistor
     match last {
         Some(n) => last_days(alloc, b, n),
         None => read_card_file(alloc, b),
+    }
+}
+
+/// The view text of a card file's entries by hand. A unit file tells none, and is refused at its first byte.
+pub fn hand_view(alloc: Global, b: &[u8]) -> Result<Vec<u8>, Fault>
+    requires { length b.now < 2 ^ 32 }
+    ensures text { IfOk result (λ text. PrintsByHand b.now text.items) }
+    ensures err { IfErr result (IsUnshown (λ place. IsNoCardFile place b.now)) }
+{
+    if is_unit_file(b) {
+        return Err(Fault::BadFile(0));
+    }
+    hands_view(alloc, b)
+}
+
+/// That of a card file.
+fn hands_view(alloc: Global, b: &[u8]) -> Result<Vec<u8>, Fault>
+    requires { length b.now < 2 ^ 32 }
+    ensures text { IfOk result (λ text. PrintsHands b.now text.items) }
+    ensures err { IfErr result (IsUnshown (λ place. IsBadCardFile place b.now)) }
+{
+    let entries = match by_hand(alloc, b) {
+        Ok(entries) => entries,
+        Err(fault) => return Err(refusal(fault)),
+    };
+    match by_hand_text(alloc, entries.as_slice()) {
+        Ok(text) => Ok(text),
+        Err(_) => Err(Fault::Memory),
     }
 }
 

@@ -1,6 +1,5 @@
 use Rattle.std.proofs.Common.{◌≡◌, ◌∙◌, ℕ, Bool, false, refl, sym, subst, arith}
 use Rattle.std.specs.Prelude.{is_err, ◌<◌}
-use Rattle.std.proofs.lemmas.List.Elements.{All-from_get_or}
 use Rattle.tach_media.specs.Medium.{HasCause}
 use Rattle.tach_media.proofs.Runs.{ok_gives}
 use Rattle.run_promise.specs.Between.{devices}
@@ -20,7 +19,7 @@ returns-in-Err-clause-nothing g c = λ b may time few.
     let e = c.in-Err.ensures in
     let then_ = time-before (devices V Y Z) (devices (g.U.Medium.state c.run_trace.new.unit) (g.C.Chip.state c.run_trace.new.card_a) (g.C.Chip.state c.run_trace.new.card_b)) e.later time in
     let begins = begins-new (unit_image c.args.vehicle.now) c.args.image.now b U V X Y Z (g.met.C.Chip.coherent c.args.card_a.now) (c.requires.image ∙ sym c.requires.size_a) c.requires.behind_a
-    (All-from_get_or (λ (n : ℕ). n < 256) c.args.image.now 0 (λ i inside. omega (arith, (c.type_inv.image i).fits))) may
+    may
     (ok_gives c.format_unit.result c.format_unit.ensures.formatted formed) (ok_gives c.format_unit.result c.format_unit.ensures.settled formed then_.unit)
     (ok_gives c.issue.result c.issue.ensures.written issued) (ok_gives c.issue.result c.issue.ensures.settled issued then_.card_a) in
     (e.fault (unit_image c.args.vehicle.now) c.args.image.now b begins time few).1
@@ -37,7 +36,7 @@ returns-in-Err-clause-kept g c = λ b may time few may_record.
     let e = c.in-Err.ensures in
     let then_ = time-before (devices V Y Z) (devices (g.U.Medium.state c.run_trace.new.unit) (g.C.Chip.state c.run_trace.new.card_a) (g.C.Chip.state c.run_trace.new.card_b)) e.later time in
     let begins = begins-new (unit_image c.args.vehicle.now) c.args.image.now b U V X Y Z (g.met.C.Chip.coherent c.args.card_a.now) (c.requires.image ∙ sym c.requires.size_a) c.requires.behind_a
-    (All-from_get_or (λ (n : ℕ). n < 256) c.args.image.now 0 (λ i inside. omega (arith, (c.type_inv.image i).fits))) may
+    may
     (ok_gives c.format_unit.result c.format_unit.ensures.formatted formed) (ok_gives c.format_unit.result c.format_unit.ensures.settled formed then_.unit)
     (ok_gives c.issue.result c.issue.ensures.written issued) (ok_gives c.issue.result c.issue.ensures.settled issued then_.card_a) in
     only-failed (unit_image c.args.vehicle.now) c.args.image.now b c.args.trace.now.start (devices V Y Z) (devices (g.U.Medium.state c.run_trace.new.unit) (g.C.Chip.state c.run_trace.new.card_a) (g.C.Chip.state c.run_trace.new.card_b)) c.in-Err.fault may_record
@@ -62,7 +61,7 @@ returns-clause-recorded g c = λ b may time few.
     let e = c.in_default.ensures in
     let then_ = time-before (devices V Y Z) (devices (g.U.Medium.state c.run_trace.new.unit) (g.C.Chip.state c.run_trace.new.card_a) (g.C.Chip.state c.run_trace.new.card_b)) e.later time in
     let begins = begins-new (unit_image c.args.vehicle.now) c.args.image.now b U V X Y Z (g.met.C.Chip.coherent c.args.card_a.now) (c.requires.image ∙ sym c.requires.size_a) c.requires.behind_a
-    (All-from_get_or (λ (n : ℕ). n < 256) c.args.image.now 0 (λ i inside. omega (arith, (c.type_inv.image i).fits))) may
+    may
     (ok_gives c.format_unit.result c.format_unit.ensures.formatted formed) (ok_gives c.format_unit.result c.format_unit.ensures.settled formed then_.unit)
     (ok_gives c.issue.result c.issue.ensures.written issued) (ok_gives c.issue.result c.issue.ensures.settled issued then_.card_a) in
     ends-anew (unit_image c.args.vehicle.now) c.args.image.now b c.args.trace.now.start c.args.trace.now.items c.run_trace.new.outcome U V X Y Z (devices (g.U.Medium.state c.run_trace.new.unit) (g.C.Chip.state c.run_trace.new.card_a) (g.C.Chip.state c.run_trace.new.card_b))

@@ -18,6 +18,12 @@ returns-in-MatchAll-clause-text c = rw c.in-MatchAll.is c.match_all_answer.ensur
 pub returns-in-MatchAll-clause-err : goal.returns-in-MatchAll-clause-err
 returns-in-MatchAll-clause-err c = rw c.in-MatchAll.is c.match_all_answer.ensures.err
 
+pub returns-in-ByHand-clause-text : goal.returns-in-ByHand-clause-text
+returns-in-ByHand-clause-text c = rw c.in-ByHand.is c.hand_view.ensures.text
+
+pub returns-in-ByHand-clause-err : goal.returns-in-ByHand-clause-err
+returns-in-ByHand-clause-err c = rw c.in-ByHand.is c.hand_view.ensures.err
+
 pub returns-in-Totals-clause-text : goal.returns-in-Totals-clause-text
 returns-in-Totals-clause-text c = rw c.in-Totals.is c.file_totals.ensures.text
 
@@ -29,3 +35,9 @@ returns-in-Chart-clause-text c = rw c.in-Chart.is c.file_chart.ensures.text
 
 pub returns-in-Chart-clause-err : goal.returns-in-Chart-clause-err
 returns-in-Chart-clause-err c = rw c.in-Chart.is c.file_chart.ensures.err
+
+pub returns-in-Speeds-clause-text : goal.returns-in-Speeds-clause-text
+returns-in-Speeds-clause-text c = rw c.in-Speeds.is c.file_speeds.ensures.text
+
+pub returns-in-Speeds-clause-err : goal.returns-in-Speeds-clause-err
+returns-in-Speeds-clause-err c = rw c.in-Speeds.is c.file_speeds.ensures.err
