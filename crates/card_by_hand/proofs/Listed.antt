@@ -19,6 +19,7 @@ use Rattle.activity_codec.specs.declared.entries.Manual.{Manual}
 use Rattle.hand_model.specs.Manual.{manual_word, is_by_hand, tells_by_hand}
 use Rattle.hand_model.specs.ByHand.{words_by_hand, by_hand_up_to}
 use Rattle.hand_model.proofs.Words.{by_hand_is, minute_is, tells_it}
+use Rattle.hand_model.proofs.Lists.{one_more, words_append, up_to_append}
 use Rattle.card_session.specs.Vehicles.{Vehicles}
 use Rattle.card_session.specs.Books.{Book, mark_of, latest_of, closing_word, entry_word, bare_word, day_words, tells_state, with_change, gap_closed, entered_days, with_new_day, travelled, with_entry}
 use Rattle.card_session.specs.Moments.{IsBeforeMark, IsKeepMoment}
@@ -39,20 +40,6 @@ left_as a b c same is = subst (λ (l : List Manual). AreLeft a l) same is
 
 -- ---- lists of words and of days
 
--- what a word more tells
-abbrev one_more : (mark date w : ℕ) → List Manual
-one_more mark date w = cond (is_by_hand w && nat_le (date / 60 + word_minute w) mark) (tells_by_hand date w ∷ []) []
-
-words_append : (mark date : ℕ) (ws : List ℕ) (w : ℕ) → words_by_hand mark date (ws ++ w ∷ []) ≡ words_by_hand mark date ws ++ one_more mark date w
-words_append mark date [] w = refl
-words_append mark date (v ∷ ws) w = by (is_by_hand v && nat_le (date / 60 + word_minute v) mark) (words_append mark date ws w)
-  where
-    by : (b : Bool) → words_by_hand mark date (ws ++ w ∷ []) ≡ words_by_hand mark date ws ++ one_more mark date w
-        → cond b (tells_by_hand date v ∷ words_by_hand mark date (ws ++ w ∷ [])) (words_by_hand mark date (ws ++ w ∷ []))
-        ≡ cond b (tells_by_hand date v ∷ words_by_hand mark date ws) (words_by_hand mark date ws) ++ one_more mark date w
-    by true rest = ap (λ (l : List Manual). tells_by_hand date v ∷ l) rest
-    by false rest = rest
-
 up_to_word : (mark w : ℕ) (ds : List Day) (l : List Manual) → OnNewest (λ d. one_more mark d.date w ≡ l) ds → by_hand_up_to mark (with_newest (with_word w) ds) ≡ by_hand_up_to mark ds ++ l
 up_to_word mark w [] l on = absurd on
 up_to_word mark w (d ∷ []) l on =
@@ -64,10 +51,6 @@ up_to_word mark w (d ∷ e ∷ ds) l on =
     by_rest : (e : Day) (ds : List Day) → by_hand_up_to mark (with_newest (with_word w) (e ∷ ds)) ≡ by_hand_up_to mark (e ∷ ds) ++ l
         → words_by_hand mark d.date d.words ++ by_hand_up_to mark (with_newest (with_word w) (e ∷ ds)) ≡ (words_by_hand mark d.date d.words ++ by_hand_up_to mark (e ∷ ds)) ++ l
     by_rest e ds rest = ap (λ (m : List Manual). words_by_hand mark d.date d.words ++ m) rest ∙ sym (append_assoc (words_by_hand mark d.date d.words) (by_hand_up_to mark (e ∷ ds)) l)
-
-up_to_append : (mark : ℕ) (ds : List Day) (d : Day) → by_hand_up_to mark (ds ++ d ∷ []) ≡ by_hand_up_to mark ds ++ words_by_hand mark d.date d.words
-up_to_append mark [] d = append-nil (words_by_hand mark d.date d.words)
-up_to_append mark (e ∷ ds) d = ap (λ (l : List Manual). words_by_hand mark e.date e.words ++ l) (up_to_append mark ds d) ∙ sym (append_assoc (words_by_hand mark e.date e.words) (by_hand_up_to mark ds) (words_by_hand mark d.date d.words))
 
 pub up_to_drops : (mark room : ℕ) (ds kept : List Day) → Remain room ds kept → AreLeft (by_hand_up_to mark ds) (by_hand_up_to mark kept)
 up_to_drops mark room [] kept left = subst (λ (l : List Day). AreLeft (by_hand_up_to mark []) (by_hand_up_to mark l)) (sym left) (left_all [])
