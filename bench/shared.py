@@ -28,27 +28,40 @@ def run(words, folder, source=b"", before=(), seconds=600, **more):
     return done.returncode, done.stdout, done.stderr.decode(errors="replace").strip()
 
 
+# Runs the program behind a pipe's number, and writes into the pipe what it took. It is a small process of its own, since Linux counts
+# the memory of the process that starts a program as the program's.
+LAUNCH = """
+import os, sys, time
+before = time.perf_counter()
+child = os.fork()
+if child == 0:
+    os.execv(sys.argv[2], sys.argv[2:])
+os.waitid(os.P_PID, child, os.WEXITED | os.WNOWAIT)  # its counts are there until it is waited for
+seconds = time.perf_counter() - before
+calls = dict(line.split(": ") for line in open(f"/proc/{child}/io").read().splitlines())
+_, status, usage = os.wait4(child, 0)
+told = [seconds, os.waitstatus_to_exitcode(status), calls["syscr"], calls["syscw"], usage.ru_utime, usage.ru_stime, usage.ru_maxrss]
+os.write(int(sys.argv[1]), " ".join(map(str, told)).encode())
+"""
+
+
 class Measured:
     """A run of a program: its status, what it printed, the seconds that it took and those of the processor, its peak memory in KiB, and how
     many calls that read and that write it made, as Linux counts them."""
 
     def __init__(self, program, words, folder, source):
+        reading, writing = os.pipe()
         with tempfile.TemporaryFile(dir=MEMORY) as held, tempfile.TemporaryFile(dir=MEMORY) as printed:
             held.write(source)
             held.seek(0)
-            before = time.perf_counter()
-            # pylint: disable-next=consider-using-with
-            running = subprocess.Popen([program, *words], stdin=held, stdout=printed, cwd=folder)
-            os.waitid(os.P_PID, running.pid, os.WEXITED | os.WNOWAIT)  # its counts are there until it is waited for
-            self.seconds = time.perf_counter() - before
-            with open(f"/proc/{running.pid}/io", encoding="ascii") as counts:
-                calls = dict(line.split(": ") for line in counts.read().splitlines())
-            _, status, usage = os.wait4(running.pid, 0)
-            running.returncode = self.status = os.waitstatus_to_exitcode(status)
+            launch = [sys.executable, "-I", "-S", "-c", LAUNCH, str(writing), program, *words]
+            subprocess.run(launch, stdin=held, stdout=printed, cwd=folder, pass_fds=[writing], check=True)
             printed.seek(0)
             self.printed = printed.read()
-        self.reads, self.writes = int(calls["syscr"]), int(calls["syscw"])
-        self.user, self.system, self.peak = usage.ru_utime, usage.ru_stime, usage.ru_maxrss
+        with open(writing, "wb"), open(reading, "rb") as told:
+            seconds, status, reads, writes, user, system, peak = told.read1().split()
+        self.seconds, self.user, self.system = float(seconds), float(user), float(system)
+        self.status, self.reads, self.writes, self.peak = int(status), int(reads), int(writes), int(peak)
 
 
 def room():
