@@ -22,7 +22,7 @@ use Rattle.card_session.specs.Sessions.{book_of}
 use Rattle.card_session.specs.Moments.{IsBook, IsBeforeGap, IsBeforeWords, IsBeforeMark, IsKeepMoment}
 use Rattle.card_session.specs.Cards.{IsCard}
 use Rattle.card_session.specs.Parts.{IsBeforeGapOf}
-use Rattle.card_session.specs.Overwriting.{GoesOn, IsRepairable}
+use Rattle.card_session.specs.Overwriting.{DaysFollowOverwriting, IsRepairable}
 use Rattle.card_session.specs.ByHand.{by_hand, IsByHandMoment, with_word_at, word_len}
 use Rattle.card_session.proofs.Alike.{Alike, alike_km, trimmed_alike, rests_alike}
 use Rattle.card_session.proofs.Marks.{mark_told}
@@ -46,8 +46,8 @@ module _ (app : Application) (sound : IsApplication app) (x : List ℕ) (ordered
     marks v same is = mark_told app y ∙ ap (λ (o : Vehicles). last_use_in o / 60) (is ∙ same) ∙ sym (mark_told app x)
 
     -- the word counts
-    pub goes_by_hand : BeginsLater app e.minute x → is_open (end_mark app x) (card_days app x) ≡ false → (slack : Bound) (covered from : ℕ) (c : Counted) → 16 ≤ slack.bytes → from ≤ e.minute → GoesOn app slack covered from c x
-        → IsCard app (IsBook (by_hand app.activity e (book_of app x))) x y → GoesOn app slack covered (suc e.minute) (with_by_hand covered c e.minute) y
+    pub goes_by_hand : BeginsLater app e.minute x → is_open (end_mark app x) (card_days app x) ≡ false → (slack : Bound) (covered from : ℕ) (c : Counted) → 16 ≤ slack.bytes → from ≤ e.minute → DaysFollowOverwriting app slack covered from c x
+        → IsCard app (IsBook (by_hand app.activity e (book_of app x))) x y → DaysFollowOverwriting app slack covered (suc e.minute) (with_by_hand covered c e.minute) y
     goes_by_hand clear shut slack covered from c least later goes card =
         let days : card_days app y ≡ with_word_at app.activity e.minute (manual_word e) (card_days app x) = sym (book_days app y) ∙ card.told.0 ∙ ap (with_word_at app.activity e.minute (manual_word e)) (book_days app x) in
         let are : AreDays 0 (with_word_at app.activity e.minute (manual_word e) (card_days app x)) = subst (λ (ds : List Day). AreDays 0 ds) (sym (book_days app y) ∙ book_days app y ∙ days) (subst (λ (ds : List Day). AreDays 0 ds) (book_days app y) card.holds.ordered) in
@@ -80,7 +80,7 @@ module _ (app : Application) (sound : IsApplication app) (x : List ℕ) (ordered
 -- ---- what a repair leaves
 
 pub over_repaired : (app : Application) → IsApplication app → (x y : List ℕ) (bytes : ℕ) → bytes ≤ 32 → end_mark app y ≡ end_mark app x → IsOver app.activity (end_mark app x) bytes (card_days app x) (card_days app y)
-    → (slack : Bound) (covered from next : ℕ) (c : Counted) → 32 ≤ slack.bytes → from ≤ next → GoesOn app slack covered from c x → IsRepairable app slack covered next c y
+    → (slack : Bound) (covered from next : ℕ) (c : Counted) → 32 ≤ slack.bytes → from ≤ next → DaysFollowOverwriting app slack covered from c x → IsRepairable app slack covered next c y
 over_repaired app sound x y bytes few same over slack covered from next c least later goes =
     subst (λ (n : ℕ). Rests app.activity slack covered next n c (trimmed n (card_days app y))) (sym same)
     (over_rests app.activity (end_mark app x) sound.string_least (card_days app x) slack covered from c goes next later least bytes (card_days app y) few over)
@@ -139,7 +139,7 @@ module _ (app : Application) (sound : IsApplication app) (x : List ℕ) (ordered
       differ : true ≡ false → ⊥
       differ e = cc
 
-  module _ (slack : Bound) (covered from next : ℕ) (c : Counted) (least : 32 ≤ slack.bytes) (later : from ≤ next) (first : List ℕ) (days_are : card_days app first ≡ days) (mark : end_mark app first ≡ end_mark app x) (goes : GoesOn app slack covered from c first) where
+  module _ (slack : Bound) (covered from next : ℕ) (c : Counted) (least : 32 ≤ slack.bytes) (later : from ≤ next) (first : List ℕ) (days_are : card_days app first ≡ days) (mark : end_mark app first ≡ end_mark app x) (goes : DaysFollowOverwriting app slack covered from c first) where
     lives : Lives app.activity slack covered from (end_mark app x) c days
     lives = subst (λ (n : ℕ). Lives app.activity slack covered from n c days) mark (subst (λ (ds : List Day). Lives app.activity slack covered from (end_mark app first) c ds) days_are goes)
 
@@ -168,6 +168,6 @@ module _ (app : Application) (sound : IsApplication app) (x : List ℕ) (ordered
 pub keep_repaired : (app : Application) (sound : IsApplication app) (x : List ℕ) (ordered : AreDays 0 (book_of app x).days) (e : Entry) (registration : Registration) (odometer more : ℕ) (y : List ℕ) → IsBeforeGapOf e.minute (book_of app x)
     → IsCard app (IsKeepMoment app.activity registration odometer more e (book_of app x)) x y → end_mark app y ≡ end_mark app x → is_newest (e.minute / 1440) (sizes (card_days app x)) ≡ true
     → is_open (end_mark app x) (card_days app x) ≡ false → (days : List Day) (bytes : ℕ) → bytes ≤ 30 → IsOver app.activity (end_mark app x) bytes days (card_days app x)
-    → (slack : Bound) (covered from next : ℕ) (c : Counted) → 32 ≤ slack.bytes → from ≤ next → (first : List ℕ) → card_days app first ≡ days → end_mark app first ≡ end_mark app x → GoesOn app slack covered from c first → IsRepairable app slack covered next c y
+    → (slack : Bound) (covered from next : ℕ) (c : Counted) → 32 ≤ slack.bytes → from ≤ next → (first : List ℕ) → card_days app first ≡ days → end_mark app first ≡ end_mark app x → DaysFollowOverwriting app slack covered from c first → IsRepairable app slack covered next c y
 keep_repaired app sound x ordered e registration odometer more y before card same newest shut days bytes few over slack covered from next c least later first days_are mark goes =
     keep_repaired_at app sound x ordered e registration odometer more y before card same newest shut days bytes few over slack covered from next c least later first days_are mark goes

@@ -15,7 +15,7 @@ ghost use Rattle.activity_codec.specs.declared.entries.Manual.{Manual};
 ghost use Rattle.hand_model.specs.Counted.{with_by_hand, and_by_hand};
 ghost use Rattle.card_session.specs.Sessions.{Session, IsSession};
 ghost use Rattle.card_session.specs.Cards.{IsCardKeeping};
-ghost use Rattle.card_session.specs.Overwriting.{GoesOn, IsRepairable, ShowsEntries};
+ghost use Rattle.card_session.specs.Overwriting.{DaysFollowOverwriting, IsRepairable, ShowsEntries};
 ghost use Rattle.card_session.specs.ByHand.{IsCardByHand, IsCardEntering};
 ghost use Rattle.card_by_hand.specs.Clear.{BeginsLater};
 ghost use Rattle.card_by_hand.specs.Over.{IsOver};
@@ -48,8 +48,8 @@ pub fn an_entry_by_hand_leaves_a_valid_card()
 /// counts in its day.
 pub fn an_entry_by_hand_counts_in_its_day()
     ensures { (s next : Session) (e : Manual) (x y : List ℕ) → IsApplication s.application → IsSession s x → s.minute < e.minute → BeginsLater s.application e.minute x → is_open (end_mark s.application x) (card_days s.application x) ≡ false →
-        (slack : Bound) (covered from : ℕ) (c : Counted) → 16 ≤ slack.bytes → from ≤ e.minute → GoesOn s.application slack covered from c x → IsCardByHand s next e x y →
-        GoesOn s.application slack covered (suc e.minute) (with_by_hand covered c e.minute) y }
+        (slack : Bound) (covered from : ℕ) (c : Counted) → 16 ≤ slack.bytes → from ≤ e.minute → DaysFollowOverwriting s.application slack covered from c x → IsCardByHand s next e x y →
+        DaysFollowOverwriting s.application slack covered (suc e.minute) (with_by_hand covered c e.minute) y }
 {}
 
 /// A stop in a session's first keep, before its end mark moves, leaves days that are, once a repair has cut them to the mark, those that
@@ -62,12 +62,12 @@ pub fn a_first_keep_may_be_repaired()
         IsOver s.application.activity (end_mark s.application x) bytes days (card_days s.application x) → IsCardEntering s e x y →
         IsOver s.application.activity (end_mark s.application x) (bytes + 2) days (card_days s.application y) }
     ensures repaired { (app : Application) (x y : List ℕ) (bytes : ℕ) → IsApplication app → bytes ≤ 32 → end_mark app y ≡ end_mark app x → IsOver app.activity (end_mark app x) bytes (card_days app x) (card_days app y) →
-        (slack : Bound) (covered from next : ℕ) (c : Counted) → 32 ≤ slack.bytes → from ≤ next → GoesOn app slack covered from c x → IsRepairable app slack covered next c y }
+        (slack : Bound) (covered from next : ℕ) (c : Counted) → 32 ≤ slack.bytes → from ≤ next → DaysFollowOverwriting app slack covered from c x → IsRepairable app slack covered next c y }
     ensures keep { (s : Session) (e : Entry) (odometer : ℕ) (days : List Day) (bytes : ℕ) (x y : List ℕ) → IsApplication s.application → IsSession s x → s.minute < e.minute → is_newest (e.minute / 1440) (sizes (card_days s.application x)) ≡ true →
         is_open (end_mark s.application x) (card_days s.application x) ≡ false → bytes ≤ 30 → IsOver s.application.activity (end_mark s.application x) bytes days (card_days s.application x) →
         IsCardKeeping s e odometer x y → end_mark s.application y ≡ end_mark s.application x →
         (slack : Bound) (covered from next : ℕ) (c : Counted) → 32 ≤ slack.bytes → from ≤ next →
-        (first : List ℕ) → card_days s.application first ≡ days → end_mark s.application first ≡ end_mark s.application x → GoesOn s.application slack covered from c first → IsRepairable s.application slack covered next c y }
+        (first : List ℕ) → card_days s.application first ≡ days → end_mark s.application first ≡ end_mark s.application x → DaysFollowOverwriting s.application slack covered from c first → IsRepairable s.application slack covered next c y }
 {}
 
 /// More words of the expected days, as those of entries by hand, and more bytes, keep what the stated overwriting says of a card.

@@ -6,7 +6,7 @@ use Rattle.tach_media.proofs.Images.{put_outside}
 use Rattle.card_model.specs.Bytes.{two_bytes}
 use Rattle.card_model.specs.Days.{Day, len_of, total, last_len, IsDay}
 use Rattle.card_model.specs.Changes.{OnNewest, with_newest, with_word, TakesWord}
-use Rattle.card_model.specs.Image.{StringShape, IsStringShape, circle_of, oldest_pointer, newest_pointer, IsPointer, IsPlace, Holds, at}
+use Rattle.card_model.specs.Image.{StringShape, IsStringShape, circle_of, oldest_pointer, newest_pointer, IsPointer, IsPlace, HoldsDays, at}
 use Rattle.card_model.proofs.Lists.{total-append, far_last, last_is, last_len_last}
 use Rattle.card_model.proofs.Trims.{with_last}
 use Rattle.card_days.proofs.Lists.{Split, some_appended, split, newest_on, longer_day}
@@ -35,7 +35,7 @@ module _ (r : StringShape) (shape : IsStringShape r) (x : List ℕ) (inside : r.
   y_inside : r.base + (4 + r.size) ≤ length y
   y_inside = omega (arith, inside, y_same.same_length)
 
-  module _ (older : List Day) (d : Day) (h : Holds r x (older ++ d ∷ [])) (takes : TakesWord w d) (len_found : len ≡ len_of d) (room : total older + len_of d + 2 ≤ r.size) where
+  module _ (older : List Day) (d : Day) (h : HoldsDays r x (older ++ d ∷ [])) (takes : TakesWord w d) (len_found : len ≡ len_of d) (room : total older + len_of d + 2 ≤ r.size) where
     n_pointer : IsPointer r.size n
     n_pointer = subst (λ (m : ℕ). IsPointer r.size m) (sym n_is) h.newest
 
@@ -57,17 +57,17 @@ module _ (r : StringShape) (shape : IsStringShape r) (x : List ℕ) (inside : r.
     some : older ++ d ∷ [] ≡ [] → ⊥
     some none = some_appended older d none
 
-    written : (g : Holds r y (older ++ d ∷ [])) × (g.rest ≡ put 0 (two_bytes w) h.rest) × (g.previous ≡ h.previous)
+    written : (g : HoldsDays r y (older ++ d ∷ [])) × (g.rest ≡ put 0 (two_bytes w) h.rest) × (g.previous ≡ h.previous)
     written = beyond r shape x inside (older ++ d ∷ []) (total older + len_of d) 0 (two_bytes w) y h (omega (arith, total-append older (d ∷ []))) word_stands (λ none. absurd (some none))
 
-    still : Holds r y (older ++ d ∷ [])
+    still : HoldsDays r y (older ++ d ∷ [])
     still = written.0
 
     length_stands : Stands r (total older + 2) (two_bytes (len_of d + 2)) y z
     length_stands = subst (λ (m : ℕ). Stands r (total older + 2) (two_bytes (len_of d + 2)) y (put (at r q) (two_bytes (m + 2)) y)) (sym len_found)
         (stands r y y_inside (total older + 2) q (two_bytes (len_of d + 2)) still.oldest.below (subst (λ (m : ℕ). IsPlace r.size m (total older + 2) q) (sym word_stands.oldest) length_place) q_fits (omega (arith, room)))
 
-    counted : Holds r z (older ++ with_word w d ∷ [])
+    counted : HoldsDays r z (older ++ with_word w d ∷ [])
     counted = longer r shape y y_inside older d w written.0 (drop 2 h.rest) z written.1 length_stands (longer_day w d day takes)
 
     counted_newest : newest_pointer r z ≡ newest_pointer r x
@@ -78,7 +78,7 @@ module _ (r : StringShape) (shape : IsStringShape r) (x : List ℕ) (inside : r.
         ∙ stands_front r x inside (total older + len_of d) (two_bytes w) y (omega arith) room word_stands
 
   -- The days that are there: the writes count the word, and before the second one nothing has changed.
-  module _ (days : List Day) (h : Holds r x days) (on : OnNewest (TakesWord w) days) (len_is : len ≡ last_len days) (room : total days + 2 ≤ r.size) where
+  module _ (days : List Day) (h : HoldsDays r x days) (on : OnNewest (TakesWord w) days) (len_is : len ≡ last_len days) (room : total days + 2 ≤ r.size) where
     ends : Split days
     ends = split (TakesWord w) days on
 
@@ -88,8 +88,8 @@ module _ (r : StringShape) (shape : IsStringShape r) (x : List ℕ) (inside : r.
     abbrev d : Day
     d = ends.newest
 
-    g : Holds r x (older ++ d ∷ [])
-    g = subst (λ (l : List Day). Holds r x l) ends.is h
+    g : HoldsDays r x (older ++ d ∷ [])
+    g = subst (λ (l : List Day). HoldsDays r x l) ends.is h
 
     takes : TakesWord w d
     takes = newest_on (TakesWord w) older d (subst (λ (l : List Day). OnNewest (TakesWord w) l) ends.is on)
@@ -103,11 +103,11 @@ module _ (r : StringShape) (shape : IsStringShape r) (x : List ℕ) (inside : r.
     longer_days : with_newest (with_word w) days ≡ older ++ with_word w d ∷ []
     longer_days = ap (λ (l : List Day). with_newest (with_word w) l) ends.is ∙ with_last (with_word w) older d
 
-    kept : Holds r y days
-    kept = subst (λ (l : List Day). Holds r y l) (sym ends.is) (still older d g takes found fits)
+    kept : HoldsDays r y days
+    kept = subst (λ (l : List Day). HoldsDays r y l) (sym ends.is) (still older d g takes found fits)
 
-    pub appended : Holds r z (with_newest (with_word w) days)
-    appended = subst (λ (l : List Day). Holds r z l) (sym longer_days) (counted older d g takes found fits)
+    pub appended : HoldsDays r z (with_newest (with_word w) days)
+    appended = subst (λ (l : List Day). HoldsDays r z l) (sym longer_days) (counted older d g takes found fits)
 
     pub newest_same : newest_pointer r z ≡ newest_pointer r x
     newest_same = counted_newest older d g takes found fits
@@ -115,7 +115,7 @@ module _ (r : StringShape) (shape : IsStringShape r) (x : List ℕ) (inside : r.
     pub front_same : take 2 (circle_of r z) ≡ take 2 (circle_of r x)
     front_same = counted_front older d g takes found fits
 
-    pub while_appending : (c : List ℕ) → IsPartway (piece (at r p) (two_bytes w) ∷ piece (at r q) (two_bytes (len + 2)) ∷ []) x c → Holds r c days ⊎ Holds r c (with_newest (with_word w) days)
-    while_appending c (inl part) = inl (⊎_elim (λ is. subst (λ (l : List ℕ). Holds r l days) (sym is) h) (λ is. subst (λ (l : List ℕ). Holds r l days) (sym is) kept) (part.whole (lit≤ tt)))
-    while_appending c (inr (inl part)) = ⊎_elim (λ is. inl (subst (λ (l : List ℕ). Holds r l days) (sym is) kept)) (λ is. inr (subst (λ (l : List ℕ). Holds r l (with_newest (with_word w) days)) (sym is) appended)) (part.whole (lit≤ tt))
+    pub while_appending : (c : List ℕ) → IsPartway (piece (at r p) (two_bytes w) ∷ piece (at r q) (two_bytes (len + 2)) ∷ []) x c → HoldsDays r c days ⊎ HoldsDays r c (with_newest (with_word w) days)
+    while_appending c (inl part) = inl (⊎_elim (λ is. subst (λ (l : List ℕ). HoldsDays r l days) (sym is) h) (λ is. subst (λ (l : List ℕ). HoldsDays r l days) (sym is) kept) (part.whole (lit≤ tt)))
+    while_appending c (inr (inl part)) = ⊎_elim (λ is. inl (subst (λ (l : List ℕ). HoldsDays r l days) (sym is) kept)) (λ is. inr (subst (λ (l : List ℕ). HoldsDays r l (with_newest (with_word w) days)) (sym is) appended)) (part.whole (lit≤ tt))
     while_appending c (inr (inr none)) = absurd none

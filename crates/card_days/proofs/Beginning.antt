@@ -8,7 +8,7 @@ use Rattle.tach_media.proofs.Images.{put_outside, part_before}
 use Rattle.card_model.specs.Days.{last_len, Day, len_of, total, far, body, record_of, records, IsDay, AreDays}
 use Rattle.card_model.specs.Bytes.{number, two_bytes}
 use Rattle.card_model.specs.Changes.{next_counter, new_day, IsLater, IsNext}
-use Rattle.card_model.specs.Image.{StringShape, IsStringShape, oldest_pointer, newest_pointer, circle_of, IsPointer, IsPlace, spot, Holds}
+use Rattle.card_model.specs.Image.{StringShape, IsStringShape, oldest_pointer, newest_pointer, circle_of, IsPointer, IsPlace, spot, HoldsDays}
 use Rattle.card_days.specs.Steps.{preceded, day_filled, measured, begun, IsBeginStep}
 use Rattle.card_model.proofs.Circle.{put_back, circle_length}
 use Rattle.card_model.proofs.Lists.{records_length, previous_of, records-append, far_last, last_len_is}
@@ -85,7 +85,7 @@ module _ (r : StringShape) (shape : IsStringShape r) (x : List ℕ) (inside : r.
   two_fit : (m : ℕ) → IsPointer r.size m → m + 2 ≤ r.size
   two_fit m pointer = omega (arith, pointer.below, pointer.even, shape.even)
 
-  module _ (days : List Day) (h : Holds r x days) (next : IsNext days date words) (room : total days + (12 + 2 * length words) ≤ r.size)
+  module _ (days : List Day) (h : HoldsDays r x days) (next : IsNext days date words) (room : total days + (12 + 2 * length words) ≤ r.size)
       (n_is : n ≡ newest_pointer r x) (len_is : len ≡ last_len days) (bytes_is : bytes ≡ body (new_day days date words)) where
     abbrev k : ℕ
     k = total days
@@ -141,10 +141,10 @@ module _ (r : StringShape) (shape : IsStringShape r) (x : List ℕ) (inside : r.
         let at : k ≡ 0 = ap total none in
         ap (λ (l : List ℕ). number (bytes_at l 2 2)) (s1.circle ∙ ap (λ (m : ℕ). put m (two_bytes len) (circle_of r x)) at) ∙ h.empty none
 
-    pub held_1 : (g : Holds r y1 days) × (g.rest ≡ put 0 (two_bytes len) h.rest) × (g.previous ≡ h.previous)
+    pub held_1 : (g : HoldsDays r y1 days) × (g.rest ≡ put 0 (two_bytes len) h.rest) × (g.previous ≡ h.previous)
     held_1 = beyond r shape x inside days k 0 (two_bytes len) y1 h (omega arith) s1 empty_1
 
-    pub held_c : (c : List ℕ) → Covered r (k + 4) (length bytes) y1 c → Holds r c days
+    pub held_c : (c : List ℕ) → Covered r (k + 4) (length bytes) y1 c → HoldsDays r c days
     held_c c cover = (beyond r shape y1 y1_inside days (k + 4) 4 cover.bytes c held_1.0 refl cover.stands empty).0
       where
         empty : days ≡ [] → number (bytes_at (circle_of r c) 2 2) ≡ 0
@@ -153,7 +153,7 @@ module _ (r : StringShape) (shape : IsStringShape r) (x : List ℕ) (inside : r.
             ap (λ (l : List ℕ). number (bytes_at l 2 2)) cover.stands.circle
             ∙ ap number (part_before (k + 4) (length cover.bytes) 2 2 (circle_of r y1) (put (k + 4) cover.bytes (circle_of r y1)) (put_outside (k + 4) cover.bytes (circle_of r y1) fits) (omega arith)) ∙ empty_1 none
 
-    pub held_2 : Holds r y2 days
+    pub held_2 : HoldsDays r y2 days
     held_2 = held_c y2 (record { bytes = bytes; long = omega arith; stands = s2 })
 
     -- what the string is then
@@ -191,7 +191,7 @@ module _ (r : StringShape) (shape : IsStringShape r) (x : List ℕ) (inside : r.
         ∙ ap (λ (l : List ℕ). (records q (d ∷ ds) ++ l) ++ rest) (sym (append-nil (record_of e new))) ∙ ap (λ (l : List ℕ). l ++ rest) (sym (records-append q (d ∷ ds) (new ∷ [])))
 
     -- once the pointer is there too
-    pub commit : (c : List ℕ) → oldest_pointer r c ≡ oldest_pointer r y3 → newest_pointer r c ≡ p → circle_of r c ≡ circle_of r y3 → Holds r c (days ++ new ∷ [])
+    pub commit : (c : List ℕ) → oldest_pointer r c ≡ oldest_pointer r y3 → newest_pointer r c ≡ p → circle_of r c ≡ circle_of r y3 → HoldsDays r c (days ++ new ∷ [])
     commit c oldest newest circle =
         let o_is : oldest_pointer r c ≡ o = oldest ∙ s3.oldest ∙ o_same in
         record {
@@ -207,33 +207,33 @@ module _ (r : StringShape) (shape : IsStringShape r) (x : List ℕ) (inside : r.
         }
 
     -- before the pointer is moved
-    pub held_3 : (days ≡ [] → ⊥) → Holds r y3 days
+    pub held_3 : (days ≡ [] → ⊥) → HoldsDays r y3 days
     held_3 some = (beyond r shape y2 y2_inside days (k + 2) 2 (two_bytes (4 + length bytes)) y3 held_2 refl s3 (λ none. absurd (some none))).0
 
     n_same : newest_pointer r y3 ≡ n
     n_same = s3.newest ∙ s2.newest ∙ s1.newest ∙ sym n_is
 
-    pub commit_same : n ≡ p → Holds r y3 (days ++ new ∷ [])
+    pub commit_same : n ≡ p → HoldsDays r y3 (days ++ new ∷ [])
     commit_same same = commit y3 refl (n_same ∙ same) refl
 
-    pub commit_put : Holds r (put (r.base + 2) (two_bytes p) y3) (days ++ new ∷ [])
+    pub commit_put : HoldsDays r (put (r.base + 2) (two_bytes p) y3) (days ++ new ∷ [])
     commit_put = let s = points r y3 y3_inside p in commit (put (r.base + 2) (two_bytes p) y3) s.oldest s.newest s.circle
 
     empty_same : days ≡ [] → n ≡ p
     empty_same none =
         same_start r.size o n p n_pointer.below p_pointer.below h.oldest.below (subst (λ (m : ℕ). IsPlace r.size o m n) (ap far none) newest_place) (subst (λ (m : ℕ). IsPlace r.size o m p) (ap total none) p_far)
 
-    pub after_length : Holds r y3 days ⊎ Holds r y3 (days ++ new ∷ [])
+    pub after_length : HoldsDays r y3 days ⊎ HoldsDays r y3 (days ++ new ∷ [])
     after_length = by days refl
       where
-        by : (ds : List Day) → days ≡ ds → Holds r y3 days ⊎ Holds r y3 (days ++ new ∷ [])
+        by : (ds : List Day) → days ≡ ds → HoldsDays r y3 days ⊎ HoldsDays r y3 (days ++ new ∷ [])
         by [] is = inr (commit_same (empty_same is))
         by (d ∷ ds) is = inl (held_3 (λ none. let absurd_is : d ∷ ds ≡ [] = sym is ∙ none in cc))
 
-    pub placed : Holds r z (days ++ new ∷ [])
+    pub placed : HoldsDays r z (days ++ new ∷ [])
     placed = by (n == p) refl
       where
-        by : (test : Bool) → (n == p) ≡ test → Holds r (cond test y3 (put (r.base + 2) (two_bytes p) y3)) (days ++ new ∷ [])
+        by : (test : Bool) → (n == p) ≡ test → HoldsDays r (cond test y3 (put (r.base + 2) (two_bytes p) y3)) (days ++ new ∷ [])
         by true test = let same : n ≡ p = grind (arith, nat_tests, test) in commit_same same
         by false test = commit_put
 
@@ -274,8 +274,8 @@ module _ (r : StringShape) (shape : IsStringShape r) (x : List ℕ) (inside : r.
         start : p ≡ oldest_pointer r x
         start = let nothing = ap total none in ⊎_elim (λ is. omega (arith, is, nothing)) (λ is. absurd (omega (arith, is, nothing, h.oldest.below))) p_far
 
-    pub placing : (c : List ℕ) → IsBeginStep r n p len bytes x c → Holds r c days ⊎ Holds r c (days ++ new ∷ [])
-    placing c (inl part) = inl (⊎_elim (λ is. subst (λ (l : List ℕ). Holds r l days) (sym is) h) (λ is. subst (λ (l : List ℕ). Holds r l days) (sym is) held_1.0) (part.whole (lit≤ tt)))
+    pub placing : (c : List ℕ) → IsBeginStep r n p len bytes x c → HoldsDays r c days ⊎ HoldsDays r c (days ++ new ∷ [])
+    placing c (inl part) = inl (⊎_elim (λ is. subst (λ (l : List ℕ). HoldsDays r l days) (sym is) h) (λ is. subst (λ (l : List ℕ). HoldsDays r l days) (sym is) held_1.0) (part.whole (lit≤ tt)))
     placing c (inr (inl round)) = inl (held_c c (covers r y1 y1_inside (k + 4) b bytes held_1.0.oldest.below b_is.1.below (subst (λ (m : ℕ). IsPlace r.size m (k + 4) b) (sym s1.oldest) b_far) free_fits c round))
-    placing c (inr (inr (inl part))) = ⊎_elim (λ is. inl (subst (λ (l : List ℕ). Holds r l days) (sym is) held_2)) (λ is. subst (λ (l : List ℕ). Holds r l days ⊎ Holds r l (days ++ new ∷ [])) (sym is) after_length) (part.whole (lit≤ tt))
-    placing c (inr (inr (inr (other, part)))) = ⊎_elim (λ is. subst (λ (l : List ℕ). Holds r l days ⊎ Holds r l (days ++ new ∷ [])) (sym is) after_length) (λ is. inr (subst (λ (l : List ℕ). Holds r l (days ++ new ∷ [])) (sym is) commit_put)) (part.whole (lit≤ tt))
+    placing c (inr (inr (inl part))) = ⊎_elim (λ is. inl (subst (λ (l : List ℕ). HoldsDays r l days) (sym is) held_2)) (λ is. subst (λ (l : List ℕ). HoldsDays r l days ⊎ HoldsDays r l (days ++ new ∷ [])) (sym is) after_length) (part.whole (lit≤ tt))
+    placing c (inr (inr (inr (other, part)))) = ⊎_elim (λ is. subst (λ (l : List ℕ). HoldsDays r l days ⊎ HoldsDays r l (days ++ new ∷ [])) (sym is) after_length) (λ is. inr (subst (λ (l : List ℕ). HoldsDays r l (days ++ new ∷ [])) (sym is) commit_put)) (part.whole (lit≤ tt))

@@ -9,13 +9,13 @@ use Rattle.tach_media.specs.Plan.{put_all, IsPartway, PutsAll, PutsBy}
 use Rattle.tach_media.proofs.Plans.{put_all-append, partway_either, partway_outside, puts_outside}
 use Rattle.card_model.specs.Days.{Day, total, last_word}
 use Rattle.card_model.specs.Changes.{Remain, fitting, with_newest, with_word, OnNewest, TakesWord}
-use Rattle.card_model.specs.Image.{StringShape, IsPlace, IsPointer, Holds, circle_of, spot}
+use Rattle.card_model.specs.Image.{StringShape, IsPlace, IsPointer, HoldsDays, circle_of, spot}
 use Rattle.card_model.proofs.Lists.{total-append}
 use Rattle.card_model.proofs.Reading.{fills}
 use Rattle.card_model.proofs.Walking.{one_list}
 use Rattle.card_days.specs.declared.head.DayHead.{DayHead}
 use Rattle.card_days.specs.Heads.{day_head}
-use Rattle.card_days.specs.Held.{Held, IsHeld, Knows, IsNewestHead, newest_len, end_of}
+use Rattle.card_days.specs.Held.{Held, IsInBounds, Knows, IsNewestHead, newest_len, end_of}
 use Rattle.card_days.specs.Moments.{IfKnown, IsChanging, IsChanged, KnowsChanged, ClearsChanged}
 use Rattle.card_days.specs.Plans.{most_drops, left_in, drop_pieces, word_pieces, change_pieces, more_words, tail_more}
 use Rattle.card_days.specs.Steps.{roomier, Looks}
@@ -43,7 +43,7 @@ last_added [] w = refl
 last_added (v ∷ []) w = refl
 last_added (v ∷ u ∷ ws) w = last_added (u ∷ ws) w
 
-module _ (v : Held) (is : IsHeld v) (w : ℕ) (x : List ℕ) (inside : v.shape.base + (4 + v.shape.size) ≤ length x) (days : List Day) (k : Knows v x days) where
+module _ (v : Held) (is : IsInBounds v) (w : ℕ) (x : List ℕ) (inside : v.shape.base + (4 + v.shape.size) ≤ length x) (days : List Day) (k : Knows v x days) where
   abbrev r : StringShape
   r = v.shape
 
@@ -89,12 +89,12 @@ module _ (v : Held) (is : IsHeld v) (w : ℕ) (x : List ℕ) (inside : v.shape.b
     abbrev e : ℕ
     e = end_of v
 
-    held : Holds r (put_all (word_pieces v w) y) (with_newest (with_word w) kept)
+    held : HoldsDays r (put_all (word_pieces v w) y) (with_newest (with_word w) kept)
     held = appended r is.shape y y_inside w v.tail.head.place (newest_len v) e (spot r.size v.tail.head.place 2) m.place (end_is v is).0 (end_is v is).1 field.0 field.1 kept m.holds on_kept m.len fits
 
-    pub changed : Holds r (put_all (change_pieces v w x) x) (with_newest (with_word w) (fitting room days))
-    changed = subst (λ (l : List Day). Holds r (put_all (change_pieces v w x) x) (with_newest (with_word w) l)) (sym once.0)
-        (subst (λ (z : List ℕ). Holds r z (with_newest (with_word w) kept)) (sym (put_all-append (drop_pieces v v.tail.used left) (word_pieces v w) x)) held)
+    pub changed : HoldsDays r (put_all (change_pieces v w x) x) (with_newest (with_word w) (fitting room days))
+    changed = subst (λ (l : List Day). HoldsDays r (put_all (change_pieces v w x) x) (with_newest (with_word w) l)) (sym once.0)
+        (subst (λ (z : List ℕ). HoldsDays r z (with_newest (with_word w) kept)) (sym (put_all-append (drop_pieces v v.tail.used left) (word_pieces v w) x)) held)
 
     -- where a day goes, there is no length before the oldest
     pub changed_cleared : fitting room days ≢ days → take 2 (circle_of r (put_all (change_pieces v w x) x)) ≡ two_bytes 0
@@ -105,12 +105,12 @@ module _ (v : Held) (is : IsHeld v) (w : ℕ) (x : List ℕ) (inside : v.shape.b
         goes : room < total days
         goes = ⊎_elim (λ lt. lt) (λ le. absurd (other (fitting_all room days le))) (cases_lt room (total days))
 
-    pub changing : (c : List ℕ) → IsPartway (change_pieces v w x) x c → ((kept : List Day) × Remain room days kept × Holds r c kept) ⊎ Holds r c (with_newest (with_word w) (fitting room days))
+    pub changing : (c : List ℕ) → IsPartway (change_pieces v w x) x c → ((kept : List Day) × Remain room days kept × HoldsDays r c kept) ⊎ HoldsDays r c (with_newest (with_word w) (fitting room days))
     changing c part = ⊎_elim
         (λ first. inl (dropping v is x inside room big days (matches v x days k) v.tail.used left k.used left_known c first))
         (λ next. ⊎_elim
         (λ still. inl (kept, remain_once room days, still))
-        (λ more. inr (subst (λ (l : List Day). Holds r c (with_newest (with_word w) l)) (sym once.0) more))
+        (λ more. inr (subst (λ (l : List Day). HoldsDays r c (with_newest (with_word w) l)) (sym once.0) more))
         (while_appending r is.shape y y_inside w v.tail.head.place (newest_len v) e (spot r.size v.tail.head.place 2) m.place (end_is v is).0 (end_is v is).1 field.0 field.1 kept m.holds on_kept m.len fits c next))
         (partway_either (drop_pieces v v.tail.used left) (word_pieces v w) x c part)
 
@@ -170,9 +170,9 @@ change_puts {old} v w used left used_is low looks told kept puts =
     (omega (arith, sum, subst (λ (u : ℕ). length (drop_pieces v used left) ≤ 2 * most_drops v.shape.size u 2) used_is (drop_most v v.shape.size used left 2 (omega (arith, used_is, low)) (omega arith) kept)))
 
 -- the same of an image that is told
-module _ (v : Held) (is : IsHeld v) (w : ℕ) (x : List ℕ) (inside : v.shape.base + (4 + v.shape.size) ≤ length x) where
+module _ (v : Held) (is : IsInBounds v) (w : ℕ) (x : List ℕ) (inside : v.shape.base + (4 + v.shape.size) ≤ length x) where
   -- one list is held
-  same_days : (days others : List Day) → Knows v x days → Holds v.shape x others → Knows v x others
+  same_days : (days others : List Day) → Knows v x days → HoldsDays v.shape x others → Knows v x others
   same_days days others k h = subst (λ (l : List Day). Knows v x l) (one_list v.shape is.shape x inside days others k.holds h) k
 
   pub changing_known : (c : List ℕ) → IsPartway (change_pieces v w x) x c → IfKnown v (IsChanging v.shape w) x c

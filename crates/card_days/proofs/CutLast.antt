@@ -6,7 +6,7 @@ use Rattle.tach_media.specs.Medium.{put, bytes_at, SameOutside, IsPartlyWritten}
 use Rattle.tach_media.proofs.Images.{put_outside, outside_same, outside_then, outside_wider}
 use Rattle.card_model.specs.Bytes.{number, two_bytes}
 use Rattle.card_model.specs.Days.{Day, len_of, total, IsDay, AreDays, record_of, records}
-use Rattle.card_model.specs.Image.{StringShape, IsStringShape, turned, oldest_pointer, newest_pointer, string_of, IsPointer, IsPlace, Holds, IsAt, at}
+use Rattle.card_model.specs.Image.{StringShape, IsStringShape, turned, oldest_pointer, newest_pointer, string_of, IsPointer, IsPlace, HoldsDays, IsAt, at}
 use Rattle.card_model.specs.Changes.{with_newest, until, early, with_early, date_of, cut, AllLater, Shorter}
 use Rattle.card_model.proofs.Ascending.{words_below, early_words_all}
 use Rattle.card_model.proofs.Lists.{total-append, previous_of, len_even, len_least, len_most}
@@ -39,14 +39,14 @@ cut_early minute d same =
 module _ (r : StringShape) (shape : IsStringShape r) (x : List ℕ) (inside : r.base + (4 + r.size) ≤ length x) (minute n : ℕ) (n_is : IsPointer r.size (newest_pointer r x) → n ≡ newest_pointer r x)
     (h : RecordHead) (head : head_bytes h ≡ take 12 (turned n (string_of r x))) (len : ℕ) (len_known : h.len % 2 ≡ 0 → h.len ≤ 2892 → len ≡ h.len) where
   -- there is no day where the length is short
-  pub none_there : Holds r x [] → len ≡ 0
+  pub none_there : HoldsDays r x [] → len ≡ 0
   none_there g =
       let start : n ≡ oldest_pointer r x = n_is g.newest ∙ ⊎_elim (λ is. omega (arith, is)) (λ is. absurd (omega (arith, is, g.oldest.below))) g.distance in
       let zero_len : h.len ≡ 0 = sym (number_two h.len) ∙ ap (λ (l : List ℕ). number (bytes_at l 2 2)) head ∙ ap number (in_twelve (turned n (string_of r x)) 2 2 8 refl) ∙ ap (λ (k : ℕ). number (bytes_at (turned k (string_of r x)) 2 2)) start ∙ g.empty refl in
       len_known (ap (λ (k : ℕ). k % 2) zero_len) (omega (arith, zero_len)) ∙ zero_len
 
   -- the newest day's length and date
-  pub newest_read : (older : List Day) (d : Day) → Holds r x (older ++ d ∷ []) → (len ≡ len_of d) × (h.date ≡ d.date)
+  pub newest_read : (older : List Day) (d : Day) → HoldsDays r x (older ++ d ∷ []) → (len ≡ len_of d) × (h.date ≡ d.date)
   newest_read older d g =
       let here = newest_here r shape x inside older d g n n_is in
       let q = previous_of g.previous older in
@@ -57,22 +57,22 @@ module _ (r : StringShape) (shape : IsStringShape r) (x : List ℕ) (inside : r.
       (len_known (ap (λ (k : ℕ). k % 2) read ∙ len_even d) (omega (arith, read, len_most d is)) ∙ read, date_is h q d rest same)
 
   -- where the length is short there is no day
-  pub none_where_short : len < 14 → (days : List Day) → Holds r x days → days ≡ []
+  pub none_where_short : len < 14 → (days : List Day) → HoldsDays r x days → days ≡ []
   none_where_short short [] g = refl
   none_where_short short (e ∷ es) g =
       let s = split (λ e. Unit {0}) (e ∷ es) (some_newest (e ∷ es) (λ none. cc)) in
-      let h = subst (λ (l : List Day). Holds r x l) s.is g in
+      let h = subst (λ (l : List Day). HoldsDays r x l) s.is g in
       absurd (omega (arith, short, (newest_read s.older s.newest h).0, len_least s.newest (day_is 0 s.older s.newest [] h.ordered)))
 
   -- nothing is cut
   pub cut_none : len < 14 → IsCutLast r minute x x
   cut_none short = record { outside = outside_same r.base (4 + r.size) x; list = by }
     where
-      by : (days : List Day) → Holds r x days → Holds r x (with_newest (cut minute) days)
+      by : (days : List Day) → HoldsDays r x days → HoldsDays r x (with_newest (cut minute) days)
       by [] g = g
       by (e ∷ es) g =
           let s = split (λ e. Unit {0}) (e ∷ es) (some_newest (e ∷ es) (λ none. cc)) in
-          let h = subst (λ (l : List Day). Holds r x l) s.is g in
+          let h = subst (λ (l : List Day). HoldsDays r x l) s.is g in
           absurd (omega (arith, short, (newest_read s.older s.newest h).0, len_least s.newest (day_is 0 s.older s.newest [] h.ordered)))
 
   module _ (some : 14 ≤ len) (n_pointer : IsPointer r.size n) (q : ℕ) (q_place : IsPlace r.size n 2 q) (q_pointer : IsPointer r.size q) (k : ℕ)
@@ -86,7 +86,7 @@ module _ (r : StringShape) (shape : IsStringShape r) (x : List ℕ) (inside : r.
     y_outside : SameOutside r.base (4 + r.size) x y
     y_outside = outside_wider r.base (4 + r.size) (at r q) 2 x y (put_outside (at r q) (two_bytes (12 + 2 * k)) x (omega (arith, q_fits, inside))) (omega arith) (omega (arith, q_fits))
 
-    of_last : (older : List Day) (d : Day) → Holds r x (older ++ d ∷ []) → Holds r y (older ++ cut minute d ∷ [])
+    of_last : (older : List Day) (d : Day) → HoldsDays r x (older ++ d ∷ []) → HoldsDays r y (older ++ cut minute d ∷ [])
     of_last older d g =
         let here = newest_here r shape x inside older d g n n_is in
         let is : IsDay d = day_is 0 older d [] g.ordered in
@@ -99,17 +99,17 @@ module _ (r : StringShape) (shape : IsStringShape r) (x : List ℕ) (inside : r.
         let early_is = cut_is minute d is in
         let len_new : 12 + 2 * k ≡ len_of (with_early early_is.0 d) = omega (arith, kept, ap (λ (e : Day). length e.words) early_is.1) in
         let s : Stands r (total older + 2) (two_bytes (len_of (with_early early_is.0 d))) x y = subst (λ (m : ℕ). Stands r (total older + 2) (two_bytes m) x y) len_new (stands r x inside (total older + 2) q (two_bytes (12 + 2 * k)) g.oldest.below far_q q_fits (omega (arith, free))) in
-        subst (λ (e : Day). Holds r y (older ++ e ∷ [])) (sym early_is.1) (cut_last r x y older d early_is.0 g s)
+        subst (λ (e : Day). HoldsDays r y (older ++ e ∷ [])) (sym early_is.1) (cut_last r x y older d early_is.0 g s)
 
     pub cut_made : IsCutLast r minute x y
     cut_made = record { outside = y_outside; list = by }
       where
-        by : (days : List Day) → Holds r x days → Holds r y (with_newest (cut minute) days)
+        by : (days : List Day) → HoldsDays r x days → HoldsDays r y (with_newest (cut minute) days)
         by [] g = absurd (omega (arith, some, none_there g))
         by (e ∷ es) g =
             let s = split (λ e. Unit {0}) (e ∷ es) (some_newest (e ∷ es) (λ none. cc)) in
-            subst (λ (l : List Day). Holds r y l) (sym (ap (λ (l : List Day). with_newest (cut minute) l) s.is ∙ with_last (cut minute) s.older s.newest))
-            (of_last s.older s.newest (subst (λ (l : List Day). Holds r x l) s.is g))
+            subst (λ (l : List Day). HoldsDays r y l) (sym (ap (λ (l : List Day). with_newest (cut minute) l) s.is ∙ with_last (cut minute) s.older s.newest))
+            (of_last s.older s.newest (subst (λ (l : List Day). HoldsDays r x l) s.is g))
 
     pub while_cut : (c : List ℕ) → IsPartlyWritten (at r q) (two_bytes (12 + 2 * k)) x c → IsCuttingLast r minute x c
     while_cut c part = ⊎_elim

@@ -6,7 +6,7 @@ use Rattle.tach_media.specs.Medium.{put}
 use Rattle.card_model.specs.Bytes.{two_bytes}
 use Rattle.activity_codec.specs.Words.{word_minute}
 use Rattle.card_model.specs.Days.{Day, len_of, total, far, body, record_of, records, word_bytes, Ascend, AreWords, IsDay}
-use Rattle.card_model.specs.Image.{StringShape, oldest_pointer, newest_pointer, IsPointer, IsPlace, Holds}
+use Rattle.card_model.specs.Image.{StringShape, oldest_pointer, newest_pointer, IsPointer, IsPlace, HoldsDays}
 use Rattle.card_model.specs.Changes.{early, with_early}
 use Rattle.card_model.proofs.Ascending.{words_ascend}
 use Rattle.card_model.proofs.Circle.{put_back}
@@ -62,7 +62,7 @@ early_is m (w ∷ ws) (suc k) le all end =
     omega (arith, rest) ∙ ap (λ (b : Bool). length (cond b (w ∷ early m ws) [])) (sym test)
 
 -- the commit: the shorter length
-pub cut_last : (r : StringShape) (x y : List ℕ) (older : List Day) (d : Day) (m : ℕ) (h : Holds r x (older ++ d ∷ [])) → Stands r (total older + 2) (two_bytes (len_of (with_early m d))) x y → Holds r y (older ++ with_early m d ∷ [])
+pub cut_last : (r : StringShape) (x y : List ℕ) (older : List Day) (d : Day) (m : ℕ) (h : HoldsDays r x (older ++ d ∷ [])) → Stands r (total older + 2) (two_bytes (len_of (with_early m d))) x y → HoldsDays r y (older ++ with_early m d ∷ [])
 cut_last r x y older d m h s =
     let e = previous_of h.previous older in
     let f = with_early m d in

@@ -5,7 +5,7 @@ use Rattle.std.specs.List.{last_or}
 use Rattle.tach_media.specs.Medium.{bytes_at}
 use Rattle.card_model.specs.Bytes.{number}
 use Rattle.card_model.specs.Days.{Day, len_of, total, far, IsDay, AreDays}
-use Rattle.card_model.specs.Image.{StringShape, IsStringShape, oldest_pointer, newest_pointer, IsPointer, IsPlace, spot, Holds, IsAt, at}
+use Rattle.card_model.specs.Image.{StringShape, IsStringShape, oldest_pointer, newest_pointer, IsPointer, IsPlace, spot, HoldsDays, IsAt, at}
 use Rattle.card_model.proofs.Lists.{total-append, far_last, previous_of, previous_last, len_even, len_most, len_least}
 use Rattle.card_model.proofs.Numbers.{number_two}
 use Rattle.card_model.proofs.Walking.{far_below}
@@ -37,17 +37,17 @@ ended e (f ∷ es) = let s = ended f es in (e ∷ s.0, s.1, ap (λ (l : List Day
 
 module _ (r : StringShape) (shape : IsStringShape r) (x : List ℕ) (inside : r.base + (4 + r.size) ≤ length x) where
   -- the place of a day among the days
-  pub day_spot : (older : List Day) (d : Day) (later : List Day) → Holds r x (older ++ d ∷ later) → (p : ℕ) → IsPointer r.size p → IsPlace r.size (oldest_pointer r x) (total older) p → spot r.size (oldest_pointer r x) (total older) ≡ p
+  pub day_spot : (older : List Day) (d : Day) (later : List Day) → HoldsDays r x (older ++ d ∷ later) → (p : ℕ) → IsPointer r.size p → IsPlace r.size (oldest_pointer r x) (total older) p → spot r.size (oldest_pointer r x) (total older) ≡ p
   day_spot older d later h p pointer place =
       let all : total (older ++ d ∷ later) + length h.rest ≡ r.size = fills r shape x inside (older ++ d ∷ later) h in
       let s = spot_is r.size (oldest_pointer r x) (total older) shape.even h.oldest (total_even older) (omega (arith, all, total-append older (d ∷ later))) in
       same_place r.size (oldest_pointer r x) (total older) (spot r.size (oldest_pointer r x) (total older)) p s.1.below pointer.below s.0 place
 
   -- the oldest day, where the oldest pointer was read
-  abbrev pub oldest_here : (d : Day) (later : List Day) → Holds r x (d ∷ later) → (o : ℕ) → (IsPointer r.size (oldest_pointer r x) → o ≡ oldest_pointer r x) → IsAt r x o d
+  abbrev pub oldest_here : (d : Day) (later : List Day) → HoldsDays r x (d ∷ later) → (o : ℕ) → (IsPointer r.size (oldest_pointer r x) → o ≡ oldest_pointer r x) → IsAt r x o d
   oldest_here d later h o o_is = record { older = []; later = later; holds = h; pointer = subst (λ (n : ℕ). IsPointer r.size n) (sym (o_is h.oldest)) h.oldest; place = inl (omega (arith, o_is h.oldest)) }
 
-  abbrev pub newest_here : (older : List Day) (d : Day) → Holds r x (older ++ d ∷ []) → (n : ℕ) → (IsPointer r.size (newest_pointer r x) → n ≡ newest_pointer r x) → IsAt r x n d
+  abbrev pub newest_here : (older : List Day) (d : Day) → HoldsDays r x (older ++ d ∷ []) → (n : ℕ) → (IsPointer r.size (newest_pointer r x) → n ≡ newest_pointer r x) → IsAt r x n d
   newest_here older d h n n_is = record {
     older = older;
     later = [];
@@ -57,22 +57,22 @@ module _ (r : StringShape) (shape : IsStringShape r) (x : List ℕ) (inside : r.
   }
 
   -- what `first` answers
-  pub first_is : (days : List Day) → Holds r x days → (o : ℕ) (answer : Option DayHead) → (IsPointer r.size (oldest_pointer r x) → o ≡ oldest_pointer r x)
-      → ((d : Day) → IsAt r x o d → answer ≡ Some (day_head o d)) → (Holds r x [] → oldest_pointer r x ≡ o → answer ≡ None) → answer ≡ slice_get (heads_of r x days) 0
+  pub first_is : (days : List Day) → HoldsDays r x days → (o : ℕ) (answer : Option DayHead) → (IsPointer r.size (oldest_pointer r x) → o ≡ oldest_pointer r x)
+      → ((d : Day) → IsAt r x o d → answer ≡ Some (day_head o d)) → (HoldsDays r x [] → oldest_pointer r x ≡ o → answer ≡ None) → answer ≡ slice_get (heads_of r x days) 0
   first_is [] h o answer o_is there empty = empty h (sym (o_is h.oldest))
   first_is (d ∷ ds) h o answer o_is there empty =
       let here = oldest_here d ds h o o_is in
       there d here ∙ ap (λ (p : ℕ). Some (day_head p d)) (sym (day_spot [] d ds h o here.pointer here.place))
 
   -- what `last` answers
-  pub last_is : (days : List Day) → Holds r x days → (n : ℕ) (answer : Option DayHead) → (IsPointer r.size (newest_pointer r x) → n ≡ newest_pointer r x)
-      → ((d : Day) → IsAt r x n d → answer ≡ Some (day_head n d)) → (Holds r x [] → oldest_pointer r x ≡ n → answer ≡ None) → answer ≡ last_or None (heads_of r x days)
+  pub last_is : (days : List Day) → HoldsDays r x days → (n : ℕ) (answer : Option DayHead) → (IsPointer r.size (newest_pointer r x) → n ≡ newest_pointer r x)
+      → ((d : Day) → IsAt r x n d → answer ≡ Some (day_head n d)) → (HoldsDays r x [] → oldest_pointer r x ≡ n → answer ≡ None) → answer ≡ last_or None (heads_of r x days)
   last_is [] h n answer n_is there empty = empty h (⊎_elim (λ is. omega (arith, is, n_is h.newest)) (λ is. absurd (omega (arith, is, h.oldest.below))) h.distance)
   last_is (e ∷ es) h n answer n_is there empty = by_last (ended e es) h
     where
-      by_last : Ended (e ∷ es) → Holds r x (e ∷ es) → answer ≡ last_or None (heads_of r x (e ∷ es))
+      by_last : Ended (e ∷ es) → HoldsDays r x (e ∷ es) → answer ≡ last_or None (heads_of r x (e ∷ es))
       by_last (older, d, is) h =
-          let g : Holds r x (older ++ d ∷ []) = subst (λ (l : List Day). Holds r x l) is h in
+          let g : HoldsDays r x (older ++ d ∷ []) = subst (λ (l : List Day). HoldsDays r x l) is h in
           let here = newest_here older d g n n_is in
           there d here ∙ ap (λ (p : ℕ). Some (day_head p d)) (sym (day_spot older d [] g n here.pointer here.place))
           ∙ sym (ap (λ (l : List Day). last_or None (heads_of r x l)) is ∙ ap (λ (l : List DayHead). last_or None l) (heads-append r x 0 older (d ∷ []))
@@ -113,7 +113,7 @@ module _ (r : StringShape) (shape : IsStringShape r) (x : List ℕ) (inside : r.
   pub at_newest : (n : ℕ) → (IsPointer r.size (newest_pointer r x) → n ≡ newest_pointer r x) → n ≡ p → here.later ≡ []
   at_newest n n_is same = by here.later here.holds room
     where
-      by : (later : List Day) → Holds r x (here.older ++ d ∷ later) → total here.older + len_of d + total later ≤ r.size → later ≡ []
+      by : (later : List Day) → HoldsDays r x (here.older ++ d ∷ later) → total here.older + len_of d + total later ≤ r.size → later ≡ []
       by [] h fits = refl
       by (e ∷ es) h fits =
           let newest : newest_pointer r x ≡ p = sym (n_is h.newest) ∙ same in
@@ -124,7 +124,7 @@ module _ (r : StringShape) (shape : IsStringShape r) (x : List ℕ) (inside : r.
   -- and something is where it is elsewhere
   pub before_newest : (n : ℕ) → (IsPointer r.size (newest_pointer r x) → n ≡ newest_pointer r x) → n ≢ p → here.later ≢ []
   before_newest n n_is other none =
-      let h : Holds r x (here.older ++ d ∷ []) = subst (λ (l : List Day). Holds r x (here.older ++ d ∷ l)) none here.holds in
+      let h : HoldsDays r x (here.older ++ d ∷ []) = subst (λ (l : List Day). HoldsDays r x (here.older ++ d ∷ l)) none here.holds in
       let place : IsPlace r.size (oldest_pointer r x) (total here.older) (newest_pointer r x) = subst (λ (k : ℕ). IsPlace r.size (oldest_pointer r x) k (newest_pointer r x)) (far_last here.older d) h.distance in
       other (n_is h.newest ∙ same_place r.size (oldest_pointer r x) (total here.older) (newest_pointer r x) p h.newest.below here.pointer.below place here.place)
 
@@ -133,7 +133,7 @@ module _ (r : StringShape) (shape : IsStringShape r) (x : List ℕ) (inside : r.
   next_here e es later_is q q_place q_pointer = record {
     older = here.older ++ d ∷ [];
     later = es;
-    holds = subst (λ (l : List Day). Holds r x l) (ap (λ (l : List Day). here.older ++ d ∷ l) later_is ∙ sym (append_assoc here.older (d ∷ []) (e ∷ es))) here.holds;
+    holds = subst (λ (l : List Day). HoldsDays r x l) (ap (λ (l : List Day). here.older ++ d ∷ l) later_is ∙ sym (append_assoc here.older (d ∷ []) (e ∷ es))) here.holds;
     pointer = q_pointer;
     place = subst (λ (k : ℕ). IsPlace r.size (oldest_pointer r x) k q) (omega (arith, total-append here.older (d ∷ [])))
         (place_then r.size (oldest_pointer r x) (total here.older) p (len_of d) q here.holds.oldest.below here.pointer.below q_pointer.below (omega (arith, room)) here.place q_place);
@@ -146,7 +146,7 @@ module _ (r : StringShape) (shape : IsStringShape r) (x : List ℕ) (inside : r.
       record {
         older = front;
         later = d ∷ here.later;
-        holds = subst (λ (l : List Day). Holds r x l) (ap (λ (l : List Day). l ++ d ∷ here.later) older_is ∙ append_assoc front (e ∷ []) (d ∷ here.later)) here.holds;
+        holds = subst (λ (l : List Day). HoldsDays r x l) (ap (λ (l : List Day). l ++ d ∷ here.later) older_is ∙ append_assoc front (e ∷ []) (d ∷ here.later)) here.holds;
         pointer = q_pointer;
         place = place_back r.size (oldest_pointer r x) (total front) (len_of e) q p here.holds.oldest.below q_pointer.below here.pointer.below (omega (arith, whole, room, len_least d day))
             (subst (λ (k : ℕ). IsPlace r.size (oldest_pointer r x) k p) whole here.place) q_place;

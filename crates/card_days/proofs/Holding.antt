@@ -4,7 +4,7 @@ use Rattle.tach_media.specs.Medium.{put, bytes_at}
 use Rattle.card_model.specs.Bytes.{number, two_bytes}
 use Rattle.card_model.specs.Days.{Day, len_of, total, far, word_bytes, body, record_of, records, IsDay}
 use Rattle.card_model.specs.Changes.{with_word}
-use Rattle.card_model.specs.Image.{StringShape, IsStringShape, turned, oldest_pointer, newest_pointer, circle_of, IsPointer, IsPlace, Holds}
+use Rattle.card_model.specs.Image.{StringShape, IsStringShape, turned, oldest_pointer, newest_pointer, circle_of, IsPointer, IsPlace, HoldsDays}
 use Rattle.card_model.proofs.Circle.{put_back, turned_front}
 use Rattle.card_model.proofs.Lists.{word_bytes-append, record_length, records_length, previous_of, far_last, days_after}
 use Rattle.card_days.proofs.Lists.{some_appended, another_newest, longer_by_two}
@@ -13,8 +13,8 @@ use Rattle.card_model.proofs.Reading.{place_between, spelled_at}
 
 module _ (r : StringShape) (shape : IsStringShape r) (x : List ℕ) (inside : r.base + (4 + r.size) ≤ length x) where
   -- a write behind the records
-  pub beyond : (days : List Day) (k j : ℕ) (b y : List ℕ) (h : Holds r x days) → k ≡ total days + j → Stands r k b x y → (days ≡ [] → number (bytes_at (circle_of r y) 2 2) ≡ 0)
-      → (g : Holds r y days) × (g.rest ≡ put j b h.rest) × (g.previous ≡ h.previous)
+  pub beyond : (days : List Day) (k j : ℕ) (b y : List ℕ) (h : HoldsDays r x days) → k ≡ total days + j → Stands r k b x y → (days ≡ [] → number (bytes_at (circle_of r y) 2 2) ≡ 0)
+      → (g : HoldsDays r y days) × (g.rest ≡ put j b h.rest) × (g.previous ≡ h.previous)
   beyond days k j b y h at_k stands empty =
       let a = records h.previous days in (
         record {
@@ -32,7 +32,7 @@ module _ (r : StringShape) (shape : IsStringShape r) (x : List ℕ) (inside : r.
       )
 
   -- the commit of a word that stands behind the newest day
-  pub longer : (older : List Day) (d : Day) (w : ℕ) (h : Holds r x (older ++ d ∷ [])) (rest z : List ℕ) → h.rest ≡ two_bytes w ++ rest → Stands r (total older + 2) (two_bytes (len_of d + 2)) x z → IsDay (with_word w d) → Holds r z (older ++ with_word w d ∷ [])
+  pub longer : (older : List Day) (d : Day) (w : ℕ) (h : HoldsDays r x (older ++ d ∷ [])) (rest z : List ℕ) → h.rest ≡ two_bytes w ++ rest → Stands r (total older + 2) (two_bytes (len_of d + 2)) x z → IsDay (with_word w d) → HoldsDays r z (older ++ with_word w d ∷ [])
   longer older d w h rest z written stands is =
       let e = previous_of h.previous older in
       let f = with_word w d in
@@ -59,7 +59,7 @@ module _ (r : StringShape) (shape : IsStringShape r) (x : List ℕ) (inside : r.
       }
 
   -- the oldest pointer moved behind the first of several days
-  pub without_first : (d e : Day) (ds : List Day) (p : ℕ) (y : List ℕ) → Holds r x (d ∷ e ∷ ds) → IsPointer r.size p → IsPlace r.size (oldest_pointer r x) (len_of d) p → Turned r (len_of d) p x y → Holds r y (e ∷ ds)
+  pub without_first : (d e : Day) (ds : List Day) (p : ℕ) (y : List ℕ) → HoldsDays r x (d ∷ e ∷ ds) → IsPointer r.size p → IsPlace r.size (oldest_pointer r x) (len_of d) p → Turned r (len_of d) p x y → HoldsDays r y (e ∷ ds)
   without_first d e ds p y h pointer place turns =
       let front = record_of h.previous d in
       let later = records (len_of d) (e ∷ ds) in
@@ -81,7 +81,7 @@ module _ (r : StringShape) (shape : IsStringShape r) (x : List ℕ) (inside : r.
       nothing none = cc
 
   -- the length before the oldest day was written
-  pub finished : (e : Day) (ds : List Day) (previous : ℕ) (y : List ℕ) → Holds r x (e ∷ ds) → Stands r 0 (two_bytes previous) x y → Holds r y (e ∷ ds)
+  pub finished : (e : Day) (ds : List Day) (previous : ℕ) (y : List ℕ) → HoldsDays r x (e ∷ ds) → Stands r 0 (two_bytes previous) x y → HoldsDays r y (e ∷ ds)
   finished e ds previous y h stands = record {
     oldest = subst (λ (n : ℕ). IsPointer r.size n) (sym stands.oldest) h.oldest;
     newest = subst (λ (n : ℕ). IsPointer r.size n) (sym stands.newest) h.newest;

@@ -9,7 +9,7 @@ use Rattle.tach_media.specs.Plan.{Piece, piece, put_all, IsInside}
 use Rattle.tach_media.proofs.Plans.{puts_outside}
 use Rattle.card_model.specs.Bytes.{number, two_bytes}
 use Rattle.card_model.specs.Image.{StringShape, IsPointer, spot, at}
-use Rattle.card_days.specs.Held.{Held, IsHeld, newest_len, end_of, oldest_at}
+use Rattle.card_days.specs.Held.{Held, IsInBounds, newest_len, end_of, oldest_at}
 use Rattle.card_days.specs.Plans.{dropped_len, left_in, drop_pieces, word_pieces, change_pieces, round_pieces, pointer_pieces, day_pieces}
 use Rattle.card_days.proofs.Matching.{end_is, oldest_is}
 use Rattle.card_days.proofs.Rounds.{spot_is}
@@ -35,7 +35,7 @@ dropped_low n = by (nat_eq (n % 2) 0 && (nat_le 14 n && nat_le n 2892)) refl
     by false test = (refl, omega arith, omega arith)
     by true test = (grind (arith, nat_tests, test), grind (arith, nat_tests, test), grind (arith, nat_tests, test))
 
-module _ (v : Held) (is : IsHeld v) where
+module _ (v : Held) (is : IsInBounds v) where
   abbrev r : StringShape
   r = v.shape
 

@@ -6,7 +6,7 @@ use Rattle.std.proofs.lemmas.List.{take_at, take-append-le, append-nil}
 use Rattle.tach_media.specs.Medium.{bytes_at}
 use Rattle.card_model.specs.Bytes.{number}
 use Rattle.card_model.specs.Days.{Day, len_of, total, record_of, records, IsDay, AreDays}
-use Rattle.card_model.specs.Image.{StringShape, IsStringShape, turned, oldest_pointer, newest_pointer, string_of, circle_of, IsPointer, IsPlace, spot, Holds}
+use Rattle.card_model.specs.Image.{StringShape, IsStringShape, turned, oldest_pointer, newest_pointer, string_of, circle_of, IsPointer, IsPlace, spot, HoldsDays}
 use Rattle.card_model.specs.Walk.{days_of}
 use Rattle.card_model.specs.Checks.{Check, check, first_failing, is_pointer, day_checks, distance_of, is_empty, first_bad}
 use Rattle.card_model.proofs.Numbers.{number_two, number_four}
@@ -157,7 +157,7 @@ module _ (r : StringShape) (shape : IsStringShape r) (x : List ℕ) (inside : r.
               ∙ ap (λ (l : List ℕ). first_failing (day_checks more.0 r.size (oldest_pointer r x) reach (so_far + h.len) h.len h.date l)) bytes_too;
         }
 
-    pub walked_last : so_far ≡ reach → IsPointer r.size (oldest_pointer r x) → IsPointer r.size (newest_pointer r x) → IsPlace r.size (oldest_pointer r x) reach (newest_pointer r x) → Holds r x (w.done ++ one.day ∷ [])
+    pub walked_last : so_far ≡ reach → IsPointer r.size (oldest_pointer r x) → IsPointer r.size (newest_pointer r x) → IsPlace r.size (oldest_pointer r x) reach (newest_pointer r x) → HoldsDays r x (w.done ++ one.day ∷ [])
     walked_last last oldest newest place = record {
       oldest = oldest;
       newest = newest;
@@ -170,10 +170,10 @@ module _ (r : StringShape) (shape : IsStringShape r) (x : List ℕ) (inside : r.
     }
 
     -- and so those that the walk of the definition finds
-    pub walked_holds : so_far ≡ reach → IsPointer r.size (oldest_pointer r x) → IsPointer r.size (newest_pointer r x) → IsPlace r.size (oldest_pointer r x) reach (newest_pointer r x) → Holds r x (days_of r x)
+    pub walked_holds : so_far ≡ reach → IsPointer r.size (oldest_pointer r x) → IsPointer r.size (newest_pointer r x) → IsPlace r.size (oldest_pointer r x) reach (newest_pointer r x) → HoldsDays r x (days_of r x)
     walked_holds last oldest newest place =
         let h = walked_last last oldest newest place in
-        subst (λ (l : List Day). Holds r x l) (sym (walked r shape x inside (w.done ++ one.day ∷ []) h)) h
+        subst (λ (l : List Day). HoldsDays r x l) (sym (walked r shape x inside (w.done ++ one.day ∷ []) h)) h
 
 -- the first checks of a string
 false_first : (t : Bool) (p : ℕ) (cs : List Check) → t ≡ false → first_failing (check t p ∷ cs) ≡ Some p
@@ -203,11 +203,11 @@ module _ (r : StringShape) (x : List ℕ) where
           ∙ passes_one (is_pointer r.size (newest_pointer r x)) 2 (checks_unless r x (is_empty r x)) newest
           ∙ ap (λ (b : Bool). first_failing (checks_unless r x b)) some
 
-      pub empty_holds : IsStringShape r → r.base + (4 + r.size) ≤ length x → is_empty r x ≡ true → Holds r x (days_of r x)
+      pub empty_holds : IsStringShape r → r.base + (4 + r.size) ≤ length x → is_empty r x ≡ true → HoldsDays r x (days_of r x)
       empty_holds shape inside none =
           let two = and_parts (nat_eq (oldest_pointer r x) (newest_pointer r x)) (nat_eq (number (bytes_at (circle_of r x) 2 2)) 0) none in
           let same : oldest_pointer r x ≡ newest_pointer r x = eqb-true (oldest_pointer r x) (newest_pointer r x) two.0 in
-          let h : Holds r x [] = record {
+          let h : HoldsDays r x [] = record {
             oldest = pointer_is r.size (oldest_pointer r x) oldest;
             newest = pointer_is r.size (newest_pointer r x) newest;
             distance = inl (omega (arith, same));
@@ -217,4 +217,4 @@ module _ (r : StringShape) (x : List ℕ) where
             empty = λ is. eqb-true (number (bytes_at (circle_of r x) 2 2)) 0 two.1;
             ordered = tt;
           } in
-          subst (λ (l : List Day). Holds r x l) (sym (walked r shape x inside [] h)) h
+          subst (λ (l : List Day). HoldsDays r x l) (sym (walked r shape x inside [] h)) h

@@ -8,11 +8,11 @@ use Rattle.tach_media.specs.Plan.{Piece, piece, put_all, IsPartway}
 use Rattle.card_model.specs.Bytes.{number, two_bytes}
 use Rattle.card_model.specs.Changes.{Remain}
 use Rattle.card_model.specs.Days.{Day, len_of, total, far, last_len, AreDays}
-use Rattle.card_model.specs.Image.{StringShape, IsStringShape, circle_of, oldest_pointer, newest_pointer, IsPointer, IsPlace, spot, Holds, at}
+use Rattle.card_model.specs.Image.{StringShape, IsStringShape, circle_of, oldest_pointer, newest_pointer, IsPointer, IsPlace, spot, HoldsDays, at}
 use Rattle.card_model.proofs.Lists.{total-append, last_len_is, len_least, len_most, len_even}
 use Rattle.card_model.proofs.Reading.{place_then, fills, len_read, round_part}
 use Rattle.card_days.specs.declared.head.DayHead.{DayHead}
-use Rattle.card_days.specs.Held.{Held, IsHeld, Knows, IsNewestHead, newest_len, end_of, oldest_at}
+use Rattle.card_days.specs.Held.{Held, IsInBounds, Knows, IsNewestHead, newest_len, end_of, oldest_at}
 use Rattle.card_days.specs.Moments.{IsCleared}
 use Rattle.card_days.specs.Plans.{dropped_len, left_in, drop_pieces}
 use Rattle.card_days.specs.Steps.{roomier}
@@ -24,7 +24,7 @@ use Rattle.card_days.proofs.Rounds.{spot_is}
 
 -- the image holds these days, the newest of them where it is kept, and as long
 pub record Matches (v : Held) (y : List ℕ) (days : List Day) : Type 0 where
-  pub holds : Holds v.shape y days
+  pub holds : HoldsDays v.shape y days
   pub place : v.tail.head.place ≡ newest_pointer v.shape y
   pub len : newest_len v ≡ last_len days
 
@@ -61,7 +61,7 @@ matches v x days k = record { holds = k.holds; place = k.place; len = by days k 
 pub front_cleared : (r : StringShape) (shape : IsStringShape r) (y : List ℕ) → r.base + (4 + r.size) ≤ length y → IsPointer r.size (oldest_pointer r y) → take 2 (circle_of r y) ≡ two_bytes 0 → IsCleared r y
 front_cleared r shape y inside pointer front = sym (round_part r shape y inside (oldest_pointer r y) 2 pointer.below (omega (arith, pointer.below, pointer.even, shape.even))) ∙ front
 
-module _ (v : Held) (is : IsHeld v) where
+module _ (v : Held) (is : IsInBounds v) where
   abbrev r : StringShape
   r = v.shape
 
@@ -145,12 +145,12 @@ module _ (v : Held) (is : IsHeld v) where
 
     -- there are two days at least where they do not fit
     several : {T : Type 0} → room < total days
-        → ((d e : Day) (ds : List Day) → days ≡ d ∷ e ∷ ds → Holds r y (d ∷ e ∷ ds) → room < total (d ∷ e ∷ ds) → IsPointer r.size (oldest_at v left) → IsPlace r.size (oldest_pointer r y) (len_of d) (oldest_at v left) → left < u → T) → T
+        → ((d e : Day) (ds : List Day) → days ≡ d ∷ e ∷ ds → HoldsDays r y (d ∷ e ∷ ds) → room < total (d ∷ e ∷ ds) → IsPointer r.size (oldest_at v left) → IsPlace r.size (oldest_pointer r y) (len_of d) (oldest_at v left) → left < u → T) → T
     several {T} lt then_so = by days refl
       where
         by : (ds : List Day) → days ≡ ds → T
         by [] is_days = absurd (omega (arith, lt, ap total is_days))
-        by (d ∷ []) is_days = let h = subst (λ (l : List Day). Holds r y l) is_days m.holds in absurd (omega (arith, lt, ap total is_days, big, len_most d h.ordered.1))
+        by (d ∷ []) is_days = let h = subst (λ (l : List Day). HoldsDays r y l) is_days m.holds in absurd (omega (arith, lt, ap total is_days, big, len_most d h.ordered.1))
         by (d ∷ e ∷ ds) is_days =
             let g : Matches v y (d ∷ e ∷ ds) = subst (λ (l : List Day). Matches v y l) is_days m in
             let over : room < total (d ∷ e ∷ ds) = omega (arith, lt, ap total is_days) in
@@ -167,14 +167,14 @@ module _ (v : Held) (is : IsHeld v) where
         (λ lt. several lt (λ d e ds is_days h over pointer place less.
         let same = less_is d e ds is_days over in
         subst (λ (ps : List Piece). Matches v (put_all ps y) (roomier room days)) (sym (some_pieces less)) (record {
-          holds = subst (λ (l : List Day). Holds r (put_all both y) l) (sym same) (first_finished r is.shape y inside d e ds h (oldest_at v left) pointer place);
+          holds = subst (λ (l : List Day). HoldsDays r (put_all both y) l) (sym same) (first_finished r is.shape y inside d e ds h (oldest_at v left) pointer place);
           place = m.place ∙ sym (newest_same r is.shape y inside d e ds h (oldest_at v left) pointer place);
           len = m.len ∙ ap last_len is_days ∙ sym (ap last_len same);
         })))
         (λ fits. subst (λ (ps : List Piece). Matches v (put_all ps y) (roomier room days)) (sym (none_pieces fits)) (subst (λ (l : List Day). Matches v y l) (sym (roomier_all room days fits)) m))
         (cases_lt room (total days))
 
-    pub dropping : (c : List ℕ) → IsPartway (drop_pieces v u left) y c → (kept : List Day) × Remain room days kept × Holds r c kept
+    pub dropping : (c : List ℕ) → IsPartway (drop_pieces v u left) y c → (kept : List Day) × Remain room days kept × HoldsDays r c kept
     dropping c part = ⊎_elim
         (λ lt. several lt (λ d e ds is_days h over pointer place less.
         ⊎_elim

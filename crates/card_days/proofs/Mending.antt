@@ -5,7 +5,7 @@ use Rattle.tach_media.proofs.Images.{outside_same, outside_wider, put_outside}
 use Rattle.card_model.specs.Bytes.{number, two_bytes}
 use Rattle.card_model.specs.Days.{Day, len_of, total, far, record_of, records, IsDay}
 use Rattle.card_model.specs.Changes.{with_newest, with_km}
-use Rattle.card_model.specs.Image.{StringShape, IsStringShape, oldest_pointer, newest_pointer, IsPointer, IsPlace, Holds, at}
+use Rattle.card_model.specs.Image.{StringShape, IsStringShape, oldest_pointer, newest_pointer, IsPointer, IsPlace, HoldsDays, at}
 use Rattle.card_days.specs.Steps.{SameDays, IsMeasured, IsMeasuring}
 use Rattle.card_model.proofs.Circle.{put_back}
 use Rattle.card_model.proofs.Lists.{previous_of, records_length, total-append, far_last, last_is, len_least}
@@ -30,7 +30,7 @@ module _ (r : StringShape) (shape : IsStringShape r) (x : List ℕ) (inside : r.
     pub first_mended : SameDays r x y
     first_mended = record { outside = y_outside; list = λ days h. by days h (stands r x inside 0 p (two_bytes m) h.oldest.below (inl (omega (arith, p_is h.oldest))) p_fits (omega (arith, shape.low))) }
       where
-        by : (days : List Day) → Holds r x days → Stands r 0 (two_bytes m) x y → Holds r y days
+        by : (days : List Day) → HoldsDays r x days → Stands r 0 (two_bytes m) x y → HoldsDays r y days
         by [] h s = (beyond r shape x inside [] 0 0 (two_bytes m) y h refl s (λ none. ap (λ (l : List ℕ). number (bytes_at l 2 2)) s.circle ∙ h.empty refl)).0
         by (d ∷ ds) h s = finished r shape x inside d ds m y h s
 
@@ -40,7 +40,7 @@ module _ (r : StringShape) (shape : IsStringShape r) (x : List ℕ) (inside : r.
         (λ is. subst (λ (l : List ℕ). SameDays r x l) (sym is) first_mended) (part.whole (lit≤ tt))
 
   module _ (n : ℕ) (n_is : IsPointer r.size (newest_pointer r x) → n ≡ newest_pointer r x) (n_pointer : IsPointer r.size n) (p_place : IsPlace r.size n 10 p) where
-    of_last : (older : List Day) (d : Day) → Holds r x (older ++ d ∷ []) → Holds r y (older ++ with_km m d ∷ [])
+    of_last : (older : List Day) (d : Day) → HoldsDays r x (older ++ d ∷ []) → HoldsDays r y (older ++ with_km m d ∷ [])
     of_last older d h =
         let e = previous_of h.previous older in
         let f = with_km m d in
@@ -73,7 +73,7 @@ module _ (r : StringShape) (shape : IsStringShape r) (x : List ℕ) (inside : r.
       outside = y_outside;
       list = λ days h some.
           let s = split (λ e. Unit {0}) days (some_newest days some) in
-          subst (λ (l : List Day). Holds r y l) (sym (ap (λ (l : List Day). with_newest (with_km m) l) s.is ∙ with_last (with_km m) s.older s.newest)) (of_last s.older s.newest (subst (λ (l : List Day). Holds r x l) s.is h));
+          subst (λ (l : List Day). HoldsDays r y l) (sym (ap (λ (l : List Day). with_newest (with_km m) l) s.is ∙ with_last (with_km m) s.older s.newest)) (of_last s.older s.newest (subst (λ (l : List Day). HoldsDays r x l) s.is h));
     }
 
     pub while_measuring : (c : List ℕ) → IsPartlyWritten (at r p) (two_bytes m) x c → IsMeasuring r m x c

@@ -10,7 +10,7 @@ use Rattle.card_model.specs.Changes.{with_newest, with_km}
 use Rattle.card_model.specs.Image.{StringShape, oldest_pointer, newest_pointer, IsPlace, IsPointer, spot, at}
 use Rattle.card_days.specs.declared.head.DayHead.{DayHead}
 use Rattle.card_days.specs.declared.head.Tail.{Tail}
-use Rattle.card_days.specs.Held.{Held, IsHeld, Knows, IsNewestHead, oldest_at}
+use Rattle.card_days.specs.Held.{Held, IsInBounds, Knows, IsNewestHead, oldest_at}
 use Rattle.card_days.specs.Moments.{IfKnown}
 use Rattle.card_days.specs.Plans.{mend_pieces, km_pieces, tail_km}
 use Rattle.card_days.specs.Steps.{SameDays, IsDropMended, IsMeasured, IsMeasuring, KnowsMeasured}
@@ -42,7 +42,7 @@ pub none_mended : (v : Held) (x : List ℕ) → v.tail.used ≡ 0 → (days : Li
 none_mended v x none [] k = refl
 none_mended v x none (d ∷ ds) k = absurd (omega (arith, none, k.used))
 
-module _ (v : Held) (is : IsHeld v) (x : List ℕ) (inside : v.shape.base + (4 + v.shape.size) ≤ length x) where
+module _ (v : Held) (is : IsInBounds v) (x : List ℕ) (inside : v.shape.base + (4 + v.shape.size) ≤ length x) where
   abbrev r : StringShape
   r = v.shape
 

@@ -7,7 +7,7 @@ use Rattle.tach_media.specs.Medium.{put, bytes_at, SameOutside}
 use Rattle.tach_media.proofs.Images.{part_after, part_in, put_outside}
 use Rattle.card_model.specs.Bytes.{number, two_bytes}
 use Rattle.card_model.specs.Days.{Day, IsDay}
-use Rattle.card_model.specs.Image.{StringShape, IsStringShape, turned, oldest_pointer, newest_pointer, string_of, IsPointer, Holds, at}
+use Rattle.card_model.specs.Image.{StringShape, IsStringShape, turned, oldest_pointer, newest_pointer, string_of, IsPointer, HoldsDays, at}
 use Rattle.card_model.proofs.Lists.{len_least}
 use Rattle.card_model.proofs.Reading.{round_part, day_is}
 use Rattle.card_days.specs.declared.head.RecordHead.{RecordHead}
@@ -58,12 +58,12 @@ module _ (r : StringShape) (shape : IsStringShape r) (x : List ℕ) (inside : r.
 
   module _ (v : Rear) (known : IsRear r v x) where
     -- whether a newest day is later
-    pub later_known : (date : ℕ) (days : List Day) → Holds r x days → head_later date v.head ≡ newest_later date days
+    pub later_known : (date : ℕ) (days : List Day) → HoldsDays r x days → head_later date v.head ≡ newest_later date days
     later_known date [] g =
         none_later date v.head.len v.head.date (none_there r shape x inside 0 v.newest known.newest v.head known.head v.head.len (λ even most. refl) g)
     later_known date (d ∷ ds) g =
         let s = split (λ e. Unit {0}) (d ∷ ds) (some_newest (d ∷ ds) (λ none. cc)) in
-        let h = subst (λ (l : List Day). Holds r x l) s.is g in
+        let h = subst (λ (l : List Day). HoldsDays r x l) s.is g in
         let day : IsDay s.newest = day_is 0 s.older s.newest [] h.ordered in
         let read = newest_read r shape x inside 0 v.newest known.newest v.head known.head v.head.len (λ even most. refl) s.older s.newest h in
         some_later date v.head.len v.head.date (omega (arith, read.0, len_least s.newest day))
@@ -93,6 +93,6 @@ module _ (r : StringShape) (shape : IsStringShape r) (x : List ℕ) (inside : r.
 
 -- the same of an image that is told
 pub later_told : (o : Option (List ℕ)) (r : StringShape) → IsStringShape r → ((x : List ℕ) → o ≡ Some x → r.base + (4 + r.size) ≤ length x) → (v : Rear) (date : ℕ) (later : Bool)
-    → later ≡ head_later date v.head → IfSome o (IsRear r v) → IfSome o (λ x. (days : List Day) → Holds r x days → later ≡ newest_later date days)
+    → later ≡ head_later date v.head → IfSome o (IsRear r v) → IfSome o (λ x. (days : List Day) → HoldsDays r x days → later ≡ newest_later date days)
 later_told None r shape inside v date later is known = tt
 later_told (Some x) r shape inside v date later is known = λ days h. is ∙ later_known r shape x (inside x refl) v known date days h

@@ -10,13 +10,13 @@ use Rattle.tach_media.proofs.Plans.{put_all-append, partway_either, partway_outs
 use Rattle.card_model.specs.Bytes.{two_bytes}
 use Rattle.card_model.specs.Days.{Day, total, body, AreDays, last_word}
 use Rattle.card_model.specs.Changes.{Remain, fitting, counter_after, next_counter, new_day, IsNext}
-use Rattle.card_model.specs.Image.{StringShape, Holds, circle_of, oldest_pointer, newest_pointer}
+use Rattle.card_model.specs.Image.{StringShape, HoldsDays, circle_of, oldest_pointer, newest_pointer}
 use Rattle.card_model.proofs.Lists.{total-append, len_least, days_after}
 use Rattle.card_model.proofs.Reading.{fills}
 use Rattle.card_model.proofs.Walking.{one_list}
 use Rattle.card_days.specs.declared.head.DayHead.{DayHead}
 use Rattle.card_days.specs.Heads.{day_head}
-use Rattle.card_days.specs.Held.{Held, IsHeld, Knows, IsNewestHead, newest_len, end_of, oldest_at}
+use Rattle.card_days.specs.Held.{Held, IsInBounds, Knows, IsNewestHead, newest_len, end_of, oldest_at}
 use Rattle.card_days.specs.Moments.{IfKnown, IsDayBeginning, IsDayBegun, KnowsBegun, ClearsBegun, BeginsAgain}
 use Rattle.card_days.specs.Plans.{most_drops, left_in, drop_pieces, day_pieces, count_of, day_by, beginning_pieces, tail_begun}
 use Rattle.card_days.specs.Steps.{roomier, begun, Looks}
@@ -44,7 +44,7 @@ count_is v x (d ∷ ds) k =
     by d [] is = ap (λ (h : DayHead). counter_after h.counter.0) is.0
     by d (f ∷ ds) is = by f ds is
 
-module _ (v : Held) (is : IsHeld v) (date : ℕ) (words : List ℕ) (some : 1 ≤ length words) (few : length words ≤ 2) (x : List ℕ) (inside : v.shape.base + (4 + v.shape.size) ≤ length x) where
+module _ (v : Held) (is : IsInBounds v) (date : ℕ) (words : List ℕ) (some : 1 ≤ length words) (few : length words ≤ 2) (x : List ℕ) (inside : v.shape.base + (4 + v.shape.size) ≤ length x) where
   abbrev r : StringShape
   r = v.shape
 
@@ -168,21 +168,21 @@ module _ (v : Held) (is : IsHeld v) (date : ℕ) (words : List ℕ) (some : 1 �
       new_list : twice ++ new_day twice date words ∷ [] ≡ fitting room days ++ new_day days date words ∷ []
       new_list = ap (λ (l : List Day). l ++ new_day twice date words ∷ []) (sym fits.0) ∙ ap (λ (d : Day). fitting room days ++ d ∷ []) left.1
 
-      held : Holds r (begun r v.tail.head.place (end_of v) (newest_len v) bytes z) (twice ++ new_day twice date words ∷ [])
+      held : HoldsDays r (begun r v.tail.head.place (end_of v) (newest_len v) bytes z) (twice ++ new_day twice date words ∷ [])
       held = placed r is.shape z z_inside v.tail.head.place (end_of v) (newest_len v) date words bytes few is.pointer (end_is v is).0 (end_is v is).1 bytes_long twice m2.holds left.0 free m2.place m2.len (ap body same_day)
 
-      pub begun_list : Holds r (put_all (beginning_pieces v date words x) x) (fitting room days ++ new_day days date words ∷ [])
-      begun_list = subst (λ (l : List Day). Holds r (put_all (beginning_pieces v date words x) x) l) new_list (subst (λ (y : List ℕ). Holds r y (twice ++ new_day twice date words ∷ [])) (sym whole) held)
+      pub begun_list : HoldsDays r (put_all (beginning_pieces v date words x) x) (fitting room days ++ new_day days date words ∷ [])
+      begun_list = subst (λ (l : List Day). HoldsDays r (put_all (beginning_pieces v date words x) x) l) new_list (subst (λ (y : List ℕ). HoldsDays r y (twice ++ new_day twice date words ∷ [])) (sym whole) held)
 
       pub beginning_list : (c : List ℕ) → IsPartway (beginning_pieces v date words x) x c
-          → ((kept : List Day) × Remain room days kept × Holds r c kept) ⊎ Holds r c (fitting room days ++ new_day days date words ∷ [])
+          → ((kept : List Day) × Remain room days kept × HoldsDays r c kept) ⊎ HoldsDays r c (fitting room days ++ new_day days date words ∷ [])
       beginning_list c part = ⊎_elim
           (λ one. inl (dropping v is x inside room big days m0 v.tail.used u1 k.used u1_is c one))
           (λ rest. ⊎_elim
           (λ two. let held = dropping v is y y_inside room big once m1 u1 u2 u1_is u2_is c two in inl (held.0, remain_then room days once held.0 (remain_once room days) held.1, held.2))
           (λ day. ⊎_elim
           (λ still. inl (twice, remain_then room days once twice (remain_once room days) (remain_once room once), still))
-          (λ more. inr (subst (λ (l : List Day). Holds r c l) new_list more))
+          (λ more. inr (subst (λ (l : List Day). HoldsDays r c l) new_list more))
           (placing r is.shape z z_inside v.tail.head.place (end_of v) (newest_len v) date words bytes few is.pointer (end_is v is).0 (end_is v is).1 bytes_long twice m2.holds left.0 free m2.place m2.len (ap body same_day) c (day_part v bytes z c day)))
           (partway_either second (day_pieces v bytes) y c rest))
           (partway_either first (second ++ day_pieces v bytes) x c part)
@@ -200,7 +200,7 @@ module _ (v : Held) (is : IsHeld v) (date : ℕ) (words : List ℕ) (some : 1 �
           some_left : twice ≢ []
           some_left none = newest_gone room 0 days big k.holds.ordered goes (fits.0 ∙ none)
 
-          several : (ds : List Day) → Holds r z ds → ds ≢ [] → 2 ≤ total ds
+          several : (ds : List Day) → HoldsDays r z ds → ds ≢ [] → 2 ≤ total ds
           several [] g some = absurd (some refl)
           several (d ∷ ds) g some = omega (arith, len_least d g.ordered.1)
       begun_cleared (inr none) = subst (λ (y : List ℕ). take 2 (circle_of r y) ≡ two_bytes 0) (sym whole)
@@ -234,7 +234,7 @@ module _ (v : Held) (is : IsHeld v) (date : ℕ) (words : List ℕ) (some : 1 �
       }))
 
   -- the same of an image that is told
-  same_days : (days others : List Day) → Knows v x days → Holds r x others → Knows v x others
+  same_days : (days others : List Day) → Knows v x days → HoldsDays r x others → Knows v x others
   same_days days others k h = subst (λ (l : List Day). Knows v x l) (one_list r is.shape x inside days others k.holds h) k
 
   pub beginning_known : (c : List ℕ) → IsPartway (beginning_pieces v date words x) x c → IfKnown v (IsDayBeginning r date words) x c

@@ -1,7 +1,7 @@
 -- What is kept of the newest day.
 use Rattle.std.proofs.Common.{◌≡◌, ℕ, suc, ◌+◌, ◌-◌, ◌%◌, ◌<◌, ◌≤◌, Option, Some, None, List, [], ◌∷◌, ◌++◌, length, take, get_or, refl, sym, ◌∙◌, ap, subst, arith}
 use Rattle.card_model.specs.Days.{Day, len_of, far, records, IsDay, last_word}
-use Rattle.card_model.specs.Image.{StringShape, IsStringShape, turned, oldest_pointer, newest_pointer, string_of, IsPointer, IsPlace, Holds, IsAt}
+use Rattle.card_model.specs.Image.{StringShape, IsStringShape, turned, oldest_pointer, newest_pointer, string_of, IsPointer, IsPlace, HoldsDays, IsAt}
 use Rattle.card_model.proofs.Lists.{len_least, last_len_is, previous_of, last_len_last, some_words}
 use Rattle.card_model.proofs.Reading.{fills, same_distance, from_day, day_is}
 use Rattle.card_days.specs.declared.head.DayHead.{DayHead}
@@ -47,18 +47,18 @@ told_some v x (d ∷ ds) k some = sym (kept_tail v.tail d ds k.newest) ∙ ap (�
 -- What the code read: the newest day's place, its head and its length.
 module _ (r : StringShape) (shape : IsStringShape r) (x : List ℕ) (inside : r.base + (4 + r.size) ≤ length x) (n : ℕ) (n_is : IsPointer r.size (newest_pointer r x) → n ≡ newest_pointer r x)
     (h : RecordHead) (head : head_bytes h ≡ take 12 (turned n (string_of r x))) (len : ℕ) (len_known : h.len % 2 ≡ 0 → h.len ≤ 2892 → len ≡ h.len) where
-  pub knows_none : len < 14 → (t : Tail) → t.used ≡ 0 → t.head.place ≡ n → (days : List Day) → Holds r x days → Knows (record { shape = r; tail = t }) x days
+  pub knows_none : len < 14 → (t : Tail) → t.used ≡ 0 → t.head.place ≡ n → (days : List Day) → HoldsDays r x days → Knows (record { shape = r; tail = t }) x days
   knows_none short t used place days g =
       let none : days ≡ [] = none_where_short r shape x inside 0 n n_is h head len len_known short days g in
       subst (λ (l : List Day). Knows (record { shape = r; tail = t }) x l) (sym none)
-      (record { holds = subst (λ (l : List Day). Holds r x l) none g; place = place ∙ n_is g.newest; used = used; newest = tt })
+      (record { holds = subst (λ (l : List Day). HoldsDays r x l) none g; place = place ∙ n_is g.newest; used = used; newest = tt })
 
   module _ (some : 14 ≤ len) (o k w u : ℕ) (o_is : IsPointer r.size (oldest_pointer r x) → o ≡ oldest_pointer r x) (k_place : IsPlace r.size o k n) (k_below : k < r.size) (u_is : k + len ≤ r.size → u ≡ k + len)
       (w_is : (d : Day) → IsAt r x n d → (day_head_of h n).words - 1 < length d.words → w ≡ get_or d.words ((day_head_of h n).words - 1) 0) where
     abbrev tail : Tail
     tail = record { head = day_head_of h n; latest = w; used = u }
 
-    knows_last : (older : List Day) (d : Day) → Holds r x (older ++ d ∷ []) → Knows (record { shape = r; tail = tail }) x (older ++ d ∷ [])
+    knows_last : (older : List Day) (d : Day) → HoldsDays r x (older ++ d ∷ []) → Knows (record { shape = r; tail = tail }) x (older ++ d ∷ [])
     knows_last older d g =
         let here = newest_here r shape x inside older d g n n_is in
         let is : IsDay d = day_is 0 older d [] g.ordered in
@@ -77,8 +77,8 @@ module _ (r : StringShape) (shape : IsStringShape r) (x : List ℕ) (inside : r.
           newest = newest_last (day_head_of h n) w older d told latest;
         }
 
-    pub knows_some : (days : List Day) → Holds r x days → Knows (record { shape = r; tail = tail }) x days
+    pub knows_some : (days : List Day) → HoldsDays r x days → Knows (record { shape = r; tail = tail }) x days
     knows_some [] g = absurd (omega (arith, some, none_there r shape x inside 0 n n_is h head len len_known g))
     knows_some (e ∷ es) g =
         let s = split (λ e. Unit {0}) (e ∷ es) (some_newest (e ∷ es) (λ none. cc)) in
-        subst (λ (l : List Day). Knows (record { shape = r; tail = tail }) x l) (sym s.is) (knows_last s.older s.newest (subst (λ (l : List Day). Holds r x l) s.is g))
+        subst (λ (l : List Day). Knows (record { shape = r; tail = tail }) x l) (sym s.is) (knows_last s.older s.newest (subst (λ (l : List Day). HoldsDays r x l) s.is g))

@@ -7,7 +7,7 @@ use Rattle.tach_media.specs.Medium.{put, bytes_at, SameOutside, IsPartlyWritten}
 use Rattle.tach_media.proofs.Images.{outside_same, outside_then, outside_wider, put_outside}
 use Rattle.card_model.specs.Bytes.{number, two_bytes}
 use Rattle.card_model.specs.Days.{Day, len_of, total, far, record_of, records, IsDay, AreDays}
-use Rattle.card_model.specs.Image.{StringShape, IsStringShape, oldest_pointer, newest_pointer, circle_of, IsPointer, IsPlace, Holds, at}
+use Rattle.card_model.specs.Image.{StringShape, IsStringShape, oldest_pointer, newest_pointer, circle_of, IsPointer, IsPlace, HoldsDays, at}
 use Rattle.std.specs.Prelude.{nat_le, not}
 use Rattle.card_days.proofs.Lists.{some_appended}
 use Rattle.card_model.proofs.Lists.{count_least, previous_of, records_length, total-append, far_last, last_is, len_least, len_even, len_most, front_days, previous_last}
@@ -30,10 +30,10 @@ fronts d [] = record { before = []; last = d; is = refl }
 fronts d (e ∷ ds) = let f = fronts e ds in record { before = d ∷ f.before; last = f.last; is = ap (λ (l : List Day). d ∷ l) f.is }
 
 module _ (r : StringShape) (shape : IsStringShape r) (x : List ℕ) (inside : r.base + (4 + r.size) ≤ length x) (n : ℕ) (n_is : IsPointer r.size (newest_pointer r x) → n ≡ newest_pointer r x) (n_pointer : IsPointer r.size n) where
-  newest_at : (older : List Day) (d : Day) → Holds r x (older ++ d ∷ []) → IsPlace r.size (oldest_pointer r x) (total older) n
+  newest_at : (older : List Day) (d : Day) → HoldsDays r x (older ++ d ∷ []) → IsPlace r.size (oldest_pointer r x) (total older) n
   newest_at older d h = subst (λ (m : ℕ). IsPlace r.size (oldest_pointer r x) (total older) m) (sym (n_is h.newest)) (subst (λ (m : ℕ). IsPlace r.size (oldest_pointer r x) m (newest_pointer r x)) (far_last older d) h.distance)
 
-  room : (older : List Day) (d : Day) → Holds r x (older ++ d ∷ []) → total older + 14 ≤ r.size
+  room : (older : List Day) (d : Day) → HoldsDays r x (older ++ d ∷ []) → total older + 14 ≤ r.size
   room older d h = omega (arith, fills r shape x inside (older ++ d ∷ []) h, total-append older (d ∷ []), len_least d (last_is 0 older d h.ordered))
 
   -- the only day
@@ -47,14 +47,14 @@ module _ (r : StringShape) (shape : IsStringShape r) (x : List ℕ) (inside : r.
     y_outside : SameOutside r.base (4 + r.size) x y
     y_outside = outside_wider r.base (4 + r.size) (at r q) 2 x y (put_outside (at r q) (two_bytes 0) x (omega (arith, q_fits, inside))) (omega arith) (omega (arith, q_fits))
 
-    none_left : (older : List Day) (d : Day) → Holds r x (older ++ d ∷ []) → older ≡ []
+    none_left : (older : List Day) (d : Day) → HoldsDays r x (older ++ d ∷ []) → older ≡ []
     none_left [] d h = refl
     none_left (e ∷ es) d h =
         let start : IsPlace r.size (oldest_pointer r x) 0 n = inl (omega (arith, o_same h.oldest)) in
         let zero_far : total (e ∷ es) ≡ 0 = same_distance r.size (oldest_pointer r x) (total (e ∷ es)) 0 n (omega (arith, room (e ∷ es) d h)) (omega (arith, shape.low)) (newest_at (e ∷ es) d h) start in
         absurd (omega (arith, zero_far))
 
-    emptied : (d : Day) → Holds r x (d ∷ []) → Holds r y []
+    emptied : (d : Day) → HoldsDays r x (d ∷ []) → HoldsDays r y []
     emptied d h =
         let s = stands r x inside 2 q (two_bytes 0) h.oldest.below (subst (λ (m : ℕ). IsPlace r.size m 2 q) (o_same h.oldest) q_place) q_fits (omega (arith, shape.low)) in
         let long : 2 + 2 ≤ length (circle_of r x) = omega (arith, circle_length r x inside, shape.low) in
@@ -78,7 +78,7 @@ module _ (r : StringShape) (shape : IsStringShape r) (x : List ℕ) (inside : r.
     only_gone = record {
       outside = y_outside;
       list = λ older d h. let none = none_left older d h in
-          subst (λ (l : List Day). Holds r y l) (sym none) (emptied d (subst (λ (l : List Day). Holds r x (l ++ d ∷ [])) none h));
+          subst (λ (l : List Day). HoldsDays r y l) (sym none) (emptied d (subst (λ (l : List Day). HoldsDays r x (l ++ d ∷ [])) none h));
     }
 
     pub while_only : (c : List ℕ) → IsPartlyWritten (at r q) (two_bytes 0) x c → IsLosingLast r x c
@@ -95,7 +95,7 @@ module _ (r : StringShape) (shape : IsStringShape r) (x : List ℕ) (inside : r.
     moved : Pointed r p x z
     moved = points r x inside p
 
-    back_to : (before : List Day) (e d : Day) → Holds r x ((before ++ e ∷ []) ++ d ∷ []) → Holds r z (before ++ e ∷ [])
+    back_to : (before : List Day) (e d : Day) → HoldsDays r x ((before ++ e ∷ []) ++ d ∷ []) → HoldsDays r z (before ++ e ∷ [])
     back_to before e d h =
         let older = before ++ e ∷ [] in
         let q = previous_of h.previous older in
@@ -128,12 +128,12 @@ module _ (r : StringShape) (shape : IsStringShape r) (x : List ℕ) (inside : r.
     pub one_gone : IsWithoutLast r x z
     one_gone = record { outside = moved.outside; list = by }
       where
-        by : (older : List Day) (d : Day) → Holds r x (older ++ d ∷ []) → Holds r z older
+        by : (older : List Day) (d : Day) → HoldsDays r x (older ++ d ∷ []) → HoldsDays r z older
         by [] d h = absurd (other h.oldest (n_is h.newest ∙ at_start h.distance))
           where
             at_start : IsPlace r.size (oldest_pointer r x) 0 (newest_pointer r x) → newest_pointer r x ≡ oldest_pointer r x
             at_start place = ⊎_elim (λ is. omega (arith, is)) (λ is. absurd (omega (arith, is, h.oldest.below))) place
-        by (e ∷ es) d h = let f = fronts e es in subst (λ (l : List Day). Holds r z l) (sym f.is) (back_to f.before f.last d (subst (λ (l : List Day). Holds r x (l ++ d ∷ [])) f.is h))
+        by (e ∷ es) d h = let f = fronts e es in subst (λ (l : List Day). HoldsDays r z l) (sym f.is) (back_to f.before f.last d (subst (λ (l : List Day). HoldsDays r x (l ++ d ∷ [])) f.is h))
 
     pub while_one : (c : List ℕ) → IsPartlyWritten (r.base + 2) (two_bytes p) x c → IsLosingLast r x c
     while_one c part = ⊎_elim
@@ -194,35 +194,35 @@ later_is date (d ∷ e ∷ ds) is =
 one_shorter : (date : ℕ) (days : List Day) (f : Front days) → date < f.last.date → ShorterBy date 1 days f.before
 one_shorter date days f lt = record { less = record { gone = f.last ∷ []; is = f.is; later = (lt, tt) }; many = lit≤ tt }
 
-pub trimming_one : (r : StringShape) (date : ℕ) (x y : List ℕ) → ((days : List Day) → Holds r x days → newest_later date days ≡ true) → IsWithoutLast r x y → IsTrimming r date 1 x y
+pub trimming_one : (r : StringShape) (date : ℕ) (x y : List ℕ) → ((days : List Day) → HoldsDays r x days → newest_later date days ≡ true) → IsWithoutLast r x y → IsTrimming r date 1 x y
 trimming_one r date x y later step = record {
   outside = step.outside;
   list = λ days h.
       let f = later_is date days (later days h) in
-      (f.0.before, one_shorter date days f.0 f.1, step.list f.0.before f.0.last (subst (λ (l : List Day). Holds r x l) f.0.is h));
+      (f.0.before, one_shorter date days f.0 f.1, step.list f.0.before f.0.last (subst (λ (l : List Day). HoldsDays r x l) f.0.is h));
 }
 
-pub trimming_part : (r : StringShape) (date : ℕ) (x c : List ℕ) → ((days : List Day) → Holds r x days → newest_later date days ≡ true) → IsLosingLast r x c → IsTrimming r date 0 x c
+pub trimming_part : (r : StringShape) (date : ℕ) (x c : List ℕ) → ((days : List Day) → HoldsDays r x days → newest_later date days ≡ true) → IsLosingLast r x c → IsTrimming r date 0 x c
 trimming_part r date x c later step = record {
   outside = step.outside;
   list = λ days h.
       let f = later_is date days (later days h) in
       ⊎_elim
-      (λ still. (days, record { less = record { gone = []; is = sym (append-nil days); later = tt }; many = lit≤ tt }, subst (λ (l : List Day). Holds r c l) (sym f.0.is) still))
+      (λ still. (days, record { less = record { gone = []; is = sym (append-nil days); later = tt }; many = lit≤ tt }, subst (λ (l : List Day). HoldsDays r c l) (sym f.0.is) still))
       (λ gone. let one = one_shorter date days f.0 f.1 in (f.0.before, record { less = one.less; many = omega arith }, gone))
-      (step.list f.0.before f.0.last (subst (λ (l : List Day). Holds r x l) f.0.is h));
+      (step.list f.0.before f.0.last (subst (λ (l : List Day). HoldsDays r x l) f.0.is h));
 }
 
 pub trimming_fewer : (r : StringShape) (date i : ℕ) (x c : List ℕ) → IsTrimming r date i x c → IsTrimming r date 0 x c
 trimming_fewer r date i x c step = record { outside = step.outside; list = λ days h. let s = step.list days h in (s.0, record { less = s.1.less; many = omega arith }, s.2) }
 
 -- when no later day is left
-pub ends_trimmed : (r : StringShape) (date i : ℕ) (x y : List ℕ) → IsTrimming r date i x y → ((days kept : List Day) → Holds r x days → ShorterBy date i days kept → Holds r y kept → newest_later date kept ≡ false) → IsTrimmed r date x y
+pub ends_trimmed : (r : StringShape) (date i : ℕ) (x y : List ℕ) → IsTrimming r date i x y → ((days kept : List Day) → HoldsDays r x days → ShorterBy date i days kept → HoldsDays r y kept → newest_later date kept ≡ false) → IsTrimmed r date x y
 ends_trimmed r date i x y step none = record {
   outside = step.outside;
   list = λ days h.
       let s = step.list days h in
-      subst (λ (l : List Day). Holds r y l) (sym (ap (λ (l : List Day). until date l) s.1.less.is ∙ until_is date 0 s.0 s.1.less.gone (subst (λ (l : List Day). AreDays 0 l) s.1.less.is h.ordered) s.1.less.later (none days s.0 h s.1 s.2))) s.2;
+      subst (λ (l : List Day). HoldsDays r y l) (sym (ap (λ (l : List Day). until date l) s.1.less.is ∙ until_is date 0 s.0 s.1.less.gone (subst (λ (l : List Day). AreDays 0 l) s.1.less.is h.ordered) s.1.less.later (none days s.0 h s.1 s.2))) s.2;
 }
 
 -- of days of which the rest are later no more are left than these
@@ -238,13 +238,13 @@ pub until_short : (date : ℕ) (days : List Day) → length (until date days) �
 until_short date days = subst (λ (l : List Day). length (until date l) ≤ length days) (append-nil days) (until_few date days [] tt)
 
 -- as many days are gone at least as drops were made
-pub drops_few : (r : StringShape) (date i : ℕ) (x c : List ℕ) → IsTrimming r date i x c → (days : List Day) → Holds r x days → i + length (until date days) ≤ length days
+pub drops_few : (r : StringShape) (date i : ℕ) (x c : List ℕ) → IsTrimming r date i x c → (days : List Day) → HoldsDays r x days → i + length (until date days) ≤ length days
 drops_few r date i x c step days h =
     let s = step.list days h in
     omega (arith, s.1.many, ap length s.1.less.is, length-append s.0 s.1.less.gone, subst (λ (l : List Day). length (until date l) ≤ length s.0) (sym s.1.less.is) (until_few date s.0 s.1.less.gone s.1.less.later))
 
 -- so many can't be gone and one be left
-pub too_many : (r : StringShape) (shape : IsStringShape r) (date i : ℕ) (x : List ℕ) → r.base + (4 + r.size) ≤ length x → 984 ≤ i → (days kept : List Day) → Holds r x days → ShorterBy date i days kept → newest_later date kept ≡ false
+pub too_many : (r : StringShape) (shape : IsStringShape r) (date i : ℕ) (x : List ℕ) → r.base + (4 + r.size) ≤ length x → 984 ≤ i → (days kept : List Day) → HoldsDays r x days → ShorterBy date i days kept → newest_later date kept ≡ false
 too_many r shape date i x inside all days [] h s = refl
 too_many r shape date i x inside all days (k ∷ ks) h s =
     let whole : length days ≡ length ((k ∷ ks) ++ s.less.gone) = ap length s.less.is in

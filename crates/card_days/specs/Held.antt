@@ -1,7 +1,7 @@
 -- What is kept of a string between two calls on it, and when it is what an image tells.
 use Rattle.std.specs.Prelude.{◌≡◌, ℕ, ◌+◌, ◌-◌, ◌*◌, ◌%◌, ◌≤◌, List, [], ◌∷◌, Option, Some, None, if◌then◌else◌, ◌==◌}
 use Rattle.card_model.specs.Days.{Day, total, last_word}
-use Rattle.card_model.specs.Image.{StringShape, IsStringShape, IsPointer, Holds, newest_pointer, spot}
+use Rattle.card_model.specs.Image.{StringShape, IsStringShape, IsPointer, HoldsDays, newest_pointer, spot}
 use Rattle.card_days.specs.declared.head.DayHead.{DayHead}
 use Rattle.card_days.specs.declared.head.Tail.{Tail}
 use Rattle.card_days.specs.Heads.{day_head}
@@ -12,7 +12,7 @@ pub record Held : Type 0 where
   pub shape : StringShape
   pub tail : Tail
 
-pub record IsHeld (v : Held) : Type 0 where
+pub record IsInBounds (v : Held) : Type 0 where
   pub shape : IsStringShape v.shape
   pub pointer : IsPointer v.shape.size v.tail.head.place
   pub few : v.tail.head.words ≤ 1440
@@ -39,7 +39,7 @@ IsNewestHead h w (d ∷ e ∷ ds) = IsNewestHead h w (e ∷ ds)
 
 -- The image holds these days, and what is kept is what it tells of the newest of them.
 pub record Knows (v : Held) (x : List ℕ) (days : List Day) : Type 0 where
-  pub holds : Holds v.shape x days
+  pub holds : HoldsDays v.shape x days
   pub place : v.tail.head.place ≡ newest_pointer v.shape x
   pub used : v.tail.used ≡ total days
   pub newest : IsNewestHead v.tail.head v.tail.latest days

@@ -3,7 +3,7 @@ use Rattle.std.specs.Prelude.{◌≡◌, ◌≢◌, ◌⊎◌, ℕ, ◌+◌, ◌
 use Rattle.tach_media.specs.Medium.{State, SameOutside, bytes_at}
 use Rattle.card_model.specs.Bytes.{two_bytes}
 use Rattle.card_model.specs.Days.{Day}
-use Rattle.card_model.specs.Image.{StringShape, Holds, at, oldest_pointer, newest_pointer}
+use Rattle.card_model.specs.Image.{StringShape, HoldsDays, at, oldest_pointer, newest_pointer}
 use Rattle.card_model.specs.Changes.{Remain, fitting, with_newest, OnNewest, with_word, TakesWord, new_day, IsNext}
 use Rattle.card_days.specs.Held.{Held, Knows}
 
@@ -19,15 +19,15 @@ pub record IfKnown (v : Held) (R : List ℕ → List ℕ → Type 0) (x c : List
 -- Outside the string's file nothing differs; and of days that may be changed so, there is what is said of them.
 pub record IsOfDays (r : StringShape) (May : List Day → Type 0) (Is : List Day → List ℕ → Type 0) (x c : List ℕ) : Type 0 where
   pub outside : SameOutside r.base (4 + r.size) x c
-  pub list : (days : List Day) → Holds r x days → May days → Is days c
+  pub list : (days : List Day) → HoldsDays r x days → May days → Is days c
 
 -- a moment of a call that makes room: of the old days no more are gone than must be, or it is done
 abbrev pub OrRemain : StringShape → (room : ℕ) → (Is : List Day → List ℕ → Type 0) → List Day → List ℕ → Type 0
-OrRemain r room Is days c = ((kept : List Day) × Remain room days kept × Holds r c kept) ⊎ Is days c
+OrRemain r room Is days c = ((kept : List Day) × Remain room days kept × HoldsDays r c kept) ⊎ Is days c
 
 -- the new list of an `add_change`
 abbrev pub HoldsChanged : StringShape → ℕ → List Day → List ℕ → Type 0
-HoldsChanged r w days y = Holds r y (with_newest (with_word w) (fitting (r.size - 2) days))
+HoldsChanged r w days y = HoldsDays r y (with_newest (with_word w) (fitting (r.size - 2) days))
 
 -- a moment of `add_change`, and after it
 abbrev pub IsChanging : StringShape → ℕ → List ℕ → List ℕ → Type 0
@@ -50,7 +50,7 @@ ClearsChanged v w x y = (days : List Day) → Knows v x days → OnNewest (Takes
 
 -- the new list of a `begin_day`
 abbrev pub HoldsBegun : StringShape → (date : ℕ) → (words : List ℕ) → List Day → List ℕ → Type 0
-HoldsBegun r date words days y = Holds r y (fitting (r.size - (12 + 2 * length words)) days ++ new_day days date words ∷ [])
+HoldsBegun r date words days y = HoldsDays r y (fitting (r.size - (12 + 2 * length words)) days ++ new_day days date words ∷ [])
 
 -- a moment of `begin_day`, and after it
 abbrev pub IsDayBeginning : StringShape → (date : ℕ) → (words : List ℕ) → List ℕ → List ℕ → Type 0

@@ -5,7 +5,7 @@ use Rattle.card_model.specs.Bytes.{two_bytes}
 use Rattle.card_model.specs.Days.{Day, total}
 use Rattle.card_model.specs.Changes.{with_newest, with_km}
 use Rattle.card_days.specs.Held.{Held, Knows}
-use Rattle.card_model.specs.Image.{StringShape, Holds, IsPointer, at, oldest_pointer, spot}
+use Rattle.card_model.specs.Image.{StringShape, HoldsDays, IsPointer, at, oldest_pointer, spot}
 
 -- the days without the oldest where they do not fit
 abbrev pub roomier : ℕ → List Day → List Day
@@ -51,7 +51,7 @@ IsBeginStep r n p len bytes x c =
 -- the days are the same
 pub record SameDays (r : StringShape) (x c : List ℕ) : Type 0 where
   pub outside : SameOutside r.base (4 + r.size) x c
-  pub list : (days : List Day) → Holds r x days → Holds r c days
+  pub list : (days : List Day) → HoldsDays r x days → HoldsDays r c days
 
 -- the oldest of these days has no length before it, and all else is as before; without a day nothing has changed
 abbrev pub IsDropMended : StringShape → List Day → List ℕ → List ℕ → Type 0
@@ -61,11 +61,11 @@ IsDropMended r (d ∷ ds) x y = y ≡ put (at r (oldest_pointer r x)) (two_bytes
 -- the newest day, which there is, has another distance
 pub record IsMeasured (r : StringShape) (km : ℕ) (x y : List ℕ) : Type 0 where
   pub outside : SameOutside r.base (4 + r.size) x y
-  pub list : (days : List Day) → Holds r x days → days ≢ [] → Holds r y (with_newest (with_km km) days)
+  pub list : (days : List Day) → HoldsDays r x days → days ≢ [] → HoldsDays r y (with_newest (with_km km) days)
 
 pub record IsMeasuring (r : StringShape) (km : ℕ) (x c : List ℕ) : Type 0 where
   pub outside : SameOutside r.base (4 + r.size) x c
-  pub list : (days : List Day) → Holds r x days → days ≢ [] → Holds r c days ⊎ Holds r c (with_newest (with_km km) days)
+  pub list : (days : List Day) → HoldsDays r x days → days ≢ [] → HoldsDays r c days ⊎ HoldsDays r c (with_newest (with_km km) days)
 
 -- what is kept then is what the image tells then
 abbrev pub KnowsMeasured : (v next : Held) → ℕ → List ℕ → List ℕ → Type 0

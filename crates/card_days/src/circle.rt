@@ -4,7 +4,7 @@ ghost use Rattle.card_layout.specs.declared.files.TheConstants.{STRING_MOST};
 ghost use Rattle.tach_media.specs.Medium.{LeavesOnly, Reads, HasCause, LiesInside, IsPartlyWritten, IsSettled, last_count, put, bytes_at};
 ghost use Rattle.card_model.specs.Days.{Day};
 ghost use Rattle.card_model.specs.Bytes.{number, two_bytes};
-ghost use Rattle.card_model.specs.Image.{Holds, IsAt, IsPlace, IsPointer, IsStringShape, at, newest_pointer, oldest_pointer, spot, string_of, turned};
+ghost use Rattle.card_model.specs.Image.{HoldsDays, IsAt, IsPlace, IsPointer, IsStringShape, at, newest_pointer, oldest_pointer, spot, string_of, turned};
 ghost use Rattle.card_days.specs.Moments.{FileFitsIn};
 ghost use Rattle.card_days.specs.Heads.{head_bytes, day_head};
 ghost use Rattle.card_days.specs.Loading.{shape_of};
@@ -267,7 +267,7 @@ impl Circle {
         requires fits { FileFitsIn self.now (M.state medium.old) }
         requires pointer { IsPointer self.now.size place }
         ensures there { IfOk result (λ o. IfSome (M.state medium.old).image (λ x. (d : Day) → IsAt self.now x place d → o ≡ Some (day_head place d))) }
-        ensures empty { IfOk result (λ o. IfSome (M.state medium.old).image (λ x. Holds self.now x [] → oldest_pointer self.now x ≡ place → o ≡ None)) }
+        ensures empty { IfOk result (λ o. IfSome (M.state medium.old).image (λ x. HoldsDays self.now x [] → oldest_pointer self.now x ≡ place → o ≡ None)) }
         ensures place { IfOk result (λ o. IfSome o (λ h. h.place ≡ place)) }
         ensures reads { Reads (M.state medium.old) (M.state medium.new) (is_err result) }
     {

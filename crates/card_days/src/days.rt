@@ -4,10 +4,10 @@ ghost use Rattle.std.specs.List.{last_or};
 ghost use Rattle.tach_media.specs.Medium.{LeavesOnly, Reads, HasCause, LiesInside, IsSettled, last_count};
 ghost use Rattle.card_model.specs.Checks.{first_bad};
 ghost use Rattle.card_model.specs.Days.{Day};
-ghost use Rattle.card_model.specs.Image.{Holds, IsAt};
+ghost use Rattle.card_model.specs.Image.{HoldsDays, IsAt};
 ghost use Rattle.card_model.specs.Walk.{days_of};
 ghost use Rattle.card_days.specs.Heads.{heads_of, IsAfter, IsBefore};
-ghost use Rattle.card_days.specs.Held.{Knows, IsHeld, newest_len, tail_of, tail_in};
+ghost use Rattle.card_days.specs.Held.{Knows, IsInBounds, newest_len, tail_of, tail_in};
 ghost use Rattle.card_days.specs.Loading.{shape_of, IfBadDays, has_failed};
 ghost use Rattle.card_days.specs.Moments.{FileFitsIn};
 
@@ -29,13 +29,13 @@ pub struct Days {
 }
 
 impl Model for Days {
-    ghost use Rattle.card_days.specs.Held.{Held, IsHeld};
+    ghost use Rattle.card_days.specs.Held.{Held, IsInBounds};
 
     ghost Value = { Held };
 
     ghost view = { λ d. record { shape = d.circle; tail = d.tail } };
 
-    ghost invariant = { λ d. IsHeld (record { shape = d.circle; tail = d.tail }) };
+    ghost invariant = { λ d. IsInBounds (record { shape = d.circle; tail = d.tail }) };
 }
 
 impl Days {
@@ -74,7 +74,7 @@ impl Days {
     /// The head of the oldest day; `None` exactly where there is no day.
     pub fn first<M: Medium>(&self, medium: &mut M) -> Result<Option<DayHead>, Failed>
         requires fits { FileFitsIn self.now.shape (M.state medium.old) }
-        ensures first { IfOk result (λ o. IfSome (M.state medium.old).image (λ x. (days : List Day) → Holds self.now.shape x days → o ≡ slice_get (heads_of self.now.shape x days) 0)) }
+        ensures first { IfOk result (λ o. IfSome (M.state medium.old).image (λ x. (days : List Day) → HoldsDays self.now.shape x days → o ≡ slice_get (heads_of self.now.shape x days) 0)) }
         ensures place { IfOk result (λ o. IfSome o (λ h. h.place < self.now.shape.size)) }
         ensures reads { Reads (M.state medium.old) (M.state medium.new) (is_err result) }
     {
@@ -84,7 +84,7 @@ impl Days {
     /// The head of the newest day; `None` exactly where there is no day.
     pub fn last<M: Medium>(&self, medium: &mut M) -> Result<Option<DayHead>, Failed>
         requires fits { FileFitsIn self.now.shape (M.state medium.old) }
-        ensures last { IfOk result (λ o. IfSome (M.state medium.old).image (λ x. (days : List Day) → Holds self.now.shape x days → o ≡ last_or None (heads_of self.now.shape x days))) }
+        ensures last { IfOk result (λ o. IfSome (M.state medium.old).image (λ x. (days : List Day) → HoldsDays self.now.shape x days → o ≡ last_or None (heads_of self.now.shape x days))) }
         ensures place { IfOk result (λ o. IfSome o (λ h. h.place < self.now.shape.size)) }
         ensures reads { Reads (M.state medium.old) (M.state medium.new) (is_err result) }
     {

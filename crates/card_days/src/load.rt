@@ -2,7 +2,7 @@ ghost use Rattle.std.specs.Prelude.{◌≡◌, ◌≤◌, ◌<◌, ◌+◌, ◌*
 ghost use Rattle.card_model.specs.declared.lengths.TheConstants.{DAY_LEAST, DAY_MOST, DAYS_MOST};
 ghost use Rattle.card_layout.specs.declared.files.TheConstants.{STRING_LEAST, STRING_MOST};
 ghost use Rattle.tach_media.specs.Medium.{Reads};
-ghost use Rattle.card_model.specs.Image.{StringShape, IsStringShape, IsPointer, Holds, spot, turned, string_of, oldest_pointer, newest_pointer, circle_of, IsPlace};
+ghost use Rattle.card_model.specs.Image.{StringShape, IsStringShape, IsPointer, HoldsDays, spot, turned, string_of, oldest_pointer, newest_pointer, circle_of, IsPlace};
 ghost use Rattle.card_model.specs.Walk.{words_of, days_of};
 ghost use Rattle.card_model.specs.Checks.{first_failing, first_bad, is_pointer, is_len, is_previous, is_date, is_decimal, field_checks, word_checks, record_checks, day_checks, file_place, is_empty};
 ghost use Rattle.card_days.specs.Moments.{FileFitsIn};
@@ -141,7 +141,7 @@ impl Circle {
         requires pointer { IsPointer self.now.size oldest }
         requires below { reach < self.now.size }
         ensures shape { IsStringShape self.now }
-        ensures days { OnOk result (IfSome (M.state medium.old).image (λ x. oldest ≡ oldest_pointer self.now x → IsPointer self.now.size (newest_pointer self.now x) → IsPlace self.now.size oldest reach (newest_pointer self.now x) → Holds self.now x (days_of self.now x))) }
+        ensures days { OnOk result (IfSome (M.state medium.old).image (λ x. oldest ≡ oldest_pointer self.now x → IsPointer self.now.size (newest_pointer self.now x) → IsPlace self.now.size oldest reach (newest_pointer self.now x) → HoldsDays self.now x (days_of self.now x))) }
         ensures bad { IfErr result (λ fault. IfBadDays fault (λ p. IfSome (M.state medium.old).image (λ x. oldest ≡ oldest_pointer self.now x → first_failing (day_checks DAYS_MOST self.now.size oldest reach 0 0 0 (circle_of self.now x)) ≡ Some p))) }
         ensures place { IfErr result (λ fault. IfBadDays fault (λ p. p < 4 + self.now.size)) }
         ensures reads { Reads (M.state medium.old) (M.state medium.new) (has_failed result) }
@@ -197,7 +197,7 @@ impl Circle {
         requires low { 4 + STRING_LEAST ≤ range.len }
         requires high { range.len ≤ 4 + STRING_MOST }
         ensures shape { IfOk result (λ days. days ≡ shape_of range) }
-        ensures days { OnOk result (IfSome (M.state medium.old).image (λ x. Holds (shape_of range) x (days_of (shape_of range) x))) }
+        ensures days { OnOk result (IfSome (M.state medium.old).image (λ x. HoldsDays (shape_of range) x (days_of (shape_of range) x))) }
         ensures bad { IfErr result (λ fault. IfBadDays fault (λ p. IfSome (M.state medium.old).image (λ x. first_bad (shape_of range) x ≡ Some p))) }
         ensures place { IfErr result (λ fault. IfBadDays fault (λ p. p < range.len)) }
         ensures reads { Reads (M.state medium.old) (M.state medium.new) (has_failed result) }

@@ -1,8 +1,8 @@
 ghost use Rattle.std.specs.Prelude.{◌≡◌, ◌≤◌, ◌<◌, ◌%◌, List, IfOk, IfSome, is_err};
 ghost use Rattle.tach_media.specs.Medium.{Reads};
 ghost use Rattle.card_model.specs.Days.{Day};
-ghost use Rattle.card_model.specs.Image.{Holds};
-ghost use Rattle.card_days.specs.Held.{Held, IsHeld, Knows};
+ghost use Rattle.card_model.specs.Image.{HoldsDays};
+ghost use Rattle.card_days.specs.Held.{Held, IsInBounds, Knows};
 ghost use Rattle.card_days.specs.Moments.{FileFitsIn};
 
 use crate::circle::Circle;
@@ -14,8 +14,8 @@ impl Circle {
     // The string's tail; nothing is in use where there is no day.
     pub(crate) fn tail<M: Medium>(&self, medium: &mut M) -> Result<Tail, Failed>
         requires fits { FileFitsIn self.now (M.state medium.old) }
-        ensures held { IfOk result (λ t. IsHeld (record { shape = self.now; tail = t })) }
-        ensures knows { IfOk result (λ t. IfSome (M.state medium.old).image (λ x. (days : List Day) → Holds self.now x days → Knows (record { shape = self.now; tail = t }) x days)) }
+        ensures held { IfOk result (λ t. IsInBounds (record { shape = self.now; tail = t })) }
+        ensures knows { IfOk result (λ t. IfSome (M.state medium.old).image (λ x. (days : List Day) → HoldsDays self.now x days → Knows (record { shape = self.now; tail = t }) x days)) }
         ensures reads { Reads (M.state medium.old) (M.state medium.new) (is_err result) }
     {
         let oldest = self.oldest(medium)?;

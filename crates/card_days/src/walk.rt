@@ -2,7 +2,7 @@ ghost use Rattle.std.specs.Prelude.{◌≡◌, ◌≤◌, ◌<◌, ◌+◌, List
 ghost use Rattle.std.specs.List.{last_or};
 ghost use Rattle.tach_media.specs.Medium.{Reads};
 ghost use Rattle.card_model.specs.Days.{Day};
-ghost use Rattle.card_model.specs.Image.{StringShape, Holds, IsAt};
+ghost use Rattle.card_model.specs.Image.{StringShape, HoldsDays, IsAt};
 ghost use Rattle.card_days.specs.Moments.{FileFitsIn};
 ghost use Rattle.card_days.specs.Heads.{heads_of, IsAfter, IsBefore};
 
@@ -14,7 +14,7 @@ impl Circle {
     // The head of the oldest day; `None` exactly where there is no day.
     pub(crate) fn first<M: Medium>(&self, medium: &mut M) -> Result<Option<DayHead>, Failed>
         requires fits { FileFitsIn self.now (M.state medium.old) }
-        ensures first { IfOk result (λ o. IfSome (M.state medium.old).image (λ x. (days : List Day) → Holds self.now x days → o ≡ slice_get (heads_of self.now x days) 0)) }
+        ensures first { IfOk result (λ o. IfSome (M.state medium.old).image (λ x. (days : List Day) → HoldsDays self.now x days → o ≡ slice_get (heads_of self.now x days) 0)) }
         ensures place { IfOk result (λ o. IfSome o (λ h. h.place < self.now.size)) }
         ensures reads { Reads (M.state medium.old) (M.state medium.new) (is_err result) }
     {
@@ -25,7 +25,7 @@ impl Circle {
     // The head of the newest day; `None` exactly where there is no day.
     pub(crate) fn last<M: Medium>(&self, medium: &mut M) -> Result<Option<DayHead>, Failed>
         requires fits { FileFitsIn self.now (M.state medium.old) }
-        ensures last { IfOk result (λ o. IfSome (M.state medium.old).image (λ x. (days : List Day) → Holds self.now x days → o ≡ last_or None (heads_of self.now x days))) }
+        ensures last { IfOk result (λ o. IfSome (M.state medium.old).image (λ x. (days : List Day) → HoldsDays self.now x days → o ≡ last_or None (heads_of self.now x days))) }
         ensures place { IfOk result (λ o. IfSome o (λ h. h.place < self.now.size)) }
         ensures reads { Reads (M.state medium.old) (M.state medium.new) (is_err result) }
     {

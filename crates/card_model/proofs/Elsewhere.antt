@@ -5,7 +5,7 @@ use Rattle.tach_media.specs.Medium.{bytes_at}
 use Rattle.tach_media.proofs.Images.{part_in}
 use Rattle.card_model.specs.Bytes.{number}
 use Rattle.card_model.specs.Days.{Day, far}
-use Rattle.card_model.specs.Image.{StringShape, turned, oldest_pointer, newest_pointer, string_of, circle_of, IsPointer, IsPlace, Holds}
+use Rattle.card_model.specs.Image.{StringShape, turned, oldest_pointer, newest_pointer, string_of, circle_of, IsPointer, IsPlace, HoldsDays}
 use Rattle.card_model.specs.Walk.{days_in, days_of}
 use Rattle.card_model.specs.Checks.{Check, check, first_failing, is_pointer, day_checks, distance_of, is_empty, checks_of, first_bad}
 
@@ -30,7 +30,7 @@ module _ (r : StringShape) (x c : List ℕ) (same : bytes_at c r.base (4 + r.siz
   pub circle_elsewhere : circle_of r c ≡ circle_of r x
   circle_elsewhere = ap (λ (n : ℕ). turned n (string_of r c)) oldest_elsewhere ∙ ap (λ (l : List ℕ). turned (oldest_pointer r x) l) (part_same 4 r.size (omega arith))
 
-  pub holds_elsewhere : (days : List Day) → Holds r x days → Holds r c days
+  pub holds_elsewhere : (days : List Day) → HoldsDays r x days → HoldsDays r c days
   holds_elsewhere days h = record {
     oldest = subst (λ (n : ℕ). IsPointer r.size n) (sym oldest_elsewhere) h.oldest;
     newest = subst (λ (n : ℕ). IsPointer r.size n) (sym newest_elsewhere) h.newest;

@@ -7,7 +7,7 @@ use Rattle.tach_media.specs.Medium.{bytes_at}
 use Rattle.card_model.specs.Bytes.{number, decimal_bytes}
 use Rattle.activity_codec.specs.Words.{word_minute}
 use Rattle.card_model.specs.Days.{Day, len_of, total, far, Ascend, AreWords, word_bytes, record_of, records, IsDay, AreDays}
-use Rattle.card_model.specs.Image.{StringShape, IsStringShape, turned, oldest_pointer, newest_pointer, circle_of, IsPointer, Holds}
+use Rattle.card_model.specs.Image.{StringShape, IsStringShape, turned, oldest_pointer, newest_pointer, circle_of, IsPointer, HoldsDays}
 use Rattle.card_model.specs.Walk.{words_of}
 use Rattle.card_model.specs.Checks.{Check, check, first_failing, is_pointer, is_len, is_previous, is_date, is_decimal, field_checks, word_checks, record_checks, file_place, placed_checks, day_checks, distance_of, is_empty, first_bad}
 use Rattle.card_model.proofs.Numbers.{number_two, number_four}
@@ -212,7 +212,7 @@ checks_unless r x b = elim b as (λ _. List Check) [
 ]
 
 -- an image that holds days passes
-pub holds_passes : (r : StringShape) (shape : IsStringShape r) (x : List ℕ) → r.base + (4 + r.size) ≤ length x → (days : List Day) → Holds r x days → first_bad r x ≡ None
+pub holds_passes : (r : StringShape) (shape : IsStringShape r) (x : List ℕ) → r.base + (4 + r.size) ≤ length x → (days : List Day) → HoldsDays r x days → first_bad r x ≡ None
 unfolding first_bad
 holds_passes r shape x inside days h =
     passes_one (is_pointer r.size (oldest_pointer r x)) 0 (check (is_pointer r.size (newest_pointer r x)) 2 ∷ checks_unless r x (is_empty r x)) (pointer (oldest_pointer r x) h.oldest)
@@ -222,7 +222,7 @@ holds_passes r shape x inside days h =
     pointer : (p : ℕ) → IsPointer r.size p → is_pointer r.size p ≡ true
     pointer p is = and_from (nat_lt p r.size) (nat_eq (p % 2) 0) (grind (arith, nat_tests, is.below)) (grind (arith, nat_tests, is.even))
 
-    by_days : (days : List Day) → Holds r x days → first_failing (checks_unless r x (is_empty r x)) ≡ None
+    by_days : (days : List Day) → HoldsDays r x days → first_failing (checks_unless r x (is_empty r x)) ≡ None
     by_days [] h =
         let same : oldest_pointer r x ≡ newest_pointer r x = ⊎_elim (λ is. omega (arith, is)) (λ is. absurd (omega (arith, is, h.oldest.below))) h.distance in
         let empty : is_empty r x ≡ true = and_from (nat_eq (oldest_pointer r x) (newest_pointer r x)) (nat_eq (number (bytes_at (circle_of r x) 2 2)) 0) (eq-eqb (oldest_pointer r x) (newest_pointer r x) same) (eq-eqb (number (bytes_at (circle_of r x) 2 2)) 0 (h.empty refl)) in

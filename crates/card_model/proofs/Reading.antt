@@ -5,7 +5,7 @@ use Rattle.std.proofs.lemmas.List.{drop-drop, drop-take, take-take}
 use Rattle.tach_media.specs.Medium.{bytes_at}
 use Rattle.card_model.specs.Bytes.{number}
 use Rattle.card_model.specs.Days.{Day, len_of, total, record_of, records, IsDay, AreDays}
-use Rattle.card_model.specs.Image.{StringShape, IsStringShape, turned, oldest_pointer, string_of, circle_of, IsPointer, IsPlace, Holds, IsAt, at}
+use Rattle.card_model.specs.Image.{StringShape, IsStringShape, turned, oldest_pointer, string_of, circle_of, IsPointer, IsPlace, HoldsDays, IsAt, at}
 use Rattle.card_model.proofs.Numbers.{number_two}
 use Rattle.card_model.proofs.Lists.{records_length, previous_of, records-append, total-append}
 use Rattle.card_model.proofs.Circle.{part_back, turned_front, turned_part, turned_twice, string_length, circle_length}
@@ -55,7 +55,7 @@ spelled_at q older d later rest =
 
 module _ (r : StringShape) (shape : IsStringShape r) (x : List ℕ) (inside : r.base + (4 + r.size) ≤ length x) where
   -- the records and what is free
-  pub fills : (days : List Day) (h : Holds r x days) → total days + length h.rest ≡ r.size
+  pub fills : (days : List Day) (h : HoldsDays r x days) → total days + length h.rest ≡ r.size
   fills days h = omega (arith, circle_length r x inside, ap length h.spelled, length-append (records h.previous days) h.rest, records_length h.previous days)
 
   -- a part of the string in the image
@@ -74,7 +74,7 @@ module _ (r : StringShape) (shape : IsStringShape r) (x : List ℕ) (inside : r.
       ∙ string_part q n fits
 
   -- the length that stands in the record of a day
-  pub len_read : (older : List Day) (d : Day) (later : List Day) → Holds r x (older ++ d ∷ later) → (q : ℕ) → IsPlace r.size (oldest_pointer r x) (total older + 2) q → q + 2 ≤ r.size → number (bytes_at x (at r q) 2) ≡ len_of d
+  pub len_read : (older : List Day) (d : Day) (later : List Day) → HoldsDays r x (older ++ d ∷ later) → (q : ℕ) → IsPlace r.size (oldest_pointer r x) (total older + 2) q → q + 2 ≤ r.size → number (bytes_at x (at r q) 2) ≡ len_of d
   len_read older d later h q place fits =
       let e = previous_of h.previous older in
       let a = records h.previous older in

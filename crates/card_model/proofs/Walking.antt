@@ -7,7 +7,7 @@ use Rattle.std.proofs.lemmas.Bool.{lt-ltb, le-ltb}
 use Rattle.tach_media.specs.Medium.{bytes_at}
 use Rattle.card_model.specs.Bytes.{number, decimal}
 use Rattle.card_model.specs.Days.{Day, len_of, far, word_bytes, record_of, records, IsDay, AreDays}
-use Rattle.card_model.specs.Image.{StringShape, IsStringShape, oldest_pointer, newest_pointer, circle_of, IsPlace, Holds}
+use Rattle.card_model.specs.Image.{StringShape, IsStringShape, oldest_pointer, newest_pointer, circle_of, IsPlace, HoldsDays}
 use Rattle.card_model.specs.Walk.{words_of, day_told, days_in, days_of}
 use Rattle.card_model.proofs.Numbers.{number_two, number_four, decimal_same}
 use Rattle.card_model.proofs.Lists.{record_length, len_least, last_len_is, last_least, count_least}
@@ -64,12 +64,12 @@ distance_is size o n k o_below n_below k_below place = ⊎_elim
     (λ is. let none : n + size - o ≡ 0 * size + k = omega (arith, is) in ap (λ (m : ℕ). m % size) none ∙ mod-mul-add 0 size k k_below) place
 
 -- the newest day begins inside the string
-pub far_below : (r : StringShape) (shape : IsStringShape r) (x : List ℕ) → r.base + (4 + r.size) ≤ length x → (days : List Day) → Holds r x days → far days < r.size
+pub far_below : (r : StringShape) (shape : IsStringShape r) (x : List ℕ) → r.base + (4 + r.size) ≤ length x → (days : List Day) → HoldsDays r x days → far days < r.size
 far_below r shape x inside [] h = omega (arith, shape.low)
 far_below r shape x inside (d ∷ ds) h = omega (arith, fills r shape x inside (d ∷ ds) h, last_len_is (d ∷ ds), last_least 0 d ds h.ordered)
 
 -- the walk finds the days that an image holds
-pub walked : (r : StringShape) (shape : IsStringShape r) (x : List ℕ) → r.base + (4 + r.size) ≤ length x → (days : List Day) → Holds r x days → days_of r x ≡ days
+pub walked : (r : StringShape) (shape : IsStringShape r) (x : List ℕ) → r.base + (4 + r.size) ≤ length x → (days : List Day) → HoldsDays r x days → days_of r x ≡ days
 unfolding days_of
 walked r shape x inside days h =
     let few : length days ≤ 984 = omega (arith, count_least 0 days h.ordered, fills r shape x inside days h, shape.high) in
@@ -77,5 +77,5 @@ walked r shape x inside days h =
     ∙ ap (λ (l : List ℕ). days_in 984 (far days) l) h.spelled ∙ walk_same 984 h.previous 0 days h.rest few h.ordered (λ none. sym (ap (λ (l : List ℕ). number (bytes_at l 2 2)) (h.spelled ∙ ap (λ (ds : List Day). records h.previous ds ++ h.rest) none)) ∙ h.empty none)
 
 -- so it holds one list at most
-pub one_list : (r : StringShape) (shape : IsStringShape r) (x : List ℕ) → r.base + (4 + r.size) ≤ length x → (days others : List Day) → Holds r x days → Holds r x others → days ≡ others
+pub one_list : (r : StringShape) (shape : IsStringShape r) (x : List ℕ) → r.base + (4 + r.size) ≤ length x → (days others : List Day) → HoldsDays r x days → HoldsDays r x others → days ≡ others
 one_list r shape x inside days others h g = sym (walked r shape x inside days h) ∙ walked r shape x inside others g

@@ -52,7 +52,7 @@ abbrev pub spot : (size from distance : ℕ) → ℕ
 spot size from distance = if nat_lt (from + distance) size then from + distance else from + distance - size
 
 -- The image holds these days: once round from the oldest pointer their records stand one after the other, the last at the newest pointer.
-pub record Holds (r : StringShape) (x : List ℕ) (days : List Day) : Type 0 where
+pub record HoldsDays (r : StringShape) (x : List ℕ) (days : List Day) : Type 0 where
   pub oldest : IsPointer r.size (oldest_pointer r x)
   pub newest : IsPointer r.size (newest_pointer r x)
   pub distance : IsPlace r.size (oldest_pointer r x) (far days) (newest_pointer r x)
@@ -66,6 +66,6 @@ pub record Holds (r : StringShape) (x : List ℕ) (days : List Day) : Type 0 whe
 pub record IsAt (r : StringShape) (x : List ℕ) (p : ℕ) (d : Day) : Type 0 where
   pub older : List Day
   pub later : List Day
-  pub holds : Holds r x (older ++ d ∷ later)
+  pub holds : HoldsDays r x (older ++ d ∷ later)
   pub pointer : IsPointer r.size p
   pub place : IsPlace r.size (oldest_pointer r x) (total older) p

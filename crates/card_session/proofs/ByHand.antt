@@ -8,7 +8,7 @@ use Rattle.tach_media.proofs.Runs.{weaken, where_told, at_image}
 use Rattle.card_layout.specs.declared.files.Application.{Application}
 use Rattle.card_model.specs.Days.{Day, AreDays, last_word, total}
 use Rattle.card_model.specs.Changes.{Remain, OnNewest, TakesWord, AreStrict, IsLater, IsNext, fitting, with_newest, with_word, new_day, date_of}
-use Rattle.card_model.specs.Image.{StringShape, Holds, newest_pointer}
+use Rattle.card_model.specs.Image.{StringShape, HoldsDays, newest_pointer}
 use Rattle.card_model.proofs.Retention.{remain_some, remain_fitting}
 use Rattle.gated_ring.specs.Ring.{PointsInside, IsNewest}
 use Rattle.card_days.specs.declared.head.Tail.{Tail}
@@ -197,8 +197,8 @@ absent_ends m (d ∷ e ∷ ds) on = absent_ends m (e ∷ ds) on
 
 abbrev Begins : StringShape → (date : ℕ) → (words : List ℕ) → List Day → List ℕ → Type 0
 Begins r date words days c =
-    ((kept : List Day) × Remain (r.size - (12 + 2 * length words)) days kept × Holds r c kept)
-    ⊎ Holds r c (fitting (r.size - (12 + 2 * length words)) days ++ new_day days date words ∷ [])
+    ((kept : List Day) × Remain (r.size - (12 + 2 * length words)) days kept × HoldsDays r c kept)
+    ⊎ HoldsDays r c (fitting (r.size - (12 + 2 * length words)) days ++ new_day days date words ∷ [])
 
 module _ (s t : Session) (value : IsValue s) (same : HasSame s t) (old new : State) (failed : Bool) (card : MayKeep s.application old) (whole : IsCoherent old)
     (minute w : ℕ) (words : List ℕ) (are : words ≡ words_from minute w) where

@@ -9,7 +9,7 @@ use Rattle.tach_media.proofs.Runs.{weaken, where_told, at_image}
 use Rattle.card_files.specs.declared.vehicle.Vehicle.{Vehicle}
 use Rattle.card_model.specs.Days.{Day}
 use Rattle.card_model.specs.Changes.{Shorter, date_of, trimmed}
-use Rattle.card_model.specs.Image.{StringShape, Holds}
+use Rattle.card_model.specs.Image.{StringShape, HoldsDays}
 use Rattle.card_days.specs.Held.{Held, Knows}
 use Rattle.card_days.specs.Moments.{IfKnown}
 use Rattle.card_days.specs.Steps.{SameDays, IsIdle}
@@ -27,7 +27,7 @@ use Rattle.card_session.proofs.OnDays.{written, known}
 pub still_card : (s : Session) → IsValue s → (x : List ℕ) → KnowsCard s x → IsCard s.application (IsBook (book_of s.application x)) x x
 still_card s value x knows = record {
   outside = outside_same (day_string s.application).base (days_and_vehicles s.application) x;
-  holds = subst (λ (q : StringShape). Holds q x (book_of s.application x).days) value.days knows.days.holds;
+  holds = subst (λ (q : StringShape). HoldsDays q x (book_of s.application x).days) value.days knows.days.holds;
   points = knows.points;
   told = (refl, refl);
 }
@@ -44,7 +44,7 @@ value_as s t value same shape = record {
 
 -- what a moment of the cut holds
 abbrev Cuts : StringShape → ℕ → List Day → List ℕ → Type 0
-Cuts q minute days c = ((kept : List Day) × Shorter (date_of minute) days kept × Holds q c kept) ⊎ Holds q c (trimmed minute days)
+Cuts q minute days c = ((kept : List Day) × Shorter (date_of minute) days kept × HoldsDays q c kept) ⊎ HoldsDays q c (trimmed minute days)
 
 module _ (s t : Session) (value : IsValue s) (same : HasSame s t) (old new : State) (failed : Bool) (card : MayKeep s.application old) (whole : IsCoherent old) where
   abbrev app : Application
@@ -67,7 +67,7 @@ module _ (s t : Session) (value : IsValue s) (same : HasSame s t) (old new : Sta
         let k = known s t value same old new failed card whole x y was knows one.outside (book_of app x).days after (ap (λ (h : Held). h.shape) days_are) in
         (written s t value same old new failed card whole (IsBook (book_of app x)) x y was knows one.outside (book_of app x).days k.0 (refl, refl), k.1));
     leaves = weaken moments (λ x c was is knows any.
-        let holds : Holds r c (book_of app x).days = subst (λ (q : StringShape). Holds q c (book_of app x).days) value.days ((is.told (book_of app x).days knows.days).list (book_of app x).days knows.days.holds) in
+        let holds : HoldsDays r c (book_of app x).days = subst (λ (q : StringShape). HoldsDays q c (book_of app x).days) value.days ((is.told (book_of app x).days knows.days).list (book_of app x).days knows.days.holds) in
         written s t value same old new failed card whole (IsBook (book_of app x)) x c was knows is.outside (book_of app x).days holds (refl, refl));
     cause = cause;
   }
@@ -75,13 +75,13 @@ module _ (s t : Session) (value : IsValue s) (same : HasSame s t) (old new : Sta
   -- THE CUT
   pub cut_part : (minute : ℕ) → t.days.shape ≡ s.days.shape
       → (failed ≡ false → IfSome old.image (λ x. IfSome new.image (IsTrim s.days.shape minute x)))
-      → (failed ≡ false → IfSome old.image (λ x. IfSome new.image (λ y. (days : List Day) → Holds s.days.shape x days → Knows t.days y (trimmed minute days))))
+      → (failed ≡ false → IfSome old.image (λ x. IfSome new.image (λ y. (days : List Day) → HoldsDays s.days.shape x days → Knows t.days y (trimmed minute days))))
       → LeavesOnly old new (IsTrimMoment s.days.shape minute) → HasCause old new failed
       → DoesPart old new failed (IsPartDone s t AnyBook (with_cut minute)) (IsPartMoment s AnyBook (IsCutting minute))
   cut_part minute shape cut knowing moments cause = record {
     done = λ fine. where_told old.image new.image _ (λ x y was is knows any.
         let one = at_image (λ y. IsTrim s.days.shape minute x y) is (at_image (λ x. IfSome new.image (IsTrim s.days.shape minute x)) was (cut fine)) in
-        let two = at_image (λ y. (days : List Day) → Holds s.days.shape x days → Knows t.days y (trimmed minute days)) is (at_image (λ x. IfSome new.image (λ y. (days : List Day) → Holds s.days.shape x days → Knows t.days y (trimmed minute days))) was (knowing fine)) in
+        let two = at_image (λ y. (days : List Day) → HoldsDays s.days.shape x days → Knows t.days y (trimmed minute days)) is (at_image (λ x. IfSome new.image (λ y. (days : List Day) → HoldsDays s.days.shape x days → Knows t.days y (trimmed minute days))) was (knowing fine)) in
         let k = known s t value same old new failed card whole x y was knows one.outside (trimmed minute (book_of app x).days) (two (book_of app x).days knows.days.holds) shape in
         (written s t value same old new failed card whole (IsBook (with_cut minute (book_of app x))) x y was knows one.outside (trimmed minute (book_of app x).days) k.0 (refl, refl), k.1));
     leaves = weaken moments (λ x c was is knows any.

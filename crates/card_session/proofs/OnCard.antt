@@ -6,7 +6,7 @@ use Rattle.card_layout.specs.Application.{IsApplication}
 use Rattle.card_layout.specs.Files.{files_of, image_size_of}
 use Rattle.tach_media.specs.Medium.{State, SameOutside, LiesInside, LeavesOnly, bytes_at}
 use Rattle.card_model.specs.Days.{Day}
-use Rattle.card_model.specs.Image.{StringShape, IsStringShape, Holds}
+use Rattle.card_model.specs.Image.{StringShape, IsStringShape, HoldsDays}
 use Rattle.card_model.proofs.Walking.{walked}
 use Rattle.card_model.proofs.Elsewhere.{holds_elsewhere, days_elsewhere}
 use Rattle.gated_ring.specs.Ring.{Shape, IsShape, PointsInside, IsNewest, place_of, size_of as ring_size}
@@ -78,7 +78,7 @@ module _ (app : Application) (sound : IsApplication app) (x : List ℕ) (fits : 
   string_fits c same = omega (arith, same, fits, ring_behind app, ring_inside app)
 
   -- the days of an image that holds such
-  pub days_told : (c : List ℕ) → length c ≡ length x → (days : List Day) → Holds (day_string app) c days → (book_of app c).days ≡ days
+  pub days_told : (c : List ℕ) → length c ≡ length x → (days : List Day) → HoldsDays (day_string app) c days → (book_of app c).days ≡ days
   unfolding book_of card_days
   days_told c same days holds = walked (day_string app) (string_shape app sound) c (string_fits c same) days holds
 
@@ -98,12 +98,12 @@ module _ (app : Application) (sound : IsApplication app) (x : List ℕ) (fits : 
       pub newest_still : (o : Option ℕ) → IsNewest (vehicle_ring app) x o → IsNewest (vehicle_ring app) c o
       newest_still o newest = newest_elsewhere (vehicle_ring app) (ring_shape app sound) x c ring_same known o newest
 
-      pub days_written : (P : List Day → Vehicles → Type 0) (days : List Day) → Holds (day_string app) c days → P days (book_of app x).vehicles → IsCard app P x c
+      pub days_written : (P : List Day → Vehicles → Type 0) (days : List Day) → HoldsDays (day_string app) c days → P days (book_of app x).vehicles → IsCard app P x c
       days_written P days holds told =
           let are : (book_of app c).days ≡ days = days_told c outside.same_length days holds in
           record {
             outside = outside_wider (day_string app).base (days_and_vehicles app) (day_string app).base (4 + (day_string app).size) x c outside (omega arith) (omega arith);
-            holds = subst (λ (ds : List Day). Holds (day_string app) c ds) (sym are) holds;
+            holds = subst (λ (ds : List Day). HoldsDays (day_string app) c ds) (sym are) holds;
             points = points_still;
             told = subst (λ (v : Vehicles). P (book_of app c).days v) (sym vehicles_still) (subst (λ (ds : List Day). P ds (book_of app x).vehicles) (sym are) told);
           }
@@ -120,10 +120,10 @@ module _ (app : Application) (sound : IsApplication app) (x : List ℕ) (fits : 
       pub string_still : bytes_at c (day_string app).base (4 + (day_string app).size) ≡ bytes_at x (day_string app).base (4 + (day_string app).size)
       string_still = string_same
 
-      pub vehicles_written : (P : List Day → Vehicles → Type 0) → Holds (day_string app) x (book_of app x).days → PointsInside (vehicle_ring app) c → P (book_of app x).days (book_of app c).vehicles → IsCard app P x c
+      pub vehicles_written : (P : List Day → Vehicles → Type 0) → HoldsDays (day_string app) x (book_of app x).days → PointsInside (vehicle_ring app) c → P (book_of app x).days (book_of app c).vehicles → IsCard app P x c
       vehicles_written P holds points told = record {
         outside = outside_wider (day_string app).base (days_and_vehicles app) (vehicle_ring app).base (ring_size (vehicle_ring app)) x c outside (omega (arith, ring_behind app)) (omega (arith, ring_behind app));
-        holds = subst (λ (ds : List Day). Holds (day_string app) c ds) (sym days_still) (holds_elsewhere (day_string app) x c string_same (book_of app x).days holds);
+        holds = subst (λ (ds : List Day). HoldsDays (day_string app) c ds) (sym days_still) (holds_elsewhere (day_string app) x c string_same (book_of app x).days holds);
         points = points;
         told = subst (λ (ds : List Day). P ds (book_of app c).vehicles) (sym days_still) told;
       }

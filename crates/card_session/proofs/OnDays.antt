@@ -8,7 +8,7 @@ use Rattle.tach_media.specs.Medium.{State, IsCoherent, LeavesOnly, HasCause, Sam
 use Rattle.tach_media.proofs.Runs.{weaken, where_told, at_image}
 use Rattle.card_model.specs.Days.{Day}
 use Rattle.card_model.specs.Changes.{Remain, fitting, with_newest, with_word, with_km, IsNext, new_day, date_of}
-use Rattle.card_model.specs.Image.{StringShape, Holds}
+use Rattle.card_model.specs.Image.{StringShape, HoldsDays}
 use Rattle.gated_ring.specs.Ring.{PointsInside, IsNewest}
 use Rattle.card_days.specs.Held.{Knows}
 use Rattle.card_days.specs.Moments.{IfKnown, IsChanging, IsChanged, KnowsChanged, IsDayBeginning, IsDayBegun, KnowsBegun}
@@ -34,15 +34,15 @@ knows_as s t y same days points newest vehicle = record {
 
 -- what a moment of the calls holds, by lists
 abbrev Changes : StringShape → ℕ → List Day → List ℕ → Type 0
-Changes r w days c = ((kept : List Day) × Remain (r.size - 2) days kept × Holds r c kept) ⊎ Holds r c (with_newest (with_word w) (fitting (r.size - 2) days))
+Changes r w days c = ((kept : List Day) × Remain (r.size - 2) days kept × HoldsDays r c kept) ⊎ HoldsDays r c (with_newest (with_word w) (fitting (r.size - 2) days))
 
 abbrev Begins : StringShape → (date : ℕ) → (words : List ℕ) → List Day → List ℕ → Type 0
 Begins r date words days c =
-    ((kept : List Day) × Remain (r.size - (12 + 2 * length words)) days kept × Holds r c kept)
-    ⊎ Holds r c (fitting (r.size - (12 + 2 * length words)) days ++ new_day days date words ∷ [])
+    ((kept : List Day) × Remain (r.size - (12 + 2 * length words)) days kept × HoldsDays r c kept)
+    ⊎ HoldsDays r c (fitting (r.size - (12 + 2 * length words)) days ++ new_day days date words ∷ [])
 
 abbrev Measures : StringShape → ℕ → List Day → List ℕ → Type 0
-Measures r km days c = Holds r c days ⊎ Holds r c (with_newest (with_km km) days)
+Measures r km days c = HoldsDays r c days ⊎ HoldsDays r c (with_newest (with_km km) days)
 
 module _ (s t : Session) (value : IsValue s) (same : HasSame s t) (old new : State) (failed : Bool) (card : MayKeep s.application old) (whole : IsCoherent old) where
   abbrev app : Application
@@ -56,16 +56,16 @@ module _ (s t : Session) (value : IsValue s) (same : HasSame s t) (old new : Sta
 
   -- a moment of a call on the days, by the list that is held
   pub written : (Q : List Day → Vehicles → Type 0) (x c : List ℕ) → old.image ≡ Some x → KnowsCard s x → SameOutside s.days.shape.base (4 + s.days.shape.size) x c
-      → (kept : List Day) → Holds r c kept → Q kept (book_of app x).vehicles → IsCard app Q x c
+      → (kept : List Day) → HoldsDays r c kept → Q kept (book_of app x).vehicles → IsCard app Q x c
   written Q x c was knows outside kept holds is =
       days_written app value.sizes x (fits x was) c knows.points (subst (λ (q : StringShape). SameOutside q.base (4 + q.size) x c) value.days outside) Q kept holds is
 
   -- and what is known after it
   pub known : (x y : List ℕ) → old.image ≡ Some x → KnowsCard s x → SameOutside s.days.shape.base (4 + s.days.shape.size) x y → (after : List Day) → Knows t.days y after → t.days.shape ≡ s.days.shape
-      → (Holds r y after) × KnowsCard t y
+      → (HoldsDays r y after) × KnowsCard t y
   known x y was knows outside after told shape =
       let beside : SameOutside r.base (4 + r.size) x y = subst (λ (q : StringShape). SameOutside q.base (4 + q.size) x y) value.days outside in
-      let holds : Holds r y after = subst (λ (q : StringShape). Holds q y after) (shape ∙ value.days) told.holds in
+      let holds : HoldsDays r y after = subst (λ (q : StringShape). HoldsDays q y after) (shape ∙ value.days) told.holds in
       let are : (book_of app y).days ≡ after = days_told app value.sizes x (fits x was) y beside.same_length after holds in (
         holds,
         knows_as s t y same (subst (λ (ds : List Day). Knows t.days y ds) (sym are) told) (points_still app value.sizes x (fits x was) y knows.points beside)

@@ -16,7 +16,7 @@ use Rattle.tacho_types.specs.Numbers.{time_bytes, time_of, odometer_bytes, odome
 use Rattle.card_files.specs.declared.vehicle.Vehicle.{Vehicle}
 use Rattle.card_files.specs.Vehicles.{vehicle_of, vehicle_bytes, vehicle_widths}
 use Rattle.card_model.specs.Days.{Day}
-use Rattle.card_model.specs.Image.{StringShape, Holds}
+use Rattle.card_model.specs.Image.{StringShape, HoldsDays}
 use Rattle.card_files.proofs.Changes.{vehicle_gate}
 use Rattle.gated_ring.specs.Ring.{number_at, gate_number, Shape, PointsInside, IsNewest, entry_at, taken, with_head, place_of, size_of as ring_size}
 use Rattle.gated_ring.specs.Change.{IsSet, IsShortened, IsExtended, OrUnwritten, IsAdding, IsAdded, IsAddStep, SameOthers}
@@ -115,8 +115,8 @@ module _ (s t : Session) (value : IsValue s) (same : SameButVehicle s t) (old ne
       let days : Knows s.days y (book_of app x).days = knows_elsewhere s.days x y (subst (λ (q : StringShape). bytes_at y q.base (4 + q.size) ≡ bytes_at x q.base (4 + q.size)) (sym value.days) (string_still app value.sizes x (fits x was) y outside)) (book_of app x).days knows.days in
       knows_as s t y same (subst (λ (ds : List Day). Knows s.days y ds) (sym (days_still app value.sizes x (fits x was) y outside)) days) points newest vehicle
 
-  holds_at : (x : List ℕ) → KnowsCard s x → Holds (day_string app) x (book_of app x).days
-  holds_at x knows = subst (λ (q : StringShape). Holds q x (book_of app x).days) value.days knows.days.holds
+  holds_at : (x : List ℕ) → KnowsCard s x → HoldsDays (day_string app) x (book_of app x).days
+  holds_at x knows = subst (λ (q : StringShape). HoldsDays q x (book_of app x).days) value.days knows.days.holds
 
   -- SET A FIELD of the newest vehicle entry
   module _ (i offset : ℕ) (bytes : List ℕ) (u : Vehicle → Vehicle) (here : s.newest ≡ Some i) (still : t.newest ≡ s.newest) (vehicle : t.vehicle ≡ option_map u s.vehicle)

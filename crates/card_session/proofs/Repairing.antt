@@ -31,7 +31,7 @@ use Rattle.card_session.specs.Books.{Book, mark_of, closed_days, last_used}
 use Rattle.card_session.specs.Sessions.{book_of}
 use Rattle.card_session.specs.Moments.{IsBook, IsCloseMoment}
 use Rattle.card_session.specs.Inserting.{Follow, lacked, with_cut, with_owed, IsBeforeAll, EndsCut, repaired, IsRepairMoment, IsStill, IsRepaired, IsRepairing, IsNoted, IsNoting, IsShut, IsShutting, InsertsClosed, InsertingClosed, InsertsOpen, InsertingOpen}
-use Rattle.card_session.specs.Overwriting.{GoesOn, IsRepairable}
+use Rattle.card_session.specs.Overwriting.{DaysFollowOverwriting, IsRepairable}
 use Rattle.card_session.specs.Repairs.{first_minute, mark_behind, and_entries, with_entries, HasFirst, BeginsLater, lacked_by, ShowsFirst, ShowsOwed}
 use Rattle.card_session.proofs.Composing.{told_book}
 use Rattle.card_session.proofs.Preparing.{used_at}
@@ -163,7 +163,7 @@ module _ (app : Application) (sound : IsApplication app) (x c : List ℕ) (days 
   pub mark_beside : end_mark app c ≡ end_mark app x
   mark_beside = ap (λ (n : ℕ). n / 60) (last_use_same app x c sound points vehicles)
 
-  goes_beside : (slack : Bound) (covered from : ℕ) (k : Counted) → GoesOn app slack covered from k x → GoesOn app slack covered from k c
+  goes_beside : (slack : Bound) (covered from : ℕ) (k : Counted) → DaysFollowOverwriting app slack covered from k x → DaysFollowOverwriting app slack covered from k c
   goes_beside slack covered from k goes =
       subst (λ (ds : List Day). Lives app.activity slack covered from (end_mark app c) k ds) (sym (days_same app x c days))
       (subst (λ (n : ℕ). Lives app.activity slack covered from n k (card_days app x)) (sym mark_beside) goes)
@@ -181,7 +181,7 @@ module _ (app : Application) (sound : IsApplication app) (x c : List ℕ) (days 
 -- ---- a card, as its book tells
 
 module _ (app : Application) (slack : Bound) (covered next : ℕ) (c : Counted) (y : List ℕ) where
-  lives_told : (b : Book) → book_of app y ≡ b → Lives app.activity slack covered next (mark_of b) c b.days → GoesOn app slack covered next c y
+  lives_told : (b : Book) → book_of app y ≡ b → Lives app.activity slack covered next (mark_of b) c b.days → DaysFollowOverwriting app slack covered next c y
   unfolding book_of
   lives_told b is l = subst (λ (k : Book). Lives app.activity slack covered next (mark_of k) c k.days) (sym is) l
 
@@ -219,7 +219,7 @@ module _ (app : Application) (sound : IsApplication app) (x : List ℕ) (fits : 
   First y = (session_time app y ≡ session_time app x) × HasFirst app.activity slack covered next (mark_of (book_of app x)) c lacks (end_mark app y) (card_days app y)
 
   abbrev All_on : List ℕ → Type 0
-  All_on y = GoesOn app (and_entries slack lacks) covered next (with_entries covered c lacks) y
+  All_on y = DaysFollowOverwriting app (and_entries slack lacks) covered next (with_entries covered c lacks) y
 
   module _ (asked : Asked) where
     -- the repair is done
@@ -363,8 +363,8 @@ closed_still size b shut ds v (inr book) =
     subst (λ (k : Book). IsBook k ds v) (ap (λ (o : Bool). cond o (let c : Book = record { days = closed_days size (mark_of b) Rest b.days; vehicles = last_used (60 * suc (mark_of b)) b.vehicles } in c) b) shut) book
 
 module _ (app : Application) (sound : IsApplication app) (x : List ℕ) (fits : image_size_of app ≤ length x) (registration : Registration) (long : length registration.0 ≡ 15) (now : ℕ)
-    (slack : Bound) (covered from : ℕ) (c : Counted) (goes : GoesOn app slack covered from c x) (shut : is_open (end_mark app x) (card_days app x) ≡ false) where
-  goes_told : (y : List ℕ) → book_of app y ≡ book_of app x → GoesOn app slack covered from c y
+    (slack : Bound) (covered from : ℕ) (c : Counted) (goes : DaysFollowOverwriting app slack covered from c x) (shut : is_open (end_mark app x) (card_days app x) ≡ false) where
+  goes_told : (y : List ℕ) → book_of app y ≡ book_of app x → DaysFollowOverwriting app slack covered from c y
   unfolding book_of
   goes_told y is = subst (λ (k : Book). Lives app.activity slack covered from (mark_of k) c k.days) (sym is) goes
 
@@ -384,32 +384,32 @@ module _ (app : Application) (sound : IsApplication app) (x : List ℕ) (fits : 
     closing : (z : List ℕ) → IsShut app y z → IsShutting app y z
     closing z card = record { outside = card.outside; holds = card.holds; points = card.points; told = inr card.told }
 
-    use_still : (z w : List ℕ) → IsShut app y z → Same app z w → GoesOn app slack covered from c w
+    use_still : (z w : List ℕ) → IsShut app y z → Same app z w → DaysFollowOverwriting app slack covered from c w
     use_still z w card beside = goes_beside app sound z w beside.0 beside.1 card.points slack covered from c (goes_told z (shut_book z (closing z card)))
 
     room_left : (z : List ℕ) → IsShut app y z → place_of app (file 0x0507) + 19 ≤ length z
     room_left z card = omega (arith, use_inside app, fits, still.outside.same_length, card.outside.same_length)
 
-  pub closed_moments : (y : List ℕ) → InsertingClosed app registration now x y → GoesOn app slack covered from c y
+  pub closed_moments : (y : List ℕ) → InsertingClosed app registration now x y → DaysFollowOverwriting app slack covered from c y
   closed_moments y (inl still) = goes_told y (same_book y still)
   closed_moments y (inr (x1, still, inl shutting)) = goes_told y (shut_book x1 still y shutting)
   closed_moments y (inr (x1, still, inr (x2, shut_, opening))) = use_still x1 still x2 y shut_ (opening_same app registration now long x2 y (room_left x1 still x2 shut_) opening)
 
-  pub closed_ends : (y : List ℕ) → InsertsClosed app registration now x y → GoesOn app slack covered from c y
+  pub closed_ends : (y : List ℕ) → InsertsClosed app registration now x y → DaysFollowOverwriting app slack covered from c y
   closed_ends y (x1, still, (x2, shut_, opened)) = use_still x1 still x2 y shut_ (opened_same app registration now long x2 y (room_left x1 still x2 shut_) opened)
 
 -- ---- one whose latest word may be an entry's: the closing word follows it
 
 module _ (app : Application) (sound : IsApplication app) (x : List ℕ) (fits : image_size_of app ≤ length x) (registration : Registration) (long : length registration.0 ≡ 15) (now : ℕ)
-    (slack : Bound) (covered from next : ℕ) (c : Counted) (least : 16 ≤ slack.bytes) (later : from ≤ next) (before : newest_minute (end_mark app x) (card_days app x) < next) (goes : GoesOn app slack covered from c x) where
+    (slack : Bound) (covered from next : ℕ) (c : Counted) (least : 16 ≤ slack.bytes) (later : from ≤ next) (before : newest_minute (end_mark app x) (card_days app x) < next) (goes : DaysFollowOverwriting app slack covered from c x) where
   abbrev Leaves : List ℕ → Type 0
-  Leaves y = ((end_mark app y ≡ end_mark app x) × IsRepairable app slack covered next c y) ⊎ GoesOn app slack covered next c y
+  Leaves y = ((end_mark app y ≡ end_mark app x) × IsRepairable app slack covered next c y) ⊎ DaysFollowOverwriting app slack covered next c y
 
   module _ (y : List ℕ) (still : IsStill app x y) where
     y_is : book_of app y ≡ book_of app x
     y_is = told_book app (book_of app x) x y still
 
-    y_goes : GoesOn app slack covered from c y
+    y_goes : DaysFollowOverwriting app slack covered from c y
     unfolding book_of
     y_goes = lives_told app slack covered from c y (book_of app x) y_is goes
 
@@ -431,7 +431,7 @@ module _ (app : Application) (sound : IsApplication app) (x : List ℕ) (fits : 
         (λ old. inl (old.0 ∙ y_mark, old.1)) (λ on. inr on)
         (close_leaves app sound y slack covered from c least y_goes Rest next z later y_before card)
 
-    use_left : (z w : List ℕ) → IsShut app y z → Same app z w → GoesOn app slack covered next c w
+    use_left : (z w : List ℕ) → IsShut app y z → Same app z w → DaysFollowOverwriting app slack covered next c w
     use_left z w card side =
         goes_beside app sound z w side.0 side.1 card.points slack covered next c
         (closed_leaves app sound y slack covered from c least y_goes Rest next z later y_before card.holds.ordered card.told)
@@ -444,5 +444,5 @@ module _ (app : Application) (sound : IsApplication app) (x : List ℕ) (fits : 
   unclosed_moments y (inr (x1, still, inl shutting)) = closing_left x1 still y shutting
   unclosed_moments y (inr (x1, still, inr (x2, shut, opening))) = inr (use_left x1 still x2 y shut (opening_same app registration now long x2 y (room_there x1 still x2 shut) opening))
 
-  pub unclosed_ends : (y : List ℕ) → InsertsClosed app registration now x y → GoesOn app slack covered next c y
+  pub unclosed_ends : (y : List ℕ) → InsertsClosed app registration now x y → DaysFollowOverwriting app slack covered next c y
   unclosed_ends y (x1, still, (x2, shut, opened)) = use_left x1 still x2 y shut (opened_same app registration now long x2 y (room_there x1 still x2 shut) opened)

@@ -36,7 +36,7 @@ use Rattle.card_session.specs.Sessions.{Session, IsSession, book_of}
 use Rattle.card_session.specs.Moments.{IsBook, IsBeforeGap, IsBeforeWords, IsBeforeMark, IsBeforeUse, IsKeepMoment, IsClosingWord, IsCloseMoment, entry_len}
 use Rattle.card_session.specs.Cards.{IsCard, IsCardClosed, IsCardClosing, ended}
 use Rattle.card_session.specs.Parts.{IsBeforeGapOf}
-use Rattle.card_session.specs.Overwriting.{GoesOn, IsRepairable, ShowsEntries, BeginsBehind, and_entry}
+use Rattle.card_session.specs.Overwriting.{DaysFollowOverwriting, IsRepairable, ShowsEntries, BeginsBehind, and_entry}
 use Rattle.card_session.proofs.OnCard.{ring_behind}
 use Rattle.card_session.proofs.Marks.{mark_told, use_before}
 use Rattle.card_session.proofs.Following.{closing_minute}
@@ -236,7 +236,7 @@ module _ (app : Application) (slack : Bound) (covered from : ℕ) (c : Counted) 
       subst (λ (ds : List Day). Rests app.activity slack covered from (end_mark app y) c (trimmed (end_mark app y) ds)) (book_days app y)
       (subst (λ (n : ℕ). Rests app.activity slack covered from n c (trimmed n (book_of app y).days)) (sym at) r)
 
-  goes_at : Lives app.activity slack covered from m c (book_of app y).days → GoesOn app slack covered from c y
+  goes_at : Lives app.activity slack covered from m c (book_of app y).days → DaysFollowOverwriting app slack covered from c y
   goes_at l =
       subst (λ (ds : List Day). Lives app.activity slack covered from (end_mark app y) c ds) (book_days app y)
       (subst (λ (n : ℕ). Lives app.activity slack covered from n c (book_of app y).days) (sym at) l)
@@ -313,7 +313,7 @@ closing_mark s act x y sound fits knows closing = ⊎_elim
     let same : end_mark s.application y ≡ end_mark s.application closed_.before = ap (λ (l : List ℕ). end_mark s.application l) closed_.session ∙ ended_mark s.application sound closed_.before room closed_.card.points in
     ⊎_elim (λ still. inl (same ∙ still)) (λ next. inr (same ∙ next)) (card_mark s act x closed_.before knows closed_.card.told)) closing
 
-module _ (app : Application) (sound : IsApplication app) (x : List ℕ) (slack : Bound) (covered from : ℕ) (c : Counted) (least : 16 ≤ slack.bytes) (goes : GoesOn app slack covered from c x) where
+module _ (app : Application) (sound : IsApplication app) (x : List ℕ) (slack : Bound) (covered from : ℕ) (c : Counted) (least : 16 ≤ slack.bytes) (goes : DaysFollowOverwriting app slack covered from c x) where
   abbrev b : Book
   b = book_of app x
 
@@ -325,7 +325,7 @@ module _ (app : Application) (sound : IsApplication app) (x : List ℕ) (slack :
   -- a moment of a keep
   pub keep_leaves : (registration : Registration) (odometer more : ℕ) (e : Entry) (y : List ℕ) → IsBeforeGapOf e.minute (book_of app x) → from ≤ e.minute → BeginsBehind app e x
       → IsCard app (IsKeepMoment app.activity registration odometer more e (book_of app x)) x y
-      → ((end_mark app y ≡ end_mark app x) × IsRepairable app slack covered e.minute c y) ⊎ ((end_mark app y ≡ e.minute) × GoesOn app (and_entry slack e) covered (suc e.minute) (counted_with covered c e) y)
+      → ((end_mark app y ≡ end_mark app x) × IsRepairable app slack covered e.minute c y) ⊎ ((end_mark app y ≡ e.minute) × DaysFollowOverwriting app (and_entry slack e) covered (suc e.minute) (counted_with covered c e) y)
   keep_leaves registration odometer more e y before later clear card = ⊎_elim
       (λ old. let at = mark_at app b y old.0 in
       inl (at ∙ sym (mark_told app x), repairable_at app slack covered e.minute c y (mark_of b) at (before_stop app.activity slack covered from c b lives_there sound.string_least least e before later clear_at registration odometer more (book_of app y).days card.holds.ordered old.1)))
@@ -351,7 +351,7 @@ module _ (app : Application) (sound : IsApplication app) (x : List ℕ) (slack :
 
   -- with the closing word, and the end mark at it
   pub closed_leaves : (act : Activity) (next : ℕ) (y : List ℕ) → from ≤ next → newest_minute (end_mark app x) (card_days app x) < next → AreDays 0 (book_of app y).days
-      → IsBook (closed app.activity act b) (book_of app y).days (book_of app y).vehicles → GoesOn app slack covered next c y
+      → IsBook (closed app.activity act b) (book_of app y).days (book_of app y).vehicles → DaysFollowOverwriting app slack covered next c y
   closed_leaves act next y later before ordered book =
       goes_at app slack covered next c y (mark_of (closed app.activity act b)) (mark_at app (closed app.activity act b) y book.1)
       (subst (λ (ds : List Day). Lives app.activity slack covered next (mark_of (closed app.activity act b)) c ds) (sym book.0)
@@ -359,7 +359,7 @@ module _ (app : Application) (sound : IsApplication app) (x : List ℕ) (slack :
 
   -- a moment of a withdrawal
   pub close_leaves : (act : Activity) (next : ℕ) (y : List ℕ) → from ≤ next → newest_minute (end_mark app x) (card_days app x) < next → IsCard app (IsCloseMoment app.activity act (book_of app x)) x y
-      → ((end_mark app y ≡ end_mark app x) × IsRepairable app slack covered next c y) ⊎ GoesOn app slack covered next c y
+      → ((end_mark app y ≡ end_mark app x) × IsRepairable app slack covered next c y) ⊎ DaysFollowOverwriting app slack covered next c y
   close_leaves act next y later before card = ⊎_elim
       (λ old. let at = mark_at app b y old.0 in
       inl (at ∙ sym (mark_told app x), repairable_at app slack covered next c y (mark_of b) at (closing_stop app.activity slack covered from c b lives_there sound.string_least least act next later (newest_there next before) (book_of app y).days old.1)))
@@ -368,10 +368,10 @@ module _ (app : Application) (sound : IsApplication app) (x : List ℕ) (slack :
 
   -- and its end
   pub close_ends : (act : Activity) (next : ℕ) (k y : List ℕ) → image_size_of app ≤ length x → from ≤ next → newest_minute (end_mark app x) (card_days app x) < next → IsCard app (IsBook (closed app.activity act (book_of app x))) x k → y ≡ ended app k
-      → GoesOn app slack covered next c y
+      → DaysFollowOverwriting app slack covered next c y
   close_ends act next k y fits later before card is =
       let room : image_size_of app ≤ length k = omega (arith, fits, card.outside.same_length) in
-      subst (λ (l : List ℕ). GoesOn app slack covered next c l) (sym is)
+      subst (λ (l : List ℕ). DaysFollowOverwriting app slack covered next c l) (sym is)
       (subst (λ (ds : List Day). Lives app.activity slack covered next (end_mark app (ended app k)) c ds) (sym (ended_days app sound k room card.points))
       (subst (λ (n : ℕ). Lives app.activity slack covered next n c (card_days app k)) (sym (ended_mark app sound k room card.points))
       (closed_leaves act next k later before card.holds.ordered card.told)))

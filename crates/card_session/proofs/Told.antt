@@ -11,7 +11,7 @@ use Rattle.card_layout.specs.declared.files.Application.{Application}
 use Rattle.card_files.specs.declared.vehicle.Vehicle.{Vehicle}
 use Rattle.card_model.specs.Days.{Day, total}
 use Rattle.card_model.specs.Changes.{with_newest, with_km}
-use Rattle.card_model.specs.Image.{StringShape, Holds, newest_pointer}
+use Rattle.card_model.specs.Image.{StringShape, HoldsDays, newest_pointer}
 use Rattle.gated_ring.specs.Ring.{Shape, IsNewest}
 use Rattle.card_days.specs.declared.head.Tail.{Tail}
 use Rattle.card_days.specs.Held.{Held, Knows, tail_in}
@@ -74,7 +74,7 @@ module _ (s : Session) (value : IsValue s) (t : Session) where
   none_part is state = part_none state (λ x was knows any. (
     record {
       outside = outside_same (day_string app).base (days_and_vehicles app) x;
-      holds = subst (λ (q : StringShape). Holds q x (Days x)) value.days knows.days.holds;
+      holds = subst (λ (q : StringShape). HoldsDays q x (Days x)) value.days knows.days.holds;
       points = knows.points;
       told = (refl, refl);
     },

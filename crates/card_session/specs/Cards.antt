@@ -7,7 +7,7 @@ use Rattle.card_layout.specs.Files.{place_of}
 use Rattle.tach_media.specs.Medium.{SameOutside, put}
 use Rattle.tacho_types.specs.declared.numbers.Odometer.{Odometer}
 use Rattle.card_model.specs.Days.{Day}
-use Rattle.card_model.specs.Image.{Holds}
+use Rattle.card_model.specs.Image.{HoldsDays}
 use Rattle.gated_ring.specs.Ring.{PointsInside, size_of as ring_size}
 use Rattle.card_image.specs.Fields.{file, day_string, vehicle_ring}
 use Rattle.card_image.specs.Judging.{IsValid}
@@ -24,7 +24,7 @@ days_and_vehicles app = 4 + (day_string app).size + ring_size (vehicle_ring app)
 -- index; and the days and the vehicle entries are so.
 pub record IsCard (app : Application) (P : List Day → Vehicles → Type 0) (x c : List ℕ) : Type 0 where
   pub outside : SameOutside (day_string app).base (days_and_vehicles app) x c
-  pub holds : Holds (day_string app) c (book_of app c).days
+  pub holds : HoldsDays (day_string app) c (book_of app c).days
   pub points : PointsInside (vehicle_ring app) c
   pub told : P (book_of app c).days (book_of app c).vehicles
 

@@ -12,8 +12,8 @@ use Rattle.card_image.specs.Fields.{card_days, end_mark}
 
 -- Between two calls of a session the days are those that the overwriting leaves of all that the entries brought, where the next entry
 -- is not earlier than a minute.
-abbrev pub GoesOn : Application → (slack : Bound) → (covered from : ℕ) → Counted → List ℕ → Type 0
-GoesOn app slack covered from c x = Lives app.activity slack covered from (end_mark app x) c (card_days app x)
+abbrev pub DaysFollowOverwriting : Application → (slack : Bound) → (covered from : ℕ) → Counted → List ℕ → Type 0
+DaysFollowOverwriting app slack covered from c x = Lives app.activity slack covered from (end_mark app x) c (card_days app x)
 
 -- And so they are once a repair has cut them to the end mark.
 abbrev pub IsRepairable : Application → (slack : Bound) → (covered from : ℕ) → Counted → List ℕ → Type 0

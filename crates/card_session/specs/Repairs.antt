@@ -10,7 +10,7 @@ use Rattle.card_retention.specs.Entries.{entries_up_to, closed_at}
 use Rattle.card_retention.specs.Retains.{entries_in}
 use Rattle.card_image.specs.Fields.{card_days, end_mark}
 use Rattle.card_session.specs.Inserting.{lacked}
-use Rattle.card_session.specs.Overwriting.{GoesOn, and_entry}
+use Rattle.card_session.specs.Overwriting.{DaysFollowOverwriting, and_entry}
 
 -- the minute of the first of some entries, or this one where there is none
 abbrev pub first_minute : (minute : ℕ) → List Entry → ℕ
@@ -55,7 +55,7 @@ ShowsFirst app slack covered next c owed x y = HasFirst app.activity slack cover
 
 -- or all of them, whatever is kept next
 abbrev pub ShowsOwed : Application → (slack : Bound) → (covered next : ℕ) → Counted → (owed : List Entry) → List ℕ → List ℕ → Type 0
-ShowsOwed app slack covered next c owed x y = GoesOn app (and_entries slack (lacked_by app x owed)) covered next (with_entries covered c (lacked_by app x owed)) y
+ShowsOwed app slack covered next c owed x y = DaysFollowOverwriting app (and_entries slack (lacked_by app x owed)) covered next (with_entries covered c (lacked_by app x owed)) y
 
 -- Days with an end mark show, behind the entries of before, the first of those that were lacked behind another, and the mark is that of
 -- the last of these.

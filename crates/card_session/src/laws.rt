@@ -19,7 +19,7 @@ ghost use Rattle.card_session.specs.Sessions.{Session, IsSession};
 ghost use Rattle.card_session.specs.Cards.{IsCardKept, IsCardKeeping, IsCardClosed, IsCardClosing, MayEnd};
 ghost use Rattle.card_session.specs.Inserting.{AreOwed, IsCardInserted, IsCardInserting};
 ghost use Rattle.card_session.specs.Repairs.{first_minute, mark_behind, newest_behind, BeginsLater, NewestSoFar, lacked_by, ShowsFirst, ShowsOwed, ShowsMore};
-ghost use Rattle.card_session.specs.Overwriting.{GoesOn, IsRepairable, ShowsEntries, TellsNoLater, BeginsBehind, and_entry};
+ghost use Rattle.card_session.specs.Overwriting.{DaysFollowOverwriting, IsRepairable, ShowsEntries, TellsNoLater, BeginsBehind, and_entry};
 
 /// The vehicle entries that stand in a card's ring are its list, the newest last.
 pub fn vehicles_are_the_list_of_their_ring()
@@ -50,20 +50,20 @@ pub fn a_withdrawal_ends_the_session()
 /// overwriting leaves them before this entry; or this entry's minute as the end mark, and the days of this entry too.
 pub fn a_keep_leaves_the_entries()
     ensures { (s : Session) (e : Entry) (odometer : ℕ) (x y : List ℕ) → IsApplication s.application → IsSession s x → s.minute < e.minute → BeginsBehind s.application e x →
-        (slack : Bound) (covered from : ℕ) (c : Counted) → 16 ≤ slack.bytes → from ≤ e.minute → GoesOn s.application slack covered from c x → IsCardKeeping s e odometer x y →
+        (slack : Bound) (covered from : ℕ) (c : Counted) → 16 ≤ slack.bytes → from ≤ e.minute → DaysFollowOverwriting s.application slack covered from c x → IsCardKeeping s e odometer x y →
         ((end_mark s.application y ≡ end_mark s.application x) × IsRepairable s.application slack covered e.minute c y)
-        ⊎ ((end_mark s.application y ≡ e.minute) × GoesOn s.application (and_entry slack e) covered (suc e.minute) (with_entry covered c e) y) }
+        ⊎ ((end_mark s.application y ≡ e.minute) × DaysFollowOverwriting s.application (and_entry slack e) covered (suc e.minute) (with_entry covered c e) y) }
 {}
 
 /// A stop in a withdrawal leaves the old end mark and, once a repair has cut them to it, the days of the entries; or the days with
 /// the closing word, and the end mark at it. So they are at its end.
 pub fn a_withdrawal_leaves_the_entries()
     ensures moments { (s : Session) (act : Activity) (x y : List ℕ) → IsApplication s.application → image_size_of s.application ≤ length x →
-        (slack : Bound) (covered from next : ℕ) (c : Counted) → 16 ≤ slack.bytes → from ≤ next → newest_minute (end_mark s.application x) (card_days s.application x) < next → GoesOn s.application slack covered from c x → IsCardClosing s act x y →
-        ((end_mark s.application y ≡ end_mark s.application x) × IsRepairable s.application slack covered next c y) ⊎ GoesOn s.application slack covered next c y }
+        (slack : Bound) (covered from next : ℕ) (c : Counted) → 16 ≤ slack.bytes → from ≤ next → newest_minute (end_mark s.application x) (card_days s.application x) < next → DaysFollowOverwriting s.application slack covered from c x → IsCardClosing s act x y →
+        ((end_mark s.application y ≡ end_mark s.application x) × IsRepairable s.application slack covered next c y) ⊎ DaysFollowOverwriting s.application slack covered next c y }
     ensures closed { (s : Session) (act : Activity) (x y : List ℕ) → IsApplication s.application → image_size_of s.application ≤ length x →
-        (slack : Bound) (covered from next : ℕ) (c : Counted) → 16 ≤ slack.bytes → from ≤ next → newest_minute (end_mark s.application x) (card_days s.application x) < next → GoesOn s.application slack covered from c x → IsCardClosed s act x y →
-        GoesOn s.application slack covered next c y }
+        (slack : Bound) (covered from next : ℕ) (c : Counted) → 16 ≤ slack.bytes → from ≤ next → newest_minute (end_mark s.application x) (card_days s.application x) < next → DaysFollowOverwriting s.application slack covered from c x → IsCardClosed s act x y →
+        DaysFollowOverwriting s.application slack covered next c y }
 {}
 
 /// As long as the end mark of a keep is the old one, a card shows the entries of before whose day is there, and no other.
@@ -124,10 +124,10 @@ pub fn a_stop_in_an_insertion_leaves_the_entries()
         ((session_time app y ≡ session_time app x) × ShowsFirst app slack covered next c owed x y) ⊎ ShowsOwed app slack covered next c owed x y }
     ensures rest { (app : Application) (now : ℕ) (owed : List Entry) (x y : List ℕ) → AreOwed now owed → (slack : Bound) (covered next : ℕ) (c : Counted) → (first : ShowsFirst app slack covered next c owed x y) → lacked_by app y owed ≡ first.rest }
     ensures shut { (app : Application) (registration : Registration) (odometer now : ℕ) (owed : List Entry) (x y : List ℕ) → IsApplication app → image_size_of app ≤ length x → length registration.0 ≡ 15 → session_time app x ≡ 0 → is_open (end_mark app x) (card_days app x) ≡ false →
-        (slack : Bound) (covered from : ℕ) (c : Counted) → GoesOn app slack covered from c x → IsCardInserting app registration odometer owed now x y → GoesOn app slack covered from c y }
+        (slack : Bound) (covered from : ℕ) (c : Counted) → DaysFollowOverwriting app slack covered from c x → IsCardInserting app registration odometer owed now x y → DaysFollowOverwriting app slack covered from c y }
     ensures unclosed { (app : Application) (registration : Registration) (odometer now : ℕ) (owed : List Entry) (x y : List ℕ) → IsApplication app → image_size_of app ≤ length x → length registration.0 ≡ 15 → session_time app x ≡ 0 →
-        (slack : Bound) (covered from next : ℕ) (c : Counted) → 16 ≤ slack.bytes → from ≤ next → newest_minute (end_mark app x) (card_days app x) < next → GoesOn app slack covered from c x → IsCardInserting app registration odometer owed now x y →
-        ((end_mark app y ≡ end_mark app x) × IsRepairable app slack covered next c y) ⊎ GoesOn app slack covered next c y }
+        (slack : Bound) (covered from next : ℕ) (c : Counted) → 16 ≤ slack.bytes → from ≤ next → newest_minute (end_mark app x) (card_days app x) < next → DaysFollowOverwriting app slack covered from c x → IsCardInserting app registration odometer owed now x y →
+        ((end_mark app y ≡ end_mark app x) × IsRepairable app slack covered next c y) ⊎ DaysFollowOverwriting app slack covered next c y }
 {}
 
 /// At its end all owed entries that the card lacked are on it.
@@ -136,10 +136,10 @@ pub fn an_insertion_leaves_the_entries()
         (slack : Bound) (covered from next : ℕ) (c : Counted) → 16 ≤ slack.bytes → IsRepairable app slack covered from c x → from ≤ first_minute next (lacked_by app x owed) → suc (mark_behind (end_mark app x) (lacked_by app x owed)) < next →
         BeginsLater (end_mark app x) (lacked_by app x owed) (trimmed (end_mark app x) (card_days app x)) → IsCardInserted app registration odometer owed now x y → ShowsOwed app slack covered next c owed x y }
     ensures shut { (app : Application) (registration : Registration) (odometer now : ℕ) (owed : List Entry) (x y : List ℕ) → IsApplication app → image_size_of app ≤ length x → length registration.0 ≡ 15 → session_time app x ≡ 0 → is_open (end_mark app x) (card_days app x) ≡ false →
-        (slack : Bound) (covered from : ℕ) (c : Counted) → GoesOn app slack covered from c x → IsCardInserted app registration odometer owed now x y → GoesOn app slack covered from c y }
+        (slack : Bound) (covered from : ℕ) (c : Counted) → DaysFollowOverwriting app slack covered from c x → IsCardInserted app registration odometer owed now x y → DaysFollowOverwriting app slack covered from c y }
     ensures unclosed { (app : Application) (registration : Registration) (odometer now : ℕ) (owed : List Entry) (x y : List ℕ) → IsApplication app → image_size_of app ≤ length x → length registration.0 ≡ 15 → session_time app x ≡ 0 →
-        (slack : Bound) (covered from next : ℕ) (c : Counted) → 16 ≤ slack.bytes → from ≤ next → newest_minute (end_mark app x) (card_days app x) < next → GoesOn app slack covered from c x → IsCardInserted app registration odometer owed now x y →
-        GoesOn app slack covered next c y }
+        (slack : Bound) (covered from next : ℕ) (c : Counted) → 16 ≤ slack.bytes → from ≤ next → newest_minute (end_mark app x) (card_days app x) < next → DaysFollowOverwriting app slack covered from c x → IsCardInserted app registration odometer owed now x y →
+        DaysFollowOverwriting app slack covered next c y }
 {}
 
 /// A stop in an insertion leaves a card valid that was, whatever its session time is then.

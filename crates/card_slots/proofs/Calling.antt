@@ -9,7 +9,7 @@ use Rattle.trace_model.specs.declared.Card.TheVariants.{A, B}
 use Rattle.card_slots.specs.declared.seats.Seat.{Seat}
 use Rattle.card_slots.specs.declared.seats.Ended.{Ended}
 use Rattle.card_slots.specs.Calls.{SlotCall, Put, Take, CutAt, EndMinute, Seats, Table, seat_in, with_seat, powerless, leaving, has_left, is_earlier, present_of, ending, after_call, no_call, table_of, ended_in, present_in, present_by}
-use Rattle.card_slots.specs.Kept.{Kept, left_in, with_left, nothing_yet, put_in, taken, cut_off, minute_ended, Holds, StandsFor}
+use Rattle.card_slots.specs.Kept.{Kept, left_in, with_left, nothing_yet, put_in, taken, cut_off, minute_ended, SlotsAre, SlotsRemember}
 use Rattle.card_slots.proofs.Leaving.{leaves, later}
 
 -- one call more is one step more
@@ -18,14 +18,14 @@ unfolding table_of
 table_of-more calls call = fold-append after_call no_call calls (call ∷ [])
 
 -- a step that keeps what is kept standing
-stands-more : (kept : Kept) (calls : List SlotCall) (call : SlotCall) → Holds kept (after_call (table_of calls) call) → StandsFor kept (calls ++ call ∷ [])
+stands-more : (kept : Kept) (calls : List SlotCall) (call : SlotCall) → SlotsAre kept (after_call (table_of calls) call) → SlotsRemember kept (calls ++ call ∷ [])
 stands-more kept calls call holds = record { holds = rw table_of-more holds }
 
 -- the same value stands for the same calls
-pub by-value : (now same : Kept) (calls : List SlotCall) → StandsFor same calls → now ≡ same → StandsFor now calls
+pub by-value : (now same : Kept) (calls : List SlotCall) → SlotsRemember same calls → now ≡ same → SlotsRemember now calls
 by-value now same calls h is = rw is h
 
-pub new-stands : StandsFor nothing_yet []
+pub new-stands : SlotsRemember nothing_yet []
 unfolding table_of
 new-stands = record {
   holds = record {
@@ -45,7 +45,7 @@ new-stands = record {
     none-most B m is = cc
 
 pub put-stands : (kept : Kept) (calls : List SlotCall) (slot : Slot) (card : Card) (newest : Option ℕ) →
-    StandsFor kept calls → StandsFor (put_in slot card newest kept) (calls ++ Put slot card newest ∷ [])
+    SlotsRemember kept calls → SlotsRemember (put_in slot card newest kept) (calls ++ Put slot card newest ∷ [])
 put-stands kept calls slot card newest h =
     stands-more (put_in slot card newest kept) calls (Put slot card newest) (record {
       minute = h.holds.minute;
@@ -55,7 +55,7 @@ put-stands kept calls slot card newest h =
     })
 
 pub take-stands : (kept : Kept) (calls : List SlotCall) (slot : Slot) (second : ℕ) → kept.minute ≤ second / 60 →
-    StandsFor kept calls → StandsFor (taken slot second kept) (calls ++ Take slot second ∷ [])
+    SlotsRemember kept calls → SlotsRemember (taken slot second kept) (calls ++ Take slot second ∷ [])
 take-stands kept calls slot second from h =
     stands-more (taken slot second kept) calls (Take slot second) (record {
       minute = refl;
@@ -65,7 +65,7 @@ take-stands kept calls slot second from h =
     })
 
 pub cut-stands : (kept : Kept) (calls : List SlotCall) (second : ℕ) → kept.minute ≤ second / 60 →
-    StandsFor kept calls → StandsFor (cut_off second kept) (calls ++ CutAt second ∷ [])
+    SlotsRemember kept calls → SlotsRemember (cut_off second kept) (calls ++ CutAt second ∷ [])
 cut-stands kept calls second from h =
     let q : ℕ = second / 60 in
     let all : List (Card × ℕ) = (table_of calls).left in
@@ -89,7 +89,7 @@ ending-same left other m same seats =
     ∙ ap (λ (c : Option Card). record { minute = m; present = record { driver = present_of other m seats.driver; codriver = c } }) (present_of-same left other m same seats.codriver)
 
 pub end-stands : (kept : Kept) (calls : List SlotCall) (m : ℕ) → kept.minute ≤ m →
-    StandsFor kept calls → StandsFor (minute_ended m kept) (calls ++ EndMinute m ∷ [])
+    SlotsRemember kept calls → SlotsRemember (minute_ended m kept) (calls ++ EndMinute m ∷ [])
 end-stands kept calls m from h =
     let table : Table = table_of calls in
     let same = ending-same (left_in kept.left) (has_left table.left) m (λ card. h.holds.left.same card m from) kept.seats in
@@ -114,7 +114,7 @@ find-front {X} p (suc n) (y ∷ xs) x is = go (p y) is (find-front p n xs x)
     go false is rest = rest is
 
 pub present-stands : (kept : Kept) (calls : List SlotCall) (m : ℕ) → is_some (present_in kept.past m) ≡ true →
-    StandsFor kept calls → present_in kept.past m ≡ present_by calls m
+    SlotsRemember kept calls → present_in kept.past m ≡ present_by calls m
 present-stands kept calls m there h = go (ended_in kept.past m) refl there
   where
     go : (o : Option Ended) → ended_in kept.past m ≡ o → is_some (option_map {T = Ended} (λ e. e.present) o) ≡ true →

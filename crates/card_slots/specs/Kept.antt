@@ -83,15 +83,15 @@ pub record TellsLeft (minute : ℕ) (left : Lefts) (all : List (Card × ℕ)) : 
   pub most : (card : Card) (m : ℕ) → left_in left card m ≡ true → m ≤ minute
 
 -- this stands for what the calls leave
-pub record Holds (kept : Kept) (table : Table) : Type 0 where
+pub record SlotsAre (kept : Kept) (table : Table) : Type 0 where
   pub minute : kept.minute ≡ table.minute
   pub seats : kept.seats ≡ table.seats
   pub left : TellsLeft kept.minute kept.left table.left
   pub past : kept.past ≡ take 4 table.ended
 
 -- this stands for these calls so far
-pub record StandsFor (kept : Kept) (calls : List SlotCall) : Type 0 where
-  pub holds : Holds kept (table_of calls)
+pub record SlotsRemember (kept : Kept) (calls : List SlotCall) : Type 0 where
+  pub holds : SlotsAre kept (table_of calls)
 
 -- the minute in which a card last left a slot or lost power
 abbrev pub left_of : Lefts → Card → Option ℕ

@@ -5,7 +5,7 @@ ghost use Rattle.activity_codec.specs.declared.values.Pick.{Pick};
 ghost use Rattle.trace_model.specs.declared.Action.TheVariants.{Insert, Withdraw, Tear, Place, Manual};
 ghost use Rattle.log_model.specs.Slots.{refusal, other_slot};
 ghost use Rattle.card_slots.specs.Calls.{SlotCall, Put, Take, CutAt, EndMinute, seat_in, with_seat, card_in, is_card, has_accepted, powerless, logged, ending, ended_in, present_in, present_by};
-ghost use Rattle.card_slots.specs.Kept.{Kept, StandsFor, KnowsNewest, SitStill, IsFree, left_in, with_left, put_in, taken, cut_off, minute_ended, nothing_yet};
+ghost use Rattle.card_slots.specs.Kept.{Kept, SlotsRemember, KnowsNewest, SitStill, IsFree, left_in, with_left, put_in, taken, cut_off, minute_ended, nothing_yet};
 
 use crate::seats::{Ended, Lefts, Present, Seat, is_same};
 use activity_codec::Slot;
@@ -43,7 +43,7 @@ impl Model for Slots {
 impl Slots {
     /// Both slots are empty.
     pub fn new() -> Self
-        ensures stands { StandsFor result [] }
+        ensures stands { SlotsRemember result [] }
         ensures kept { result ≡ nothing_yet }
         ensures newest { KnowsNewest result }
     {
@@ -133,7 +133,7 @@ impl Slots {
     /// is judged, and once more when it is accepted.
     pub fn put(&mut self, slot: Slot, card: Card, newest_minute: Option<u32>)
         requires free { IsFree self.old.seats slot card }
-        ensures stands { (calls : List SlotCall) → StandsFor self.old calls → StandsFor self.new (calls ++ Put slot card newest_minute ∷ []) }
+        ensures stands { (calls : List SlotCall) → SlotsRemember self.old calls → SlotsRemember self.new (calls ++ Put slot card newest_minute ∷ []) }
         ensures kept { self.new ≡ put_in slot card newest_minute self.old }
         ensures newest { KnowsNewest self.old → KnowsNewest self.new }
     {
@@ -150,7 +150,7 @@ impl Slots {
     pub fn take(&mut self, slot: Slot, second: u32)
         requires card { is_some (seat_in self.old.seats slot) ≡ true }
         requires minute { self.old.minute ≤ second / 60 }
-        ensures stands { (calls : List SlotCall) → StandsFor self.old calls → StandsFor self.new (calls ++ Take slot second ∷ []) }
+        ensures stands { (calls : List SlotCall) → SlotsRemember self.old calls → SlotsRemember self.new (calls ++ Take slot second ∷ []) }
         ensures kept { self.new ≡ taken slot second self.old }
         ensures newest { KnowsNewest self.old → KnowsNewest self.new }
     {
@@ -163,7 +163,7 @@ impl Slots {
     /// The second's minute has not ended, and is not earlier than that of a second given before.
     pub fn cut(&mut self, second: u32)
         requires minute { self.old.minute ≤ second / 60 }
-        ensures stands { (calls : List SlotCall) → StandsFor self.old calls → StandsFor self.new (calls ++ CutAt second ∷ []) }
+        ensures stands { (calls : List SlotCall) → SlotsRemember self.old calls → SlotsRemember self.new (calls ++ CutAt second ∷ []) }
         ensures kept { self.new ≡ cut_off second self.old }
         ensures newest { KnowsNewest self.old → KnowsNewest self.new }
     {
@@ -180,7 +180,7 @@ impl Slots {
     /// It is later than the last one that ended, and not earlier than that of a second given before.
     pub fn end_minute(&mut self, minute: u32)
         requires minute { self.old.minute ≤ minute }
-        ensures stands { (calls : List SlotCall) → StandsFor self.old calls → StandsFor self.new (calls ++ EndMinute minute ∷ []) }
+        ensures stands { (calls : List SlotCall) → SlotsRemember self.old calls → SlotsRemember self.new (calls ++ EndMinute minute ∷ []) }
         ensures kept { self.new ≡ minute_ended minute self.old }
         ensures newest { KnowsNewest self.old → KnowsNewest self.new }
     {
@@ -191,7 +191,7 @@ impl Slots {
     /// sits in its slot still, and told an earlier minute as its newest one at its acceptance.
     pub fn present(&self, minute: u32) -> Present
         requires ended { is_some (present_in self.now.past minute) ≡ true }
-        ensures present { (calls : List SlotCall) → StandsFor self.now calls → Some result ≡ present_by calls minute }
+        ensures present { (calls : List SlotCall) → SlotsRemember self.now calls → Some result ≡ present_by calls minute }
         ensures kept { Some result ≡ present_in self.now.past minute }
         ensures newest { KnowsNewest self.now → SitStill self.now minute result }
     {

@@ -44,7 +44,7 @@ use Rattle.card_session.proofs.Replaying.{with_are, with_before}
 use Rattle.card_session.proofs.Repairing.{lacked_many, owed_at, mark_beside, closed_still}
 use Rattle.card_session.proofs.Renewing.{repair_newest}
 use Rattle.card_session.proofs.Revalid.{low_told}
-use Rattle.card_string.specs.Carried.{Goes, Broke, BrokeOf}
+use Rattle.card_string.specs.Carried.{StringFollowsEntries, Broke, BrokeOf}
 use Rattle.card_string.specs.Inserts.{MayReplayOf, MayReplay, ReplaysOf, IsReplayShown, IsAllShown, IsInsertionShown, IsStillShown}
 use Rattle.card_string.proofs.Replayed.{GoesIn, Starts, broke_later, begun_later, broke_same, begun_same, none_there, start_all, start_moments, up_to, mark_least}
 use Rattle.card_string.proofs.Moved.{goes_moved, goes_broke}
@@ -143,7 +143,7 @@ module _ (size : ℕ) (long : 5544 ≤ size) (registration : Registration) (odom
 
 module _ (app : Application) (slack : Bound) (covered from : ℕ) (c : Counted) (all : List Entry) where
   module _ (y : List ℕ) (b : Book) (is : book_of app y ≡ b) where
-    goes_told : GoesIn app.activity slack covered from c all b → Goes app slack covered from c all y × (newest_word (card_days app y) ≤ end_mark app y)
+    goes_told : GoesIn app.activity slack covered from c all b → StringFollowsEntries app slack covered from c all y × (newest_word (card_days app y) ≤ end_mark app y)
     unfolding book_of
     goes_told g =
         let there : GoesIn app.activity slack covered from c all (book_of app y) = subst (GoesIn app.activity slack covered from c all) (sym is) g in (
@@ -208,7 +208,7 @@ module _ (app : Application) (sound : IsApplication app) (x : List ℕ) (fits : 
   First y = (session_time app y ≡ session_time app x) × ReplaysOf app.activity slack covered next (mark_of (book_of app x)) c all lacks (end_mark app y) (card_days app y)
 
   abbrev GoesAll : List ℕ → Type 0
-  GoesAll y = Goes app (and_entries slack lacks) covered next (with_entries covered c lacks) (all ++ lacks) y
+  GoesAll y = StringFollowsEntries app (and_entries slack lacks) covered next (with_entries covered c lacks) (all ++ lacks) y
 
   -- all of them are there, and no word is behind the end mark
   pub record All_on (y : List ℕ) : Type 0 where
@@ -407,7 +407,7 @@ module _ (app : Application) (sound : IsApplication app) (x : List ℕ) (fits : 
 -- ---- a card without a session, whose words are closed
 
 module _ (app : Application) (sound : IsApplication app) (x : List ℕ) (fits : image_size_of app ≤ length x) (registration : Registration) (long : length registration.0 ≡ 15) (now : ℕ)
-    (slack : Bound) (covered from : ℕ) (c : Counted) (all : List Entry) (goes : Goes app slack covered from c all x) (shut : is_open (end_mark app x) (card_days app x) ≡ false) where
+    (slack : Bound) (covered from : ℕ) (c : Counted) (all : List Entry) (goes : StringFollowsEntries app slack covered from c all x) (shut : is_open (end_mark app x) (card_days app x) ≡ false) where
   same_told : (y : List ℕ) → book_of app y ≡ book_of app x → (card_days app y ≡ card_days app x) × (end_mark app y ≡ end_mark app x)
   unfolding book_of
   same_told y is = (ap (λ (k : Book). k.days) is, ap (λ (k : Book). mark_of k) is)

@@ -24,14 +24,14 @@ use Rattle.card_session.specs.Moments.{IsBeforeMark}
 use Rattle.card_session.specs.Parts.{IsBeforeGapOf}
 use Rattle.card_session.specs.Sessions.{Session, IsSession, book_of}
 use Rattle.card_session.specs.Cards.{IsCardKeeping, grown}
-use Rattle.card_session.specs.Overwriting.{GoesOn, IsRepairable, ShowsEntries, BeginsBehind, and_entry}
+use Rattle.card_session.specs.Overwriting.{DaysFollowOverwriting, IsRepairable, ShowsEntries, BeginsBehind, and_entry}
 use Rattle.card_session.proofs.Marks.{session_same, mark_told}
 use Rattle.card_session.proofs.Preparing.{used_at}
 use Rattle.card_session.proofs.Stopping.{asked_at, days_there, book_days, mark_at, before_use, keep_leaves, keep_shows}
 use Rattle.card_session.proofs.Committed.{keep_commits, keep_silent}
 use Rattle.card_session.proofs.NewestStays.{newest_before, newest_after}
 use Rattle.card_string.proofs.Begun.{Stopping as Begins, was_newest, stops, begun_lives, begun_shows}
-use Rattle.card_string.specs.Carried.{Goes, BrokeOf, BegunOf, IsFresh}
+use Rattle.card_string.specs.Carried.{StringFollowsEntries, BrokeOf, BegunOf, IsFresh}
 use Rattle.card_string.specs.Shows.{IsStopped, IsDone, IsKeepShown}
 
 -- no entry is behind the new mark
@@ -62,7 +62,7 @@ unfolding card_view
 view_newest app x = refl
 
 module _ (s : Session) (e : Entry) (odometer : ℕ) (x y : List ℕ) (slack : Bound) (covered from : ℕ) (c : Counted) (all : List Entry) (sound : IsApplication s.application) (later : from ≤ e.minute) (late : s.minute < e.minute) (least : 16 ≤ slack.bytes) (knows : IsSession s x)
-    (g : Goes s.application slack covered from c all x) (keeping : IsCardKeeping s e odometer x y) where
+    (g : StringFollowsEntries s.application slack covered from c all x) (keeping : IsCardKeeping s e odometer x y) where
   abbrev app : Application
   app = s.application
 
@@ -91,7 +91,7 @@ module _ (s : Session) (e : Entry) (odometer : ℕ) (x y : List ℕ) (slack : Bo
     }
 
   -- the end mark has moved, the days go on, and the entry is shown
-  done : end_mark app y ≡ e.minute → GoesOn app (and_entry slack e) covered (suc e.minute) (with_entry covered c e) y → ShowsEntries app (all ++ e ∷ []) y → IsDone app slack covered c all e x y
+  done : end_mark app y ≡ e.minute → DaysFollowOverwriting app (and_entry slack e) covered (suc e.minute) (with_entry covered c e) y → ShowsEntries app (all ++ e ∷ []) y → IsDone app slack covered c all e x y
   done at lives lists = record {
     mark = at;
     goes = record {

@@ -11,11 +11,11 @@ use Rattle.card_retention.proofs.ListTrims.{entries_trimmed, lists_trimmed}
 use Rattle.card_retention.proofs.Stops.{stop_none}
 use Rattle.card_image.specs.Fields.{card_days, end_mark}
 use Rattle.card_session.specs.Overwriting.{IsSilentBehind}
-use Rattle.card_string.specs.Carried.{Goes, Broke}
+use Rattle.card_string.specs.Carried.{StringFollowsEntries, Broke}
 
 module _ (app : Application) (slack : Bound) (covered from : ℕ) (c : Counted) (all : List Entry) where
   -- the days and the end mark stay
-  pub goes_moved : (y z : List ℕ) → card_days app z ≡ card_days app y → end_mark app z ≡ end_mark app y → Goes app slack covered from c all y → Goes app slack covered from c all z
+  pub goes_moved : (y z : List ℕ) → card_days app z ≡ card_days app y → end_mark app z ≡ end_mark app y → StringFollowsEntries app slack covered from c all y → StringFollowsEntries app slack covered from c all z
   goes_moved y z days mark g = record {
     lives = subst (λ (ds : List Day). Lives app.activity slack covered from (end_mark app z) c ds) (sym days) (subst (λ (n : ℕ). Lives app.activity slack covered from n c (card_days app y)) (sym mark) g.lives);
     until = subst (λ (n : ℕ). AllUpTo n all) (sym mark) g.until;
@@ -25,7 +25,7 @@ module _ (app : Application) (slack : Bound) (covered from : ℕ) (c : Counted) 
   }
 
   -- where it is broken off
-  pub goes_broke : IsApplication app → 16 ≤ slack.bytes → (to : ℕ) (y : List ℕ) → from ≤ to → Goes app slack covered from c all y → Broke app slack covered to c all y
+  pub goes_broke : IsApplication app → 16 ≤ slack.bytes → (to : ℕ) (y : List ℕ) → from ≤ to → StringFollowsEntries app slack covered from c all y → Broke app slack covered to c all y
   goes_broke sound least to y later g = record {
     rests = stop_none app.activity slack covered from (end_mark app y) c (card_days app y) g.lives to later sound.string_least least;
     until = g.until;

@@ -19,7 +19,7 @@ use Rattle.card_session.specs.Moments.{IsBeforeMark}
 use Rattle.card_session.specs.Parts.{IsBeforeGapOf}
 use Rattle.card_session.specs.Sessions.{Session, IsSession, book_of}
 use Rattle.card_session.specs.Cards.{IsCardKeeping, grown}
-use Rattle.card_session.specs.Overwriting.{GoesOn, ShowsEntries, and_entry}
+use Rattle.card_session.specs.Overwriting.{DaysFollowOverwriting, ShowsEntries, and_entry}
 use Rattle.card_session.proofs.Marks.{session_same, mark_told}
 use Rattle.card_session.proofs.Preparing.{used_at}
 use Rattle.card_session.proofs.Stopping.{asked_at, days_there, book_days, mark_at, before_use}
@@ -81,7 +81,7 @@ module _ (s : Session) (e : Entry) (odometer : ℕ) (x y : List ℕ) (slack : Bo
         newest = ap (λ (n : ℕ). max (card_view app x).word n) (view_newest app y ∙ newest ∙ at ∙ sym was ∙ sym (view_newest app x));
       }
 
-  done : end_mark app y ≡ e.minute → GoesOn app (and_entry slack e) covered (suc e.minute) (with_entry covered c e) y → ShowsEntries app (all ++ e ∷ []) y → IsDone app slack covered c all e x y
+  done : end_mark app y ≡ e.minute → DaysFollowOverwriting app (and_entry slack e) covered (suc e.minute) (with_entry covered c e) y → ShowsEntries app (all ++ e ∷ []) y → IsDone app slack covered c all e x y
   done at lives lists = record {
     mark = at;
     goes = record {

@@ -23,7 +23,7 @@ use Rattle.card_session.proofs.Committed.{silent_end, close_shows}
 use Rattle.card_session.proofs.Valid.{closing_newest}
 use Rattle.card_session.proofs.NewestStays.{open_low, closed_open}
 use Rattle.card_session.proofs.Preparing.{open_date}
-use Rattle.card_string.specs.Carried.{Goes, Broke}
+use Rattle.card_string.specs.Carried.{StringFollowsEntries, Broke}
 use Rattle.card_string.specs.Closes.{IsClosedShown}
 
 -- the minute after the end mark, on the newest day, lies on the mark's day
@@ -37,7 +37,7 @@ up_more mark m [] le up = tt
 up_more mark m (e ∷ all) le up = (omega (arith, le, up.0), up_more mark m all le up.1)
 
 module _ (app : Application) (sound : IsApplication app) (x : List ℕ) (ordered : AreDays 0 (book_of app x).days) (may : IsOpenBook (book_of app x)) (act : Activity) (slack : Bound) (covered from next : ℕ) (c : Counted) (all : List Entry) (least : 16 ≤ slack.bytes) (later : from ≤ next)
-    (late : newest_minute (end_mark app x) (card_days app x) < next) (g : Goes app slack covered from c all x) where
+    (late : newest_minute (end_mark app x) (card_days app x) < next) (g : StringFollowsEntries app slack covered from c all x) where
   -- with the old end mark
   module _ (y : List ℕ) (card : IsCard app (IsCloseMoment app.activity act (book_of app x)) x y) where
     these : AreDays 0 (card_days app y)
@@ -94,7 +94,7 @@ module _ (app : Application) (sound : IsApplication app) (x : List ℕ) (ordered
         subst (λ (m : ℕ). is_open m (card_days app y) ≡ false → IsSilentBehind m (card_days app y)) (sym (at_shut is))
         (subst (λ (ds : List Day). is_open (end_mark app x) ds ≡ false → IsSilentBehind (end_mark app x) ds) (sym (days_shut is)) g.silent)
 
-    pub close_goes : ShowsEntries app all y → Goes app slack covered next c all y
+    pub close_goes : ShowsEntries app all y → StringFollowsEntries app slack covered next c all y
     close_goes shown = record {
       lives = closed_leaves app sound x slack covered from c least g.lives act next y later late are book;
       until = up_more (end_mark app x) (end_mark app y) all (low (is_open (mark_of (book_of app x)) (book_of app x).days) refl) g.until;

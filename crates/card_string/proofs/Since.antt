@@ -20,7 +20,7 @@ use Rattle.card_session.specs.Overwriting.{BeginsBehind, and_entry}
 use Rattle.card_session.specs.Repairs.{first_minute, mark_behind, and_entries, with_entries, newest_behind, BeginsLater}
 use Rattle.card_session.proofs.Marks.{mark_told}
 use Rattle.card_session.proofs.Stopping.{book_days}
-use Rattle.card_string.specs.Carried.{Goes, Broke, BrokeOf, Begun, BegunOf, IsFresh}
+use Rattle.card_string.specs.Carried.{StringFollowsEntries, Broke, BrokeOf, Begun, BegunOf, IsFresh}
 use Rattle.card_string.specs.Shows.{IsStopped, IsDone, IsKeepShown}
 use Rattle.card_string.specs.Closes.{IsClosedShown, IsCloseShown}
 use Rattle.card_string.specs.Inserts.{IsOnDay, MayReplay, IsReplayShown}
@@ -35,12 +35,12 @@ use Rattle.card_string.proofs.Lists.{all_more, bound_more, counted_more, up_back
 -- ---- with some entries more
 
 module _ (app : Application) (image : List ℕ) (more es : List Entry) (from : ℕ) (y : List ℕ) where
-  pub goes_more : Goes app (and_entries (bound_since image more) es) (own_covered image) from (with_entries (own_covered image) (counted_since image more) es) (all_since image more ++ es) y
-      → Goes app (bound_since image (more ++ es)) (own_covered image) from (counted_since image (more ++ es)) (all_since image (more ++ es)) y
+  pub goes_more : StringFollowsEntries app (and_entries (bound_since image more) es) (own_covered image) from (with_entries (own_covered image) (counted_since image more) es) (all_since image more ++ es) y
+      → StringFollowsEntries app (bound_since image (more ++ es)) (own_covered image) from (counted_since image (more ++ es)) (all_since image (more ++ es)) y
   goes_more g =
-      subst (λ (b : Bound). Goes app b (own_covered image) from (counted_since image (more ++ es)) (all_since image (more ++ es)) y) (bound_more image more es)
-      (subst (λ (c : Counted). Goes app (and_entries (bound_since image more) es) (own_covered image) from c (all_since image (more ++ es)) y) (counted_more image more es)
-      (subst (λ (l : List Entry). Goes app (and_entries (bound_since image more) es) (own_covered image) from (with_entries (own_covered image) (counted_since image more) es) l y) (all_more image more es) g))
+      subst (λ (b : Bound). StringFollowsEntries app b (own_covered image) from (counted_since image (more ++ es)) (all_since image (more ++ es)) y) (bound_more image more es)
+      (subst (λ (c : Counted). StringFollowsEntries app (and_entries (bound_since image more) es) (own_covered image) from c (all_since image (more ++ es)) y) (counted_more image more es)
+      (subst (λ (l : List Entry). StringFollowsEntries app (and_entries (bound_since image more) es) (own_covered image) from (with_entries (own_covered image) (counted_since image more) es) l y) (all_more image more es) g))
 
   pub broke_more : Broke app (and_entries (bound_since image more) es) (own_covered image) from (with_entries (own_covered image) (counted_since image more) es) (all_since image more ++ es) y
       → Broke app (bound_since image (more ++ es)) (own_covered image) from (counted_since image (more ++ es)) (all_since image (more ++ es)) y
@@ -265,7 +265,7 @@ module _ (app : Application) (image : List ℕ) (more rest : List Entry) (next :
   }
 
   module _ (newest : ℕ) (same : newest / 1440 ≡ end_mark app x / 1440) where
-    pub all_goes : end_mark app y ≡ newest_behind newest rest → Goes app (and_entries (bound_since image more) rest) (own_covered image) next (with_entries (own_covered image) (counted_since image more) rest) (all_since image more ++ rest) y
+    pub all_goes : end_mark app y ≡ newest_behind newest rest → StringFollowsEntries app (and_entries (bound_since image more) rest) (own_covered image) next (with_entries (own_covered image) (counted_since image more) rest) (all_since image more ++ rest) y
         → GoesSince app image (more ++ rest) next y
     all_goes at goes = record {
       from = next;
@@ -275,7 +275,7 @@ module _ (app : Application) (image : List ℕ) (more rest : List Entry) (next :
           (parted_made app image more rest (more ++ rest) y parted rest [] (sym (append-nil rest)) (up_back (end_mark app y) (all_since image more) rest goes.until) tt) tied;
     }
 
-    pub all_holds : end_mark app y ≡ newest_behind newest rest → Goes app (and_entries (bound_since image more) rest) (own_covered image) next (with_entries (own_covered image) (counted_since image more) rest) (all_since image more ++ rest) y
+    pub all_holds : end_mark app y ≡ newest_behind newest rest → StringFollowsEntries app (and_entries (bound_since image more) rest) (own_covered image) next (with_entries (own_covered image) (counted_since image more) rest) (all_since image more ++ rest) y
         → HoldsSince app image (more ++ rest) next y
     all_holds at goes = record {
       more = more ++ rest;

@@ -18,7 +18,7 @@ use Rattle.card_retention.proofs.Retaining.{covers_from, same_entries, is_day_ow
 use Rattle.card_retention.proofs.Stops.{stop_none}
 use Rattle.card_image.specs.Fields.{card_days, end_mark, session_time}
 use Rattle.card_image.specs.View.{card_view, counting}
-use Rattle.card_string.specs.Carried.{Goes, Broke, BegunOf, Begun, IsStated}
+use Rattle.card_string.specs.Carried.{StringFollowsEntries, Broke, BegunOf, Begun, IsStated}
 
 in_later : (oldest : ℕ) (first all : List Entry) (days : List WordDay) → AllIn oldest (first ++ all) days → AllIn oldest all days
 in_later oldest [] all days in_ = in_
@@ -142,7 +142,7 @@ module _ (app : Application) (slack : Bound) (covered from marked : ℕ) (c : Co
       subst (λ (ds : List Day). Counts n ds) (sym (counting_open (session_time app x) (end_mark app x) (card_days app x) begun))
       (stated app.activity marked slack covered from (end_mark app x) c first all is (entries_up_to (end_mark app x) (card_days app x)) n le (trimmed (end_mark app x) (card_days app x)) b.rests b.lists)
 
-  goes_counts : IsApplication app → 16 ≤ slack.bytes → slack.all ≡ first ++ all → Goes app slack covered from c all x → (n : ℕ) → from ≤ n → (o : Bool) → Counts n (cond o (card_days app x) (trimmed (end_mark app x) (card_days app x)))
+  goes_counts : IsApplication app → 16 ≤ slack.bytes → slack.all ≡ first ++ all → StringFollowsEntries app slack covered from c all x → (n : ℕ) → from ≤ n → (o : Bool) → Counts n (cond o (card_days app x) (trimmed (end_mark app x) (card_days app x)))
   goes_counts sound least is g n le true =
       stated app.activity marked slack covered from (end_mark app x) c first all is (entries_up_to (end_mark app x) (card_days app x)) n le (card_days app x) g.lives.rests g.lists
   goes_counts sound least is g n le false =
@@ -150,7 +150,7 @@ module _ (app : Application) (slack : Bound) (covered from marked : ℕ) (c : Co
       (stop_none app.activity slack covered from (end_mark app x) c (card_days app x) g.lives from (omega arith) sound.string_least least)
       (sym (entries_trimmed (end_mark app x) 0 (card_days app x) g.lives.rests.ordered) ∙ lists_trimmed (end_mark app x) all (card_days app x) g.lives.rests.ordered g.until g.lists)
 
-  pub goes_stated : IsApplication app → 16 ≤ slack.bytes → slack.all ≡ first ++ all → Goes app slack covered from c all x → (n : ℕ) → from ≤ n → IsStated app slack covered marked c first all n x
+  pub goes_stated : IsApplication app → 16 ≤ slack.bytes → slack.all ≡ first ++ all → StringFollowsEntries app slack covered from c all x → (n : ℕ) → from ≤ n → IsStated app slack covered marked c first all n x
   unfolding card_view
   goes_stated sound least is g n le = goes_counts sound least is g n le (nat_eq (session_time app x) 0)
 

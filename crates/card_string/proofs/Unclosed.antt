@@ -45,7 +45,7 @@ use Rattle.card_session.proofs.Renewing.{x_may, closed_answered}
 use Rattle.card_session.proofs.Repairing.{mark_beside}
 use Rattle.card_session.proofs.Stopping.{book_days, mark_at, closing_absent, lives_later}
 use Rattle.card_session.proofs.Valid.{flat_of}
-use Rattle.card_string.specs.Carried.{Goes}
+use Rattle.card_string.specs.Carried.{StringFollowsEntries}
 use Rattle.card_string.proofs.Moved.{goes_moved}
 use Rattle.card_string.proofs.Shutting.{close_done}
 
@@ -169,7 +169,7 @@ module _ (size : ℕ) (long : 5544 ≤ size) (act : Activity) (mark : ℕ) (days
 -- ---- on a card
 
 module _ (app : Application) (sound : IsApplication app) (x : List ℕ) (ordered : AreDays 0 (book_of app x).days) (act : Activity) (slack : Bound) (covered from next : ℕ) (c : Counted) (all : List Entry) (least : 16 ≤ slack.bytes) (later : from ≤ next)
-    (late : newest_minute (end_mark app x) (card_days app x) < next) (g : Goes app slack covered from c all x) where
+    (late : newest_minute (end_mark app x) (card_days app x) < next) (g : StringFollowsEntries app slack covered from c all x) where
   open_late : is_open (end_mark app x) (card_days app x) ≡ true → suc (end_mark app x) < next
   open_late is = by (is_open (end_mark app x) (card_days app x)) is late
     where
@@ -212,7 +212,7 @@ module _ (app : Application) (sound : IsApplication app) (x : List ℕ) (ordered
   written_told y moment = moment
 
   pub close_stays : (y : List ℕ) → IsCard app (IsCloseMoment app.activity act (book_of app x)) x y → (book_of app y).vehicles ≡ (book_of app x).vehicles → IsClosingWord app.activity act (book_of app x) (book_of app y).days
-      → Goes app slack covered next c all y × (end_mark app y ≡ end_mark app x)
+      → StringFollowsEntries app slack covered next c all y × (end_mark app y ≡ end_mark app x)
   close_stays y card vehicle moment =
       let at : end_mark app y ≡ end_mark app x = mark_at app (book_of app x) y vehicle ∙ sym (mark_told app x) in
       let are : AreDays 0 (card_days app y) = subst (λ (ds : List Day). AreDays 0 ds) (book_days app y) card.holds.ordered in
@@ -228,11 +228,11 @@ module _ (app : Application) (sound : IsApplication app) (x : List ℕ) (ordered
 
 -- ---- AN INSERTION of a card without a session, whatever its latest word is
 
-pub goes_later : (app : Application) (slack : Bound) (covered from next : ℕ) (c : Counted) (all : List Entry) (x : List ℕ) → from ≤ next → Goes app slack covered from c all x → Goes app slack covered next c all x
+pub goes_later : (app : Application) (slack : Bound) (covered from next : ℕ) (c : Counted) (all : List Entry) (x : List ℕ) → from ≤ next → StringFollowsEntries app slack covered from c all x → StringFollowsEntries app slack covered next c all x
 goes_later app slack covered from next c all x le g = record { lives = lives_later app.activity slack covered from next (end_mark app x) c (card_days app x) le g.lives; until = g.until; lists = g.lists; silent = g.silent }
 
 module _ (app : Application) (sound : IsApplication app) (x : List ℕ) (fits : image_size_of app ≤ length x) (registration : Registration) (long : length registration.0 ≡ 15) (now : ℕ) (valid : IsValid app x) (none : session_time app x ≡ 0)
-    (slack : Bound) (covered from next : ℕ) (c : Counted) (all : List Entry) (least : 16 ≤ slack.bytes) (later : from ≤ next) (late : newest_minute (end_mark app x) (card_days app x) < next) (g : Goes app slack covered from c all x) where
+    (slack : Bound) (covered from next : ℕ) (c : Counted) (all : List Entry) (least : 16 ≤ slack.bytes) (later : from ≤ next) (late : newest_minute (end_mark app x) (card_days app x) < next) (g : StringFollowsEntries app slack covered from c all x) where
   same_told : (y : List ℕ) → book_of app y ≡ book_of app x → (card_days app y ≡ card_days app x) × (end_mark app y ≡ end_mark app x)
   unfolding book_of
   same_told y is = (ap (λ (k : Book). k.days) is, ap (λ (k : Book). mark_of k) is)
@@ -247,7 +247,7 @@ module _ (app : Application) (sound : IsApplication app) (x : List ℕ) (fits : 
     y_mark : end_mark app y ≡ end_mark app x
     y_mark = (same_told y y_is).1
 
-    y_goes : Goes app slack covered from c all y
+    y_goes : StringFollowsEntries app slack covered from c all y
     y_goes = goes_moved app slack covered from c all x y y_days y_mark g
 
     y_may : IsOpenBook (book_of app y)
@@ -256,7 +256,7 @@ module _ (app : Application) (sound : IsApplication app) (x : List ℕ) (fits : 
     y_late : newest_minute (end_mark app y) (card_days app y) < next
     y_late = subst (λ (ds : List Day). newest_minute (end_mark app y) ds < next) (sym y_days) (subst (λ (m : ℕ). newest_minute m (card_days app x) < next) (sym y_mark) late)
 
-    shutting_goes : (z : List ℕ) → IsShutting app y z → Goes app slack covered next c all z × (end_mark app z / 1440 ≡ end_mark app x / 1440)
+    shutting_goes : (z : List ℕ) → IsShutting app y z → StringFollowsEntries app slack covered next c all z × (end_mark app z / 1440 ≡ end_mark app x / 1440)
     shutting_goes z card = ⊎_elim
         (λ old. let stays = close_stays app sound y still.holds.ordered Rest slack covered from next c all least later y_late y_goes z card old.0 old.1 in (stays.0, ap (λ (m : ℕ). m / 1440) (stays.1 ∙ y_mark)))
         (λ book.
@@ -264,7 +264,7 @@ module _ (app : Application) (sound : IsApplication app) (x : List ℕ) (fits : 
         close_done app sound y still.holds.ordered y_may Rest slack covered from next c all least later y_late y_goes z card.holds.ordered book (close_shows app sound y still.holds.ordered all y_goes.until y_goes.lists Rest z card) in
         (done.goes, done.day ∙ ap (λ (m : ℕ). m / 1440) y_mark)) card.told
 
-    use_goes : (z w : List ℕ) → IsShut app y z → Same app z w → Goes app slack covered next c all w × (end_mark app w / 1440 ≡ end_mark app x / 1440)
+    use_goes : (z w : List ℕ) → IsShut app y z → Same app z w → StringFollowsEntries app slack covered next c all w × (end_mark app w / 1440 ≡ end_mark app x / 1440)
     use_goes z w card side =
         let first = shutting_goes z (record { outside = card.outside; holds = card.holds; points = card.points; told = inr card.told }) in
         let days : card_days app w ≡ card_days app z = days_same app z w side.0 in
@@ -274,7 +274,7 @@ module _ (app : Application) (sound : IsApplication app) (x : List ℕ) (fits : 
     room_left : (z : List ℕ) → IsShut app y z → place_of app (file 0x0507) + 19 ≤ length z
     room_left z card = omega (arith, use_inside app, fits, still.outside.same_length, card.outside.same_length)
 
-  pub unclosed_shown : (y : List ℕ) → InsertingClosed app registration now x y → Goes app slack covered next c all y × (end_mark app y / 1440 ≡ end_mark app x / 1440)
+  pub unclosed_shown : (y : List ℕ) → InsertingClosed app registration now x y → StringFollowsEntries app slack covered next c all y × (end_mark app y / 1440 ≡ end_mark app x / 1440)
   unclosed_shown y (inl still) = (goes_later app slack covered from next c all y later (y_goes y still), ap (λ (m : ℕ). m / 1440) (y_mark y still))
   unclosed_shown y (inr (x1, still, inl shutting)) = shutting_goes x1 still y shutting
   unclosed_shown y (inr (x1, still, inr (x2, shut, opening))) = use_goes x1 still x2 y shut (opening_same app registration now long x2 y (room_left x1 still x2 shut) opening)

@@ -16,13 +16,13 @@ use Rattle.card_session.specs.Cards.{IsCard, IsCardClosing, IsCardClosed, ended}
 use Rattle.card_session.proofs.Marks.{session_same, mark_told}
 use Rattle.card_session.proofs.Stopping.{days_there, mark_at, ended_days, ended_mark}
 use Rattle.card_session.proofs.Committed.{close_shows}
-use Rattle.card_string.specs.Carried.{Goes}
+use Rattle.card_string.specs.Carried.{StringFollowsEntries}
 use Rattle.card_string.proofs.Moved.{goes_moved}
 use Rattle.card_string.specs.Closes.{IsClosedShown, IsCloseShown}
 use Rattle.card_string.proofs.Shutting.{close_broke, close_done}
 
 module _ (s : Session) (act : Activity) (x : List ℕ) (slack : Bound) (covered from next : ℕ) (c : Counted) (all : List Entry) (sound : IsApplication s.application) (later : from ≤ next) (late : newest_minute (end_mark s.application x) (card_days s.application x) < next)
-    (least : 16 ≤ slack.bytes) (knows : IsSession s x) (g : Goes s.application slack covered from c all x) where
+    (least : 16 ≤ slack.bytes) (knows : IsSession s x) (g : StringFollowsEntries s.application slack covered from c all x) where
   abbrev app : Application
   app = s.application
 

@@ -11,12 +11,12 @@ use Rattle.card_retention.specs.Shown.{Bound, AllBefore, AllUpTo, AllIn, Rests, 
 use Rattle.card_image.specs.Fields.{card_days, end_mark}
 use Rattle.card_image.specs.View.{card_view}
 use Rattle.card_session.specs.Books.{bare_word}
-use Rattle.card_session.specs.Overwriting.{GoesOn, ShowsEntries, TellsNoLater}
+use Rattle.card_session.specs.Overwriting.{DaysFollowOverwriting, ShowsEntries, TellsNoLater}
 
 -- In a session: of all entries so far the card shows those whose days it has, and keeps the rule of overwriting where the next one is
 -- not earlier than `from`; behind the end mark no minute tells one, but where the closing word is still to come.
-pub record Goes (app : Application) (slack : Bound) (covered from : ℕ) (c : Counted) (all : List Entry) (x : List ℕ) : Type 0 where
-  pub lives : GoesOn app slack covered from c x
+pub record StringFollowsEntries (app : Application) (slack : Bound) (covered from : ℕ) (c : Counted) (all : List Entry) (x : List ℕ) : Type 0 where
+  pub lives : DaysFollowOverwriting app slack covered from c x
   pub until : AllUpTo (end_mark app x) all
   pub lists : ShowsEntries app all x
   pub silent : TellsNoLater app x

@@ -5,11 +5,11 @@ use Rattle.card_layout.specs.declared.files.Application.{Application}
 use Rattle.card_retention.specs.Expected.{Counted}
 use Rattle.card_retention.specs.Shown.{Bound, is_open}
 use Rattle.card_image.specs.Fields.{card_days, end_mark, session_time}
-use Rattle.card_string.specs.Carried.{Goes, Broke}
+use Rattle.card_string.specs.Carried.{StringFollowsEntries, Broke}
 
 -- The last entry is closed: the days go on where the next entry is not earlier than `next`, and the end mark lies on its day still.
 pub record IsClosedShown (app : Application) (slack : Bound) (covered next : ℕ) (c : Counted) (all : List Entry) (x y : List ℕ) : Type 0 where
-  pub goes : Goes app slack covered next c all y
+  pub goes : StringFollowsEntries app slack covered next c all y
   pub day : end_mark app y / 1440 ≡ end_mark app x / 1440
   pub shut : is_open (end_mark app y) (card_days app y) ≡ false
 

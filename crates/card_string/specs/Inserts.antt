@@ -10,7 +10,7 @@ use Rattle.card_retention.specs.Retains.{entries_in, begun_on}
 use Rattle.card_image.specs.Fields.{card_days, end_mark, session_time}
 use Rattle.card_image.specs.View.{card_view}
 use Rattle.card_session.specs.Repairs.{first_minute, mark_behind, newest_behind, and_entries, with_entries, BeginsLater}
-use Rattle.card_string.specs.Carried.{Goes, BrokeOf, BegunOf}
+use Rattle.card_string.specs.Carried.{StringFollowsEntries, BrokeOf, BegunOf}
 
 -- the first of some entries lies on the day of an end mark
 abbrev pub IsOnDay : (mark : ℕ) → List Entry → Type 0
@@ -47,7 +47,7 @@ pub record IsReplayShown (app : Application) (slack : Bound) (covered next : ℕ
 -- ALL OF THEM ARE THERE: the days go on with them, the end mark is the newest minute behind the last of them, with its closing word, and
 -- no word stands behind it.
 pub record IsAllShown (app : Application) (slack : Bound) (covered next : ℕ) (c : Counted) (all es : List Entry) (x y : List ℕ) : Type 0 where
-  pub goes : Goes app (and_entries slack es) covered next (with_entries covered c es) (all ++ es) y
+  pub goes : StringFollowsEntries app (and_entries slack es) covered next (with_entries covered c es) (all ++ es) y
   pub mark : end_mark app y ≡ newest_behind (card_view app x).newest es
   pub word : (card_view app y).word ≤ end_mark app y
   pub shut : is_open (end_mark app y) (card_days app y) ≡ false
@@ -61,4 +61,4 @@ IsInsertionShown app slack covered next c all es x y =
 pub record IsStillShown (app : Application) (slack : Bound) (covered from : ℕ) (c : Counted) (all : List Entry) (x y : List ℕ) : Type 0 where
   pub days : card_days app y ≡ card_days app x
   pub mark : end_mark app y ≡ end_mark app x
-  pub goes : Goes app slack covered from c all y
+  pub goes : StringFollowsEntries app slack covered from c all y

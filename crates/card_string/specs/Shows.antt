@@ -8,7 +8,7 @@ use Rattle.card_retention.specs.Shown.{Bound}
 use Rattle.card_image.specs.Fields.{end_mark, session_time}
 use Rattle.card_image.specs.View.{card_view}
 use Rattle.card_session.specs.Overwriting.{BeginsBehind, and_entry}
-use Rattle.card_string.specs.Carried.{Goes, Broke, Begun}
+use Rattle.card_string.specs.Carried.{StringFollowsEntries, Broke, Begun}
 
 module _ (app : Application) (slack : Bound) (covered : ℕ) (c : Counted) (all : List Entry) (e : Entry) (x y : List ℕ) where
   -- The end mark is the old one: what a repair leaves keeps the rule, where the entry comes next, or its day is begun, which is the
@@ -22,7 +22,7 @@ module _ (app : Application) (slack : Bound) (covered : ℕ) (c : Counted) (all 
   -- day of each later entry, where it is new, is later than the end mark's.
   pub record IsDone : Type 0 where
     pub mark : end_mark app y ≡ e.minute
-    pub goes : Goes app (and_entry slack e) covered (suc e.minute) (with_entry covered c e) (all ++ e ∷ []) y
+    pub goes : StringFollowsEntries app (and_entry slack e) covered (suc e.minute) (with_entry covered c e) (all ++ e ∷ []) y
     pub newest : (card_view app y).newest ≡ closed_at (Some e)
     pub clear : (f : Entry) → e.minute < f.minute → BeginsBehind app f y
 

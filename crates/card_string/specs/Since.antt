@@ -11,7 +11,7 @@ use Rattle.card_image.specs.Fields.{end_mark, session_time}
 use Rattle.card_image.specs.Own.{own_view, own_covered, counted_view}
 use Rattle.card_session.specs.Inserting.{Follow}
 use Rattle.card_session.specs.Repairs.{first_minute}
-use Rattle.card_string.specs.Carried.{Goes, Broke, Begun}
+use Rattle.card_string.specs.Carried.{StringFollowsEntries, Broke, Begun}
 use Rattle.card_string.specs.Deeds.{IsMade}
 use Rattle.card_string.specs.Inserts.{IsOnDay}
 
@@ -53,7 +53,7 @@ pub record IsTied (app : Application) (image : List ℕ) (more all : List Entry)
 pub record GoesSince (app : Application) (image : List ℕ) (more : List Entry) (next : ℕ) (x : List ℕ) : Type 0 where
   pub from : ℕ
   pub later : from ≤ next
-  pub goes : Goes app (bound_since image more) (own_covered image) from (counted_since image more) (all_since image more) x
+  pub goes : StringFollowsEntries app (bound_since image more) (own_covered image) from (counted_since image more) (all_since image more) x
   pub tied : IsTied app image more more x
 
 -- A session was broken off, and these are the next entries.

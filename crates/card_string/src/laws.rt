@@ -19,7 +19,7 @@ ghost use Rattle.card_session.specs.Cards.{IsCardKept, IsCardKeeping, IsCardClos
 ghost use Rattle.card_session.specs.Inserting.{AreOwed, Follow, IsCardInserted, IsCardInserting};
 ghost use Rattle.card_session.specs.Repairs.{first_minute, newest_behind, lacked_by};
 ghost use Rattle.card_session.specs.Overwriting.{BeginsBehind};
-ghost use Rattle.card_string.specs.Carried.{Goes, Broke, Begun, IsFresh, IsStated};
+ghost use Rattle.card_string.specs.Carried.{StringFollowsEntries, Broke, Begun, IsFresh, IsStated};
 ghost use Rattle.card_string.specs.Shows.{IsKeepShown};
 ghost use Rattle.card_string.specs.Closes.{IsClosedShown, IsCloseShown};
 ghost use Rattle.card_string.specs.Since.{all_since, counted_since, GoesSince, HoldsSince};
@@ -32,7 +32,7 @@ pub fn a_keep_is_shown()
     ensures { (s : Session) (e : Entry) (odometer : ℕ) (x y : List ℕ) (slack : Bound) (covered from : ℕ) (c : Counted)
         (all : List Entry) →
         IsApplication s.application → from ≤ e.minute → s.minute < e.minute → 16 ≤ slack.bytes → IsSession s x →
-        Goes s.application slack covered from c all x → BeginsBehind s.application e x ⊎ IsFresh s.application c all x → IsCardKeeping s e odometer x y →
+        StringFollowsEntries s.application slack covered from c all x → BeginsBehind s.application e x ⊎ IsFresh s.application c all x → IsCardKeeping s e odometer x y →
         IsKeepShown s.application slack covered c all e x y }
 {}
 
@@ -53,10 +53,10 @@ pub fn a_begun_day_is_kept()
 pub fn a_withdrawal_is_shown()
     ensures moments { (s : Session) (act : Activity) (x y : List ℕ) (slack : Bound) (covered from next : ℕ) (c : Counted) (all : List Entry) →
         IsApplication s.application → image_size_of s.application ≤ length x → from ≤ next → newest_minute (end_mark s.application x) (card_days s.application x) < next → 16 ≤ slack.bytes → IsSession s x →
-        Goes s.application slack covered from c all x → IsCardClosing s act x y → IsCloseShown s.application slack covered next c all x y }
+        StringFollowsEntries s.application slack covered from c all x → IsCardClosing s act x y → IsCloseShown s.application slack covered next c all x y }
     ensures closed { (s : Session) (act : Activity) (x y : List ℕ) (slack : Bound) (covered from next : ℕ) (c : Counted) (all : List Entry) →
         IsApplication s.application → image_size_of s.application ≤ length x → from ≤ next → newest_minute (end_mark s.application x) (card_days s.application x) < next → 16 ≤ slack.bytes → IsSession s x →
-        Goes s.application slack covered from c all x → IsCardClosed s act x y → IsClosedShown s.application slack covered next c all x y }
+        StringFollowsEntries s.application slack covered from c all x → IsCardClosed s act x y → IsClosedShown s.application slack covered next c all x y }
 {}
 
 /// An insertion of a card whose session was left open: at each moment the session is the same and the first of the entries that it lacked
@@ -72,17 +72,17 @@ pub fn an_insertion_is_shown()
     ensures rest { (app : Application) (now : ℕ) (owed : List Entry) (x y : List ℕ) → AreOwed now owed → (slack : Bound) (covered next : ℕ) (c : Counted) (all : List Entry) →
         (shown : IsReplayShown app slack covered next c all (lacked_by app x owed) x y) → lacked_by app y owed ≡ shown.first.rest }
     ensures shut { (app : Application) (registration : Registration) (odometer now : ℕ) (owed : List Entry) (x y : List ℕ) → IsApplication app → image_size_of app ≤ length x → length registration.0 ≡ 15 → session_time app x ≡ 0 → is_open (end_mark app x) (card_days app x) ≡ false →
-        (slack : Bound) (covered from : ℕ) (c : Counted) (all : List Entry) → Goes app slack covered from c all x → IsCardInserting app registration odometer owed now x y → IsStillShown app slack covered from c all x y }
+        (slack : Bound) (covered from : ℕ) (c : Counted) (all : List Entry) → StringFollowsEntries app slack covered from c all x → IsCardInserting app registration odometer owed now x y → IsStillShown app slack covered from c all x y }
     ensures unclosed { (app : Application) (registration : Registration) (odometer now : ℕ) (owed : List Entry) (x y : List ℕ) → IsApplication app → image_size_of app ≤ length x → length registration.0 ≡ 15 → IsValid app x → session_time app x ≡ 0 →
-        (slack : Bound) (covered from next : ℕ) (c : Counted) (all : List Entry) → 16 ≤ slack.bytes → from ≤ next → newest_minute (end_mark app x) (card_days app x) < next → Goes app slack covered from c all x → IsCardInserting app registration odometer owed now x y →
-        Goes app slack covered next c all y × (end_mark app y / 1440 ≡ end_mark app x / 1440) }
+        (slack : Bound) (covered from next : ℕ) (c : Counted) (all : List Entry) → 16 ≤ slack.bytes → from ≤ next → newest_minute (end_mark app x) (card_days app x) < next → StringFollowsEntries app slack covered from c all x → IsCardInserting app registration odometer owed now x y →
+        StringFollowsEntries app slack covered next c all y × (end_mark app y / 1440 ≡ end_mark app x / 1440) }
 {}
 
 /// What is carried of a string gives what is stated of it, where the next entry is not earlier than it may come, in a session and where
 /// one was broken off.
 pub fn what_is_carried_is_stated()
     ensures goes { (app : Application) (slack : Bound) (covered from marked : ℕ) (c : Counted) (first all : List Entry) (x : List ℕ) →
-        IsApplication app → 16 ≤ slack.bytes → slack.all ≡ first ++ all → Goes app slack covered from c all x →
+        IsApplication app → 16 ≤ slack.bytes → slack.all ≡ first ++ all → StringFollowsEntries app slack covered from c all x →
         (n : ℕ) → from ≤ n → IsStated app slack covered marked c first all n x }
     ensures broke { (app : Application) (slack : Bound) (covered from marked : ℕ) (c : Counted) (first all : List Entry) (x : List ℕ) →
         0 < session_time app x → slack.all ≡ first ++ all → Broke app slack covered from c all x →

@@ -7,7 +7,7 @@ use Rattle.card_layout.specs.declared.files.Fid.{Fid}
 use Rattle.card_layout.specs.Application.{IsApplication, place_of_field}
 use Rattle.card_layout.specs.Files.{image_size_of}
 use Rattle.gated_ring.specs.Ring.{Shape, pointer, PointsInside}
-use Rattle.card_model.specs.Image.{StringShape, Holds, oldest_pointer}
+use Rattle.card_model.specs.Image.{StringShape, HoldsDays, oldest_pointer}
 use Rattle.card_model.specs.Walk.{days_of}
 use Rattle.card_model.specs.Checks.{first_bad, first_failing}
 use Rattle.card_model.proofs.Judging.{holds_passes}
@@ -45,8 +45,8 @@ module _ (app : Application) (good : IsApplication app) (x : List ℕ) (inside :
   abbrev words : Option ℕ
   words = first_failing (word_checks app.activity (oldest_pointer (day_string app) x) (end_mark app x) (session_time app x) (card_days app x))
 
-  holds : Holds (day_string app) x (days_of (day_string app) x)
-  holds = subst (λ (r : StringShape). Holds r x (days_of (day_string app) x)) shape k.holds
+  holds : HoldsDays (day_string app) x (days_of (day_string app) x)
+  holds = subst (λ (r : StringShape). HoldsDays r x (days_of (day_string app) x)) shape k.holds
 
   pub in_memory : length x < 2 ^ 32 → IsInMemory (day_string app) x
   in_memory short = record { shape = string_shape app good; inside = omega (arith, string_inside app, inside); short = short; holds = holds }

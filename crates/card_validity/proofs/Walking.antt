@@ -3,7 +3,7 @@ use Rattle.std.proofs.Common.{◌≡◌, ℕ, ◌+◌, ◌*◌, ◌<◌, ◌≤�
 use Rattle.std.specs.Prelude.{slice_get}
 use Rattle.std.proofs.lemmas.List.{append-nil}
 use Rattle.card_model.specs.Days.{Day, len_of, total}
-use Rattle.card_model.specs.Image.{StringShape, oldest_pointer, spot, Holds, IsAt}
+use Rattle.card_model.specs.Image.{StringShape, oldest_pointer, spot, HoldsDays, IsAt}
 use Rattle.card_model.specs.Walk.{days_of}
 use Rattle.card_model.proofs.Lists.{total-append}
 use Rattle.card_model.proofs.Reading.{fills}
@@ -21,11 +21,11 @@ pub record IsNextMet (r : StringShape) (x : List ℕ) (older later : List Day) (
   pub rest : List Day
   pub later_is : later ≡ day ∷ rest
   pub head : m.head ≡ day_head (spot r.size (oldest_pointer r x) (total older)) day
-  pub holds : Holds r x (older ++ day ∷ rest)
+  pub holds : HoldsDays r x (older ++ day ∷ rest)
   pub met : IsMet r x older day m
 
 module _ (r : StringShape) (x : List ℕ) (known : IsInMemory r x) where
-  here_met : (older : List Day) (d : Day) (ds : List Day) (m : Met) → Holds r x (older ++ d ∷ ds) → m.so_far ≡ total older → m.head ≡ day_head (spot r.size (oldest_pointer r x) (total older)) d → IsMet r x older d m
+  here_met : (older : List Day) (d : Day) (ds : List Day) (m : Met) → HoldsDays r x (older ++ d ∷ ds) → m.so_far ≡ total older → m.head ≡ day_head (spot r.size (oldest_pointer r x) (total older)) d → IsMet r x older d m
   here_met older d ds m h so_far is =
       let at : IsAt r x (spot r.size (oldest_pointer r x) (total older)) d = day_here r known.shape x known.inside older d ds h in
       let place : m.head.place ≡ spot r.size (oldest_pointer r x) (total older) = ap (λ (h : DayHead). h.place) is in
@@ -44,7 +44,7 @@ module _ (r : StringShape) (x : List ℕ) (known : IsInMemory r x) where
   next_met older (d ∷ ds) m o are so_far next is =
       let both : Some (day_head (spot r.size (oldest_pointer r x) (total older)) d) ≡ Some m.head = sym next ∙ is in
       let head : m.head ≡ day_head (spot r.size (oldest_pointer r x) (total older)) d = cc in
-      let h : Holds r x (older ++ d ∷ ds) = subst (λ (l : List Day). Holds r x l) are known.holds in
+      let h : HoldsDays r x (older ++ d ∷ ds) = subst (λ (l : List Day). HoldsDays r x l) are known.holds in
       record { day = d; rest = ds; later_is = refl; head = head; holds = h; met = here_met older d ds m h so_far head }
 
   module _ (older later : List Day) (m : Met) (n : IsNextMet r x older later m) where

@@ -1,7 +1,7 @@
 -- A card's days in memory, and what a walk over them has met.
 use Rattle.std.specs.Prelude.{◌≡◌, ℕ, ◌+◌, ◌<◌, ◌≤◌, ◌^◌, List, [], ◌∷◌, ◌++◌, length, Option, Some, None}
 use Rattle.card_model.specs.Days.{Day, total}
-use Rattle.card_model.specs.Image.{StringShape, IsStringShape, Holds, IsAt}
+use Rattle.card_model.specs.Image.{StringShape, IsStringShape, HoldsDays, IsAt}
 use Rattle.card_model.specs.Walk.{days_of}
 use Rattle.card_layout.specs.declared.files.TheConstants.{STRING_MOST}
 use Rattle.card_validity.specs.declared.walk.Met.{Met}
@@ -11,7 +11,7 @@ pub record IsInMemory (r : StringShape) (x : List ℕ) : Type 0 where
   pub shape : IsStringShape r
   pub inside : r.base + (4 + r.size) ≤ length x
   pub short : length x < 2 ^ 32
-  pub holds : Holds r x (days_of r x)
+  pub holds : HoldsDays r x (days_of r x)
 
 -- a day that was met: its head, and how many bytes the days before it have
 pub record IsMet (r : StringShape) (x : List ℕ) (older : List Day) (d : Day) (m : Met) : Type 0 where

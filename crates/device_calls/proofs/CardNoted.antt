@@ -27,7 +27,7 @@ use Rattle.card_image.proofs.Beside.{days_same, session_same, last_use_same, vie
 use Rattle.card_session.proofs.OnCard.{ring_shape}
 use Rattle.history_model.specs.Book.{Book}
 use Rattle.device_rule.specs.Device.{LeavesViews, Nothing}
-use Rattle.device_rule.specs.Rules.{Standing, Out, In, Torn, Stands}
+use Rattle.device_rule.specs.Rules.{Standing, Out, In, Torn, MeetsStanding}
 use Rattle.device_rule.proofs.CardLaws.{look-dark}
 use Rattle.device_rule.proofs.EnterLaws.{tear-card}
 use Rattle.device_rule.proofs.Viewed.{seen-run, seen-coherent}
@@ -189,7 +189,7 @@ module _ (r : Both) (c : Card) (b : Book) (app : Application) (sound : IsApplica
     pub noted-rests : (z : Standing) → CardRests r c b z U X → CardRests r c b z U Y
     noted-rests z rests = look-dark c (opened r c).start AnyString {U = unit_seen r U} {X = card_seen X} {Y = card_seen Y} (opened r c).began b z nothing rests
 
-    stands : (z : Standing) (d : List Entry) → IsNotIn z ⊎ (Y.works ≡ true) → (opened r c).began ≤ X.clock → Stands c (opened r c).start (opened r c).began z d (unit_seen r U) (card_seen X) → Stands c (opened r c).start (opened r c).began z d (unit_seen r U) (card_seen Y)
+    stands : (z : Standing) (d : List Entry) → IsNotIn z ⊎ (Y.works ≡ true) → (opened r c).began ≤ X.clock → MeetsStanding c (opened r c).start (opened r c).began z d (unit_seen r U) (card_seen X) → MeetsStanding c (opened r c).start (opened r c).began z d (unit_seen r U) (card_seen Y)
     stands Out d works le so = tt
     stands (In session newest) d (inl never) le so = absurd never
     stands (In session newest) d (inr works) le so = (works, λ w on. so.1 w (was_since (opened r c).began w le on), λ u w here on. so.2 u w here (was w on))

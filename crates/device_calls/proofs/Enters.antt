@@ -43,7 +43,7 @@ use Rattle.device_rule.proofs.EnterLaws.{insert-card, insert-entered, close-card
 use Rattle.device_rule.proofs.OwedView.{owed-seen}
 use Rattle.device_rule.proofs.Viewed.{seen-run}
 use Rattle.unit_rule.specs.Rule.{Started}
-use Rattle.unit_rule.specs.Marks.{Holds}
+use Rattle.unit_rule.specs.Marks.{UnitFollowsBook}
 use Rattle.unit_rule.proofs.Moves.{shown-last}
 use Rattle.unit_rule.proofs.Marking.{holds-read}
 use Rattle.device_calls.specs.declared.entering.Entered.{Entered}
@@ -92,7 +92,7 @@ row-shown r A u = refl
 row-shown r B u = refl
 
 module _ (r : Both) (c : Card) (s : Started) (due : ℕ) (b : Book) (marks : List Mark) {V X Y : State} (app : Application) (sound : IsApplication app) (registration : Registration) (long : length registration.0 ≡ 15) (odometer now : ℕ) (few : now < 2 ^ 32)
-    (h : Holds s due b marks V) (none : b.maybe ≡ None) (late : due ≤ now / 60) (unit : IsCoherent V) (lit : V.works ≡ true) (u : List ℕ) (told : V.image ≡ Some u) (whole : IsCoherent X) (works : X.works ≡ true) (x : List ℕ) (is : X.image ≡ Some x)
+    (h : UnitFollowsBook s due b marks V) (none : b.maybe ≡ None) (late : due ≤ now / 60) (unit : IsCoherent V) (lit : V.works ≡ true) (u : List ℕ) (told : V.image ≡ Some u) (whole : IsCoherent X) (works : X.works ≡ true) (x : List ℕ) (is : X.image ≡ Some x)
     (fits : image_size_of app ≤ length x) (asked : IsAsked r c app x) (valid : IsValid app x) (are : AreOwed now (owed_on app u x))
     (rule : CardHolds r c b Out [] [] V X) (run : LeavesOnly X Y (λ x c. IsCardInserting app registration odometer (owed_on app u x) now x c)) where
   old-view : own_view x ≡ card_view app x
@@ -187,7 +187,7 @@ module _ (r : Both) (c : Card) (s : Started) (due : ℕ) (b : Book) (marks : Lis
 -- ---- an insertion, by its answer
 
 module _ (r : Both) (c : Card) (s : Started) (due : ℕ) (b : Book) (marks : List Mark) {U V X Y : State} (app : Application) (sound : IsApplication app) (registration : Registration) (long : length registration.0 ≡ 15) (odometer now : ℕ) (few : now < 2 ^ 32)
-    (h : Holds s due b marks U) (none : b.maybe ≡ None) (late : due ≤ now / 60) (unit : IsCoherent U) (unit_after : IsCoherent V) (whole : IsCoherent X) (fits : image_size_of app ≤ X.size) (tells : is_some U.image ≡ true) (tells_card : is_some X.image ≡ true)
+    (h : UnitFollowsBook s due b marks U) (none : b.maybe ≡ None) (late : due ≤ now / 60) (unit : IsCoherent U) (unit_after : IsCoherent V) (whole : IsCoherent X) (fits : image_size_of app ≤ X.size) (tells : is_some U.image ≡ true) (tells_card : is_some X.image ≡ true)
     (asked : IfSome X.image (IsAsked r c app)) (rule : CardHolds r c b Out [] [] U X) (answer : Result Entered NotEntered) (enters : IsEntering app registration odometer now U V X Y answer) where
   some-image : (o : Option (List ℕ)) → is_some o ≡ true → (x : List ℕ) × (o ≡ Some x)
   some-image (Some x) is = (x, refl)
@@ -196,7 +196,7 @@ module _ (r : Both) (c : Card) (s : Started) (due : ℕ) (b : Book) (marks : Lis
       empty : false ≡ true → ⊥
       empty e = cc
 
-  pub entering-holds : Holds s due b marks V
+  pub entering-holds : UnitFollowsBook s due b marks V
   entering-holds = holds-read s due b marks h unit enters.unit.leaves
 
   read : CardHolds r c b Out [] [] V X
@@ -231,7 +231,7 @@ module _ (r : Both) (c : Card) (s : Started) (due : ℕ) (b : Book) (marks : Lis
 
 -- where the card is accepted
 module _ (r : Both) (c : Card) (s : Started) (due : ℕ) (b : Book) (marks : List Mark) {U V X Y : State} (app : Application) (sound : IsApplication app) (registration : Registration) (long : length registration.0 ≡ 15) (odometer now : ℕ) (few : now < 2 ^ 32)
-    (h : Holds s due b marks U) (none : b.maybe ≡ None) (late : due ≤ now / 60) (unit : IsCoherent U) (unit_after : IsCoherent V) (whole : IsCoherent X) (after : IsCoherent Y) (fits : image_size_of app ≤ X.size) (tells : is_some U.image ≡ true) (tells_card : is_some X.image ≡ true)
+    (h : UnitFollowsBook s due b marks U) (none : b.maybe ≡ None) (late : due ≤ now / 60) (unit : IsCoherent U) (unit_after : IsCoherent V) (whole : IsCoherent X) (after : IsCoherent Y) (fits : image_size_of app ≤ X.size) (tells : is_some U.image ≡ true) (tells_card : is_some X.image ≡ true)
     (asked : IfSome X.image (IsAsked r c app)) (rule : CardHolds r c b Out [] [] U X) (e : Entered) (enters : IsEntering app registration odometer now U V X Y (Ok e)) where
   some_image : (o : Option (List ℕ)) → is_some o ≡ true → (x : List ℕ) × (o ≡ Some x)
   some_image (Some x) is = (x, refl)
@@ -262,7 +262,7 @@ module _ (r : Both) (c : Card) (s : Started) (due : ℕ) (b : Book) (marks : Lis
 
 -- of its answer
 pub entered-answer : (r : Both) (c : Card) (s : Started) (due : ℕ) (b : Book) (marks : List Mark) {U V X Y : State} (app : Application) (sound : IsApplication app) (registration : Registration) (long : length registration.0 ≡ 15) (odometer now : ℕ) (few : now < 2 ^ 32)
-    (h : Holds s due b marks U) (none : b.maybe ≡ None) (late : due ≤ now / 60) (unit : IsCoherent U) (unit_after : IsCoherent V) (whole : IsCoherent X) (after : IsCoherent Y) (fits : image_size_of app ≤ X.size) (tells : is_some U.image ≡ true) (tells_card : is_some X.image ≡ true)
+    (h : UnitFollowsBook s due b marks U) (none : b.maybe ≡ None) (late : due ≤ now / 60) (unit : IsCoherent U) (unit_after : IsCoherent V) (whole : IsCoherent X) (after : IsCoherent Y) (fits : image_size_of app ≤ X.size) (tells : is_some U.image ≡ true) (tells_card : is_some X.image ≡ true)
     (asked : IfSome X.image (IsAsked r c app)) (rule : CardHolds r c b Out [] [] U X) (answer : Result Entered NotEntered) (enters : IsEntering app registration odometer now U V X Y answer)
     → IfOk answer (λ e. IsEntered (opened r c).start (opened r c).began now e.session.minute (card_seen Y))
 entered-answer r c s due b marks app sound registration long odometer now few h none late unit unit_after whole after fits tells tells_card asked rule (Ok e) enters =
@@ -317,7 +317,7 @@ module _ (t : Session) (act : Activity) (x : List ℕ) (sound : IsApplication t.
       }))
 
 -- what is asked of a card that is taken out
-pub take-out : (r : Both) (c : Card) (s : Started) (due : ℕ) (b : Book) (marks : List Mark) {U X Y : State} (t : Session) (act : Activity) (time newest : ℕ) → IsApplication t.application → IsCoherent U → is_some U.image ≡ true → Holds s due b marks U → b.maybe ≡ None → IsCoherent X
+pub take-out : (r : Both) (c : Card) (s : Started) (due : ℕ) (b : Book) (marks : List Mark) {U X Y : State} (t : Session) (act : Activity) (time newest : ℕ) → IsApplication t.application → IsCoherent U → is_some U.image ≡ true → UnitFollowsBook s due b marks U → b.maybe ≡ None → IsCoherent X
     → image_size_of t.application ≤ X.size → IfSome X.image (λ x. (own_sizes x ≡ t.application) × IsSession t x) → LeavesOnly X Y (λ x y. IsSession t x → IsCardClosing t act x y) → CardHolds r c b (In time newest) [] [] U X → CardHolds r c b Out [] [] U Y
 take-out r c s due b marks {U} {X} {Y} t act time newest sound unit tells h none whole room known run rule =
     close-card c (opened r c).start AnyString (opened r c).began b AnyStep any-goes {U = unit_seen r U} {X = card_seen X} {Y = card_seen Y} time newest (left U.image refl tells).0 (left U.image refl tells).1 none

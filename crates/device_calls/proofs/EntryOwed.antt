@@ -11,7 +11,7 @@ use Rattle.tach_media.proofs.Runs.{at_image, weaken}
 use Rattle.gated_ring.specs.Ring.{PointsInside}
 use Rattle.unit_model.specs.Image.{day_ring}
 use Rattle.unit_owed.specs.Owed.{Row, row_view}
-use Rattle.unit_owed.specs.Rows.{IsPutting as IsPuttingRow, IsPut as IsPutRow, HasRow, IsRowAt}
+use Rattle.unit_owed.specs.Rows.{IsPutting as IsPuttingRow, OwedRowHas as IsPutRow, HasRow, IsRowAt}
 use Rattle.unit_minutes.specs.declared.notes.Notes.{Notes}
 use Rattle.unit_minutes.specs.Image.{Agrees}
 use Rattle.log_model.specs.declared.lines.Mark.{Mark}
@@ -19,13 +19,13 @@ use Rattle.history_model.specs.Book.{Book}
 use Rattle.history_model.proofs.Books.{mark-earlier}
 use Rattle.device_rule.specs.Views.{UnitView, unit_view, row, other}
 use Rattle.device_rule.specs.Device.{LeavesViews, EndsWith}
-use Rattle.device_rule.specs.Steps.{IsPutting, IsPut, cleared}
+use Rattle.device_rule.specs.Steps.{IsPutting, UnitOwes, cleared}
 use Rattle.device_rule.specs.Rules.{Standing, IsPresent, Cells}
 use Rattle.device_rule.proofs.Viewed.{seen-run}
 use Rattle.device_rule.proofs.KeepLaws.{owe-card, owe-dark, owe-other, owe-other_dark}
 use Rattle.unit_rule.proofs.Putting.{first_putting, second_putting, first_put, second_put}
 use Rattle.unit_rule.specs.Rule.{Started, IsCards}
-use Rattle.unit_rule.specs.Marks.{Holds}
+use Rattle.unit_rule.specs.Marks.{UnitFollowsBook}
 use Rattle.unit_rule.proofs.Moves.{ended}
 use Rattle.unit_minutes.proofs.Beside.{last_beside}
 use Rattle.unit_rule.proofs.Elsewhere.{rows-elsewhere, rows-issued, holds-elsewhere}
@@ -59,12 +59,12 @@ row-still (Ok t) o None number e same said r n at = tt
 row-still (Err f) o p number e same said r n at = tt
 
 -- the unit's rule, whatever the cards
-pub owed-holds : (s : Started) {U V : State} (due : ℕ) (b : Book) (marks : List Mark) (number : List ℕ) (e : Entry) → IsCards s number → IsCoherent U → LeavesOnly U V (IsPuttingRow number e) → Holds s due b marks U → Holds s due b marks V
+pub owed-holds : (s : Started) {U V : State} (due : ℕ) (b : Book) (marks : List Mark) (number : List ℕ) (e : Entry) → IsCards s number → IsCoherent U → LeavesOnly U V (IsPuttingRow number e) → UnitFollowsBook s due b marks U → UnitFollowsBook s due b marks V
 owed-holds s {U} {V} due b marks number e whose whole run h = holds-elsewhere s due b marks h whole (IsPuttingRow number e) run (λ x c is. (rows-elsewhere x c is.outside, rows-issued x c is.outside, is.decodes))
     (λ x c is. rows-put s number whose x c (last_beside x c (rows-elsewhere x c is.outside)) e is)
 
 module _ (r : Both) (c : Card) (number : List ℕ) (named : number ≡ number_of r c) {U V : State} (e : Entry) (some : 1440 ≤ e.minute) (whole : IsCoherent U) (j : Notes) (agrees : IfSome U.image (Agrees j))
-    (s : Started) (due : ℕ) (b : Book) (marks : List Mark) (h : Holds s due b marks U) (late : due ≤ e.minute) (run : LeavesOnly U V (IsPuttingRow number e)) where
+    (s : Started) (due : ℕ) (b : Book) (marks : List Mark) (h : UnitFollowsBook s due b marks U) (late : due ≤ e.minute) (run : LeavesOnly U V (IsPuttingRow number e)) where
   earlier : (u : UnitView) → (unit_seen r U).may_leave u → u.last < e.minute
   earlier u on = let rule = h.unit_holds (number_of r A) (number_of r B) in omega (arith, late, mark-earlier s.first due b u.last rule.order (rule.now u on).mark)
 
@@ -93,11 +93,11 @@ module _ (r : Both) (c : Card) (number : List ℕ) (named : number ≡ number_of
         (weaken run (λ x d told k. putting c refl x d told (subst (λ (n : List ℕ). IsPuttingRow n e x d) named k) (cells-low x told))) (λ x d k. k)
 
     ended-put : (c' : Card) → (x d : List ℕ) → U.image ≡ Some x → HasRow (number_of r c') x → IsPutRow (number_of r c') e x d → All (λ d. d.minute < e.minute) (cleared e (row_view (number_of r c') x)).cells
-        → IsPut c' e (unit_view (number_of r A) (number_of r B) x) (unit_view (number_of r A) (number_of r B) d)
+        → UnitOwes c' e (unit_view (number_of r A) (number_of r B) x) (unit_view (number_of r A) (number_of r B) d)
     ended-put A x d told has k low = first_put (number_of r A) (number_of r B) e x d r.two (known x told) some low has k
     ended-put B x d told has k low = second_put (number_of r A) (number_of r B) e x d r.two (known x told) some low has k
 
-    pub put : IsCoherent V → V.works ≡ true → IfSome U.image (HasRow number) → IfSome U.image (λ x. IfSome V.image (IsPutRow number e x)) → U.works ≡ true → EndsWith (unit_seen r U) (unit_seen r V) (IsPut c e)
+    pub put : IsCoherent V → V.works ≡ true → IfSome U.image (HasRow number) → IfSome U.image (λ x. IfSome V.image (IsPutRow number e x)) → U.works ≡ true → EndsWith (unit_seen r U) (unit_seen r V) (UnitOwes c e)
     put after works has said before = record {
       works = works;
       now = λ v on.
@@ -105,13 +105,13 @@ module _ (r : Both) (c : Card) (number : List ℕ) (named : number ≡ number_of
           let told : U.image ≡ Some was.0 = whole.only was.0 before was.1 in (
             unit_view (number_of r A) (number_of r B) was.0,
             (was.0, was.1, refl),
-            subst (IsPut c e (unit_view (number_of r A) (number_of r B) was.0)) on.2
+            subst (UnitOwes c e (unit_view (number_of r A) (number_of r B) was.0)) on.2
                 (ended-put c was.0 on.0 told (subst (λ (n : List ℕ). HasRow n was.0) named (at_image (HasRow number) told has)) (subst (λ (n : List ℕ). IsPutRow n e was.0 on.0) named was.2) (cells-low was.0 told)),
           );
     }
 
     -- the card's own rule
-    pub owed-mine : (failed : Bool) → IsPresent (opened r c).start y e.minute → (failed ≡ false → EndsWith (unit_seen r U) (unit_seen r V) (IsPut c e)) → IsKeptUp r c b y (e ∷ []) [] failed V X
+    pub owed-mine : (failed : Bool) → IsPresent (opened r c).start y e.minute → (failed ≡ false → EndsWith (unit_seen r U) (unit_seen r V) (UnitOwes c e)) → IsKeptUp r c b y (e ∷ []) [] failed V X
     owed-mine failed present ends = record {
       lit = λ well. owe-card c (opened r c).start AnyString (opened r c).began b y e rule puts (ends well) earlier present;
       dark = owe-dark c (opened r c).start AnyString (opened r c).began b y e rule puts earlier present;

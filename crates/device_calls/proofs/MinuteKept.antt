@@ -28,7 +28,7 @@ use Rattle.device_rule.proofs.Viewed.{seen-run}
 use Rattle.device_rule.proofs.KeepLaws.{keep-card, keep-dark}
 use Rattle.unit_rule.proofs.Keeping.{keeping_view, kept_view}
 use Rattle.unit_rule.specs.Rule.{Started, once_mended}
-use Rattle.unit_rule.specs.Marks.{Holds}
+use Rattle.unit_rule.specs.Marks.{UnitFollowsBook}
 use Rattle.unit_rule.proofs.Moves.{ended}
 use Rattle.unit_rule.proofs.Marking.{holds-dark, holds-kept, holds-broken}
 use Rattle.unit_rule.proofs.RowsOn.{rows-besides}
@@ -69,13 +69,13 @@ module _ {U V : State} (k : UnitMinute) (odometer : ℕ) (i : HistoryMinute) (is
   ends-with : IsCoherent V → V.works ≡ true → IfSome U.image (λ x. IfSome V.image (journal.IsKept k x)) → (c : List ℕ) → V.may_leave c → (x : List ℕ) × U.may_leave x × journal.IsKept (seen_by_unit i) x c
   ends-with after works said c left = subst (λ (m : UnitMinute). (x : List ℕ) × U.may_leave x × journal.IsKept m x c) is (ended (journal.IsKept k) whole after works run said c left)
 
-  pub committed-unit : (s : Started) (due : ℕ) (b : Book) (marks : List Mark) → Holds (once_mended s) due b marks U → b.maybe ≡ None → due ≤ i.minute → (failed : Bool) → V.clock ≤ U.clock + 12 → IsCoherent V → (failed ≡ false → V.works ≡ true) → (failed ≡ false → IfSome U.image (λ x. IfSome V.image (journal.IsKept k x))) → (failed ≡ false → V.clock < last_count → IsSettled V) → IsHeldUp s b marks i failed V
+  pub committed-unit : (s : Started) (due : ℕ) (b : Book) (marks : List Mark) → UnitFollowsBook (once_mended s) due b marks U → b.maybe ≡ None → due ≤ i.minute → (failed : Bool) → V.clock ≤ U.clock + 12 → IsCoherent V → (failed ≡ false → V.works ≡ true) → (failed ≡ false → IfSome U.image (λ x. IfSome V.image (journal.IsKept k x))) → (failed ≡ false → V.clock < last_count → IsSettled V) → IsHeldUp s b marks i failed V
   committed-unit s due b marks h none late failed most after works said settled = record {
     lit = λ well below. holds-kept (once_mended s) due b marks h whole refl i odometer none late keeping (record { device = Recorder; minute = i.minute; clock = V.clock }) refl refl refl most after (settled well below) (ends-with after (works well) (said well));
     dark = holds-dark s (suc i.minute) (broken i b) marks V (holds-broken (once_mended s) due b marks h whole refl i odometer none late keeping);
   }
 
-  module _ (s : Started) (due : ℕ) (b : Book) (marks : List Mark) (h : Holds s due b marks U) (none : b.maybe ≡ None) (late : due ≤ i.minute) (r : Both) (c : Card) (X : State) (z : Standing) (day : 1440 ≤ i.minute) (rule : CardHolds r c b z (on_card c i) [] U X) (fits : Fits c (opened r c).start z i) where
+  module _ (s : Started) (due : ℕ) (b : Book) (marks : List Mark) (h : UnitFollowsBook s due b marks U) (none : b.maybe ≡ None) (late : due ≤ i.minute) (r : Both) (c : Card) (X : State) (z : Standing) (day : 1440 ≤ i.minute) (rule : CardHolds r c b z (on_card c i) [] U X) (fits : Fits c (opened r c).start z i) where
     keeps : LeavesViews (unit_seen r U) (unit_seen r V) (IsKeeping KeepsMinute GivesUpDay i)
     keeps = seen-run (unit_view (number_of r A) (number_of r B)) (journal.IsKeeping (seen_by_unit i) odometer) (IsKeeping KeepsMinute GivesUpDay i) U V whole keeping (keeping_view (number_of r A) (number_of r B) i odometer)
 

@@ -19,9 +19,9 @@ use Rattle.history_model.specs.Book.{Book, broken}
 use Rattle.history_model.proofs.Books.{on_card-minute}
 use Rattle.device_rule.specs.Rules.{Standing, Out, In, Torn, IsPresent, Fits}
 use Rattle.device_rule.specs.Views.{other}
-use Rattle.unit_rule.specs.Marks.{Holds}
+use Rattle.unit_rule.specs.Marks.{UnitFollowsBook}
 use Rattle.device_calls.specs.Rule.{Both, CardHolds, CardRests, IsKeptUp}
-use Rattle.device_calls.specs.OnCard.{IsCarried, IsReady}
+use Rattle.device_calls.specs.OnCard.{SessionKnowsCard, CardMayTake}
 use Rattle.device_calls.specs.Minute.{Known, AreCutOff, Carry, and_kept, IsClear, IsSitting, IsNotIn}
 
 -- an entry on a card has its minute
@@ -80,26 +80,26 @@ module _ (c : Card) (i : HistoryMinute) where
 -- ---- a card that sits in its slot
 
 -- it is ready for an entry that is later than its session's newest minute
-pub ready_sitting : (t : Session) (w : Carry) (e : Entry) (X : State) → IsSitting t w X → t.minute < e.minute → IfSome X.image (IsReady t w.slack w.covered w.from w.counted w.all e)
-ready_sitting t w e X a late = both_told X.image (IsReady t w.slack w.covered w.from w.counted w.all e) a.carried a.clear
+pub ready_sitting : (t : Session) (w : Carry) (e : Entry) (X : State) → IsSitting t w X → t.minute < e.minute → IfSome X.image (CardMayTake t w.slack w.covered w.from w.counted w.all e)
+ready_sitting t w e X a late = both_told X.image (CardMayTake t w.slack w.covered w.from w.counted w.all e) a.carried a.clear
     (λ x told carried clear. record { carried = carried; clear = clear e late; later = omega (arith, a.from, late) })
 
 -- what a keep that did not fail leaves
 abbrev pub Did : (s t : Session) → Carry → Entry → List ℕ → List ℕ → Type 0
-Did s t w e x y = IsDone s.application w.slack w.covered w.counted w.all e x y × IsCarried t (and_kept w e).slack w.covered (suc e.minute) (and_kept w e).counted (and_kept w e).all y
+Did s t w e x y = IsDone s.application w.slack w.covered w.counted w.all e x y × SessionKnowsCard t (and_kept w e).slack w.covered (suc e.minute) (and_kept w e).counted (and_kept w e).all y
 
-did : (s t : Session) (w : Carry) (e : Entry) (o p : Option (List ℕ)) → is_some p ≡ is_some o → IfSome o (IsReady s w.slack w.covered w.from w.counted w.all e) → IfSome o (λ x. IfSome p (λ y. IsReady s w.slack w.covered w.from w.counted w.all e x → Did s t w e x y))
+did : (s t : Session) (w : Carry) (e : Entry) (o p : Option (List ℕ)) → is_some p ≡ is_some o → IfSome o (CardMayTake s w.slack w.covered w.from w.counted w.all e) → IfSome o (λ x. IfSome p (λ y. CardMayTake s w.slack w.covered w.from w.counted w.all e x → Did s t w e x y))
     → IfSome p (λ y. (x : List ℕ) × Did s t w e x y)
 did s t w e (Some x) (Some y) same ready said = (x, said ready)
 did s t w e None (Some y) same ready said = absurd (cc)
 did s t w e o None same ready said = tt
 
 -- what is carried of it goes on with an entry that it kept
-pub sitting_on : (s t : Session) (w : Carry) (e : Entry) (X Y : State) → is_some Y.image ≡ is_some X.image → t.application ≡ s.application → t.minute ≡ e.minute → IfSome X.image (IsReady s w.slack w.covered w.from w.counted w.all e)
-    → IfSome X.image (λ x. IfSome Y.image (λ y. IsReady s w.slack w.covered w.from w.counted w.all e x → Did s t w e x y)) → IsSitting t (and_kept w e) Y
+pub sitting_on : (s t : Session) (w : Carry) (e : Entry) (X Y : State) → is_some Y.image ≡ is_some X.image → t.application ≡ s.application → t.minute ≡ e.minute → IfSome X.image (CardMayTake s w.slack w.covered w.from w.counted w.all e)
+    → IfSome X.image (λ x. IfSome Y.image (λ y. CardMayTake s w.slack w.covered w.from w.counted w.all e x → Did s t w e x y)) → IsSitting t (and_kept w e) Y
 sitting_on s t w e X Y same sizes at ready said = record {
   from = omega (arith, at);
-  carried = both_told Y.image (IsCarried t (and_kept w e).slack w.covered (suc e.minute) (and_kept w e).counted (and_kept w e).all) now now (λ y told one two. one.1.1);
+  carried = both_told Y.image (SessionKnowsCard t (and_kept w e).slack w.covered (suc e.minute) (and_kept w e).counted (and_kept w e).all) now now (λ y told one two. one.1.1);
   clear = both_told Y.image (IsClear t (and_kept w e)) now now (λ y told one two. λ f lt. inl (subst (λ (p : Application). BeginsBehind p f y) (sym sizes) (one.1.0.clear f (omega (arith, at, lt)))));
 }
   where
@@ -109,10 +109,10 @@ sitting_on s t w e X Y same sizes at ready said = record {
 -- ---- both cards
 
 module _ (k : Known) (c d : Card) (i : HistoryMinute) (y z : Standing) where
-  pub dark_before : (U X Z : State) → Holds k.started k.due k.book k.marks U → CardRests k.both c k.book y U X → CardRests k.both d k.book z U Z → AreCutOff k c d i y z U X Z
+  pub dark_before : (U X Z : State) → UnitFollowsBook k.started k.due k.book k.marks U → CardRests k.both c k.book y U X → CardRests k.both d k.book z U Z → AreCutOff k c d i y z U X Z
   dark_before U X Z holds one two = inl (record { holds = holds; one_rule = one; other_rule = two })
 
-  pub dark_after : (U X Z : State) → Holds k.started (suc i.minute) (broken i k.book) k.marks U → CardRests k.both c (broken i k.book) y U X → CardRests k.both d (broken i k.book) z U Z → AreCutOff k c d i y z U X Z
+  pub dark_after : (U X Z : State) → UnitFollowsBook k.started (suc i.minute) (broken i k.book) k.marks U → CardRests k.both c (broken i k.book) y U X → CardRests k.both d (broken i k.book) z U Z → AreCutOff k c d i y z U X Z
   dark_after U X Z holds one two = inr (record { holds = holds; one_rule = one; other_rule = two })
 
 -- the rule of the one of two cards

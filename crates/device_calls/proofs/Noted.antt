@@ -23,7 +23,7 @@ use Rattle.device_rule.specs.Rules.{Standing}
 use Rattle.device_rule.proofs.CardLaws.{dark-beside, rule-beside}
 use Rattle.device_rule.proofs.Viewed.{seen-run}
 use Rattle.unit_rule.specs.Rule.{Started}
-use Rattle.unit_rule.specs.Marks.{Holds}
+use Rattle.unit_rule.specs.Marks.{UnitFollowsBook}
 use Rattle.unit_rule.proofs.Moves.{issued-parts}
 use Rattle.unit_rule.proofs.Elsewhere.{holds-elsewhere}
 use Rattle.unit_rule.proofs.RowsOn.{rows-beside}
@@ -67,14 +67,14 @@ module _ (x c : List ℕ) (keeps : KeepsJournal x c) where
       ∙ ap (λ (n : ℕ). record { days = recorded x; last = n; row_a = row_view a c; row_b = row_view b c }) (last_beside x c same_journal)
       ∙ ap (λ (rows : List ℕ). record { days = recorded x; last = last_kept x; row_a = seen_row (option_map (row_in rows) (row_index a rows)); row_b = seen_row (option_map (row_in rows) (row_index b rows)) }) rows_noted
 
-pub noted-holds : (s : Started) {U V : State} (due : ℕ) (b : Book) (marks : List Mark) → IsCoherent U → LeavesOnly U V LeavesJournal → Holds s due b marks U → Holds s due b marks V
+pub noted-holds : (s : Started) {U V : State} (due : ℕ) (b : Book) (marks : List Mark) → IsCoherent U → LeavesOnly U V LeavesJournal → UnitFollowsBook s due b marks U → UnitFollowsBook s due b marks V
 noted-holds s {U} {V} due b marks whole run h = holds-elsewhere s due b marks h whole LeavesJournal run (λ x c is. (
   same_journal x c is.keeps,
   issued-parts x c (front_part x c is.keeps 0 LAST_KEPT.place (omega arith)) (counts_noted x c is.keeps) (spare_noted x c is.keeps) is.keeps.spare,
   is.decodes,
 )) (λ x c is. rows-beside s x c (rows_noted x c is.keeps) (last_beside x c (same_journal x c is.keeps)))
 
-module _ (r : Both) (c : Card) (s : Started) (due : ℕ) (b : Book) (marks : List Mark) (z : Standing) {U V : State} (X : State) (whole : IsCoherent U) (h : Holds s due b marks U) (run : LeavesOnly U V LeavesJournal) where
+module _ (r : Both) (c : Card) (s : Started) (due : ℕ) (b : Book) (marks : List Mark) (z : Standing) {U V : State} (X : State) (whole : IsCoherent U) (h : UnitFollowsBook s due b marks U) (run : LeavesOnly U V LeavesJournal) where
   abbrev Same : UnitView → UnitView → Type 0
   Same u v = v ≡ u
 

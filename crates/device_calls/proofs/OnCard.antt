@@ -26,7 +26,7 @@ use Rattle.card_session.proofs.Composing.{card_as}
 use Rattle.card_session.proofs.Marks.{before_days, mark_told}
 use Rattle.card_session.proofs.Preparing.{used_at}
 use Rattle.card_session.proofs.Stopping.{book_days}
-use Rattle.card_string.specs.Carried.{Goes}
+use Rattle.card_string.specs.Carried.{StringFollowsEntries}
 use Rattle.card_string.specs.Shows.{IsDone, IsKeepShown}
 use Rattle.card_string.proofs.Moments.{keep_shown}
 use Rattle.log_model.specs.declared.lines.Mark.{Mark}
@@ -41,10 +41,10 @@ use Rattle.device_rule.proofs.Pairs.{closed-from}
 use Rattle.device_rule.proofs.Viewed.{seen-run}
 use Rattle.device_rule.proofs.KeepLaws.{on_card-card, on_card-torn}
 use Rattle.unit_rule.specs.Rule.{Started}
-use Rattle.unit_rule.specs.Marks.{Holds}
+use Rattle.unit_rule.specs.Marks.{UnitFollowsBook}
 use Rattle.unit_rule.proofs.Moves.{ended}
 use Rattle.device_calls.specs.Rule.{Both, opened, number_of, unit_seen, card_seen, AnyString, CardHolds}
-use Rattle.device_calls.specs.OnCard.{IsCarried, IsReady, IsOnItsCard}
+use Rattle.device_calls.specs.OnCard.{SessionKnowsCard, CardMayTake, IsOnItsCard}
 
 abbrev pub AnyStep : ℕ → Held → List Entry → Held → Type 0
 AnyStep next old taken new = Unit {0}
@@ -73,7 +73,7 @@ pub sizes-same : (app : Application) (P : List Day → Vehicles → Type 0) (x y
 unfolding own_sizes files_of
 sizes-same app P x y is = ap application_of (before_days app P x y is APPLICATION_RANGE.base APPLICATION_RANGE.len (omega arith))
 
-module _ (s : Session) (slack : Bound) (covered from : ℕ) (c : Counted) (all : List Entry) (e : Entry) (odometer : ℕ) (late : s.minute < e.minute) (x y : List ℕ) (ready : IsReady s slack covered from c all e x) where
+module _ (s : Session) (slack : Bound) (covered from : ℕ) (c : Counted) (all : List Entry) (e : Entry) (odometer : ℕ) (late : s.minute < e.minute) (x y : List ℕ) (ready : CardMayTake s slack covered from c all e x) where
   abbrev app : Application
   app = s.application
 
@@ -120,23 +120,23 @@ module _ (s : Session) (slack : Bound) (covered from : ℕ) (c : Counted) (all :
     }))
 
     -- and the next entry may come
-    pub carried : next.application ≡ app → IsCarried next (and_entry slack e) covered (suc e.minute) (with_entry covered c e) (all ++ e ∷ []) y
+    pub carried : next.application ≡ app → SessionKnowsCard next (and_entry slack e) covered (suc e.minute) (with_entry covered c e) (all ++ e ∷ []) y
     carried same = record {
       application = sizes-same app _ x y kept.card ∙ ready.carried.application ∙ sym same;
       sizes = subst IsApplication (sym same) ready.carried.sizes;
       session = kept.knows;
       bytes = ready.carried.bytes;
-      goes = subst (λ (a : Application). Goes a (and_entry slack e) covered (suc e.minute) (with_entry covered c e) (all ++ e ∷ []) y) (sym same) done.goes;
+      goes = subst (λ (a : Application). StringFollowsEntries a (and_entry slack e) covered (suc e.minute) (with_entry covered c e) (all ++ e ∷ []) y) (sym same) done.goes;
     }
 
 -- after a keep that did not fail
 pub all-done : (s next : Session) (slack : Bound) (covered from : ℕ) (c : Counted) (all : List Entry) (e : Entry) (odometer : ℕ) → s.minute < e.minute → next.application ≡ s.application → {T E : Type 0} (result : Result T E) (o p : Option (List ℕ)) →
     OnOk result (IfSome o (λ x. IfSome p (λ y. IsSession s x → IsCardKept s next e odometer x y)))
-    → OnOk result (IfSome o (λ x. IfSome p (λ y. IsReady s slack covered from c all e x → IsDone s.application slack covered c all e x y × IsCarried next (and_entry slack e) covered (suc e.minute) (with_entry covered c e) (all ++ e ∷ []) y)))
+    → OnOk result (IfSome o (λ x. IfSome p (λ y. CardMayTake s slack covered from c all e x → IsDone s.application slack covered c all e x y × SessionKnowsCard next (and_entry slack e) covered (suc e.minute) (with_entry covered c e) (all ++ e ∷ []) y)))
 all-done s next slack covered from c all e odometer late same (Ok t) o p said = by o p said
   where
     by : (o p : Option (List ℕ)) → IfSome o (λ x. IfSome p (λ y. IsSession s x → IsCardKept s next e odometer x y))
-        → IfSome o (λ x. IfSome p (λ y. IsReady s slack covered from c all e x → IsDone s.application slack covered c all e x y × IsCarried next (and_entry slack e) covered (suc e.minute) (with_entry covered c e) (all ++ e ∷ []) y))
+        → IfSome o (λ x. IfSome p (λ y. CardMayTake s slack covered from c all e x → IsDone s.application slack covered c all e x y × SessionKnowsCard next (and_entry slack e) covered (suc e.minute) (with_entry covered c e) (all ++ e ∷ []) y))
     by (Some x) (Some y) said = λ ready. let kept : IsCardKept s next e odometer x y = said ready.carried.session in
         (done s slack covered from c all e odometer late x y ready next kept, carried s slack covered from c all e odometer late x y ready next kept same)
     by (Some x) None said = tt
@@ -145,11 +145,11 @@ all-done s next slack covered from c all e odometer late same (Err f) o p said =
 
 -- the joint rule
 module _ (r : Both) (which : Card) {U X Y : State} (s : Started) (due : ℕ) (b : Book) (marks : List Mark) (time : ℕ) (t : Session) (slack : Bound) (covered from : ℕ) (c : Counted) (all : List Entry) (e : Entry) (odometer : ℕ) (late : t.minute < e.minute)
-    (unit : IsCoherent U) (tells : is_some U.image ≡ true) (whole : IsCoherent X) (h : Holds s due b marks U) (none : b.maybe ≡ None) (rule : CardHolds r which b (In time t.minute) [] (e ∷ []) U X) (fresh : (opened r which).start.word < e.minute)
-    (ready : IfSome X.image (IsReady t slack covered from c all e)) (run : LeavesOnly X Y (λ x y. IsSession t x → IsCardKeeping t e odometer x y)) where
+    (unit : IsCoherent U) (tells : is_some U.image ≡ true) (whole : IsCoherent X) (h : UnitFollowsBook s due b marks U) (none : b.maybe ≡ None) (rule : CardHolds r which b (In time t.minute) [] (e ∷ []) U X) (fresh : (opened r which).start.word < e.minute)
+    (ready : IfSome X.image (CardMayTake t slack covered from c all e)) (run : LeavesOnly X Y (λ x y. IsSession t x → IsCardKeeping t e odometer x y)) where
   keeps : LeavesViews (card_seen X) (card_seen Y) (IsOnCard AnyStep e)
   keeps = seen-run own_view (λ x y. IsOnCard AnyStep e (own_view x) (own_view y)) (IsOnCard AnyStep e) X Y whole
-      (weaken run (λ x y told k. let is = at_image (IsReady t slack covered from c all e) told ready in on-card t slack covered from c all e odometer late x y is (k is.carried.session))) (λ x y k. k)
+      (weaken run (λ x y told k. let is = at_image (CardMayTake t slack covered from c all e) told ready in on-card t slack covered from c all e odometer late x y is (k is.carried.session))) (λ x y k. k)
 
   sure : (u : UnitView) → (unit_seen r U).may_leave u → All (λ j. j.minute ≤ u.last) b.sure
   sure u on = ((h.unit_holds (number_of r A) (number_of r B)).now u on).sure
@@ -176,6 +176,6 @@ module _ (r : Both) (which : Card) {U X Y : State} (s : Started) (due : ℕ) (b 
     works = works;
     now = λ v on.
         let was = ended (λ x y. IsSession t x → IsCardKept t next e odometer x y) whole after works run said on.0 on.1 in
-        let is = at_image (IsReady t slack covered from c all e) (whole.only was.0 before was.1) ready in
+        let is = at_image (CardMayTake t slack covered from c all e) (whole.only was.0 before was.1) ready in
         (own_view was.0, (was.0, was.1, refl), subst (IsNowOnCard AnyStep e (own_view was.0)) on.2 (now-on-card t slack covered from c all e odometer late was.0 on.0 is next (was.2 is.carried.session) sizes at));
   }

@@ -22,7 +22,7 @@ use Rattle.device_rule.proofs.UnitLaws.{sure-found}
 use Rattle.device_rule.proofs.EnterLaws.{tear-card, found-dark, mend-dark, mend-card}
 use Rattle.unit_rule.proofs.Mended.{mending_view, mended_view}
 use Rattle.unit_rule.specs.Rule.{Started, seen_unit, HasRowsMended}
-use Rattle.unit_rule.specs.Marks.{Holds}
+use Rattle.unit_rule.specs.Marks.{UnitFollowsBook}
 use Rattle.unit_rule.proofs.Moves.{ended, shown-last}
 use Rattle.unit_rule.proofs.Found.{one-image}
 use Rattle.unit_rule.proofs.Marking.{holds-aside, holds-mended}
@@ -31,11 +31,11 @@ use Rattle.unit_rule.proofs.RowsOn.{rows-mends, rows-low}
 use Rattle.device_calls.specs.Rule.{Both, opened, number_of, unit_seen, card_seen, AnyString, CardHolds, CardRests, IsHeldMended, IsTakenUp}
 use Rattle.device_calls.proofs.MinuteKept.{any-later}
 
-pub mended-holds : (s : Started) {U V : State} (due : ℕ) (b : Book) (marks : List Mark) (j : Notes) → IsCoherent U → LeavesOnly U V (IsMendingImage j) → Holds s due b marks U →
+pub mended-holds : (s : Started) {U V : State} (due : ℕ) (b : Book) (marks : List Mark) (j : Notes) → IsCoherent U → LeavesOnly U V (IsMendingImage j) → UnitFollowsBook s due b marks U →
     (failed : Bool) → IsCoherent V → V.works ≡ not failed → (failed ≡ false → IfSome U.image (λ x. IfSome V.image (IsMendedImage x))) → IsHeldMended s due b marks V
 mended-holds s {U} {V} due b marks j whole run h failed after works said = record { lit = λ well. holds-mended s due b marks V dark (low well); dark = dark }
   where
-    dark : Holds s due b marks V
+    dark : UnitFollowsBook s due b marks V
     dark = holds-aside s due b marks h whole (IsMendingImage j) run (λ x c is. mending-aside j x c is) (λ x c is. rows-mends s j x c is)
 
     no : true ≡ false → ⊥
@@ -74,7 +74,7 @@ torn r c b U X time newest floor rule = tear-card c (opened r c).start AnyString
 pub read-rests : (r : Both) (c : Card) (b : Book) (z : Standing) (U X Y : State) → IsCoherent X → LeavesOnly X Y Unchanged → CardRests r c b z U X → CardRests r c b z U Y
 read-rests r c b z U X Y whole run rests = look-dark c (opened r c).start AnyString {U = unit_seen r U} {X = card_seen X} {Y = card_seen Y} (opened r c).began b z (seen-run own_view Unchanged Nothing X Y whole run (λ x y never. absurd never)) rests
 
-module _ (r : Both) (c : Card) (s : Started) (due : ℕ) (b : Book) (marks : List Mark) (z : Standing) (U V X : State) (before : IsCoherent U) (after : IsCoherent V) (h : Holds s due b marks U) (run : LeavesOnly U V Unchanged) (works : V.works ≡ true) (x : List ℕ) (is : V.image ≡ Some x) where
+module _ (r : Both) (c : Card) (s : Started) (due : ℕ) (b : Book) (marks : List Mark) (z : Standing) (U V X : State) (before : IsCoherent U) (after : IsCoherent V) (h : UnitFollowsBook s due b marks U) (run : LeavesOnly U V Unchanged) (works : V.works ≡ true) (x : List ℕ) (is : V.image ≡ Some x) where
   seen-same : LeavesViews (unit_seen r U) (unit_seen r V) Nothing
   seen-same = seen-run (unit_view (number_of r A) (number_of r B)) Unchanged Nothing U V before run (λ y d never. absurd never)
 

@@ -19,12 +19,12 @@ use Rattle.history_model.proofs.Books.{mark-earlier}
 use Rattle.device_rule.specs.Views.{UnitView, unit_view, row, with_row, other}
 use Rattle.device_rule.specs.Device.{Seen, LeavesViews, EndsWith}
 use Rattle.device_rule.specs.Steps.{IsBeginning, IsBegun}
-use Rattle.device_rule.specs.Rules.{Standing, Out, In, Torn, Stands, CardDark, CardRule, IsEntered}
+use Rattle.device_rule.specs.Rules.{Standing, Out, In, Torn, MeetsStanding, CardDark, CardRule, IsEntered}
 use Rattle.device_rule.proofs.CardLaws.{dark-beside, rule-beside}
 use Rattle.device_rule.proofs.EnterLaws.{begin-dark, begin-card}
 use Rattle.unit_rule.proofs.Beginning.{last_same, recorded_same}
 use Rattle.unit_rule.specs.Rule.{Started}
-use Rattle.unit_rule.specs.Marks.{Holds}
+use Rattle.unit_rule.specs.Marks.{UnitFollowsBook}
 use Rattle.unit_rule.proofs.Moves.{ended}
 use Rattle.device_calls.specs.Rule.{Both, opened, number_of, unit_seen, card_seen, AnyString, CardHolds, CardRests, IsRowTaken}
 use Rattle.device_calls.proofs.MinuteKept.{any-later}
@@ -70,12 +70,12 @@ module _ (r : Both) (c : Card) (b : Book) where
     now-rests : CardDark c (opened r c).start AnyString (opened r c).began b z (nowadays (unit_seen r U)) (card_seen X) → CardRests r c b z U X
     now-rests rests = record { meets = rests.meets; later = rests.later; since = rests.since }
 
-  stands-now : (U X : State) (z : Standing) (d : List Entry) → Stands c (opened r c).start (opened r c).began z d (unit_seen r U) (card_seen X) → Stands c (opened r c).start (opened r c).began z d (nowadays (unit_seen r U)) (card_seen X)
+  stands-now : (U X : State) (z : Standing) (d : List Entry) → MeetsStanding c (opened r c).start (opened r c).began z d (unit_seen r U) (card_seen X) → MeetsStanding c (opened r c).start (opened r c).began z d (nowadays (unit_seen r U)) (card_seen X)
   stands-now U X Out d so = tt
   stands-now U X (In session newest) d so = so
   stands-now U X (Torn session newest floor) d so = so
 
-  now-stands : (U X : State) (z : Standing) (d : List Entry) → Stands c (opened r c).start (opened r c).began z d (nowadays (unit_seen r U)) (card_seen X) → Stands c (opened r c).start (opened r c).began z d (unit_seen r U) (card_seen X)
+  now-stands : (U X : State) (z : Standing) (d : List Entry) → MeetsStanding c (opened r c).start (opened r c).began z d (nowadays (unit_seen r U)) (card_seen X) → MeetsStanding c (opened r c).start (opened r c).began z d (unit_seen r U) (card_seen X)
   now-stands U X Out d so = tt
   now-stands U X (In session newest) d so = so
   now-stands U X (Torn session newest floor) d so = so
@@ -162,7 +162,7 @@ module _ (r : Both) (c : Card) (number : List ℕ) (named : number ≡ number_of
   }
 
   -- the card's own rule
-  pub taken-alone : (X : State) (s : Started) (due : ℕ) (b : Book) (marks : List Mark) → Holds s due b marks U → due ≤ session / 60 → 0 < session → (newest : ℕ) → CardHolds r c b Out [] [] U X → IsEntered (opened r c).start (opened r c).began session newest (card_seen X) → (failed : Bool)
+  pub taken-alone : (X : State) (s : Started) (due : ℕ) (b : Book) (marks : List Mark) → UnitFollowsBook s due b marks U → due ≤ session / 60 → 0 < session → (newest : ℕ) → CardHolds r c b Out [] [] U X → IsEntered (opened r c).start (opened r c).began session newest (card_seen X) → (failed : Bool)
       → (failed ≡ false → EndsWith (alone c (unit_seen r U)) (alone c (unit_seen r V)) (IsBegun c session)) → IsRowTaken r c b session newest failed V X
   taken-alone X s due b marks h late positive newest rule entered failed ends_ = record {
     lit = λ well. alone-holds r c b V X (In session newest) [] []

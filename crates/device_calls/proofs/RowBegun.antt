@@ -22,14 +22,14 @@ use Rattle.device_rule.proofs.Viewed.{seen-run}
 use Rattle.device_rule.proofs.EnterLaws.{begin-other, begin-other_dark}
 use Rattle.unit_rule.proofs.Beginning.{first_beginning, second_beginning}
 use Rattle.unit_rule.specs.Rule.{Started, IsCards}
-use Rattle.unit_rule.specs.Marks.{Holds}
+use Rattle.unit_rule.specs.Marks.{UnitFollowsBook}
 use Rattle.unit_minutes.proofs.Beside.{last_beside}
 use Rattle.unit_rule.proofs.Elsewhere.{rows-elsewhere, rows-issued, holds-elsewhere}
 use Rattle.unit_rule.proofs.RowsOn.{rows-begun}
 use Rattle.device_calls.specs.Rule.{Both, opened, number_of, unit_seen, AnyString, CardHolds, IsKeptUp}
 
 -- the unit's rule, whatever the cards
-pub begun-holds : (s : Started) {U V : State} (due : ℕ) (b : Book) (marks : List Mark) (number : List ℕ) (session : ℕ) (spared : Option (List ℕ)) → IsCards s number → IsCoherent U → LeavesOnly U V (IsRowBeginning number session spared) → Holds s due b marks U → Holds s due b marks V
+pub begun-holds : (s : Started) {U V : State} (due : ℕ) (b : Book) (marks : List Mark) (number : List ℕ) (session : ℕ) (spared : Option (List ℕ)) → IsCards s number → IsCoherent U → LeavesOnly U V (IsRowBeginning number session spared) → UnitFollowsBook s due b marks U → UnitFollowsBook s due b marks V
 begun-holds s {U} {V} due b marks number session spared whose whole run h = holds-elsewhere s due b marks h whole (IsRowBeginning number session spared) run (λ x c is. (rows-elsewhere x c is.outside, rows-issued x c is.outside, is.decodes))
     (λ x c is. rows-begun s number whose x c (last_beside x c (rows-elsewhere x c is.outside)) session spared is)
 

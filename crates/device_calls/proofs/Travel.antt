@@ -12,7 +12,7 @@ use Rattle.history_model.specs.Book.{Book}
 use Rattle.device_rule.specs.Filling.{seen_by_unit}
 use Rattle.run_unit_course.specs.Legs.{Travel}
 use Rattle.unit_rule.specs.Rule.{Started}
-use Rattle.unit_rule.specs.Marks.{Holds}
+use Rattle.unit_rule.specs.Marks.{UnitFollowsBook}
 use Rattle.unit_rule.specs.Odometer.{HasTravelled, IsKeepingDays, odometer_by, odometer_after}
 use Rattle.unit_rule.proofs.Travelling.{travelled-kept, travelled-broken}
 use Rattle.unit_rule.proofs.Elsewhere.{rows-elsewhere, travelled-elsewhere}
@@ -23,7 +23,7 @@ pub put-travelled : (start : ℕ) (b : Book) (g : Travel) {U V : State} → HasT
 put-travelled start b g t whole number e run = travelled-elsewhere start b g t whole (IsPutting number e) run (λ x c is. rows-elsewhere x c is.outside)
 
 -- a minute is kept
-pub keep-gone : {U V : State} (k : UnitMinute) (odometer : ℕ) (i : HistoryMinute) → k ≡ seen_by_unit i → IsCoherent U → LeavesOnly U V (IsKeepingDays k odometer) → (s : Started) (due : ℕ) (b : Book) (marks : List Mark) → Holds s due b marks U → b.maybe ≡ None → due ≤ i.minute →
+pub keep-gone : {U V : State} (k : UnitMinute) (odometer : ℕ) (i : HistoryMinute) → k ≡ seen_by_unit i → IsCoherent U → LeavesOnly U V (IsKeepingDays k odometer) → (s : Started) (due : ℕ) (b : Book) (marks : List Mark) → UnitFollowsBook s due b marks U → b.maybe ≡ None → due ≤ i.minute →
     (start : ℕ) (g : Travel) (leg : ℕ) → HasTravelled start b g U → odometer ≡ odometer_by (odometer_after start g.before) leg →
     (failed : Bool) → IsCoherent V → (failed ≡ false → V.works ≡ true) → (failed ≡ false → IfSome U.image (λ x. IfSome V.image (IsKept k x))) → HasGone start b g i leg failed V
 keep-gone {U} {V} k odometer i is whole run s due b marks h none late start g leg t odometer_is failed after works said = record {

@@ -18,9 +18,9 @@ use Rattle.device_rule.specs.Filling.{seen_by_unit}
 use Rattle.device_rule.specs.Views.{other}
 use Rattle.device_rule.specs.Rules.{Standing, Out, In, Torn, IsPresent}
 use Rattle.unit_rule.specs.Rule.{Started, once_mended, IsCards}
-use Rattle.unit_rule.specs.Marks.{Holds}
+use Rattle.unit_rule.specs.Marks.{UnitFollowsBook}
 use Rattle.device_calls.specs.Rule.{Both, opened, number_of, CardHolds, CardRests}
-use Rattle.device_calls.specs.OnCard.{IsCarried}
+use Rattle.device_calls.specs.OnCard.{SessionKnowsCard}
 
 -- What minutes are kept over: how it all began, from where on a minute may come, the history, and the marks.
 pub record Known : Type 0 where
@@ -44,7 +44,7 @@ known_after k i clock =
 -- BETWEEN TWO MINUTES, while the unit has power: nothing is owed to a card that is accepted and in its slot, and each card stands as it
 -- does.
 pub record AreBetween (k : Known) (c d : Card) (number_c number_d : List ℕ) (y z : Standing) (unit first second : State) : Type 0 where
-  pub holds : Holds (once_mended k.started) k.due k.book k.marks unit
+  pub holds : UnitFollowsBook (once_mended k.started) k.due k.book k.marks unit
   pub none : k.book.maybe ≡ None
   pub two : d ≡ other c
   pub named_first : number_c ≡ number_of k.both c
@@ -65,14 +65,14 @@ pub record SaysBoth (k : Known) (c d : Card) (i : HistoryMinute) (m : KeptMinute
 
 -- The unit has the minute, and these entries of it are owed to the cards.
 pub record AreOwed (k : Known) (c d : Card) (e f : Option Entry) (y z : Standing) (unit first second : State) : Type 0 where
-  pub holds : Holds (once_mended k.started) k.due k.book k.marks unit
+  pub holds : UnitFollowsBook (once_mended k.started) k.due k.book k.marks unit
   pub none : k.book.maybe ≡ None
   pub one_rule : CardHolds k.both c k.book y [] (option_to_list e) unit first
   pub other_rule : CardHolds k.both d k.book z [] (option_to_list f) unit second
 
 -- all of them where the unit failed, while this is the history
 pub record AreDark (k : Known) (c d : Card) (y z : Standing) (due : ℕ) (b : Book) (unit first second : State) : Type 0 where
-  pub holds : Holds k.started due b k.marks unit
+  pub holds : UnitFollowsBook k.started due b k.marks unit
   pub one_rule : CardRests k.both c b y unit first
   pub other_rule : CardRests k.both d b z unit second
 
@@ -109,7 +109,7 @@ IsClear t w x = (e : Entry) → t.minute < e.minute → BeginsBehind t.applicati
 -- The card is in its slot with this session, and its string is carried so.
 pub record IsSitting (t : Session) (w : Carry) (card : State) : Type 0 where
   pub from : w.from ≤ suc t.minute
-  pub carried : IfSome card.image (IsCarried t w.slack w.covered w.from w.counted w.all)
+  pub carried : IfSome card.image (SessionKnowsCard t w.slack w.covered w.from w.counted w.all)
   pub clear : IfSome card.image (IsClear t w)
 
 -- a card that is not in its slot, accepted

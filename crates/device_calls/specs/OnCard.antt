@@ -9,23 +9,23 @@ use Rattle.card_retention.specs.Shown.{Bound}
 use Rattle.card_image.specs.Own.{own_sizes}
 use Rattle.card_session.specs.Sessions.{Session, IsSession}
 use Rattle.card_session.specs.Overwriting.{BeginsBehind}
-use Rattle.card_string.specs.Carried.{Goes, IsFresh}
+use Rattle.card_string.specs.Carried.{StringFollowsEntries, IsFresh}
 use Rattle.history_model.specs.Book.{Book}
 use Rattle.device_rule.specs.Rules.{In, Torn}
 use Rattle.device_calls.specs.Rule.{Both, CardHolds}
 
 -- The card goes by the session's sizes, and by what it keeps; and its string is carried so.
-pub record IsCarried (s : Session) (slack : Bound) (covered from : ℕ) (c : Counted) (all : List Entry) (x : List ℕ) : Type 0 where
+pub record SessionKnowsCard (s : Session) (slack : Bound) (covered from : ℕ) (c : Counted) (all : List Entry) (x : List ℕ) : Type 0 where
   pub application : own_sizes x ≡ s.application
   pub sizes : IsApplication s.application
   pub session : IsSession s x
   pub bytes : 16 ≤ slack.bytes
-  pub goes : Goes s.application slack covered from c all x
+  pub goes : StringFollowsEntries s.application slack covered from c all x
 
 -- And the entry that comes is not earlier than it may be; its day, if it is new, is later than the end mark's, or none so far is as late.
-pub record IsReady (s : Session) (slack : Bound) (covered from : ℕ) (c : Counted) (all : List Entry) (e : Entry)
+pub record CardMayTake (s : Session) (slack : Bound) (covered from : ℕ) (c : Counted) (all : List Entry) (e : Entry)
     (x : List ℕ) : Type 0 where
-  pub carried : IsCarried s slack covered from c all x
+  pub carried : SessionKnowsCard s slack covered from c all x
   pub clear : BeginsBehind s.application e x ⊎ IsFresh s.application c all x
   pub later : from ≤ e.minute
 

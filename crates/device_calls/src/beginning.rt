@@ -13,7 +13,7 @@ ghost use Rattle.device_rule.specs.Steps.{IsBeginning};
 ghost use Rattle.device_rule.specs.Rules.{Standing, Out, IsEntered};
 ghost use Rattle.device_rule.specs.Views.{other};
 ghost use Rattle.unit_rule.specs.Rule.{Started, IsCards};
-ghost use Rattle.unit_rule.specs.Marks.{Holds};
+ghost use Rattle.unit_rule.specs.Marks.{UnitFollowsBook};
 ghost use Rattle.device_calls.specs.Rule.{Both, opened, number_of, unit_seen, card_seen, CardHolds, IsKeptUp, IsRowTaken};
 
 use tach_media::{Chip, Failed, Medium};
@@ -48,8 +48,8 @@ pub fn begin<M: Medium, C: Chip, D: Chip>(
     ensures agrees { OnOk result (IfSome (M.state unit.new).image (Agrees journal.old)) }
     ensures row { OnOk result (IfSome (M.state unit.new).image (IsRowAt row (card_number_bytes number.now))) }
     ensures spares { (r : ℕ) (n : List ℕ) → option_map (λ s. card_number_bytes s.now) spared.entry ≡ Some n → IfSome (M.state unit.old).image (IsRowAt r n) → OnOk result (IfSome (M.state unit.new).image (IsRowAt r n)) }
-    ensures holds { (s : Started) (due : ℕ) (b : Book) (marks : List Mark) → IsCards s (card_number_bytes number.now) → Holds s due b marks (M.state unit.old) → Holds s due b marks (M.state unit.new) }
-    ensures mine { (r : Both) (s : Started) (due : ℕ) (b : Book) (marks : List Mark) (newest : ℕ) → card_number_bytes number.now ≡ number_of r which → Holds s due b marks (M.state unit.old) → due ≤ session / 60 → CardHolds r which b Out [] [] (M.state unit.old) (C.state mine.now) → IsEntered (opened r which).start (opened r which).began session newest (card_seen (C.state mine.now))
+    ensures holds { (s : Started) (due : ℕ) (b : Book) (marks : List Mark) → IsCards s (card_number_bytes number.now) → UnitFollowsBook s due b marks (M.state unit.old) → UnitFollowsBook s due b marks (M.state unit.new) }
+    ensures mine { (r : Both) (s : Started) (due : ℕ) (b : Book) (marks : List Mark) (newest : ℕ) → card_number_bytes number.now ≡ number_of r which → UnitFollowsBook s due b marks (M.state unit.old) → due ≤ session / 60 → CardHolds r which b Out [] [] (M.state unit.old) (C.state mine.now) → IsEntered (opened r which).start (opened r which).began session newest (card_seen (C.state mine.now))
         → IsRowTaken r which b session newest (is_err result) (M.state unit.new) (C.state mine.now) }
     ensures other { (r : Both) (s : Started) (due : ℕ) (b : Book) (marks : List Mark) (z : Standing) (m d : List Entry) → card_number_bytes number.now ≡ number_of r which → option_map (λ s. card_number_bytes s.now) spared.entry ≡ Some (number_of r (other which))
         → CardHolds r (other which) b z m d (M.state unit.old) (D.state others.now) → IsKeptUp r (other which) b z m d (is_err result) (M.state unit.new) (D.state others.now) }

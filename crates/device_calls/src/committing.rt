@@ -16,7 +16,7 @@ ghost use Rattle.device_rule.specs.Marked.{of_unit};
 ghost use Rattle.device_rule.specs.Filling.{seen_by_unit, KeepsMinute, GivesUpDay};
 ghost use Rattle.device_rule.specs.Rules.{Standing, Fits};
 ghost use Rattle.unit_rule.specs.Rule.{Started, once_mended};
-ghost use Rattle.unit_rule.specs.Marks.{Holds};
+ghost use Rattle.unit_rule.specs.Marks.{UnitFollowsBook};
 ghost use Rattle.run_unit_course.specs.Legs.{Travel};
 ghost use Rattle.unit_rule.specs.Odometer.{HasTravelled, odometer_by, odometer_after};
 ghost use Rattle.device_calls.specs.Travel.{HasGone};
@@ -47,14 +47,14 @@ pub fn commit<M: Medium, C: Chip, D: Chip>(
     ensures notes { OnOk result ((journal.new.kept ≡ kept.now.minute) × (journal.new.odometer ≡ kept.now.odometer.0)) }
     ensures same { OnErr result (journal.new ≡ journal.old) }
     ensures agrees { OnOk result (IfSome (M.state unit.new).image (Agrees journal.new)) }
-    ensures holds { (s : Started) (due : ℕ) (b : Book) (marks : List Mark) (i : HistoryMinute) → kept_minute kept.now ≡ seen_by_unit i → Holds (once_mended s) due b marks (M.state unit.old) → b.maybe ≡ None → due ≤ i.minute
+    ensures holds { (s : Started) (due : ℕ) (b : Book) (marks : List Mark) (i : HistoryMinute) → kept_minute kept.now ≡ seen_by_unit i → UnitFollowsBook (once_mended s) due b marks (M.state unit.old) → b.maybe ≡ None → due ≤ i.minute
         → IsHeldUp s b marks i (is_err result) (M.state unit.new) }
-    ensures first { (r : Both) (c : Card) (s : Started) (due : ℕ) (b : Book) (marks : List Mark) (i : HistoryMinute) (z : Standing) → kept_minute kept.now ≡ seen_by_unit i → Holds s due b marks (M.state unit.old) → b.maybe ≡ None → due ≤ i.minute
+    ensures first { (r : Both) (c : Card) (s : Started) (due : ℕ) (b : Book) (marks : List Mark) (i : HistoryMinute) (z : Standing) → kept_minute kept.now ≡ seen_by_unit i → UnitFollowsBook s due b marks (M.state unit.old) → b.maybe ≡ None → due ≤ i.minute
         → CardHolds r c b z (on_card c i) [] (M.state unit.old) (C.state first.now) → Fits c (opened r c).start z i → IsCommitted r c b i z (is_err result) (M.state unit.new) (C.state first.now) }
-    ensures second { (r : Both) (c : Card) (s : Started) (due : ℕ) (b : Book) (marks : List Mark) (i : HistoryMinute) (z : Standing) → kept_minute kept.now ≡ seen_by_unit i → Holds s due b marks (M.state unit.old) → b.maybe ≡ None → due ≤ i.minute
+    ensures second { (r : Both) (c : Card) (s : Started) (due : ℕ) (b : Book) (marks : List Mark) (i : HistoryMinute) (z : Standing) → kept_minute kept.now ≡ seen_by_unit i → UnitFollowsBook s due b marks (M.state unit.old) → b.maybe ≡ None → due ≤ i.minute
         → CardHolds r c b z (on_card c i) [] (M.state unit.old) (D.state second.now) → Fits c (opened r c).start z i → IsCommitted r c b i z (is_err result) (M.state unit.new) (D.state second.now) }
     ensures views { (a b : List ℕ) (i : HistoryMinute) → kept_minute kept.now ≡ seen_by_unit i → LeavesViews (of_unit a b (M.state unit.old)) (of_unit a b (M.state unit.new)) (IsKeeping KeepsMinute GivesUpDay i) }
-    ensures travelled { (start : ℕ) (g : Travel) (leg : ℕ) (s : Started) (due : ℕ) (b : Book) (marks : List Mark) (i : HistoryMinute) → kept_minute kept.now ≡ seen_by_unit i → Holds s due b marks (M.state unit.old) → b.maybe ≡ None → due ≤ i.minute
+    ensures travelled { (start : ℕ) (g : Travel) (leg : ℕ) (s : Started) (due : ℕ) (b : Book) (marks : List Mark) (i : HistoryMinute) → kept_minute kept.now ≡ seen_by_unit i → UnitFollowsBook s due b marks (M.state unit.old) → b.maybe ≡ None → due ≤ i.minute
         → HasTravelled start b g (M.state unit.old) → kept.now.odometer.0 ≡ odometer_by (odometer_after start g.before) leg → HasGone start b g i leg (is_err result) (M.state unit.new) }
     ensures moments { LeavesOnly (M.state unit.old) (M.state unit.new) (IsKeepingImage (kept_minute kept.now) kept.now.odometer.0) }
     ensures keeps { (t : ℕ) (x : List ℕ) → t ≤ (M.state unit.old).clock → (M.state unit.old).left_since t x → (M.state unit.new).left_since t x }

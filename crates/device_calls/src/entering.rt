@@ -17,7 +17,7 @@ ghost use Rattle.history_model.specs.Book.{Book};
 ghost use Rattle.device_rule.specs.Rules.{Standing, Out, IsEntered};
 ghost use Rattle.device_rule.specs.Views.{other};
 ghost use Rattle.unit_rule.specs.Rule.{Started};
-ghost use Rattle.unit_rule.specs.Marks.{Holds};
+ghost use Rattle.unit_rule.specs.Marks.{UnitFollowsBook};
 ghost use Rattle.device_calls.specs.Rule.{Both, opened, card_seen, CardHolds};
 ghost use Rattle.device_calls.specs.OnCard.{Anything};
 ghost use Rattle.device_calls.specs.Entering.{of_card, unit_failed, IsInTime, IsEntering, IsInsertedWith, IsAsked};
@@ -229,11 +229,11 @@ pub fn enter<M: Medium, C: Chip, D: Chip>(
     ensures enters { IsEntering app registration.now odometer.0 now.0 (M.state unit.old) (M.state unit.new) (C.state card.old) (C.state card.new) result }
     ensures row { IfOk result (λ e. IfSome (M.state unit.old).image (IsRowFor e.row (card_number_bytes e.look.number) (option_map (λ s. card_number_bytes s.now) spared.entry))) }
     ensures low { IfOk result (λ e. e.row < 8) }
-    ensures holds { (s : Started) (due : ℕ) (b : Book) (marks : List Mark) → Holds s due b marks (M.state unit.old) → Holds s due b marks (M.state unit.new) }
+    ensures holds { (s : Started) (due : ℕ) (b : Book) (marks : List Mark) → UnitFollowsBook s due b marks (M.state unit.old) → UnitFollowsBook s due b marks (M.state unit.new) }
     ensures other { (r : Both) (b : Book) (z : Standing) (m d : List Entry) → CardHolds r (other which) b z m d (M.state unit.old) (D.state others.now) → CardHolds r (other which) b z m d (M.state unit.new) (D.state others.now) }
-    ensures mine { (r : Both) (s : Started) (due : ℕ) (b : Book) (marks : List Mark) → Holds s due b marks (M.state unit.old) → b.maybe ≡ None → due ≤ now.0 / 60 → is_some (M.state unit.old).image ≡ true → is_some (C.state card.old).image ≡ true
+    ensures mine { (r : Both) (s : Started) (due : ℕ) (b : Book) (marks : List Mark) → UnitFollowsBook s due b marks (M.state unit.old) → b.maybe ≡ None → due ≤ now.0 / 60 → is_some (M.state unit.old).image ≡ true → is_some (C.state card.old).image ≡ true
         → IfSome (C.state card.old).image (IsAsked r which app) → CardHolds r which b Out [] [] (M.state unit.old) (C.state card.old) → CardHolds r which b Out [] [] (M.state unit.new) (C.state card.new) }
-    ensures entered { (r : Both) (s : Started) (due : ℕ) (b : Book) (marks : List Mark) → Holds s due b marks (M.state unit.old) → b.maybe ≡ None → due ≤ now.0 / 60 → is_some (M.state unit.old).image ≡ true → is_some (C.state card.old).image ≡ true
+    ensures entered { (r : Both) (s : Started) (due : ℕ) (b : Book) (marks : List Mark) → UnitFollowsBook s due b marks (M.state unit.old) → b.maybe ≡ None → due ≤ now.0 / 60 → is_some (M.state unit.old).image ≡ true → is_some (C.state card.old).image ≡ true
         → IfSome (C.state card.old).image (IsAsked r which app) → CardHolds r which b Out [] [] (M.state unit.old) (C.state card.old)
         → IfOk result (λ e. IsEntered (opened r which).start (opened r which).began now.0 e.session.minute (card_seen (C.state card.new))) }
     ensures unit { IsUnit (M.state unit.new) }

@@ -10,7 +10,7 @@ ghost use Rattle.log_model.specs.declared.lines.Mark.{Mark};
 ghost use Rattle.history_model.specs.Book.{Book};
 ghost use Rattle.device_rule.specs.Rules.{In, Out};
 ghost use Rattle.unit_rule.specs.Rule.{Started};
-ghost use Rattle.unit_rule.specs.Marks.{Holds};
+ghost use Rattle.unit_rule.specs.Marks.{UnitFollowsBook};
 ghost use Rattle.device_calls.specs.Rule.{Both, CardHolds};
 
 use activity_codec::Pick;
@@ -38,7 +38,7 @@ pub fn leave<M: Medium, C: Chip>(
     ensures port { IsPort app None (C.card card.new) (C.state card.new) }
     ensures closed { OnOk result (IfSome (C.state card.old).image (λ x. IfSome (C.state card.new).image (λ y. IsSession session x → IsCardClosed session (activity_of selected) x y))) }
     ensures moments { LeavesOnly (C.state card.old) (C.state card.new) (λ x c. IsSession session x → IsCardClosing session (activity_of selected) x c) }
-    ensures rule { (r : Both) (s : Started) (due : ℕ) (b : Book) (marks : List Mark) (time newest : ℕ) → is_some (M.state unit.now).image ≡ true → Holds s due b marks (M.state unit.now) → b.maybe ≡ None
+    ensures rule { (r : Both) (s : Started) (due : ℕ) (b : Book) (marks : List Mark) (time newest : ℕ) → is_some (M.state unit.now).image ≡ true → UnitFollowsBook s due b marks (M.state unit.now) → b.maybe ≡ None
         → IfSome (C.state card.old).image (λ x. (own_sizes x ≡ app) × IsSession session x) → CardHolds r which b (In time newest) [] [] (M.state unit.now) (C.state card.old) → CardHolds r which b Out [] [] (M.state unit.now) (C.state card.new) }
     ensures settled { OnOk result ((C.state card.new).clock < last_count → IsSettled (C.state card.new)) }
     ensures cause { HasCause (C.state card.old) (C.state card.new) (is_err result) }

@@ -12,7 +12,7 @@ ghost use Rattle.device_rule.specs.Steps.{IsMending};
 ghost use Rattle.device_rule.specs.Marked.{of_unit};
 ghost use Rattle.device_rule.specs.Rules.{Standing};
 ghost use Rattle.unit_rule.specs.Rule.{Started};
-ghost use Rattle.unit_rule.specs.Marks.{Holds};
+ghost use Rattle.unit_rule.specs.Marks.{UnitFollowsBook};
 ghost use Rattle.device_calls.specs.Rule.{Both, CardRests, IsHeldMended, IsTakenUp};
 
 use tach_media::{Chip, Failed, Medium};
@@ -35,7 +35,7 @@ pub fn mend<M: Medium, C: Chip, D: Chip>(
     ensures notes { OnOk result (journal.new ≡ notes_mended journal.old) }
     ensures same { OnErr result (journal.new ≡ journal.old) }
     ensures agrees { OnOk result (IfSome (M.state unit.new).image (Agrees journal.new)) }
-    ensures holds { (s : Started) (due : ℕ) (b : Book) (marks : List Mark) → Holds s due b marks (M.state unit.old) → IsHeldMended s due b marks (M.state unit.new) }
+    ensures holds { (s : Started) (due : ℕ) (b : Book) (marks : List Mark) → UnitFollowsBook s due b marks (M.state unit.old) → IsHeldMended s due b marks (M.state unit.new) }
     ensures first { (r : Both) (c : Card) (b : Book) (z : Standing) → CardRests r c b z (M.state unit.old) (C.state first.now) → IsTakenUp r c b z (is_err result) (M.state unit.new) (C.state first.now) }
     ensures second { (r : Both) (c : Card) (b : Book) (z : Standing) → CardRests r c b z (M.state unit.old) (D.state second.now) → IsTakenUp r c b z (is_err result) (M.state unit.new) (D.state second.now) }
     ensures views { (a b : List ℕ) → LeavesViews (of_unit a b (M.state unit.old)) (of_unit a b (M.state unit.new)) IsMending }

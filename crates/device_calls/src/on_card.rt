@@ -14,9 +14,9 @@ ghost use Rattle.log_model.specs.declared.lines.Mark.{Mark};
 ghost use Rattle.history_model.specs.Book.{Book};
 ghost use Rattle.device_rule.specs.Rules.{In};
 ghost use Rattle.unit_rule.specs.Rule.{Started};
-ghost use Rattle.unit_rule.specs.Marks.{Holds};
+ghost use Rattle.unit_rule.specs.Marks.{UnitFollowsBook};
 ghost use Rattle.device_calls.specs.Rule.{Both, opened, CardHolds};
-ghost use Rattle.device_calls.specs.OnCard.{IsCarried, IsReady, IsOnItsCard, Anything};
+ghost use Rattle.device_calls.specs.OnCard.{SessionKnowsCard, CardMayTake, IsOnItsCard, Anything};
 
 use card_commands::Port;
 use card_layout::Application;
@@ -42,14 +42,14 @@ fn keep_by<M: Medium, C: Medium>(
     ensures kept { OnOk result (IfSome (C.state card.old).image (λ x. IfSome (C.state card.new).image (λ y. IsSession session.old x → IsCardKept session.old session.new kept.now.entry kept.now.odometer.0 x y))) }
     ensures moments { LeavesOnly (C.state card.old) (C.state card.new) (λ x c. IsSession session.old x → IsCardKeeping session.old kept.now.entry kept.now.odometer.0 x c) }
     ensures shown { (slack : Bound) (covered from : ℕ) (c : Counted) (all : List Entry) → LeavesOnly (C.state card.old) (C.state card.new)
-        (λ x y. IsReady session.old slack covered from c all kept.now.entry x → IsKeepShown session.old.application slack covered c all kept.now.entry x y) }
+        (λ x y. CardMayTake session.old slack covered from c all kept.now.entry x → IsKeepShown session.old.application slack covered c all kept.now.entry x y) }
     ensures done { (slack : Bound) (covered from : ℕ) (c : Counted) (all : List Entry) → OnOk result (IfSome (C.state card.old).image (λ x. IfSome (C.state card.new).image (λ y.
-        IsReady session.old slack covered from c all kept.now.entry x → IsDone session.old.application slack covered c all kept.now.entry x y
-        × IsCarried session.new (and_entry slack kept.now.entry) covered (suc kept.now.entry.minute) (with_entry covered c kept.now.entry) (all ++ kept.now.entry ∷ []) y))) }
+        CardMayTake session.old slack covered from c all kept.now.entry x → IsDone session.old.application slack covered c all kept.now.entry x y
+        × SessionKnowsCard session.new (and_entry slack kept.now.entry) covered (suc kept.now.entry.minute) (with_entry covered c kept.now.entry) (all ++ kept.now.entry ∷ []) y))) }
     ensures rule { (r : Both) (s : Started) (due : ℕ) (b : Book) (marks : List Mark) (time : ℕ) (slack : Bound) (covered from : ℕ) (c : Counted) (all : List Entry)
-        → is_some (M.state unit.now).image ≡ true → Holds s due b marks (M.state unit.now) → b.maybe ≡ None
+        → is_some (M.state unit.now).image ≡ true → UnitFollowsBook s due b marks (M.state unit.now) → b.maybe ≡ None
         → CardHolds r which b (In time session.old.minute) [] (kept.now.entry ∷ []) (M.state unit.now) (C.state card.old) → (opened r which).start.word < kept.now.entry.minute
-        → IfSome (C.state card.old).image (IsReady session.old slack covered from c all kept.now.entry)
+        → IfSome (C.state card.old).image (CardMayTake session.old slack covered from c all kept.now.entry)
         → IsOnItsCard r which b time kept.now.entry (is_err result) (M.state unit.now) (C.state card.new) }
     ensures leaves { LeavesOnly (C.state card.old) (C.state card.new) Anything }
     ensures settled { OnOk result ((C.state card.new).clock < last_count → IsSettled (C.state card.new)) }
@@ -83,14 +83,14 @@ pub fn keep_on_card<M: Medium, C: Chip>(
     ensures kept { OnOk result (IfSome (C.state card.old).image (λ x. IfSome (C.state card.new).image (λ y. IsSession session.old x → IsCardKept session.old session.new kept.now.entry kept.now.odometer.0 x y))) }
     ensures moments { LeavesOnly (C.state card.old) (C.state card.new) (λ x c. IsSession session.old x → IsCardKeeping session.old kept.now.entry kept.now.odometer.0 x c) }
     ensures shown { (slack : Bound) (covered from : ℕ) (c : Counted) (all : List Entry) → LeavesOnly (C.state card.old) (C.state card.new)
-        (λ x y. IsReady session.old slack covered from c all kept.now.entry x → IsKeepShown session.old.application slack covered c all kept.now.entry x y) }
+        (λ x y. CardMayTake session.old slack covered from c all kept.now.entry x → IsKeepShown session.old.application slack covered c all kept.now.entry x y) }
     ensures done { (slack : Bound) (covered from : ℕ) (c : Counted) (all : List Entry) → OnOk result (IfSome (C.state card.old).image (λ x. IfSome (C.state card.new).image (λ y.
-        IsReady session.old slack covered from c all kept.now.entry x → IsDone session.old.application slack covered c all kept.now.entry x y
-        × IsCarried session.new (and_entry slack kept.now.entry) covered (suc kept.now.entry.minute) (with_entry covered c kept.now.entry) (all ++ kept.now.entry ∷ []) y))) }
+        CardMayTake session.old slack covered from c all kept.now.entry x → IsDone session.old.application slack covered c all kept.now.entry x y
+        × SessionKnowsCard session.new (and_entry slack kept.now.entry) covered (suc kept.now.entry.minute) (with_entry covered c kept.now.entry) (all ++ kept.now.entry ∷ []) y))) }
     ensures rule { (r : Both) (s : Started) (due : ℕ) (b : Book) (marks : List Mark) (time : ℕ) (slack : Bound) (covered from : ℕ) (c : Counted) (all : List Entry)
-        → is_some (M.state unit.now).image ≡ true → Holds s due b marks (M.state unit.now) → b.maybe ≡ None
+        → is_some (M.state unit.now).image ≡ true → UnitFollowsBook s due b marks (M.state unit.now) → b.maybe ≡ None
         → CardHolds r which b (In time session.old.minute) [] (kept.now.entry ∷ []) (M.state unit.now) (C.state card.old) → (opened r which).start.word < kept.now.entry.minute
-        → IfSome (C.state card.old).image (IsReady session.old slack covered from c all kept.now.entry)
+        → IfSome (C.state card.old).image (CardMayTake session.old slack covered from c all kept.now.entry)
         → IsOnItsCard r which b time kept.now.entry (is_err result) (M.state unit.now) (C.state card.new) }
     ensures port { IsPort app None (C.card card.new) (C.state card.new) }
     ensures settled { OnOk result ((C.state card.new).clock < last_count → IsSettled (C.state card.new)) }

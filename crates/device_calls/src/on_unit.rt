@@ -14,7 +14,7 @@ ghost use Rattle.history_model.specs.Book.{Book};
 ghost use Rattle.device_rule.specs.Rules.{Standing, IsPresent};
 ghost use Rattle.device_rule.specs.Views.{other};
 ghost use Rattle.unit_rule.specs.Rule.{Started, IsCards};
-ghost use Rattle.unit_rule.specs.Marks.{Holds};
+ghost use Rattle.unit_rule.specs.Marks.{UnitFollowsBook};
 ghost use Rattle.device_calls.specs.Rule.{Both, opened, number_of, CardHolds, IsKeptUp};
 ghost use Rattle.device_calls.specs.Minute.{Known, known_after, AreBetween, SaysBoth, AreOwed, AreCutOff};
 
@@ -43,11 +43,11 @@ fn owe_some<M: Medium, C: Chip, D: Chip>(
     ensures unit { IsUnit (M.state unit.new) }
     ensures same { journal.new ≡ journal.old }
     ensures agrees { OnOk result (IfSome (M.state unit.new).image (Agrees journal.old)) }
-    ensures holds { (s : Started) (due : ℕ) (b : Book) (marks : List Mark) → IsCards s (card_number_bytes number.now) → Holds s due b marks (M.state unit.old) → Holds s due b marks (M.state unit.new) }
-    ensures mine { (r : Both) (s : Started) (due : ℕ) (b : Book) (marks : List Mark) (z : Standing) → card_number_bytes number.now ≡ number_of r which → Holds s due b marks (M.state unit.old)
+    ensures holds { (s : Started) (due : ℕ) (b : Book) (marks : List Mark) → IsCards s (card_number_bytes number.now) → UnitFollowsBook s due b marks (M.state unit.old) → UnitFollowsBook s due b marks (M.state unit.new) }
+    ensures mine { (r : Both) (s : Started) (due : ℕ) (b : Book) (marks : List Mark) (z : Standing) → card_number_bytes number.now ≡ number_of r which → UnitFollowsBook s due b marks (M.state unit.old)
         → IfSome entry (λ e. (due ≤ e.minute) × (1440 ≤ e.minute) × IsPresent (opened r which).start z e.minute) → CardHolds r which b z [] [] (M.state unit.old) (C.state mine.now)
         → IsKeptUp r which b z (option_to_list entry) [] (is_err result) (M.state unit.new) (C.state mine.now) }
-    ensures other { (r : Both) (s : Started) (due : ℕ) (b : Book) (marks : List Mark) (y z : Standing) (m d : List Entry) → card_number_bytes number.now ≡ number_of r which → Holds s due b marks (M.state unit.old)
+    ensures other { (r : Both) (s : Started) (due : ℕ) (b : Book) (marks : List Mark) (y z : Standing) (m d : List Entry) → card_number_bytes number.now ≡ number_of r which → UnitFollowsBook s due b marks (M.state unit.old)
         → IfSome entry (λ e. (due ≤ e.minute) × (1440 ≤ e.minute)) → CardHolds r which b y [] [] (M.state unit.old) (C.state mine.now) → CardHolds r (other which) b z m d (M.state unit.old) (D.state others.now)
         → IsKeptUp r (other which) b z m d (is_err result) (M.state unit.new) (D.state others.now) }
     ensures rows { (r : ℕ) (n : List ℕ) → IfSome (M.state unit.old).image (IsRowAt r n) → OnOk result (IfSome (M.state unit.new).image (IsRowAt r n)) }

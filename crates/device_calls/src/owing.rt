@@ -10,7 +10,7 @@ ghost use Rattle.history_model.specs.Book.{Book};
 ghost use Rattle.device_rule.specs.Rules.{Standing, IsPresent};
 ghost use Rattle.device_rule.specs.Views.{other};
 ghost use Rattle.unit_rule.specs.Rule.{Started, IsCards};
-ghost use Rattle.unit_rule.specs.Marks.{Holds};
+ghost use Rattle.unit_rule.specs.Marks.{UnitFollowsBook};
 ghost use Rattle.device_rule.specs.Device.{LeavesViews};
 ghost use Rattle.device_rule.specs.Steps.{IsPutting};
 ghost use Rattle.run_unit_course.specs.Legs.{Travel};
@@ -46,13 +46,13 @@ pub fn owe<M: Medium, C: Chip, D: Chip>(
     ensures unit { IsUnit (M.state unit.new) }
     ensures same { journal.new ≡ journal.old }
     ensures agrees { OnOk result (IfSome (M.state unit.new).image (Agrees journal.old)) }
-    ensures holds { (s : Started) (due : ℕ) (b : Book) (marks : List Mark) → IsCards s (card_number_bytes number.now) → Holds s due b marks (M.state unit.old) → Holds s due b marks (M.state unit.new) }
-    ensures mine { (r : Both) (s : Started) (due : ℕ) (b : Book) (marks : List Mark) (z : Standing) → card_number_bytes number.now ≡ number_of r which → Holds s due b marks (M.state unit.old)
+    ensures holds { (s : Started) (due : ℕ) (b : Book) (marks : List Mark) → IsCards s (card_number_bytes number.now) → UnitFollowsBook s due b marks (M.state unit.old) → UnitFollowsBook s due b marks (M.state unit.new) }
+    ensures mine { (r : Both) (s : Started) (due : ℕ) (b : Book) (marks : List Mark) (z : Standing) → card_number_bytes number.now ≡ number_of r which → UnitFollowsBook s due b marks (M.state unit.old)
         → due ≤ entry.now.minute → 1440 ≤ entry.now.minute → IsPresent (opened r which).start z entry.now.minute → CardHolds r which b z [] [] (M.state unit.old) (C.state mine.now)
         → IsKeptUp r which b z (entry.now ∷ []) [] (is_err result) (M.state unit.new) (C.state mine.now) }
-    ensures views { (r : Both) (s : Started) (due : ℕ) (b : Book) (marks : List Mark) (z : Standing) → card_number_bytes number.now ≡ number_of r which → Holds s due b marks (M.state unit.old) → due ≤ entry.now.minute → 1440 ≤ entry.now.minute → CardHolds r which b z [] [] (M.state unit.old) (C.state mine.now)
+    ensures views { (r : Both) (s : Started) (due : ℕ) (b : Book) (marks : List Mark) (z : Standing) → card_number_bytes number.now ≡ number_of r which → UnitFollowsBook s due b marks (M.state unit.old) → due ≤ entry.now.minute → 1440 ≤ entry.now.minute → CardHolds r which b z [] [] (M.state unit.old) (C.state mine.now)
         → LeavesViews (unit_seen r (M.state unit.old)) (unit_seen r (M.state unit.new)) (IsPutting which entry.now) }
-    ensures other { (r : Both) (s : Started) (due : ℕ) (b : Book) (marks : List Mark) (y z : Standing) (m d : List Entry) → card_number_bytes number.now ≡ number_of r which → Holds s due b marks (M.state unit.old)
+    ensures other { (r : Both) (s : Started) (due : ℕ) (b : Book) (marks : List Mark) (y z : Standing) (m d : List Entry) → card_number_bytes number.now ≡ number_of r which → UnitFollowsBook s due b marks (M.state unit.old)
         → due ≤ entry.now.minute → 1440 ≤ entry.now.minute → CardHolds r which b y [] [] (M.state unit.old) (C.state mine.now) → CardHolds r (other which) b z m d (M.state unit.old) (D.state others.now)
         → IsKeptUp r (other which) b z m d (is_err result) (M.state unit.new) (D.state others.now) }
     ensures travelled { (start : ℕ) (b : Book) (g : Travel) → HasTravelled start b g (M.state unit.old) → HasTravelled start b g (M.state unit.new) }

@@ -20,7 +20,7 @@ ghost use Rattle.history_model.specs.Presence.{Start, card_start, newest_minute}
 ghost use Rattle.device_rule.specs.Rules.{Standing, In, Out, Torn, IsEntered};
 ghost use Rattle.device_rule.specs.Views.{beyond};
 ghost use Rattle.unit_rule.specs.Rule.{Started};
-ghost use Rattle.unit_rule.specs.Marks.{Holds};
+ghost use Rattle.unit_rule.specs.Marks.{UnitFollowsBook};
 ghost use Rattle.card_retention.specs.Expected.{with_entry};
 ghost use Rattle.card_session.specs.Sessions.{Session, IsSession};
 ghost use Rattle.card_session.specs.Overwriting.{and_entry};
@@ -29,7 +29,7 @@ ghost use Rattle.card_string.specs.Since.{all_since, bound_since, counted_since,
 ghost use Rattle.device_calls.specs.Rule.{Both, opened, card_seen, CardHolds, CardRests};
 ghost use Rattle.device_calls.specs.CardNotes.{IsNote, IsSound};
 ghost use Rattle.device_calls.specs.Entering.{owed_on, IsEntering};
-ghost use Rattle.device_calls.specs.OnCard.{IsCarried, IsReady};
+ghost use Rattle.device_calls.specs.OnCard.{SessionKnowsCard, CardMayTake};
 ghost use Rattle.device_calls.specs.Minute.{Carry, and_kept, IsSitting, IsNotIn};
 
 use crate::entering::{Entered, NotEntered};
@@ -52,7 +52,7 @@ pub fn a_unit_that_is_found_leaves_the_cards<M: Medium, N: Medium, C: Chip>(
     after: &N,
     card: &C,
 )
-    ensures { (r : Both) (c : Card) (s : Started) (due : ℕ) (b : Book) (marks : List Mark) (z : Standing) (x : List ℕ) → Holds s due b marks (M.state before.now) → LeavesOnly (M.state before.now) (N.state after.now) Unchanged →
+    ensures { (r : Both) (c : Card) (s : Started) (due : ℕ) (b : Book) (marks : List Mark) (z : Standing) (x : List ℕ) → UnitFollowsBook s due b marks (M.state before.now) → LeavesOnly (M.state before.now) (N.state after.now) Unchanged →
         (N.state after.now).works ≡ true → (N.state after.now).image ≡ Some x → CardRests r c b z (M.state before.now) (C.state card.now) → CardRests r c (found (last_kept x) b) z (N.state after.now) (C.state card.now) }
 {}
 
@@ -63,17 +63,17 @@ pub fn a_card_out_of_its_slot_stands<M: Medium, C: Chip>(unit: &M, card: &C)
 
 /// A card in its slot that kept an entry may keep the next one: what is carried of its string goes on.
 pub fn a_card_sits_on<C: Chip, D: Chip>(before: &C, after: &D)
-    ensures ready { (t : Session) (w : Carry) (e : Entry) → IsSitting t w (C.state before.now) → t.minute < e.minute → IfSome (C.state before.now).image (IsReady t w.slack w.covered w.from w.counted w.all e) }
+    ensures ready { (t : Session) (w : Carry) (e : Entry) → IsSitting t w (C.state before.now) → t.minute < e.minute → IfSome (C.state before.now).image (CardMayTake t w.slack w.covered w.from w.counted w.all e) }
     ensures goes_on { (s t : Session) (w : Carry) (e : Entry) → is_some (D.state after.now).image ≡ is_some (C.state before.now).image → t.application ≡ s.application → t.minute ≡ e.minute → IsSitting s w (C.state before.now) → s.minute < e.minute
-        → IfSome (C.state before.now).image (λ x. IfSome (D.state after.now).image (λ y. IsReady s w.slack w.covered w.from w.counted w.all e x → IsDone s.application w.slack w.covered w.counted w.all e x y
-        × IsCarried t (and_entry w.slack e) w.covered (suc e.minute) (with_entry w.covered w.counted e) (w.all ++ e ∷ []) y))
+        → IfSome (C.state before.now).image (λ x. IfSome (D.state after.now).image (λ y. CardMayTake s w.slack w.covered w.from w.counted w.all e x → IsDone s.application w.slack w.covered w.counted w.all e x y
+        × SessionKnowsCard t (and_entry w.slack e) w.covered (suc e.minute) (with_entry w.covered w.counted e) (w.all ++ e ∷ []) y))
         → IsSitting t (and_kept w e) (D.state after.now) }
 {}
 
 /// A card whose string goes on since the start of a run may keep an entry that comes no earlier than it may: what `keep_on_card` asks.
 pub fn a_string_that_goes_on_is_ready<C: Chip>(card: &C)
     ensures { (t : Session) (image : List ℕ) (done : List Entry) (n : ℕ) (e : Entry) → IsApplication t.application → n ≤ e.minute → IfSome (C.state card.now).image (λ x. (own_sizes x ≡ t.application) × IsSession t x × GoesSince t.application image done n x)
-        → (from : ℕ) × IfSome (C.state card.now).image (IsReady t (bound_since image done) (own_covered image) from (counted_since image done) (all_since image done) e) }
+        → (from : ℕ) × IfSome (C.state card.now).image (CardMayTake t (bound_since image done) (own_covered image) from (counted_since image done) (all_since image done) e) }
 {}
 
 /// An insertion only read the card; or that was valid, and each image that it leaves since is one of an insertion with the entries that the
@@ -95,10 +95,10 @@ pub fn a_note_on_the_unit_leaves_the_rules<M: Medium, N: Medium, C: Chip>(
     after: &N,
     card: &C,
 )
-    ensures holds { (s : Started) (due : ℕ) (b : Book) (marks : List Mark) → LeavesOnly (M.state before.now) (N.state after.now) LeavesJournal → Holds s due b marks (M.state before.now) → Holds s due b marks (N.state after.now) }
-    ensures card { (r : Both) (c : Card) (s : Started) (due : ℕ) (b : Book) (marks : List Mark) (z : Standing) (m d : List Entry) → LeavesOnly (M.state before.now) (N.state after.now) LeavesJournal → Holds s due b marks (M.state before.now)
+    ensures holds { (s : Started) (due : ℕ) (b : Book) (marks : List Mark) → LeavesOnly (M.state before.now) (N.state after.now) LeavesJournal → UnitFollowsBook s due b marks (M.state before.now) → UnitFollowsBook s due b marks (N.state after.now) }
+    ensures card { (r : Both) (c : Card) (s : Started) (due : ℕ) (b : Book) (marks : List Mark) (z : Standing) (m d : List Entry) → LeavesOnly (M.state before.now) (N.state after.now) LeavesJournal → UnitFollowsBook s due b marks (M.state before.now)
         → CardHolds r c b z m d (M.state before.now) (C.state card.now) → CardHolds r c b z m d (N.state after.now) (C.state card.now) }
-    ensures rests { (r : Both) (c : Card) (s : Started) (due : ℕ) (b : Book) (marks : List Mark) (z : Standing) → LeavesOnly (M.state before.now) (N.state after.now) LeavesJournal → Holds s due b marks (M.state before.now)
+    ensures rests { (r : Both) (c : Card) (s : Started) (due : ℕ) (b : Book) (marks : List Mark) (z : Standing) → LeavesOnly (M.state before.now) (N.state after.now) LeavesJournal → UnitFollowsBook s due b marks (M.state before.now)
         → CardRests r c b z (M.state before.now) (C.state card.now) → CardRests r c b z (N.state after.now) (C.state card.now) }
 {}
 

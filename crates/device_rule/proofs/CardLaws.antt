@@ -12,7 +12,7 @@ use Rattle.card_image.specs.View.{CardView, Held}
 use Rattle.device_rule.specs.Views.{UnitView, row, owed}
 use Rattle.device_rule.specs.Device.{Seen, LeavesViews, Nothing}
 use Rattle.history_model.specs.Book.{Book, all, broken}
-use Rattle.device_rule.specs.Rules.{Meets, Had, IsOpen, Standing, Out, In, Torn, Stands, CardDark, CardRule}
+use Rattle.device_rule.specs.Rules.{Meets, Had, IsOpen, Standing, Out, In, Torn, MeetsStanding, CardDark, CardRule}
 use Rattle.history_model.proofs.Filters.{all-front, all-back}
 use Rattle.device_rule.proofs.Owing.{owed-beside}
 use Rattle.history_model.proofs.Books.{history-append, history-one, history-none}
@@ -89,7 +89,7 @@ module _ (c : Card) (start : CardStart) (Keeps : ℕ → List Entry → Held →
   -- how a card stands, where the row's session and what is owed stay
   pub stands-unit : (U V : Seen UnitView) (X : Seen CardView) (began : ℕ) (s : Standing) (due : List Entry) →
       ((v : UnitView) → V.may_leave v → (u : UnitView) × U.may_leave u × ((row c v).session ≡ (row c u).session) × ((x : CardView) → X.may_leave x → owed c v x ≡ owed c u x)) →
-      Stands c start began s due U X → Stands c start began s due V X
+      MeetsStanding c start began s due U X → MeetsStanding c start began s due V X
   stands-unit U V X began Out due from stands = tt
   stands-unit U V X began (In s newest) due from stands = (
     stands.0,

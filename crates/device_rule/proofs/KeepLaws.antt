@@ -10,9 +10,9 @@ use Rattle.history_model.specs.Presence.{CardStart}
 use Rattle.card_image.specs.View.{CardView, Held}
 use Rattle.device_rule.specs.Views.{UnitView, row, other, owed, owed_in, is_session}
 use Rattle.device_rule.specs.Device.{Seen, LeavesViews, EndsWith}
-use Rattle.device_rule.specs.Steps.{IsKept, IsUnkept, IsKeeping, IsPutting, IsPut, cleared, owing, IsOnCard, IsNowOnCard}
+use Rattle.device_rule.specs.Steps.{IsKept, IsUnkept, IsKeeping, IsPutting, UnitOwes, cleared, owing, IsOnCard, IsNowOnCard}
 use Rattle.history_model.specs.Book.{Book, all, kept, broken}
-use Rattle.device_rule.specs.Rules.{Meets, IsOpen, NoLater, Cells, Standing, Out, In, Torn, since, Stands, CardDark, CardRule, IsPresent, Fits, EntriesGoOn}
+use Rattle.device_rule.specs.Rules.{Meets, IsOpen, NoLater, Cells, Standing, Out, In, Torn, since, MeetsStanding, CardDark, CardRule, IsPresent, Fits, EntriesGoOn}
 use Rattle.history_model.proofs.Filters.{all-one}
 use Rattle.device_rule.proofs.Owing.{owed-put, owed-kept, owed-beside, row-with, row-other, row-same, last-with}
 use Rattle.history_model.proofs.Books.{all-none, all-kept, up_to-whole, up_to-before, on_card-minute}
@@ -22,7 +22,7 @@ use Rattle.unit_model.specs.Days.{ShownDay}
 use Rattle.unit_owed.specs.Owed.{Row}
 
 -- a minute is later than every end mark of its card since the start
-fits-since : (c : Card) (start : CardStart) (began : ℕ) (s : Standing) (due : List Entry) (i : HistoryMinute) (U : Seen UnitView) (X : Seen CardView) → Stands c start began s due U X → Fits c start s i →
+fits-since : (c : Card) (start : CardStart) (began : ℕ) (s : Standing) (due : List Entry) (i : HistoryMinute) (U : Seen UnitView) (X : Seen CardView) → MeetsStanding c start began s due U X → Fits c start s i →
     (x : CardView) → X.left_since began x → (on_card c i ≡ []) ⊎ (x.mark < i.minute)
 fits-since c start began s due i U X stands (inl none) x there = inl none
 fits-since c start began Out due i U X stands (inr present) x there = absurd present
@@ -33,7 +33,7 @@ opened-session : (s t r : ℕ) → 0 < s → r ≡ s → t ≡ s → is_session 
 opened-session s t r h is same = let pos : 0 < r = omega (arith, h, is) in let eq : r ≡ t = omega (arith, is, same) in grind (arith, nat_tests, pos, eq)
 
 -- where a card is present, its row is that of its session
-fits-row : (c : Card) (start : CardStart) (began : ℕ) (s : Standing) (due : List Entry) (i : HistoryMinute) (U : Seen UnitView) (X : Seen CardView) → Stands c start began s due U X → Fits c start s i →
+fits-row : (c : Card) (start : CardStart) (began : ℕ) (s : Standing) (due : List Entry) (i : HistoryMinute) (U : Seen UnitView) (X : Seen CardView) → MeetsStanding c start began s due U X → Fits c start s i →
     (u : UnitView) (x : CardView) → U.may_leave u → X.may_leave x → (on_card c i ≡ []) ⊎ ((is_session (row c u).session x.session ≡ true) × (x.session / 60 ≤ i.minute) × (x.mark < i.minute))
 fits-row c start began s due i U X stands (inl none) u x on there = inl none
 fits-row c start began Out due i U X stands (inr present) u x on there = absurd present
@@ -45,7 +45,7 @@ fits-row c start began (Torn s newest floor) due i U X stands (inr present) u x 
     inr (opened-session s x.session (row c u).session o.opened o.taken o.same, subst (λ (n : ℕ). n / 60 ≤ i.minute) (sym o.same) present.2, omega (arith, o.mark, present.1))
 
 -- no entry that is owed stands in the cell of a minute that is to come
-pub near : (c : Card) (start : CardStart) (began : ℕ) (s : Standing) (m : ℕ) (U : Seen UnitView) (X : Seen CardView) → Stands c start began s [] U X → IsPresent start s m →
+pub near : (c : Card) (start : CardStart) (began : ℕ) (s : Standing) (m : ℕ) (U : Seen UnitView) (X : Seen CardView) → MeetsStanding c start began s [] U X → IsPresent start s m →
     (u : UnitView) (x : CardView) → U.may_leave u → X.may_leave x → All (λ d. m < d.minute + 4) (owed c u x)
 near c start began Out m U X stands present u x on there = absurd present
 near c start began (In s newest) m U X stands present u x on there = subst (All (λ (d : Entry). m < d.minute + 4)) (sym (stands.2 u x on there).due_) (All-nil (λ (d : Entry). m < d.minute + 4))
@@ -53,7 +53,7 @@ near c start began (Torn s newest floor) m U X stands present u x on there =
     All-weaker (λ (d : Entry). floor ≤ d.minute) (λ d. m < d.minute + 4) (λ d h. omega (arith, h, present.4)) (owed c u x) (stands.1 u x on there).recent
 
 -- the entry of a minute that the unit keeps is owed to its card from its keeping on
-pub owed-grown : (Adds : HistoryMinute → List ShownDay → List ShownDay → Type 0) (c : Card) (start : CardStart) (began : ℕ) (s : Standing) (i : HistoryMinute) (U : Seen UnitView) (X : Seen CardView) → Stands c start began s [] U X → ((u : UnitView) → U.may_leave u → Cells c (on_card c i) u) → Fits c start s i → 1440 ≤ i.minute →
+pub owed-grown : (Adds : HistoryMinute → List ShownDay → List ShownDay → Type 0) (c : Card) (start : CardStart) (began : ℕ) (s : Standing) (i : HistoryMinute) (U : Seen UnitView) (X : Seen CardView) → MeetsStanding c start began s [] U X → ((u : UnitView) → U.may_leave u → Cells c (on_card c i) u) → Fits c start s i → 1440 ≤ i.minute →
     (u v : UnitView) (x : CardView) → U.may_leave u → X.may_leave x → u.last < i.minute → IsKept Adds i u v → owed c v x ≡ owed c u x ++ on_card c i
 owed-grown Adds c start began s i U X stands cells fits day u v x on there late k =
     let mine = cells u on in
@@ -84,7 +84,7 @@ module _ (c : Card) (start : CardStart) (Keeps : ℕ → List Entry → Held →
       meets-owed c start Keeps (all b) (all b) s u v x (owed-put c e u v x here (late u on) (near c start began s e.minute U X rule.stands present u x on there)) (ap (λ (k : ℕ). up_to k (all b)) (putting-last c e u v here)) m)
 
   -- and at its end
-  pub owe-card : {U V : Seen UnitView} {X : Seen CardView} (s : Standing) (e : Entry) → CardRule c start Keeps began b s [] [] U X → LeavesViews U V (IsPutting c e) → EndsWith U V (IsPut c e) → ((u : UnitView) → U.may_leave u → u.last < e.minute) → IsPresent start s e.minute →
+  pub owe-card : {U V : Seen UnitView} {X : Seen CardView} (s : Standing) (e : Entry) → CardRule c start Keeps began b s [] [] U X → LeavesViews U V (IsPutting c e) → EndsWith U V (UnitOwes c e) → ((u : UnitView) → U.may_leave u → u.last < e.minute) → IsPresent start s e.minute →
       CardRule c start Keeps began b s (e ∷ []) [] V X
   owe-card {U} {V} {X} s e rule run ends late present = record {
     dark = owe-dark s e rule run late present;
@@ -100,7 +100,7 @@ module _ (c : Card) (start : CardStart) (Keeps : ℕ → List Entry → Held →
         (was.0, was.1, ap (λ (r : Row). r.session) (taken was.0 v was.2), λ x there. owed-put c e was.0 v x (inr (inr was.2)) (late was.0 was.1) (near c start began s e.minute U X rule.stands present was.0 x was.1 there))) rule.stands;
   }
     where
-      taken : (u v : UnitView) → IsPut c e u v → row c v ≡ owing e (row c u)
+      taken : (u v : UnitView) → UnitOwes c e u v → row c v ≡ owing e (row c u)
       taken u v is = ap (row c) is ∙ row-with c (owing e (row c u)) u
 
   -- KEEP of the unit
@@ -169,7 +169,7 @@ module _ (c : Card) (start : CardStart) (Keeps : ℕ → List Entry → Held →
         stands = stand s rule.stands fits (λ u v x on there k. grown s i U X rule fits day u v x on there (late u on) k);
       }
         where
-          stand : (s : Standing) → Stands c start began s [] U X → Fits c start s i → ((u v : UnitView) (x : CardView) → U.may_leave u → X.may_leave x → IsKept Adds i u v → owed c v x ≡ owed c u x ++ on_card c i) → Stands c start began s (on_card c i) V X
+          stand : (s : Standing) → MeetsStanding c start began s [] U X → Fits c start s i → ((u v : UnitView) (x : CardView) → U.may_leave u → X.may_leave x → IsKept Adds i u v → owed c v x ≡ owed c u x ++ on_card c i) → MeetsStanding c start began s (on_card c i) V X
           stand Out stands fits more = tt
           stand (In s newest) stands fits more = (
             stands.0,

@@ -9,12 +9,12 @@ use Rattle.card_image.specs.View.{CardView, Held}
 use Rattle.device_rule.specs.Views.{UnitView, owed}
 use Rattle.device_rule.specs.Device.{Seen, LeavesViews}
 use Rattle.device_rule.specs.Steps.{IsInserting, IsOnCard, IsClosing}
-use Rattle.device_rule.specs.Rules.{Meets, Standing, Stands, In, IsRepaired}
+use Rattle.device_rule.specs.Rules.{Meets, Standing, MeetsStanding, In, IsRepaired}
 use Rattle.history_model.proofs.Books.{on_card-minute}
 
 -- REPAIR
 -- an accepted card is owed nothing
-pub repaired-in : (c : Card) (start : CardStart) (began s newest k : ℕ) (U : Seen UnitView) (X : Seen CardView) → Stands c start began (In s newest) [] U X → IsRepaired c k U X
+pub repaired-in : (c : Card) (start : CardStart) (began s newest k : ℕ) (U : Seen UnitView) (X : Seen CardView) → MeetsStanding c start began (In s newest) [] U X → IsRepaired c k U X
 repaired-in c start began s newest k U X stands u x on there = subst (All (λ (e : Entry). k < e.minute)) (sym (stands.2 u x on there).due_) (All-nil (λ (e : Entry). k < e.minute))
 
 -- the unit goes on: what is owed stays, or is joined by a later minute's entry

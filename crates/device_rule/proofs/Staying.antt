@@ -14,7 +14,7 @@ use Rattle.device_rule.specs.Views.{UnitView, unit_view, row, other, owed, owed_
 use Rattle.device_rule.specs.Device.{Seen, LeavesViews, EndsWith, Nothing, SettledViews}
 use Rattle.device_rule.specs.Filling.{KeepsMinute, GivesUpDay}
 use Rattle.device_rule.specs.Steps.{IsKeeping, IsKept, IsUnkept, IsPutting, IsBeginning, IsMending, IsInserting, IsInserted, IsOnCard, IsNowOnCard, IsClosing}
-use Rattle.device_rule.specs.Rules.{Standing, In, Torn, Stands, Cells, Fits, IsPresent, IsEntered, IsRepaired, EntriesGoOn}
+use Rattle.device_rule.specs.Rules.{Standing, In, Torn, MeetsStanding, Cells, Fits, IsPresent, IsEntered, IsRepaired, EntriesGoOn}
 use Rattle.device_rule.specs.Marked.{of_unit, of_card, AnyAdded, HasMarked, IsOwing, IsBeside}
 use Rattle.device_rule.proofs.Viewed.{seen-coherent}
 use Rattle.device_rule.proofs.Holding.{acknowledged, acknowledges-on}
@@ -73,19 +73,19 @@ pub read-marks : (X Y : State) → IsCoherent X → LeavesViews (of_card X) (of_
 read-marks X Y whole run = marks-stay Nothing X Y whole run (λ x y on never. absurd never)
 
 -- WHAT WAS BROUGHT
-pub torn-brought : (c : Card) (start : CardStart) (began session newest floor k : ℕ) (U : Seen UnitView) (X : Seen CardView) → k < floor → Stands c start began (Torn session newest floor) [] U X → IsRepaired c k U X
+pub torn-brought : (c : Card) (start : CardStart) (began session newest floor k : ℕ) (U : Seen UnitView) (X : Seen CardView) → k < floor → MeetsStanding c start began (Torn session newest floor) [] U X → IsRepaired c k U X
 torn-brought c start began session newest floor k U X early stands u x on there =
     All-weaker (λ (e : Entry). floor ≤ e.minute) (λ e. k < e.minute) (λ e h. omega (arith, h, early)) (owed c u x) (stands.1 u x on there).recent
 
 module _ (c : Card) (U V : Seen UnitView) (X : Seen CardView) where
-  pub put-stays : (start : CardStart) (began : ℕ) (s : Standing) (e : Entry) → IsPresent start s e.minute → ((u : UnitView) → U.may_leave u → u.last < e.minute) → Stands c start began s [] U X → LeavesViews U V (IsPutting c e) → (k : ℕ) → IsRepaired c k U X → IsRepaired c k V X
+  pub put-stays : (start : CardStart) (began : ℕ) (s : Standing) (e : Entry) → IsPresent start s e.minute → ((u : UnitView) → U.may_leave u → u.last < e.minute) → MeetsStanding c start began s [] U X → LeavesViews U V (IsPutting c e) → (k : ℕ) → IsRepaired c k U X → IsRepaired c k V X
   put-stays start began s e present late stands run k =
       repaired-unit c k U V X (IsPutting c e) run (λ u v x on there p. inl (owed-put c e u v x p (late u on) (near c start began s e.minute U X stands present u x on there)))
 
   pub put-beside_stays : (e : Entry) → LeavesViews U V (IsPutting c e) → (k : ℕ) → IsRepaired (other c) k U X → IsRepaired (other c) k V X
   put-beside_stays e run k = repaired-unit (other c) k U V X (IsPutting c e) run (λ u v x on there p. inl (owed-beside (other c) u v x (putting-beside c e u v p).0 (putting-beside c e u v p).1))
 
-  pub commit-stays : (start : CardStart) (began : ℕ) (s : Standing) (i : HistoryMinute) (k : ℕ) → k < i.minute → 1440 ≤ i.minute → ((u : UnitView) → U.may_leave u → u.last < i.minute) → Stands c start began s [] U X → ((u : UnitView) → U.may_leave u → Cells c (on_card c i) u) → Fits c start s i →
+  pub commit-stays : (start : CardStart) (began : ℕ) (s : Standing) (i : HistoryMinute) (k : ℕ) → k < i.minute → 1440 ≤ i.minute → ((u : UnitView) → U.may_leave u → u.last < i.minute) → MeetsStanding c start began s [] U X → ((u : UnitView) → U.may_leave u → Cells c (on_card c i) u) → Fits c start s i →
       LeavesViews U V (IsKeeping KeepsMinute GivesUpDay i) → IsRepaired c k U X → IsRepaired c k V X
   commit-stays start began s i k behind day late stands cells fits run = repaired-unit c k U V X (IsKeeping KeepsMinute GivesUpDay i) run (λ u v x on there. ⊎_elim
       (λ (n : IsUnkept GivesUpDay i u v). inl (owed-beside c u v x n.last (row-same c u v n.rows)))
@@ -113,13 +113,13 @@ module _ (c : Card) (U : Seen UnitView) (X Y : Seen CardView) where
       let i : IsInserting AnyAdded (owed c u x) now x y = subst (λ (zs : List Entry). IsInserting AnyAdded zs now x y) (owes u x on there) n in
       (i.count, owed-insert AnyAdded c now u x y i (late u on)))
 
-  pub keep-stays : (start : CardStart) (began session newest : ℕ) (e : Entry) → newest ≤ e.minute → Stands c start began (In session newest) (e ∷ []) U X → LeavesViews X Y (IsOnCard AnyAdded e) → (k : ℕ) → IsRepaired c k U X → IsRepaired c k U Y
+  pub keep-stays : (start : CardStart) (began session newest : ℕ) (e : Entry) → newest ≤ e.minute → MeetsStanding c start began (In session newest) (e ∷ []) U X → LeavesViews X Y (IsOnCard AnyAdded e) → (k : ℕ) → IsRepaired c k U X → IsRepaired c k U Y
   keep-stays start began session newest e late stands run k = repaired-card c k U X Y (IsOnCard AnyAdded e) run (λ u x y on there n.
       let i = stands.2 u x on there in ⊎_elim
       (λ old. (0, owed-unmoved c start AnyKept AnyAdded any-goes u x y n.session old.0))
       (λ new. (1, owed-on_card c start AnyKept AnyAdded any-goes e u x y n.session new.0 (omega (arith, i.open_.mark, late)) i.due_ ∙ sym (ap (drop 1) i.due_))) n.side)
 
-  pub close-stays : (start : CardStart) (began session newest : ℕ) → Stands c start began (In session newest) [] U X → LeavesViews X Y (IsClosing AnyAdded) → (k : ℕ) → IsRepaired c k U X → IsRepaired c k U Y
+  pub close-stays : (start : CardStart) (began session newest : ℕ) → MeetsStanding c start began (In session newest) [] U X → LeavesViews X Y (IsClosing AnyAdded) → (k : ℕ) → IsRepaired c k U X → IsRepaired c k U Y
   close-stays start began session newest stands run k = repaired-card c k U X Y (IsClosing AnyAdded) run (λ u x y on there n.
       let none = (stands.2 u x on there).due_ in (0, owed-close AnyAdded c u x y n none ∙ sym none))
 

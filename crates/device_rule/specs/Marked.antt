@@ -11,7 +11,7 @@ use Rattle.card_image.specs.Own.{own_view}
 use Rattle.device_rule.specs.Views.{UnitView, unit_view, owed}
 use Rattle.device_rule.specs.Device.{Seen, seen}
 use Rattle.device_rule.specs.Steps.{SameRows}
-use Rattle.device_rule.specs.Rules.{Acknowledges, Cells, Fits, IsRepaired, Standing, Stands}
+use Rattle.device_rule.specs.Rules.{Acknowledges, Cells, Fits, IsRepaired, Standing, MeetsStanding}
 
 -- the unit, where the cards have these numbers
 abbrev pub of_unit : (number_a number_b : List ℕ) → State → Seen UnitView
@@ -58,7 +58,7 @@ IsBefore number_a number_b m unit = (u : UnitView) → (of_unit number_a number_
 pub record MayCommit (number_a number_b : List ℕ) (c : Card) (start : CardStart) (began : ℕ) (s : Standing) (i : HistoryMinute) (unit card : State) : Type 0 where
   pub day : 1440 ≤ i.minute
   pub late : IsBefore number_a number_b i.minute unit
-  pub stands : Stands c start began s [] (of_unit number_a number_b unit) (of_card card)
+  pub stands : MeetsStanding c start began s [] (of_unit number_a number_b unit) (of_card card)
   pub cells : (u : UnitView) → (of_unit number_a number_b unit).may_leave u → Cells c (on_card c i) u
   pub fits : Fits c start s i
 

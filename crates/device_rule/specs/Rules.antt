@@ -142,11 +142,11 @@ pub record IsIn (c : Card) (start : CardStart) (session newest : ℕ) (due : Lis
   pub words : x.word ≤ max start.word x.newest
 
 -- what holds of a card as it stands
-abbrev pub Stands : Card → CardStart → ℕ → Standing → List Entry → Seen UnitView → Seen CardView → Type 0
-Stands c start began Out due unit card = Unit {0}
-Stands c start began (In session newest) due unit card = (card.works ≡ true) × NoLater began newest card
+abbrev pub MeetsStanding : Card → CardStart → ℕ → Standing → List Entry → Seen UnitView → Seen CardView → Type 0
+MeetsStanding c start began Out due unit card = Unit {0}
+MeetsStanding c start began (In session newest) due unit card = (card.works ≡ true) × NoLater began newest card
     × ((u : UnitView) (x : CardView) → unit.may_leave u → card.may_leave x → IsIn c start session newest due u x)
-Stands c start began (Torn session newest floor) due unit card = NoLater began newest card
+MeetsStanding c start began (Torn session newest floor) due unit card = NoLater began newest card
     × ((u : UnitView) (x : CardView) → unit.may_leave u → card.may_leave x → IsOpen c session newest floor u x)
 
 -- a card was inserted, and its row is not begun yet
@@ -191,7 +191,7 @@ pub record CardRule (c : Card) (start : CardStart) (Keeps : ℕ → List Entry �
     (mine due : List Entry) (unit : Seen UnitView) (card : Seen CardView) : Type 0 where
   pub dark : CardDark c start Keeps began b s unit card
   pub cells : (u : UnitView) → unit.may_leave u → Cells c mine u
-  pub stands : Stands c start began s due unit card
+  pub stands : MeetsStanding c start began s due unit card
 
 -- and while the unit has power, no minute is half kept
 pub record UnitRule (Fills : Option HistoryMinute → List HistoryMinute → List ShownDay → Type 0)

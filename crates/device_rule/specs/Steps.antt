@@ -42,8 +42,8 @@ abbrev pub IsPutting : Card → Entry → UnitView → UnitView → Type 0
 IsPutting c e u v = (v ≡ u) ⊎ ((v ≡ with_row c (cleared e (row c u)) u) ⊎ (v ≡ with_row c (owing e (row c u)) u))
 
 -- at its end with the entry
-abbrev pub IsPut : Card → Entry → UnitView → UnitView → Type 0
-IsPut c e u v = v ≡ with_row c (owing e (row c u)) u
+abbrev pub UnitOwes : Card → Entry → UnitView → UnitView → Type 0
+UnitOwes c e u v = v ≡ with_row c (owing e (row c u)) u
 
 -- BEGIN_OWED: the minutes stay and the other card's row is spared; of the own one nothing is said before the end, since a
 -- number may have two rows

@@ -15,7 +15,7 @@ ghost use Rattle.history_model.specs.Presence.{CardStart, trimmed_by, newest_by}
 ghost use Rattle.device_rule.specs.Views.{UnitView, beyond, other, owed, owed_in};
 ghost use Rattle.device_rule.specs.Device.{LeavesViews, EndsWith, Nothing};
 ghost use Rattle.device_rule.specs.Steps.{IsKeeping, IsPutting, IsBeginning, IsMending, IsInserting, IsInserted, IsOnCard, IsNowOnCard, IsClosing};
-ghost use Rattle.device_rule.specs.Rules.{DaysGoOn, OwedCounts, Standing, In, Torn, Stands, IsPresent, IsEntered};
+ghost use Rattle.device_rule.specs.Rules.{DaysGoOn, OwedCounts, Standing, In, Torn, MeetsStanding, IsPresent, IsEntered};
 ghost use Rattle.device_rule.specs.Filling.{FillsDays, KeepsMinute, GivesUpDay};
 ghost use Rattle.device_rule.specs.Marked.{of_unit, of_card, AnyAdded, HasMarked, KeepsMarks, IsOwing, IsBefore, MayCommit, IsBeside, HasBrought, UnitKeepsBrought, CardKeepsBrought};
 
@@ -87,16 +87,16 @@ pub fn a_step_takes_no_mark_back<C: Chip, D: Chip>(before: &C, after: &D)
 /// before each that is owed to it.
 pub fn an_acceptance_has_brought<M: Medium, C: Chip>(unit: &M, card: &C)
     ensures accepted { (a b : List ℕ) (c : Card) (start : CardStart) (began session newest k : ℕ) →
-        Stands c start began (In session newest) [] (of_unit a b (M.state unit.now)) (of_card (C.state card.now)) → HasBrought a b c k (M.state unit.now) (C.state card.now) }
+        MeetsStanding c start began (In session newest) [] (of_unit a b (M.state unit.now)) (of_card (C.state card.now)) → HasBrought a b c k (M.state unit.now) (C.state card.now) }
     ensures torn { (a b : List ℕ) (c : Card) (start : CardStart) (began session newest floor k : ℕ) → k < floor →
-        Stands c start began (Torn session newest floor) [] (of_unit a b (M.state unit.now)) (of_card (C.state card.now)) → HasBrought a b c k (M.state unit.now) (C.state card.now) }
+        MeetsStanding c start began (Torn session newest floor) [] (of_unit a b (M.state unit.now)) (of_card (C.state card.now)) → HasBrought a b c k (M.state unit.now) (C.state card.now) }
 {}
 
 /// What an acceptance brought stays so over each step on the unit: an entry that is put for a minute that comes, a minute that is
 /// kept, a row that is begun, a mend, and what leaves rows and last-kept minute, as a note or a call that only reads.
 pub fn the_unit_owes_nothing_brought<M: Medium, N: Medium, C: Chip>(before: &M, after: &N, card: &C)
     ensures put { (a b : List ℕ) (c : Card) (start : CardStart) (began : ℕ) (s : Standing) (e : Entry) → IsPresent start s e.minute → IsBefore a b e.minute (M.state before.now) →
-        Stands c start began s [] (of_unit a b (M.state before.now)) (of_card (C.state card.now)) →
+        MeetsStanding c start began s [] (of_unit a b (M.state before.now)) (of_card (C.state card.now)) →
         LeavesViews (of_unit a b (M.state before.now)) (of_unit a b (N.state after.now)) (IsPutting c e) → UnitKeepsBrought a b c (M.state before.now) (N.state after.now) (C.state card.now) }
     ensures put_beside { (a b : List ℕ) (c : Card) (e : Entry) →
         LeavesViews (of_unit a b (M.state before.now)) (of_unit a b (N.state after.now)) (IsPutting c e) → UnitKeepsBrought a b (other c) (M.state before.now) (N.state after.now) (C.state card.now) }
@@ -120,10 +120,10 @@ pub fn a_card_is_owed_nothing_brought<M: Medium, C: Chip, D: Chip>(unit: &M, bef
     ensures inserted { (a b : List ℕ) (c : Card) (given : List Entry) (now : ℕ) → IsOwing a b c given now (M.state unit.now) (C.state before.now) →
         LeavesViews (of_card (C.state before.now)) (of_card (D.state after.now)) (IsInserting AnyAdded given now) → CardKeepsBrought a b c (M.state unit.now) (C.state before.now) (D.state after.now) }
     ensures kept { (a b : List ℕ) (c : Card) (start : CardStart) (began session newest : ℕ) (e : Entry) → newest ≤ e.minute →
-        Stands c start began (In session newest) (e ∷ []) (of_unit a b (M.state unit.now)) (of_card (C.state before.now)) →
+        MeetsStanding c start began (In session newest) (e ∷ []) (of_unit a b (M.state unit.now)) (of_card (C.state before.now)) →
         LeavesViews (of_card (C.state before.now)) (of_card (D.state after.now)) (IsOnCard AnyAdded e) → CardKeepsBrought a b c (M.state unit.now) (C.state before.now) (D.state after.now) }
     ensures closed { (a b : List ℕ) (c : Card) (start : CardStart) (began session newest : ℕ) →
-        Stands c start began (In session newest) [] (of_unit a b (M.state unit.now)) (of_card (C.state before.now)) →
+        MeetsStanding c start began (In session newest) [] (of_unit a b (M.state unit.now)) (of_card (C.state before.now)) →
         LeavesViews (of_card (C.state before.now)) (of_card (D.state after.now)) (IsClosing AnyAdded) → CardKeepsBrought a b c (M.state unit.now) (C.state before.now) (D.state after.now) }
     ensures read { (a b : List ℕ) (c : Card) →
         LeavesViews (of_card (C.state before.now)) (of_card (D.state after.now)) Nothing → CardKeepsBrought a b c (M.state unit.now) (C.state before.now) (D.state after.now) }

@@ -11,7 +11,7 @@ use Rattle.log_model.specs.declared.lines.Verdict.{Verdict}
 use Rattle.log_model.specs.declared.lines.Verdict.TheVariants.{Accepted, NotValid, TimeOverlap}
 use Rattle.log_model.specs.Log.{RunLog, Phase, In, Keeping, same_phase, kept_after, is_torn_in, is_accepting}
 use Rattle.log_model.specs.Slots.{Slots, Sitting, in_slot, other_slot, is_accepted, refusal}
-use Rattle.log_model.specs.Course.{Course, Visit, Told, Before, both_told, unmoved, fresh, all_acted, answered, second_told, before_next, not_begun}
+use Rattle.log_model.specs.Course.{Course, Visit, ToldSecond, Before, both_told, unmoved, fresh, all_acted, answered, second_told, before_next, not_begun}
 use Rattle.event_model.specs.declared.kinds.TheConstants.{CARD_NOT_VALID, TIME_OVERLAP, DRIVING_WITHOUT_CARD, INSERTION_WHILE_DRIVING, SESSION_NOT_CLOSED, OVER_SPEEDING, POWER_INTERRUPTION, CARD_FAULT}
 use Rattle.event_model.specs.declared.entries.Over.{Over}
 use Rattle.event_model.specs.declared.entries.Span.{Span}
@@ -61,7 +61,7 @@ moved_by_action log before s n (Some a) = (answered n (refusal (course_by log be
 -- a second as its events see it: as it went, its speed, the slots after its first n actions, those as action n has moved the cards
 -- (before action 1: as the second began), and those in the second itself, behind all actions and before the keeping
 pub record Seen : Type 0 where
-  pub told : Told
+  pub told : ToldSecond
   pub after : ℕ → Slots
   pub within : ℕ → Slots
   pub itself : Slots

@@ -10,7 +10,7 @@ use Rattle.event_model.specs.Runs.{last_run}
 use Rattle.event_model.specs.Spans.{SpeedSecond, InARow, first_of, last_of, at_speed, is_above, numbers, speeds, over_of, overs_of}
 use Rattle.event_model.proofs.RunLemmas.{last_run-append, row-on, row-off, ended-on, ended-off}
 use Rattle.event_model.proofs.SpanLemmas.{last_of-row, first_of-row, row-append, row-in, length-row}
-use Rattle.event_rules.specs.Speeding.{Speeding, StandsFor, IsNext, no_run, counted, grown, over_in}
+use Rattle.event_rules.specs.Speeding.{Speeding, CountsSpeedSeconds, IsNext, no_run, counted, grown, over_in}
 
 -- a second of this speed
 abbrev one : ℕ → ℕ → SpeedSecond
@@ -82,16 +82,16 @@ over-counted run begin row =
     rw long (ap (λ (e : ℕ). Some (record { begin = first_of (numbers run); end = e; most = fold max 0 (speeds run); average = sum (speeds run) / length run })) end))
     (λ short. rw short refl)
 
-module _ (kept : Speeding) (seconds : List SpeedSecond) (stands : StandsFor kept seconds) (second n speed : ℕ) where
+module _ (kept : Speeding) (seconds : List SpeedSecond) (stands : CountsSpeedSeconds kept seconds) (second n speed : ℕ) where
   -- above the limit the run goes on
   module _ (above : nat_lt kept.limit speed ≡ true) where
     on : last_run (is_above kept.limit) (seconds ++ at_speed second n speed) ≡ last_run (is_above kept.limit) seconds ++ at_speed second n speed
     on = last_run-append (is_above kept.limit) seconds (at_speed second n speed) ∙ row-on (is_above kept.limit) (one speed) (λ k. above) (last_run (is_above kept.limit) seconds) second n
 
-    pub fed-on : IsNext kept.run second → 0 < n → StandsFor (record { limit = kept.limit; run = grown second n speed kept.run }) (seconds ++ at_speed second n speed)
+    pub fed-on : IsNext kept.run second → 0 < n → CountsSpeedSeconds (record { limit = kept.limit; run = grown second n speed kept.run }) (seconds ++ at_speed second n speed)
     fed-on next some = go n refl
       where
-        go : (m : ℕ) → m ≡ n → StandsFor (record { limit = kept.limit; run = grown second n speed kept.run }) (seconds ++ at_speed second n speed)
+        go : (m : ℕ) → m ≡ n → CountsSpeedSeconds (record { limit = kept.limit; run = grown second n speed kept.run }) (seconds ++ at_speed second n speed)
         go zero is = absurd (omega (arith, some, is))
         go (suc m) is = record {
           run = rw on (ap (grown second n speed) stands.run ∙ rw (← is) (counted-grown (last_run (is_above kept.limit) seconds) second m speed));
@@ -105,13 +105,13 @@ module _ (kept : Speeding) (seconds : List SpeedSecond) (stands : StandsFor kept
 
   -- at most at the limit it ends
   module _ (within : nat_lt kept.limit speed ≡ false) where
-    pub fed-off : 0 < n → StandsFor (record { limit = kept.limit; run = no_run }) (seconds ++ at_speed second n speed)
+    pub fed-off : 0 < n → CountsSpeedSeconds (record { limit = kept.limit; run = no_run }) (seconds ++ at_speed second n speed)
     fed-off some = go n refl
       where
         off : (m : ℕ) → last_run (is_above kept.limit) (seconds ++ at_speed second (suc m) speed) ≡ []
         off m = last_run-append (is_above kept.limit) seconds (at_speed second (suc m) speed) ∙ row-off (is_above kept.limit) (one speed) (λ k. within) (last_run (is_above kept.limit) seconds) second m
 
-        go : (m : ℕ) → m ≡ n → StandsFor (record { limit = kept.limit; run = no_run }) (seconds ++ at_speed second n speed)
+        go : (m : ℕ) → m ≡ n → CountsSpeedSeconds (record { limit = kept.limit; run = no_run }) (seconds ++ at_speed second n speed)
         go zero is = absurd (omega (arith, some, is))
         go (suc m) is = record { run = rw (← is) (rw (off m) refl); row = rw (← is) (rw (off m) tt) }
 
@@ -129,9 +129,9 @@ module _ (kept : Speeding) (seconds : List SpeedSecond) (stands : StandsFor kept
             ∙ ap (λ (o : Option Over). overs_of kept.limit seconds ++ option_to_list o) over
 
 -- the same value stands for the same seconds
-pub by-value : (now same : Speeding) (seconds : List SpeedSecond) → StandsFor same seconds → now ≡ same → StandsFor now seconds
+pub by-value : (now same : Speeding) (seconds : List SpeedSecond) → CountsSpeedSeconds same seconds → now ≡ same → CountsSpeedSeconds now seconds
 by-value now same seconds h is = rw is h
 
 -- no second yet
-pub new-stands : (limit : ℕ) → StandsFor (record { limit = limit; run = no_run }) []
+pub new-stands : (limit : ℕ) → CountsSpeedSeconds (record { limit = limit; run = no_run }) []
 new-stands limit = record { run = refl; row = tt }

@@ -8,7 +8,7 @@ use Rattle.event_model.specs.Runs.{last_run}
 use Rattle.event_model.specs.Spans.{DriverSecond, InARow, first_of, last_of, all_bare, bare_of, bares_of}
 use Rattle.event_model.proofs.RunLemmas.{last_run-append, row-on, row-off, ended-on, ended-off}
 use Rattle.event_model.proofs.SpanLemmas.{last_of-row, row-append, row-in, length-row}
-use Rattle.event_rules.specs.Bare.{Bare, StandsFor, IsNext, no_run, bare_run, numbers, counted, grown, span_in}
+use Rattle.event_rules.specs.Bare.{Bare, CountsDriverSeconds, IsNext, no_run, bare_run, numbers, counted, grown, span_in}
 
 abbrev one : Bool → ℕ → DriverSecond
 one bare k = record { number = k; bare = bare }
@@ -55,15 +55,15 @@ span-counted (s ∷ run) begin row =
     let end : s.number + length (s ∷ run) - 1 ≡ last_of (numbers (s ∷ run)) = omega (arith, first, last, many) in
     rw (some-run s run) (ap (λ (e : ℕ). Some (record { begin = s.number; end = e })) end)
 
-module _ (kept : Bare) (seconds : List DriverSecond) (stands : StandsFor kept seconds) (second n : ℕ) where
+module _ (kept : Bare) (seconds : List DriverSecond) (stands : CountsDriverSeconds kept seconds) (second n : ℕ) where
   on : last_run (λ s. s.bare) (seconds ++ all_bare second n true) ≡ bare_run seconds ++ all_bare second n true
   on = last_run-append (λ (s : DriverSecond). s.bare) seconds (all_bare second n true) ∙ row-on (λ (s : DriverSecond). s.bare) (one true) (λ k. refl) (bare_run seconds) second n
 
   -- the run goes on
-  pub fed-on : IsNext kept second → 0 < n → StandsFor (grown second n kept) (seconds ++ all_bare second n true)
+  pub fed-on : IsNext kept second → 0 < n → CountsDriverSeconds (grown second n kept) (seconds ++ all_bare second n true)
   fed-on next some = go n refl
     where
-      go : (m : ℕ) → m ≡ n → StandsFor (grown second n kept) (seconds ++ all_bare second n true)
+      go : (m : ℕ) → m ≡ n → CountsDriverSeconds (grown second n kept) (seconds ++ all_bare second n true)
       go zero is = absurd (omega (arith, some, is))
       go (suc m) is = record {
         run = rw on (ap (grown second n) stands.run ∙ rw (← is) (counted-grown (bare_run seconds) second m));
@@ -75,13 +75,13 @@ module _ (kept : Bare) (seconds : List DriverSecond) (stands : StandsFor kept se
   given-on = ended-on (λ (s : DriverSecond). s.bare) (one true) bare_of (λ k. refl) seconds second n ∙ sym (append-nil (bares_of seconds))
 
   -- it ends
-  pub fed-off : 0 < n → StandsFor no_run (seconds ++ all_bare second n false)
+  pub fed-off : 0 < n → CountsDriverSeconds no_run (seconds ++ all_bare second n false)
   fed-off some = go n refl
     where
       off : (m : ℕ) → last_run (λ s. s.bare) (seconds ++ all_bare second (suc m) false) ≡ []
       off m = last_run-append (λ (s : DriverSecond). s.bare) seconds (all_bare second (suc m) false) ∙ row-off (λ (s : DriverSecond). s.bare) (one false) (λ k. refl) (bare_run seconds) second m
 
-      go : (m : ℕ) → m ≡ n → StandsFor no_run (seconds ++ all_bare second n false)
+      go : (m : ℕ) → m ≡ n → CountsDriverSeconds no_run (seconds ++ all_bare second n false)
       go zero is = absurd (omega (arith, some, is))
       go (suc m) is = record { run = rw (← is) (rw (off m) refl); row = rw (← is) (rw (off m) tt) }
 
@@ -99,5 +99,5 @@ module _ (kept : Bare) (seconds : List DriverSecond) (stands : StandsFor kept se
           ∙ ap (λ (o : Option Span). bares_of seconds ++ option_to_list o) span
 
 -- no second yet
-pub new-stands : StandsFor no_run []
+pub new-stands : CountsDriverSeconds no_run []
 new-stands = record { run = refl; row = tt }

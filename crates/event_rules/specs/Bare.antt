@@ -34,6 +34,6 @@ abbrev pub IsNext : Bare → ℕ → Type 0
 IsNext run second = 0 < run.seconds → run.begin + run.seconds ≡ second
 
 -- this stands for these seconds of a span
-pub record StandsFor (kept : Bare) (seconds : List DriverSecond) : Type 0 where
+pub record CountsDriverSeconds (kept : Bare) (seconds : List DriverSecond) : Type 0 where
   pub run : kept ≡ counted (bare_run seconds)
   pub row : InARow kept.begin (numbers (bare_run seconds))

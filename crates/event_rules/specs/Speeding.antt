@@ -43,6 +43,6 @@ abbrev pub IsNext : Fast → ℕ → Type 0
 IsNext run second = 0 < run.seconds → run.begin + run.seconds ≡ second
 
 -- this stands for these seconds of a span
-pub record StandsFor (kept : Speeding) (seconds : List SpeedSecond) : Type 0 where
+pub record CountsSpeedSeconds (kept : Speeding) (seconds : List SpeedSecond) : Type 0 where
   pub run : kept.run ≡ counted (last_run (is_above kept.limit) seconds)
   pub row : InARow kept.run.begin (numbers (last_run (is_above kept.limit) seconds))

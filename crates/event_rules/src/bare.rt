@@ -1,7 +1,7 @@
 //! Driving without an appropriate card, and power supply interruptions (Annex IB, section III.12).
 ghost use Rattle.std.specs.Prelude.{◌^◌, ◌≡◌, ◌+◌, ◌/◌, ◌==◌, ◌≤◌, ◌<◌, List, [], ◌++◌, option_to_list, if◌then◌else◌};
 ghost use Rattle.event_model.specs.Spans.{DriverSecond, bares_of, all_bare, gap_of};
-ghost use Rattle.event_rules.specs.Bare.{Bare, StandsFor, IsNext, no_run, grown, span_in};
+ghost use Rattle.event_rules.specs.Bare.{Bare, CountsDriverSeconds, IsNext, no_run, grown, span_in};
 
 use event_model::Span;
 use std::marker::Model;
@@ -29,7 +29,7 @@ impl Model for NoCardRun {
 impl NoCardRun {
     /// A span with no second yet.
     pub fn new() -> Self
-        ensures stands { StandsFor result [] }
+        ensures stands { CountsDriverSeconds result [] }
         ensures value { result ≡ no_run }
     {
         NoCardRun {
@@ -44,8 +44,8 @@ impl NoCardRun {
     /// It is the second after the one that was fed before, where there is one.
     pub fn feed(&mut self, second: u32, bare: bool) -> Option<Span>
         requires next { IsNext self.old second }
-        ensures fed { (seconds : List DriverSecond) → StandsFor self.old seconds → StandsFor self.new (seconds ++ all_bare second 1 bare) }
-        ensures given { (seconds : List DriverSecond) → StandsFor self.old seconds → bares_of (seconds ++ all_bare second 1 bare) ≡ bares_of seconds ++ option_to_list result }
+        ensures fed { (seconds : List DriverSecond) → CountsDriverSeconds self.old seconds → CountsDriverSeconds self.new (seconds ++ all_bare second 1 bare) }
+        ensures given { (seconds : List DriverSecond) → CountsDriverSeconds self.old seconds → bares_of (seconds ++ all_bare second 1 bare) ≡ bares_of seconds ++ option_to_list result }
         ensures next { IsNext self.new (second + 1) }
     {
         self.feed_run(second, 1, bare)
@@ -59,8 +59,8 @@ impl NoCardRun {
         requires some { 0 < n }
         requires fits { second + n ≤ 2 ^ 32 }
         requires next { IsNext self.old second }
-        ensures fed { (seconds : List DriverSecond) → StandsFor self.old seconds → StandsFor self.new (seconds ++ all_bare second n bare) }
-        ensures given { (seconds : List DriverSecond) → StandsFor self.old seconds → bares_of (seconds ++ all_bare second n bare) ≡ bares_of seconds ++ option_to_list result }
+        ensures fed { (seconds : List DriverSecond) → CountsDriverSeconds self.old seconds → CountsDriverSeconds self.new (seconds ++ all_bare second n bare) }
+        ensures given { (seconds : List DriverSecond) → CountsDriverSeconds self.old seconds → bares_of (seconds ++ all_bare second n bare) ≡ bares_of seconds ++ option_to_list result }
         ensures next { IsNext self.new (second + n) }
     {
         if bare {

@@ -1,7 +1,7 @@
 //! Over speeding (Annex IB, section III.12).
 ghost use Rattle.std.specs.Prelude.{◌^◌, ◌≡◌, ◌+◌, ◌*◌, ◌/◌, ◌==◌, ◌≤◌, ◌<◌, List, [], ◌++◌, option_to_list, if◌then◌else◌, nat_lt};
 ghost use Rattle.event_model.specs.Spans.{SpeedSecond, overs_of, at_speed};
-ghost use Rattle.event_rules.specs.Speeding.{Speeding, StandsFor, IsNext, no_run, grown, over_in};
+ghost use Rattle.event_rules.specs.Speeding.{Speeding, CountsSpeedSeconds, IsNext, no_run, grown, over_in};
 
 use event_model::Over;
 use std::marker::Model;
@@ -99,7 +99,7 @@ impl Model for Overspeed {
 impl Overspeed {
     /// A span with no second yet, and this limit in km/h.
     pub fn new(limit: u8) -> Self
-        ensures stands { StandsFor result [] }
+        ensures stands { CountsSpeedSeconds result [] }
         ensures value { result ≡ record { limit = limit; run = no_run } }
     {
         Overspeed {
@@ -113,8 +113,8 @@ impl Overspeed {
     /// It is the second after the one that was fed before, where there is one.
     pub fn feed(&mut self, second: u32, speed: u8) -> Option<Over>
         requires next { IsNext self.old.run second }
-        ensures fed { (seconds : List SpeedSecond) → StandsFor self.old seconds → StandsFor self.new (seconds ++ at_speed second 1 speed) }
-        ensures given { (seconds : List SpeedSecond) → StandsFor self.old seconds → overs_of self.old.limit (seconds ++ at_speed second 1 speed) ≡ overs_of self.old.limit seconds ++ option_to_list result }
+        ensures fed { (seconds : List SpeedSecond) → CountsSpeedSeconds self.old seconds → CountsSpeedSeconds self.new (seconds ++ at_speed second 1 speed) }
+        ensures given { (seconds : List SpeedSecond) → CountsSpeedSeconds self.old seconds → overs_of self.old.limit (seconds ++ at_speed second 1 speed) ≡ overs_of self.old.limit seconds ++ option_to_list result }
         ensures limit { self.new.limit ≡ self.old.limit }
         ensures next { IsNext self.new.run (second + 1) }
     {
@@ -129,8 +129,8 @@ impl Overspeed {
         requires some { 0 < n }
         requires fits { second + n ≤ 2 ^ 32 }
         requires next { IsNext self.old.run second }
-        ensures fed { (seconds : List SpeedSecond) → StandsFor self.old seconds → StandsFor self.new (seconds ++ at_speed second n speed) }
-        ensures given { (seconds : List SpeedSecond) → StandsFor self.old seconds → overs_of self.old.limit (seconds ++ at_speed second n speed) ≡ overs_of self.old.limit seconds ++ option_to_list result }
+        ensures fed { (seconds : List SpeedSecond) → CountsSpeedSeconds self.old seconds → CountsSpeedSeconds self.new (seconds ++ at_speed second n speed) }
+        ensures given { (seconds : List SpeedSecond) → CountsSpeedSeconds self.old seconds → overs_of self.old.limit (seconds ++ at_speed second n speed) ≡ overs_of self.old.limit seconds ++ option_to_list result }
         ensures limit { self.new.limit ≡ self.old.limit }
         ensures next { IsNext self.new.run (second + n) }
     {

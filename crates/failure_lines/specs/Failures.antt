@@ -19,16 +19,16 @@ IsFailureText who second what text =
     (date : List ℕ) × IsDateText (second / 86400) date × (text ≡ who ++ codes " failed at " ++ date ++ codes " " ++ seconds_text second ++ codes ": " ++ what ++ codes "\n")
 
 -- the line of a break that a failed call made; nothing of any other
-abbrev pub IsTold : Break → List ℕ → Type 0
-IsTold (Cut second kept false begun) text = text ≡ []
-IsTold (Cut second kept true begun) text = IsFailureText (codes "unit") second (codes "power is cut") text
-IsTold (Tear second slot false begun late) text = text ≡ []
-IsTold (Tear second slot true begun late) text = IsFailureText (slot_name slot ++ codes " card") second (codes "it is torn out") text
+abbrev pub IsBreakLine : Break → List ℕ → Type 0
+IsBreakLine (Cut second kept false begun) text = text ≡ []
+IsBreakLine (Cut second kept true begun) text = IsFailureText (codes "unit") second (codes "power is cut") text
+IsBreakLine (Tear second slot false begun late) text = text ≡ []
+IsBreakLine (Tear second slot true begun late) text = IsFailureText (slot_name slot ++ codes " card") second (codes "it is torn out") text
 
 -- and of several, in their order
 abbrev pub AreTold : List Break → List ℕ → Type 0
 AreTold [] text = text ≡ []
-AreTold (b ∷ bs) text = (line : List ℕ) × (rest : List ℕ) × IsTold b line × (text ≡ line ++ rest) × AreTold bs rest
+AreTold (b ∷ bs) text = (line : List ℕ) × (rest : List ℕ) × IsBreakLine b line × (text ≡ line ++ rest) × AreTold bs rest
 
 -- a failed call made this break
 abbrev pub is_failed : Break → Bool

@@ -2,7 +2,7 @@
 ghost use Rattle.std.specs.Prelude.{◌≡◌, ◌+◌, ◌<◌, ◌≤◌, ◌++◌, length, codes};
 ghost use Rattle.arrayvec.specs.ArrayVec.{array_vec_len};
 ghost use Rattle.activity_codec.specs.Names.{slot_name};
-ghost use Rattle.failure_lines.specs.Failures.{IsTold, IsFailureText, is_failed, last_line, seconds_text, two_digits};
+ghost use Rattle.failure_lines.specs.Failures.{IsBreakLine, IsFailureText, is_failed, last_line, seconds_text, two_digits};
 
 use activity_codec::Slot;
 use arrayvec::ArrayVec;
@@ -15,7 +15,7 @@ pub const MOST: usize = 60;
 
 /// The line of a break that a failed call made; nothing of any other.
 pub fn failure_line(line: &Break) -> ArrayVec<u8, MOST>
-    ensures { IsTold line.now result.items }
+    ensures { IsBreakLine line.now result.items }
 {
     match *line {
         Break::Cut { second, failed, .. } => {

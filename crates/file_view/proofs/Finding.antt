@@ -16,7 +16,7 @@ use Rattle.card_image.specs.CardFile.{FileEntry, entry_bytes, is_value, values_o
 use Rattle.view_text.specs.Exact.{both}
 use Rattle.file_view.specs.declared.parts.Found.{Found}
 use Rattle.file_view.specs.CardFiles.{are_sizes, are_days, are_vehicles, may_follow, all_follow}
-use Rattle.file_view.specs.Reading.{SizesAre, PartIs, days_size, vehicles_size, Stands}
+use Rattle.file_view.specs.Reading.{SizesAre, PartIs, days_size, vehicles_size, FoundInFile}
 
 -- the values of a file among the entries and one more
 values_both : (fid : ℕ) (es : List FileEntry) (e : FileEntry) → values_of fid (es ++ e ∷ []) ≡ values_of fid es ++ values_of fid (e ∷ [])
@@ -60,9 +60,9 @@ part_from : (fid : ℕ) (len : Application → ℕ) (good : Option Application �
 part_from fid len good app None bytes es none = none.1
 part_from fid len good app (Some p) bytes es none = absurd (cc)
 
-module _ (bytes : List ℕ) (f : Found) (es : List FileEntry) (e : FileEntry) (s : Stands bytes f es) where
+module _ (bytes : List ℕ) (f : Found) (es : List FileEntry) (e : FileEntry) (s : FoundInFile bytes f es) where
   -- an entry that is passed over
-  pub passed_over : is_value 0x0501 e ≡ false → is_value 0x0504 e ≡ false → is_value 0x0505 e ≡ false → (may_follow es e ≡ true) × Stands bytes f (es ++ e ∷ [])
+  pub passed_over : is_value 0x0501 e ≡ false → is_value 0x0504 e ≡ false → is_value 0x0505 e ≡ false → (may_follow es e ≡ true) × FoundInFile bytes f (es ++ e ∷ [])
   passed_over no_sizes no_days no_vehicles = (
     rw (no_sizes, no_days, no_vehicles) refl,
     record {
@@ -72,7 +72,7 @@ module _ (bytes : List ℕ) (f : Found) (es : List FileEntry) (e : FileEntry) (s
     },
   )
 
-  pub sizes_taken : is_value 0x0501 e ≡ true → is_value 0x0504 e ≡ false → is_value 0x0505 e ≡ false → f.app ≡ None → are_sizes e.value ≡ true → Stands bytes (record f { app = Some (application_of e.value) }) (es ++ e ∷ [])
+  pub sizes_taken : is_value 0x0501 e ≡ true → is_value 0x0504 e ≡ false → is_value 0x0505 e ≡ false → f.app ≡ None → are_sizes e.value ≡ true → FoundInFile bytes (record f { app = Some (application_of e.value) }) (es ++ e ∷ [])
   sizes_taken own no_days no_vehicles none good =
       let days = part_none 0x0504 days_size are_days f.days bytes es (subst (λ (o : Option Application). PartIs 0x0504 days_size are_days o f.days bytes es) none s.days) in
       let vehicles = part_none 0x0505 vehicles_size are_vehicles f.vehicles bytes es (subst (λ (o : Option Application). PartIs 0x0505 vehicles_size are_vehicles o f.vehicles bytes es) none s.vehicles) in
@@ -139,24 +139,24 @@ none_of None is = refl
 none_of (Some x) is = absurd (cc)
 
 -- the sizes are taken, or not
-pub sizes_come : (bytes : List ℕ) (f new : Found) (es : List FileEntry) (e : FileEntry) (result : Bool) → Stands bytes f es
+pub sizes_come : (bytes : List ℕ) (f new : Found) (es : List FileEntry) (e : FileEntry) (result : Bool) → FoundInFile bytes f es
     → is_value 0x0501 e ≡ true → is_value 0x0504 e ≡ false → is_value 0x0505 e ≡ false
-    → result ≡ (not (is_some f.app) && are_sizes e.value) → OnTrue result (new ≡ record f { app = Some (application_of e.value) }) → OnTrue result (Stands bytes new (es ++ e ∷ []))
+    → result ≡ (not (is_some f.app) && are_sizes e.value) → OnTrue result (new ≡ record f { app = Some (application_of e.value) }) → OnTrue result (FoundInFile bytes new (es ++ e ∷ []))
 sizes_come bytes f new es e true s own no_days no_vehicles judged taken =
     let parts = both (not (is_some f.app)) (are_sizes e.value) (sym judged) in
-    subst (λ (g : Found). Stands bytes g (es ++ e ∷ [])) (sym taken) (sizes_taken bytes f es e s own no_days no_vehicles (none_of f.app parts.0) parts.1)
+    subst (λ (g : Found). FoundInFile bytes g (es ++ e ∷ [])) (sym taken) (sizes_taken bytes f es e s own no_days no_vehicles (none_of f.app parts.0) parts.1)
 sizes_come bytes f new es e false s own no_days no_vehicles judged taken = tt
 
 equal : (a b : ℕ) → (a == b) ≡ true → a ≡ b
 equal a b is = grind (arith, nat_tests)
 
 -- the days are taken, or not, and the vehicle entries
-pub days_come : (bytes : List ℕ) (f new : Found) (es : List FileEntry) (e : FileEntry) (place n : ℕ) (result : Bool) → Stands bytes f es
+pub days_come : (bytes : List ℕ) (f new : Found) (es : List FileEntry) (e : FileEntry) (place n : ℕ) (result : Bool) → FoundInFile bytes f es
     → is_value 0x0501 e ≡ false → is_value 0x0504 e ≡ true → is_value 0x0505 e ≡ false → e.value ≡ bytes_at bytes place n → length e.value ≡ n → place + n ≤ length bytes
-    → result ≡ (not (is_some f.days) && are_days f.app e.value) → OnTrue result (new ≡ record f { days = Some place }) → OnTrue result (Stands bytes new (es ++ e ∷ []))
+    → result ≡ (not (is_some f.days) && are_days f.app e.value) → OnTrue result (new ≡ record f { days = Some place }) → OnTrue result (FoundInFile bytes new (es ++ e ∷ []))
 days_come bytes f new es e place n true s no_sizes own no_vehicles value long inside judged taken =
     let parts = both (not (is_some f.days)) (are_days f.app e.value) (sym judged) in
-    subst (λ (g : Found). Stands bytes g (es ++ e ∷ [])) (sym taken) (record {
+    subst (λ (g : Found). FoundInFile bytes g (es ++ e ∷ [])) (sym taken) (record {
       sizes = sizes_stay f.app es e no_sizes s.sizes;
       days = part_comes 0x0504 days_size are_days f.app f.days bytes es e place n own s.days (none_of f.days parts.0) (λ _. refl)
           (λ a good. sym long ∙ equal (length e.value) (4 + a.activity) (both (length e.value == 4 + a.activity) (not (is_some (first_bad (string_alone a) e.value))) good).0)
@@ -165,12 +165,12 @@ days_come bytes f new es e place n true s no_sizes own no_vehicles value long in
     })
 days_come bytes f new es e place n false s no_sizes own no_vehicles value long inside judged taken = tt
 
-pub vehicles_come : (bytes : List ℕ) (f new : Found) (es : List FileEntry) (e : FileEntry) (place n : ℕ) (result : Bool) → Stands bytes f es
+pub vehicles_come : (bytes : List ℕ) (f new : Found) (es : List FileEntry) (e : FileEntry) (place n : ℕ) (result : Bool) → FoundInFile bytes f es
     → is_value 0x0501 e ≡ false → is_value 0x0504 e ≡ false → is_value 0x0505 e ≡ true → e.value ≡ bytes_at bytes place n → length e.value ≡ n → place + n ≤ length bytes
-    → result ≡ (not (is_some f.vehicles) && are_vehicles f.app e.value) → OnTrue result (new ≡ record f { vehicles = Some place }) → OnTrue result (Stands bytes new (es ++ e ∷ []))
+    → result ≡ (not (is_some f.vehicles) && are_vehicles f.app e.value) → OnTrue result (new ≡ record f { vehicles = Some place }) → OnTrue result (FoundInFile bytes new (es ++ e ∷ []))
 vehicles_come bytes f new es e place n true s no_sizes no_days own value long inside judged taken =
     let parts = both (not (is_some f.vehicles)) (are_vehicles f.app e.value) (sym judged) in
-    subst (λ (g : Found). Stands bytes g (es ++ e ∷ [])) (sym taken) (record {
+    subst (λ (g : Found). FoundInFile bytes g (es ++ e ∷ [])) (sym taken) (record {
       sizes = sizes_stay f.app es e no_sizes s.sizes;
       days = part_stays 0x0504 days_size are_days f.app f.days bytes es e no_days s.days;
       vehicles = part_comes 0x0505 vehicles_size are_vehicles f.app f.vehicles bytes es e place n own s.vehicles (none_of f.vehicles parts.0) (λ _. refl)

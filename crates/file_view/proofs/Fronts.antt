@@ -16,7 +16,7 @@ use Rattle.view_text.specs.Exact.{both}
 use Rattle.file_view.specs.declared.entry.EntryAt.{EntryAt}
 use Rattle.file_view.specs.declared.parts.Found.{Found}
 use Rattle.file_view.specs.CardFiles.{is_empty, are_days, are_vehicles, may_follow, all_follow, lacks, HasNoEntry, IsBadCardFile}
-use Rattle.file_view.specs.Reading.{told_at, IsEntryAt, AreSizes, SizesAre, PartIs, days_size, vehicles_size, Stands, AreParts}
+use Rattle.file_view.specs.Reading.{told_at, IsEntryAt, AreSizes, SizesAre, PartIs, days_size, vehicles_size, FoundInFile, AreParts}
 use Rattle.file_view.proofs.Finding.{all_more, bytes_more}
 
 -- some entries stand one after the other up to a place, and this was found of them
@@ -26,7 +26,7 @@ pub record Front (bytes : List ℕ) (place : ℕ) (f : Found) : Type 0 where
   pub follow : all_follow [] entries ≡ true
   pub spelled : bytes ≡ joined (map entry_bytes entries) ++ drop place bytes
   pub place_is : place ≡ length (joined (map entry_bytes entries))
-  pub stands : Stands bytes f entries
+  pub stands : FoundInFile bytes f entries
 
 or_true : (b : Bool) → (b || true) ≡ true
 or_true true = refl
@@ -49,7 +49,7 @@ front_none bytes f app days vehicles = record {
 
 module _ (bytes : List ℕ) (place : ℕ) (f : Found) (front : Front bytes place f) where
   -- one entry more
-  pub front_more : (at : EntryAt) (g : Found) → IsEntryAt bytes place at → may_follow front.entries (told_at bytes at) ≡ true → Stands bytes g (front.entries ++ told_at bytes at ∷ []) → Front bytes (at.place + at.len) g
+  pub front_more : (at : EntryAt) (g : Found) → IsEntryAt bytes place at → may_follow front.entries (told_at bytes at) ≡ true → FoundInFile bytes g (front.entries ++ told_at bytes at ∷ []) → Front bytes (at.place + at.len) g
   front_more at g here follows stands =
       let e : FileEntry = told_at bytes at in
       let whole : bytes ≡ joined (map entry_bytes (front.entries ++ told_at bytes at ∷ [])) ++ drop (at.place + at.len) bytes =

@@ -5,7 +5,7 @@ use Rattle.std.proofs.lemmas.Bool.Decides.{nat_tests}
 use Rattle.card_layout.specs.declared.files.Application.{Application}
 use Rattle.card_layout.specs.Application.{IsApplication}
 use Rattle.card_model.specs.Checks.{first_bad}
-use Rattle.card_model.specs.Image.{StringShape, IsStringShape, Holds}
+use Rattle.card_model.specs.Image.{StringShape, IsStringShape, HoldsDays}
 use Rattle.card_model.specs.Walk.{days_of}
 use Rattle.card_model.proofs.Judging.{holds_passes}
 use Rattle.card_image.specs.CardFile.{string_alone}
@@ -36,7 +36,7 @@ days_loaded app value o long sound some none = by o some none
 
     by : (o : Option Held) → IfSome o (λ days. (days.shape ≡ shape_by (length value)) × Knows days value (days_of (shape_by (length value)) value)) → IfNone o (is_some (first_bad (shape_by (length value)) value) ≡ true) → is_some o ≡ are_days (Some app) value
     by (Some days) some none =
-        let passes : first_bad (string_alone app) value ≡ None = holds_passes (string_alone app) shape value (omega (arith, long)) (days_of (shape_by (length value)) value) (subst (λ (r : StringShape). Holds r value (days_of (shape_by (length value)) value)) (some.0 ∙ same) some.1.holds) in
+        let passes : first_bad (string_alone app) value ≡ None = holds_passes (string_alone app) shape value (omega (arith, long)) (days_of (shape_by (length value)) value) (subst (λ (r : StringShape). HoldsDays r value (days_of (shape_by (length value)) value)) (some.0 ∙ same) some.1.holds) in
         sym (ap (λ (b : Bool). b && not (is_some (first_bad (string_alone app) value))) here ∙ ap (λ (p : Option ℕ). not (is_some p)) passes)
     by None some none =
         sym (ap (λ (b : Bool). b && not (is_some (first_bad (string_alone app) value))) here

@@ -5,7 +5,7 @@ use Rattle.std.proofs.lemmas.List.{take_more, length-drop, get_or-drop}
 use Rattle.activity_codec.specs.declared.entries.Entry.{Entry}
 use Rattle.card_layout.specs.declared.files.Application.{Application}
 use Rattle.card_model.specs.Days.{Day}
-use Rattle.card_model.specs.Image.{StringShape, IsStringShape, Holds}
+use Rattle.card_model.specs.Image.{StringShape, IsStringShape, HoldsDays}
 use Rattle.card_model.specs.Walk.{days_of}
 use Rattle.card_days.specs.declared.head.DayHead.{DayHead}
 use Rattle.card_days.specs.Heads.{heads_of}
@@ -24,8 +24,8 @@ day_none = record { date = 0; counter = 0; km = 0; words = [] }
 abbrev pub head_none : DayHead
 head_none = record { place = 0; date = record { 0 = 0 }; counter = record { 0 = 0 }; km = record { 0 = 0 }; words = 0 }
 
-pub holds_own : (r : StringShape) (n : ℕ) (x : List ℕ) → r ≡ record { base = 0; size = n } → Holds r x (days_of (record { base = 0; size = n }) x) → Holds r x (days_of r x)
-holds_own r n x is holds = subst (λ (ds : List Day). Holds r x ds) (ap (λ (s : StringShape). days_of s x) (sym is)) holds
+pub holds_own : (r : StringShape) (n : ℕ) (x : List ℕ) → r ≡ record { base = 0; size = n } → HoldsDays r x (days_of (record { base = 0; size = n }) x) → HoldsDays r x (days_of r x)
+holds_own r n x is holds = subst (λ (ds : List Day). HoldsDays r x ds) (ap (λ (s : StringShape). days_of s x) (sym is)) holds
 
 pub inside_own : (r : StringShape) (x : List ℕ) → r ≡ record { base = 0; size = length x - 4 } → 4 ≤ length x → r.base + (4 + r.size) ≤ length x
 inside_own r x is long = omega (arith, ap (λ (s : StringShape). s.base) is, ap (λ (s : StringShape). s.size) is, long)
@@ -52,7 +52,7 @@ pub rest_is : {X : Type 0} → (A : List X) (from : ℕ) → take (length A - fr
 rest_is A from = ap (λ (n : ℕ). take n (drop from A)) (sym (length-drop from A)) ∙ take-length (drop from A)
 
 -- a head that is shown is that of a day that is shown
-pub shown_day : (r : StringShape) → IsStringShape r → (x : List ℕ) → r.base + (4 + r.size) ≤ length x → (days : List Day) → Holds r x days → (A : List DayHead) → A ≡ heads_of r x days → (from k : ℕ) (h : DayHead) (d : Day)
+pub shown_day : (r : StringShape) → IsStringShape r → (x : List ℕ) → r.base + (4 + r.size) ≤ length x → (days : List Day) → HoldsDays r x days → (A : List DayHead) → A ≡ heads_of r x days → (from k : ℕ) (h : DayHead) (d : Day)
     → k < length (take (length A - from) (drop from A)) → IsDayAt r x (get_or (take (length A - from) (drop from A)) k h) (get_or (drop from days) k d) × (k < length (drop from days))
 shown_day r shape x inside days holds A heads from k h d low =
     let count : length A ≡ length days = ap (λ (l : List DayHead). length l) heads ∙ heads_count r x 0 days in

@@ -2,7 +2,7 @@
 use Rattle.std.proofs.Common.{◌≡◌, ◌∙◌, ℕ, zero, suc, ◌+◌, ◌≤◌, ◌<◌, Option, Some, None, List, [], ◌∷◌, ◌++◌, length, get_or, refl, ap, sym, subst, arith, append_assoc, append-nil, length-append}
 use Rattle.activity_codec.specs.Words.{word_minute}
 use Rattle.card_model.specs.Days.{Day, len_of, total, Ascend, AreWords, IsDay}
-use Rattle.card_model.specs.Image.{StringShape, IsStringShape, Holds}
+use Rattle.card_model.specs.Image.{StringShape, IsStringShape, HoldsDays}
 use Rattle.card_model.proofs.Lists.{total-append}
 use Rattle.card_model.proofs.Reading.{day_is}
 use Rattle.card_days.specs.declared.head.DayHead.{DayHead}
@@ -55,7 +55,7 @@ heads_count r x so_far (d ∷ ds) = ap suc (heads_count r x (so_far + len_of d) 
 
 -- the head of each day is that of the day which stands there
 module _ (r : StringShape) (shape : IsStringShape r) (x : List ℕ) (inside : r.base + (4 + r.size) ≤ length x) where
-  heads_there : (older later : List Day) → Holds r x (older ++ later) → (i : ℕ) → i < length later → (h : DayHead) (e : Day) → IsDayAt r x (get_or (heads_from r x (total older) later) i h) (get_or later i e)
+  heads_there : (older later : List Day) → HoldsDays r x (older ++ later) → (i : ℕ) → i < length later → (h : DayHead) (e : Day) → IsDayAt r x (get_or (heads_from r x (total older) later) i h) (get_or later i e)
   heads_there older [] holds i low h e = absurd (omega (arith, low))
   heads_there older (d ∷ ds) holds zero low h e = record {
     here = day_here r shape x inside older d ds holds;
@@ -64,10 +64,10 @@ module _ (r : StringShape) (shape : IsStringShape r) (x : List ℕ) (inside : r.
   }
   heads_there older (d ∷ ds) holds (suc i) low h e =
       let more : total (older ++ d ∷ []) ≡ total older + len_of d = total-append older (d ∷ []) ∙ omega arith in
-      let rest = heads_there (older ++ d ∷ []) ds (subst (λ (l : List Day). Holds r x l) (sym (append_assoc older (d ∷ []) ds)) holds) i (omega (arith, low)) h e in
+      let rest = heads_there (older ++ d ∷ []) ds (subst (λ (l : List Day). HoldsDays r x l) (sym (append_assoc older (d ∷ []) ds)) holds) i (omega (arith, low)) h e in
       subst (λ (k : ℕ). IsDayAt r x (get_or (heads_from r x k ds) i h) (get_or ds i e)) more rest
 
-  pub head_there : (days : List Day) → Holds r x days → (i : ℕ) → i < length days → (h : DayHead) (e : Day) → IsDayAt r x (get_or (heads_of r x days) i h) (get_or days i e)
+  pub head_there : (days : List Day) → HoldsDays r x days → (i : ℕ) → i < length days → (h : DayHead) (e : Day) → IsDayAt r x (get_or (heads_of r x days) i h) (get_or days i e)
   head_there days holds i low h e = heads_there [] days holds i low h e
 
 -- each word of a day has a minute of it

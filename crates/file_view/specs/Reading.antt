@@ -52,7 +52,7 @@ abbrev pub vehicles_size : Application → ℕ
 vehicles_size app = 2 + 31 * app.vehicles
 
 -- what was found in a file whose front has these entries
-pub record Stands (bytes : List ℕ) (f : Found) (entries : List FileEntry) : Type 0 where
+pub record FoundInFile (bytes : List ℕ) (f : Found) (entries : List FileEntry) : Type 0 where
   pub sizes : SizesAre f.app entries
   pub days : PartIs 0x0504 days_size are_days f.app f.days bytes entries
   pub vehicles : PartIs 0x0505 vehicles_size are_vehicles f.app f.vehicles bytes entries

@@ -10,7 +10,7 @@ ghost use Rattle.card_model.specs.Walk.{days_of};
 ghost use Rattle.card_days.specs.Held.{Knows};
 ghost use Rattle.card_image.specs.CardFile.{FileEntry};
 ghost use Rattle.file_view.specs.CardFiles.{may_follow, lacks, are_sizes, are_days, are_vehicles, IsBadCardFile};
-ghost use Rattle.file_view.specs.Reading.{Stands, told_at, value_at, days_size, vehicles_size, AreParts, ArePartsOf};
+ghost use Rattle.file_view.specs.Reading.{FoundInFile, told_at, value_at, days_size, vehicles_size, AreParts, ArePartsOf};
 
 use crate::entry::{EntryAt, part};
 use byteorder::{BigEndian, ByteOrder};
@@ -74,8 +74,8 @@ impl Found {
         requires inside { entry.place + entry.len ≤ length b.now }
         requires short { length b.now < 2 ^ 32 }
         ensures sound { ForSome self.new.app IsApplication }
-        ensures follows { (before : List FileEntry) → Stands b.now self.old before → result ≡ may_follow before (told_at b.now entry) }
-        ensures taken { (before : List FileEntry) → Stands b.now self.old before → OnTrue result (Stands b.now self.new (before ++ told_at b.now entry ∷ [])) }
+        ensures follows { (before : List FileEntry) → FoundInFile b.now self.old before → result ≡ may_follow before (told_at b.now entry) }
+        ensures taken { (before : List FileEntry) → FoundInFile b.now self.old before → OnTrue result (FoundInFile b.now self.new (before ++ told_at b.now entry ∷ [])) }
     {
         if entry.kind != 0 {
             return true;

@@ -1,7 +1,7 @@
 //! The days of a card's string, which stands alone in a slice.
 ghost use Rattle.std.specs.Prelude.{◌≡◌, ◌+◌, ◌*◌, ◌≤◌, ◌<◌, ◌^◌, ℕ, List, [], Some, length, IfOk, IfSome, slice_get, slice_index};
 ghost use Rattle.card_model.specs.Days.{Day};
-ghost use Rattle.card_model.specs.Image.{Holds, IsAt, IsStringShape};
+ghost use Rattle.card_model.specs.Image.{HoldsDays, IsAt, IsStringShape};
 ghost use Rattle.card_model.specs.Walk.{days_of};
 ghost use Rattle.card_days.specs.Heads.{heads_of, IsAfter};
 ghost use Rattle.file_view.specs.Deciding.{Decides};
@@ -18,7 +18,7 @@ pub fn heads(alloc: Global, string: &Days, file: &[u8]) -> Result<Vec<DayHead>, 
     requires alone { string.now.shape.base ≡ 0 }
     requires short { length file.now < 2 ^ 32 }
     requires shape { IsStringShape string.now.shape }
-    requires holds { Holds string.now.shape file.now (days_of string.now.shape file.now) }
+    requires holds { HoldsDays string.now.shape file.now (days_of string.now.shape file.now) }
     ensures { IfOk result (λ heads. heads.items ≡ heads_of string.now.shape file.now (days_of string.now.shape file.now)) }
 {
     let mut heads = Vec::new(alloc);
@@ -35,7 +35,7 @@ fn first_head(string: &Days, file: &[u8]) -> Option<DayHead>
     requires fits { 4 + string.now.shape.size ≤ length file.now }
     requires alone { string.now.shape.base ≡ 0 }
     requires short { length file.now < 2 ^ 32 }
-    ensures first { (days : List Day) → Holds string.now.shape file.now days → result ≡ slice_get (heads_of string.now.shape file.now days) 0 }
+    ensures first { (days : List Day) → HoldsDays string.now.shape file.now days → result ≡ slice_get (heads_of string.now.shape file.now days) 0 }
     ensures place { IfSome result (λ h. h.place < string.now.shape.size) }
 {
     let mut medium = SliceMedium::new(file);

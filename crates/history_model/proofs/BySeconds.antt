@@ -6,7 +6,7 @@ use Rattle.std.proofs.lemmas.List.Elements.{Contains-append_left, Contains-push}
 use Rattle.minute_model.specs.declared.Rule.{Rule}
 use Rattle.minute_model.specs.Activity.{last}
 use Rattle.log_model.specs.Log.{RunLog}
-use Rattle.log_model.specs.Course.{Told, Went}
+use Rattle.log_model.specs.Course.{ToldSecond, Went}
 use Rattle.log_model.specs.Spans.{spans_of, first_in, end_in, AreApart}
 use Rattle.log_model.proofs.Spanning.{IsSpanned, IsNext}
 use Rattle.history_model.specs.Minutes.{HistoryMinute}
@@ -19,27 +19,27 @@ use Rattle.history_model.proofs.Growing.{goes, on-history, on-lost}
 use Rattle.history_model.proofs.Following.{follows-limit}
 
 -- what is told later of cuts that have no limit yet changes nothing
-pub same-history : (rule : Rule) (start : Start) (log later : RunLog) (told : List Told) → SameLimits log later (spans_of told) → unit_history rule start later told ≡ unit_history rule start log told
+pub same-history : (rule : Rule) (start : Start) (log later : RunLog) (told : List ToldSecond) → SameLimits log later (spans_of told) → unit_history rule start later told ≡ unit_history rule start log told
 unfolding unit_history
 same-history rule start log later told same = history-same rule start told (limit_of later) (limit_of log) [] (spans_of told) (agree-log log later (spans_of told) same)
 
-pub same-lost : (rule : Rule) (start : Start) (log later : RunLog) (told : List Told) → SameLimits log later (spans_of told) → with_lost rule start later told ≡ with_lost rule start log told
+pub same-lost : (rule : Rule) (start : Start) (log later : RunLog) (told : List ToldSecond) → SameLimits log later (spans_of told) → with_lost rule start later told ≡ with_lost rule start log told
 unfolding with_lost
 same-lost rule start log later told same = lost-same rule start told (limit_of later) (limit_of log) [] (spans_of told) (agree-log log later (spans_of told) same)
 
-apart-behind : (from until : ℕ) (spans behind : List (List Told)) → AreApart from (spans ++ behind) until → (n : ℕ) × AreApart n behind until
+apart-behind : (from until : ℕ) (spans behind : List (List ToldSecond)) → AreApart from (spans ++ behind) until → (n : ℕ) × AreApart n behind until
 apart-behind from until [] behind h = (from, h)
 apart-behind from until (x ∷ spans) behind h = apart-behind (end_in x) until spans behind h.3
 
-apart-front : (from until : ℕ) (spans : List (List Told)) (span : List Told) → AreApart from (spans ++ span ∷ []) until → (n : ℕ) × AreApart from spans n
+apart-front : (from until : ℕ) (spans : List (List ToldSecond)) (span : List ToldSecond) → AreApart from (spans ++ span ∷ []) until → (n : ℕ) × AreApart from spans n
 apart-front from until [] span h = (first_in span, h.1)
 apart-front from until (x ∷ spans) span h = let rest = apart-front (end_in x) until spans span h.3 in (rest.0, (h.0, h.1, h.2, rest.1))
 
 -- spans that end at a limit, and behind them one of one second
-module _ (rule : Rule) (start : Start) (log : RunLog) (told : List Told) (k : ℕ) (spans : List (List Told)) (limit : EndsAtLimit log k spans) (from until : ℕ) (apart : AreApart from spans until) where
-  none : AllByRecursion (λ (span : List Told). decided_of rule span ≡ []) limit.short
+module _ (rule : Rule) (start : Start) (log : RunLog) (told : List ToldSecond) (k : ℕ) (spans : List (List ToldSecond)) (limit : EndsAtLimit log k spans) (from until : ℕ) (apart : AreApart from spans until) where
+  none : AllByRecursion (λ (span : List ToldSecond). decided_of rule span ≡ []) limit.short
   none =
-      let behind = apart-behind from until limit.before (limit.span ∷ limit.short) (subst (λ (ss : List (List Told)). AreApart from ss until) limit.are apart) in
+      let behind = apart-behind from until limit.before (limit.span ∷ limit.short) (subst (λ (ss : List (List ToldSecond)). AreApart from ss until) limit.are apart) in
       shorts-none rule (end_in limit.span) until limit.short behind.1.3 limit.none
 
   abbrev pub closed : List HistoryMinute
@@ -95,7 +95,7 @@ module _ (rule : Rule) (start : Start) (log : RunLog) (told : List Told) (k : �
       )
 
 -- the second second of a span: the limit of the cut before it counts, and the book, in which this minute was found, follows
-pub follows-second : (rule : Rule) (start : Start) (log : RunLog) (from until : ℕ) (w : Went) (t : Told) (h : IsSpanned from until w) (next : IsNext w.before until t) (lit : t.lit ≡ true) (starts : t.starts ≡ false) →
+pub follows-second : (rule : Rule) (start : Start) (log : RunLog) (from until : ℕ) (w : Went) (t : ToldSecond) (h : IsSpanned from until w) (next : IsNext w.before until t) (lit : t.lit ≡ true) (starts : t.starts ≡ false) →
     let s = goes rule start log from until w t h next lit starts in
     length s.span ≡ 1 → (k : ℕ) (limit : EndsAtLimit log k s.before) (b : Book) →
     Follows (unit_history rule start log w.told) (with_lost rule start log w.told) b → AreLost (with_lost rule start log w.told) b →
@@ -106,7 +106,7 @@ pub follows-second : (rule : Rule) (start : Start) (log : RunLog) (from until : 
 unfolding unit_history with_lost
 follows-second rule start log from until w t h next lit starts one k limit b follows lost known low high =
     let s = goes rule start log from until w t h next lit starts in
-    let apart = subst (λ (ss : List (List Told)). AreApart from ss until) s.are h.apart in
+    let apart = subst (λ (ss : List (List ToldSecond)). AreApart from ss until) s.are h.apart in
     let front = apart-front from until s.before s.span apart in
     let behind = apart-behind from until s.before (s.span ∷ []) apart in
     let short : any_long (s.span ∷ []) ≡ false = ap (λ (n : ℕ). nat_lt 1 n || false) one in

@@ -8,7 +8,7 @@ use Rattle.minute_model.specs.declared.Rule.{Rule}
 use Rattle.minute_model.specs.declared.Minute.{Minute}
 use Rattle.minute_model.specs.Span.{AreNumbered}
 use Rattle.log_model.specs.Log.{RunLog}
-use Rattle.log_model.specs.Course.{Told, went}
+use Rattle.log_model.specs.Course.{ToldSecond, went}
 use Rattle.log_model.specs.Spans.{spans_of, seconds_in, first_in, end_in, AreInOrder, AreApart}
 use Rattle.log_model.proofs.Spanning.{spanned}
 use Rattle.history_model.specs.Minutes.{HistoryMinute, up_to}
@@ -19,14 +19,14 @@ use Rattle.history_model.proofs.Books.{up_to-within}
 use Rattle.history_model.proofs.Rising.{rises-span, rises-spans}
 
 -- WHERE A MINUTE OF THE HISTORY COMES FROM: it is decided in one of the spans
-pub record IsDecidedIn (rule : Rule) (spans : List (List Told)) (m : ℕ) : Type 0 where
-  pub span : List Told
+pub record IsDecidedIn (rule : Rule) (spans : List (List ToldSecond)) (m : ℕ) : Type 0 where
+  pub span : List ToldSecond
   pub decided : Minute
   pub among : Contains spans span
   pub within : Contains (decided_of rule span) decided
   pub same : decided.minute ≡ m
 
-pub after-decided : (start : Start) (told : List Told) (past : List HistoryMinute) (ds : List Minute) (i : HistoryMinute) → Contains (minutes_after start told past ds) i → (d : Minute) × Contains ds d × (d.minute ≡ i.minute)
+pub after-decided : (start : Start) (told : List ToldSecond) (past : List HistoryMinute) (ds : List Minute) (i : HistoryMinute) → Contains (minutes_after start told past ds) i → (d : Minute) × Contains ds d × (d.minute ≡ i.minute)
 after-decided start told past [] i at = absurd (omega (arith, at.1))
 after-decided start told past (d ∷ ds) i at =
     ⊎_elim
@@ -35,7 +35,7 @@ after-decided start told past (d ∷ ds) i at =
     (Contains-append_cases (seated start told past d ∷ []) (minutes_after start told (past ++ seated start told past d ∷ []) ds) i at)
 
 -- and each decided one is among them
-pub decided-after : (start : Start) (told : List Told) (past : List HistoryMinute) (ds : List Minute) (d : Minute) → Contains ds d → (i : HistoryMinute) × Contains (minutes_after start told past ds) i × (i.minute ≡ d.minute)
+pub decided-after : (start : Start) (told : List ToldSecond) (past : List HistoryMinute) (ds : List Minute) (d : Minute) → Contains ds d → (i : HistoryMinute) × Contains (minutes_after start told past ds) i × (i.minute ≡ d.minute)
 decided-after start told past [] d at = absurd (omega (arith, at.1))
 decided-after start told past (x ∷ ds) d at =
     ⊎_elim
@@ -54,7 +54,7 @@ pub limited-among : (o : Option ℕ) (xs : List HistoryMinute) (x : HistoryMinut
 limited-among None xs x at = at
 limited-among (Some k) xs x at = filter-among (λ i. nat_le i.minute k) xs x at
 
-history-decided : (rule : Rule) (start : Start) (told : List Told) (limit : List Told → List (List Told) → Option ℕ) (past : List HistoryMinute) (spans : List (List Told)) (i : HistoryMinute) →
+history-decided : (rule : Rule) (start : Start) (told : List ToldSecond) (limit : List ToldSecond → List (List ToldSecond) → Option ℕ) (past : List HistoryMinute) (spans : List (List ToldSecond)) (i : HistoryMinute) →
     Contains (history_by rule start limit told past spans) i → IsDecidedIn rule spans i.minute
 history-decided rule start told limit past [] i at = absurd (omega (arith, at.1))
 history-decided rule start told limit past (span ∷ later) i at =
@@ -68,7 +68,7 @@ history-decided rule start told limit past (span ∷ later) i at =
     record { span = rest.span; decided = rest.decided; among = Contains-append_right (span ∷ []) later rest.span rest.among; within = rest.within; same = rest.same })
     (Contains-append_cases more (history_by rule start limit told (past ++ more) later) i at)
 
-pub unit-decided : (rule : Rule) (start : Start) (log : RunLog) (told : List Told) (i : HistoryMinute) → Contains (unit_history rule start log told) i → IsDecidedIn rule (spans_of told) i.minute
+pub unit-decided : (rule : Rule) (start : Start) (log : RunLog) (told : List ToldSecond) (i : HistoryMinute) → Contains (unit_history rule start log told) i → IsDecidedIn rule (spans_of told) i.minute
 unfolding unit_history
 unit-decided rule start log told i at = history-decided rule start told (limit_of log) [] (spans_of told) i at
 
@@ -113,8 +113,8 @@ found-in p (x ∷ xs) i is = go (p x) refl (λ rest. found-in p xs i rest) is
     go false test more is = let rest = more is in (Contains-append_right (x ∷ []) xs i rest.0, rest.1)
 
 -- WHERE EACH DECIDED MINUTE IS IN THE HISTORY, no span has lost one
-module _ (rule : Rule) (start : Start) (told : List Told) where
-  decided-within : (span : List Told) (d : Minute) → AreNumbered (first_in span) (seconds_in span) → Contains (decided_of rule span) d → (first_in span / 60 ≤ d.minute) × (d.minute < end_in span / 60)
+module _ (rule : Rule) (start : Start) (told : List ToldSecond) where
+  decided-within : (span : List ToldSecond) (d : Minute) → AreNumbered (first_in span) (seconds_in span) → Contains (decided_of rule span) d → (first_in span / 60 ≤ d.minute) × (d.minute < end_in span / 60)
   decided-within span d numbered at =
       let i = decided-after start told [] (decided_of rule span) d at in
       let w = rises-within (first_in span / 60) (end_in span / 60) (span_minutes rule start told [] span) i.0 (rises-span rule start told [] span numbered) i.1 in
@@ -123,21 +123,21 @@ module _ (rule : Rule) (start : Start) (told : List Told) where
       let high = w.1 in
       (omega (arith, low, same), omega (arith, high, same))
 
-  decided-late : (from until : ℕ) (spans : List (List Told)) (span : List Told) (d : Minute) → AreApart from spans until → Contains spans span → Contains (decided_of rule span) d → from / 60 ≤ d.minute
+  decided-late : (from until : ℕ) (spans : List (List ToldSecond)) (span : List ToldSecond) (d : Minute) → AreApart from spans until → Contains spans span → Contains (decided_of rule span) d → from / 60 ≤ d.minute
   decided-late from until [] span d apart at in_ = absurd (omega (arith, at.1))
   decided-late from until (x ∷ spans) span d apart at in_ =
       let begins : from ≤ first_in x = apart.1 in
       ⊎_elim
       (λ here. ⊎_elim
       (λ none. absurd (omega (arith, none.1)))
-      (λ (is : x ≡ span). let w = (decided-within x d apart.2 (subst (λ (y : List Told). Contains (decided_of rule y) d) (sym is) in_)).0 in omega (arith, begins, w))
+      (λ (is : x ≡ span). let w = (decided-within x d apart.2 (subst (λ (y : List ToldSecond). Contains (decided_of rule y) d) (sym is) in_)).0 in omega (arith, begins, w))
       (Contains-push_cases [] x span here))
       (λ there. let w : (first_in x + length x) / 60 ≤ d.minute = decided-late (end_in x) until spans span d apart.3 there in_ in omega (arith, begins, w))
       (Contains-append_cases (x ∷ []) spans span at)
 
-  module _ (limit : List Told → List (List Told) → Option ℕ) where
-    nothing-lost : (past : List HistoryMinute) (from until : ℕ) (spans : List (List Told)) → AreApart from spans until →
-        ((span : List Told) (d : Minute) → Contains spans span → Contains (decided_of rule span) d → (i : HistoryMinute) × Contains (history_by rule start limit told past spans) i × (i.minute ≡ d.minute)) →
+  module _ (limit : List ToldSecond → List (List ToldSecond) → Option ℕ) where
+    nothing-lost : (past : List HistoryMinute) (from until : ℕ) (spans : List (List ToldSecond)) → AreApart from spans until →
+        ((span : List ToldSecond) (d : Minute) → Contains spans span → Contains (decided_of rule span) d → (i : HistoryMinute) × Contains (history_by rule start limit told past spans) i × (i.minute ≡ d.minute)) →
         lost_by rule start limit told past spans ≡ []
     nothing-lost past from until [] apart each = refl
     nothing-lost past from until (span ∷ later) apart each =
@@ -148,7 +148,7 @@ module _ (rule : Rule) (start : Start) (told : List Told) where
         own : (i : HistoryMinute) → Contains (span_minutes rule start told past span) i → i.minute < end_in span / 60
         own i at = (rises-within (first_in span / 60) (end_in span / 60) (span_minutes rule start told past span) i (rises-span rule start told past span apart.2) at).1
 
-        others : (s : List Told) (d : Minute) → Contains later s → Contains (decided_of rule s) d →
+        others : (s : List ToldSecond) (d : Minute) → Contains later s → Contains (decided_of rule s) d →
             (i : HistoryMinute) × Contains (history_by rule start limit told (past ++ limited_to (limit span later) (span_minutes rule start told past span)) later) i × (i.minute ≡ d.minute)
         others s d at in_ =
             let i = each s d (Contains-append_right (span ∷ []) later s at) in_ in
@@ -187,7 +187,7 @@ module _ (rule : Rule) (start : Start) (told : List Told) where
                 (history_by rule start limit told (past ++ limited_to (limit span later) (span_minutes rule start told past span)) later) j.0 j.1))
 
 pub nothing-was-lost : (rule : Rule) (start : Start) (log : RunLog) (n : ℕ) (ss : List TraceSecond) → AreInOrder n ss →
-    ((span : List Told) (d : Minute) → Contains (spans_of (went log ss).told) span → Contains (decided_of rule span) d → (i : HistoryMinute) × Contains (unit_history rule start log (went log ss).told) i × (i.minute ≡ d.minute)) →
+    ((span : List ToldSecond) (d : Minute) → Contains (spans_of (went log ss).told) span → Contains (decided_of rule span) d → (i : HistoryMinute) × Contains (unit_history rule start log (went log ss).told) i × (i.minute ≡ d.minute)) →
     with_lost rule start log (went log ss).told ≡ []
 unfolding with_lost unit_history
 nothing-was-lost rule start log n ss order each = nothing-lost rule start (went log ss).told (limit_of log) [] n (n + length ss) (spans_of (went log ss).told) (spanned log n ss order).apart each

@@ -11,18 +11,18 @@ use Rattle.minute_model.specs.Minute.{minutes_ahead, class_of}
 use Rattle.minute_model.specs.Span.{Span, end_of, fed, decided_in, ungiven_of, latest, AreSettled, AreNumbered, count_from}
 use Rattle.minute_model.proofs.Counted.{judged, decided-counted, decided-ended, decided-settled, settled-more}
 use Rattle.minute_model.proofs.Spans.{decided-fed_many}
-use Rattle.log_model.specs.Course.{Told}
+use Rattle.log_model.specs.Course.{ToldSecond}
 use Rattle.log_model.specs.Spans.{seconds_in, first_in, end_in, AreApart}
 use Rattle.log_model.proofs.Spanning.{first-on}
 use Rattle.history_model.specs.History.{settlings_of, decided_of}
 use Rattle.history_model.specs.Growth.{as_span, settled_where, picking}
 
-pub counted : (span : List Told) → length (seconds_in span) ≡ length span
+pub counted : (span : List ToldSecond) → length (seconds_in span) ≡ length span
 counted [] = refl
 counted (t ∷ span) = ap suc (counted span)
 
 -- settlings are seconds of the span
-settled-within : (n end : ℕ) (span : List Told) → AreNumbered n (seconds_in span) → n + length span ≤ end → AllByRecursion (λ (u : ℕ). u ≤ end) (settlings_of span)
+settled-within : (n end : ℕ) (span : List ToldSecond) → AreNumbered n (seconds_in span) → n + length span ≤ end → AllByRecursion (λ (u : ℕ). u ≤ end) (settlings_of span)
 settled-within n end [] h le = tt
 settled-within n end (t ∷ span) h le = go t.course.settled (settled-within (n + 1) end span h.1 (omega (arith, le)))
   where
@@ -30,27 +30,27 @@ settled-within n end (t ∷ span) h le = go t.course.settled (settled-within (n 
     here = let is : t.second.number ≡ n = h.0 in omega (arith, is, le)
 
     go : (b : Bool) → AllByRecursion (λ (u : ℕ). u ≤ end) (settlings_of span) →
-        AllByRecursion (λ (u : ℕ). u ≤ end) (map (λ (t : Told). t.second.number) (cond b (t ∷ filter (λ (t : Told). t.course.settled) span) (filter (λ (t : Told). t.course.settled) span)))
+        AllByRecursion (λ (u : ℕ). u ≤ end) (map (λ (t : ToldSecond). t.second.number) (cond b (t ∷ filter (λ (t : ToldSecond). t.course.settled) span) (filter (λ (t : ToldSecond). t.course.settled) span)))
     go true rest = (here, rest)
     go false rest = rest
 
-pub span-settled : (rule : Rule) (span : List Told) → AreNumbered (first_in span) (seconds_in span) → AreSettled (as_span rule span)
+pub span-settled : (rule : Rule) (span : List ToldSecond) → AreNumbered (first_in span) (seconds_in span) → AreSettled (as_span rule span)
 span-settled rule span h = settled-within (first_in span) (end_of (as_span rule span)) span h (let n = counted span in omega (arith, n))
 
 -- each decided minute has ended
-pub span-ended : (rule : Rule) (span : List Told) → AreNumbered (first_in span) (seconds_in span) → AllByRecursion (λ (d : Minute). 60 * d.minute + 60 ≤ end_in span) (decided_of rule span)
+pub span-ended : (rule : Rule) (span : List ToldSecond) → AreNumbered (first_in span) (seconds_in span) → AllByRecursion (λ (d : Minute). 60 * d.minute + 60 ≤ end_in span) (decided_of rule span)
 span-ended rule span h = subst (λ (n : ℕ). AllByRecursion (λ (d : Minute). 60 * d.minute + 60 ≤ n) (decided_of rule span)) (ap (λ (n : ℕ). first_in span + n) (counted span)) (decided-ended (as_span rule span) h (span-settled rule span h))
 
 ended-by : (end until : ℕ) (ds : List Minute) → end ≤ until → AllByRecursion (λ (d : Minute). 60 * d.minute + 60 ≤ end) ds → AllByRecursion (λ (d : Minute). d.minute < until / 60) ds
 ended-by end until [] le h = tt
 ended-by end until (d ∷ ds) le h = let here : 60 * d.minute + 60 ≤ end = h.0 in (omega (arith, here, le), ended-by end until ds le h.1)
 
-pub apart-until : (from until : ℕ) (spans : List (List Told)) → AreApart from spans until → from ≤ until
+pub apart-until : (from until : ℕ) (spans : List (List ToldSecond)) → AreApart from spans until → from ≤ until
 apart-until from until [] h = h
 apart-until from until (span ∷ spans) h = let rest = apart-until (end_in span) until spans h.3 in let begins : from ≤ first_in span = h.1 in omega (arith, rest, begins)
 
 -- the minutes that are decided in these spans are earlier than that of the second behind them
-pub apart-ended : (rule : Rule) (from until : ℕ) (spans : List (List Told)) → AreApart from spans until → AllByRecursion (λ (span : List Told). AllByRecursion (λ (d : Minute). d.minute < until / 60) (decided_of rule span)) spans
+pub apart-ended : (rule : Rule) (from until : ℕ) (spans : List (List ToldSecond)) → AreApart from spans until → AllByRecursion (λ (span : List ToldSecond). AllByRecursion (λ (d : Minute). d.minute < until / 60) (decided_of rule span)) spans
 apart-ended rule from until [] h = tt
 apart-ended rule from until (span ∷ spans) h =
     (ended-by (end_in span) until (decided_of rule span) (apart-until (end_in span) until spans h.3) (span-ended rule span h.2), apart-ended rule (end_in span) until spans h.3)
@@ -60,11 +60,11 @@ ahead-some : (rule : Rule) → 1 ≤ minutes_ahead rule
 ahead-some Original = omega arith
 ahead-some Amended = omega arith
 
-latest-one : (t : Told) (b : Bool) → latest (map (λ (t : Told). t.second.number) (cond b (t ∷ []) [])) ≤ t.second.number
+latest-one : (t : ToldSecond) (b : Bool) → latest (map (λ (t : ToldSecond). t.second.number) (cond b (t ∷ []) [])) ≤ t.second.number
 latest-one t true = omega arith
 latest-one t false = omega arith
 
-pub short-none : (rule : Rule) (t : Told) → decided_of rule (t ∷ []) ≡ []
+pub short-none : (rule : Rule) (t : ToldSecond) → decided_of rule (t ∷ []) ≡ []
 short-none rule t =
     let span = as_span rule (t ∷ []) in
     let some = ahead-some rule in
@@ -73,21 +73,21 @@ short-none rule t =
     decided-counted span (refl, tt) (span-settled rule (t ∷ []) (refl, tt)) ∙ ap (λ (k : ℕ). map (judged span.rule span.settlings span.seconds) (count_from (span.first / 60) k)) zero_
 
 -- one second more is one second more for the rules of minutes: its settling, its selections, its speed
-pub span-more : (rule : Rule) (span : List Told) (t : Told) → 0 < length span → t.second.number ≡ end_in span →
+pub span-more : (rule : Rule) (span : List ToldSecond) (t : ToldSecond) → 0 < length span → t.second.number ≡ end_in span →
     as_span rule (span ++ t ∷ []) ≡ fed (picking t.second.picks (settled_where t.course.settled (as_span rule span))) t.second.speed
 span-more rule span t some is =
     ap (λ (n : ℕ). record { rule = rule; first = n; seconds = seconds_in (span ++ t ∷ []); pending = []; settlings = settlings_of (span ++ t ∷ []) }) (first-on span t some)
-    ∙ ap (λ (ss : List Second). record { rule = rule; first = first_in span; seconds = ss; pending = []; settlings = settlings_of (span ++ t ∷ []) }) (map-append (λ (t : Told). t.second) span (t ∷ []) ∙ ap (λ (n : ℕ). seconds_in span ++ record { number = n; speed = t.second.speed; picks = t.second.picks } ∷ []) number)
+    ∙ ap (λ (ss : List Second). record { rule = rule; first = first_in span; seconds = ss; pending = []; settlings = settlings_of (span ++ t ∷ []) }) (map-append (λ (t : ToldSecond). t.second) span (t ∷ []) ∙ ap (λ (n : ℕ). seconds_in span ++ record { number = n; speed = t.second.speed; picks = t.second.picks } ∷ []) number)
     ∙ ap (λ (us : List ℕ). record { rule = rule; first = first_in span; seconds = seconds_in span ++ record { number = end_of (as_span rule span); speed = t.second.speed; picks = t.second.picks } ∷ []; pending = []; settlings = us }) (settles ∙ by t.course.settled)
     ∙ same t.course.settled
   where
     number : t.second.number ≡ end_of (as_span rule span)
     number = let n = counted span in omega (arith, n, is)
 
-    settles : settlings_of (span ++ t ∷ []) ≡ settlings_of span ++ map (λ (t : Told). t.second.number) (cond t.course.settled (t ∷ []) [])
-    settles = ap (map (λ (t : Told). t.second.number)) (filter-append (λ (t : Told). t.course.settled) span (t ∷ [])) ∙ map-append (λ (t : Told). t.second.number) (filter (λ (t : Told). t.course.settled) span) (cond t.course.settled (t ∷ []) [])
+    settles : settlings_of (span ++ t ∷ []) ≡ settlings_of span ++ map (λ (t : ToldSecond). t.second.number) (cond t.course.settled (t ∷ []) [])
+    settles = ap (map (λ (t : ToldSecond). t.second.number)) (filter-append (λ (t : ToldSecond). t.course.settled) span (t ∷ [])) ∙ map-append (λ (t : ToldSecond). t.second.number) (filter (λ (t : ToldSecond). t.course.settled) span) (cond t.course.settled (t ∷ []) [])
 
-    by : (b : Bool) → settlings_of span ++ map (λ (t : Told). t.second.number) (cond b (t ∷ []) []) ≡ (settled_where b (as_span rule span)).settlings
+    by : (b : Bool) → settlings_of span ++ map (λ (t : ToldSecond). t.second.number) (cond b (t ∷ []) []) ≡ (settled_where b (as_span rule span)).settlings
     by true = ap (λ (n : ℕ). settlings_of span ++ n ∷ []) number
     by false = append-nil (settlings_of span)
 
@@ -108,7 +108,7 @@ settled-stays : (span : Span) (b : Bool) → AreNumbered span.first span.seconds
 settled-stays span true numbered all = (numbered, settled-more span all)
 settled-stays span false numbered all = (numbered, all)
 
-pub decided-grows : (rule : Rule) (span : List Told) (t : Told) → 0 < length span → t.second.number ≡ end_in span → AreNumbered (first_in span) (seconds_in span) → (new : List Minute) × (decided_of rule (span ++ t ∷ []) ≡ decided_of rule span ++ new)
+pub decided-grows : (rule : Rule) (span : List ToldSecond) (t : ToldSecond) → 0 < length span → t.second.number ≡ end_in span → AreNumbered (first_in span) (seconds_in span) → (new : List Minute) × (decided_of rule (span ++ t ∷ []) ≡ decided_of rule span ++ new)
 decided-grows rule span t some is numbered =
     let whole = as_span rule span in
     let all = span-settled rule span numbered in

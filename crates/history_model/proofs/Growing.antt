@@ -8,7 +8,7 @@ use Rattle.minute_model.specs.declared.Minute.{Minute}
 use Rattle.minute_model.specs.Span.{AreNumbered}
 use Rattle.minute_model.proofs.Ranges.{last-push}
 use Rattle.log_model.specs.Log.{RunLog}
-use Rattle.log_model.specs.Course.{Told, Went}
+use Rattle.log_model.specs.Course.{ToldSecond, Went}
 use Rattle.log_model.specs.Spans.{go_on, spans_of, seconds_in, first_in, end_in, AreApart}
 use Rattle.log_model.proofs.Spanning.{IsSpanned, IsNext, EndsAt, spans-more, spans-new, spans-on, spans-dark}
 use Rattle.history_model.specs.Minutes.{HistoryMinute}
@@ -20,54 +20,54 @@ use Rattle.history_model.proofs.Stilled.{history-still, lost-still, minutes-stil
 use Rattle.history_model.proofs.Closing.{history-long, lost-long, history-short, lost-short, minutes-parts}
 
 -- these minutes are earlier than that of a number
-abbrev pub AreBefore : Rule → ℕ → List (List Told) → Type 0
-AreBefore rule n spans = AllByRecursion (λ (span : List Told). AllByRecursion (λ (d : Minute). d.minute < n / 60) (decided_of rule span)) spans
+abbrev pub AreBefore : Rule → ℕ → List (List ToldSecond) → Type 0
+AreBefore rule n spans = AllByRecursion (λ (span : List ToldSecond). AllByRecursion (λ (d : Minute). d.minute < n / 60) (decided_of rule span)) spans
 
 -- the spans before the newest, and the newest, which ends with a number
-pub record Split (u : ℕ) (spans : List (List Told)) : Type 0 where
-  pub before : List (List Told)
-  pub span : List Told
+pub record Split (u : ℕ) (spans : List (List ToldSecond)) : Type 0 where
+  pub before : List (List ToldSecond)
+  pub span : List ToldSecond
   pub are : spans ≡ before ++ span ∷ []
   pub end : end_in span ≡ u
 
-pub split : (u : ℕ) (spans : List (List Told)) → EndsAt spans u → Split u spans
+pub split : (u : ℕ) (spans : List (List ToldSecond)) → EndsAt spans u → Split u spans
 split u [] ends = absurd ends
 split u (span ∷ []) ends = record { before = []; span = span; are = refl; end = ends }
 split u (span ∷ next ∷ spans) ends =
     let rest = split u (next ∷ spans) ends in
-    record { before = span ∷ rest.before; span = rest.span; are = ap (λ (ss : List (List Told)). span ∷ ss) rest.are; end = rest.end }
+    record { before = span ∷ rest.before; span = rest.span; are = ap (λ (ss : List (List ToldSecond)). span ∷ ss) rest.are; end = rest.end }
 
-pub go_on-last : (spans : List (List Told)) (span : List Told) (t : Told) → go_on (spans ++ span ∷ []) t ≡ spans ++ (span ++ t ∷ []) ∷ []
+pub go_on-last : (spans : List (List ToldSecond)) (span : List ToldSecond) (t : ToldSecond) → go_on (spans ++ span ∷ []) t ≡ spans ++ (span ++ t ∷ []) ∷ []
 go_on-last [] span t = refl
 go_on-last (x ∷ []) span t = refl
-go_on-last (x ∷ y ∷ spans) span t = ap (λ (ss : List (List Told)). x ∷ ss) (go_on-last (y ∷ spans) span t)
+go_on-last (x ∷ y ∷ spans) span t = ap (λ (ss : List (List ToldSecond)). x ∷ ss) (go_on-last (y ∷ spans) span t)
 
 -- a span among spans that are apart
-pub apart-last : (from until : ℕ) (spans : List (List Told)) (span : List Told) → AreApart from (spans ++ span ∷ []) until → (0 < length span) × AreNumbered (first_in span) (seconds_in span)
+pub apart-last : (from until : ℕ) (spans : List (List ToldSecond)) (span : List ToldSecond) → AreApart from (spans ++ span ∷ []) until → (0 < length span) × AreNumbered (first_in span) (seconds_in span)
 apart-last from until [] span h = (h.0, h.2)
 apart-last from until (x ∷ spans) span h = apart-last (end_in x) until spans span h.3
 
-pub newest-last : (spans : List (List Told)) (span : List Told) → newest_span (spans ++ span ∷ []) ≡ span
-newest-last spans span = ap (λ (o : Option (List Told)). unwrap_or o []) (last-push spans span)
+pub newest-last : (spans : List (List ToldSecond)) (span : List ToldSecond) → newest_span (spans ++ span ∷ []) ≡ span
+newest-last spans span = ap (λ (o : Option (List ToldSecond)). unwrap_or o []) (last-push spans span)
 
-pub earlier-last : (spans : List (List Told)) (span : List Told) → earlier_spans (spans ++ span ∷ []) ≡ spans
+pub earlier-last : (spans : List (List ToldSecond)) (span : List ToldSecond) → earlier_spans (spans ++ span ∷ []) ≡ spans
 earlier-last [] span = refl
 earlier-last (x ∷ []) span = refl
-earlier-last (x ∷ y ∷ spans) span = ap (λ (ss : List (List Told)). x ∷ ss) (earlier-last (y ∷ spans) span)
+earlier-last (x ∷ y ∷ spans) span = ap (λ (ss : List (List ToldSecond)). x ∷ ss) (earlier-last (y ∷ spans) span)
 
-front-before : (rule : Rule) (n : ℕ) (spans behind : List (List Told)) → AreBefore rule n (spans ++ behind) → AreBefore rule n spans
+front-before : (rule : Rule) (n : ℕ) (spans behind : List (List ToldSecond)) → AreBefore rule n (spans ++ behind) → AreBefore rule n spans
 front-before rule n [] behind h = tt
 front-before rule n (x ∷ spans) behind h = (h.0, front-before rule n spans behind h.1)
 
-last-before : (rule : Rule) (n : ℕ) (spans : List (List Told)) (span : List Told) → AreBefore rule n (spans ++ span ∷ []) → AllByRecursion (λ (d : Minute). d.minute < n / 60) (decided_of rule span)
+last-before : (rule : Rule) (n : ℕ) (spans : List (List ToldSecond)) (span : List ToldSecond) → AreBefore rule n (spans ++ span ∷ []) → AllByRecursion (λ (d : Minute). d.minute < n / 60) (decided_of rule span)
 last-before rule n [] span h = h.0
 last-before rule n (x ∷ spans) span h = last-before rule n spans span h.1
 
-module _ (rule : Rule) (start : Start) (log : RunLog) (from until : ℕ) (w : Went) (t : Told) (h : IsSpanned from until w) (next : IsNext w.before until t) where
+module _ (rule : Rule) (start : Start) (log : RunLog) (from until : ℕ) (w : Went) (t : ToldSecond) (h : IsSpanned from until w) (next : IsNext w.before until t) where
   before : AreBefore rule t.second.number (spans_of w.told)
   before = subst (λ (n : ℕ). AreBefore rule n (spans_of w.told)) (sym next.number) (apart-ended rule from until (spans_of w.told) h.apart)
 
-  abbrev later : List Told
+  abbrev later : List ToldSecond
   later = w.told ++ t ∷ []
 
   -- no power: the same history
@@ -111,12 +111,12 @@ module _ (rule : Rule) (start : Start) (log : RunLog) (from until : ℕ) (w : We
 
   spans-later : (lit : t.lit ≡ true) (starts : t.starts ≡ false) → spans_of (w.told ++ t ∷ []) ≡ (goes lit starts).before ++ ((goes lit starts).span ++ t ∷ []) ∷ []
   spans-later lit starts =
-      spans-more w.told t ∙ spans-on (spans_of w.told) t lit starts ∙ ap (λ (ss : List (List Told)). go_on ss t) (goes lit starts).are ∙ go_on-last (goes lit starts).before (goes lit starts).span t
+      spans-more w.told t ∙ spans-on (spans_of w.told) t lit starts ∙ ap (λ (ss : List (List ToldSecond)). go_on ss t) (goes lit starts).are ∙ go_on-last (goes lit starts).before (goes lit starts).span t
 
   pub still-before : (lit : t.lit ≡ true) (starts : t.starts ≡ false) → AreBefore rule t.second.number (goes lit starts).before
   still-before lit starts = front-before rule t.second.number (goes lit starts).before ((goes lit starts).span ∷ []) (subst (AreBefore rule t.second.number) (goes lit starts).are before)
 
-  long-on : (span : List Told) → 0 < length span → any_long ((span ++ t ∷ []) ∷ []) ≡ true
+  long-on : (span : List ToldSecond) → 0 < length span → any_long ((span ++ t ∷ []) ∷ []) ≡ true
   long-on span some =
       let n = length-append span (t ∷ []) in
       let two : 1 < length (span ++ t ∷ []) = omega (arith, n, some) in
@@ -130,7 +130,7 @@ module _ (rule : Rule) (start : Start) (log : RunLog) (from until : ℕ) (w : We
   unfolding unit_history
   on-history lit starts =
       let s = goes lit starts in
-      let some = apart-last from until s.before s.span (subst (λ (ss : List (List Told)). AreApart from ss until) s.are h.apart) in
+      let some = apart-last from until s.before s.span (subst (λ (ss : List (List ToldSecond)). AreApart from ss until) s.are h.apart) in
       ap (history_by rule start (limit_of log) later []) (spans-later lit starts)
       ∙ history-long rule start later log s.before (s.span ++ t ∷ []) (long-on s.span some.0)
       ∙ ap (λ (is : List HistoryMinute). is ++ span_minutes rule start later is (s.span ++ t ∷ [])) (history-still start w.told t rule (closed_limit log) [] s.before (still-before lit starts))
@@ -139,7 +139,7 @@ module _ (rule : Rule) (start : Start) (log : RunLog) (from until : ℕ) (w : We
   unfolding with_lost
   on-lost lit starts =
       let s = goes lit starts in
-      let some = apart-last from until s.before s.span (subst (λ (ss : List (List Told)). AreApart from ss until) s.are h.apart) in
+      let some = apart-last from until s.before s.span (subst (λ (ss : List (List ToldSecond)). AreApart from ss until) s.are h.apart) in
       ap (lost_by rule start (limit_of log) later []) (spans-later lit starts)
       ∙ lost-long rule start later log s.before (s.span ++ t ∷ []) (long-on s.span some.0)
       ∙ lost-still start w.told t rule (closed_limit log) [] s.before (still-before lit starts)
@@ -148,7 +148,7 @@ module _ (rule : Rule) (start : Start) (log : RunLog) (from until : ℕ) (w : We
   pub new-minutes : (lit : t.lit ≡ true) (starts : t.starts ≡ false) → (new : List Minute) × (decided_of rule ((goes lit starts).span ++ t ∷ []) ≡ decided_of rule (goes lit starts).span ++ new)
   new-minutes lit starts =
       let s = goes lit starts in
-      let some = apart-last from until s.before s.span (subst (λ (ss : List (List Told)). AreApart from ss until) s.are h.apart) in
+      let some = apart-last from until s.before s.span (subst (λ (ss : List (List ToldSecond)). AreApart from ss until) s.are h.apart) in
       decided-grows rule s.span t some.0 (next.number ∙ sym s.end) some.1
 
   -- it had two seconds before: the history grows by them, and nothing else changes

@@ -4,7 +4,7 @@ use Rattle.minute_model.specs.declared.Rule.{Rule}
 use Rattle.minute_model.specs.declared.Minute.{Minute}
 use Rattle.minute_model.specs.Span.{ungiven_of, count_from, AreNumbered}
 use Rattle.minute_model.proofs.Counted.{decided-minutes, ungiven-most}
-use Rattle.log_model.specs.Course.{Told}
+use Rattle.log_model.specs.Course.{ToldSecond}
 use Rattle.log_model.specs.Spans.{seconds_in, first_in, end_in, AreApart}
 use Rattle.history_model.specs.Minutes.{HistoryMinute}
 use Rattle.history_model.specs.Presence.{Start}
@@ -37,7 +37,7 @@ rises-limited None a until past h = h
 rises-limited (Some k) a until past h = rises-filter (λ i. nat_le i.minute k) a until past h
 
 -- the minutes of a span, from that of its first second on
-rises-counted : (start : Start) (told : List Told) (past : List HistoryMinute) (ds : List Minute) (a n : ℕ) → map (λ (d : Minute). d.minute) ds ≡ count_from a n → Rises a (minutes_after start told past ds) (a + n)
+rises-counted : (start : Start) (told : List ToldSecond) (past : List HistoryMinute) (ds : List Minute) (a n : ℕ) → map (λ (d : Minute). d.minute) ds ≡ count_from a n → Rises a (minutes_after start told past ds) (a + n)
 rises-counted start told past [] a n is = omega arith
 rises-counted start told past (d ∷ ds) a zero is = absurd (cc)
 rises-counted start told past (d ∷ ds) a (suc n) is =
@@ -46,7 +46,7 @@ rises-counted start told past (d ∷ ds) a (suc n) is =
     let more = rises-counted start told (past ++ seated start told past d ∷ []) ds (a + 1) n rest in
     (omega (arith, first), rises-from (d.minute + 1) (a + 1) (a + suc n) (minutes_after start told (past ++ seated start told past d ∷ []) ds) (omega (arith, first)) (rises-later (a + 1) (a + 1 + n) (a + suc n) (minutes_after start told (past ++ seated start told past d ∷ []) ds) (omega arith) more))
 
-pub rises-span : (rule : Rule) (start : Start) (told : List Told) (past : List HistoryMinute) (span : List Told) → AreNumbered (first_in span) (seconds_in span) → Rises (first_in span / 60) (span_minutes rule start told past span) (end_in span / 60)
+pub rises-span : (rule : Rule) (start : Start) (told : List ToldSecond) (past : List HistoryMinute) (span : List ToldSecond) → AreNumbered (first_in span) (seconds_in span) → Rises (first_in span / 60) (span_minutes rule start told past span) (end_in span / 60)
 rises-span rule start told past span h =
     let whole = as_span rule span in
     let all = span-settled rule span h in
@@ -56,7 +56,7 @@ rises-span rule start told past span h =
     (rises-counted start told past (decided_of rule span) (first_in span / 60) (ungiven_of whole - first_in span / 60) (decided-minutes whole h all))
 
 -- the minutes of spans that are apart rise from the first number's to the last one's
-pub rises-spans : (rule : Rule) (start : Start) (told : List Told) (limit : List Told → List (List Told) → Option ℕ) (past : List HistoryMinute) (from until : ℕ) (spans : List (List Told)) → AreApart from spans until →
+pub rises-spans : (rule : Rule) (start : Start) (told : List ToldSecond) (limit : List ToldSecond → List (List ToldSecond) → Option ℕ) (past : List HistoryMinute) (from until : ℕ) (spans : List (List ToldSecond)) → AreApart from spans until →
     Rises (from / 60) (history_by rule start limit told past spans) (until / 60)
 rises-spans rule start told limit past from until [] h = omega (arith, h)
 rises-spans rule start told limit past from until (span ∷ later) h =

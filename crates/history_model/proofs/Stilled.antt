@@ -12,23 +12,23 @@ use Rattle.minute_model.specs.Second.{minute_of}
 use Rattle.minute_model.specs.Activity.{last}
 use Rattle.trace_model.specs.declared.Card.{Card}
 use Rattle.log_model.specs.Slots.{in_slot}
-use Rattle.log_model.specs.Course.{Told}
+use Rattle.log_model.specs.Course.{ToldSecond}
 use Rattle.history_model.specs.Minutes.{HistoryMinute}
 use Rattle.history_model.specs.Presence.{Start, in_minute, present_in, present_sitting}
 use Rattle.history_model.specs.History.{seated, minutes_after, decided_of, span_minutes, limited_to, lost_minute, history_by, lost_by}
 
-module _ (start : Start) (told : List Told) (t : Told) where
+module _ (start : Start) (told : List ToldSecond) (t : ToldSecond) where
   -- a minute has no second that comes later
   minute-still : (m : ℕ) → m < minute_of t.second → in_minute m (told ++ t ∷ []) ≡ in_minute m told
   minute-still m later =
       let other : nat_eq (minute_of t.second) m ≡ false = grind (arith, nat_tests) in
       let none : in_minute m (t ∷ []) ≡ [] = rw other refl in
-      filter-append (λ (t : Told). nat_eq (minute_of t.second) m) told (t ∷ []) ∙ ap (λ (ts : List Told). in_minute m told ++ ts) none ∙ append-nil (in_minute m told)
+      filter-append (λ (t : ToldSecond). nat_eq (minute_of t.second) m) told (t ∷ []) ∙ ap (λ (ts : List ToldSecond). in_minute m told ++ ts) none ∙ append-nil (in_minute m told)
 
   pub present-still : (past : List HistoryMinute) (m : ℕ) (slot : Slot) → m < minute_of t.second → present_in start (told ++ t ∷ []) past m slot ≡ present_in start told past m slot
   unfolding present_in
   present-still past m slot later =
-      ap (λ (ts : List Told). present_sitting start past m ts (unwrap_or (option_map {T = Told} (λ t. in_slot t.course.slots slot) (last ts)) None)) (minute-still m later)
+      ap (λ (ts : List ToldSecond). present_sitting start past m ts (unwrap_or (option_map {T = ToldSecond} (λ t. in_slot t.course.slots slot) (last ts)) None)) (minute-still m later)
 
   seated-still : (past : List HistoryMinute) (d : Minute) → d.minute < minute_of t.second → seated start (told ++ t ∷ []) past d ≡ seated start told past d
   seated-still past d later =
@@ -41,15 +41,15 @@ module _ (start : Start) (told : List Told) (t : Told) where
       ap (λ (i : HistoryMinute). i ∷ minutes_after start (told ++ t ∷ []) (past ++ i ∷ []) ds) (seated-still past d each.0)
       ∙ ap (λ (is : List HistoryMinute). seated start told past d ∷ is) (minutes-still (past ++ seated start told past d ∷ []) ds each.1)
 
-  module _ (rule : Rule) (limit : List Told → List (List Told) → Option ℕ) where
-    pub history-still : (past : List HistoryMinute) (spans : List (List Told)) → AllByRecursion (λ (span : List Told). AllByRecursion (λ (d : Minute). d.minute < minute_of t.second) (decided_of rule span)) spans →
+  module _ (rule : Rule) (limit : List ToldSecond → List (List ToldSecond) → Option ℕ) where
+    pub history-still : (past : List HistoryMinute) (spans : List (List ToldSecond)) → AllByRecursion (λ (span : List ToldSecond). AllByRecursion (λ (d : Minute). d.minute < minute_of t.second) (decided_of rule span)) spans →
         history_by rule start limit (told ++ t ∷ []) past spans ≡ history_by rule start limit told past spans
     history-still past [] each = refl
     history-still past (span ∷ later) each =
         ap (λ (is : List HistoryMinute). limited_to (limit span later) is ++ history_by rule start limit (told ++ t ∷ []) (past ++ limited_to (limit span later) is) later) (minutes-still past (decided_of rule span) each.0)
         ∙ ap (λ (is : List HistoryMinute). limited_to (limit span later) (span_minutes rule start told past span) ++ is) (history-still (past ++ limited_to (limit span later) (span_minutes rule start told past span)) later each.1)
 
-    pub lost-still : (past : List HistoryMinute) (spans : List (List Told)) → AllByRecursion (λ (span : List Told). AllByRecursion (λ (d : Minute). d.minute < minute_of t.second) (decided_of rule span)) spans →
+    pub lost-still : (past : List HistoryMinute) (spans : List (List ToldSecond)) → AllByRecursion (λ (span : List ToldSecond). AllByRecursion (λ (d : Minute). d.minute < minute_of t.second) (decided_of rule span)) spans →
         lost_by rule start limit (told ++ t ∷ []) past spans ≡ lost_by rule start limit told past spans
     lost-still past [] each = refl
     lost-still past (span ∷ later) each =

@@ -6,7 +6,7 @@ use Rattle.minute_model.specs.declared.Rule.{Rule}
 use Rattle.minute_model.specs.declared.Minute.{Minute}
 use Rattle.minute_model.specs.Span.{fed}
 use Rattle.log_model.specs.Log.{RunLog}
-use Rattle.log_model.specs.Course.{Told, Went, went, second_told}
+use Rattle.log_model.specs.Course.{ToldSecond, Went, went, second_told}
 use Rattle.log_model.specs.Spans.{spans_of, AreInOrder, AreApart}
 use Rattle.log_model.proofs.Growth.{went-more}
 use Rattle.log_model.proofs.Spanning.{IsSpanned, IsNext, spanned, next-told, order-parts}
@@ -21,9 +21,9 @@ use Rattle.history_model.proofs.Growing.{AreBefore, Split, apart-last, newest-la
 use Rattle.history_model.proofs.BySeconds.{follows-second}
 use Rattle.history_model.proofs.Rising.{rises-spans}
 
-module _ (rule : Rule) (start : Start) (log : RunLog) (n u : ℕ) (w : Went) (t : Told) (later : List Told) (more : later ≡ w.told ++ t ∷ []) (so_far : IsSpanned n u w) (next : IsNext w.before u t) where
+module _ (rule : Rule) (start : Start) (log : RunLog) (n u : ℕ) (w : Went) (t : ToldSecond) (later : List ToldSecond) (more : later ≡ w.told ++ t ∷ []) (so_far : IsSpanned n u w) (next : IsNext w.before u t) where
   pub alone : (t.lit ≡ false) ⊎ (t.starts ≡ true) → (unit_history rule start log later ≡ unit_history rule start log w.told) × (with_lost rule start log later ≡ with_lost rule start log w.told)
-  alone which = subst (λ (told : List Told). (unit_history rule start log told ≡ unit_history rule start log w.told) × (with_lost rule start log told ≡ with_lost rule start log w.told)) (sym more) (go t.lit refl which)
+  alone which = subst (λ (told : List ToldSecond). (unit_history rule start log told ≡ unit_history rule start log w.told) × (with_lost rule start log told ≡ with_lost rule start log w.told)) (sym more) (go t.lit refl which)
     where
       go : (b : Bool) → t.lit ≡ b → (t.lit ≡ false) ⊎ (t.starts ≡ true) → (unit_history rule start log (w.told ++ t ∷ []) ≡ unit_history rule start log w.told) × (with_lost rule start log (w.told ++ t ∷ []) ≡ with_lost rule start log w.told)
       go false dark which = (dark-history rule start log n u w t so_far next dark, dark-lost rule start log n u w t so_far next dark)
@@ -42,8 +42,8 @@ module _ (rule : Rule) (start : Start) (log : RunLog) (n u : ℕ) (w : Went) (t 
 
     pub rules_see : as_span rule (newest_span (spans_of w.told) ++ t ∷ []) ≡ fed (picking t.second.picks (settled_where t.course.settled (as_span rule (newest_span (spans_of w.told))))) t.second.speed
     rules_see =
-        let some = apart-last n u parts.before parts.span (subst (λ (spans : List (List Told)). AreApart n spans u) parts.are so_far.apart) in
-        subst (λ (span : List Told). as_span rule (span ++ t ∷ []) ≡ fed (picking t.second.picks (settled_where t.course.settled (as_span rule span))) t.second.speed) (sym newest)
+        let some = apart-last n u parts.before parts.span (subst (λ (spans : List (List ToldSecond)). AreApart n spans u) parts.are so_far.apart) in
+        subst (λ (span : List ToldSecond). as_span rule (span ++ t ∷ []) ≡ fed (picking t.second.picks (settled_where t.course.settled (as_span rule span))) t.second.speed) (sym newest)
         (span-more rule parts.span t some.0 (next.number ∙ sym parts.end))
 
     pub grows : 1 < length (newest_span (spans_of w.told)) → (new : List Minute) × (decided_of rule (newest_span (spans_of w.told) ++ t ∷ []) ≡ decided_of rule (newest_span (spans_of w.told)) ++ new)
@@ -52,15 +52,15 @@ module _ (rule : Rule) (start : Start) (log : RunLog) (n u : ℕ) (w : Went) (t 
     grows two =
         let new = new-minutes rule start log n u w t so_far next lit starts in
         let here : nat_lt 1 (length (newest_span (spans_of w.told))) ≡ true = grind (arith, nat_tests) in
-        let test : nat_lt 1 (length parts.span) ≡ true = subst (λ (span : List Told). nat_lt 1 (length span) ≡ true) newest here in
+        let test : nat_lt 1 (length parts.span) ≡ true = subst (λ (span : List ToldSecond). nat_lt 1 (length span) ≡ true) newest here in
         let long : any_long (parts.span ∷ []) ≡ true = ap (λ (b : Bool). b || false) test in (
           new.0,
-          subst (λ (span : List Told). decided_of rule (span ++ t ∷ []) ≡ decided_of rule span ++ new.0) (sym newest) new.1,
-          subst (λ (told : List Told). unit_history rule start log told ≡ unit_history rule start log w.told ++ minutes_after start told (unit_history rule start log w.told) new.0) (sym more) (on-grown rule start log n u w t so_far next lit starts long),
-          subst (λ (told : List Told). with_lost rule start log told ≡ with_lost rule start log w.told) (sym more) (on-grown_lost rule start log n u w t so_far next lit starts long),
+          subst (λ (span : List ToldSecond). decided_of rule (span ++ t ∷ []) ≡ decided_of rule span ++ new.0) (sym newest) new.1,
+          subst (λ (told : List ToldSecond). unit_history rule start log told ≡ unit_history rule start log w.told ++ minutes_after start told (unit_history rule start log w.told) new.0) (sym more) (on-grown rule start log n u w t so_far next lit starts long),
+          subst (λ (told : List ToldSecond). with_lost rule start log told ≡ with_lost rule start log w.told) (sym more) (on-grown_lost rule start log n u w t so_far next lit starts long),
         )
 
-    at_limit : (k : ℕ) (xs ys : List (List Told)) → xs ≡ ys → (l : EndsAtLimit log k xs) → (m : EndsAtLimit log k ys) × (m.before ≡ l.before)
+    at_limit : (k : ℕ) (xs ys : List (List ToldSecond)) → xs ≡ ys → (l : EndsAtLimit log k xs) → (m : EndsAtLimit log k ys) × (m.before ≡ l.before)
     at_limit k xs ys is l = (record { before = l.before; span = l.span; short = l.short; long = l.long; are = sym is ∙ l.are; limit = l.limit; none = l.none }, refl)
 
     pub second : length (newest_span (spans_of w.told)) ≡ 1 → (k : ℕ) (limit : EndsAtLimit log k (earlier_spans (spans_of w.told))) (b : Book) →
@@ -71,10 +71,10 @@ module _ (rule : Rule) (start : Start) (log : RunLog) (n u : ℕ) (w : Went) (t 
         × (closed_history rule start log w.told (earlier_spans (spans_of w.told)) ≡ all (found k b))
     second one k limit b follows lost known low high =
         let at = at_limit k (earlier_spans (spans_of w.told)) parts.before earlier limit in
-        let goes_on = follows-second rule start log n u w t so_far next lit starts (ap (λ (span : List Told). length span) (sym newest) ∙ one) k at.0 b follows lost known
-        (subst (λ (spans : List (List Told)). All (λ (i : HistoryMinute). i.minute ≤ k) (closed_history rule start log w.told spans)) (sym at.1) low) high in (
-          subst (λ (told : List Told). Follows (unit_history rule start log told) (with_lost rule start log told) (found k b) × AreLost (with_lost rule start log told) (found k b)) (sym more) goes_on.0,
-          subst (λ (spans : List (List Told)). closed_history rule start log w.told spans ≡ all (found k b)) (sym earlier) goes_on.1,
+        let goes_on = follows-second rule start log n u w t so_far next lit starts (ap (λ (span : List ToldSecond). length span) (sym newest) ∙ one) k at.0 b follows lost known
+        (subst (λ (spans : List (List ToldSecond)). All (λ (i : HistoryMinute). i.minute ≤ k) (closed_history rule start log w.told spans)) (sym at.1) low) high in (
+          subst (λ (told : List ToldSecond). Follows (unit_history rule start log told) (with_lost rule start log told) (found k b) × AreLost (with_lost rule start log told) (found k b)) (sym more) goes_on.0,
+          subst (λ (spans : List (List ToldSecond)). closed_history rule start log w.told spans ≡ all (found k b)) (sym earlier) goes_on.1,
         )
 
 -- one second more of a trace
@@ -90,13 +90,13 @@ told-next n log ss s order =
     subst (λ (u : ℕ). IsNext (went log ss).before u (second_told log (went log ss).before s)) is (next-told log (went log ss).before s)
 
 -- the closed history of the spans before the newest stays as seconds come
-closed-still : (rule : Rule) (start : Start) (log : RunLog) (n u : ℕ) (w : Went) (t : Told) → IsSpanned n u w → IsNext w.before u t →
+closed-still : (rule : Rule) (start : Start) (log : RunLog) (n u : ℕ) (w : Went) (t : ToldSecond) → IsSpanned n u w → IsNext w.before u t →
     closed_history rule start log (w.told ++ t ∷ []) (earlier_spans (spans_of w.told)) ≡ closed_history rule start log w.told (earlier_spans (spans_of w.told))
 closed-still rule start log n u w t so_far next =
     history-still start w.told t rule (closed_limit log) [] (earlier_spans (spans_of w.told))
     (earlier-before t.second.number (spans_of w.told) (subst (λ (m : ℕ). AreBefore rule m (spans_of w.told)) (sym next.number) (apart-ended rule n u (spans_of w.told) so_far.apart)))
   where
-    earlier-before : (m : ℕ) (spans : List (List Told)) → AreBefore rule m spans → AreBefore rule m (earlier_spans spans)
+    earlier-before : (m : ℕ) (spans : List (List ToldSecond)) → AreBefore rule m spans → AreBefore rule m (earlier_spans spans)
     earlier-before m [] h = tt
     earlier-before m (x ∷ []) h = tt
     earlier-before m (x ∷ y ∷ spans) h = (h.0, earlier-before m (y ∷ spans) h.1)
@@ -104,7 +104,7 @@ closed-still rule start log n u w t so_far next =
 pub closed-stays : (n : ℕ) (rule : Rule) (start : Start) (log : RunLog) (ss : List TraceSecond) (s : TraceSecond) → AreInOrder n (ss ++ s ∷ []) →
     closed_history rule start log (went log (ss ++ s ∷ [])).told (earlier_spans (spans_of (went log ss).told)) ≡ closed_history rule start log (went log ss).told (earlier_spans (spans_of (went log ss).told))
 closed-stays n rule start log ss s order =
-    ap (λ (told : List Told). closed_history rule start log told (earlier_spans (spans_of (went log ss).told))) (more-told log ss s)
+    ap (λ (told : List ToldSecond). closed_history rule start log told (earlier_spans (spans_of (went log ss).told))) (more-told log ss s)
     ∙ closed-still rule start log n (n + length ss) (went log ss) (second_told log (went log ss).before s) (spanned-so_far n log ss s order) (told-next n log ss s order)
 
 -- the minutes of the history rise, and all of them have ended

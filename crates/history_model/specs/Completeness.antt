@@ -9,7 +9,7 @@ use Rattle.minute_model.specs.declared.Minute.{Minute}
 use Rattle.minute_model.specs.Minute.{minutes_ahead, horizon_of}
 use Rattle.log_model.specs.declared.lines.Mark.{Mark}
 use Rattle.log_model.specs.Log.{RunLog}
-use Rattle.log_model.specs.Course.{Told, Visit}
+use Rattle.log_model.specs.Course.{ToldSecond, Visit}
 use Rattle.log_model.specs.Spans.{spans_of}
 use Rattle.log_model.specs.Causes.{device_of, cuts, second_of}
 use Rattle.history_model.specs.Minutes.{HistoryMinute, on_card}
@@ -31,23 +31,23 @@ abbrev pub FailedCutIn : RunLog → ℕ → Type 0
 FailedCutIn log u = Contains (map second_of (cuts true log)) u
 
 -- the card is torn out or pulled out in a second
-abbrev pub TornIn : Card → Told → Type 0
+abbrev pub TornIn : Card → ToldSecond → Type 0
 TornIn card t = (v : Visit) × (v.card ≡ card) × (Contains t.course.torn v ⊎ Contains t.course.pulled v)
 
 -- or in one from this second on and up to another
-abbrev pub TornBetween : List Told → Card → (from to : ℕ) → Type 0
-TornBetween told card from to = (t : Told) × Contains told t × (from ≤ t.second.number) × (t.second.number ≤ to) × TornIn card t
+abbrev pub TornBetween : List ToldSecond → Card → (from to : ℕ) → Type 0
+TornBetween told card from to = (t : ToldSecond) × Contains told t × (from ≤ t.second.number) × (t.second.number ≤ to) × TornIn card t
 
 -- a failed call made a cut in the last of these seconds, or the card was torn out or pulled out in one of them
-abbrev pub BrokenIn : RunLog → List Told → Card → (from to : ℕ) → Type 0
+abbrev pub BrokenIn : RunLog → List ToldSecond → Card → (from to : ℕ) → Type 0
 BrokenIn log told card from to = FailedCutIn log to ⊎ TornBetween told card from to
 
 -- A decided minute is acknowledged by the unit, and its entries by the cards: but where a call failed in the second that decided it, or
 -- the card was torn out or pulled out since the minute's end. An `off` line excuses nothing.
-pub record IsComplete (rule : Rule) (start : Start) (log : RunLog) (told : List Told) (marks : List Mark) : Type 0 where
-  pub unit : (span : List Told) (d : Minute) → Contains (spans_of told) span → Contains (decided_of rule span) d →
+pub record IsComplete (rule : Rule) (start : Start) (log : RunLog) (told : List ToldSecond) (marks : List Mark) : Type 0 where
+  pub unit : (span : List ToldSecond) (d : Minute) → Contains (spans_of told) span → Contains (decided_of rule span) d →
       IsMarked marks Recorder d.minute ⊎ FailedCutIn log (deciding_of rule (settlings_of span) d.minute)
-  pub card : (span : List Told) (d : Minute) (i : HistoryMinute) (card : Card) (e : Entry) → Contains (spans_of told) span →
+  pub card : (span : List ToldSecond) (d : Minute) (i : HistoryMinute) (card : Card) (e : Entry) → Contains (spans_of told) span →
       Contains (decided_of rule span) d →
       Contains (unit_history rule start log told) i → i.minute ≡ d.minute → Contains (on_card card i) e →
       IsMarked marks (device_of card) i.minute

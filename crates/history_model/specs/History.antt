@@ -7,13 +7,13 @@ use Rattle.minute_model.specs.declared.Minute.{Minute}
 use Rattle.minute_model.specs.Minute.{decided}
 use Rattle.minute_model.specs.Activity.{last}
 use Rattle.log_model.specs.Log.{RunLog, kept_after}
-use Rattle.log_model.specs.Course.{Told}
+use Rattle.log_model.specs.Course.{ToldSecond}
 use Rattle.log_model.specs.Spans.{spans_of, seconds_in}
 use Rattle.history_model.specs.Minutes.{HistoryMinute, up_to}
 use Rattle.history_model.specs.Presence.{Start, present_in}
 
 -- a decided minute with the cards that were present, where these minutes came before it
-abbrev pub seated : Start → List Told → List HistoryMinute → Minute → HistoryMinute
+abbrev pub seated : Start → List ToldSecond → List HistoryMinute → Minute → HistoryMinute
 seated start told past d = record {
   minute = d.minute;
   driver = record { act = d.driver; card = present_in start told past d.minute Driver };
@@ -21,25 +21,25 @@ seated start told past d = record {
 }
 
 -- decided minutes likewise, one after another
-abbrev pub minutes_after : Start → List Told → List HistoryMinute → List Minute → List HistoryMinute
+abbrev pub minutes_after : Start → List ToldSecond → List HistoryMinute → List Minute → List HistoryMinute
 minutes_after start told past [] = []
 minutes_after start told past (d ∷ ds) =
     let i : HistoryMinute = seated start told past d in i ∷ minutes_after start told (past ++ i ∷ []) ds
 
 -- the seconds of a span that have a settling
-abbrev pub settlings_of : List Told → List ℕ
+abbrev pub settlings_of : List ToldSecond → List ℕ
 settlings_of span = map (λ t. t.second.number) (filter (λ t. t.course.settled) span)
 
 -- the decided minutes of a span
-abbrev pub decided_of : Rule → List Told → List Minute
+abbrev pub decided_of : Rule → List ToldSecond → List Minute
 decided_of rule span = decided rule (seconds_in span) (settlings_of span)
 
 -- the same with the cards
-abbrev pub span_minutes : Rule → Start → List Told → List HistoryMinute → List Told → List HistoryMinute
+abbrev pub span_minutes : Rule → Start → List ToldSecond → List HistoryMinute → List ToldSecond → List HistoryMinute
 span_minutes rule start told past span = minutes_after start told past (decided_of rule span)
 
 -- a span's last second where it is a cut's
-abbrev pub cut_second : Option Told → Option ℕ
+abbrev pub cut_second : Option ToldSecond → Option ℕ
 cut_second None = None
 cut_second (Some t) = if t.cut then Some t.second.number else None
 
@@ -49,11 +49,11 @@ limit_by log None = None
 limit_by log (Some u) = Some (kept_after log u)
 
 -- a span has more than one second
-abbrev pub any_long : List (List Told) → Bool
+abbrev pub any_long : List (List ToldSecond) → Bool
 any_long spans = list_any (λ s. nat_lt 1 (length s)) spans
 
 -- the limit of a cut: what was found kept, where some later span has more than one second
-abbrev pub limit_of : RunLog → List Told → List (List Told) → Option ℕ
+abbrev pub limit_of : RunLog → List ToldSecond → List (List ToldSecond) → Option ℕ
 limit_of log span later = if any_long later then limit_by log (cut_second (last span)) else None
 
 -- the minutes up to a limit, or all without one
@@ -67,20 +67,20 @@ lost_minute None past = None
 lost_minute (Some k) past = find (λ i. nat_lt k i.minute) past
 
 -- the history of these spans, each up to its limit, where these minutes came before them
-abbrev pub history_by : Rule → Start → (List Told → List (List Told) → Option ℕ) → List Told → List HistoryMinute →
-    List (List Told) → List HistoryMinute
+abbrev pub history_by : Rule → Start → (List ToldSecond → List (List ToldSecond) → Option ℕ) → List ToldSecond → List HistoryMinute →
+    List (List ToldSecond) → List HistoryMinute
 history_by rule start limit told past [] = []
 history_by rule start limit told past (span ∷ later) =
     let more : List HistoryMinute = limited_to (limit span later) (span_minutes rule start told past span) in
     more ++ history_by rule start limit told (past ++ more) later
 
 -- the unit history
-unfoldable pub unit_history : Rule → Start → RunLog → List Told → List HistoryMinute
+unfoldable pub unit_history : Rule → Start → RunLog → List ToldSecond → List HistoryMinute
 unit_history rule start log told = history_by rule start (limit_of log) told [] (spans_of told)
 
 -- a front of the history with the lost minute of a cut, for each of these spans that has one
-abbrev pub lost_by : Rule → Start → (List Told → List (List Told) → Option ℕ) → List Told → List HistoryMinute →
-    List (List Told) → List (List HistoryMinute)
+abbrev pub lost_by : Rule → Start → (List ToldSecond → List (List ToldSecond) → Option ℕ) → List ToldSecond → List HistoryMinute →
+    List (List ToldSecond) → List (List HistoryMinute)
 lost_by rule start limit told past [] = []
 lost_by rule start limit told past (span ∷ later) =
     let whole : List HistoryMinute = span_minutes rule start told past span in
@@ -89,5 +89,5 @@ lost_by rule start limit told past (span ∷ later) =
     ++ lost_by rule start limit told (past ++ more) later
 
 -- the histories up to a cut's limit, each with its lost minute
-unfoldable pub with_lost : Rule → Start → RunLog → List Told → List (List HistoryMinute)
+unfoldable pub with_lost : Rule → Start → RunLog → List ToldSecond → List (List HistoryMinute)
 with_lost rule start log told = lost_by rule start (limit_of log) told [] (spans_of told)

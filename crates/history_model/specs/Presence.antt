@@ -8,7 +8,7 @@ use Rattle.trace_model.specs.declared.Card.TheVariants.{A, B}
 use Rattle.minute_model.specs.Second.{minute_of}
 use Rattle.minute_model.specs.Activity.{last}
 use Rattle.log_model.specs.Slots.{Sitting, same_card, in_slot}
-use Rattle.log_model.specs.Course.{Told}
+use Rattle.log_model.specs.Course.{ToldSecond}
 use Rattle.history_model.specs.Minutes.{HistoryMinute, card_history}
 
 -- what a card brings to a run: its entries, those that the unit owes it, its end mark, and the minute of its newest word where
@@ -55,23 +55,23 @@ newest_minute start past card u =
 
 -- it was accepted, the minute is later than its newest one by then, and it was not withdrawn, torn out or cut off from power in
 -- these seconds of the minute
-abbrev pub is_present : Start → List HistoryMinute → ℕ → List Told → Card → Option ℕ → Bool
+abbrev pub is_present : Start → List HistoryMinute → ℕ → List ToldSecond → Card → Option ℕ → Bool
 is_present start past m ts card None = false
 is_present start past m ts card (Some u) =
     nat_lt (newest_minute start past card u) m && not (list_any (λ t. list_any (same_card card) t.course.left) ts)
 
 -- the card that sits there, where it is present
-abbrev pub present_sitting : Start → List HistoryMinute → ℕ → List Told → Option Sitting → Option Card
+abbrev pub present_sitting : Start → List HistoryMinute → ℕ → List ToldSecond → Option Sitting → Option Card
 present_sitting start past m ts None = None
 present_sitting start past m ts (Some sitting) =
     if is_present start past m ts sitting.card sitting.accepted then Some sitting.card else None
 
 -- the seconds of a minute
-abbrev pub in_minute : ℕ → List Told → List Told
+abbrev pub in_minute : ℕ → List ToldSecond → List ToldSecond
 in_minute m told = filter (λ t. nat_eq (minute_of t.second) m) told
 
 -- the card that is present in a slot in a minute: it sits there at the minute's end
-unfoldable pub present_in : Start → List Told → List HistoryMinute → ℕ → Slot → Option Card
+unfoldable pub present_in : Start → List ToldSecond → List HistoryMinute → ℕ → Slot → Option Card
 present_in start told past m slot =
-    let ts : List Told = in_minute m told in
-    present_sitting start past m ts (unwrap_or (option_map {T = Told} (λ t. in_slot t.course.slots slot) (last ts)) None)
+    let ts : List ToldSecond = in_minute m told in
+    present_sitting start past m ts (unwrap_or (option_map {T = ToldSecond} (λ t. in_slot t.course.slots slot) (last ts)) None)

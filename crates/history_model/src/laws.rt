@@ -4,7 +4,7 @@ ghost use Rattle.minute_model.specs.declared.Rule.{Rule};
 ghost use Rattle.minute_model.specs.declared.Minute.{Minute};
 ghost use Rattle.minute_model.specs.Span.{fed};
 ghost use Rattle.log_model.specs.Log.{RunLog};
-ghost use Rattle.log_model.specs.Course.{Told, went, second_told};
+ghost use Rattle.log_model.specs.Course.{ToldSecond, went, second_told};
 ghost use Rattle.log_model.specs.Spans.{spans_of, end_in, AreInOrder, AreApart};
 ghost use Rattle.history_model.specs.Minutes.{HistoryMinute};
 ghost use Rattle.history_model.specs.Presence.{Start};
@@ -15,7 +15,7 @@ ghost use Rattle.history_model.specs.Book.{Book, all, found, kept, broken, Follo
 /// A second without power, or with which power begins, adds nothing to the history of a run whose seconds are numbered from `n` on.
 pub fn power_alone_adds_nothing(n: u32)
     ensures { (rule : Rule) (start : Start) (log : RunLog) (ss : List TraceSecond) (s : TraceSecond) → AreInOrder n (ss ++ s ∷ []) →
-        let t : Told = second_told log (went log ss).before s in
+        let t : ToldSecond = second_told log (went log ss).before s in
         (t.lit ≡ false) ⊎ (t.starts ≡ true) →
         (unit_history rule start log (went log (ss ++ s ∷ [])).told ≡ unit_history rule start log (went log ss).told)
         × (with_lost rule start log (went log (ss ++ s ∷ [])).told ≡ with_lost rule start log (went log ss).told) }
@@ -24,8 +24,8 @@ pub fn power_alone_adds_nothing(n: u32)
 /// The newest span with one second more is, for the rules of minutes, that span with its settling, its selections and its speed.
 pub fn rules_see_the_span(n: u32)
     ensures { (rule : Rule) (start : Start) (log : RunLog) (ss : List TraceSecond) (s : TraceSecond) → AreInOrder n (ss ++ s ∷ []) →
-        let t : Told = second_told log (went log ss).before s in
-        let span : List Told = newest_span (spans_of (went log ss).told) in
+        let t : ToldSecond = second_told log (went log ss).before s in
+        let span : List ToldSecond = newest_span (spans_of (went log ss).told) in
         t.lit ≡ true → t.starts ≡ false → as_span rule (span ++ t ∷ [])
         ≡ fed (picking t.second.picks (settled_where t.course.settled (as_span rule span))) t.second.speed }
 {}
@@ -33,8 +33,8 @@ pub fn rules_see_the_span(n: u32)
 /// From the third second of a span on, a second adds to the history the minutes that it decides.
 pub fn a_second_adds_what_it_decides(n: u32)
     ensures { (rule : Rule) (start : Start) (log : RunLog) (ss : List TraceSecond) (s : TraceSecond) → AreInOrder n (ss ++ s ∷ []) →
-        let t : Told = second_told log (went log ss).before s in
-        let span : List Told = newest_span (spans_of (went log ss).told) in
+        let t : ToldSecond = second_told log (went log ss).before s in
+        let span : List ToldSecond = newest_span (spans_of (went log ss).told) in
         let before : List HistoryMinute = unit_history rule start log (went log ss).told in
         t.lit ≡ true → t.starts ≡ false → 1 < length span →
         (new : List Minute) × (decided_of rule (span ++ t ∷ []) ≡ decided_of rule span ++ new)
@@ -47,9 +47,9 @@ pub fn a_second_adds_what_it_decides(n: u32)
 /// found; its minutes are the history of the spans before.
 pub fn a_limit_counts_from_the_second_second(n: u32)
     ensures { (rule : Rule) (start : Start) (log : RunLog) (ss : List TraceSecond) (s : TraceSecond) → AreInOrder n (ss ++ s ∷ []) →
-        let t : Told = second_told log (went log ss).before s in
-        let told : List Told = (went log ss).told in
-        let later : List Told = (went log (ss ++ s ∷ [])).told in
+        let t : ToldSecond = second_told log (went log ss).before s in
+        let told : List ToldSecond = (went log ss).told in
+        let later : List ToldSecond = (went log (ss ++ s ∷ [])).told in
         t.lit ≡ true → t.starts ≡ false → length (newest_span (spans_of told)) ≡ 1 →
         (k : ℕ) (limit : EndsAtLimit log k (earlier_spans (spans_of told))) (b : Book) →
         Follows (unit_history rule start log told) (with_lost rule start log told) b → AreLost (with_lost rule start log told) b →
@@ -63,14 +63,14 @@ pub fn a_limit_counts_from_the_second_second(n: u32)
 /// The history of the spans before the newest stays as seconds come.
 pub fn a_closed_history_stays(n: u32)
     ensures { (rule : Rule) (start : Start) (log : RunLog) (ss : List TraceSecond) (s : TraceSecond) → AreInOrder n (ss ++ s ∷ []) →
-        let earlier : List (List Told) = earlier_spans (spans_of (went log ss).told) in
+        let earlier : List (List ToldSecond) = earlier_spans (spans_of (went log ss).told) in
         closed_history rule start log (went log (ss ++ s ∷ [])).told earlier
         ≡ closed_history rule start log (went log ss).told earlier }
 {}
 
 /// What the log tells later of cuts that have no limit yet changes nothing.
 pub fn a_limit_may_be_told_later()
-    ensures { (rule : Rule) (start : Start) (log later : RunLog) (told : List Told) → SameLimits log later (spans_of told) →
+    ensures { (rule : Rule) (start : Start) (log later : RunLog) (told : List ToldSecond) → SameLimits log later (spans_of told) →
         (unit_history rule start later told ≡ unit_history rule start log told)
         × (with_lost rule start later told ≡ with_lost rule start log told) }
 {}

@@ -125,5 +125,5 @@ IsNotPut request bytes faults.WriteFault old new = (m : Message) × IsAnswer req
 IsNotPut request bytes fault old new = ⊥
 
 -- the counter that a joiner wants is the one that is wanted at the stage
-abbrev pub Stands : Stage → Joined → Type 0
-Stands stage joined = wanted joined ≡ counter_at stage
+abbrev pub CounterIsWanted : Stage → Joined → Type 0
+CounterIsWanted stage joined = wanted joined ≡ counter_at stage

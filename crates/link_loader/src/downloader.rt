@@ -28,13 +28,13 @@ pub struct Downloader {
 }
 
 impl Model for Downloader {
-    ghost use Rattle.link_loader.specs.Loading.{Load, Stands};
+    ghost use Rattle.link_loader.specs.Loading.{Load, CounterIsWanted};
 
     ghost Value = { Load };
 
     ghost view = { λ d. record { loading = record { stage = d.stage; end = d.end; bytes = d.joiner.bytes }; room = d.joiner.room } };
 
-    ghost invariant = { λ d. Stands d.stage d.joiner };
+    ghost invariant = { λ d. CounterIsWanted d.stage d.joiner };
 }
 
 impl Downloader {

@@ -7,7 +7,7 @@ use Rattle.activity_codec.specs.declared.values.Slot.TheVariants.{Driver, CoDriv
 use Rattle.trace_model.specs.declared.Action.{Action}
 use Rattle.trace_model.specs.Trace.{TraceSecond}
 use Rattle.log_model.specs.Log.{RunLog, Phase, In, Keeping, cut_in}
-use Rattle.log_model.specs.Course.{Course, Told, Went, Before, slot_told, both_told, acted, all_acted, went_on, went, not_begun, Moved, moved_by, unmoved, answered, fresh, cut_told, lit_course, second_told, before_next}
+use Rattle.log_model.specs.Course.{Course, ToldSecond, Went, Before, slot_told, both_told, acted, all_acted, went_on, went, not_begun, Moved, moved_by, unmoved, answered, fresh, cut_told, lit_course, second_told, before_next}
 use Rattle.log_model.specs.Slots.{Slots, refusal}
 use Rattle.log_model.specs.Same.{SameAt}
 
@@ -50,5 +50,5 @@ module _ (log later : RunLog) where
       going : (w : Went) (ss : List TraceSecond) → All (λ s. SameAt log later s.number) ss → fold (went_on later) w ss ≡ fold (went_on log) w ss
       going w [] same = refl
       going w (s ∷ ss) same =
-          ap (λ (t : Told). fold (went_on later) (record { told = w.told ++ t ∷ []; before = before_next w.before t }) ss) (second-same w.before s (All-head (λ (s : TraceSecond). SameAt log later s.number) s ss same))
+          ap (λ (t : ToldSecond). fold (went_on later) (record { told = w.told ++ t ∷ []; before = before_next w.before t }) ss) (second-same w.before s (All-head (λ (s : TraceSecond). SameAt log later s.number) s ss same))
           ∙ going (went_on log w s) ss (All-tail (λ (s : TraceSecond). SameAt log later s.number) s ss same)

@@ -9,66 +9,66 @@ use Rattle.trace_model.specs.Trace.{TraceSecond, driven, dark, seconds_from, sec
 use Rattle.minute_model.specs.Span.{AreNumbered}
 use Rattle.minute_model.proofs.Numbered.{numbered-more}
 use Rattle.log_model.specs.Log.{RunLog}
-use Rattle.log_model.specs.Course.{Told, Went, Before, has_power, second_told, before_next, went_on, went, not_begun}
+use Rattle.log_model.specs.Course.{ToldSecond, Went, Before, has_power, second_told, before_next, went_on, went, not_begun}
 use Rattle.log_model.specs.Spans.{go_on, spans_with, spans_of, seconds_in, first_in, end_in, AreInOrder, AreApart}
 
 -- one second more in the spans
-pub spans-more : (told : List Told) (t : Told) → spans_of (told ++ t ∷ []) ≡ spans_with (spans_of told) t
+pub spans-more : (told : List ToldSecond) (t : ToldSecond) → spans_of (told ++ t ∷ []) ≡ spans_with (spans_of told) t
 unfolding spans_of
 spans-more told t = fold-append spans_with [] told (t ∷ [])
 
 -- power begins with it: a new span
-pub spans-new : (spans : List (List Told)) (t : Told) → t.lit ≡ true → t.starts ≡ true → spans_with spans t ≡ spans ++ (t ∷ []) ∷ []
+pub spans-new : (spans : List (List ToldSecond)) (t : ToldSecond) → t.lit ≡ true → t.starts ≡ true → spans_with spans t ≡ spans ++ (t ∷ []) ∷ []
 spans-new spans t lit starts =
     ap (λ (b : Bool). cond b (cond t.starts (spans ++ (t ∷ []) ∷ []) (go_on spans t)) spans) lit ∙ ap (λ (b : Bool). cond b (spans ++ (t ∷ []) ∷ []) (go_on spans t)) starts
 
 -- power is kept: the last span goes on
-pub spans-on : (spans : List (List Told)) (t : Told) → t.lit ≡ true → t.starts ≡ false → spans_with spans t ≡ go_on spans t
+pub spans-on : (spans : List (List ToldSecond)) (t : ToldSecond) → t.lit ≡ true → t.starts ≡ false → spans_with spans t ≡ go_on spans t
 spans-on spans t lit starts =
     ap (λ (b : Bool). cond b (cond t.starts (spans ++ (t ∷ []) ∷ []) (go_on spans t)) spans) lit ∙ ap (λ (b : Bool). cond b (spans ++ (t ∷ []) ∷ []) (go_on spans t)) starts
 
 -- no power: the same spans
-pub spans-dark : (spans : List (List Told)) (t : Told) → t.lit ≡ false → spans_with spans t ≡ spans
+pub spans-dark : (spans : List (List ToldSecond)) (t : ToldSecond) → t.lit ≡ false → spans_with spans t ≡ spans
 spans-dark spans t dark = ap (λ (b : Bool). cond b (cond t.starts (spans ++ (t ∷ []) ∷ []) (go_on spans t)) spans) dark
 
 -- the last span ends with this number
-abbrev pub EndsAt : List (List Told) → ℕ → Type 0
+abbrev pub EndsAt : List (List ToldSecond) → ℕ → Type 0
 EndsAt [] u = ⊥
 EndsAt (span ∷ []) u = end_in span ≡ u
 EndsAt (span ∷ next ∷ spans) u = EndsAt (next ∷ spans) u
 
 -- a span with one second more
-pub first-on : (span : List Told) (t : Told) → 0 < length span → first_in (span ++ t ∷ []) ≡ first_in span
+pub first-on : (span : List ToldSecond) (t : ToldSecond) → 0 < length span → first_in (span ++ t ∷ []) ≡ first_in span
 first-on [] t some = absurd (omega (arith, some))
 first-on (x ∷ span) t some = refl
 
-pub end-on : (span : List Told) (t : Told) → 0 < length span → end_in (span ++ t ∷ []) ≡ end_in span + 1
+pub end-on : (span : List ToldSecond) (t : ToldSecond) → 0 < length span → end_in (span ++ t ∷ []) ≡ end_in span + 1
 end-on span t some = let n = length-append span (t ∷ []) in let e = first-on span t some in omega (arith, n, e)
 
-pub numbered-on : (span : List Told) (t : Told) → 0 < length span → t.second.number ≡ end_in span → AreNumbered (first_in span) (seconds_in span) → AreNumbered (first_in (span ++ t ∷ [])) (seconds_in (span ++ t ∷ []))
+pub numbered-on : (span : List ToldSecond) (t : ToldSecond) → 0 < length span → t.second.number ≡ end_in span → AreNumbered (first_in span) (seconds_in span) → AreNumbered (first_in (span ++ t ∷ [])) (seconds_in (span ++ t ∷ []))
 numbered-on span t some is h =
     rw (first-on span t some)
-    (rw (map-append (λ (t : Told). t.second) span (t ∷ []))
+    (rw (map-append (λ (t : ToldSecond). t.second) span (t ∷ []))
     (numbered-more (first_in span) (seconds_in span) t.second h (is ∙ ap (λ (n : ℕ). first_in span + n) (sym (counted span)))))
   where
-    counted : (ts : List Told) → length (seconds_in ts) ≡ length ts
+    counted : (ts : List ToldSecond) → length (seconds_in ts) ≡ length ts
     counted [] = refl
     counted (t ∷ ts) = ap suc (counted ts)
 
-apart-later : (from until later : ℕ) (spans : List (List Told)) → until ≤ later → AreApart from spans until → AreApart from spans later
+apart-later : (from until later : ℕ) (spans : List (List ToldSecond)) → until ≤ later → AreApart from spans until → AreApart from spans later
 apart-later from until later [] le h = omega (arith, h, le)
 apart-later from until later (span ∷ spans) le h = (h.0, h.1, h.2, apart-later (end_in span) until later spans le h.3)
 
-apart-new : (from until : ℕ) (spans : List (List Told)) (t : Told) → t.second.number ≡ until → AreApart from spans until → AreApart from (spans ++ (t ∷ []) ∷ []) (until + 1)
+apart-new : (from until : ℕ) (spans : List (List ToldSecond)) (t : ToldSecond) → t.second.number ≡ until → AreApart from spans until → AreApart from (spans ++ (t ∷ []) ∷ []) (until + 1)
 apart-new from until [] t is h = (omega arith, omega (arith, is, h), (refl, tt), omega (arith, is))
 apart-new from until (span ∷ spans) t is h = (h.0, h.1, h.2, apart-new (end_in span) until spans t is h.3)
 
-ends-new : (spans : List (List Told)) (t : Told) (u : ℕ) → t.second.number ≡ u → EndsAt (spans ++ (t ∷ []) ∷ []) (u + 1)
+ends-new : (spans : List (List ToldSecond)) (t : ToldSecond) (u : ℕ) → t.second.number ≡ u → EndsAt (spans ++ (t ∷ []) ∷ []) (u + 1)
 ends-new [] t u is = omega (arith, is)
 ends-new (span ∷ []) t u is = omega (arith, is)
 ends-new (span ∷ next ∷ spans) t u is = ends-new (next ∷ spans) t u is
 
-apart-on : (from until : ℕ) (spans : List (List Told)) (t : Told) → t.second.number ≡ until → EndsAt spans until → AreApart from spans until → AreApart from (go_on spans t) (until + 1)
+apart-on : (from until : ℕ) (spans : List (List ToldSecond)) (t : ToldSecond) → t.second.number ≡ until → EndsAt spans until → AreApart from spans until → AreApart from (go_on spans t) (until + 1)
 apart-on from until [] t is ends h = absurd ends
 apart-on from until (span ∷ []) t is ends h =
     let first = first-on span t h.0 in
@@ -77,7 +77,7 @@ apart-on from until (span ∷ []) t is ends h =
     (omega (arith, n), omega (arith, first, h.1), numbered-on span t h.0 (is ∙ sym ends) h.2, omega (arith, end, ends))
 apart-on from until (span ∷ next ∷ spans) t is ends h = (h.0, h.1, h.2, apart-on (end_in span) until (next ∷ spans) t is ends h.3)
 
-ends-on : (from until : ℕ) (spans : List (List Told)) (t : Told) → EndsAt spans until → AreApart from spans until → EndsAt (go_on spans t) (until + 1)
+ends-on : (from until : ℕ) (spans : List (List ToldSecond)) (t : ToldSecond) → EndsAt spans until → AreApart from spans until → EndsAt (go_on spans t) (until + 1)
 ends-on from until [] t ends h = absurd ends
 ends-on from until (span ∷ []) t ends h = end-on span t h.0 ∙ ap (λ (n : ℕ). n + 1) ends
 ends-on from until (span ∷ next ∷ []) t ends h = ends-on (end_in span) until (next ∷ []) t ends h.3
@@ -91,7 +91,7 @@ pub record IsSpanned (from until : ℕ) (w : Went) : Type 0 where
   pub count : from + length w.told ≡ until
 
 -- the next second is told by its number; power begins with it where it was not kept
-pub record IsNext (before : Before) (u : ℕ) (t : Told) : Type 0 where
+pub record IsNext (before : Before) (u : ℕ) (t : ToldSecond) : Type 0 where
   pub number : t.second.number ≡ u
   pub starts : t.lit ≡ true → t.starts ≡ not before.running
 
@@ -102,19 +102,19 @@ next-told log before s = go (has_power before s) refl
     go true is = rw is (record { number = refl; starts = λ lit. refl })
     go false is = rw is (record { number = refl; starts = λ lit. absurd (cc) })
 
-spanned-next : (from until : ℕ) (w : Went) (t : Told) → IsSpanned from until w → IsNext w.before until t → IsSpanned from (until + 1) (record { told = w.told ++ t ∷ []; before = before_next w.before t })
+spanned-next : (from until : ℕ) (w : Went) (t : ToldSecond) → IsSpanned from until w → IsNext w.before until t → IsSpanned from (until + 1) (record { told = w.told ++ t ∷ []; before = before_next w.before t })
 spanned-next from until w t h next = record {
-  apart = subst (λ (spans : List (List Told)). AreApart from spans (until + 1)) (sym (spans-more w.told t)) (apart t.lit refl);
-  running = λ running. subst (λ (spans : List (List Told)). EndsAt spans (until + 1)) (sym (spans-more w.told t)) (runs running);
-  seconds = rw (map-append (λ (t : Told). t.second) w.told (t ∷ [])) (numbered-more from (seconds_in w.told) t.second h.seconds (next.number ∙ sym h.count ∙ ap (λ (n : ℕ). from + n) (sym (counted w.told))));
+  apart = subst (λ (spans : List (List ToldSecond)). AreApart from spans (until + 1)) (sym (spans-more w.told t)) (apart t.lit refl);
+  running = λ running. subst (λ (spans : List (List ToldSecond)). EndsAt spans (until + 1)) (sym (spans-more w.told t)) (runs running);
+  seconds = rw (map-append (λ (t : ToldSecond). t.second) w.told (t ∷ [])) (numbered-more from (seconds_in w.told) t.second h.seconds (next.number ∙ sym h.count ∙ ap (λ (n : ℕ). from + n) (sym (counted w.told))));
   count = let n = length-append w.told (t ∷ []) in let c = h.count in omega (arith, n, c);
 }
   where
-    counted : (ts : List Told) → length (seconds_in ts) ≡ length ts
+    counted : (ts : List ToldSecond) → length (seconds_in ts) ≡ length ts
     counted [] = refl
     counted (t ∷ ts) = ap suc (counted ts)
 
-    With : List (List Told) → Type 0
+    With : List (List ToldSecond) → Type 0
     With spans = AreApart from spans (until + 1) × EndsAt spans (until + 1)
 
     both : (running : Bool) → w.before.running ≡ running → t.lit ≡ true → With (spans_with (spans_of w.told) t)
@@ -128,7 +128,7 @@ spanned-next from until w t h next = record {
     apart : (lit : Bool) → t.lit ≡ lit → AreApart from (spans_with (spans_of w.told) t) (until + 1)
     apart true lit = (both w.before.running refl lit).0
     apart false lit =
-        subst (λ (spans : List (List Told)). AreApart from spans (until + 1)) (sym (spans-dark (spans_of w.told) t lit)) (apart-later from until (until + 1) (spans_of w.told) (omega arith) h.apart)
+        subst (λ (spans : List (List ToldSecond)). AreApart from spans (until + 1)) (sym (spans-dark (spans_of w.told) t lit)) (apart-later from until (until + 1) (spans_of w.told) (omega arith) h.apart)
 
     lit-first : (a b : Bool) → (a && b) ≡ true → a ≡ true
     lit-first true b is = refl

@@ -15,7 +15,7 @@ use Rattle.log_model.specs.declared.lines.Break.TheVariants.{Cut, Tear}
 use Rattle.log_model.specs.declared.lines.Refused.{Refused}
 use Rattle.log_model.specs.Log.{RunLog, Phase, In, Keeping, same_phase, phase_of, cut_in, is_torn_in}
 use Rattle.log_model.specs.Slots.{same_card}
-use Rattle.log_model.specs.Course.{Told, Visit, went}
+use Rattle.log_model.specs.Course.{ToldSecond, Visit, went}
 
 -- a card as a device
 abbrev pub device_of : Card → Device
@@ -80,7 +80,7 @@ abbrev pub refusals_at : ℕ → List (ℕ × SlotFault) → List (ℕ × ℕ ×
 refusals_at u refused = map (refusal_at u) refused
 
 -- the refusals that the seconds tell
-abbrev pub refusals_of : List Told → List (ℕ × ℕ × SlotFault)
+abbrev pub refusals_of : List ToldSecond → List (ℕ × ℕ × SlotFault)
 refusals_of told = flat_map (λ t. refusals_at t.second.number t.course.refused) told
 
 -- what the line of a refusal tells
@@ -88,23 +88,23 @@ abbrev pub refusal_told : Refused → ℕ × ℕ × SlotFault
 refusal_told r = (r.second, r.begun, r.fault)
 
 -- the cards that `tear` lines pulled out
-abbrev pub pulled_of : List Told → List (ℕ × Phase × Slot)
+abbrev pub pulled_of : List ToldSecond → List (ℕ × Phase × Slot)
 pulled_of told = flat_map (λ t. visit_places t.second.number t.course.pulled) told
 
 -- the cards that failed calls tore out
-abbrev pub torn_of : List Told → List (ℕ × Phase × Slot)
+abbrev pub torn_of : List ToldSecond → List (ℕ × Phase × Slot)
 torn_of told = flat_map (λ t. visit_places t.second.number t.course.torn) told
 
 -- these cards
-abbrev pub cards_torn : List Told → List Card
+abbrev pub cards_torn : List ToldSecond → List Card
 cards_torn told = flat_map (λ t. map (λ v. v.card) t.course.torn) told
 
 -- what was found of the cards that entered
-abbrev pub finds_of : List Told → List (ℕ × Phase × Slot × Verdict)
+abbrev pub finds_of : List ToldSecond → List (ℕ × Phase × Slot × Verdict)
 finds_of told = flat_map (λ t. map (λ f. (t.second.number, f.0.phase, f.0.slot, f.1)) t.course.found) told
 
 -- the last seconds with power before an `off` line, but those that a failed call took
-abbrev pub off_cuts : List ℕ → List Told → List ℕ
+abbrev pub off_cuts : List ℕ → List ToldSecond → List ℕ
 off_cuts failed [] = []
 off_cuts failed (t ∷ []) = []
 off_cuts failed (t ∷ next ∷ told) =
@@ -128,11 +128,11 @@ IsAtPowerOn starts (Cut second kept failed begun) = Unit {0}
 IsAtPowerOn starts (Tear second slot failed begun late) = begun ≡ 0 → late ≡ false → starts ≡ true
 
 -- of a break in one of these seconds
-abbrev pub HasMoment : List Told → Break → Type 0
-HasMoment told b = (t : Told) → Contains told t → t.second.number ≡ second_of b → IsAtPowerOn t.starts b
+abbrev pub HasMoment : List ToldSecond → Break → Type 0
+HasMoment told b = (t : ToldSecond) → Contains told t → t.second.number ≡ second_of b → IsAtPowerOn t.starts b
 
 -- what was found of a card that entered
-abbrev pub found_of : Told → Visit → List Verdict
+abbrev pub found_of : ToldSecond → Visit → List Verdict
 found_of t e = map (λ f. f.1) (filter (λ f. same_phase f.0.phase e.phase && same_slot f.0.slot e.slot) t.course.found)
 
 -- a cut stands at the moment, or before it
@@ -142,7 +142,7 @@ CutBy (Some begun) (In n) = begun ≤ n
 CutBy (Some begun) Keeping = Unit {0}
 
 -- a card that entered was judged once, but where it was torn out at that moment, or a failed call had taken the power by then
-pub record IsJudged (log : RunLog) (t : Told) (e : Visit) : Type 0 where
+pub record IsJudged (log : RunLog) (t : ToldSecond) (e : Visit) : Type 0 where
   pub once : length (found_of t e) ≤ 1
   pub missing : found_of t e ≡ [] → (is_torn_in log t.second.number e.phase e.slot ≡ true)
       ⊎ CutBy (failed_cut_in log t.second.number) e.phase
@@ -172,6 +172,6 @@ pub record HasCauses (IsVerdict : Card → ℕ → Verdict → Type 0) (before n
   pub order : AreInTime log.breaks
   -- finds are exactly those of the cards that entered
   pub finds : map (λ f. (f.second, In f.begun, f.slot, f.verdict)) log.finds ≡ finds_of (went log ss).told
-  pub judged : (t : Told) (e : Visit) → Contains (went log ss).told t → Contains t.course.entered e → IsJudged log t e
-  pub verdicts : (t : Told) (e : Visit) (v : Verdict) → Contains (went log ss).told t → Contains t.course.found (e, v) →
+  pub judged : (t : ToldSecond) (e : Visit) → Contains (went log ss).told t → Contains t.course.entered e → IsJudged log t e
+  pub verdicts : (t : ToldSecond) (e : Visit) (v : Verdict) → Contains (went log ss).told t → Contains t.course.found (e, v) →
       IsVerdict e.card t.second.number v

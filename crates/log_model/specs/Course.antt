@@ -190,7 +190,7 @@ dark_course s slots = record {
 }
 
 -- a second as it went: whether the trace gave it power, whether it had power, whether that began or ended with it, and its course
-pub record Told : Type 0 where
+pub record ToldSecond : Type 0 where
   pub second : Second
   pub given : Bool
   pub lit : Bool
@@ -211,7 +211,7 @@ abbrev pub has_power : Before → TraceSecond → Bool
 has_power before s = s.has_power && (not before.gone || nat_eq (s.number % 60) 0 || not before.given)
 
 -- how a second goes
-abbrev pub second_told : RunLog → Before → TraceSecond → Told
+abbrev pub second_told : RunLog → Before → TraceSecond → ToldSecond
 second_told log before s =
     if has_power before s
     then (let c : Course = lit_course log s (not before.running) before.slots in
@@ -233,18 +233,18 @@ second_told log before s =
     }
 
 -- what the second after it has to know
-abbrev pub before_next : Before → Told → Before
+abbrev pub before_next : Before → ToldSecond → Before
 before_next before t =
     record { running = t.lit && not t.cut; gone = t.cut || (before.gone && not t.lit); given = t.given; slots = t.course.slots }
 
 -- the seconds so far, and what the next has to know
 pub record Went : Type 0 where
-  pub told : List Told
+  pub told : List ToldSecond
   pub before : Before
 
 -- one second more
 abbrev pub went_on : RunLog → Went → TraceSecond → Went
-went_on log w s = let t : Told = second_told log w.before s in record { told = w.told ++ t ∷ []; before = before_next w.before t }
+went_on log w s = let t : ToldSecond = second_told log w.before s in record { told = w.told ++ t ∷ []; before = before_next w.before t }
 
 -- before the first second
 abbrev pub not_begun : Went

@@ -17,7 +17,7 @@ use Rattle.minute_model.proofs.Counted.{count_from, ahead-most, ungiven-most, un
 use Rattle.minute_model.proofs.Spans.{numbered-fed, fed_many-end, fed_many-rule, fed_many-first_number, fed_many-settlings, fed_many-numbered, fed_many-settled, decided-fed_many}
 use Rattle.minute_rules.specs.declared.slots.CodriverSlot.{CodriverSlot}
 use Rattle.minute_rules.specs.declared.slots.DriverSlot.{DriverSlot}
-use Rattle.minute_rules.specs.Kept.{Kept, early_with, selected, driver_slot, codriver_slot, kept_at, kept_of, StandsFor, run, turned, class_kept, with_owing, decided_now, minute_ended, owed, owed_from}
+use Rattle.minute_rules.specs.Kept.{Kept, early_with, selected, driver_slot, codriver_slot, kept_at, kept_of, CountsSpan, run, turned, class_kept, with_owing, decided_now, minute_ended, owed, owed_from}
 use Rattle.minute_rules.proofs.Classing.{turned-kept, class-kept, travelled-all}
 use Rattle.minute_rules.proofs.Feeding.{run-many}
 use Rattle.minute_rules.proofs.Selecting.{driver-current, codriver-current, driver-activity, codriver-activity, driver_slot-more, codriver_slot-more, picks-mine, picks-other}
@@ -158,7 +158,7 @@ gives span speed n numbered all within some =
     ended-no k broken = ap (λ (b : Bool). cond b (with_owing (cond (nat_lt (minutes_ahead k.rule) (k.owing + 1)) k.owing (k.owing + 1)) (turned k)) k) broken
 
 -- So many seconds of one minute.
-pub fed-stands : (span : Span) (k : Kept) (speed n : ℕ) → StandsFor k span → k.next % 60 + n ≤ 60 → 0 < n → StandsFor (minute_ended (run n speed k)) (fed_many span speed n)
+pub fed-stands : (span : Span) (k : Kept) (speed n : ℕ) → CountsSpan k span → k.next % 60 + n ≤ 60 → 0 < n → CountsSpan (minute_ended (run n speed k)) (fed_many span speed n)
 fed-stands span k speed n h within some =
     let at : end_of span % 60 + n ≤ 60 = rw h.kept at within in
     let g = gives span speed n h.numbered h.settled at some in
@@ -168,14 +168,14 @@ fed-stands span k speed n h within some =
       settled = fed_many-settled span speed n h.settled;
     }
 
-pub fed-given : (span : Span) (k : Kept) (speed n : ℕ) → StandsFor k span → k.next % 60 + n ≤ 60 → 0 < n → decided_in (fed_many span speed n) ≡ decided_in span ++ decided_now (run n speed k)
+pub fed-given : (span : Span) (k : Kept) (speed n : ℕ) → CountsSpan k span → k.next % 60 + n ≤ 60 → 0 < n → decided_in (fed_many span speed n) ≡ decided_in span ++ decided_now (run n speed k)
 fed-given span k speed n h within some =
     let at : end_of span % 60 + n ≤ 60 = rw h.kept at within in
     let g = gives span speed n h.numbered h.settled at some in
     g.given ∙ ap (λ (j : Kept). decided_in span ++ decided_now (run n speed j)) (sym h.kept)
 
 -- A settling.
-pub settled-stands : (span : Span) (k : Kept) → StandsFor k span → StandsFor (with_owing 0 k) (settled span)
+pub settled-stands : (span : Span) (k : Kept) → CountsSpan k span → CountsSpan (with_owing 0 k) (settled span)
 settled-stands span k h =
     let none : 0 ≡ end_of span / 60 - ungiven_of (settled span) = omega (arith, ungiven-settled span h.settled) in
     record {
@@ -193,7 +193,7 @@ owed-counted span (suc back) numbered le few =
     let next : m - back ≡ m - suc back + 1 = omega (arith, le) in
     ap (λ (c : Minute). c ∷ owed_from (kept_of span) back) class ∙ ap (λ (ms : List Minute). class_of span.rule span.seconds (m - suc back) ∷ ms) (rest ∙ ap (λ (a : ℕ). map (class_of span.rule span.seconds) (count_from a back)) next)
 
-pub settled-given : (span : Span) (k : Kept) → StandsFor k span → decided_in (settled span) ≡ decided_in span ++ owed k
+pub settled-given : (span : Span) (k : Kept) → CountsSpan k span → decided_in (settled span) ≡ decided_in span ++ owed k
 settled-given span k h =
     let m : ℕ = end_of span / 60 in
     let u : ℕ = ungiven_of span in
@@ -204,7 +204,7 @@ settled-given span k h =
     decided-settled span h.numbered h.settled ∙ ap (λ (ms : List Minute). decided_in span ++ ms) (sym owed_is ∙ ap owed (sym h.kept))
 
 -- One more selection.
-pub select_driver : (span : Span) (p : Pick) (k : Kept) → StandsFor k span → StandsFor (record k { driver = record { current = k.driver.current; waiting = k.driver.waiting; early = early_with k.driver.early p; picked = Some p } }) (picked span Driver p)
+pub select_driver : (span : Span) (p : Pick) (k : Kept) → CountsSpan k span → CountsSpan (record k { driver = record { current = k.driver.current; waiting = k.driver.waiting; early = early_with k.driver.early p; picked = Some p } }) (picked span Driver p)
 select_driver span p k h =
     let mine : driver_slot span.seconds (picks_for Driver (picked span Driver p).pending) ≡ record { current = (kept_of span).driver.current; waiting = (kept_of span).driver.waiting; early = early_with (kept_of span).driver.early p; picked = Some p } = ap (driver_slot span.seconds) (picks-mine Driver p span.pending refl) ∙ driver_slot-more span.seconds (picks_for Driver span.pending) p in
     let other : codriver_slot span.seconds (picks_for CoDriver (picked span Driver p).pending) ≡ (kept_of span).codriver = ap (codriver_slot span.seconds) (picks-other CoDriver Driver p span.pending refl) in
@@ -216,7 +216,7 @@ select_driver span p k h =
       settled = h.settled;
     }
 
-pub select_codriver : (span : Span) (p : Pick) (k : Kept) → StandsFor k span → StandsFor (record k { codriver = record { current = k.codriver.current; picked = Some p } }) (picked span CoDriver p)
+pub select_codriver : (span : Span) (p : Pick) (k : Kept) → CountsSpan k span → CountsSpan (record k { codriver = record { current = k.codriver.current; picked = Some p } }) (picked span CoDriver p)
 select_codriver span p k h =
     let mine : codriver_slot span.seconds (picks_for CoDriver (picked span CoDriver p).pending) ≡ record { current = (kept_of span).codriver.current; picked = Some p } = ap (codriver_slot span.seconds) (picks-mine CoDriver p span.pending refl) ∙ codriver_slot-more span.seconds (picks_for CoDriver span.pending) p in
     let other : driver_slot span.seconds (picks_for Driver (picked span CoDriver p).pending) ≡ (kept_of span).driver = ap (driver_slot span.seconds) (picks-other Driver CoDriver p span.pending refl) in
@@ -229,14 +229,14 @@ select_codriver span p k h =
     }
 
 -- The selection that holds at the next second, if that is at speed 0.
-pub selected-driver : (span : Span) (k : Kept) → StandsFor k span → activity_of (selected k.driver.current k.driver.picked) ≡ activity_next Driver span
+pub selected-driver : (span : Span) (k : Kept) → CountsSpan k span → activity_of (selected k.driver.current k.driver.picked) ≡ activity_next Driver span
 selected-driver span k h =
     let x : Second = record { number = end_of span; speed = 0; picks = span.pending } in
     ap (λ (j : Kept). activity_of (selected j.driver.current j.driver.picked)) h.kept
     ∙ ap activity_of (driver-current span.seconds x refl) ∙ driver-activity span.seconds x refl
     ∙ driver-literal span.first span.seconds [] x (numbered-fed span 0 h.numbered)
 
-pub selected-codriver : (span : Span) (k : Kept) → StandsFor k span → activity_of (selected k.codriver.current k.codriver.picked) ≡ activity_next CoDriver span
+pub selected-codriver : (span : Span) (k : Kept) → CountsSpan k span → activity_of (selected k.codriver.current k.codriver.picked) ≡ activity_next CoDriver span
 selected-codriver span k h =
     let x : Second = record { number = end_of span; speed = 0; picks = span.pending } in
     ap (λ (j : Kept). activity_of (selected j.codriver.current j.codriver.picked)) h.kept
@@ -244,5 +244,5 @@ selected-codriver span k h =
     ∙ codriver-literal span.first span.seconds [] x (numbered-fed span 0 h.numbered)
 
 -- The sum of the speeds.
-pub travelled-stands : (span : Span) (k : Kept) → StandsFor k span → k.here.travelled ≡ travelled_of span
+pub travelled-stands : (span : Span) (k : Kept) → CountsSpan k span → k.here.travelled ≡ travelled_of span
 travelled-stands span k h = ap (λ (j : Kept). j.here.travelled) h.kept ∙ travelled-all (end_of span / 60) span.first span.seconds h.numbered (omega arith)

@@ -20,7 +20,7 @@ use Rattle.minute_rules.specs.declared.counted.Counted.{Counted}
 use Rattle.minute_rules.specs.declared.minutes.Moment.{Moment}
 use Rattle.minute_rules.specs.Counted.{Fits, no_second, closed, with_codriver, moved, waited, past_waited, class_by}
 use Rattle.minute_rules.specs.Tally.{longest_in}
-use Rattle.minute_rules.specs.Kept.{Kept, StandsFor, ended, slots_heard, heard, passed, driven, run, last_of, turned, minute_back, class_kept, with_owing, decided_now, minute_ended}
+use Rattle.minute_rules.specs.Kept.{Kept, CountsSpan, ended, slots_heard, heard, passed, driven, run, last_of, turned, minute_back, class_kept, with_owing, decided_now, minute_ended}
 use Rattle.minute_rules.specs.Alike.{moment_of, further, later_by, later, minute_by, minute_later, repeated}
 use Rattle.minute_rules.proofs.Giving.{fed-stands, fed-given}
 use Rattle.minute_rules.proofs.Iterated.{same_counted, same_kept, times-both, run-still, run-moving}
@@ -276,13 +276,13 @@ turned-full speed k goes =
     ap (λ (i : Kept). length i.past) (sym ends ∙ goes.alike) ∙ length-map k.past (further (60 * 1 * speed)) ∙ goes.full
 
 -- the minutes that stand for a span were not given, if they are more than may be undecided
-owing-few : (span : Span) (k : Kept) → StandsFor k span → (k.owing ≤ 3) × (k.owing ≤ k.next / 60)
+owing-few : (span : Span) (k : Kept) → CountsSpan k span → (k.owing ≤ 3) × (k.owing ≤ k.next / 60)
 owing-few span k h =
     let o : k.owing ≡ end_of span / 60 - ungiven_of span = ap (λ (j : Kept). j.owing) h.kept in
     let e : k.next ≡ end_of span = ap (λ (j : Kept). j.next) h.kept in
     (omega (arith, o, ahead-most span.rule), omega (arith, o, e))
 
-said-later : (span : Span) (n speed : ℕ) (k : Kept) → GoesOn speed k → StandsFor k span → decided_now (run 60 speed (later n speed k)) ≡ map (minute_later n speed) (decided_now (run 60 speed k))
+said-later : (span : Span) (n speed : ℕ) (k : Kept) → GoesOn speed k → CountsSpan k span → decided_now (run 60 speed (later n speed k)) ≡ map (minute_later n speed) (decided_now (run 60 speed k))
 said-later span n speed k goes h =
     let few = owing-few span k h in
     let owing = run-owing 60 speed k in
@@ -291,17 +291,17 @@ said-later span n speed k goes h =
     ∙ decided-later n (60 * n * speed) (run 60 speed k) (turned-full speed k goes) (omega (arith, owing, few.0)) (omega (arith, owing, next, few.1))
 
 -- So many minutes that go on alike.
-pub many-stands : (span : Span) (n speed : ℕ) (k : Kept) → GoesOn speed k → StandsFor k span → StandsFor (later n speed k) (fed_many span speed (60 * n))
-many-stands span zero speed k goes h = subst (λ (j : Kept). StandsFor j span) (sym (later-none speed k)) h
+pub many-stands : (span : Span) (n speed : ℕ) (k : Kept) → GoesOn speed k → CountsSpan k span → CountsSpan (later n speed k) (fed_many span speed (60 * n))
+many-stands span zero speed k goes h = subst (λ (j : Kept). CountsSpan j span) (sym (later-none speed k)) h
 many-stands span (suc n) speed k goes h =
     let before = many-stands span n speed k goes h in
     let e : 60 * n + 60 ≡ 60 * suc n = omega arith in
     let within : (k.next + 60 * n) % 60 + 60 ≤ 60 = omega (arith, goes.begins) in
     let stands = fed-stands (fed_many span speed (60 * n)) (later n speed k) speed 60 before within (omega arith) in
-    subst (λ (j : Kept). StandsFor j (fed_many span speed (60 * suc n))) (minute-later n speed k goes)
-    (subst (StandsFor (minute_ended (run 60 speed (later n speed k)))) (fed_many-parts span speed (60 * n) 60 ∙ ap (fed_many span speed) e) stands)
+    subst (λ (j : Kept). CountsSpan j (fed_many span speed (60 * suc n))) (minute-later n speed k goes)
+    (subst (CountsSpan (minute_ended (run 60 speed (later n speed k)))) (fed_many-parts span speed (60 * n) 60 ∙ ap (fed_many span speed) e) stands)
 
-pub many-given : (span : Span) (n speed : ℕ) (k : Kept) → GoesOn speed k → StandsFor k span → decided_in (fed_many span speed (60 * n)) ≡ decided_in span ++ repeated speed n (decided_now (run 60 speed k))
+pub many-given : (span : Span) (n speed : ℕ) (k : Kept) → GoesOn speed k → CountsSpan k span → decided_in (fed_many span speed (60 * n)) ≡ decided_in span ++ repeated speed n (decided_now (run 60 speed k))
 many-given span zero speed k goes h = sym (append-nil (decided_in span))
 many-given span (suc n) speed k goes h =
     let said : List Minute = decided_now (run 60 speed k) in

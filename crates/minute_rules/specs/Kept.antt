@@ -82,7 +82,7 @@ abbrev pub kept_of : Span → Kept
 kept_of span = kept_at (end_of span / 60) (end_of span / 60 - ungiven_of span) span
 
 -- These minutes stand for this span so far.
-pub record StandsFor (minutes : Kept) (span : Span) : Type 0 where
+pub record CountsSpan (minutes : Kept) (span : Span) : Type 0 where
   pub kept : minutes ≡ kept_of span
   pub numbered : AreNumbered span.first span.seconds
   pub settled : AreSettled span

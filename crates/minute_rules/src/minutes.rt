@@ -6,7 +6,7 @@ ghost use Rattle.minute_model.specs.Span.{Span, activity_next, begin, fed, fed_m
 ghost use Rattle.std.specs.List.{AllByRecursion};
 ghost use Rattle.std.specs.Bool.{OnTrue, OnFalse};
 ghost use Rattle.minute_rules.specs.Alike.{later, moment_of, decided_alike};
-ghost use Rattle.minute_rules.specs.Kept.{StandsFor};
+ghost use Rattle.minute_rules.specs.Kept.{CountsSpan};
 
 use crate::counted::{
     Counted, PAST, close_all, counts_differ, differ, driver_class, end_late, still_waiting,
@@ -78,7 +78,7 @@ impl Minutes {
 
     /// A span that begins at the second of this number (seconds since 1970-01-01 00:00 GMT), judged by this rule of minutes.
     pub fn new(rule: Rule, first: u32) -> Self
-        ensures span { StandsFor result (begin rule first) }
+        ensures span { CountsSpan result (begin rule first) }
         ensures next { result.next ≡ first }
     {
         Minutes {
@@ -95,21 +95,21 @@ impl Minutes {
     /// The number of the next second.
     pub fn next(&self) -> u32
         ensures value { result ≡ self.now.next }
-        ensures span { (span : Span) → StandsFor self.now span → result ≡ end_of span }
+        ensures span { (span : Span) → CountsSpan self.now span → result ≡ end_of span }
     {
         self.next
     }
 
     /// The sum of the speeds of the span's seconds so far, in km/h.
     pub fn travelled(&self) -> u64
-        ensures { (span : Span) → StandsFor self.now span → result ≡ travelled_of span }
+        ensures { (span : Span) → CountsSpan self.now span → result ≡ travelled_of span }
     {
         self.here.travelled
     }
 
     /// The selection that holds at the next second if that is at speed 0.
     pub fn selected(&self, slot: Slot) -> Pick
-        ensures { (span : Span) → StandsFor self.now span → activity_of result ≡ activity_next slot span }
+        ensures { (span : Span) → CountsSpan self.now span → activity_of result ≡ activity_next slot span }
     {
         match slot {
             Slot::Driver => self.driver.picked.unwrap_or(self.driver.current),
@@ -120,7 +120,7 @@ impl Minutes {
     /// Selects an activity for the next second. Several selections for one second count in their order; those for a
     /// moving second do not count.
     pub fn select(&mut self, slot: Slot, pick: Pick)
-        ensures picked { (span : Span) → StandsFor self.old span → StandsFor self.new (picked span slot pick) }
+        ensures picked { (span : Span) → CountsSpan self.old span → CountsSpan self.new (picked span slot pick) }
         ensures next { self.new.next ≡ self.old.next }
     {
         match slot {
@@ -135,8 +135,8 @@ impl Minutes {
     /// The number of the next second is below 4294967295.
     pub fn feed(&mut self, speed: u8) -> Decided
         requires { self.old.next < 2 ^ 32 - 1 }
-        ensures fed { (span : Span) → StandsFor self.old span → StandsFor self.new (fed span speed) }
-        ensures given { (span : Span) → StandsFor self.old span → decided_in (fed span speed) ≡ decided_in span ++ result.items }
+        ensures fed { (span : Span) → CountsSpan self.old span → CountsSpan self.new (fed span speed) }
+        ensures given { (span : Span) → CountsSpan self.old span → decided_in (fed span speed) ≡ decided_in span ++ result.items }
         ensures next { self.new.next ≡ self.old.next + 1 }
     {
         self.feed_once::<Brand>(speed, Blank::new(1))
@@ -148,8 +148,8 @@ impl Minutes {
         requires parts { blank.parts ≡ L.parts }
         requires one { blank.parts ≡ 1 }
         requires fits { self.old.next < 2 ^ 32 - 1 }
-        ensures fed { (span : Span) → StandsFor self.old span → StandsFor self.new (fed span speed) }
-        ensures given { (span : Span) → StandsFor self.old span → decided_in (fed span speed) ≡ decided_in span ++ result.items }
+        ensures fed { (span : Span) → CountsSpan self.old span → CountsSpan self.new (fed span speed) }
+        ensures given { (span : Span) → CountsSpan self.old span → decided_in (fed span speed) ≡ decided_in span ++ result.items }
         ensures next { self.new.next ≡ self.old.next + 1 }
     {
         let mut steps = Steps::<L>::new(blank);
@@ -163,8 +163,8 @@ impl Minutes {
     pub fn feed_run<L: Ledger>(&mut self, n: u32, speed: u8, steps: &mut Steps<L>) -> Decided
         requires fits { self.old.next + n ≤ 2 ^ 32 - 1 }
         requires minute { self.old.next % 60 + n ≤ 60 }
-        ensures fed { (span : Span) → StandsFor self.old span → StandsFor self.new (fed_many span speed n) }
-        ensures given { (span : Span) → StandsFor self.old span → decided_in (fed_many span speed n) ≡ decided_in span ++ result.items }
+        ensures fed { (span : Span) → CountsSpan self.old span → CountsSpan self.new (fed_many span speed n) }
+        ensures given { (span : Span) → CountsSpan self.old span → decided_in (fed_many span speed n) ≡ decided_in span ++ result.items }
         ensures next { self.new.next ≡ self.old.next + n }
         ensures cost { steps.new ≤ steps.old + 10 }
     {
@@ -183,8 +183,8 @@ impl Minutes {
         requires some { 0 < most }
         requires fits { self.old.next + most ≤ 2 ^ 32 - 1 }
         ensures seconds { (0 < result.seconds) × (result.seconds ≤ most) }
-        ensures fed { (span : Span) → StandsFor self.old span → StandsFor self.new (fed_many span speed result.seconds) }
-        ensures given { (span : Span) → StandsFor self.old span → decided_in (fed_many span speed result.seconds) ≡ decided_in span ++ decided_alike speed result }
+        ensures fed { (span : Span) → CountsSpan self.old span → CountsSpan self.new (fed_many span speed result.seconds) }
+        ensures given { (span : Span) → CountsSpan self.old span → decided_in (fed_many span speed result.seconds) ≡ decided_in span ++ decided_alike speed result }
         ensures next { self.new.next ≡ self.old.next + result.seconds }
         ensures late { AllByRecursion (λ m. m.minute + result.times ≤ 2 ^ 32 - 1) result.decided.items }
     {
@@ -202,8 +202,8 @@ impl Minutes {
         requires fits { self.old.next + n ≤ 2 ^ 32 - 1 }
         requires minute { self.old.next % 60 + n ≤ 60 }
         ensures seconds { result.seconds ≡ n }
-        ensures fed { (span : Span) → StandsFor self.old span → StandsFor self.new (fed_many span speed result.seconds) }
-        ensures given { (span : Span) → StandsFor self.old span → decided_in (fed_many span speed result.seconds) ≡ decided_in span ++ decided_alike speed result }
+        ensures fed { (span : Span) → CountsSpan self.old span → CountsSpan self.new (fed_many span speed result.seconds) }
+        ensures given { (span : Span) → CountsSpan self.old span → decided_in (fed_many span speed result.seconds) ≡ decided_in span ++ decided_alike speed result }
         ensures next { self.new.next ≡ self.old.next + result.seconds }
         ensures late { AllByRecursion (λ m. m.minute + result.times ≤ 2 ^ 32 - 1) result.decided.items }
     {
@@ -221,8 +221,8 @@ impl Minutes {
         requires whole { self.old.next % 60 ≡ 0 }
         requires fits { self.old.next + 60 + 60 * more ≤ 2 ^ 32 - 1 }
         ensures seconds { (0 < result.seconds) × (result.seconds ≤ 60 + 60 * more) }
-        ensures fed { (span : Span) → StandsFor self.old span → StandsFor self.new (fed_many span speed result.seconds) }
-        ensures given { (span : Span) → StandsFor self.old span → decided_in (fed_many span speed result.seconds) ≡ decided_in span ++ decided_alike speed result }
+        ensures fed { (span : Span) → CountsSpan self.old span → CountsSpan self.new (fed_many span speed result.seconds) }
+        ensures given { (span : Span) → CountsSpan self.old span → decided_in (fed_many span speed result.seconds) ≡ decided_in span ++ decided_alike speed result }
         ensures next { self.new.next ≡ self.old.next + result.seconds }
         ensures late { AllByRecursion (λ m. m.minute + result.times ≤ 2 ^ 32 - 1) result.decided.items }
     {
@@ -303,8 +303,8 @@ impl Minutes {
 
     /// A settling at the next second: gives the minutes before the next second's minute that were not given yet.
     pub fn settle(&mut self) -> Decided
-        ensures settled { (span : Span) → StandsFor self.old span → StandsFor self.new (settled span) }
-        ensures given { (span : Span) → StandsFor self.old span → decided_in (settled span) ≡ decided_in span ++ result.items }
+        ensures settled { (span : Span) → CountsSpan self.old span → CountsSpan self.new (settled span) }
+        ensures given { (span : Span) → CountsSpan self.old span → decided_in (settled span) ≡ decided_in span ++ result.items }
         ensures next { self.new.next ≡ self.old.next }
     {
         let decided = self.owed();

@@ -29,7 +29,7 @@ use Rattle.noisy_model.proofs.Leading.{IsSent, IsGiven, IsIt, is_it}
 use Rattle.noisy_link.specs.Sides.{IsReply, Loads, asked, is_over, download_sides, puts_of}
 use Rattle.noisy_link.specs.Steps.{told_as, frame_of, brought_by, IsRefusal, LacksRoom, AsksUnit, IsSilent, IsUnanswered, IsSilence, IsUntaken, IsStep, to_unit, to_loader}
 use Rattle.noisy_download.specs.Ending.{IsDownloaded}
-use Rattle.noisy_download.specs.Listing.{ListTakes, listing_sides, listing, with_list, IsUnsent, Lists, RequestIsListed, AnswerIsListed, IsListed, IsUnderway, Goes}
+use Rattle.noisy_download.specs.Listing.{ListTakes, listing_sides, listing, with_list, IsUnsent, Lists, RequestIsListed, AnswerIsListed, IsListed, IsUnderway, DownloadGoesOn}
 use Rattle.noisy_download.proofs.Listed.{passes_on, puts_on}
 use Rattle.noisy_download.proofs.Underway.{some_of, one_frame, kept_underway, here, on_wire, ended, memory_ended, failed_ended, bad_ended, silent_ended, refused_ended}
 
@@ -266,7 +266,7 @@ module _ (s : State) (held : Option (List ℕ)) (w : World SessionView Load) (li
   changed (inl silence) = unit_silent s held w listed wire filled (still silence.kept) event v grown now lists silence.happens silence.silent
   changed (inr untaken) = refused_by s held w listed wire sunk u Changed event v grown now filled (λ is. absurd (cc)) tt untaken lists
 
-  pub goes : (r : Result (Unit {0}) DownloadFault) → IsStep r s.image w event v sunk filled → IfSome s.image (Knows v.unit.side) → w.loader.side.room ≤ v.loader.side.room → Goes r s.image held v now grown filled
+  pub goes : (r : Result (Unit {0}) DownloadFault) → IsStep r s.image w event v sunk filled → IfSome s.image (Knows v.unit.side) → w.loader.side.room ≤ v.loader.side.room → DownloadGoesOn r s.image held v now grown filled
   goes (Ok done) step knows room = goes_on s held w listed wire sunk u event step.0 grown now v filled over lists step.1 step.2 knows room
   goes (Err Failed) step knows room = unit_failed s held w listed wire filled (still step.kept) event grown now lists step.asks
   goes (Err (BadUnit place)) step knows room = unit_bad s held w listed wire filled (still step.0.kept) place event grown now lists step.0.asks step.1 step.2

@@ -13,7 +13,7 @@ use Rattle.noisy_model.specs.Worlds.{World}
 use Rattle.noisy_link.specs.Sides.{is_over}
 use Rattle.noisy_link.specs.Steps.{IsStep}
 use Rattle.noisy_download.specs.Ending.{IsDownloaded}
-use Rattle.noisy_download.specs.Listing.{RequestIsListed, AnswerIsListed, IsListed, IsUnderway, Goes}
+use Rattle.noisy_download.specs.Listing.{RequestIsListed, AnswerIsListed, IsListed, IsUnderway, DownloadGoesOn}
 use Rattle.noisy_download.proofs.Underway.{memory_ended}
 use Rattle.noisy_download.proofs.Going.{goes}
 use Rattle.noisy_download.proofs.Rounds.{underway_at, goes_at, goes_passed}
@@ -49,14 +49,14 @@ knows_at image w v world knows = subst (λ (x : World SessionView Load). IfSome 
 
 -- an event happened, of a world that was not touched before
 pub happened : (s : State) (held : Option (List ℕ)) (w mid v : World SessionView Load) (listed now : Bool) (wire grown : List Passed) (sunk filled : Option (List ℕ)) (event : Event) (r : Result (Unit {0}) DownloadFault) → mid ≡ w → is_over w.loader.side ≡ false
-    → IsListed w listed event wire now grown → IsStep r s.image mid event v sunk filled → IfSome s.image (Knows v.unit.side) → mid.loader.side.room ≤ v.loader.side.room → IsUnderway s.image held w listed wire sunk → Goes r s.image held v now grown filled
+    → IsListed w listed event wire now grown → IsStep r s.image mid event v sunk filled → IfSome s.image (Knows v.unit.side) → mid.loader.side.room ≤ v.loader.side.room → IsUnderway s.image held w listed wire sunk → DownloadGoesOn r s.image held v now grown filled
 happened s held w mid v listed now wire grown sunk filled event r same over lists step knows room u =
     goes s held w listed wire sunk u event over v now grown filled lists r (subst (λ (x : World SessionView Load). IsStep r s.image x event v sunk filled) same step) knows
     (subst (λ (x : World SessionView Load). x.loader.side.room ≤ v.loader.side.room) same room)
 
 -- memory ran out as a frame was to be listed
 pub unlisted : (s : State) (held : Option (List ℕ)) (w v : World SessionView Load) (listed now : Bool) (wire grown : List Passed) (sunk : Option (List ℕ)) (r : Result (Unit {0}) DownloadFault) (fault : DownloadFault) → is_over w.loader.side ≡ false → IsErrAnd r (λ f. f ≡ fault)
-    → (fault ≡ Memory) × (grown ≡ wire) → IsUnderway s.image held w listed wire sunk → Goes r s.image held v now grown sunk
+    → (fault ≡ Memory) × (grown ≡ wire) → IsUnderway s.image held w listed wire sunk → DownloadGoesOn r s.image held v now grown sunk
 unlisted s held w v listed now wire grown sunk r fault over is memory u =
     goes_passed held v now grown sunk r fault s.image is
     (subst (λ (f : DownloadFault). IsDownloaded (Err f) s.image grown held sunk) (sym memory.0)
@@ -64,5 +64,5 @@ unlisted s held w v listed now wire grown sunk r fault over is memory u =
 
 -- another call behind one that ended well
 pub goes_then : (i j held : Option (List ℕ)) (v x : World SessionView Load) (now then_now : Bool) (grown more : List Passed) (filled full : Option (List ℕ)) (r : Result (Unit {0}) DownloadFault) → j ≡ i → IsUnderway i held v now grown filled
-    → (IsUnderway j held v now grown filled → Goes r j held x then_now more full) → Goes r i held x then_now more full
+    → (IsUnderway j held v now grown filled → DownloadGoesOn r j held x then_now more full) → DownloadGoesOn r i held x then_now more full
 goes_then i j held v x now then_now grown more filled full r same first next = goes_at held x then_now more full r i j same (next (underway_at held v now grown filled i j same first))

@@ -17,7 +17,7 @@ use Rattle.unit_download.proofs.Talking.{fresh_knows, nothing_began}
 use Rattle.noisy_model.specs.Worlds.{World, fresh_world}
 use Rattle.noisy_link.specs.Sides.{Sized, is_over}
 use Rattle.noisy_download.specs.Ending.{IsDownloaded}
-use Rattle.noisy_download.specs.Listing.{IsUnderway, Goes}
+use Rattle.noisy_download.specs.Listing.{IsUnderway, DownloadGoesOn}
 
 -- nothing has happened
 pub underway_none : (image held : Option (List ℕ)) (w : World SessionView Load) (wire : List Passed) → (load : Load) × (load.loading ≡ begun) × (LONGEST ≤ load.room) × (w ≡ fresh_world (fresh Idle) load) → wire ≡ [] → Sized image → IfSome image IsBytes → IsUnderway image held w false wire held
@@ -43,12 +43,12 @@ module _ (held : Option (List ℕ)) (w : World SessionView Load) (listed : Bool)
   pub underway_at : (i j : Option (List ℕ)) → j ≡ i → IsUnderway i held w listed wire sunk → IsUnderway j held w listed wire sunk
   underway_at i j same u = subst (λ (o : Option (List ℕ)). IsUnderway o held w listed wire sunk) (sym same) u
 
-  pub goes_at : (r : Result (Unit {0}) DownloadFault) (i j : Option (List ℕ)) → j ≡ i → Goes r j held w listed wire sunk → Goes r i held w listed wire sunk
-  goes_at r i j same g = subst (λ (o : Option (List ℕ)). Goes r o held w listed wire sunk) same g
+  pub goes_at : (r : Result (Unit {0}) DownloadFault) (i j : Option (List ℕ)) → j ≡ i → DownloadGoesOn r j held w listed wire sunk → DownloadGoesOn r i held w listed wire sunk
+  goes_at r i j same g = subst (λ (o : Option (List ℕ)). DownloadGoesOn r o held w listed wire sunk) same g
 
   -- a fault that was passed on
-  pub goes_passed : (r : Result (Unit {0}) DownloadFault) (fault : DownloadFault) (image : Option (List ℕ)) → IsErrAnd r (λ v. v ≡ fault) → IsDownloaded (Err fault) image wire held sunk → Goes r image held w listed wire sunk
-  goes_passed r fault image is d = subst (λ (q : Result (Unit {0}) DownloadFault). Goes q image held w listed wire sunk) (sym (err_is r fault is)) d
+  pub goes_passed : (r : Result (Unit {0}) DownloadFault) (fault : DownloadFault) (image : Option (List ℕ)) → IsErrAnd r (λ v. v ≡ fault) → IsDownloaded (Err fault) image wire held sunk → DownloadGoesOn r image held w listed wire sunk
+  goes_passed r fault image is d = subst (λ (q : Result (Unit {0}) DownloadFault). DownloadGoesOn q image held w listed wire sunk) (sym (err_is r fault is)) d
 
 pub downloaded_passed : (r : Result (Unit {0}) DownloadFault) (fault : DownloadFault) (image held sunk : Option (List ℕ)) (wire : List Passed) → IsErrAnd r (λ v. v ≡ fault) → IsDownloaded (Err fault) image wire held sunk → IsDownloaded r image wire held sunk
 downloaded_passed r fault image held sunk wire is d = subst (λ (q : Result (Unit {0}) DownloadFault). IsDownloaded q image wire held sunk) (sym (err_is r fault is)) d

@@ -93,6 +93,6 @@ pub record IsUnderway (image held : Option (List ℕ)) (w : World SessionView Lo
   pub bytes : IfSome image IsBytes
 
 -- it goes on, or it has ended
-abbrev pub Goes : Result (Unit {0}) DownloadFault → (image held : Option (List ℕ)) → World SessionView Load → (listed : Bool) → (wire : List Passed) → (sunk : Option (List ℕ)) → Type 0
-Goes (Ok done) image held w listed wire sunk = IsUnderway image held w listed wire sunk
-Goes (Err fault) image held w listed wire sunk = IsDownloaded (Err fault) image wire held sunk
+abbrev pub DownloadGoesOn : Result (Unit {0}) DownloadFault → (image held : Option (List ℕ)) → World SessionView Load → (listed : Bool) → (wire : List Passed) → (sunk : Option (List ℕ)) → Type 0
+DownloadGoesOn (Ok done) image held w listed wire sunk = IsUnderway image held w listed wire sunk
+DownloadGoesOn (Err fault) image held w listed wire sunk = IsDownloaded (Err fault) image wire held sunk

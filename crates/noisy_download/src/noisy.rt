@@ -9,7 +9,7 @@ ghost use Rattle.noisy_model.specs.Ends.{request_of};
 ghost use Rattle.noisy_link.specs.Sides.{asked};
 ghost use Rattle.noisy_link.specs.Steps.{frame_of, brought_by};
 ghost use Rattle.noisy_download.specs.Ending.{IsDownloaded};
-ghost use Rattle.noisy_download.specs.Listing.{Goes, IsListed, RequestIsListed, AnswerIsListed, IsUnderway};
+ghost use Rattle.noisy_download.specs.Listing.{DownloadGoesOn, IsListed, RequestIsListed, AnswerIsListed, IsUnderway};
 
 use crate::draws::drawn_event;
 use link_frames::End;
@@ -86,7 +86,7 @@ impl Noisy {
         requires unit { (U.state unit.old).size ≡ IMAGE_SIZE }
         requires knows { IfSome (U.state unit.old).image (Knows self.old.world.unit.side) }
         ensures goes { (held : Option (List ℕ)) → IsUnderway (U.state unit.old).image held self.old.world self.old.listed wire.old (K.held sink.old)
-            → Goes result (U.state unit.old).image held self.new.world self.new.listed wire.new (K.held sink.new) }
+            → DownloadGoesOn result (U.state unit.old).image held self.new.world self.new.listed wire.new (K.held sink.new) }
         ensures knows { IfSome (U.state unit.old).image (Knows self.new.world.unit.side) }
         ensures counts { K.faults sink.old ≤ K.faults sink.new }
         ensures cause { IsErrOf result DownloadFault.WriteFault → Rose (K.faults sink.old) (K.faults sink.new) }
@@ -109,7 +109,7 @@ impl Noisy {
         requires unit { (U.state unit.old).size ≡ IMAGE_SIZE }
         requires knows { IfSome (U.state unit.old).image (Knows self.old.world.unit.side) }
         ensures goes { (held : Option (List ℕ)) → IsUnderway (U.state unit.old).image held self.old.world self.old.listed wire.old (K.held sink.old)
-            → Goes result (U.state unit.old).image held self.new.world self.new.listed wire.new (K.held sink.new) }
+            → DownloadGoesOn result (U.state unit.old).image held self.new.world self.new.listed wire.new (K.held sink.new) }
         ensures knows { IfSome (U.state unit.old).image (Knows self.new.world.unit.side) }
         ensures counts { K.faults sink.old ≤ K.faults sink.new }
         ensures cause { IsErrOf result DownloadFault.WriteFault → Rose (K.faults sink.old) (K.faults sink.new) }
@@ -132,7 +132,7 @@ impl Noisy {
         requires unit { (U.state unit.old).size ≡ IMAGE_SIZE }
         requires knows { IfSome (U.state unit.old).image (Knows self.old.world.unit.side) }
         ensures goes { (held : Option (List ℕ)) → IsUnderway (U.state unit.old).image held self.old.world self.old.listed wire.old (K.held sink.old)
-            → Goes result (U.state unit.old).image held self.new.world self.new.listed wire.new (K.held sink.new) }
+            → DownloadGoesOn result (U.state unit.old).image held self.new.world self.new.listed wire.new (K.held sink.new) }
         ensures knows { IfSome (U.state unit.old).image (Knows self.new.world.unit.side) }
         ensures counts { K.faults sink.old ≤ K.faults sink.new }
         ensures cause { IsErrOf result DownloadFault.WriteFault → Rose (K.faults sink.old) (K.faults sink.new) }
@@ -156,7 +156,7 @@ impl Noisy {
         requires unit { (U.state unit.old).size ≡ IMAGE_SIZE }
         requires knows { IfSome (U.state unit.old).image (Knows self.old.world.unit.side) }
         ensures goes { (held : Option (List ℕ)) → IsUnderway (U.state unit.old).image held self.old.world self.old.listed wire.old (K.held sink.old)
-            → Goes result (U.state unit.old).image held self.new.world self.new.listed wire.new (K.held sink.new) }
+            → DownloadGoesOn result (U.state unit.old).image held self.new.world self.new.listed wire.new (K.held sink.new) }
         ensures knows { IfSome (U.state unit.old).image (Knows self.new.world.unit.side) }
         ensures counts { K.faults sink.old ≤ K.faults sink.new }
         ensures cause { IsErrOf result DownloadFault.WriteFault → Rose (K.faults sink.old) (K.faults sink.new) }

@@ -6,7 +6,7 @@ use Rattle.trace_model.specs.declared.Action.{Action}
 use Rattle.trace_model.specs.Trace.{TraceSecond}
 use Rattle.log_model.specs.Log.{RunLog, In, cut_in}
 use Rattle.log_model.specs.Slots.{Slots, refusal}
-use Rattle.log_model.specs.Course.{Course, Told, Before, begins, acted, all_acted, both_told, unmoved, fresh, has_power, second_told, before_next, not_begun}
+use Rattle.log_model.specs.Course.{Course, ToldSecond, Before, begins, acted, all_acted, both_told, unmoved, fresh, has_power, second_told, before_next, not_begun}
 use Rattle.log_model.specs.Causes.{cuts, second_of}
 
 -- an action that was carried out: how many of its second came before it, and the slots before and after it
@@ -25,7 +25,7 @@ carried_from log s n (a ∷ actions) c =
 
 -- a second of a run
 pub record Done : Type 0 where
-  pub told : Told
+  pub told : ToldSecond
   pub powered : Slots
   pub carried : List CarriedOut
   pub itself : Slots

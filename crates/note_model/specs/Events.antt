@@ -3,7 +3,7 @@ use Rattle.std.specs.Prelude.{◌≡◌, ℕ, ◌+◌, ◌||◌, true, List, Con
 use Rattle.trace_model.specs.declared.Card.{Card}
 use Rattle.log_model.specs.declared.lines.Verdict.{Verdict}
 use Rattle.log_model.specs.Log.{is_accepting}
-use Rattle.log_model.specs.Course.{Told, Visit}
+use Rattle.log_model.specs.Course.{ToldSecond, Visit}
 use Rattle.event_model.specs.declared.kinds.TheConstants.{TIME_OVERLAP, DRIVING_WITHOUT_CARD, OVER_SPEEDING}
 use Rattle.event_model.specs.Events.{Event}
 
@@ -15,7 +15,7 @@ noting_second e =
     else (if nat_eq e.kind TIME_OVERLAP then e.begin else e.end)
 
 -- where a card was accepted in one of these seconds, some image of it told this session time then
-abbrev pub AreSessions : (images : Card → List ℕ → Type 0) → (session_time : List ℕ → ℕ) → List Told → (ℕ → Visit → ℕ) → Type 0
+abbrev pub AreSessions : (images : Card → List ℕ → Type 0) → (session_time : List ℕ → ℕ) → List ToldSecond → (ℕ → Visit → ℕ) → Type 0
 AreSessions images session_time told sessions =
-    (t : Told) (f : Visit × Verdict) → Contains told t → Contains t.course.found f → is_accepting f.1 ≡ true →
+    (t : ToldSecond) (f : Visit × Verdict) → Contains told t → Contains t.course.found f → is_accepting f.1 ≡ true →
     (x : List ℕ) × images f.0.card x × (session_time x ≡ sessions t.second.number f.0)

@@ -6,7 +6,7 @@ use Rattle.minute_model.specs.declared.Minute.{Minute}
 use Rattle.minute_model.specs.Activity.{last}
 use Rattle.unit_model.specs.declared.layout.TheConstants.{HIGHEST_ODOMETER}
 use Rattle.log_model.specs.Log.{RunLog, kept_after}
-use Rattle.log_model.specs.Course.{Told}
+use Rattle.log_model.specs.Course.{ToldSecond}
 use Rattle.log_model.specs.Spans.{spans_of, seconds_in, first_in}
 use Rattle.history_model.specs.History.{settlings_of, decided_of, cut_second, limit_by}
 use Rattle.history_model.specs.Completeness.{deciding_of}
@@ -15,10 +15,10 @@ use Rattle.note_model.specs.Done.{has_failed_in}
 -- a power span, and the odometer that was stored when it began, in kilometres
 pub record SpanFrom : Type 0 where
   pub base : ℕ
-  pub span : List Told
+  pub span : List ToldSecond
 
 -- the kilometres of a span before a second: its speeds in km/h, each for a second
-abbrev pub driven_before : ℕ → List Told → ℕ
+abbrev pub driven_before : ℕ → List ToldSecond → ℕ
 driven_before u span = sum (map (λ s. s.speed) (filter (λ s. nat_lt s.number u) (seconds_in span))) / 3600
 
 -- the odometer before a second; it stays at the highest value
@@ -39,7 +39,7 @@ odometer_at u [] = 0
 odometer_at u (s ∷ spans) = if has_second u s then odometer_before u s else odometer_at u spans
 
 -- the minute was being kept in the second of the cut that ended the span
-abbrev pub IsBeingKept : Rule → List Told → ℕ → Type 0
+abbrev pub IsBeingKept : Rule → List ToldSecond → ℕ → Type 0
 IsBeingKept rule span m = cut_second (last span) ≡ Some (deciding_of rule (settlings_of span) m)
 
 -- What a unit stores whose last-kept minute is this, after these spans: the start's odometer where it kept no minute since; that of
@@ -52,11 +52,11 @@ pub data MayStore (rule : Rule) (start start_kept : ℕ) (spans : List SpanFrom)
       MayStore rule start start_kept spans kept (odometer_at_end d.minute s)
 
 -- what was found kept after the last of these spans; at first what was kept at the start
-abbrev pub found_kept : RunLog → (start_kept : ℕ) → Option Told → ℕ
+abbrev pub found_kept : RunLog → (start_kept : ℕ) → Option ToldSecond → ℕ
 found_kept log start_kept None = start_kept
 found_kept log start_kept (Some t) = kept_after log t.second.number
 
-abbrev pub last_second : List SpanFrom → Option Told
+abbrev pub last_second : List SpanFrom → Option ToldSecond
 last_second [] = None
 last_second (s ∷ []) = last s.span
 last_second (s ∷ next ∷ spans) = last_second (next ∷ spans)
@@ -91,6 +91,6 @@ HaveBases rule log start start_kept earlier (s ∷ spans) =
     BeginsFrom rule log start start_kept earlier s × HaveBases rule log start start_kept (earlier ++ s ∷ []) spans
 
 -- the power spans of a run, each with the odometer that it began with
-pub record AreSpansFrom (rule : Rule) (log : RunLog) (told : List Told) (start start_kept : ℕ) (spans : List SpanFrom) : Type 0 where
+pub record AreSpansFrom (rule : Rule) (log : RunLog) (told : List ToldSecond) (start start_kept : ℕ) (spans : List SpanFrom) : Type 0 where
   pub spans_are : map (λ s. s.span) spans ≡ spans_of told
   pub bases : HaveBases rule log start start_kept [] spans

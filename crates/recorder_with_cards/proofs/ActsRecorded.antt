@@ -22,7 +22,7 @@ use Rattle.run_outcome.specs.Lines.{cut_at}
 use Rattle.run_promise.specs.Origin.{Origin, start_at}
 use Rattle.run_minutes.specs.Books.{HaveTime}
 use Rattle.run_minutes.specs.Keeping.{with_lines}
-use Rattle.run_record.specs.Recorded.{Values, Recorded}
+use Rattle.run_record.specs.Recorded.{Values, RecordBetweenSeconds}
 use Rattle.run_record.specs.Within.{Beginning, course_in, told_before, cut_values, passed_values}
 use Rattle.run_record.proofs.Acting.{refusal-recorded, selection-recorded, hand-recorded}
 use Rattle.run_record.proofs.Cutting.{cut-recorded, recounted}
@@ -140,7 +140,7 @@ cut o done s begun rest run new out after d origin number left fails is told =
     (record {
       origin = origin;
       lost = refl;
-      recorded = subst (λ (cabin : Cabin). Recorded o (done ++ s ∷ []) IsLost
+      recorded = subst (λ (cabin : Cabin). RecordBetweenSeconds o (done ++ s ∷ []) IsLost
           (passed_values s (record (values_of run (record out { breaks = with_lines (cut_at s.number true begun ∷ []) out.breaks })) { cabin = cabin })) d) fails.same r;
       failed = λ none. no-cut (log_of out) s.number begun none;
     })))

@@ -15,7 +15,7 @@ use Rattle.log_model.specs.declared.lines.Refused.{Refused}
 use Rattle.log_model.specs.declared.lines.SlotFault.{SlotFault}
 use Rattle.log_model.specs.Log.{RunLog, In}
 use Rattle.log_model.specs.Slots.{refusal}
-use Rattle.log_model.specs.Course.{Before, Course, Told, went}
+use Rattle.log_model.specs.Course.{Before, Course, ToldSecond, went}
 use Rattle.card_slots.specs.Calls.{seat_in, card_in, logged}
 use Rattle.run_unit_course.specs.Lines.{cut_at}
 use Rattle.note_model.specs.Odometer.{SpanFrom}
@@ -94,7 +94,7 @@ cut-stores o done s n begun run mid out told d e h front rest many fails lit lef
     h.spans h.rings.ringed.spans_are h.told h.rings.ringed.second.lit h.rings.ringed.second.starts h.stored))
 
 -- the unit has failed: the cut is told
-pub ringed-cuts : (o : Origin) (done : List TraceSecond) (s : TraceSecond) (b : Beginning) (begun : ℕ) (mid new : Run) (told after : Outcome) (e : Devices) (spans : List SpanFrom) (t : Told) → s.number ≡ mid.next → CutEvented o done s new after e → (front : List Action) → length front ≡ begun →
+pub ringed-cuts : (o : Origin) (done : List TraceSecond) (s : TraceSecond) (b : Beginning) (begun : ℕ) (mid new : Run) (told after : Outcome) (e : Devices) (spans : List SpanFrom) (t : ToldSecond) → s.number ≡ mid.next → CutEvented o done s new after e → (front : List Action) → length front ≡ begun →
     RingsGoOn true o done s b front mid (log_of told) spans t e → StoresOff o (with_cut (log_of told) s front) mid.unfound (spans_cut spans mid.keeper.odometer (with_cut (log_of told) s front) done s) e → new ≡ cut_run mid.next mid → after ≡ record told { breaks = with_lines (cut_at mid.next true begun ∷ []) told.breaks } → CutRinged o done s new after e
 ringed-cuts o done s b begun mid new told after e spans t number evented front many rings stored is after_is =
     let now : List SpanFrom = spans_cut spans mid.keeper.odometer (with_cut (log_of told) s front) done s in
@@ -111,7 +111,7 @@ ringed-cuts o done s b begun mid new told after e spans t number evented front m
 -- ---- an action that notes nothing
 
 -- no device was called, and fewer cards are accepted, or the same
-passes-by : (d : Devices) (o : Origin) (done : List TraceSecond) (s : TraceSecond) (began log later : RunLog) (front : List Action) (a : Action) (spans : List SpanFrom) (t : Told) (run new : Run) → RingsWithin o done s began front run log spans t d →
+passes-by : (d : Devices) (o : Origin) (done : List TraceSecond) (s : TraceSecond) (began log later : RunLog) (front : List Action) (a : Action) (spans : List SpanFrom) (t : ToldSecond) (run new : Run) → RingsWithin o done s began front run log spans t d →
     GoesOnTo log later s front → NotesMore later (went began done).before s front a [] → new.keeper.odometer ≡ run.keeper.odometer → ((c : Card) → (seats_of new c ≡ seats_of run c) ⊎ (seats_of new c ≡ None)) →
     new.noted ≡ run.noted → later.finds ≡ log.finds → RingsWithin o done s began (front ++ a ∷ []) new later spans t d
 passes-by d o done s began log later front a spans t run new rings goes none same fewer noted finds =

@@ -5,19 +5,19 @@ use Rattle.activity_codec.specs.declared.entries.Entry.{Entry}
 use Rattle.trace_model.specs.declared.Card.{Card}
 use Rattle.log_model.specs.declared.lines.Find.{Find}
 use Rattle.trace_model.specs.Trace.{TraceSecond}
-use Rattle.log_model.specs.Course.{Told}
+use Rattle.log_model.specs.Course.{ToldSecond}
 use Rattle.log_model.specs.declared.lines.Mark.{Mark}
 use Rattle.log_model.specs.Causes.{device_of}
 use Rattle.history_model.specs.Completeness.{IsMarked}
 use Rattle.tacho_types.specs.declared.texts.Registration.{Registration}
 use Rattle.safety_model.specs.Safe.{Devices}
-use Rattle.run_unit_course.specs.Followed.{Supply, Lit as IsLit, Due as IsDue, Lost as IsLost}
+use Rattle.run_unit_course.specs.Followed.{UnitPower, Lit as IsLit, Due as IsDue, Lost as IsLost}
 use Rattle.run_crew.specs.declared.cards.Accepted.{Accepted}
 use Rattle.run_crew.specs.Cards.{session_of}
-use Rattle.run_crew.specs.Cabin.{Stands}
+use Rattle.run_crew.specs.Cabin.{CabinIsSound}
 use Rattle.run_outcome.specs.declared.outcome.Outcome.{Outcome}
 use Rattle.run_promise.specs.Origin.{Origin}
-use Rattle.run_promise.specs.Between.{Carried}
+use Rattle.run_promise.specs.Between.{RunLedger}
 use Rattle.run_record.specs.Recorded.{IsHeldBy, carried}
 use Rattle.run_acts.specs.declared.run.Run.{Run}
 use Rattle.run_acts.specs.declared.run.Power.{Power}
@@ -37,20 +37,20 @@ pub noted-at-end : (u : ℕ) (s : Option Accepted) (sits : Bool) (ss : List Spel
 noted-at-end u None sits ss there = refl
 noted-at-end u (Some a) sits ss there = ap (λ (b : Bool). as_noted u (Some a) b ss) (there refl)
 
-module _ (o : Origin) (done : List TraceSecond) (run : Run) (out : Outcome) (d : Devices) (h : RunRecorded o done run out d) (sits : run.power ≡ Lit → (low : ℕ) × Stands low None run.keeper.cabin) (c : Card) where
-  has-power : (p : Power) (span : List Told) → Supplies p (IsLit span) → p ≡ Lit
+module _ (o : Origin) (done : List TraceSecond) (run : Run) (out : Outcome) (d : Devices) (h : RunRecorded o done run out d) (sits : run.power ≡ Lit → (low : ℕ) × CabinIsSound low None run.keeper.cabin) (c : Card) where
+  has-power : (p : Power) (span : List ToldSecond) → Supplies p (IsLit span) → p ≡ Lit
   has-power Lit span powers = refl
   has-power Due span powers = absurd powers
   has-power Lost span powers = absurd powers
 
-  seated : ((low : ℕ) × Stands low None run.keeper.cabin) → is_some (session_of run.keeper.cabin.cards c) ≡ true → sits_in run.keeper.cabin.slots.seats c ≡ true
+  seated : ((low : ℕ) × CabinIsSound low None run.keeper.cabin) → is_some (session_of run.keeper.cabin.cards c) ≡ true → sits_in run.keeper.cabin.slots.seats c ≡ true
   seated stands some = ⊎_elim (λ there. sits-in-one run.keeper.cabin.slots.seats c there) (λ leaving. absurd (let wrong : None ≡ Some c = leaving in cc)) (stands.1.only c some)
 
   -- without power it has none
   bare : session_of run.keeper.cabin.cards c ≡ None → is_some (session_of run.keeper.cabin.cards c) ≡ true → sits_in run.keeper.cabin.slots.seats c ≡ true
   bare none some = absurd (let wrong : true ≡ false = sym some ∙ ap (λ (s : Option Accepted). is_some s) none in cc)
 
-  by-supply : (supply : Supply) (w : Carried) → Supplies run.power supply → IsHeldBy o done supply (values_of run out) w d → is_some (session_of run.keeper.cabin.cards c) ≡ true → sits_in run.keeper.cabin.slots.seats c ≡ true
+  by-supply : (supply : UnitPower) (w : RunLedger) → Supplies run.power supply → IsHeldBy o done supply (values_of run out) w d → is_some (session_of run.keeper.cabin.cards c) ≡ true → sits_in run.keeper.cabin.slots.seats c ≡ true
   by-supply (IsLit span) w powers held some = seated (sits (has-power run.power span powers)) some
   by-supply IsDue w powers held some = bare (held.bare c) some
   by-supply IsLost w powers held some = bare (held.bare c) some

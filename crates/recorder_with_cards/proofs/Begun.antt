@@ -3,7 +3,7 @@ use Rattle.std.proofs.Common.{◌≡◌, ℕ, ◌-◌, Option, Some, None, refl,
 use Rattle.trace_model.specs.declared.Card.{Card}
 use Rattle.minute_model.specs.declared.Rule.{Rule}
 use Rattle.minute_model.specs.Span.{begin}
-use Rattle.minute_rules.specs.Kept.{StandsFor, Kept as Minutes}
+use Rattle.minute_rules.specs.Kept.{CountsSpan, Kept as Minutes}
 use Rattle.card_slots.specs.declared.seats.Seat.{Seat}
 use Rattle.run_crew.specs.declared.cards.Accepted.{Accepted}
 use Rattle.run_crew.specs.declared.cards.Cards.{Cards}
@@ -13,7 +13,7 @@ use Rattle.run_acts.proofs.Kept.{owing-is}
 use Rattle.recorder_with_cards.specs.Accepting.{IsBare}
 
 -- none waits
-pub begun-none : (rule : Rule) (minutes : Minutes) (next : ℕ) → StandsFor minutes (begin rule next) → minutes.owing ≡ 0
+pub begun-none : (rule : Rule) (minutes : Minutes) (next : ℕ) → CountsSpan minutes (begin rule next) → minutes.owing ≡ 0
 begun-none rule minutes next stands = let is = owing-is minutes (begin rule next) stands in omega (arith, is)
 
 -- no card is accepted

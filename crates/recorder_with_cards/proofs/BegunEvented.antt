@@ -4,7 +4,7 @@ use Rattle.trace_model.specs.Trace.{TraceSecond}
 use Rattle.tach_media.specs.Medium.{State}
 use Rattle.card_layout.specs.declared.command.CardState.{CardState}
 use Rattle.log_model.specs.Log.{RunLog, In}
-use Rattle.log_model.specs.Course.{Told, went}
+use Rattle.log_model.specs.Course.{ToldSecond, went}
 use Rattle.event_model.specs.Events.{Seen, seen_of, seen_spans}
 use Rattle.run_unit_course.specs.Turn.{begins_with}
 use Rattle.unit_memory.specs.declared.memory.UnitFacts.{UnitFacts}
@@ -23,7 +23,7 @@ use Rattle.run_events.specs.declared.watch.Watch.{Watch}
 use Rattle.run_acts.specs.declared.run.Run.{Run}
 use Rattle.run_acts.specs.declared.run.Power.TheVariants.{Lit}
 use Rattle.run_acts.specs.Power.{over_by, minute_over}
-use Rattle.run_acts.specs.Going.{first_second, IsLit}
+use Rattle.run_acts.specs.Going.{first_second, RunHasPowerAllSeated}
 use Rattle.run_acts.specs.Recording.{log_of, values_of, RunWithin}
 use Rattle.run_acts.specs.Evented.{IsWatching, span_of, span_seen, RunEvented, WithinEvented}
 use Rattle.run_acts.proofs.FallEvented.{begins-now}
@@ -39,12 +39,12 @@ over-watch true run = refl
 over-watch false run = refl
 
 -- a second with power of a span that has begun comes behind all that this span had
-pub span-goes : (o : Origin) (done : List TraceSecond) (p : Progress) (s : TraceSecond) {span : List Told} → BeginsNow o done p span s → begins_with span ≡ false → span_seen p done s ≡ span_of p.log done
+pub span-goes : (o : Origin) (done : List TraceSecond) (p : Progress) (s : TraceSecond) {span : List ToldSecond} → BeginsNow o done p span s → begins_with span ≡ false → span_seen p done s ≡ span_of p.log done
 span-goes o done p s {span} begins goes =
     ap (λ (b : Bool). cond b [] (last_of (seen_spans (seen_of p.log done)))) ((lit-told p.log (went p.log done).before s (power-now o done p span s begins)).starts ∙ starts-now o done p span s begins ∙ goes)
 
 module _ (o : Origin) (done : List TraceSecond) (s : TraceSecond) (run : Run) (out : Outcome) (d : Devices) (U : State) (chip_a chip_b : CardState) (X Y : State) (lit : run.power ≡ Lit) (number : s.number ≡ run.next) (given : s.has_power ≡ true) (low : first_second ≤ run.next)
-    (going : IsLit ((run.next - 1) / 60) run U chip_a chip_b X Y) where
+    (going : RunHasPowerAllSeated ((run.next - 1) / 60) run U chip_a chip_b X Y) where
   -- the second goes on by the log so far
   pub lit-evented : (h : RunEvented o done run out d) → (w : WithinEvented o done s (In 0) [] [] Acting (minute_over run) out d) × (w.within.within.b.run.log ≡ log_of out)
   lit-evented h =

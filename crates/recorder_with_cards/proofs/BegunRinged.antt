@@ -5,10 +5,10 @@ use Rattle.trace_model.specs.Trace.{TraceSecond}
 use Rattle.tach_media.specs.Medium.{State}
 use Rattle.card_layout.specs.declared.command.CardState.{CardState}
 use Rattle.log_model.specs.Log.{RunLog}
-use Rattle.log_model.specs.Course.{Told, Before, has_power, second_told, went}
-use Rattle.run_unit_course.specs.Followed.{Supply, Lit as IsLitBy, Due as IsDueBy, Lost as IsLostBy}
+use Rattle.log_model.specs.Course.{ToldSecond, Before, has_power, second_told, went}
+use Rattle.run_unit_course.specs.Followed.{UnitPower, Lit as IsLitBy, Due as IsDueBy, Lost as IsLostBy}
 use Rattle.safety_model.specs.Safe.{Devices}
-use Rattle.run_course.specs.Followed.{IsSupplied, IsGoing}
+use Rattle.run_course.specs.Followed.{IsSupplied, PowerGoesOn}
 use Rattle.run_course.proofs.Told.{going-power}
 use Rattle.run_outcome.specs.declared.outcome.Outcome.{Outcome}
 use Rattle.run_promise.specs.Origin.{Origin}
@@ -22,7 +22,7 @@ use Rattle.run_acts.specs.declared.run.Run.{Run}
 use Rattle.run_acts.specs.declared.run.Power.{Power}
 use Rattle.run_acts.specs.declared.run.Power.TheVariants.{Lit}
 use Rattle.run_acts.specs.Power.{is_lit, over_by, minute_over}
-use Rattle.run_acts.specs.Going.{first_second, IsLit}
+use Rattle.run_acts.specs.Going.{first_second, RunHasPowerAllSeated}
 use Rattle.run_acts.specs.Recording.{log_of, Supplies}
 use Rattle.run_acts.specs.RunRinged.{seats_of, IsLastFrom, RunRinged, RingsWithin, WithinRinged}
 use Rattle.run_acts.proofs.RingedSecond.{goes-last}
@@ -50,8 +50,8 @@ over-odometer true run = refl
 over-odometer false run = refl
 
 module _ (o : Origin) (done : List TraceSecond) (s : TraceSecond) (run : Run) (out : Outcome) (d : Devices) (U : State) (chip_a chip_b : CardState) (X Y : State) (lit : run.power ≡ Lit) (number : s.number ≡ run.next) (given : s.has_power ≡ true) (low : first_second ≤ run.next)
-    (going : IsLit ((run.next - 1) / 60) run U chip_a chip_b X Y) where
-  runs : (supply : Supply) → Supplies Lit supply → IsSupplied supply (went (log_of out) done).before run.next → IsGoing (went (log_of out) done).before
+    (going : RunHasPowerAllSeated ((run.next - 1) / 60) run U chip_a chip_b X Y) where
+  runs : (supply : UnitPower) → Supplies Lit supply → IsSupplied supply (went (log_of out) done).before run.next → PowerGoesOn (went (log_of out) done).before
   runs (IsLitBy (t ∷ span)) h power = power
   runs (IsLitBy []) h power = absurd h
   runs IsDueBy h power = absurd h
@@ -63,7 +63,7 @@ module _ (o : Origin) (done : List TraceSecond) (s : TraceSecond) (run : Run) (o
       let before : Before = (went log done).before in
       let r = h.evented.recorded in
       let goes = runs r.supply (subst (λ (p : Power). Supplies p r.supply) lit r.powers) r.recorded.recorded.followed.power in
-      let t : Told = second_told log before s in
+      let t : ToldSecond = second_told log before s in
       let second : IsSecond s before t = second-as log before s (going-power before s goes given) in
       let starts : t.starts ≡ false = second.starts ∙ ap not goes.running in
       let odometer : ℕ = run.keeper.odometer in

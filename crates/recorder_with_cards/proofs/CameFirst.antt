@@ -17,7 +17,7 @@ use Rattle.minute_rules.specs.Kept.{Kept}
 use Rattle.log_model.specs.declared.lines.SlotFault.{SlotFault}
 use Rattle.log_model.specs.Log.{RunLog, Phase, In, cut_in}
 use Rattle.log_model.specs.Slots.{Slots, Sitting, same_card, holds, refusal}
-use Rattle.log_model.specs.Course.{Told, Visit, Before, Course, Moved, Went, card_in, visits, slot_told, both_told, unmoved, moved_by, answered, begins, is_settling, acted, all_acted, fresh, second_told, went_on, not_begun, went}
+use Rattle.log_model.specs.Course.{ToldSecond, Visit, Before, Course, Moved, Went, card_in, visits, slot_told, both_told, unmoved, moved_by, answered, begins, is_settling, acted, all_acted, fresh, second_told, went_on, not_begun, went}
 use Rattle.event_model.specs.Events.{course_by}
 use Rattle.safety_model.specs.Recording.{card_image}
 use Rattle.safety_model.specs.Cards.{entered as often_entered}
@@ -30,7 +30,7 @@ use Rattle.run_promise.specs.Origin.{Origin}
 use Rattle.run_promise.specs.Ends.{recording_by}
 use Rattle.run_promise.proofs.Beside.{before-next}
 use Rattle.run_promise.proofs.Unentered.{IsOut, StaysOut, stays-out, others-told, entered-then}
-use Rattle.run_record.specs.Within.{course_in, MayBeWrittenSo, Within}
+use Rattle.run_record.specs.Within.{course_in, MayBeWrittenSo, RecordInSecond}
 use Rattle.run_note_record.specs.Opened.{came_in, puts_in, times_put, HasComeBefore}
 use Rattle.run_minutes.specs.declared.keeper.Keeper.{Keeper}
 use Rattle.run_insertion.specs.declared.lines.Entering.{Entering}
@@ -69,12 +69,12 @@ came-any c (v ∷ vs) some = by (same_card c v.card) (λ more. came-any c vs mor
     by true later some = refl
     by false later some = later some
 
-some-came : (c : Card) (test : Told → Bool) (told : List Told) → 0 < length (flat_map (λ (t : Told). cond (test t) (filter (λ (e : Visit). same_card c e.card) t.course.entered) []) told) →
-    (t : Told) × Contains told t × (came_in c t ≡ true)
+some-came : (c : Card) (test : ToldSecond → Bool) (told : List ToldSecond) → 0 < length (flat_map (λ (t : ToldSecond). cond (test t) (filter (λ (e : Visit). same_card c e.card) t.course.entered) []) told) →
+    (t : ToldSecond) × Contains told t × (came_in c t ≡ true)
 some-came c test [] some = absurd (omega (arith, some))
 some-came c test (t ∷ told) some =
     let here : List Visit = cond (test t) (filter (λ (e : Visit). same_card c e.card) t.course.entered) [] in
-    let rest : List Visit = flat_map (λ (t : Told). cond (test t) (filter (λ (e : Visit). same_card c e.card) t.course.entered) []) told in
+    let rest : List Visit = flat_map (λ (t : ToldSecond). cond (test t) (filter (λ (e : Visit). same_card c e.card) t.course.entered) []) told in
     let sum = length-append here rest in
     ⊎_elim
     (λ (yes_here : 0 < length here). (t, Contains-append_left (t ∷ []) told t (Contains-push [] t), by (test t) yes_here))
@@ -157,7 +157,7 @@ fresh-none c true slots out =
 
 -- the slots are as the last second left them
 abbrev AreLeft : Went → Type 0
-AreLeft w = (w.before.slots ≡ not_begun.before.slots) ⊎ ((t : Told) × Contains w.told t × (w.before.slots ≡ t.course.slots))
+AreLeft w = (w.before.slots ≡ not_begun.before.slots) ⊎ ((t : ToldSecond) × Contains w.told t × (w.before.slots ≡ t.course.slots))
 
 left-so : (log : RunLog) (ss : List TraceSecond) (w : Went) → AreLeft w → AreLeft (fold (went_on log) w ss)
 left-so log [] w h = h
@@ -174,11 +174,11 @@ out-before c log ss out = ⊎_elim
     (are-left log ss)
 
 -- ---- IT IS JUDGED
-module _ (o : Origin) (done : List TraceSecond) (s : TraceSecond) (n : ℕ) (waits fewer : List Visit) (e : Entering) (k : Keeper) (out : Outcome) (unfound next_ begun : ℕ) (minutes : Kept) (U X Z : State) (w : Within o done s (In n) waits None [] (values_with k out unfound next_ begun minutes) (arranged e.which U X Z)) (m : MayJudge o done s n waits fewer e k out unfound next_ begun minutes U X Z w) (coherent : IsCoherent X) where
+module _ (o : Origin) (done : List TraceSecond) (s : TraceSecond) (n : ℕ) (waits fewer : List Visit) (e : Entering) (k : Keeper) (out : Outcome) (unfound next_ begun : ℕ) (minutes : Kept) (U X Z : State) (w : RecordInSecond o done s (In n) waits None [] (values_with k out unfound next_ begun minutes) (arranged e.which U X Z)) (m : MayJudge o done s n waits fewer e k out unfound next_ begun minutes U X Z w) (coherent : IsCoherent X) where
   abbrev log : RunLog
   log = (values_with k out unfound next_ begun minutes).log
 
-  abbrev told_so_far : List Told
+  abbrev told_so_far : List ToldSecond
   told_so_far = (went w.b.run.log done).told
 
   abbrev before_it : Before
@@ -191,7 +191,7 @@ module _ (o : Origin) (done : List TraceSecond) (s : TraceSecond) (n : ℕ) (wai
       own-visit A = refl
       own-visit B = refl
 
-  earlier : (t : Told) → Contains told_so_far t → came_in e.which t ≡ true → HasComeBefore told_so_far (done ++ s ∷ []) e.which s.number
+  earlier : (t : ToldSecond) → Contains told_so_far t → came_in e.which t ≡ true → HasComeBefore told_so_far (done ++ s ∷ []) e.which s.number
   earlier t there came = let low = before-next o done w.b.run w.began.followed t there in let is = w.moment.number in inl (t, there, omega (arith, low, is), came)
 
   twice : 1 < times_of e.which (course_in w.b done s (In n) log).entered → HasComeBefore told_so_far (done ++ s ∷ []) e.which s.number
@@ -208,7 +208,7 @@ module _ (o : Origin) (done : List TraceSecond) (s : TraceSecond) (n : ℕ) (wai
   came-before : MayBeWrittenSo o w.b done (course_in w.b done s (In n) log) waits s.number k.cabin.slots e.which → HasComeBefore told_so_far (done ++ s ∷ []) e.which s.number
   came-before may = ⊎_elim
       (λ past.
-      let x = some-came e.which (λ (t : Told). nat_le t.second.number may.time && nat_eq (t.second.number / 60) (may.time / 60)) told_so_far past in
+      let x = some-came e.which (λ (t : ToldSecond). nat_le t.second.number may.time && nat_eq (t.second.number / 60) (may.time / 60)) told_so_far past in
       earlier x.0 x.1 x.2)
       (λ now. let less = now.1 in let one_ = waits-one in twice (omega (arith, less, one_)))
       may.entered_then

@@ -20,7 +20,7 @@ use Rattle.run_rings.specs.Notes.{course_behind}
 use Rattle.run_promise.specs.Origin.{Origin}
 use Rattle.run_outcome.specs.declared.outcome.Outcome.{Outcome}
 use Rattle.run_record.specs.Recorded.{Values}
-use Rattle.run_record.specs.Within.{Within}
+use Rattle.run_record.specs.Within.{RecordInSecond}
 use Rattle.run_acts.specs.declared.run.Run.{Run}
 use Rattle.run_acts.specs.Power.{is_lit}
 use Rattle.run_acts.specs.OnCards.{as_accepted}
@@ -32,7 +32,7 @@ use Rattle.recorder_with_cards.specs.Carded.{WithinCarded, CutCarded, InSecondCa
 
 -- ---- by the log as the second began, or by that of now
 
-module _ (o : Origin) (done : List TraceSecond) (s : TraceSecond) (at : Phase) (waits : List Visit) (speed : Option ℕ) (rest : List Minute) (v : Values) (d : Devices) (w : Within o done s at waits speed rest v d) (some : 0 < s.number) (front : List Action) where
+module _ (o : Origin) (done : List TraceSecond) (s : TraceSecond) (at : Phase) (waits : List Visit) (speed : Option ℕ) (rest : List Minute) (v : Values) (d : Devices) (w : RecordInSecond o done s at waits speed rest v d) (some : 0 < s.number) (front : List Action) where
   abbrev log : RunLog
   log = v.log
 

@@ -21,7 +21,7 @@ use Rattle.run_insertion.specs.declared.waking.TheConstants.{UNTOLD}
 use Rattle.run_crew.specs.declared.cards.Accepted.{Accepted}
 use Rattle.run_crew.specs.declared.cabin.Cabin.{Cabin}
 use Rattle.run_crew.specs.Cards.{known_of, session_of}
-use Rattle.run_crew.specs.Cabin.{Stands, SeatAnswers, AnswersTo, AreTwo, torn_out, slot_with, left_from, with_accepted, with_sizes_of}
+use Rattle.run_crew.specs.Cabin.{CabinIsSound, SeatAnswers, AnswersTo, AreTwo, torn_out, slot_with, left_from, with_accepted, with_sizes_of}
 use Rattle.tacho_types.specs.declared.card_number.FullCardNumber.{FullCardNumber}
 use Rattle.run_acts.specs.Room.{bare_count, falls_of}
 use Rattle.run_acts.proofs.Torn.{torn-past, torn-minute, torn-falls, sitting-falls}
@@ -211,13 +211,13 @@ answers-none : (from : ℕ) (o : Option Accepted) → AnswersTo from None o → 
 answers-none from None h = refl
 answers-none from (Some a) h = absurd h
 
-pub bare-of : (from : ℕ) (slot : Slot) (which : Card) (cabin : Cabin) (leaving : Option Card) → seat_in cabin.slots.seats slot ≡ Some (record { card = which; newest = None }) → Stands from leaving cabin → session_of cabin.cards which ≡ None
+pub bare-of : (from : ℕ) (slot : Slot) (which : Card) (cabin : Cabin) (leaving : Option Card) → seat_in cabin.slots.seats slot ≡ Some (record { card = which; newest = None }) → CabinIsSound from leaving cabin → session_of cabin.cards which ≡ None
 bare-of from Driver which cabin leaving at st = answers-none from (session_of cabin.cards which) (subst (λ (s : Option Seat). SeatAnswers from cabin.cards s) at st.driver)
 bare-of from CoDriver which cabin leaving at st = answers-none from (session_of cabin.cards which) (subst (λ (s : Option Seat). SeatAnswers from cabin.cards s) at st.codriver)
 
 -- ---- A CARD THAT ENTERED
 
-module _ (e : Entering) (k v : Keeper) (noted after : ℕ) (o p : Outcome) (registration : Registration) (failed : Bool) (unit : Option (List ℕ)) (card card_after : State) (from : ℕ) (stands : Stands from None k.cabin)
+module _ (e : Entering) (k v : Keeper) (noted after : ℕ) (o p : Outcome) (registration : Registration) (failed : Bool) (unit : Option (List ℕ)) (card card_after : State) (from : ℕ) (stands : CabinIsSound from None k.cabin)
     (at : seat_in k.cabin.slots.seats e.slot ≡ Some (record { card = e.which; newest = None })) (few : noted < 2 ^ 64) where
   bare : session_of k.cabin.cards e.which ≡ None
   bare = bare-of from e.slot e.which k.cabin None at stands

@@ -9,7 +9,7 @@ use Rattle.run_crew.specs.Cabin.{with_power_lost}
 use Rattle.run_course.specs.Moments.{and_break}
 use Rattle.run_outcome.specs.declared.outcome.Outcome.{Outcome}
 use Rattle.run_promise.specs.Origin.{Origin}
-use Rattle.run_record.specs.Recorded.{Recorded}
+use Rattle.run_record.specs.Recorded.{RecordBetweenSeconds}
 use Rattle.run_record.specs.Within.{cut_values}
 use Rattle.run_acts.specs.declared.run.Run.{Run}
 use Rattle.run_acts.specs.Power.{cut_run}
@@ -18,11 +18,11 @@ use Rattle.recorder_with_cards.specs.Acting.{cut_breaks}
 use Rattle.run_acts.proofs.AllStay.{no-cut}
 
 -- what is recorded so once a second has gone is so of a run that was cut in it
-pub cut-as : (d : Devices) (o : Origin) (done : List TraceSecond) (s : TraceSecond) (n : ℕ) (run : Run) (out : Outcome) → IsOrigin o → s.number ≡ run.next → Recorded o (done ++ s ∷ []) Lost (cut_values s (In n) (values_of run out)) d →
+pub cut-as : (d : Devices) (o : Origin) (done : List TraceSecond) (s : TraceSecond) (n : ℕ) (run : Run) (out : Outcome) → IsOrigin o → s.number ≡ run.next → RecordBetweenSeconds o (done ++ s ∷ []) Lost (cut_values s (In n) (values_of run out)) d →
     RunCut o done s (cut_run run.next run) (cut_breaks true run.next n out) d
 cut-as d o done s n run out origin number cut = record {
   origin = origin;
   lost = refl;
-  recorded = subst (λ (m : ℕ). Recorded o (done ++ s ∷ []) Lost (record (values_of run out) { log = and_break (log_of out) (cut_at m true n); cabin = with_power_lost m run.keeper.cabin; next = suc run.next; begun = length s.actions }) d) number cut;
+  recorded = subst (λ (m : ℕ). RecordBetweenSeconds o (done ++ s ∷ []) Lost (record (values_of run out) { log = and_break (log_of out) (cut_at m true n); cabin = with_power_lost m run.keeper.cabin; next = suc run.next; begun = length s.actions }) d) number cut;
   failed = λ none. no-cut (log_of out) run.next n none;
 }

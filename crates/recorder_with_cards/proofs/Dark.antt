@@ -2,7 +2,7 @@
 use Rattle.std.proofs.Common.{◌≡◌, ◌∙◌, ℕ, ◌+◌, ◌-◌, ◌/◌, ◌<◌, ◌≤◌, Bool, true, false, Option, [], ◌∷◌, length, refl, ap, arith}
 use Rattle.trace_model.specs.declared.Card.{Card}
 use Rattle.log_model.specs.declared.lines.Break.{Break}
-use Rattle.run_crew.specs.Cabin.{Stands}
+use Rattle.run_crew.specs.Cabin.{CabinIsSound}
 use Rattle.run_outcome.specs.Lines.{Listed, cut_at}
 use Rattle.run_outcome.specs.declared.outcome.Outcome.{Outcome}
 use Rattle.run_minutes.specs.Keeping.{with_lines}
@@ -25,7 +25,7 @@ pub cut-room : (run : Run) (o : Outcome) (seconds offs insertions actions : ℕ)
 cut-room run o seconds offs insertions actions h lit = let f = ap (λ (q : Power). cuts_from q run.next) lit in let b = h.breaks in omega (arith, f, b)
 
 -- and there is room for what comes behind the line
-module _ (run : Run) (o : Outcome) (seconds from : ℕ) (leaving : Option Card) (stands : Stands from leaving run.keeper.cabin) (breaks : Listed Break) (told : breaks ≡ with_lines (off_cut (is_lit run.power) (run.next - 1) run.begun) o.breaks) where
+module _ (run : Run) (o : Outcome) (seconds from : ℕ) (leaving : Option Card) (stands : CabinIsSound from leaving run.keeper.cabin) (breaks : Listed Break) (told : breaks ≡ with_lines (off_cut (is_lit run.power) (run.next - 1) run.begun) o.breaks) where
   dark-room : (p : Power) → run.power ≡ p → is_lit p ≡ false → (left offs insertions actions : ℕ) → HasRoom run o (seconds + left) (1 + offs) insertions actions → cuts_from p run.next ≤ run.next / 60 + 1
       → HasRoom (record (darkened (is_lit p) run) { power = Due; next = run.next + seconds; begun = 0 }) (record o { breaks = breaks }) left offs insertions actions
   dark-room Lit is off left offs insertions actions h few = absurd (cc)

@@ -22,7 +22,7 @@ use Rattle.log_model.specs.declared.lines.Verdict.{Verdict}
 use Rattle.log_model.specs.declared.lines.Verdict.TheVariants as verdict
 use Rattle.log_model.specs.Log.{RunLog, Phase, In, same_phase, phase_of, is_torn_in, found_in, is_accepting}
 use Rattle.log_model.specs.Slots.{Slots, Sitting, in_slot, other_slot}
-use Rattle.log_model.specs.Course.{Told, Visit, Course, Before, card_in, with_slot, visits, went}
+use Rattle.log_model.specs.Course.{ToldSecond, Visit, Course, Before, card_in, with_slot, visits, went}
 use Rattle.event_model.specs.declared.kinds.TheConstants.{CARD_NOT_VALID, TIME_OVERLAP, INSERTION_WHILE_DRIVING, SESSION_NOT_CLOSED, CARD_FAULT}
 use Rattle.event_model.specs.Events.{Event, Crew, crew_of, with_card, noted_with}
 use Rattle.card_layout.specs.declared.files.Application.{Application}
@@ -87,7 +87,7 @@ added_by (Seated entered clock entry) speed second before accepted left = events
 added_by (Lost entered clock entry) speed second before accepted left = events_by (Lost entered clock entry) speed second before accepted left
 
 -- an accepted card's session was found opened so
-abbrev pub IsOpened : Ending → Origin → (told : List Told) → List TraceSecond → TraceSecond → Card → Devices → Type 0
+abbrev pub IsOpened : Ending → Origin → (told : List ToldSecond) → List TraceSecond → TraceSecond → Card → Devices → Type 0
 IsOpened (Unfit fid place) o told done s card d = Unit {0}
 IsOpened (Ahead stored) o told done s card d = Unit {0}
 IsOpened Fell o told done s card d = Unit {0}
@@ -108,7 +108,7 @@ AreFound (Lost entered clock entry) o began done s log e = FindsMore o began don
 
 -- AS A CARD IS JUDGED in a second behind these: the image that it is told by, which a stop might have left; that is the one of the start, or it has come
 -- before
-module _ (o : Origin) (told : List Told) (done : List TraceSecond) (s : TraceSecond) (card : Card) (d : Devices) (app : Application) (x : List ℕ) (left : (card_of d card).left_since (found_of o.found card).began x)
+module _ (o : Origin) (told : List ToldSecond) (done : List TraceSecond) (s : TraceSecond) (card : Card) (d : Devices) (app : Application) (x : List ℕ) (left : (card_of d card).left_since (found_of o.found card).began x)
     (first : (x ≡ card_image o.recording card) ⊎ HasComeBefore told (done ++ s ∷ []) card s.number) (own : own_sizes x ≡ app) where
   opened-by : (v : Verdict) (look : CardLook) → IsLook app x look → IsOpenWith o told done s card v look.session d
   opened-by v look is =
@@ -204,7 +204,7 @@ unsure-added o ending speed second beforehand accepted left d e notes log now un
     (noted-or ending speed second beforehand accepted left))
 
 -- ---- WHAT IT ADDS
-module _ (d : Devices) (o : Origin) (done : List TraceSecond) (p : Progress) (span : List Told) (s : TraceSecond) (b : BeginsNow o done p span s) (n : ℕ) (log : RunLog) (r : Reaches p s (In n) log) (e : Entering) (second : e.at.second ≡ s.number) (begun : e.at.begun ≡ n)
+module _ (d : Devices) (o : Origin) (done : List TraceSecond) (p : Progress) (span : List ToldSecond) (s : TraceSecond) (b : BeginsNow o done p span s) (n : ℕ) (log : RunLog) (r : Reaches p s (In n) log) (e : Entering) (second : e.at.second ≡ s.number) (begun : e.at.begun ≡ n)
     (early : e.at.late ≡ false) (sits : in_slot (course_at log (went p.log done).before s (In n)).slots e.slot ≡ Some (record { card = e.which; accepted = None })) (none : found_in log s.number (In n) e.slot ≡ []) (enters : (moved_at log (went p.log done).before s (In n)).enters e.slot ≡ true)
     (stays : (moved_at log (went p.log done).before s (In n)).leaving e.slot ≡ []) (first : n ≡ 0 → AreBare (went p.log done).before.slots × ComesInTurn e.slot log s.number) (other_unfound : (m : ℕ) → n ≡ suc m → found_in log s.number (In n) (other_slot e.slot) ≡ [])
     (apart : (m : ℕ) → n ≡ suc m → puts_into (other_slot e.slot) (slice_get s.actions m) ≡ false) (starts : n ≡ 0 → span ≡ []) where
@@ -253,7 +253,7 @@ module _ (d : Devices) (o : Origin) (done : List TraceSecond) (p : Progress) (sp
     where
       by : (k : ℕ) → n ≡ k → Adds o done s (stage_in n) later (stage_in n) (and_break later (tear_of e.slot e.at)) (fault_with s.number e.slot (crew_at p done s (In n) later) ∷ []) d
       by zero is = subst (λ (k : ℕ). Adds o done s (stage_in k) later (stage_in k) (and_break later (tear_of e.slot e.at)) (fault_with s.number e.slot (crew_at p done s (In k) later) ∷ []) d) (sym is)
-          (waking-tear_adds d o done p s (subst (λ (l : List Told). BeginsNow o done p l s) (starts is) b) later (subst (λ (k : ℕ). Reaches p s (In k) later) is reached) (turn is).0 e.slot x (tear_of e.slot e.at)
+          (waking-tear_adds d o done p s (subst (λ (l : List ToldSecond). BeginsNow o done p l s) (starts is) b) later (subst (λ (k : ℕ). Reaches p s (In k) later) is reached) (turn is).0 e.slot x (tear_of e.slot e.at)
           (subst (λ (k : ℕ). IsTearAt s (In k) e.slot true (tear_of e.slot e.at)) is torn-at) (subst (λ (k : ℕ). in_slot (course_at later before s (In k)).slots e.slot ≡ Some x) is there) (turn is).1 (rest is))
       by (suc m) is = subst (λ (k : ℕ). Adds o done s (stage_in k) later (stage_in k) (and_break later (tear_of e.slot e.at)) (fault_with s.number e.slot (crew_at p done s (In k) later) ∷ []) d) (sym is)
           (tear-adds d o done p span s b (In (suc m)) later (subst (λ (k : ℕ). Reaches p s (In k) later) is reached) e.slot e.which (tear_of e.slot e.at) (subst (λ (k : ℕ). IsTearAt s (In k) e.slot true (tear_of e.slot e.at)) is torn-at)

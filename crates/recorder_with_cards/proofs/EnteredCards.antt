@@ -43,7 +43,7 @@ use Rattle.run_insertion.specs.Noted.{moving_event}
 use Rattle.run_insertion.specs.CardEvents.{events_in, all_noted, AreBeingNoted, of_type, ShowsMore, ShowsThese, unclosed_on}
 use Rattle.run_insertion.specs.CardBrought.{moving_on, brought_on, is_cut_short, BringsOnCard}
 use Rattle.run_insertion.proofs.CardBrought.{IsSitting}
-use Rattle.run_record.specs.Within.{Within}
+use Rattle.run_record.specs.Within.{RecordInSecond}
 use Rattle.run_acts.specs.Closings.{notes_within}
 use Rattle.run_acts.specs.Entered.{values_with, MayJudge, HasGone, AreSound}
 use Rattle.run_acts.specs.Recording.{IsOrigin, log_of}
@@ -188,7 +188,7 @@ same-self : (x : Card) → same_card x x ≡ true
 same-self A = refl
 same-self B = refl
 
-module _ (o : Origin) (done : List TraceSecond) (s : TraceSecond) (n : ℕ) (waits fewer : List Visit) (e : Entering) (k : Keeper) (out : Outcome) (unfound next_ begun : ℕ) (minutes : Kept) (U X Z : State) (w : Within o done s (In n) waits None [] (values_with k out unfound next_ begun minutes) (arranged e.which U X Z)) (m : MayJudge o done s n waits fewer e k out unfound next_ begun minutes U X Z w)
+module _ (o : Origin) (done : List TraceSecond) (s : TraceSecond) (n : ℕ) (waits fewer : List Visit) (e : Entering) (k : Keeper) (out : Outcome) (unfound next_ begun : ℕ) (minutes : Kept) (U X Z : State) (w : RecordInSecond o done s (In n) waits None [] (values_with k out unfound next_ begun minutes) (arranged e.which U X Z)) (m : MayJudge o done s n waits fewer e k out unfound next_ begun minutes U X Z w)
     (origin : IsOrigin o) (vehicle : k.memory.registration ≡ vehicle_in o) (moves : s.speed ≡ e.speed)
     (failed : Bool) (k' : Keeper) (noted noted' : ℕ) (out' : Outcome) (W Y : State) (way : Way) (g : HasGone e failed k k' noted noted' out out' U W X Y Z way) (sound : AreSound U W X Y) (works : IsSitting (ending_of way) → Y.works ≡ true)
     (stay : AllStay o (marked out.marks.items (truths_within o w.b.run.log done s)) s.number (log_of out) (notes_within w.b done s (In n) (log_of out)) k.memory.registration k.cabin (arranged e.which U X Z)) where

@@ -17,7 +17,7 @@ use Rattle.card_image.specs.Own.{IsOwnValid}
 use Rattle.log_model.specs.Log.{RunLog, In}
 use Rattle.device_rule.specs.Rules.{Out}
 use Rattle.log_model.specs.Slots.{Slots, in_slot}
-use Rattle.log_model.specs.Course.{Told, Visit, Course, went}
+use Rattle.log_model.specs.Course.{ToldSecond, Visit, Course, went}
 use Rattle.event_model.specs.declared.kinds.TheConstants.{CARD_FAULT, INSERTION_WHILE_DRIVING, SESSION_NOT_CLOSED}
 use Rattle.event_model.specs.Events.{Event, Crew, accepted_card, with_card, noted_with}
 use Rattle.event_model.specs.Events as events
@@ -28,10 +28,10 @@ use Rattle.safety_model.specs.Safe.{Devices, card_of, breakdowns_of}
 use Rattle.run_crew.specs.declared.cabin.Cabin.{Cabin}
 use Rattle.run_crew.specs.declared.cards.Cards.{Cards}
 use Rattle.run_crew.specs.Cards.{known_of, with_sizes, accepted_number}
-use Rattle.run_crew.specs.Cabin.{Stands, with_sizes_of, number_of_seat, crew_of}
+use Rattle.run_crew.specs.Cabin.{CabinIsSound, with_sizes_of, number_of_seat, crew_of}
 use Rattle.run_events.specs.Entries.{number_or_no_card, IsCrewOf}
 use Rattle.run_promise.specs.Found.{Found, found_of}
-use Rattle.run_promise.specs.Between.{Carried}
+use Rattle.run_promise.specs.Between.{RunLedger}
 use Rattle.run_course.specs.Reached.{Reaches}
 use Rattle.run_course.specs.Telling.{BrokeDown, IsLeft}
 use Rattle.run_course.proofs.Moment.{reaches-of}
@@ -47,7 +47,7 @@ use Rattle.run_insertion.specs.Entered.{IsFoundIn, IsWay}
 use Rattle.run_insertion.specs.Noted.{notes_by}
 use Rattle.run_insertion.specs.Told.{IsToldOf}
 use Rattle.run_record.specs.Recorded.{Values}
-use Rattle.run_record.specs.Within.{Within, course_in, told_before}
+use Rattle.run_record.specs.Within.{RecordInSecond, course_in, told_before}
 use Rattle.run_note_record.specs.Opened.{HasComeBefore}
 use Rattle.run_note_record.specs.Evented.{number_in}
 use Rattle.run_note_record.specs.EventsSoFar.{EventedNow, BeginsNow, stage_in}
@@ -119,7 +119,7 @@ unclosed-valid o session u crew h = by (nat_eq session 0)
     by false = ((h, h), tt)
 
 -- of an accepted card a find told that it was valid at the start
-events-valid : (o : Origin) (ending : Ending) (f : Found) (w : Carried) (e : Entering) (unit card : State) → IsToldOf ending f w e unit card → (IsOwnValid (found_of f e.which).image → ValidHere o e.which) → (crew : Crew) → CrewValid o crew → (speed u : ℕ) →
+events-valid : (o : Origin) (ending : Ending) (f : Found) (w : RunLedger) (e : Entering) (unit card : State) → IsToldOf ending f w e unit card → (IsOwnValid (found_of f e.which).image → ValidHere o e.which) → (crew : Crew) → CrewValid o crew → (speed u : ℕ) →
     NamesValid o (events_by ending speed u (with_card e.slot None crew) (with_card e.slot (Some e.which) crew) (with_card e.slot None crew))
 events-valid o (Unfit fid place) f w e unit card told valid crew h speed u = let bare = without-valid o e.slot crew h in ((bare, bare), tt)
 events-valid o (Ahead stored) f w e unit card told valid crew h speed u = let bare = without-valid o e.slot crew h in ((bare, bare), tt)
@@ -151,7 +151,7 @@ noted-all (Judged app (Unnoted entered clock)) registration e unit card after is
 noted-all (Judged app (Seated entered clock entry)) registration e unit card after is speed u beforehand accepted gone = refl
 noted-all (Judged app (Lost entered clock entry)) registration e unit card after is speed u beforehand accepted gone = refl
 
-way-opened : (o : Origin) (told : List Told) (done : List TraceSecond) (s : TraceSecond) (card : Card) (d : Devices) (second : ℕ) (unit : Option (List ℕ)) (x : List ℕ) → (card_of d card).left_since (found_of o.found card).began x →
+way-opened : (o : Origin) (told : List ToldSecond) (done : List TraceSecond) (s : TraceSecond) (card : Card) (d : Devices) (second : ℕ) (unit : Option (List ℕ)) (x : List ℕ) → (card_of d card).left_since (found_of o.found card).began x →
     (x ≡ card_image o.recording card) ⊎ HasComeBefore told (done ++ s ∷ []) card s.number → (way : Way) → IsFoundIn second unit way x → IsOpened (ending_of way) o told done s card d
 way-opened o told done s card d second unit x left_ first Unread found = tt
 way-opened o told done s card d second unit x left_ first (Unsized field) found = tt
@@ -182,7 +182,7 @@ way-moves (Judged app (Seated entered clock entry)) registration e failed unit c
 way-moves (Judged app (Lost entered clock entry)) registration e failed unit card after is = is.3
 
 -- and an accepted one told its number
-ending-numbered : (ending : Ending) (f : Found) (w : Carried) (e : Entering) (unit card : State) → IsToldOf ending f w e unit card → (number : List ℕ) → (IsOwnValid (found_of f e.which).image → (found_of f e.which).number ≡ number) → IsNumbered ending number
+ending-numbered : (ending : Ending) (f : Found) (w : RunLedger) (e : Entering) (unit card : State) → IsToldOf ending f w e unit card → (number : List ℕ) → (IsOwnValid (found_of f e.which).image → (found_of f e.which).number ≡ number) → IsNumbered ending number
 ending-numbered (Unfit fid place) f w e unit card told number same = tt
 ending-numbered (Ahead stored) f w e unit card told number same = tt
 ending-numbered Fell f w e unit card told number same = tt
@@ -193,8 +193,8 @@ ending-numbered (Lost entered clock entry) f w e unit card told number same = to
 
 -- ---- IT IS JUDGED
 
-module _ (o : Origin) (done : List TraceSecond) (s : TraceSecond) (n : ℕ) (waits fewer : List Visit) (e : Entering) (k : Keeper) (out : Outcome) (unfound next_ begun : ℕ) (minutes : Kept) (U X Z : State) (w : Within o done s (In n) waits None [] (values_with k out unfound next_ begun minutes) (arranged e.which U X Z)) (m : MayJudge o done s n waits fewer e k out unfound next_ begun minutes U X Z w)
-    (origin : IsOrigin o) (turn : IsInTurn w.b done s n (values_with k out unfound next_ begun minutes).log e.slot) (speed : s.speed ≡ e.speed) (small : s.number < 2 ^ 32) (low : ℕ) (stands : Stands low None k.cabin) where
+module _ (o : Origin) (done : List TraceSecond) (s : TraceSecond) (n : ℕ) (waits fewer : List Visit) (e : Entering) (k : Keeper) (out : Outcome) (unfound next_ begun : ℕ) (minutes : Kept) (U X Z : State) (w : RecordInSecond o done s (In n) waits None [] (values_with k out unfound next_ begun minutes) (arranged e.which U X Z)) (m : MayJudge o done s n waits fewer e k out unfound next_ begun minutes U X Z w)
+    (origin : IsOrigin o) (turn : IsInTurn w.b done s n (values_with k out unfound next_ begun minutes).log e.slot) (speed : s.speed ≡ e.speed) (small : s.number < 2 ^ 32) (low : ℕ) (stands : CabinIsSound low None k.cabin) where
   abbrev v : Values
   v = values_with k out unfound next_ begun minutes
 

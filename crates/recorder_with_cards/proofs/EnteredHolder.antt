@@ -22,7 +22,7 @@ use Rattle.card_image.specs.Own.{own_sizes, IsOwnValid}
 use Rattle.card_validity.specs.declared.looking.CardLook.{CardLook}
 use Rattle.card_validity.specs.Judged.{IsLook, identification_field}
 use Rattle.log_model.specs.Log.{RunLog}
-use Rattle.log_model.specs.Course.{Told}
+use Rattle.log_model.specs.Course.{ToldSecond}
 use Rattle.unit_notes.specs.Fields.{InsertionFits}
 use Rattle.unit_notes.specs.Entries.{insertion_bytes}
 use Rattle.note_model.specs.Odometer.{SpanFrom, odometer_at}
@@ -93,7 +93,7 @@ slot-is CoDriver = refl
 -- ---- what a card told by this image, which a stop might have left, and which is of the holder at the start
 module _ (o : Origin) (origin : IsOrigin o) (e : Entering) (look : CardLook) (app : Application) (y : List ℕ) (sizes : own_sizes y ≡ app) (is : IsLook app y look) (fits : FitsInsertion look) (valid : IsOwnValid (card_image o.recording e.which))
     (same : HasSameHolder (found_of o.found e.which).image y) (named : card_number_bytes look.number ≡ (found_of o.found e.which).number)
-    (seconds : List Told) (trace : List TraceSecond) (u : ℕ) (first : (y ≡ card_image o.recording e.which) ⊎ HasComeBefore seconds trace e.which u) (d : Devices) (left_ : (card_of d e.which).left_since (found_of o.found e.which).began y) (second : e.at.second ≡ u) (small : u < 2 ^ 32) (spans : List SpanFrom) (odometer : e.odometer.0 ≡ odometer_at u spans) (few : e.odometer.0 < 2 ^ 24) where
+    (seconds : List ToldSecond) (trace : List TraceSecond) (u : ℕ) (first : (y ≡ card_image o.recording e.which) ⊎ HasComeBefore seconds trace e.which u) (d : Devices) (left_ : (card_of d e.which).left_since (found_of o.found e.which).began y) (second : e.at.second ≡ u) (small : u < 2 ^ 32) (spans : List SpanFrom) (odometer : e.odometer.0 ≡ odometer_at u spans) (few : e.odometer.0 < 2 ^ 24) where
   the-file : file_bytes app 0x0520 y ≡ identification_of (card_image o.recording e.which)
   the-file = ap (λ (a : Application). file_bytes a 0x0520 y) (sym sizes) ∙ same.identification ∙ ap identification_of (origin.image e.which)
 

@@ -33,7 +33,7 @@ use Rattle.run_crew.specs.Cabin.{torn_out, with_accepted, with_sizes_of}
 use Rattle.run_note_record.specs.Opened.{HasComeBefore}
 use Rattle.recorder_with_cards.proofs.CameFirst.{came-first}
 use Rattle.run_promise.specs.Found.{found_of}
-use Rattle.run_promise.specs.Between.{Carried}
+use Rattle.run_promise.specs.Between.{RunLedger}
 use Rattle.run_devices.specs.Strung.{HasSameHolder}
 use Rattle.run_rings.specs.Notes.{TellSameTo}
 use Rattle.run_devices.specs.Told.{arranged, with_standing}
@@ -49,7 +49,7 @@ use Rattle.run_insertion.specs.declared.lines.Entering.{Entering}
 use Rattle.run_insertion.specs.Entering.{Ending, Unfit, Ahead, Fell, Unasked, Unnoted, Seated, Lost, Way, Unread, Unsized, Judged, ending_of, sizes_by, measured, cabin_by, noted_by, and_one, insertion_of, find_of, finds_by}
 use Rattle.run_insertion.specs.Entered.{FitsInsertion, IsFoundIn, IsWay}
 use Rattle.run_insertion.specs.Told.{IsToldOf}
-use Rattle.run_record.specs.Within.{Within}
+use Rattle.run_record.specs.Within.{RecordInSecond}
 use Rattle.run_acts.specs.Entered.{values_with, MayJudge, HasGone, AreSound}
 use Rattle.run_acts.specs.Recording.{IsOrigin, log_of}
 use Rattle.run_acts.specs.Ringing.{seating_of}
@@ -200,7 +200,7 @@ pub record IsRinged (o : Since) (s : TraceSecond) (n : ℕ) (e : Entering) (span
   pub places : PlacesStay o.origin d later
   pub counted : noted' ≤ length (log_of out').finds
 
-module _ (o : Origin) (done : List TraceSecond) (s : TraceSecond) (n : ℕ) (waits fewer : List Visit) (e : Entering) (k : Keeper) (out : Outcome) (unfound next_ begun : ℕ) (minutes : Kept) (U X Z : State) (w : Within o done s (In n) waits None [] (values_with k out unfound next_ begun minutes) (arranged e.which U X Z)) (m : MayJudge o done s n waits fewer e k out unfound next_ begun minutes U X Z w)
+module _ (o : Origin) (done : List TraceSecond) (s : TraceSecond) (n : ℕ) (waits fewer : List Visit) (e : Entering) (k : Keeper) (out : Outcome) (unfound next_ begun : ℕ) (minutes : Kept) (U X Z : State) (w : RecordInSecond o done s (In n) waits None [] (values_with k out unfound next_ begun minutes) (arranged e.which U X Z)) (m : MayJudge o done s n waits fewer e k out unfound next_ begun minutes U X Z w)
     (origin : IsOrigin o) (small : s.number < 2 ^ 32) (few : e.odometer.0 < 2 ^ 24) (spans : List SpanFrom) (odometer : e.odometer.0 ≡ odometer_at s.number spans) (noted : ℕ) (counted : noted ≤ length (log_of out).finds) (others : (c : Card) → IfSome (session_of k.cabin.cards c) (λ b. b.noted ≤ noted))
     (failed : Bool) (k' : Keeper) (noted' : ℕ) (out' : Outcome) (W Y : State) (way : Way) (g : HasGone e failed k k' noted noted' out out' U W X Y Z way) (sound : AreSound U W X Y) (told_few : length (log_of out').finds < 2 ^ 64) (sized : LARGEST_IMAGE ≤ X.size) where
   second : e.at.second ≡ s.number
@@ -254,7 +254,7 @@ module _ (o : Origin) (done : List TraceSecond) (s : TraceSecond) (n : ℕ) (wai
   first-or : (y.0 ≡ card_image o.recording e.which) ⊎ HasComeBefore (went w.b.run.log done).told (done ++ s ∷ []) e.which s.number
   first-or = ⊎_elim (λ whole. inl (whole y.0 y.1)) (λ come. inr come) (came-first o done s n waits fewer e k out unfound next_ begun minutes U X Z w m sound.card_before)
 
-  abbrev standing : Carried
+  abbrev standing : RunLedger
   standing = with_standing e.which Out (before o done s n waits fewer e k out unfound next_ begun minutes U X Z w m)
 
   told : IsToldOf (ending_of way) o.found standing e U X

@@ -27,7 +27,7 @@ use Rattle.run_events.specs.Entries.{IsCrewOf, entry_of}
 use Rattle.run_insertion.specs.declared.lines.Entering.{Entering}
 use Rattle.run_insertion.specs.Entering.{Ending, Unfit, Ahead, Fell, Unasked, Unnoted, Seated, Lost, seated}
 use Rattle.run_insertion.specs.Noted.{AreDone, AreBeingDone, UnitNote, Inserts, BeginsRow, Tells, IsOnUnit, IsComing, event_of, fault_of, moving_notes, unclosed_notes, notes_by}
-use Rattle.recorder_with_cards.specs.EnteredTold.{IsTold, TellEvents, AreUnsure, moving_events, unclosed_events, events_by, IsLow, AreNamed}
+use Rattle.recorder_with_cards.specs.EnteredTold.{NoteTellsEvent, TellEvents, AreUnsure, moving_events, unclosed_events, events_by, IsLow, AreNamed}
 
 -- what was noted leaves the other types alone
 noted-but : (kind : ℕ) → Contains all_kinds kind → (front x y : List ℕ) → IsEventNoted kind front x y → SaysNothingBut kind x y
@@ -86,7 +86,7 @@ module _ (number : Card → List ℕ) (long : AreNumbers number) (log : RunLog) 
 -- WHICH EVENTS ARE TOLD
 module _ (number : Card → List ℕ) (second : ℕ) (low : second < 2 ^ 32) where
   entry-told : (kind begin end : ℕ) (crew : Crew) (numbers : Numbers) → Contains all_kinds kind → kind ≢ OVER_SPEEDING → begin < 2 ^ 32 → end < 2 ^ 32 → IsCrewOf number crew numbers →
-      IsTold number (noted_with kind begin end crew) (entry_of kind begin end numbers numbers)
+      NoteTellsEvent number (noted_with kind begin end crew) (entry_of kind begin end numbers numbers)
   entry-told kind begin end crew numbers there other small large named = record {
     is = record {
       kind = refl;
@@ -149,7 +149,7 @@ module _ (number : Card → List ℕ) (second : ℕ) (low : second < 2 ^ 32) whe
         by true = tt
         by false = (entry-told SESSION_NOT_CLOSED session e.at.second crew (crew_of cabin) unclosed-there (differs SESSION_NOT_CLOSED refl) small now-low named, tt)
 
-    fault-told : (cabin : Cabin) (crew : Crew) → IsCrewOf number crew (crew_of (torn_out e.which e.at.second cabin)) → IsTold number (noted_with CARD_FAULT e.at.second e.at.second crew)
+    fault-told : (cabin : Cabin) (crew : Crew) → IsCrewOf number crew (crew_of (torn_out e.which e.at.second cabin)) → NoteTellsEvent number (noted_with CARD_FAULT e.at.second e.at.second crew)
         (entry_of CARD_FAULT e.at.second e.at.second (crew_of (torn_out e.which e.at.second cabin)) (crew_of (torn_out e.which e.at.second cabin)))
     fault-told cabin crew named = entry-told CARD_FAULT e.at.second e.at.second crew (crew_of (torn_out e.which e.at.second cabin)) fault-there (differs CARD_FAULT refl) now-low now-low named
 

@@ -37,7 +37,7 @@ use Rattle.run_insertion.specs.declared.lines.Entering.{Entering}
 use Rattle.run_insertion.specs.Entering.{Ending, Unfit, Ahead, Fell, Unasked, Unnoted, Seated, Lost, Way, Unread, Unsized, Judged, ending_of, find_of, APPLICATION_FILE}
 use Rattle.run_insertion.specs.Entered.{IsFound, IsFoundIn}
 use Rattle.run_record.specs.Recorded.{Values}
-use Rattle.run_record.specs.Within.{Within}
+use Rattle.run_record.specs.Within.{RecordInSecond}
 use Rattle.run_record.specs.Judging.{IsNext}
 use Rattle.run_acts.specs.Closings.{notes_within}
 use Rattle.run_acts.specs.Recording.{IsOrigin}
@@ -66,7 +66,7 @@ pub record FindsBy (o : Origin) (began : RunLog) (done : List TraceSecond) (s : 
 
 -- ---- A FIND, at the moment of a card that is the next
 
-module _ (o : Origin) (done : List TraceSecond) (s : TraceSecond) (n : ℕ) (waits fewer : List Visit) (v : Values) (d : Devices) (w : Within o done s (In n) waits None [] v d) (slot : Slot) (card : Card) (next : IsNext o done s (In n) waits fewer v d w slot card)
+module _ (o : Origin) (done : List TraceSecond) (s : TraceSecond) (n : ℕ) (waits fewer : List Visit) (v : Values) (d : Devices) (w : RecordInSecond o done s (In n) waits None [] v d) (slot : Slot) (card : Card) (next : IsNext o done s (In n) waits fewer v d w slot card)
     (none : found_in v.log s.number (In n) slot ≡ []) (order : slot ≡ Driver → ((moved_at v.log (went w.b.run.log done).before s (In n)).enters CoDriver ≡ false) ⊎ (found_in v.log s.number (In n) CoDriver ≡ [])) where
   -- what was noted before it, and the uses that were found on a card by a log
   abbrev pub noted_before : List Note
@@ -141,7 +141,7 @@ module _ (o : Origin) (done : List TraceSecond) (s : TraceSecond) (n : ℕ) (wai
 
 -- ---- BY WHAT BECAME OF IT
 
-module _ (o : Origin) (done : List TraceSecond) (s : TraceSecond) (n : ℕ) (waits fewer : List Visit) (v : Values) (d : Devices) (w : Within o done s (In n) waits None [] v d) (e : Entering) (next : IsNext o done s (In n) waits fewer v d w e.slot e.which)
+module _ (o : Origin) (done : List TraceSecond) (s : TraceSecond) (n : ℕ) (waits fewer : List Visit) (v : Values) (d : Devices) (w : RecordInSecond o done s (In n) waits None [] v d) (e : Entering) (next : IsNext o done s (In n) waits fewer v d w e.slot e.which)
     (none : found_in v.log s.number (In n) e.slot ≡ []) (order : e.slot ≡ Driver → ((moved_at v.log (went w.b.run.log done).before s (In n)).enters CoDriver ≡ false) ⊎ (found_in v.log s.number (In n) CoDriver ≡ []))
     (second : e.at.second ≡ s.number) (begun : e.at.begun ≡ n) where
   abbrev Finds : RunLog → List Verdict → Type 0

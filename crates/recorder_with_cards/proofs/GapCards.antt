@@ -19,7 +19,7 @@ use Rattle.safety_model.specs.Safe.{Devices, card_of}
 use Rattle.run_crew.specs.declared.cards.Cards.{Cards}
 use Rattle.run_crew.specs.declared.cards.Accepted.{Accepted}
 use Rattle.run_crew.specs.Cards.{session_of}
-use Rattle.run_crew.specs.Cabin.{Stands, SeatAnswers, AnswersTo}
+use Rattle.run_crew.specs.Cabin.{CabinIsSound, SeatAnswers, AnswersTo}
 use Rattle.run_course.specs.Presence.{SitsAs, IsNewest}
 use Rattle.history_model.specs.Minutes.{HistoryMinute}
 use Rattle.history_model.specs.Presence.{Start}
@@ -102,7 +102,7 @@ sits-session start past from low kept cards (Some seat) (Some q) c tells answers
     by None (Some u) newest answers is = newest
     by (Some n) (Some u) newest answers is = gone n (session_of cards seat.card) (ap (session_of cards) (tells.0 ∙ same q.card c is) ∙ none) answers
 
-module _ (o : Origin) (done : List TraceSecond) (s : TraceSecond) (run : Run) (out : Outcome) (d : Devices) (w : RunWithin o done s (In 0) [] [] run out d) (low : ℕ) (stands : Stands low None run.keeper.cabin)
+module _ (o : Origin) (done : List TraceSecond) (s : TraceSecond) (run : Run) (out : Outcome) (d : Devices) (w : RunWithin o done s (In 0) [] [] run out d) (low : ℕ) (stands : CabinIsSound low None run.keeper.cabin)
     (off : (went w.within.b.run.log done).before.running ≡ false) (bare : AreBare (went w.within.b.run.log done).before.slots) where
   abbrev log : RunLog
   log = log_of out

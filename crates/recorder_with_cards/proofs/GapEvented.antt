@@ -11,7 +11,7 @@ use Rattle.log_model.specs.declared.lines.Break.{Break}
 use Rattle.log_model.specs.declared.lines.Break.TheVariants.{Tear}
 use Rattle.log_model.specs.Log.{RunLog, In}
 use Rattle.log_model.specs.Slots.{Slots, Sitting, in_slot}
-use Rattle.log_model.specs.Course.{Before, Course, Told, went}
+use Rattle.log_model.specs.Course.{Before, Course, ToldSecond, went}
 use Rattle.event_model.specs.declared.kinds.TheConstants.{POWER_INTERRUPTION, CARD_FAULT}
 use Rattle.event_model.specs.declared.entries.Span.{Span}
 use Rattle.event_model.specs.Spans.{gap_of}
@@ -22,7 +22,7 @@ use Rattle.card_slots.specs.Calls.{Seats, seat_in, card_in, is_card}
 use Rattle.run_crew.specs.declared.cabin.Cabin.{Cabin}
 use Rattle.run_crew.specs.declared.cards.Cards.{Cards}
 use Rattle.run_crew.specs.Cards.{session_of, with_session}
-use Rattle.run_crew.specs.Cabin.{Stands, left_from, torn_out, crew_of}
+use Rattle.run_crew.specs.Cabin.{CabinIsSound, left_from, torn_out, crew_of}
 use Rattle.run_events.specs.Entries.{IsCrewOf}
 use Rattle.run_course.specs.Followed.{Progress}
 use Rattle.run_course.specs.Moments.{and_break}
@@ -137,7 +137,7 @@ pub record GapAdds (o : Origin) (done : List TraceSecond) (s : TraceSecond) (log
   pub valid : NamesValid o events
   pub adds : Adds o done s Waking log Acting later events e
 
-module _ (o : Origin) (origin : IsOrigin o) (done : List TraceSecond) (s : TraceSecond) (run : Run) (out : Outcome) (d : Devices) (w : RunWithin o done s (In 0) [] [] run out d) (low : ℕ) (stands : Stands low None run.keeper.cabin) (small : s.number < 2 ^ 32) where
+module _ (o : Origin) (origin : IsOrigin o) (done : List TraceSecond) (s : TraceSecond) (run : Run) (out : Outcome) (d : Devices) (w : RunWithin o done s (In 0) [] [] run out d) (low : ℕ) (stands : CabinIsSound low None run.keeper.cabin) (small : s.number < 2 ^ 32) where
   abbrev p : Progress
   p = w.within.b.run
 
@@ -298,7 +298,7 @@ module _ (o : Origin) (origin : IsOrigin o) (done : List TraceSecond) (s : Trace
 
   -- THE POWER-ON IS DONE
   module _ (empty : w.within.b.span ≡ []) (bare : AreBare was.slots) (q : Option Span) (low_gap : IsSmallGap q) (list : interruption log (seen_spans (seen_of p.log done)) s.number crew ≡ gap_events q crew) (e : Devices) where
-    abbrev begins : List Told → Type 0
+    abbrev begins : List ToldSecond → Type 0
     begins span = BeginsNow o done p span s
 
     begins-now : BeginsNow o done p [] s

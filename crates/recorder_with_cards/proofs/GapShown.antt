@@ -20,14 +20,14 @@ use Rattle.note_model.specs.Done.{has_failed_in}
 use Rattle.card_slots.specs.Calls.{seat_in, card_in}
 use Rattle.tacho_types.specs.declared.texts.Registration.{Registration}
 use Rattle.safety_model.specs.Safe.{Devices, card_of}
-use Rattle.run_unit_course.specs.Followed.{Supply, MayPower}
+use Rattle.run_unit_course.specs.Followed.{UnitPower, MayPower}
 use Rattle.run_unit_course.specs.Lines.{cut_at}
 use Rattle.run_crew.specs.declared.cards.Cards.{Cards}
 use Rattle.run_crew.specs.declared.cards.Accepted.{Accepted}
 use Rattle.run_crew.specs.declared.cabin.Cabin.{Cabin}
 use Rattle.run_crew.specs.Cards.{session_of, with_session}
-use Rattle.run_crew.specs.Cabin.{Stands}
-use Rattle.run_course.specs.Followed.{Progress, Followed}
+use Rattle.run_crew.specs.Cabin.{CabinIsSound}
+use Rattle.run_course.specs.Followed.{Progress, BookFollowsRun}
 use Rattle.run_course.specs.Moments.{and_break}
 use Rattle.run_course.specs.Seconds.{GoesOnBy}
 use Rattle.run_course.proofs.Lookups.{break-more}
@@ -38,7 +38,7 @@ use Rattle.run_outcome.specs.declared.outcome.Outcome.{Outcome}
 use Rattle.run_promise.specs.Origin.{Origin, rule_of, start_at, first_of}
 use Rattle.run_promise.specs.Beside.{HaveLeftMore}
 use Rattle.run_promise.specs.Seconds.{found_again}
-use Rattle.run_record.specs.Recorded.{Values, Recorded, progress}
+use Rattle.run_record.specs.Recorded.{Values, RecordBetweenSeconds, progress}
 use Rattle.run_record.proofs.Pulling.{sitting-now}
 use Rattle.run_record.proofs.Seats.{card-seated}
 use Rattle.run_note_record.specs.Evented.{NotesNothing, Evented}
@@ -70,8 +70,8 @@ use Rattle.recorder_with_cards.proofs.WakesCards.{waking-later}
 
 -- ---- the list of the interruption, by the log as its second began
 
-module _ (o : Origin) (done : List TraceSecond) (s : TraceSecond) (supply : Supply) (v : Values) (d e : Devices) (r : Recorded o done supply v d) (may : MayPower supply v.next) (number : s.number ≡ v.next) (given : s.has_power ≡ true) (k : ℕ)
-    (evented : Evented o done v.log v.unfound v.next supply d) (quiet : NotesNothing d e) (left : HaveLeftMore o d e) (followed : Followed (rule_of o) (start_at o) o.from (first_of o) done (found_again k (progress v supply r.book))) where
+module _ (o : Origin) (done : List TraceSecond) (s : TraceSecond) (supply : UnitPower) (v : Values) (d e : Devices) (r : RecordBetweenSeconds o done supply v d) (may : MayPower supply v.next) (number : s.number ≡ v.next) (given : s.has_power ≡ true) (k : ℕ)
+    (evented : Evented o done v.log v.unfound v.next supply d) (quiet : NotesNothing d e) (left : HaveLeftMore o d e) (followed : BookFollowsRun (rule_of o) (start_at o) o.from (first_of o) done (found_again k (progress v supply r.book))) where
   abbrev q : Progress
   q = found_again k (progress v supply r.book)
 
@@ -233,7 +233,7 @@ abbrev pub GapOn : (failed : Bool) → Origin → List TraceSecond → TraceSeco
 GapOn false o done s began log d = CardsIn o done s began [] log d
 GapOn true o done s began log d = CardsBehind o (done ++ s ∷ []) (with_cut log s []) d
 
-module _ (o : Origin) (done : List TraceSecond) (s : TraceSecond) (run : Run) (out : Outcome) (d e : Devices) (w : RunWithin o done s (In 0) [] [] run out d) (low : ℕ) (stands : Stands low None run.keeper.cabin) (off : (went w.within.b.run.log done).before.running ≡ false)
+module _ (o : Origin) (done : List TraceSecond) (s : TraceSecond) (run : Run) (out : Outcome) (d e : Devices) (w : RunWithin o done s (In 0) [] [] run out d) (low : ℕ) (stands : CabinIsSound low None run.keeper.cabin) (off : (went w.within.b.run.log done).before.running ≡ false)
     (bare : AreBare (went w.within.b.run.log done).before.slots) (some : 0 < s.number) (gap : Option Span) (list : (crew : Crew) → interruption w.within.b.run.log (seen_spans (seen_of w.within.b.run.log done)) s.number crew ≡ gap_list gap crew) (vehicle : run.keeper.memory.registration ≡ vehicle_in o)
     (cards : CardsWaking o done s w.within.b.run.log (log_of out) d) (failed : Bool) (new : Run) (after : Listed Break) (reach : GapReach) (is : IsGapNoted gap (now_moment run) failed run new out.breaks after reach) (left : HaveLeftMore o d e)
     (uncut : failed ≡ true → cut_in (log_of (record out { breaks = after })) s.number ≡ None) (notes : NotesOnCards failed run.keeper.cabin.cards new.keeper.cabin.cards (λ card. gap_on gap run.keeper.memory.registration) d e) where

@@ -14,7 +14,7 @@ use Rattle.run_crew.specs.declared.cards.Cards.{Cards}
 use Rattle.run_crew.specs.declared.cards.Known.{Known}
 use Rattle.run_crew.specs.Cards.{known_of, session_of}
 use Rattle.run_crew.specs.Cabin.{KnowsEnded}
-use Rattle.run_minutes.specs.Keeping.{CardReady, HasItsRow, HaveRows}
+use Rattle.run_minutes.specs.Keeping.{CardMayBeCalled, HasItsRow, HaveRows}
 use Rattle.run_insertion.specs.declared.lines.Entering.{Entering}
 use Rattle.run_insertion.specs.Entering.{Ending, Unfit, Ahead, Fell, Unasked, Unnoted, Seated, Lost, finds_by}
 use Rattle.card_slots.specs.declared.seats.Seat.{Seat}
@@ -54,12 +54,12 @@ module _ (cards : Cards) (mine others : CardState) (M O : State) where
   mine-at A x y = x
   mine-at B x y = y
 
-  pub both-ready : (which : Card) → CardReady (known_of cards which) mine M → CardReady (known_of cards (other which)) others O
-      → CardReady cards.a (chip_a_of which mine others) (a_of which M O) × CardReady cards.b (chip_b_of which mine others) (b_of which M O)
+  pub both-ready : (which : Card) → CardMayBeCalled (known_of cards which) mine M → CardMayBeCalled (known_of cards (other which)) others O
+      → CardMayBeCalled cards.a (chip_a_of which mine others) (a_of which M O) × CardMayBeCalled cards.b (chip_b_of which mine others) (b_of which M O)
   both-ready A x y = (x, y)
   both-ready B x y = (y, x)
 
-  pub other-ready : (which : Card) → CardReady cards.a (chip_a_of which mine others) (a_of which M O) → CardReady cards.b (chip_b_of which mine others) (b_of which M O) → CardReady (known_of cards (other which)) others O
+  pub other-ready : (which : Card) → CardMayBeCalled cards.a (chip_a_of which mine others) (a_of which M O) → CardMayBeCalled cards.b (chip_b_of which mine others) (b_of which M O) → CardMayBeCalled (known_of cards (other which)) others O
   other-ready A x y = y
   other-ready B x y = x
 

@@ -6,30 +6,30 @@ use Rattle.trace_model.specs.Trace.{TraceSecond}
 use Rattle.tach_media.specs.Medium.{State}
 use Rattle.card_layout.specs.declared.command.CardState.{CardState}
 use Rattle.minute_model.specs.Span.{Span, end_of, ungiven_of}
-use Rattle.minute_rules.specs.Kept.{StandsFor, Kept as Minutes}
+use Rattle.minute_rules.specs.Kept.{CountsSpan, Kept as Minutes}
 use Rattle.log_model.specs.Log.{In}
-use Rattle.log_model.specs.Course.{Told}
+use Rattle.log_model.specs.Course.{ToldSecond}
 use Rattle.history_model.specs.Presence.{card_start}
-use Rattle.run_unit_course.specs.Followed.{Supply, Lit as IsLitBy, Due as IsDueBy, Lost as IsLostBy}
+use Rattle.run_unit_course.specs.Followed.{UnitPower, Lit as IsLitBy, Due as IsDueBy, Lost as IsLostBy}
 use Rattle.run_unit_course.specs.Turn.{span_at, begins_with}
 use Rattle.unit_model.specs.Image.{odometer_at}
 use Rattle.unit_rule.specs.Odometer.{odometer_after}
 use Rattle.safety_model.specs.Safe.{Devices}
 use Rattle.run_promise.specs.Found.{found_of}
 use Rattle.run_crew.specs.declared.cabin.Cabin.{Cabin}
-use Rattle.run_crew.specs.Cabin.{Stands, with_minute_ended}
+use Rattle.run_crew.specs.Cabin.{CabinIsSound, with_minute_ended}
 use Rattle.run_outcome.specs.declared.outcome.TheConstants.{MOST_OWED}
 use Rattle.run_outcome.specs.declared.outcome.Outcome.{Outcome}
 use Rattle.run_promise.specs.Origin.{Origin, rule_of, start_at}
 use Rattle.history_model.specs.Book.{Book}
-use Rattle.run_record.specs.Recorded.{progress, Recorded}
-use Rattle.run_record.specs.Within.{Beginning, GoesOn, begun_behind, undecided_from}
+use Rattle.run_record.specs.Recorded.{progress, RecordBetweenSeconds}
+use Rattle.run_record.specs.Within.{Beginning, SecondGoesOn, begun_behind, undecided_from}
 use Rattle.run_record.proofs.Beginning.{second-begins, minute-over}
 use Rattle.run_acts.specs.declared.run.Run.{Run}
 use Rattle.run_acts.specs.declared.run.Power.{Power}
 use Rattle.run_acts.specs.declared.run.Power.TheVariants.{Lit}
 use Rattle.run_acts.specs.Power.{is_lit, has_power, over_by, minute_over}
-use Rattle.run_acts.specs.Going.{first_second, IsLit}
+use Rattle.run_acts.specs.Going.{first_second, RunHasPowerAllSeated}
 use Rattle.run_acts.specs.Room.{finds_due, bare_seats, HasRoom}
 use Rattle.run_acts.specs.Recording.{log_of, IsOrigin, Supplies, values_of, RunRecorded, RunWithin}
 use Rattle.run_acts.proofs.Kept.{owing-sum}
@@ -56,7 +56,7 @@ marks-due run out dark has room =
 
 -- ---- minutes that stand for two spans up to one second have decided as much
 
-same-undecided : (minutes : Minutes) (a b : Span) → StandsFor minutes a → StandsFor minutes b → ungiven_of a ≡ ungiven_of b
+same-undecided : (minutes : Minutes) (a b : Span) → CountsSpan minutes a → CountsSpan minutes b → ungiven_of a ≡ ungiven_of b
 same-undecided minutes a b first second =
     let one = owing-sum minutes a first in
     let two = owing-sum minutes b second in
@@ -74,15 +74,15 @@ starts-of o origin B = origin.start B
 
 -- WITH POWER
 module _ (o : Origin) (origin : IsOrigin o) (done : List TraceSecond) (s : TraceSecond) (run : Run) (out : Outcome) (d : Devices) (U : State) (chip_a chip_b : CardState) (X Y : State) (lit : run.power ≡ Lit) (number : s.number ≡ run.next) (given : s.has_power ≡ true) (low : first_second ≤ run.next)
-    (going : IsLit ((run.next - 1) / 60) run U chip_a chip_b X Y) where
-  module _ (t : Told) (span : List Told) (r : Recorded o done (IsLitBy (t ∷ span)) (values_of run out) d) (odometer : run.keeper.odometer ≡ odometer_after (odometer_at o.recording.unit) r.travel.before) (stay : AllStay o (marked out.marks.items (truths_of o (log_of out) done)) 0 (log_of out) (notes_in (log_of out) done) run.keeper.memory.registration run.keeper.cabin d) where
+    (going : RunHasPowerAllSeated ((run.next - 1) / 60) run U chip_a chip_b X Y) where
+  module _ (t : ToldSecond) (span : List ToldSecond) (r : RecordBetweenSeconds o done (IsLitBy (t ∷ span)) (values_of run out) d) (odometer : run.keeper.odometer ≡ odometer_after (odometer_at o.recording.unit) r.travel.before) (stay : AllStay o (marked out.marks.items (truths_of o (log_of out) done)) 0 (log_of out) (notes_in (log_of out) done) run.keeper.memory.registration run.keeper.cabin d) where
     abbrev from : ℕ
     from = undecided_from o (t ∷ span) (values_of run out)
 
     from-is : ungiven_of going.span ≡ from
     from-is = same-undecided run.minutes going.span (span_at (rule_of o) run.next (t ∷ span)) going.stands r.held.minutes
 
-    on : (cabin : Cabin) (first : ℕ) → AllStay o (marked out.marks.items (truths_of o (log_of out) done)) s.number (log_of out) (notes_in (log_of out) done) run.keeper.memory.registration cabin d → GoesOn o done s (In 0) [] None [] (record (values_of run out) { cabin = cabin }) d (begun_behind o done (t ∷ span) (values_of run out) d r) first →
+    on : (cabin : Cabin) (first : ℕ) → AllStay o (marked out.marks.items (truths_of o (log_of out) done)) s.number (log_of out) (notes_in (log_of out) done) run.keeper.memory.registration cabin d → SecondGoesOn o done s (In 0) [] None [] (record (values_of run out) { cabin = cabin }) d (begun_behind o done (t ∷ span) (values_of run out) d r) first →
         (w : RunWithin o done s (In 0) [] [] (record run { keeper = record run.keeper { cabin = cabin } }) out d) × (w.within.b ≡ begun_behind o done (t ∷ span) (values_of run out) d r)
     on cabin first stays h = (
       record {
@@ -113,17 +113,17 @@ module _ (o : Origin) (origin : IsOrigin o) (done : List TraceSecond) (s : Trace
         let most = ahead-most going.span.rule in
         let end = going.next in
         let few : (run.next - 1) / 60 ≤ from + 3 = omega (arith, most, end, same, minute) in
-        let stands : Stands from None run.keeper.cabin = subst (λ (n : ℕ). Stands n None run.keeper.cabin) same going.cabin in
+        let stands : CabinIsSound from None run.keeper.cabin = subst (λ (n : ℕ). CabinIsSound n None run.keeper.cabin) same going.cabin in
         on (with_minute_ended (run.next / 60 - 1) run.keeper.cabin) from
         (all-seated o (marked out.marks.items (truths_of o (log_of out) done)) s.number (log_of out) (notes_in (log_of out) done) run.keeper.memory.registration run.keeper.cabin (with_minute_ended (run.next / 60 - 1) run.keeper.cabin) d refl (λ c. refl) seated)
-        (subst (λ (m : ℕ). GoesOn o done s (In 0) [] None [] (record (values_of run out) { cabin = with_minute_ended m run.keeper.cabin }) d (begun_behind o done (t ∷ span) (values_of run out) d r) from) before
+        (subst (λ (m : ℕ). SecondGoesOn o done s (In 0) [] None [] (record (values_of run out) { cabin = with_minute_ended m run.keeper.cabin }) d (begun_behind o done (t ∷ span) (values_of run out) d r) from) before
         (minute-over d o done s t span (values_of run out) r number given (starts-of o origin) minute (omega (arith, due, same)) few stands))
 
   -- it goes on, in a span that has begun, as that was recorded
-  abbrev Goes : Supply → Type 0
+  abbrev Goes : UnitPower → Type 0
   Goes supply = (w : RunWithin o done s (In 0) [] [] (minute_over run) out d) × (book : Book) × (w.within.b.run ≡ progress (values_of run out) supply book) × (begins_with w.within.b.span ≡ false)
 
-  by-supply : (supply : Supply) → Supplies Lit supply → (r : Recorded o done supply (values_of run out) d) → run.keeper.odometer ≡ odometer_after (odometer_at o.recording.unit) r.travel.before → AllStay o (marked out.marks.items (truths_of o (log_of out) done)) 0 (log_of out) (notes_in (log_of out) done) run.keeper.memory.registration run.keeper.cabin d → Goes supply
+  by-supply : (supply : UnitPower) → Supplies Lit supply → (r : RecordBetweenSeconds o done supply (values_of run out) d) → run.keeper.odometer ≡ odometer_after (odometer_at o.recording.unit) r.travel.before → AllStay o (marked out.marks.items (truths_of o (log_of out) done)) 0 (log_of out) (notes_in (log_of out) done) run.keeper.memory.registration run.keeper.cabin d → Goes supply
   by-supply (IsLitBy (t ∷ span)) h r odometer stay =
       let g = by t span r odometer stay (nat_eq (run.next % 60) 0) refl in
       (g.0, r.book, ap (λ (b : Beginning). b.run) g.1, ap (λ (b : Beginning). begins_with b.span) g.1)

@@ -9,7 +9,7 @@ use Rattle.trace_model.specs.declared.Action.TheVariants.{Insert}
 use Rattle.trace_model.specs.Trace.{TraceSecond}
 use Rattle.minute_model.specs.declared.Minute.{Minute}
 use Rattle.minute_model.specs.Span.{Span, settled, decided_in, travelled_of}
-use Rattle.minute_rules.specs.Kept.{StandsFor}
+use Rattle.minute_rules.specs.Kept.{CountsSpan}
 use Rattle.log_model.specs.declared.lines.Break.{Break}
 use Rattle.activity_codec.specs.Activity.{same_slot}
 use Rattle.log_model.specs.Log.{In, found_in}
@@ -28,12 +28,12 @@ use Rattle.run_promise.specs.Origin.{Origin}
 use Rattle.run_minutes.specs.declared.keeper.Moment.{Moment}
 use Rattle.run_minutes.specs.Books.{HaveTime}
 use Rattle.run_minutes.specs.Keeping.{Fate, Still, Has, Fell, breaks_by, tear_of}
-use Rattle.run_minutes.specs.Minutes.{Told, AreKept, none, more}
+use Rattle.run_minutes.specs.Minutes.{KeepingState, AreKept, none, more}
 use Rattle.run_record.specs.Within.{Beginning}
-use Rattle.run_record.specs.Taking.{IsPut, AreTearsAt, MayBeJudged}
+use Rattle.run_record.specs.Taking.{IsPutIntoSlot, AreTearsAt, MayBeJudged}
 use Rattle.run_record.proofs.Putting.{card-put, entered-next}
 use Rattle.run_acts.specs.declared.run.Run.{Run}
-use Rattle.run_crew.specs.Cabin.{SitsThere, Stands, with_card_in}
+use Rattle.run_crew.specs.Cabin.{SitsThere, CabinIsSound, with_card_in}
 use Rattle.run_crew.specs.Cards.{session_of}
 use Rattle.run_crew.specs.declared.cards.Accepted.{Accepted}
 use Rattle.note_model.specs.Noted.{Note}
@@ -70,7 +70,7 @@ tears-by s n at now le Still slot = tt
 tears-by s n at now le (Has accepted clock) slot = tt
 tears-by s n at now le Fell slot = ((slot, true, (n, false, ap (λ (m : Moment). tear_of slot m) now, refl, le, λ late. absurd (let bad : false ≡ true = late in cc))), tt)
 
-tears-kept : (s : TraceSecond) (n : ℕ) (at : Moment) → at ≡ moment_in s n → n ≤ length s.actions → (ms : List Minute) (t u : Told) → AreKept at ms t u →
+tears-kept : (s : TraceSecond) (n : ℕ) (at : Moment) → at ≡ moment_in s n → n ≤ length s.actions → (ms : List Minute) (t u : KeepingState) → AreKept at ms t u →
     (lines : List Break) × (u.breaks.items ≡ t.breaks.items ++ lines) × AreTearsAt s (In n) lines
 tears-kept s n at now le ms t u (none v) = ([], sym (append-nil v.breaks.items), tt)
 tears-kept s n at now le ms t u (more m front round v mid kept is) =
@@ -113,7 +113,7 @@ nowhere-put seats CoDriver card speed allowed there =
 
 module _ (slot : Slot) (card : Card) (at : Moment) (speed : ℕ) (old : Run) (before : Outcome) (d : Devices) (o : Origin) (done : List TraceSecond) (s : TraceSecond) (now : IsNow s speed old) (front rest : List Action) (actions : s.actions ≡ front ++ Insert slot card ∷ rest)
     (second : at.second ≡ old.next) (begun : at.begun ≡ suc (length front)) (late : at.late ≡ false) (allowed : refusal (logged old.keeper.cabin.slots.seats) speed (Insert slot card) ≡ None) (h : RunWithin o done s (In (length front)) [] [] old before d)
-    (low : ℕ) (seated : Stands low None old.keeper.cabin) where
+    (low : ℕ) (seated : CabinIsSound low None old.keeper.cabin) where
   abbrev n : ℕ
   n = length front
 
@@ -177,8 +177,8 @@ module _ (slot : Slot) (card : Card) (at : Moment) (speed : ℕ) (old : Run) (be
   within-actions = let all = ap (λ (xs : List Action). length xs) actions in let long = length-append front (Insert slot card ∷ rest) in omega (arith, all, long)
 
   -- these minutes are to be kept then
-  module _ (mid : Run) (told : Outcome) (failed : Bool) (settles : IsSettled at failed (put_run slot card old) mid before told) (decided : List Minute) (given : (span : Span) → StandsFor old.minutes span → decided_in (settled span) ≡ decided_in span ++ decided) where
-    pub put : IsPut o done s (values_of old before) d front slot card mid.minutes decided h.within
+  module _ (mid : Run) (told : Outcome) (failed : Bool) (settles : IsSettled at failed (put_run slot card old) mid before told) (decided : List Minute) (given : (span : Span) → CountsSpan old.minutes span → decided_in (settled span) ≡ decided_in span ++ decided) where
+    pub put : IsPutIntoSlot o done s (values_of old before) d front slot card mid.minutes decided h.within
     put = card-put d o done s (values_of old before) front slot card rest actions h.within (refuses o done s speed old before d now front (Insert slot card) rest actions h None allowed)
         mid.minutes (settles.minutes h.within.sp h.within.minutes) decided (given h.within.sp h.within.minutes)
 
@@ -263,7 +263,7 @@ module _ (slot : Slot) (card : Card) (at : Moment) (speed : ℕ) (old : Run) (be
       bare = λ x puts. subst (IsBareIn (with_card_in slot card old.keeper.cabin)) (slot-is slot x (sym (puts-it x) ∙ puts)) bare;
     }
 
-    module _ (mid : Run) (told : Outcome) (failed : Bool) (settles : IsSettled at failed (put_run slot card old) mid before told) (decided : List Minute) (given : (span : Span) → StandsFor old.minutes span → decided_in (settled span) ≡ decided_in span ++ decided)
+    module _ (mid : Run) (told : Outcome) (failed : Bool) (settles : IsSettled at failed (put_run slot card old) mid before told) (decided : List Minute) (given : (span : Span) → CountsSpan old.minutes span → decided_in (settled span) ≡ decided_in span ++ decided)
         (e : Devices) (notes : EventsSettling decided at failed (put_run slot card old) mid before told d e) (time : HaveTime e) (now_ : EventedNow o done s h.within.b.run Acting (log_of before) d) where
       abbrev w : RunWithin o done s (In (suc (length front))) (entering_by (length front) (Insert slot card)) decided (settled_run mid.minutes (put_run slot card old)) before d
       w = waiting mid told failed settles decided given
@@ -284,7 +284,7 @@ module _ (slot : Slot) (card : Card) (at : Moment) (speed : ℕ) (old : Run) (be
           (subst (λ (f : Bool). EventsGoOn f o done s h.within.b.run (In (suc (length front))) Acting (log_of told) e) fails settled-evented)
 
       -- or they are kept, and the card is judged
-      module _ (many : List Minute) (given_ : (span : Span) → StandsFor old.minutes span → decided_in (settled span) ≡ decided_in span ++ many) (records : RecordsSettling many at failed (put_run slot card old) mid before told d e) (well : failed ≡ false)
+      module _ (many : List Minute) (given_ : (span : Span) → CountsSpan old.minutes span → decided_in (settled span) ≡ decided_in span ++ many) (records : RecordsSettling many at failed (put_run slot card old) mid before told d e) (well : failed ≡ false)
           (seat : seat_in mid.keeper.cabin.slots.seats slot ≡ Some (record { card = card; newest = None })) where
         abbrev next_ : RunNext o done s (suc (length front)) (entering_by (length front) (Insert slot card)) [] mid told e slot card
         next_ = next mid told failed settles many given_ e records time well seat

@@ -11,7 +11,7 @@ use Rattle.log_model.specs.declared.lines.Break.{Break}
 use Rattle.log_model.specs.declared.lines.Verdict.{Verdict}
 use Rattle.log_model.specs.Log.{RunLog, In, cut_in, found_in, is_accepting}
 use Rattle.log_model.specs.Slots.{refusal}
-use Rattle.log_model.specs.Course.{Told, Before, Visit, begins, went}
+use Rattle.log_model.specs.Course.{ToldSecond, Before, Visit, begins, went}
 use Rattle.note_model.specs.Odometer.{SpanFrom, odometer_at}
 use Rattle.note_model.specs.Noted.{Note, Accepts}
 use Rattle.safety_model.specs.Safe.{Devices}
@@ -43,7 +43,7 @@ none-noted : (u : ℕ) (slot : Slot) (card : Card) (vs : List Verdict) → filte
 none-noted u slot card vs none = ap (λ (l : List Verdict). map (λ (v : Verdict). Accepts (record { second = u; slot = slot; card = card })) l) none
 
 module _ (o : Origin) (done : List TraceSecond) (s : TraceSecond) (front rest : List Action) (slot : Slot) (card : Card) (are : s.actions ≡ front ++ Insert slot card ∷ rest) (old : Run) (before : Outcome) (d : Devices) (w : RunWithin o done s (In (length front)) [] [] old before d)
-    (spans : List SpanFrom) (t : Told) (rings : RingsWithin o done s w.within.b.run.log front old (log_of before) spans t d) (allowed : refusal (course_in w.within.b done s (In (length front)) (log_of before)).slots s.speed (Insert slot card) ≡ None)
+    (spans : List SpanFrom) (t : ToldSecond) (rings : RingsWithin o done s w.within.b.run.log front old (log_of before) spans t d) (allowed : refusal (course_in w.within.b done s (In (length front)) (log_of before)).slots s.speed (Insert slot card) ≡ None)
     (mid : Run) (told : Outcome) (e : Devices) (lines : List Break) (log_is : log_of told ≡ record (log_of before) { breaks = before.breaks.items ++ lines }) (tears : AreTears (record { second = s.number; begun = suc (length front); late = false }) lines)
     (leaves : StaysInRings d e) (left : HaveLeftMore o d e) (places : PlacesStay o d e) (fewer : AreFewer (seats_of old) (seats_of mid)) (same_odometer : mid.keeper.odometer ≡ old.keeper.odometer) (same_noted : mid.noted ≡ old.noted) where
   abbrev was : Before

@@ -9,7 +9,7 @@ use Rattle.minute_model.proofs.Ranges.{last-push}
 use Rattle.log_model.specs.declared.lines.Break.{Break}
 use Rattle.log_model.specs.declared.lines.Break.TheVariants.{Cut, Tear}
 use Rattle.log_model.specs.Log.{RunLog, kept_by, kept_after}
-use Rattle.log_model.specs.Course.{Told, Went, second_told, went}
+use Rattle.log_model.specs.Course.{ToldSecond, Went, second_told, went}
 use Rattle.log_model.specs.Spans.{go_on, spans_with, spans_of, first_in}
 use Rattle.log_model.proofs.Growth.{went-more}
 use Rattle.log_model.proofs.Spanning.{spans-more, spans-new, spans-on}
@@ -18,7 +18,7 @@ use Rattle.note_model.specs.Done.{has_failed_in}
 use Rattle.note_model.specs.Odometer.{SpanFrom}
 use Rattle.safety_model.specs.Safe.{Devices}
 use Rattle.run_unit_course.specs.Lines.{log_of, tells_cut}
-use Rattle.run_unit_course.specs.Followed.{Supply, Lit as IsLit, Due as IsDue, Lost as IsLost}
+use Rattle.run_unit_course.specs.Followed.{UnitPower, Lit as IsLit, Due as IsDue, Lost as IsLost}
 use Rattle.run_promise.specs.Origin.{Origin}
 use Rattle.run_promise.specs.Ends.{AreFound}
 use Rattle.run_note_record.specs.Stored.{IsFoundEnd, IsOpenEnd, StoresOn, StoresOff, Stores}
@@ -27,7 +27,7 @@ use Rattle.run_acts.specs.declared.run.Run.{Run}
 use Rattle.run_acts.specs.declared.run.Power.{Power}
 use Rattle.run_acts.specs.declared.run.Power.TheVariants.{Lit, Due, Lost}
 use Rattle.run_acts.specs.Power.{is_lit}
-use Rattle.run_record.specs.Recorded.{Recorded}
+use Rattle.run_record.specs.Recorded.{RecordBetweenSeconds}
 use Rattle.run_acts.specs.Recording.{log_of as log_in, values_of, Supplies, RunRecorded}
 use Rattle.recorder_with_cards.specs.KeptAfter.{WasKept, IsFoundAfter, AreFoundAfter}
 
@@ -92,12 +92,12 @@ unfound-kept unit (suc n) (Tear second slot failed begun late ∷ bs) u h none =
 
 -- ---- span by span
 
-abbrev spans-in : List SpanFrom → List (List Told)
+abbrev spans-in : List SpanFrom → List (List ToldSecond)
 spans-in xs = map (λ (s : SpanFrom). s.span) xs
 
 module _ (unit : List ℕ → Type 0) (log : RunLog) (n : ℕ) (h : AreFound unit n log.breaks) where
-  abbrev AreFailed : List (List Told) → Type 0
-  AreFailed spans = AllByRecursion (λ (span : List Told). has_failed_in log (first_in span) ≡ true) spans
+  abbrev AreFailed : List (List ToldSecond) → Type 0
+  AreFailed spans = AllByRecursion (λ (span : List ToldSecond). has_failed_in log (first_in span) ≡ true) spans
 
   was-kept : (u : ℕ) → tells_cut u (take n log.breaks) ≡ true → WasKept unit (kept_after log u)
   was-kept u tells = subst (WasKept unit) (sym (kept-logged log u)) (found-kept unit n log.breaks u h tells)
@@ -106,13 +106,13 @@ module _ (unit : List ℕ → Type 0) (log : RunLog) (n : ℕ) (h : AreFound uni
   not-kept u none = kept-logged log u ∙ unfound-kept unit n log.breaks u h none
 
   -- a span behind which the unit was read, and a span that it was not read behind
-  after-found : (s : SpanFrom) (later : List (List Told)) → 0 < length later → IsFoundEnd log n s → IfSome (cut_second (last s.span)) (IsFoundAfter unit log later)
+  after-found : (s : SpanFrom) (later : List (List ToldSecond)) → 0 < length later → IsFoundEnd log n s → IfSome (cut_second (last s.span)) (IsFoundAfter unit log later)
   after-found s later some end = subst (λ (o : Option ℕ). IfSome o (IsFoundAfter unit log later)) (sym end.cut) (inl (was-kept end.second end.known, some))
 
-  after-open : (s : SpanFrom) (later : List (List Told)) → AreFailed later → IsOpenEnd log n s → IfSome (cut_second (last s.span)) (IsFoundAfter unit log later)
+  after-open : (s : SpanFrom) (later : List (List ToldSecond)) → AreFailed later → IsOpenEnd log n s → IfSome (cut_second (last s.span)) (IsFoundAfter unit log later)
   after-open s later failed end = subst (λ (o : Option ℕ). IfSome o (IsFoundAfter unit log later)) (sym end.cut) (inr (not-kept end.second end.unknown, failed))
 
-  all-found : (xs : List SpanFrom) (later : List (List Told)) → 0 < length later → AllByRecursion (IsFoundEnd log n) xs → AreFoundAfter unit log later → AreFoundAfter unit log (spans-in xs ++ later)
+  all-found : (xs : List SpanFrom) (later : List (List ToldSecond)) → 0 < length later → AllByRecursion (IsFoundEnd log n) xs → AreFoundAfter unit log later → AreFoundAfter unit log (spans-in xs ++ later)
   all-found [] later some ends rest = rest
   all-found (s ∷ xs) later some ends rest =
       (after-found s (spans-in xs ++ later) (let total = length-append (spans-in xs) later in omega (arith, some, total)) ends.0, all-found xs later some ends.1 rest)
@@ -142,22 +142,22 @@ module _ (unit : List ℕ → Type 0) (log : RunLog) (n : ℕ) (h : AreFound uni
 
 -- ---- while there is power no cut has ended the last span
 
-go-last : (spans : List (List Told)) (t : Told) → (front : List (List Told)) × (span : List Told) × (go_on spans t ≡ front ++ span ∷ []) × (last span ≡ Some t)
+go-last : (spans : List (List ToldSecond)) (t : ToldSecond) → (front : List (List ToldSecond)) × (span : List ToldSecond) × (go_on spans t ≡ front ++ span ∷ []) × (last span ≡ Some t)
 go-last [] t = ([], t ∷ [], refl, refl)
 go-last (span ∷ []) t = ([], span ++ t ∷ [], refl, last-push span t)
-go-last (span ∷ next ∷ spans) t = let r = go-last (next ∷ spans) t in (span ∷ r.0, r.1, ap (λ (l : List (List Told)). span ∷ l) r.2, r.3)
+go-last (span ∷ next ∷ spans) t = let r = go-last (next ∷ spans) t in (span ∷ r.0, r.1, ap (λ (l : List (List ToldSecond)). span ∷ l) r.2, r.3)
 
-last-lit : (spans : List (List Told)) (t : Told) → t.lit ≡ true → (front : List (List Told)) (span : List Told) → spans_with spans t ≡ front ++ span ∷ [] → last span ≡ Some t
+last-lit : (spans : List (List ToldSecond)) (t : ToldSecond) → t.lit ≡ true → (front : List (List ToldSecond)) (span : List ToldSecond) → spans_with spans t ≡ front ++ span ∷ [] → last span ≡ Some t
 last-lit spans t lit front span are = by t.starts refl
   where
     by : (b : Bool) → t.starts ≡ b → last span ≡ Some t
     by true starts =
         let same = same_from_push front spans span (t ∷ []) (sym are ∙ spans-new spans t lit starts) in
-        ap (λ (l : List Told). last l) same.1
+        ap (λ (l : List ToldSecond). last l) same.1
     by false goes =
         let r = go-last spans t in
         let same = same_from_push front r.0 span r.1 (sym are ∙ spans-on spans t lit goes ∙ r.2) in
-        ap (λ (l : List Told). last l) same.1 ∙ r.3
+        ap (λ (l : List ToldSecond). last l) same.1 ∙ r.3
 
 both-true : (a b : Bool) → (a && b) ≡ true → (a ≡ true) × (b ≡ true)
 both-true true b is = (refl, is)
@@ -167,10 +167,10 @@ not-true : (b : Bool) → not b ≡ true → b ≡ false
 not-true true is = absurd (let bad : false ≡ true = is in cc)
 not-true false is = refl
 
-running-uncut : (log : RunLog) (done front : List TraceSecond) (s : TraceSecond) → done ≡ front ++ s ∷ [] → (went log done).before.running ≡ true → (earlier : List (List Told)) (span : List Told) → spans_of (went log done).told ≡ earlier ++ span ∷ [] →
+running-uncut : (log : RunLog) (done front : List TraceSecond) (s : TraceSecond) → done ≡ front ++ s ∷ [] → (went log done).before.running ≡ true → (earlier : List (List ToldSecond)) (span : List ToldSecond) → spans_of (went log done).told ≡ earlier ++ span ∷ [] →
     cut_second (last span) ≡ None
 running-uncut log done front s are running earlier span spans =
-    let t : Told = second_told log (went log front).before s in
+    let t : ToldSecond = second_told log (went log front).before s in
     let now = ap (went log) are ∙ went-more log front s in
     let kept = both-true t.lit (not t.cut) (sym (ap (λ (w : Went). w.before.running) now) ∙ running) in
     let uncut = not-true t.cut kept.1 in
@@ -179,7 +179,7 @@ running-uncut log done front s are running earlier span spans =
 
 -- ---- AT THE END, by the power
 
-lit-supply : (power : Power) (supply : Supply) → Supplies power supply → power ≡ Lit → (t : Told) × (span : List Told) × (supply ≡ IsLit (t ∷ span))
+lit-supply : (power : Power) (supply : UnitPower) → Supplies power supply → power ≡ Lit → (t : ToldSecond) × (span : List ToldSecond) × (supply ≡ IsLit (t ∷ span))
 lit-supply Lit (IsLit []) h is = absurd h
 lit-supply Lit (IsLit (t ∷ span)) h is = (t, span, refl)
 lit-supply Lit IsDue h is = absurd h
@@ -199,7 +199,7 @@ module _ (o : Origin) (done : List TraceSecond) (run : Run) (out : Outcome) (d :
   by-lit is =
       let on : StoresOn o (log_in out) run.unfound run.keeper.odometer spans = subst (λ (p : Power). Stores (is_lit p) o (log_in out) run.unfound run.keeper.odometer spans d) is h in
       let lit = lit-supply run.power r.supply r.powers is in
-      let rec : Recorded o done (IsLit (lit.0 ∷ lit.1)) (values_of run out) d = subst (λ (supply : Supply). Recorded o done supply (values_of run out) d) lit.2 r.recorded in
+      let rec : RecordBetweenSeconds o done (IsLit (lit.0 ∷ lit.1)) (values_of run out) d = subst (λ (supply : UnitPower). RecordBetweenSeconds o done supply (values_of run out) d) lit.2 r.recorded in
       let had = rec.recorded.followed.last in
       on-kept unit (log_in out) run.unfound found o run.keeper.odometer spans on
       (running-uncut (log_in out) done had.before (record { number = had.number; has_power = true; speed = had.speed; actions = had.actions }) had.are rec.recorded.followed.power.running (spans-in on.earlier) on.span
@@ -220,10 +220,10 @@ module _ (o : Origin) (done : List TraceSecond) (run : Run) (out : Outcome) (d :
 
 -- ---- more images
 
-more-some : (unit now : List ℕ → Type 0) → ((x : List ℕ) → unit x → now x) → (log : RunLog) (later : List (List Told)) (o : Option ℕ) → IfSome o (IsFoundAfter unit log later) → IfSome o (IsFoundAfter now log later)
+more-some : (unit now : List ℕ → Type 0) → ((x : List ℕ) → unit x → now x) → (log : RunLog) (later : List (List ToldSecond)) (o : Option ℕ) → IfSome o (IsFoundAfter unit log later) → IfSome o (IsFoundAfter now log later)
 more-some unit now more log later None h = tt
 more-some unit now more log later (Some u) h = ⊎_elim (λ found. inl ((found.0.0, more found.0.0 found.0.1, found.0.2), found.1)) (λ none. inr none) h
 
-pub more-found : (unit now : List ℕ → Type 0) → ((x : List ℕ) → unit x → now x) → (log : RunLog) (spans : List (List Told)) → AreFoundAfter unit log spans → AreFoundAfter now log spans
+pub more-found : (unit now : List ℕ → Type 0) → ((x : List ℕ) → unit x → now x) → (log : RunLog) (spans : List (List ToldSecond)) → AreFoundAfter unit log spans → AreFoundAfter now log spans
 more-found unit now more log [] h = tt
 more-found unit now more log (span ∷ later) h = (more-some unit now more log later (cut_second (last span)) h.0, more-found unit now more log later h.1)

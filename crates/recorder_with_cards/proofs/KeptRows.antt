@@ -2,11 +2,11 @@
 use Rattle.std.proofs.Common.{◌≡◌, inr, ⊎_elim, ℕ, true, false, None, List, [], ◌∷◌, refl, arith}
 use Rattle.log_model.specs.declared.lines.Break.TheVariants.{Cut}
 use Rattle.log_model.specs.Log.{RunLog, kept_after}
-use Rattle.log_model.specs.Course.{Told, fresh}
+use Rattle.log_model.specs.Course.{ToldSecond, fresh}
 use Rattle.recorder_with_cards.specs.KeptAfter.{AreFoundAfter}
 
 -- a span of one second, which a cut has ended
-abbrev span_at : ℕ → List Told
+abbrev span_at : ℕ → List ToldSecond
 span_at u = record {
   second = record { number = u; speed = 0; picks = [] };
   given = true;

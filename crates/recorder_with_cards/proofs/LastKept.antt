@@ -15,7 +15,7 @@ use Rattle.safety_model.specs.Recording.{MayCome}
 use Rattle.safety_model.specs.Unit.{UnitShows, UnitSafe, marks_of}
 use Rattle.safety_model.proofs.Giving.{passed-reached}
 use Rattle.unit_rule.specs.Rule.{Started}
-use Rattle.unit_rule.specs.Marks.{IsHeld, Holds}
+use Rattle.unit_rule.specs.Marks.{MarkIsKept, UnitFollowsBook}
 use Rattle.unit_rule.proofs.Moves.{shown-last, shown-days}
 use Rattle.recorder_with_cards.specs.LastKept.{TellsLast}
 
@@ -25,7 +25,7 @@ record ShowsLast (start : List ShownDay) (first : ℕ) (past : List HistoryMinut
   pub last : IsMark first shown.some (last_kept x)
   pub until : All (λ i. i.minute ≤ last_kept x) shown.some
 
-module _ (s : Started) (past : List HistoryMinute) (lost : List (List HistoryMinute)) (due : ℕ) (b : Book) (marks : List Mark) (unit : State) (follows : Follows past lost b) (h : Holds s due b marks unit) where
+module _ (s : Started) (past : List HistoryMinute) (lost : List (List HistoryMinute)) (due : ℕ) (b : Book) (marks : List Mark) (unit : State) (follows : Follows past lost b) (h : UnitFollowsBook s due b marks unit) where
   may-come : (some : List HistoryMinute) (next : Option HistoryMinute) → IsNext b some next → MayCome past lost some next
   may-come some None comes = tt
   may-come some (Some i) comes = passed-reached past lost b (some ++ i ∷ []) follows comes
@@ -46,8 +46,8 @@ module _ (s : Started) (past : List HistoryMinute) (lost : List (List HistoryMin
   since-last : (x : List ℕ) → unit.left_since s.began x → ShowsLast s.days s.first past lost x
   since-last x left = shows-last x ((h.unit_holds [] []).since (unit_view [] [] x) (x, left, refl))
 
-  held-mark : (m : Mark) → Contains (marks_of Recorder marks) m → IsHeld s b unit m
-  held-mark m at = All-contains (IsHeld s b unit) (marks_of Recorder marks) m h.marks_hold at
+  held-mark : (m : Mark) → Contains (marks_of Recorder marks) m → MarkIsKept s b unit m
+  held-mark m at = All-contains (MarkIsKept s b unit) (marks_of Recorder marks) m h.marks_hold at
 
   -- THE UNIT'S PART OF THE THEOREM, by the minutes with which an image shows its last-kept one; and the last-kept minutes
   pub safe-last : UnitSafe s.days past lost marks s.began unit → (safe : UnitSafe s.days past lost marks s.began unit) × TellsLast s.first safe

@@ -8,7 +8,7 @@ use Rattle.card_slots.specs.declared.seats.Present.{Present}
 use Rattle.run_outcome.specs.declared.outcome.Outcome.{Outcome}
 use Rattle.run_minutes.specs.declared.keeper.Moment.{Moment}
 use Rattle.run_minutes.specs.Keeping.{breaks_by, with_lines}
-use Rattle.run_minutes.specs.Minutes.{Round, Told, AreKept, none, more, AreKeptUpTo, told_after, present_at}
+use Rattle.run_minutes.specs.Minutes.{Round, KeepingState, AreKept, none, more, AreKeptUpTo, told_after, present_at}
 use Rattle.run_minutes.proofs.Counts.{lines-length}
 use Rattle.run_insertion.specs.declared.lines.Entering.{Entering}
 use Rattle.run_insertion.specs.Entering.{ending_of, breaks_by as entered_breaks}
@@ -16,24 +16,24 @@ use Rattle.run_acts.specs.declared.run.Run.{Run}
 use Rattle.run_acts.specs.Acting.{IsSettled}
 use Rattle.recorder_with_cards.specs.Accepting.{IsAccepted, IsInserted}
 
-round-more : (present : Present) (minute : ℕ) (at : Moment) (round : Round) (t : Told) → length t.breaks.items ≤ length (told_after present minute at round t).breaks.items
+round-more : (present : Present) (minute : ℕ) (at : Moment) (round : Round) (t : KeepingState) → length t.breaks.items ≤ length (told_after present minute at round t).breaks.items
 round-more present minute at round t =
     let first = lines-length (breaks_by round.driver Driver at) t.breaks in
     let next = lines-length (breaks_by round.codriver CoDriver at) (with_lines (breaks_by round.driver Driver at) t.breaks) in
     omega (arith, first, next)
 
-kept-more : {at : Moment} {ms : List Minute} {t u : Told} → AreKept at ms t u → length t.breaks.items ≤ length u.breaks.items
+kept-more : {at : Moment} {ms : List Minute} {t u : KeepingState} → AreKept at ms t u → length t.breaks.items ≤ length u.breaks.items
 kept-more (none t) = omega arith
 kept-more {at} (more m ms round t u before is) = let rest = kept-more before in let here = round-more (present_at u.keeper.cabin m.minute) m.minute at round u in omega (arith, rest, here)
 
-up-to-more : (failed : Bool) (at : Moment) (ms : List Minute) (t u : Told) → AreKeptUpTo ms at failed t u → length t.breaks.items ≤ length u.breaks.items
+up-to-more : (failed : Bool) (at : Moment) (ms : List Minute) (t u : KeepingState) → AreKeptUpTo ms at failed t u → length t.breaks.items ≤ length u.breaks.items
 up-to-more false at ms t u h = kept-more h
 up-to-more true at ms t u h =
     let front = kept-more h.kept in
     ⊎_elim
-    (λ same. let is = ap (λ (w : Told). length w.breaks.items) same in omega (arith, front, is))
+    (λ same. let is = ap (λ (w : KeepingState). length w.breaks.items) same in omega (arith, front, is))
     (λ last.
-    let is = ap (λ (w : Told). length w.breaks.items) last.2 in
+    let is = ap (λ (w : KeepingState). length w.breaks.items) last.2 in
     let here = round-more (present_at h.between.keeper.cabin h.here.minute) h.here.minute at last.0 h.between in
     omega (arith, front, is, here))
     h.last

@@ -8,19 +8,19 @@ use Rattle.card_slots.specs.Calls.{seat_in, is_card}
 use Rattle.run_crew.specs.declared.cards.Accepted.{Accepted}
 use Rattle.run_crew.specs.declared.cabin.Cabin.{Cabin}
 use Rattle.run_crew.specs.Cards.{session_of}
-use Rattle.run_crew.specs.Cabin.{AnswersTo, SeatAnswers, Stands}
+use Rattle.run_crew.specs.Cabin.{AnswersTo, SeatAnswers, CabinIsSound}
 use Rattle.recorder_with_cards.proofs.Comes.{elsewhere-of}
 
 bare-answers : (from : ℕ) (o : Option Accepted) → AnswersTo from None o → o ≡ None
 bare-answers from None h = refl
 bare-answers from (Some accepted) h = absurd h
 
-seat-of : (from : ℕ) (cabin : Cabin) → Stands from None cabin → (slot : Slot) → SeatAnswers from cabin.cards (seat_in cabin.slots.seats slot)
+seat-of : (from : ℕ) (cabin : Cabin) → CabinIsSound from None cabin → (slot : Slot) → SeatAnswers from cabin.cards (seat_in cabin.slots.seats slot)
 seat-of from cabin h Driver = h.driver
 seat-of from cabin h CoDriver = h.codriver
 
 -- it sits in no other slot, and has none
-pub seat-answers : (from : ℕ) (cabin : Cabin) (slot : Slot) (card : Card) → Stands from None cabin → seat_in cabin.slots.seats slot ≡ Some (record { card = card; newest = None }) →
+pub seat-answers : (from : ℕ) (cabin : Cabin) (slot : Slot) (card : Card) → CabinIsSound from None cabin → seat_in cabin.slots.seats slot ≡ Some (record { card = card; newest = None }) →
     (is_card (seat_in cabin.slots.seats (other_slot slot)) card ≡ false) × (session_of cabin.cards card ≡ None)
 seat-answers from cabin slot card h sits = (
   elsewhere-of slot card cabin.slots.seats sits h.apart,

@@ -11,13 +11,13 @@ use Rattle.history_model.specs.Presence.{Start}
 use Rattle.event_model.specs.Events.{Seen, number_of, seen_of, seen_spans, gap_events, gaps_between, last_number, first_card}
 use Rattle.log_model.specs.Log.{RunLog, Keeping, cut_in, is_torn_in, kept_after, is_accepting}
 use Rattle.log_model.specs.Slots.{same_card}
-use Rattle.log_model.specs.Course.{Told, Course, Visit, Went, has_power, second_told, went, leaves, visits, slot_told, both_told, unmoved, all_acted, cut_told, lit_course}
+use Rattle.log_model.specs.Course.{ToldSecond, Course, Visit, Went, has_power, second_told, went, leaves, visits, slot_told, both_told, unmoved, all_acted, cut_told, lit_course}
 use Rattle.note_model.specs.Done.{course_powered}
 use Rattle.run_unit_course.specs.Lines.{cut_at}
 use Rattle.run_unit_course.specs.Followed.{Lit}
 use Rattle.safety_model.specs.Safe.{Devices, card_of}
 use Rattle.run_course.specs.Moments.{and_break}
-use Rattle.run_course.specs.Followed.{Progress, Followed, HadActions}
+use Rattle.run_course.specs.Followed.{Progress, BookFollowsRun, HadActions}
 use Rattle.run_course.proofs.Lookups.{break-more}
 use Rattle.run_course.proofs.Told.{lit-told}
 use Rattle.run_promise.specs.Origin.{Origin}
@@ -66,7 +66,7 @@ or-nothing : (b : Bool) → (b || false) ≡ b
 or-nothing true = refl
 or-nothing false = refl
 
-module _ (rule : Rule) (start : Start) (from first : ℕ) (p : Progress) (t : Told) (span : List Told) (front : List TraceSecond) (r : TraceSecond) (f : Followed rule start from first (front ++ r ∷ []) (record p { supply = Lit (t ∷ span); waiting = [] })) (count : length r.actions ≡ p.begun) (some : 0 < r.number) where
+module _ (rule : Rule) (start : Start) (from first : ℕ) (p : Progress) (t : ToldSecond) (span : List ToldSecond) (front : List TraceSecond) (r : TraceSecond) (f : BookFollowsRun rule start from first (front ++ r ∷ []) (record p { supply = Lit (t ∷ span); waiting = [] })) (count : length r.actions ≡ p.begun) (some : 0 < r.number) where
   abbrev later : RunLog
   later = and_break p.log (cut_at (p.next - 1) false p.begun)
 
@@ -101,7 +101,7 @@ module _ (rule : Rule) (start : Start) (from first : ℕ) (p : Progress) (t : To
       keeping-same
 
   now-course : (seen_next (and_break p.log (cut_at (p.next - 1) false p.begun)) front r).told.course ≡ lit_course (and_break p.log (cut_at (p.next - 1) false p.begun)) r (not (went p.log front).before.running) (went p.log front).before.slots
-  now-course = ap (λ (k : Told). k.course) told-is ∙ lit-course (and_break p.log (cut_at (p.next - 1) false p.begun)) (went p.log front).before r on
+  now-course = ap (λ (k : ToldSecond). k.course) told-is ∙ lit-course (and_break p.log (cut_at (p.next - 1) false p.begun)) (went p.log front).before r on
 
   was-course : (seen_next p.log front r).told.course ≡ lit_course p.log r (not (went p.log front).before.running) (went p.log front).before.slots
   was-course = lit-course p.log (went p.log front).before r on
@@ -113,15 +113,15 @@ module _ (rule : Rule) (start : Start) (from first : ℕ) (p : Progress) (t : To
   number-is = told-number (and_break p.log (cut_at (p.next - 1) false p.begun)) (went (and_break p.log (cut_at (p.next - 1) false p.begun)) front).before r ∙ sym (told-number p.log (went p.log front).before r)
 
   starts-is : (seen_next (and_break p.log (cut_at (p.next - 1) false p.begun)) front r).told.starts ≡ (seen_next p.log front r).told.starts
-  starts-is = ap (λ (k : Told). k.starts) told-is ∙ (lit-told (and_break p.log (cut_at (p.next - 1) false p.begun)) (went p.log front).before r on).starts ∙ sym (lit-told p.log (went p.log front).before r on).starts
+  starts-is = ap (λ (k : ToldSecond). k.starts) told-is ∙ (lit-told (and_break p.log (cut_at (p.next - 1) false p.begun)) (went p.log front).before r on).starts ∙ sym (lit-told p.log (went p.log front).before r on).starts
 
   lit-is : (seen_next (and_break p.log (cut_at (p.next - 1) false p.begun)) front r).told.lit ≡ (seen_next p.log front r).told.lit
-  lit-is = ap (λ (k : Told). k.lit) told-is ∙ (lit-told (and_break p.log (cut_at (p.next - 1) false p.begun)) (went p.log front).before r on).lit ∙ sym (lit-told p.log (went p.log front).before r on).lit
+  lit-is = ap (λ (k : ToldSecond). k.lit) told-is ∙ (lit-told (and_break p.log (cut_at (p.next - 1) false p.begun)) (went p.log front).before r on).lit ∙ sym (lit-told p.log (went p.log front).before r on).lit
 
   follows : (c : Card) → Follows c (seen_next p.log front r) (seen_next (and_break p.log (cut_at (p.next - 1) false p.begun)) front r)
   follows c = record {
     number = number-is;
-    speed = ap (λ (k : Told). k.second.speed) told-is ∙ told-speed (and_break p.log (cut_at (p.next - 1) false p.begun)) (went p.log front).before r on ∙ sym (told-speed p.log (went p.log front).before r on);
+    speed = ap (λ (k : ToldSecond). k.second.speed) told-is ∙ told-speed (and_break p.log (cut_at (p.next - 1) false p.begun)) (went p.log front).before r on ∙ sym (told-speed p.log (went p.log front).before r on);
     starts = starts-is;
     entered = λ is. ap (λ (k : Course). list_any (λ (v : Visit). same_card v.card c) k.entered) now-course ∙ ap (list_any (λ (v : Visit). same_card v.card c)) moves.entered ∙ sym (ap (λ (k : Course). list_any (λ (v : Visit). same_card v.card c) k.entered) was-course) ∙ is;
     torn = λ is. ap (λ (k : Course). list_any (λ (v : Visit). same_card v.card c) k.torn) now-course ∙ ap (list_any (λ (v : Visit). same_card v.card c)) moves.torn ∙ sym (ap (λ (k : Course). list_any (λ (v : Visit). same_card v.card c) k.torn) was-course) ∙ is;
@@ -169,12 +169,12 @@ module _ (rule : Rule) (start : Start) (from first : ℕ) (p : Progress) (t : To
       (failed-more p.log (and_break p.log (cut_at (p.next - 1) false p.begun)) (cut_at (p.next - 1) false p.begun ∷ [], refl)) (follows c) (accepted-is c) (ap (gaps_on c (vehicle_in o)) gaps) (λ z there. there) (still-same (sizes_in o c) (card_of d c)))
 
 -- THE LAST SECOND OF A SPAN TURNS OUT TO BE A CUT'S
-pub off-cut-cards : (rule : Rule) (start : Start) (from first : ℕ) (done : List TraceSecond) (p : Progress) (t : Told) (span : List Told) → Followed rule start from first done (record p { supply = Lit (t ∷ span); waiting = [] }) → 1 < p.next →
+pub off-cut-cards : (rule : Rule) (start : Start) (from first : ℕ) (done : List TraceSecond) (p : Progress) (t : ToldSecond) (span : List ToldSecond) → BookFollowsRun rule start from first done (record p { supply = Lit (t ∷ span); waiting = [] }) → 1 < p.next →
     (o : Origin) (d : Devices) → CardsBehind o done p.log d → CardsBehind o done (and_break p.log (cut_at (p.next - 1) false p.begun)) d
 off-cut-cards rule start from first done p t span f some o d h =
     let had : HadActions done p.begun = f.last in
     let r : TraceSecond = record { number = had.number; has_power = true; speed = had.speed; actions = had.actions } in
-    let g = subst (λ (ss : List TraceSecond). Followed rule start from first ss (record p { supply = Lit (t ∷ span); waiting = [] })) had.are f in
+    let g = subst (λ (ss : List TraceSecond). BookFollowsRun rule start from first ss (record p { supply = Lit (t ∷ span); waiting = [] })) had.are f in
     let here = number rule start from first p t span had.before r g had.count in
     subst (λ (ss : List TraceSecond). CardsBehind o ss (and_break p.log (cut_at (p.next - 1) false p.begun)) d) (sym had.are)
     (cut-behind rule start from first p t span had.before r g had.count (omega (arith, here, some)) o d (subst (λ (ss : List TraceSecond). CardsBehind o ss p.log d) had.are h))

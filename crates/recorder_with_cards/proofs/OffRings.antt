@@ -14,7 +14,7 @@ use Rattle.log_model.specs.declared.lines.Break.{Break}
 use Rattle.log_model.specs.Log.{RunLog, In, cut_in, is_torn_in}
 use Rattle.log_model.specs.Same.{SameAt}
 use Rattle.log_model.specs.Spans.{seconds_in, AreInOrder}
-use Rattle.log_model.specs.Course.{Told, Before, Went, begins, has_power, second_told, went}
+use Rattle.log_model.specs.Course.{ToldSecond, Before, Went, begins, has_power, second_told, went}
 use Rattle.log_model.proofs.Growth.{went-more}
 use Rattle.log_model.proofs.Spanning.{order-parts}
 use Rattle.note_model.specs.Odometer.{SpanFrom, odometer_before, has_second, odometer_at}
@@ -25,7 +25,7 @@ use Rattle.run_unit_course.specs.Turn.{cut_last}
 use Rattle.run_unit_course.proofs.Spans.{cut_spans, cut-spans-last}
 use Rattle.safety_model.specs.Safe.{Devices}
 use Rattle.run_course.specs.Moments.{and_break}
-use Rattle.run_course.specs.Followed.{Progress, Followed, HadActions}
+use Rattle.run_course.specs.Followed.{Progress, BookFollowsRun, HadActions}
 use Rattle.run_course.proofs.Lookups.{break-more}
 use Rattle.run_course.proofs.Logs.{other-number, all-before, same-at, went-later}
 use Rattle.run_course.proofs.Steps.{spans-cut, cut-parts}
@@ -58,10 +58,10 @@ cut_off (s ∷ next ∷ spans) = s ∷ cut_off (next ∷ spans)
 cut-are : (spans : List SpanFrom) → map (λ (s : SpanFrom). s.span) (cut_off spans) ≡ cut_spans (map (λ (s : SpanFrom). s.span) spans)
 cut-are [] = refl
 cut-are (s ∷ []) = refl
-cut-are (s ∷ next ∷ spans) = ap (λ (l : List (List Told)). s.span ∷ l) (cut-are (next ∷ spans))
+cut-are (s ∷ next ∷ spans) = ap (λ (l : List (List ToldSecond)). s.span ∷ l) (cut-are (next ∷ spans))
 
 -- the same seconds
-cut-seconds : (span : List Told) → seconds_in (cut_last span) ≡ seconds_in span
+cut-seconds : (span : List ToldSecond) → seconds_in (cut_last span) ≡ seconds_in span
 cut-seconds [] = refl
 cut-seconds (t ∷ []) = refl
 cut-seconds (t ∷ u ∷ span) = ap (λ (l : List Second). t.second ∷ l) (cut-seconds (u ∷ span))
@@ -72,19 +72,19 @@ cut-before u (s ∷ []) all = (subst (AreBefore u) (sym (cut-seconds s.span)) al
 cut-before u (s ∷ next ∷ spans) all = (all.0, cut-before u (next ∷ spans) all.1)
 
 -- the same odometers
-cut-has : (u : ℕ) (span : List Told) → list_any (λ (t : Told). nat_eq t.second.number u) (cut_last span) ≡ list_any (λ (t : Told). nat_eq t.second.number u) span
+cut-has : (u : ℕ) (span : List ToldSecond) → list_any (λ (t : ToldSecond). nat_eq t.second.number u) (cut_last span) ≡ list_any (λ (t : ToldSecond). nat_eq t.second.number u) span
 cut-has u [] = refl
 cut-has u (t ∷ []) = refl
 cut-has u (t ∷ x ∷ span) = ap (λ (b : Bool). nat_eq t.second.number u || b) (cut-has u (x ∷ span))
 
-cut-travelled : (u base : ℕ) (span : List Told) → odometer_before u (record { base = base; span = cut_last span }) ≡ odometer_before u (record { base = base; span = span })
+cut-travelled : (u base : ℕ) (span : List ToldSecond) → odometer_before u (record { base = base; span = cut_last span }) ≡ odometer_before u (record { base = base; span = span })
 cut-travelled u base span = ap (λ (l : List Second). min HIGHEST_ODOMETER (base + sum (map (λ (s : Second). s.speed) (filter (λ (s : Second). nat_lt s.number u) l)) / 3600)) (cut-seconds span)
 
 pub cut-odometer : (spans : List SpanFrom) (u : ℕ) → odometer_at u (cut_off spans) ≡ odometer_at u spans
 cut-odometer [] u = refl
 cut-odometer (s ∷ []) u =
     ap (λ (b : Bool). cond b (odometer_before u (record { base = s.base; span = cut_last s.span })) 0) (cut-has u s.span)
-    ∙ ap (λ (n : ℕ). cond (list_any (λ (t : Told). nat_eq t.second.number u) s.span) n 0) (cut-travelled u s.base s.span)
+    ∙ ap (λ (n : ℕ). cond (list_any (λ (t : ToldSecond). nat_eq t.second.number u) s.span) n 0) (cut-travelled u s.base s.span)
 cut-odometer (s ∷ next ∷ spans) u = ap (λ (n : ℕ). cond (has_second u s) (odometer_before u s) n) (cut-odometer (next ∷ spans) u)
 
 -- ---- the notes
@@ -107,7 +107,7 @@ same-all : (log : RunLog) (ss : List TraceSecond) → All (λ (x : TraceSecond).
 same-all log [] = All-nil (λ (x : TraceSecond). SameAt log log x.number)
 same-all log (s ∷ ss) = All-cons (λ (x : TraceSecond). SameAt log log x.number) s ss (record { cut = refl; torn = λ p slot. refl; found = λ p slot. refl }) (same-all log ss)
 
-module _ (rule : Rule) (start : Start) (from first : ℕ) (p : Progress) (t : Told) (span : List Told) (front : List TraceSecond) (r : TraceSecond) (f : Followed rule start from first (front ++ r ∷ []) (record p { supply = Lit (t ∷ span); waiting = [] })) (count : length r.actions ≡ p.begun) where
+module _ (rule : Rule) (start : Start) (from first : ℕ) (p : Progress) (t : ToldSecond) (span : List ToldSecond) (front : List TraceSecond) (r : TraceSecond) (f : BookFollowsRun rule start from first (front ++ r ∷ []) (record p { supply = Lit (t ∷ span); waiting = [] })) (count : length r.actions ≡ p.begun) where
   abbrev cut : Break
   cut = cut_at (p.next - 1) false p.begun
 
@@ -130,7 +130,7 @@ module _ (rule : Rule) (start : Start) (from first : ℕ) (p : Progress) (t : To
   before-same : (went later front).before ≡ (went p.log front).before
   before-same = ap (λ (w : Went). w.before) front-same
 
-  abbrev x : Told
+  abbrev x : ToldSecond
   x = second_told p.log (went p.log front).before r
 
   runs : (x.lit && not x.cut) ≡ true
@@ -198,31 +198,31 @@ module _ (rule : Rule) (start : Start) (from first : ℕ) (p : Progress) (t : To
         }
 
 -- THE LAST SECOND OF A SPAN TURNS OUT TO BE A CUT'S: it has noted the same
-pub off-cut-notes : (rule : Rule) (start : Start) (from first : ℕ) (done : List TraceSecond) (p : Progress) (t : Told) (span : List Told) → Followed rule start from first done (record p { supply = Lit (t ∷ span); waiting = [] }) →
+pub off-cut-notes : (rule : Rule) (start : Start) (from first : ℕ) (done : List TraceSecond) (p : Progress) (t : ToldSecond) (span : List ToldSecond) → BookFollowsRun rule start from first done (record p { supply = Lit (t ∷ span); waiting = [] }) →
     notes_in (and_break p.log (cut_at (p.next - 1) false p.begun)) done ≡ notes_in p.log done
 off-cut-notes rule start from first done p t span f =
     let had : HadActions done p.begun = f.last in
     let r : TraceSecond = record { number = had.number; has_power = true; speed = had.speed; actions = had.actions } in
     subst (λ (ss : List TraceSecond). notes_in (and_break p.log (cut_at (p.next - 1) false p.begun)) ss ≡ notes_in p.log ss) (sym had.are)
-    (notes-same rule start from first p t span had.before r (subst (λ (ss : List TraceSecond). Followed rule start from first ss (record p { supply = Lit (t ∷ span); waiting = [] })) had.are f) had.count)
+    (notes-same rule start from first p t span had.before r (subst (λ (ss : List TraceSecond). BookFollowsRun rule start from first ss (record p { supply = Lit (t ∷ span); waiting = [] })) had.are f) had.count)
 
 -- what was true of stays is so
-pub off-cut-true : (rule : Rule) (start : Start) (from first : ℕ) (done : List TraceSecond) (p : Progress) (t : Told) (span : List Told) → Followed rule start from first done (record p { supply = Lit (t ∷ span); waiting = [] }) → (o : Origin) →
+pub off-cut-true : (rule : Rule) (start : Start) (from first : ℕ) (done : List TraceSecond) (p : Progress) (t : ToldSecond) (span : List ToldSecond) → BookFollowsRun rule start from first done (record p { supply = Lit (t ∷ span); waiting = [] }) → (o : Origin) →
     Grow (truths_of o p.log done) (truths_of o (and_break p.log (cut_at (p.next - 1) false p.begun)) done)
 off-cut-true rule start from first done p t span f o =
     let had : HadActions done p.begun = f.last in
     let r : TraceSecond = record { number = had.number; has_power = true; speed = had.speed; actions = had.actions } in
     subst (λ (ss : List TraceSecond). Grow (truths_of o p.log ss) (truths_of o (and_break p.log (cut_at (p.next - 1) false p.begun)) ss)) (sym had.are)
     (truths-end o p.log (and_break p.log (cut_at (p.next - 1) false p.begun)) had.before r
-    (front-same rule start from first p t span had.before r (subst (λ (ss : List TraceSecond). Followed rule start from first ss (record p { supply = Lit (t ∷ span); waiting = [] })) had.are f) had.count))
+    (front-same rule start from first p t span had.before r (subst (λ (ss : List TraceSecond). BookFollowsRun rule start from first ss (record p { supply = Lit (t ∷ span); waiting = [] })) had.are f) had.count))
 
 -- what is carried of the rings goes on, with fewer cards accepted.
-pub off-cut-rings : (rule : Rule) (start : Start) (from first : ℕ) (done : List TraceSecond) (p : Progress) (t : Told) (span : List Told) → Followed rule start from first done (record p { supply = Lit (t ∷ span); waiting = [] }) →
+pub off-cut-rings : (rule : Rule) (start : Start) (from first : ℕ) (done : List TraceSecond) (p : Progress) (t : ToldSecond) (span : List ToldSecond) → BookFollowsRun rule start from first done (record p { supply = Lit (t ∷ span); waiting = [] }) →
     (o : Origin) (d : Devices) (spans : List SpanFrom) (seats fewer : Card → Option Seating) → RingedBehind o done p.log p.next spans seats d → AreFewer seats fewer →
     RingedBehind o done (and_break p.log (cut_at (p.next - 1) false p.begun)) p.next (cut_off spans) fewer d
 off-cut-rings rule start from first done p t span f o d spans seats fewer v few =
     let had : HadActions done p.begun = f.last in
     let r : TraceSecond = record { number = had.number; has_power = true; speed = had.speed; actions = had.actions } in
     subst (λ (ss : List TraceSecond). RingedBehind o ss (and_break p.log (cut_at (p.next - 1) false p.begun)) p.next (cut_off spans) fewer d) (sym had.are)
-    (off-behind rule start from first p t span had.before r (subst (λ (ss : List TraceSecond). Followed rule start from first ss (record p { supply = Lit (t ∷ span); waiting = [] })) had.are f) had.count o d spans seats fewer
+    (off-behind rule start from first p t span had.before r (subst (λ (ss : List TraceSecond). BookFollowsRun rule start from first ss (record p { supply = Lit (t ∷ span); waiting = [] })) had.are f) had.count o d spans seats fewer
     (subst (λ (ss : List TraceSecond). RingedBehind o ss p.log p.next spans seats d) had.are v) few)

@@ -5,12 +5,12 @@ use Rattle.activity_codec.specs.declared.values.Pick.{Pick}
 use Rattle.tach_media.specs.Medium.{State}
 use Rattle.card_layout.specs.declared.command.CardState.{CardState}
 use Rattle.minute_model.specs.Span.{picked}
-use Rattle.minute_rules.specs.Kept.{StandsFor, Kept as Minutes}
+use Rattle.minute_rules.specs.Kept.{CountsSpan, Kept as Minutes}
 use Rattle.run_acts.specs.declared.run.Run.{Run}
-use Rattle.run_acts.specs.Going.{IsLit}
+use Rattle.run_acts.specs.Going.{RunHasPowerAllSeated}
 
 module _ {U A0 B0 : State} {chip_a chip_b : CardState} (to : ℕ) (run : Run) (minutes : Minutes) (slot : Slot) (pick : Pick) where
-  pub picked-going : (g : IsLit to run U chip_a chip_b A0 B0) → StandsFor minutes (picked g.span slot pick) → IsLit to (record run { minutes = minutes }) U chip_a chip_b A0 B0
+  pub picked-going : (g : RunHasPowerAllSeated to run U chip_a chip_b A0 B0) → CountsSpan minutes (picked g.span slot pick) → RunHasPowerAllSeated to (record run { minutes = minutes }) U chip_a chip_b A0 B0
   picked-going g stands = record {
     ready = g.ready;
     span = picked g.span slot pick;

@@ -26,7 +26,7 @@ use Rattle.note_model.specs.Noted.{Note, notes_of}
 use Rattle.note_model.specs.Odometer.{MayStore, HaveBases}
 use Rattle.history_model.specs.Book.{not_begun}
 use Rattle.device_rule.specs.Rules.{Out}
-use Rattle.run_unit_course.specs.Followed.{Supply, Lit as IsLit, Due as IsDue, Lost as IsLost}
+use Rattle.run_unit_course.specs.Followed.{UnitPower, Lit as IsLit, Due as IsDue, Lost as IsLost}
 use Rattle.run_unit_course.specs.Legs.{not_travelled}
 use Rattle.unit_model.specs.declared.layout.TheConstants.{HIGHEST_ODOMETER}
 use Rattle.unit_model.specs.Image.{recorded, last_kept, odometer_at}
@@ -47,12 +47,12 @@ use Rattle.run_crew.specs.declared.cards.Known.{Known}
 use Rattle.run_crew.specs.declared.cards.Cards.{Cards}
 use Rattle.run_crew.specs.Cards.{known_of as known_in, session_of}
 use Rattle.run_promise.specs.Found.{Found, found_of}
-use Rattle.run_promise.specs.Between.{Carried, IsCarried, IsFound, devices}
+use Rattle.run_promise.specs.Between.{RunLedger, LedgerStands, IsFound, devices}
 use Rattle.run_promise.specs.Opening.{BeginsAs, carried_first}
 use Rattle.run_promise.proofs.End.{lit-carried}
 use Rattle.run_promise.specs.Accounts.{so_far}
 use Rattle.run_course.specs.Telling.{IsMore}
-use Rattle.run_devices.specs.Told.{AreFoundCards, IsHeldDark, IsPowerless}
+use Rattle.run_devices.specs.Told.{AreFoundCards, CardHoldsStringUnpowered, DevicesUnpowered}
 use Rattle.run_devices.proofs.Opened.{opened-wait, opened-powerless}
 use Rattle.run_promise.specs.Origin.{Origin, rule_of, start_at}
 use Rattle.run_promise.specs.Ends.{EndsRun}
@@ -69,9 +69,9 @@ use Rattle.run_note_record.specs.Stored.{StoresOff, Stores}
 use Rattle.run_note_record.proofs.Rings.{none-noted, fewer-sit}
 use Rattle.run_note_record.proofs.Shown.{rings-shown, places-shown}
 use Rattle.run_note_record.proofs.Bases.{stored-start}
-use Rattle.run_record.specs.Recorded.{Values, progress, carried, AreThere, IsHeldBy, Recorded}
+use Rattle.run_record.specs.Recorded.{Values, progress, carried, AreThere, IsHeldBy, RecordBetweenSeconds}
 use Rattle.run_record.proofs.Going.{begun-recorded}
-use Rattle.run_opening.specs.Begun.{Begin, found_in, known_of, IsReady}
+use Rattle.run_opening.specs.Begun.{Begin, found_in, known_of, RunIsOpened}
 use Rattle.run_opening.specs.Cards.{IsFoundOn, number_by}
 use Rattle.run_opening.specs.declared.opening.Opened.{Opened}
 use Rattle.run_opening.proofs.Told.{valid-known}
@@ -111,7 +111,7 @@ use Rattle.run_acts.proofs.Comings.{tells-none}
 use Rattle.run_acts.specs.Stays.{Stay, Coming, comings_on, registration_in, AreMerged, spells, sits_in, HasStays, ShowsStays, start_shown, AreOwed, AreJudged, is_late}
 use Rattle.recorder_with_cards.proofs.AtEnd.{noted-at-end, sits-at-end, words-so, odometers-so, owes-so}
 use Rattle.run_promise.specs.Whole.{NothingFailed}
-use Rattle.run_crew.specs.Cabin.{Stands}
+use Rattle.run_crew.specs.Cabin.{CabinIsSound}
 use Rattle.std.specs.Prelude.{filter}
 use Rattle.log_model.specs.Causes.{device_of}
 use Rattle.log_model.specs.declared.lines.Find.{Find}
@@ -189,18 +189,18 @@ module _ (x a b : List ℕ) (start : ℕ) (items : List Item) (began now : Devic
   abbrev o : Origin
   o = origin_of x a b start began
 
-  is-carried : (done : List TraceSecond) (v : Values) (w : Carried) (supply : Supply) → IsHeldBy o done supply v w now → IsCarried o.found w now
+  is-carried : (done : List TraceSecond) (v : Values) (w : RunLedger) (supply : UnitPower) → IsHeldBy o done supply v w now → LedgerStands o.found w now
   is-carried done v w (IsLit span) held = lit-carried o.found w now held.powered.lit
   is-carried done v w IsDue held = held.powerless.carried
   is-carried done v w IsLost held = held.powerless.carried
 
-  ends-so : (done : List TraceSecond) (supply : Supply) (v : Values) → Recorded o done supply v now → IsCoherent now.unit → ((c : Card) → IsCoherent (card_of now c)) → IsFound r0 (found_in r0 began) began → Decodes x →
+  ends-so : (done : List TraceSecond) (supply : UnitPower) (v : Values) → RecordBetweenSeconds o done supply v now → IsCoherent now.unit → ((c : Card) → IsCoherent (card_of now c)) → IsFound r0 (found_in r0 began) began → Decodes x →
       EndsRun (recorded_with x a b done v.log) v.marks began now
   ends-so done supply v h unit_whole card_whole found decodes =
       ends-run o done (progress v supply h.book) h.travel v.marks (carried v h.due h.book h.standing h.brought) began now h.recorded (found-by r0 done v.log (found_in r0 began) began found)
       (is-carried done v (carried v h.due h.book h.standing h.brought) supply h.held) refl refl h.beside unit_whole card_whole decodes refl
 
-  pub promised : (run : Run) (out : Outcome) → RunCarded o (seconds_of start items) run out now → (run.power ≡ Lit → (low : ℕ) × Stands low None run.keeper.cabin) → IsCoherent now.unit → ((c : Card) → IsCoherent (card_of now c)) → MayRecord x a b start → IsFound r0 (found_in r0 began) began →
+  pub promised : (run : Run) (out : Outcome) → RunCarded o (seconds_of start items) run out now → (run.power ≡ Lit → (low : ℕ) × CabinIsSound low None run.keeper.cabin) → IsCoherent now.unit → ((c : Card) → IsCoherent (card_of now c)) → MayRecord x a b start → IsFound r0 (found_in r0 began) began →
       EndsTrace x a b start items out began now
   promised run out carded sits unit_whole card_whole may found = record {
     may = may;
@@ -342,12 +342,12 @@ no-notes : (log : RunLog) → notes_in log [] ≡ []
 unfolding done_of notes_of
 no-notes log = refl
 
-due-supply : (supply : Supply) → Supplies Due supply → supply ≡ IsDue
+due-supply : (supply : UnitPower) → Supplies Due supply → supply ≡ IsDue
 due-supply (IsLit span) h = absurd h
 due-supply IsDue h = refl
 due-supply IsLost h = absurd h
 
-module _ (x a b : List ℕ) (start : ℕ) (began now : Devices) (opened : Opened) (ready : IsReady (opened_with x a b) start opened began now) where
+module _ (x a b : List ℕ) (start : ℕ) (began now : Devices) (opened : Opened) (ready : RunIsOpened (opened_with x a b) start opened began now) where
   abbrev first-o : Origin
   first-o = origin_of x a b start began
 
@@ -418,12 +418,12 @@ module _ (x a b : List ℕ) (start : ℕ) (began now : Devices) (opened : Opened
       timed = λ c valid y left. subst (λ (z : List ℕ). IsTimed (found_of f c).image z) (sym (untouched c y left)) (inl refl);
     }
 
-    waits : (c : Card) → IsOwnValid (found_of f c).image → IsHeldDark (found_of f c) c not_begun Out (card_of now c)
+    waits : (c : Card) → IsOwnValid (found_of f c).image → CardHoldsStringUnpowered (found_of f c) c not_begun Out (card_of now c)
     waits c valid =
         let v = valid-as c valid in
         opened-wait f c x (card_image (opened_with x a b) c) (card_of now c) (whole c) (ready.begins.card c) (ready.looked c v) v (sizes c v) (ready.found.number c v) (bytes c)
 
-    first-powerless : IsPowerless f (carried_first (start / 60)) now
+    first-powerless : DevicesUnpowered f (carried_first (start / 60)) now
     first-powerless = opened-powerless f (start / 60) now (ready.carried (start / 60) ready.later) waits
 
     travels : HasTravelled (odometer_at x) not_begun (not_travelled x) now.unit
@@ -494,7 +494,7 @@ module _ (x a b : List ℕ) (start : ℕ) (began now : Devices) (opened : Opened
       evented = subst (λ (l : RunLog). Evented first-o [] l run.unfound run.next r.supply now) (sym log)
           (subst (λ (n : ℕ). Evented first-o [] empty_log n run.next r.supply now) (sym unfound)
           (subst (λ (n : ℕ). Evented first-o [] empty_log 0 n r.supply now) (sym next)
-          (subst (λ (p : Supply). Evented first-o [] empty_log 0 start p now) (sym (due-supply r.supply (subst (λ (p : Power). Supplies p r.supply) due r.powers)))
+          (subst (λ (p : UnitPower). Evented first-o [] empty_log 0 start p now) (sym (due-supply r.supply (subst (λ (p : Power). Supplies p r.supply) due r.powers)))
           (nothing-noted now first-o only_unit (passes_beside x ready.decodes).overs))));
       limit = let is = ready.memory.limit in let same : run.keeper.memory.limit ≡ opened.unit.memory.limit = ap (λ (i : UnitFacts). i.limit) memory in omega (arith, is, same);
       watched = λ lit. absurd (let bad : Due ≡ Lit = sym due ∙ lit in cc);

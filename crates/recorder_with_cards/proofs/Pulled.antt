@@ -9,15 +9,15 @@ use Rattle.minute_model.specs.Span.{ungiven_of}
 use Rattle.card_slots.specs.Calls.{seat_in, card_in}
 use Rattle.run_crew.specs.declared.cards.Cards.{Cards}
 use Rattle.run_crew.specs.Cards.{with_session}
-use Rattle.run_crew.specs.Cabin.{Stands, torn_out}
+use Rattle.run_crew.specs.Cabin.{CabinIsSound, torn_out}
 use Rattle.run_outcome.specs.declared.outcome.Outcome.{Outcome}
 use Rattle.run_minutes.specs.declared.keeper.Moment.{Moment}
-use Rattle.run_minutes.specs.Keeping.{CardReady, with_lines}
+use Rattle.run_minutes.specs.Keeping.{CardMayBeCalled, with_lines}
 use Rattle.run_minutes.proofs.Counts.{lines-length}
 use Rattle.run_minutes.proofs.Sessions.{number-set, row-set}
 use Rattle.run_minutes.proofs.Units.{has-row}
 use Rattle.run_acts.specs.declared.run.Run.{Run}
-use Rattle.run_acts.specs.Going.{CardAt, IsHeld, IsLit}
+use Rattle.run_acts.specs.Going.{CardAt, CanBeCut, RunHasPowerAllSeated}
 use Rattle.run_acts.specs.Room.{Takes}
 use Rattle.run_acts.proofs.Torn.{torn-past, torn-minute, torn-sessions, sitting-falls, is-there}
 use Rattle.run_acts.specs.Acting.{pulled_run, pulled_breaks, pull_of}
@@ -25,11 +25,11 @@ use Rattle.run_acts.proofs.Cabins.{cabin-going, cabin-held}
 use Rattle.recorder_with_cards.specs.Acting.{StaysIn}
 
 -- a card whose session was taken, or the other one
-bare-a : (card : Card) (cards : Cards) {chip : CardState} {state : State} → CardReady cards.a chip state → CardReady (with_session card None cards).a chip state
+bare-a : (card : Card) (cards : Cards) {chip : CardState} {state : State} → CardMayBeCalled cards.a chip state → CardMayBeCalled (with_session card None cards).a chip state
 bare-a A cards h = record { is_known = record { sized = tt; numbered = tt }; port = h.port; works = tt }
 bare-a B cards h = h
 
-bare-b : (card : Card) (cards : Cards) {chip : CardState} {state : State} → CardReady cards.b chip state → CardReady (with_session card None cards).b chip state
+bare-b : (card : Card) (cards : Cards) {chip : CardState} {state : State} → CardMayBeCalled cards.b chip state → CardMayBeCalled (with_session card None cards).b chip state
 bare-b A cards h = h
 bare-b B cards h = record { is_known = record { sized = tt; numbered = tt }; port = h.port; works = tt }
 
@@ -47,15 +47,15 @@ pulled-stays None second run = record { power = refl; next = refl; begun = refl;
 pulled-stays (Some card) second run = record { power = refl; next = refl; begun = refl; unfound = refl }
 
 module _ {U A0 B0 : State} {chip_a chip_b : CardState} (run : Run) (second : ℕ) (here : second / 60 ≤ run.next / 60) where
-  pub pulled-held : (o : Option Card) → ((from : ℕ) (leaving : Option Card) → Stands from leaving run.keeper.cabin → Stands from leaving (pulled_run o second run).keeper.cabin) → IsHeld (run.next / 60) run U chip_a chip_b A0 B0
-      → IsHeld ((pulled_run o second run).next / 60) (pulled_run o second run) U chip_a chip_b A0 B0
+  pub pulled-held : (o : Option Card) → ((from : ℕ) (leaving : Option Card) → CabinIsSound from leaving run.keeper.cabin → CabinIsSound from leaving (pulled_run o second run).keeper.cabin) → CanBeCut (run.next / 60) run U chip_a chip_b A0 B0
+      → CanBeCut ((pulled_run o second run).next / 60) (pulled_run o second run) U chip_a chip_b A0 B0
   pulled-held None stands h = h
   pulled-held (Some card) stands h =
       cabin-held (run.next / 60) run (pulled_run (Some card) second run) (torn_out card second run.keeper.cabin) refl h h.is_unit (torn-minute card second run.keeper.cabin (run.next / 60) h.minute here)
       (at-a card run.keeper.cabin.cards h.card_a) (at-b card run.keeper.cabin.cards h.card_b) (h.stand.0, h.stand.1, stands h.stand.0 h.stand.1 h.stand.2)
 
-  pub pulled-going : (o : Option Card) → ((from : ℕ) (leaving : Option Card) → Stands from leaving run.keeper.cabin → Stands from leaving (pulled_run o second run).keeper.cabin) → IsLit (run.next / 60) run U chip_a chip_b A0 B0
-      → IsLit ((pulled_run o second run).next / 60) (pulled_run o second run) U chip_a chip_b A0 B0
+  pub pulled-going : (o : Option Card) → ((from : ℕ) (leaving : Option Card) → CabinIsSound from leaving run.keeper.cabin → CabinIsSound from leaving (pulled_run o second run).keeper.cabin) → RunHasPowerAllSeated (run.next / 60) run U chip_a chip_b A0 B0
+      → RunHasPowerAllSeated ((pulled_run o second run).next / 60) (pulled_run o second run) U chip_a chip_b A0 B0
   pulled-going None stands g = g
   pulled-going (Some card) stands g =
       let u = g.ready.unit_ready in
@@ -64,7 +64,7 @@ module _ {U A0 B0 : State} {chip_a chip_b : CardState} (run : Run) (second : ℕ
       (λ c h. has-row run.keeper.cabin.cards (pulled_run (Some card) second run).keeper.cabin.cards U U c (number-set card c None run.keeper.cabin.cards) (row-set card c None run.keeper.cabin.cards) (λ r n at. at) h)
       (torn-past card second run.keeper.cabin) (stands (ungiven_of g.span) None g.cabin) (torn-sessions card second run.keeper.cabin)
 
-pub pulled-takes : (o : Option Card) (run : Run) (slot : Slot) (at : Moment) (before : Outcome) (from : ℕ) (leaving : Option Card) → card_in (seat_in run.keeper.cabin.slots.seats slot) ≡ o → Stands from leaving run.keeper.cabin
+pub pulled-takes : (o : Option Card) (run : Run) (slot : Slot) (at : Moment) (before : Outcome) (from : ℕ) (leaving : Option Card) → card_in (seat_in run.keeper.cabin.slots.seats slot) ≡ o → CabinIsSound from leaving run.keeper.cabin
     → Takes 0 0 0 run (pulled_run o at.second run) before (record before { breaks = with_lines (pulled_breaks o slot at) before.breaks })
 pulled-takes None run slot at before from leaving is stands =
     let same = lines-length (pulled_breaks None slot at) before.breaks in

@@ -10,11 +10,11 @@ use Rattle.card_slots.specs.declared.seats.Seat.{Seat}
 use Rattle.card_slots.specs.Calls.{seat_in}
 use Rattle.run_crew.specs.declared.cabin.Cabin.{Cabin}
 use Rattle.run_crew.specs.Cards.{session_of}
-use Rattle.run_crew.specs.Cabin.{Stands, with_card_in}
+use Rattle.run_crew.specs.Cabin.{CabinIsSound, with_card_in}
 use Rattle.run_minutes.proofs.Seats.{sessions-none}
 use Rattle.run_outcome.specs.declared.outcome.Outcome.{Outcome}
 use Rattle.run_acts.specs.declared.run.Run.{Run}
-use Rattle.run_acts.specs.Going.{IsHeld, IsLit}
+use Rattle.run_acts.specs.Going.{CanBeCut, RunHasPowerAllSeated}
 use Rattle.run_acts.specs.Room.{bare_count, falls_of, Takes}
 use Rattle.run_acts.proofs.Kept.{moved-going}
 use Rattle.run_acts.specs.Acting.{IsBareIn}
@@ -22,10 +22,10 @@ use Rattle.recorder_with_cards.specs.Accepting.{put_run}
 use Rattle.recorder_with_cards.proofs.Comes.{bare-of}
 
 module _ (slot : Slot) (card : Card) (to : ℕ) (run : Run) {U M O : State} {chip_a chip_b : CardState} where
-  pub put-held : (from : ℕ) → Stands from None (with_card_in slot card run.keeper.cabin) → IsHeld to run U chip_a chip_b M O → IsHeld to (put_run slot card run) U chip_a chip_b M O
+  pub put-held : (from : ℕ) → CabinIsSound from None (with_card_in slot card run.keeper.cabin) → CanBeCut to run U chip_a chip_b M O → CanBeCut to (put_run slot card run) U chip_a chip_b M O
   put-held from stands h = record { is_unit = h.is_unit; odometer = h.odometer; minute = h.minute; card_a = h.card_a; card_b = h.card_b; stand = (from, None, stands) }
 
-  pub put-going : ((from : ℕ) → Stands from None run.keeper.cabin → Stands from None (with_card_in slot card run.keeper.cabin)) → IsLit to run U chip_a chip_b M O → IsLit to (put_run slot card run) U chip_a chip_b M O
+  pub put-going : ((from : ℕ) → CabinIsSound from None run.keeper.cabin → CabinIsSound from None (with_card_in slot card run.keeper.cabin)) → RunHasPowerAllSeated to run U chip_a chip_b M O → RunHasPowerAllSeated to (put_run slot card run) U chip_a chip_b M O
   put-going stands g =
       moved-going None None to run (put_run slot card run) g refl refl refl
       (record { unit_ready = record { is_unit = g.ready.unit_ready.is_unit; works = g.ready.unit_ready.works; agrees = g.ready.unit_ready.agrees }; card_a = g.ready.card_a; card_b = g.ready.card_b })
@@ -40,7 +40,7 @@ pub seat-put : (slot : Slot) (card : Card) (cabin : Cabin) → seat_in (with_car
 seat-put Driver card cabin = refl
 seat-put CoDriver card cabin = refl
 
-pub put-bare : (slot : Slot) (card : Card) (cabin : Cabin) (from : ℕ) → Stands from None (with_card_in slot card cabin) → IsBareIn (with_card_in slot card cabin) slot
+pub put-bare : (slot : Slot) (card : Card) (cabin : Cabin) (from : ℕ) → CabinIsSound from None (with_card_in slot card cabin) → IsBareIn (with_card_in slot card cabin) slot
 put-bare slot card cabin from stands =
     subst (λ (o : Option Seat). IfSome o (λ s. session_of cabin.cards s.card ≡ None)) (sym (seat-put slot card cabin)) (bare-of from slot card (with_card_in slot card cabin) None (seat-put slot card cabin) stands)
 

@@ -13,12 +13,12 @@ use Rattle.unit_model.specs.Versions.{rule_by, rule_of}
 use Rattle.unit_memory.specs.declared.memory.UnitFacts.{UnitFacts}
 use Rattle.unit_memory.specs.Identified.{AreFacts}
 use Rattle.minute_model.specs.declared.Rule.{Rule}
-use Rattle.run_unit_course.specs.Followed.{Supply, MayPower, Lit as IsLit, Due as IsDue, Lost as IsLost}
+use Rattle.run_unit_course.specs.Followed.{UnitPower, MayPower, Lit as IsLit, Due as IsDue, Lost as IsLost}
 use Rattle.safety_model.specs.Unit.{issued_bytes}
 use Rattle.unit_rule.proofs.Moves.{shown-last}
 use Rattle.unit_rule.proofs.Travelling.{travelled-read}
 use Rattle.safety_model.specs.Safe.{Devices, breakdowns_of}
-use Rattle.run_promise.specs.Between.{Carried, devices}
+use Rattle.run_promise.specs.Between.{RunLedger, devices}
 use Rattle.run_course.specs.Followed.{Progress}
 use Rattle.run_devices.proofs.Power.{unread-powerless}
 use Rattle.run_outcome.specs.Lines.{Listed, found_from}
@@ -28,7 +28,7 @@ use Rattle.run_promise.specs.Beside.{TellsMore, cards_of, HaveLeftMore}
 use Rattle.run_promise.specs.Ends.{AreVerdicts, AreSpared}
 use Rattle.run_promise.proofs.Seconds.{more-recorded}
 use Rattle.run_promise.proofs.Beside.{found-tells, idle-verdicts, idle-spared, kept-later}
-use Rattle.run_record.specs.Recorded.{Values, progress, carried, IsOff, IsHeldBy, Recorded}
+use Rattle.run_record.specs.Recorded.{Values, progress, carried, RecordUnpowered, IsHeldBy, RecordBetweenSeconds}
 use Rattle.run_record.specs.Powering.{GoOn, read_values}
 use Rattle.run_record.proofs.Powering.{off-of}
 use Rattle.run_record.proofs.Known.{before-due}
@@ -41,7 +41,7 @@ use Rattle.run_acts.specs.Recording.{Supplies, log_of, values_of}
 
 -- ---- where power may come
 
-pub may-of : (power : Power) (supply : Supply) (next : ℕ) → Supplies power supply → is_lit power ≡ false → has_power power next ≡ true → MayPower supply next
+pub may-of : (power : Power) (supply : UnitPower) (next : ℕ) → Supplies power supply → is_lit power ≡ false → has_power power next ≡ true → MayPower supply next
 may-of Lit supply next h dark has = absurd (cc)
 may-of Due (IsLit span) next h dark has = absurd h
 may-of Due IsDue next h dark has = tt
@@ -50,7 +50,7 @@ may-of Lost (IsLit span) next h dark has = absurd h
 may-of Lost IsDue next h dark has = absurd h
 may-of Lost IsLost next h dark has = eqb-true (next % 60) 0 has
 
-held-of : (o : Origin) (done : List TraceSecond) (supply : Supply) (v : Values) (w : Carried) (e : Devices) → MayPower supply v.next → IsOff o done v w e → IsHeldBy o done supply v w e
+held-of : (o : Origin) (done : List TraceSecond) (supply : UnitPower) (v : Values) (w : RunLedger) (e : Devices) → MayPower supply v.next → RecordUnpowered o done v w e → IsHeldBy o done supply v w e
 held-of o done (IsLit span) v w e may off = absurd may
 held-of o done IsDue v w e may off = off
 held-of o done IsLost v w e may off = off
@@ -87,14 +87,14 @@ pub at-image : (P : List ℕ → Type 0) (image : Option (List ℕ)) (x : List �
 at-image P image x is h = subst (λ (q : Option (List ℕ)). IfSome q P) is h
 
 -- WHAT IS RECORDED without power
-module _ (o : Origin) (done : List TraceSecond) (supply : Supply) (v : Values) (d : Devices) (r : Recorded o done supply v d) (may : MayPower supply v.next) where
+module _ (o : Origin) (done : List TraceSecond) (supply : UnitPower) (v : Values) (d : Devices) (r : RecordBetweenSeconds o done supply v d) (may : MayPower supply v.next) where
   abbrev p : Progress
   p = progress v supply r.book
 
-  abbrev w : Carried
+  abbrev w : RunLedger
   w = carried v r.due r.book r.standing r.brought
 
-  off : IsOff o done v w d
+  off : RecordUnpowered o done v w d
   off = off-of o done supply v w d may r.held
 
   pub unit-tells : is_some d.unit.image ≡ true
@@ -146,7 +146,7 @@ module _ (o : Origin) (done : List TraceSecond) (supply : Supply) (v : Values) (
     pub left-on : HaveLeftMore o d (devices V d.card_a d.card_b)
     left-on = goes.left
 
-    pub read-on : Recorded o done supply v (devices V d.card_a d.card_b)
+    pub read-on : RecordBetweenSeconds o done supply v (devices V d.card_a d.card_b)
     read-on = record {
       book = r.book;
       travel = r.travel;

@@ -13,7 +13,7 @@ use Rattle.tach_media.proofs.Runs.{starts}
 use Rattle.minute_model.specs.declared.Rule.{Rule}
 use Rattle.unit_model.specs.Versions.{rule_of as unit_rule}
 use Rattle.safety_model.proofs.Issued.{issued-rule}
-use Rattle.minute_rules.specs.Kept.{StandsFor}
+use Rattle.minute_rules.specs.Kept.{CountsSpan}
 use Rattle.log_model.specs.declared.lines.Find.{Find}
 use Rattle.log_model.specs.declared.lines.Mark.{Mark}
 use Rattle.log_model.specs.declared.lines.Verdict.TheVariants as verdict
@@ -31,11 +31,11 @@ use Rattle.unit_minutes.specs.declared.notes.Notes.{Notes}
 use Rattle.unit_minutes.specs.Image.{Agrees, IsFoundBy}
 use Rattle.unit_minutes.specs.Mends.{IsMending}
 use Rattle.run_unit_course.specs.Lines.{found_from}
-use Rattle.run_unit_course.specs.Followed.{Supply, MayPower}
+use Rattle.run_unit_course.specs.Followed.{UnitPower, MayPower}
 use Rattle.run_unit_course.specs.Legs.{Travel, resumed}
 use Rattle.run_unit_course.specs.Turn.{span_at}
 use Rattle.unit_rule.specs.Rule.{Started}
-use Rattle.unit_rule.specs.Marks.{Holds}
+use Rattle.unit_rule.specs.Marks.{UnitFollowsBook}
 use Rattle.unit_rule.specs.Odometer.{odometer_by, odometer_after, ShowsOdometer, HasTravelled}
 use Rattle.unit_rule.proofs.Travelling.{odometer-sum}
 use Rattle.device_calls.specs.Rule.{Both, CardRests, IsTakenUp, IsHeldMended}
@@ -48,7 +48,7 @@ use Rattle.run_crew.specs.declared.cabin.Cabin.{Cabin}
 use Rattle.run_promise.specs.Between.{devices}
 use Rattle.run_course.specs.Moments.{and_find}
 use Rattle.run_course.specs.Presence.{SitsAs}
-use Rattle.run_course.specs.Followed.{Progress, Followed}
+use Rattle.run_course.specs.Followed.{Progress, BookFollowsRun}
 use Rattle.run_course.proofs.Logs.{found_log}
 use Rattle.run_course.specs.Telling.{IsMore}
 use Rattle.run_note_record.specs.Stored.{StandsOn, StoresOff}
@@ -65,8 +65,8 @@ use Rattle.run_minutes.specs.declared.keeper.Moment.{Moment}
 use Rattle.run_minutes.specs.Books.{HaveTime}
 use Rattle.run_insertion.specs.declared.lines.Entering.{Entering}
 use Rattle.run_insertion.specs.Entering.{Ending, Unfit, Ahead, Fell, Unasked, Unnoted, Seated, Lost, ending_of, find_of, finds_by}
-use Rattle.run_record.specs.Recorded.{Values, progress, carried, slots_of, IsOff, Recorded}
-use Rattle.run_record.specs.Within.{Beginning, CutWithin}
+use Rattle.run_record.specs.Recorded.{Values, progress, carried, slots_of, RecordUnpowered, RecordBetweenSeconds}
+use Rattle.run_record.specs.Within.{Beginning, RecordAtFailure}
 use Rattle.run_record.specs.Powering.{odometer_found, counted_from, read_values, begun_values, begun_again, IsBack, IsOnlyRead}
 use Rattle.run_record.specs.Waking.{IsWaking, both_slots}
 use Rattle.run_record.proofs.Powering.{off-of, power-wakes, mending-fails}
@@ -185,17 +185,17 @@ odometer-found start b leg g unit x h there =
 
 -- the unit was read, so it is known what was kept, but it broke down as it was mended
 pub record IsReadAgain (o : Origin) (done : List TraceSecond) (p : Progress) (k : ℕ) (d e : Devices) : Type 0 where
-  pub followed : Followed (rule_of o) (start_at o) o.from (first_of o) done (found_again k p)
+  pub followed : BookFollowsRun (rule_of o) (start_at o) o.from (first_of o) done (found_again k p)
   pub left : HaveLeftMore o d e
   pub more : IsMore (breakdowns_of d) (breakdowns_of e)
   pub broke : RoseBy 1 (breakdowns_of d Recorder) (breakdowns_of e Recorder)
 
 -- ---- THE UNIT WAS READ, and is mended
 
-module _ (o : Origin) (origin : IsOrigin o) (done : List TraceSecond) (s : TraceSecond) (supply : Supply) (v : Values) (U X Y : State) (r : Recorded o done supply v (devices U X Y)) (may : MayPower supply v.next) (number : s.number ≡ v.next) (given : s.has_power ≡ true)
+module _ (o : Origin) (origin : IsOrigin o) (done : List TraceSecond) (s : TraceSecond) (supply : UnitPower) (v : Values) (U X Y : State) (r : RecordBetweenSeconds o done supply v (devices U X Y)) (may : MayPower supply v.next) (number : s.number ≡ v.next) (given : s.has_power ≡ true)
     (whole : IsCoherent U) (wholes : (c : Card) → IsCoherent (card_of (devices U X Y) c)) (works : U.works ≡ true) (j : Notes) (found_so : IfSome U.image (λ x. last_kept x ≡ j.kept))
     (W : State) (failed : Bool) (mends : LeavesOnly U W (IsMending j)) (tells : is_some W.image ≡ is_some U.image) (cause : HasCause U W failed)
-    (holds : (st : Started) (due : ℕ) (b : Book) (marks : List Mark) → Holds st due b marks U → IsHeldMended st due b marks W)
+    (holds : (st : Started) (due : ℕ) (b : Book) (marks : List Mark) → UnitFollowsBook st due b marks U → IsHeldMended st due b marks W)
     (taken_a : (q : Both) (c : Card) (b : Book) (z : Standing) → CardRests q c b z U X → IsTakenUp q c b z failed W X)
     (taken_b : (q : Both) (c : Card) (b : Book) (z : Standing) → CardRests q c b z U Y → IsTakenUp q c b z failed W Y)
     (old : Run) (out : Outcome) (values : values_of old out ≡ read_values j.kept v) where
@@ -222,7 +222,7 @@ module _ (o : Origin) (origin : IsOrigin o) (done : List TraceSecond) (s : Trace
     next : old.next ≡ v.next
     next = ap (λ (x : Values). x.next) values
 
-    off : IsOff o done v (carried v r.due r.book r.standing r.brought) d
+    off : RecordUnpowered o done v (carried v r.due r.book r.standing r.brought) d
     off = off-of o done supply v (carried v r.due r.book r.standing r.brought) d may r.held
 
     -- the unit's rule is that with which the run began
@@ -233,8 +233,8 @@ module _ (o : Origin) (origin : IsOrigin o) (done : List TraceSecond) (s : Trace
         ∙ issued-rule x o.recording.unit (unit-issued o done supply v d r may whole x (whole.is_left x has-image.1) ∙ ap (λ (u : Started). u.issued) origin.unit)
         ∙ sym origin.rule
 
-    span : StandsFor new.minutes (span_at (rule_of o) v.next [])
-    span = subst (λ (q : Rule). StandsFor new.minutes (span_at q v.next [])) rule-is (subst (λ (n : ℕ). StandsFor new.minutes (span_at rule n [])) next begun.minutes)
+    span : CountsSpan new.minutes (span_at (rule_of o) v.next [])
+    span = subst (λ (q : Rule). CountsSpan new.minutes (span_at q v.next [])) rule-is (subst (λ (n : ℕ). CountsSpan new.minutes (span_at rule n [])) next begun.minutes)
 
     back : IsBack o done supply v d r (last_kept has-image.0) new.minutes e
     back = is-back o done supply v d r may U whole (starts U Unchanged) whole wholes works has-image.0 has-image.1 refl first j W failed mends tells cause holds taken_a taken_b well new.minutes span
@@ -337,7 +337,7 @@ module _ (o : Origin) (origin : IsOrigin o) (done : List TraceSecond) (s : Trace
       let read : IsOnlyRead o done supply v d r (last_kept has-image.0) e =
       only-read o done supply v d r may U whole (starts U Unchanged) whole wholes works has-image.0 has-image.1 refl first j W failed mends tells cause holds taken_a taken_b fails in
       record {
-        followed = as-read (λ (k : ℕ). Followed (rule_of o) (start_at o) o.from (first_of o) done (found_again k (progress v supply r.book)))
+        followed = as-read (λ (k : ℕ). BookFollowsRun (rule_of o) (start_at o) o.from (first_of o) done (found_again k (progress v supply r.book)))
             (found-recorded o done (progress v supply r.book) r.travel v.marks (breakdowns_of d) r.brought r.recorded may (last_kept has-image.0) read.leg read.shows).followed;
         left = read.goes.left;
         more = read.goes.breakdowns;
@@ -360,7 +360,7 @@ module _ (o : Origin) (origin : IsOrigin o) (done : List TraceSecond) (s : Trace
       let read : IsOnlyRead o done supply v d r (last_kept has-image.0) e =
       only-read o done supply v d r may U whole (starts U Unchanged) whole wholes works has-image.0 has-image.1 refl first j W failed mends tells cause holds taken_a taken_b fails in
       let found_ : ℕ = odometer_found o r.travel.before read.leg in
-      let cut : CutWithin o done s (In 0) (fresh true (slots_of v done)).entered None (counted_from found_ (read_values (last_kept has-image.0) v)) e =
+      let cut : RecordAtFailure o done s (In 0) (fresh true (slots_of v done)).entered None (counted_from found_ (read_values (last_kept has-image.0) v)) e =
       mending-fails d e o done s supply v r may number given (last_kept has-image.0) read in
       record {
         waits = (fresh true (slots_of v done)).entered;
@@ -368,7 +368,7 @@ module _ (o : Origin) (origin : IsOrigin o) (done : List TraceSecond) (s : Trace
         same = refl;
         odometer = found_;
         counted = λ lit. absurd (let bad : true ≡ false = sym (ap is_lit lit) ∙ dark in cc);
-        within = subst (λ (x : Values). CutWithin o done s (In 0) (fresh true (slots_of v done)).entered None (counted_from found_ x) e) (ap (λ (k : ℕ). read_values k v) kept-is ∙ sym values) cut;
+        within = subst (λ (x : Values). RecordAtFailure o done s (In 0) (fresh true (slots_of v done)).entered None (counted_from found_ x) e) (ap (λ (k : ℕ). read_values k v) kept-is ∙ sym values) cut;
       }
 
 -- ---- A CARD IS JUDGED that waits

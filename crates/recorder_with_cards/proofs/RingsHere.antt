@@ -27,7 +27,7 @@ use Rattle.run_note_record.specs.RingsSoFar.{GoesBehind, HasMoreBreaks}
 use Rattle.run_note_record.specs.Steps.{GoesOnTo, IsCutIn}
 use Rattle.run_note_record.proofs.Lines.{same-before}
 use Rattle.run_record.specs.Recorded.{Values}
-use Rattle.run_record.specs.Within.{Within}
+use Rattle.run_record.specs.Within.{RecordInSecond}
 use Rattle.run_acts.specs.RunRinged.{with_cut}
 use Rattle.run_acts.proofs.RingedSecond.{cut-is, cut-torn, cut-found, cut-failed, power-here}
 use Rattle.recorder_with_cards.specs.JudgedRings.{TellsHere}
@@ -59,7 +59,7 @@ pub here-cut : (log : RunLog) (s : TraceSecond) (front : List Action) → TellsH
 here-cut log s front = record { breaks = (cut_at s.number true (length front) ∷ [], refl, (refl, tt)); finds = ([], sym (append-nil log.finds), tt) }
 
 -- of lines that are told in a second: what earlier seconds note is the same
-module _ (o : Origin) (done : List TraceSecond) (s : TraceSecond) (at : Phase) (waits : List Visit) (speed : Option ℕ) (rest : List Minute) (v : Values) (d : Devices) (w : Within o done s at waits speed rest v d) (later : RunLog) (h : TellsHere v.log later s.number) where
+module _ (o : Origin) (done : List TraceSecond) (s : TraceSecond) (at : Phase) (waits : List Visit) (speed : Option ℕ) (rest : List Minute) (v : Values) (d : Devices) (w : RecordInSecond o done s at waits speed rest v d) (later : RunLog) (h : TellsHere v.log later s.number) where
   pub goes-by : GoesOnBy w.b.run later s
   goes-by = record {
     number = w.moment.number;
@@ -127,7 +127,7 @@ module _ (log later : RunLog) (s : TraceSecond) (front rest : List Action) (a : 
   course-cut before = behind-by (with_cut later s (front ++ a ∷ [])) before (record { none = uncut; behind = inr (suc (length front), cut-here, omega arith); torn = same-cut.torn; found = same-cut.found })
 
   -- of a second that is carried, where these lines are of it
-  module _ (o : Origin) (done : List TraceSecond) (at : Phase) (waits : List Visit) (speed : Option ℕ) (others : List Minute) (v : Values) (d : Devices) (w : Within o done s at waits speed others v d) (here : TellsHere v.log later s.number) where
+  module _ (o : Origin) (done : List TraceSecond) (at : Phase) (waits : List Visit) (speed : Option ℕ) (others : List Minute) (v : Values) (d : Devices) (w : RecordInSecond o done s at waits speed others v d) (here : TellsHere v.log later s.number) where
     pub is-cut : IsCutIn w.b.run.log log (with_cut later s (front ++ a ∷ [])) done s front a rest
     is-cut = record {
       goes = record {

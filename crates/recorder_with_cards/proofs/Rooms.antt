@@ -9,12 +9,12 @@ use Rattle.run_acts.specs.Power.{is_lit}
 use Rattle.run_acts.specs.Room.{waiting, falls_of, finds_due, cuts_within, HasRoomFrom, HasRoomWithin, Takes}
 use Rattle.tach_media.specs.Medium.{State}
 use Rattle.card_layout.specs.declared.command.CardState.{CardState}
-use Rattle.run_acts.specs.Going.{IsLit}
+use Rattle.run_acts.specs.Going.{RunHasPowerAllSeated}
 use Rattle.run_acts.proofs.Kept.{owing-sum}
 use Rattle.run_acts.proofs.Torn.{bare-two}
 
 -- no more minutes wait than there are
-pub few-wait : {U A0 B0 : State} {chip_a chip_b : CardState} (to : ℕ) (run : Run) → IsLit to run U chip_a chip_b A0 B0 → run.minutes.owing ≤ run.next / 60
+pub few-wait : {U A0 B0 : State} {chip_a chip_b : CardState} (to : ℕ) (run : Run) → RunHasPowerAllSeated to run U chip_a chip_b A0 B0 → run.minutes.owing ≤ run.next / 60
 few-wait to run g = let sum = owing-sum run.minutes g.span g.stands in let end = ap (λ (n : ℕ). n / 60) g.next in omega (arith, sum, end)
 
 -- room for more is room for less

@@ -5,12 +5,12 @@ use Rattle.trace_model.specs.Trace.{TraceSecond, driven, dark}
 use Rattle.log_model.specs.declared.lines.Refused.{Refused}
 use Rattle.log_model.specs.Log.{RunLog, In}
 use Rattle.log_model.specs.Course.{Before, Went, has_power, went}
-use Rattle.run_unit_course.specs.Followed.{Supply, Lit as IsLit, Due as IsDue, Lost as IsLost}
+use Rattle.run_unit_course.specs.Followed.{UnitPower, Lit as IsLit, Due as IsDue, Lost as IsLost}
 use Rattle.run_unit_course.specs.Lines.{cut_at}
 use Rattle.unit_memory.specs.declared.memory.UnitFacts.{UnitFacts}
 use Rattle.safety_model.specs.Safe.{Devices}
 use Rattle.run_course.specs.Moments.{and_break}
-use Rattle.run_course.specs.Followed.{Progress, Followed, IsSupplied}
+use Rattle.run_course.specs.Followed.{Progress, BookFollowsRun, IsSupplied}
 use Rattle.run_course.specs.Seconds.{GoesOnBy}
 use Rattle.run_course.proofs.Logs.{went-refused}
 use Rattle.run_course.proofs.Steps.{with-supply}
@@ -27,7 +27,7 @@ use Rattle.run_note_record.proofs.Unlit.{acted-last, off-last, behind-more}
 use Rattle.run_acts.specs.declared.run.Run.{Run}
 use Rattle.run_acts.specs.declared.run.Power.{Power}
 use Rattle.run_acts.specs.declared.run.Power.TheVariants.{Lit, Due, Lost}
-use Rattle.run_crew.specs.Cabin.{Stands}
+use Rattle.run_crew.specs.Cabin.{CabinIsSound}
 use Rattle.run_acts.specs.Power.{is_lit, has_power as has_by, over_by, darkened, off_run, off_cut, passed}
 use Rattle.run_acts.specs.Going.{first_second}
 use Rattle.run_acts.specs.Recording.{log_of, values_of, Supplies, RunRecorded}
@@ -106,7 +106,7 @@ module _ (o : Origin) (done : List TraceSecond) (old : Run) (before : Outcome) (
   abbrev p : Progress
   p = progress (values_of old before) r.supply r.recorded.book
 
-  abbrev f : Followed (rule_of o) (start_at o) o.from (first_of o) done (progress (values_of old before) h.ringed.evented.recorded.supply h.ringed.evented.recorded.recorded.book)
+  abbrev f : BookFollowsRun (rule_of o) (start_at o) o.from (first_of o) done (progress (values_of old before) h.ringed.evented.recorded.supply h.ringed.evented.recorded.recorded.book)
   f = h.ringed.evented.recorded.recorded.recorded.followed
 
   -- SO MANY SECONDS without power behind a failed call, the first with these actions
@@ -147,7 +147,7 @@ module _ (o : Origin) (done : List TraceSecond) (old : Run) (before : Outcome) (
       }
 
   -- AN `off` LINE
-  pub off-carded : (old.power ≡ Lit → (low : ℕ) × Stands low None old.keeper.cabin) → (n : ℕ) → 0 < n → (breaks : Listed Break) → breaks ≡ with_lines (off_cut (is_lit old.power) (old.next - 1) old.begun) before.breaks → (new : Run) → new ≡ off_run n old → RunCarded o (done ++ dark n old.next) new (record before { breaks = breaks }) d
+  pub off-carded : (old.power ≡ Lit → (low : ℕ) × CabinIsSound low None old.keeper.cabin) → (n : ℕ) → 0 < n → (breaks : Listed Break) → breaks ≡ with_lines (off_cut (is_lit old.power) (old.next - 1) old.begun) before.breaks → (new : Run) → new ≡ off_run n old → RunCarded o (done ++ dark n old.next) new (record before { breaks = breaks }) d
   off-carded sits zero some breaks told new is = absurd (omega (arith, some))
   off-carded sits (suc n) some breaks told new is = record {
     ringed = off-ringed o done old before d h.ringed sits (suc n) some breaks told new is;
@@ -159,7 +159,7 @@ module _ (o : Origin) (done : List TraceSecond) (old : Run) (before : Outcome) (
       plain : CardsBehind o (done ++ dark (suc n) old.next) (log_of (record before { breaks = with_lines [] before.breaks })) d
       plain = subst (λ (l : Listed Break). CardsBehind o (done ++ dark (suc n) old.next) (log_of (record before { breaks = l })) d) (no-lines before.breaks) (off-behind o d (log_of before) n done old.next h.cards)
 
-      so : (q : Power) (s : Supply) → r.supply ≡ s → Supplies q s → CardsBehind o (done ++ dark (suc n) old.next) (log_of (record before { breaks = with_lines (off_cut (is_lit q) (old.next - 1) old.begun) before.breaks })) d
+      so : (q : Power) (s : UnitPower) → r.supply ≡ s → Supplies q s → CardsBehind o (done ++ dark (suc n) old.next) (log_of (record before { breaks = with_lines (off_cut (is_lit q) (old.next - 1) old.begun) before.breaks })) d
       so Lit (IsLit []) at powers = absurd powers
       so Lit (IsLit (t ∷ span)) at powers =
           off-behind o d (and_break (log_of before) (cut_at (old.next - 1) false old.begun)) n done old.next
@@ -173,7 +173,7 @@ module _ (o : Origin) (done : List TraceSecond) (old : Run) (before : Outcome) (
       so Lost IsDue at powers = absurd powers
       so Lost IsLost at powers = plain
 
-      by : (q : Power) → old.power ≡ q → (s : Supply) → r.supply ≡ s → Supplies old.power s → CardsBehind o (done ++ dark (suc n) old.next) (log_of (record before { breaks = with_lines (off_cut (is_lit old.power) (old.next - 1) old.begun) before.breaks })) d
+      by : (q : Power) → old.power ≡ q → (s : UnitPower) → r.supply ≡ s → Supplies old.power s → CardsBehind o (done ++ dark (suc n) old.next) (log_of (record before { breaks = with_lines (off_cut (is_lit old.power) (old.next - 1) old.begun) before.breaks })) d
       by q is_ s at powers =
           subst (λ (x : Power). CardsBehind o (done ++ dark (suc n) old.next) (log_of (record before { breaks = with_lines (off_cut (is_lit x) (old.next - 1) old.begun) before.breaks })) d) (sym is_)
           (so q s at (subst (λ (x : Power). Supplies x s) is_ powers))

@@ -5,7 +5,7 @@ use Rattle.trace_model.specs.declared.Action.{Action}
 use Rattle.trace_model.specs.Trace.{TraceSecond, driven, dark}
 use Rattle.log_model.specs.declared.lines.Break.{Break}
 use Rattle.log_model.specs.declared.lines.Refused.{Refused}
-use Rattle.run_unit_course.specs.Followed.{Supply, IsDark, Lit as IsLit, Due as IsDue, Lost as IsLost}
+use Rattle.run_unit_course.specs.Followed.{UnitPower, IsDark, Lit as IsLit, Due as IsDue, Lost as IsLost}
 use Rattle.safety_model.specs.Safe.{Devices}
 use Rattle.run_course.specs.Followed.{Progress}
 use Rattle.run_outcome.specs.declared.outcome.Outcome.{Outcome}
@@ -19,14 +19,14 @@ use Rattle.unit_memory.specs.declared.memory.UnitFacts.{UnitFacts}
 use Rattle.run_acts.specs.declared.run.Run.{Run}
 use Rattle.run_acts.specs.declared.run.Power.{Power}
 use Rattle.run_acts.specs.declared.run.Power.TheVariants.{Lit, Due, Lost}
-use Rattle.run_crew.specs.Cabin.{Stands}
+use Rattle.run_crew.specs.Cabin.{CabinIsSound}
 use Rattle.run_acts.specs.Power.{is_lit, has_power, darkened, off_run, off_cut, passed}
 use Rattle.run_acts.specs.Recording.{log_of, values_of, Supplies, RunRecorded}
 use Rattle.run_acts.specs.Evented.{RunEvented, LastAt}
 use Rattle.run_minutes.proofs.Fates.{no-lines}
 use Rattle.recorder_with_cards.proofs.SecondsRecorded.{refused_dark, lost-away, lost-supply, dark-run, off-seconds}
 
-due-supply : (p : Power) (supply : Supply) → p ≡ Due → Supplies p supply → supply ≡ IsDue
+due-supply : (p : Power) (supply : UnitPower) → p ≡ Due → Supplies p supply → supply ≡ IsDue
 due-supply Lit supply is powers = absurd (cc)
 due-supply Lost supply is powers = absurd (cc)
 due-supply Due (IsLit span) is powers = absurd powers
@@ -63,7 +63,7 @@ module _ (o : Origin) (done : List TraceSecond) (old : Run) (before : Outcome) (
       dark-seconds d o done p r.recorded.recorded.followed h.evented supply n speed actions lines lost.1 fits in
       record {
         recorded = on;
-        evented = subst (λ (s : Supply). Evented o (done ++ driven (suc n) old.next speed actions) (log_of after) new.unfound new.next s d) (sym off)
+        evented = subst (λ (s : UnitPower). Evented o (done ++ driven (suc n) old.next speed actions) (log_of after) new.unfound new.next s d) (sym off)
             (subst (λ (x : Run). Evented o (done ++ driven (suc n) old.next speed actions) (log_of after) x.unfound x.next IsLost d) (sym is)
             (subst (λ (q : Outcome). Evented o (done ++ driven (suc n) old.next speed actions) (log_of q) old.unfound (old.next + suc n) IsLost d) (sym told) one));
         limit = ap (λ (x : Run). x.keeper.memory.limit) is ∙ h.limit;
@@ -71,7 +71,7 @@ module _ (o : Origin) (done : List TraceSecond) (old : Run) (before : Outcome) (
       }
 
   -- AN `off` LINE
-  pub off-evented : (old.power ≡ Lit → (low : ℕ) × Stands low None old.keeper.cabin) → (n : ℕ) → 0 < n → (breaks : Listed Break) → breaks ≡ with_lines (off_cut (is_lit old.power) (old.next - 1) old.begun) before.breaks → (new : Run) → new ≡ off_run n old → RunEvented o (done ++ dark n old.next) new (record before { breaks = breaks }) d
+  pub off-evented : (old.power ≡ Lit → (low : ℕ) × CabinIsSound low None old.keeper.cabin) → (n : ℕ) → 0 < n → (breaks : Listed Break) → breaks ≡ with_lines (off_cut (is_lit old.power) (old.next - 1) old.begun) before.breaks → (new : Run) → new ≡ off_run n old → RunEvented o (done ++ dark n old.next) new (record before { breaks = breaks }) d
   off-evented sits zero some breaks told new is = absurd (omega (arith, some))
   off-evented sits (suc n) some breaks told new is =
       let on = off-seconds o done old before d r sits (suc n) some breaks told new is in
@@ -81,7 +81,7 @@ module _ (o : Origin) (done : List TraceSecond) (old : Run) (before : Outcome) (
       let next : new.next ≡ old.next + suc n = ap (λ (x : Run). x.next) is in
       record {
         recorded = on;
-        evented = subst (λ (s : Supply). Evented o (done ++ dark (suc n) old.next) (log_of (record before { breaks = breaks })) new.unfound new.next s d) (sym due)
+        evented = subst (λ (s : UnitPower). Evented o (done ++ dark (suc n) old.next) (log_of (record before { breaks = breaks })) new.unfound new.next s d) (sym due)
             (subst (λ (k : ℕ). Evented o (done ++ dark (suc n) old.next) (log_of (record before { breaks = breaks })) k new.next IsDue d) (sym unfound)
             (subst (λ (k : ℕ). Evented o (done ++ dark (suc n) old.next) (log_of (record before { breaks = breaks })) old.unfound k IsDue d) (sym next)
             (subst (λ (l : Listed Break). Evented o (done ++ dark (suc n) old.next) (log_of (record before { breaks = l })) old.unfound (old.next + suc n) IsDue d) (sym told)
@@ -93,7 +93,7 @@ module _ (o : Origin) (done : List TraceSecond) (old : Run) (before : Outcome) (
       plain : Evented o (done ++ dark (suc n) old.next) (log_of before) old.unfound (old.next + suc n) IsDue d → Evented o (done ++ dark (suc n) old.next) (log_of (record before { breaks = with_lines [] before.breaks })) old.unfound (old.next + suc n) IsDue d
       plain e = subst (λ (l : Listed Break). Evented o (done ++ dark (suc n) old.next) (log_of (record before { breaks = l })) old.unfound (old.next + suc n) IsDue d) (no-lines before.breaks) e
 
-      so : (q : Power) (s : Supply) → r.supply ≡ s → Supplies q s → Evented o (done ++ dark (suc n) old.next) (log_of (record before { breaks = with_lines (off_cut (is_lit q) (old.next - 1) old.begun) before.breaks })) old.unfound (old.next + suc n) IsDue d
+      so : (q : Power) (s : UnitPower) → r.supply ≡ s → Supplies q s → Evented o (done ++ dark (suc n) old.next) (log_of (record before { breaks = with_lines (off_cut (is_lit q) (old.next - 1) old.begun) before.breaks })) old.unfound (old.next + suc n) IsDue d
       so Lit (IsLit []) at powers = absurd powers
       so Lit (IsLit (t ∷ span)) at powers = off-line_cuts d o done p r.recorded.recorded.followed h.evented t span at n
       so Lit IsDue at powers = absurd powers
@@ -105,7 +105,7 @@ module _ (o : Origin) (done : List TraceSecond) (old : Run) (before : Outcome) (
       so Lost IsDue at powers = absurd powers
       so Lost IsLost at powers = plain (off-line d o done p r.recorded.recorded.followed h.evented (subst IsDark (sym at) tt) n)
 
-      by : (q : Power) → old.power ≡ q → (s : Supply) → r.supply ≡ s → Supplies old.power s → Evented o (done ++ dark (suc n) old.next) (log_of (record before { breaks = with_lines (off_cut (is_lit old.power) (old.next - 1) old.begun) before.breaks })) old.unfound (old.next + suc n) IsDue d
+      by : (q : Power) → old.power ≡ q → (s : UnitPower) → r.supply ≡ s → Supplies old.power s → Evented o (done ++ dark (suc n) old.next) (log_of (record before { breaks = with_lines (off_cut (is_lit old.power) (old.next - 1) old.begun) before.breaks })) old.unfound (old.next + suc n) IsDue d
       by q is_ s at powers =
           subst (λ (x : Power). Evented o (done ++ dark (suc n) old.next) (log_of (record before { breaks = with_lines (off_cut (is_lit x) (old.next - 1) old.begun) before.breaks })) old.unfound (old.next + suc n) IsDue d) (sym is_)
           (so q s at (subst (λ (x : Power). Supplies x s) is_ powers))

@@ -11,14 +11,14 @@ use Rattle.log_model.specs.declared.lines.Break.{Break}
 use Rattle.log_model.specs.declared.lines.Refused.{Refused}
 use Rattle.log_model.specs.declared.lines.SlotFault.{SlotFault}
 use Rattle.log_model.specs.declared.lines.SlotFault.TheVariants.{NoPower}
-use Rattle.run_unit_course.specs.Followed.{Supply, Lit as IsLit, Due as IsDue, Lost as IsLost}
+use Rattle.run_unit_course.specs.Followed.{UnitPower, Lit as IsLit, Due as IsDue, Lost as IsLost}
 use Rattle.safety_model.specs.Safe.{Devices}
 use Rattle.run_opening.specs.declared.fault.RunFault.{RunFault}
 use Rattle.run_outcome.specs.declared.outcome.Outcome.{Outcome}
 use Rattle.run_outcome.specs.Lines.{Listed, cut_at}
 use Rattle.run_minutes.specs.Keeping.{with_lines}
 use Rattle.run_promise.specs.Origin.{Origin, rule_of, start_at, first_of}
-use Rattle.run_record.specs.Recorded.{Recorded, progress}
+use Rattle.run_record.specs.Recorded.{RecordBetweenSeconds, progress}
 use Rattle.run_record.specs.Going.{off_values}
 use Rattle.run_record.proofs.Going.{dark-recorded, off-recorded, off-cut-recorded}
 use Rattle.run_acts.specs.declared.run.Run.{Run}
@@ -34,9 +34,9 @@ use Rattle.recorder_with_cards.proofs.Waiting.{most-actions}
 use Rattle.trace_model.specs.declared.Card.{Card}
 use Rattle.trace_model.specs.declared.Card.TheVariants.{A, B}
 use Rattle.run_crew.specs.Cards.{session_of}
-use Rattle.run_crew.specs.Cabin.{Stands, with_power_lost}
+use Rattle.run_crew.specs.Cabin.{CabinIsSound, with_power_lost}
 use Rattle.log_model.specs.Causes.{refusals_at, refusal_told}
-use Rattle.log_model.specs.Course.{Told, went, without_power}
+use Rattle.log_model.specs.Course.{ToldSecond, went, without_power}
 use Rattle.note_model.specs.Noted.{Note}
 use Rattle.run_note_record.specs.Ringed.{notes_in}
 use Rattle.run_acts.specs.Closings.{spells_of}
@@ -110,7 +110,7 @@ lost-away Lit next away = absurd (cc)
 lost-away Due next away = absurd (cc)
 lost-away Lost next away = let test : (next % 60 == 0) ≡ false = away in (refl, grind (arith, nat_tests, test))
 
-pub lost-supply : (p : Power) (supply : Supply) → p ≡ Lost → Supplies p supply → supply ≡ IsLost
+pub lost-supply : (p : Power) (supply : UnitPower) → p ≡ Lost → Supplies p supply → supply ≡ IsLost
 lost-supply Lit supply is powers = absurd (cc)
 lost-supply Due supply is powers = absurd (cc)
 lost-supply Lost (IsLit span) is powers = absurd powers
@@ -132,7 +132,7 @@ module _ (o : Origin) (done : List TraceSecond) (old : Run) (before : Outcome) (
   dark-run (suc n) speed begun actions some away fits new after is told =
       let lost = lost-away old.power old.next away in
       let supply = lost-supply old.power h.supply lost.0 h.powers in
-      let was = subst (λ (s : Supply). Recorded o done s (values_of old before) d) supply h.recorded in
+      let was = subst (λ (s : UnitPower). RecordBetweenSeconds o done s (values_of old before) d) supply h.recorded in
       let on = dark-recorded d o done (values_of old before) was n speed actions (refused_dark old.next actions) begun lost.1 fits (faults-from old.next 0 actions) in
       subst (λ (r : Run). RunRecorded o (done ++ driven (suc n) old.next speed actions) r after d) (sym is)
       (subst (λ (p : Outcome). RunRecorded o (done ++ driven (suc n) old.next speed actions) (passed (suc n) begun old) p d) (sym told)
@@ -158,14 +158,14 @@ module _ (o : Origin) (done : List TraceSecond) (old : Run) (before : Outcome) (
       }))
 
   -- AN `off` LINE
-  pub off-seconds : (old.power ≡ Lit → (low : ℕ) × Stands low None old.keeper.cabin) → (n : ℕ) → 0 < n → (breaks : Listed Break) → breaks ≡ with_lines (off_cut (is_lit old.power) (old.next - 1) old.begun) before.breaks → (new : Run) → new ≡ off_run n old → RunRecorded o (done ++ dark n old.next) new (record before { breaks = breaks }) d
+  pub off-seconds : (old.power ≡ Lit → (low : ℕ) × CabinIsSound low None old.keeper.cabin) → (n : ℕ) → 0 < n → (breaks : Listed Break) → breaks ≡ with_lines (off_cut (is_lit old.power) (old.next - 1) old.begun) before.breaks → (new : Run) → new ≡ off_run n old → RunRecorded o (done ++ dark n old.next) new (record before { breaks = breaks }) d
   off-seconds sits zero some breaks told new is = absurd (omega (arith, some))
   off-seconds sits (suc n) some breaks told new is =
       subst (λ (r : Run). RunRecorded o (done ++ dark (suc n) old.next) r (record before { breaks = breaks }) d) (sym is)
       (subst (λ (l : Listed Break). RunRecorded o (done ++ dark (suc n) old.next) (off_run (suc n) old) (record before { breaks = l }) d) (sym told)
       (by old.power refl h.supply h.powers h.recorded))
     where
-      due : (r : Run) (out : Outcome) → AllStay o (marked out.marks.items (truths_of o (log_of out) (done ++ dark (suc n) old.next))) 0 (log_of out) (notes_in (log_of out) (done ++ dark (suc n) old.next)) r.keeper.memory.registration r.keeper.cabin d → r.power ≡ Due → Recorded o (done ++ dark (suc n) old.next) IsDue (values_of r out) d → RunRecorded o (done ++ dark (suc n) old.next) r out d
+      due : (r : Run) (out : Outcome) → AllStay o (marked out.marks.items (truths_of o (log_of out) (done ++ dark (suc n) old.next))) 0 (log_of out) (notes_in (log_of out) (done ++ dark (suc n) old.next)) r.keeper.memory.registration r.keeper.cabin d → r.power ≡ Due → RecordBetweenSeconds o (done ++ dark (suc n) old.next) IsDue (values_of r out) d → RunRecorded o (done ++ dark (suc n) old.next) r out d
       due r out stays is recorded = record {
         origin = h.origin;
         supply = IsDue;
@@ -196,11 +196,11 @@ module _ (o : Origin) (done : List TraceSecond) (old : Run) (before : Outcome) (
           (ap (λ (bs : List Break). notes_in (record (log_of before) { breaks = bs }) (done ++ dark (suc n) old.next)) (append-nil before.breaks.items) ∙ notes-off (suc n) (log_of before) done old.next)) h.stay)
 
       -- a card that has a session sits in a slot
-      seated : ((low : ℕ) × Stands low None old.keeper.cabin) → (c : Card) → is_some (session_of old.keeper.cabin.cards c) ≡ true → sits_in old.keeper.cabin.slots.seats c ≡ true
+      seated : ((low : ℕ) × CabinIsSound low None old.keeper.cabin) → (c : Card) → is_some (session_of old.keeper.cabin.cards c) ≡ true → sits_in old.keeper.cabin.slots.seats c ≡ true
       seated stands c some = ⊎_elim (λ there. sits-in-one old.keeper.cabin.slots.seats c there) (λ leaving. absurd (let wrong : None ≡ Some c = leaving in cc)) (stands.1.only c some)
 
       -- none is withdrawn by that
-      off-lit : ((low : ℕ) × Stands low None old.keeper.cabin) → (t : Told) (span : List Told) → Recorded o done (IsLit (t ∷ span)) (values_of old before) d →
+      off-lit : ((low : ℕ) × CabinIsSound low None old.keeper.cabin) → (t : ToldSecond) (span : List ToldSecond) → RecordBetweenSeconds o done (IsLit (t ∷ span)) (values_of old before) d →
           AllStay o (marked before.marks.items (truths_of o (log_of (told_off true old before)) (done ++ dark (suc n) old.next))) 0 (log_of (told_off true old before)) (notes_in (log_of (told_off true old before)) (done ++ dark (suc n) old.next)) old.keeper.memory.registration (off_as true (suc n) old).keeper.cabin d
       off-lit stands t span r =
           all-true o (marked before.marks.items (truths_of o (log_of before) done)) (marked before.marks.items (truths_of o (log_of (told_off true old before)) (done ++ dark (suc n) old.next))) 0 (log_of (told_off true old before)) (notes_in (log_of (told_off true old before)) (done ++ dark (suc n) old.next))
@@ -221,15 +221,15 @@ module _ (o : Origin) (done : List TraceSecond) (old : Run) (before : Outcome) (
           (seated stands c) (bare-off c))
           (λ none c was. placed-bare (notes_in (log_of (told_off true old before)) (done ++ dark (suc n) old.next)) (with_power_lost (old.next - 1) old.keeper.cabin) c (bare-off c)) h.stay)
 
-      plain : Recorded o (done ++ dark (suc n) old.next) IsDue (off_values (suc n) (values_of old before)) d → Recorded o (done ++ dark (suc n) old.next) IsDue (values_of (off_as false (suc n) old) (told_off false old before)) d
-      plain r = subst (λ (bs : List Break). Recorded o (done ++ dark (suc n) old.next) IsDue (values_of (off_as false (suc n) old) (record before { breaks = record { items = bs; room = before.breaks.room } })) d) (sym (append-nil before.breaks.items)) r
+      plain : RecordBetweenSeconds o (done ++ dark (suc n) old.next) IsDue (off_values (suc n) (values_of old before)) d → RecordBetweenSeconds o (done ++ dark (suc n) old.next) IsDue (values_of (off_as false (suc n) old) (told_off false old before)) d
+      plain r = subst (λ (bs : List Break). RecordBetweenSeconds o (done ++ dark (suc n) old.next) IsDue (values_of (off_as false (suc n) old) (record before { breaks = record { items = bs; room = before.breaks.room } })) d) (sym (append-nil before.breaks.items)) r
 
-      by : (p : Power) → old.power ≡ p → (s : Supply) → Supplies old.power s → Recorded o done s (values_of old before) d → RunRecorded o (done ++ dark (suc n) old.next) (off_as (is_lit old.power) (suc n) old) (told_off (is_lit old.power) old before) d
+      by : (p : Power) → old.power ≡ p → (s : UnitPower) → Supplies old.power s → RecordBetweenSeconds o done s (values_of old before) d → RunRecorded o (done ++ dark (suc n) old.next) (off_as (is_lit old.power) (suc n) old) (told_off (is_lit old.power) old before) d
       by p at s powers r =
           subst (λ (q : Power). RunRecorded o (done ++ dark (suc n) old.next) (off_as (is_lit q) (suc n) old) (told_off (is_lit q) old before) d) (sym at)
           (so p at s (subst (λ (q : Power). Supplies q s) at powers) r)
         where
-          so : (p : Power) → old.power ≡ p → (s : Supply) → Supplies p s → Recorded o done s (values_of old before) d → RunRecorded o (done ++ dark (suc n) old.next) (off_as (is_lit p) (suc n) old) (told_off (is_lit p) old before) d
+          so : (p : Power) → old.power ≡ p → (s : UnitPower) → Supplies p s → RecordBetweenSeconds o done s (values_of old before) d → RunRecorded o (done ++ dark (suc n) old.next) (off_as (is_lit p) (suc n) old) (told_off (is_lit p) old before) d
           so Lit at (IsLit []) powers r = absurd powers
           so Lit at (IsLit (t ∷ span)) powers r = due (off_as true (suc n) old) (told_off true old before) (off-lit (sits at) t span r) refl (off-cut-recorded d o done t span (values_of old before) r n)
           so Lit at IsDue powers r = absurd powers

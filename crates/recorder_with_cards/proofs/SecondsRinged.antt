@@ -9,14 +9,14 @@ use Rattle.log_model.specs.declared.lines.Break.{Break}
 use Rattle.log_model.specs.declared.lines.Refused.{Refused}
 use Rattle.log_model.specs.Log.{RunLog}
 use Rattle.log_model.specs.Same.{SameAt}
-use Rattle.log_model.specs.Course.{Told, Went, has_power, went}
+use Rattle.log_model.specs.Course.{ToldSecond, Went, has_power, went}
 use Rattle.note_model.specs.Odometer.{SpanFrom}
-use Rattle.run_unit_course.specs.Followed.{Supply, Lit as IsLit, Due as IsDue, Lost as IsLost}
+use Rattle.run_unit_course.specs.Followed.{UnitPower, Lit as IsLit, Due as IsDue, Lost as IsLost}
 use Rattle.run_unit_course.specs.Lines.{cut_at}
 use Rattle.run_unit_course.specs.Turn.{cut_last}
 use Rattle.safety_model.specs.Safe.{Devices}
 use Rattle.run_course.specs.Moments.{and_break}
-use Rattle.run_course.specs.Followed.{Progress, Followed, IsLost as HasLost}
+use Rattle.run_course.specs.Followed.{Progress, BookFollowsRun, IsLost as HasLost}
 use Rattle.run_course.proofs.Dark.{lost-are-told}
 use Rattle.run_course.proofs.Logs.{refused-at, went-refused}
 use Rattle.run_course.proofs.Steps.{with-supply}
@@ -36,7 +36,7 @@ use Rattle.run_note_record.proofs.Bases.{stored-dark}
 use Rattle.run_acts.specs.declared.run.Run.{Run}
 use Rattle.run_acts.specs.declared.run.Power.{Power}
 use Rattle.run_acts.specs.declared.run.Power.TheVariants.{Lit, Due, Lost}
-use Rattle.run_crew.specs.Cabin.{Stands}
+use Rattle.run_crew.specs.Cabin.{CabinIsSound}
 use Rattle.run_acts.specs.Power.{is_lit, has_power as has_by, darkened, off_run, off_cut, passed}
 use Rattle.run_acts.specs.Recording.{log_of, values_of, Supplies, RunRecorded}
 use Rattle.run_acts.specs.RunRinged.{seats_of, RunRinged}
@@ -59,7 +59,7 @@ refused-all log later breaks finds (s ∷ ss) = All-cons (λ (x : TraceSecond). 
 
 -- ---- after a failed call
 
-module _ (o : Origin) (done : List TraceSecond) (p : Progress) (f : Followed (rule_of o) (start_at o) o.from (first_of o) done p) (d : Devices) (spans : List SpanFrom) (seats : Card → Option Seating) (v : RingedBehind o done p.log p.next spans seats d) (is : p.supply ≡ IsLost)
+module _ (o : Origin) (done : List TraceSecond) (p : Progress) (f : BookFollowsRun (rule_of o) (start_at o) o.from (first_of o) done p) (d : Devices) (spans : List SpanFrom) (seats : Card → Option Seating) (v : RingedBehind o done p.log p.next spans seats d) (is : p.supply ≡ IsLost)
     (speed : ℕ) (actions : List Action) (refused : List Refused) (low : 0 < p.next % 60) where
   abbrev later : RunLog
   later = record p.log { refused = refused }
@@ -119,7 +119,7 @@ dark-unfound true run = refl
 dark-unfound false run = refl
 
 -- the last span ends with a cut
-cut-off-last : (earlier : List SpanFrom) (base : ℕ) (span : List Told) → cut_off (earlier ++ record { base = base; span = span } ∷ []) ≡ earlier ++ record { base = base; span = cut_last span } ∷ []
+cut-off-last : (earlier : List SpanFrom) (base : ℕ) (span : List ToldSecond) → cut_off (earlier ++ record { base = base; span = span } ∷ []) ≡ earlier ++ record { base = base; span = cut_last span } ∷ []
 cut-off-last [] base span = refl
 cut-off-last (x ∷ []) base span = refl
 cut-off-last (x ∷ y ∷ earlier) base span = ap (λ (l : List SpanFrom). x ∷ l) (cut-off-last (y ∷ earlier) base span)
@@ -158,7 +158,7 @@ module _ (o : Origin) (done : List TraceSecond) (old : Run) (before : Outcome) (
       }
 
   -- AN `off` LINE
-  pub off-ringed : (old.power ≡ Lit → (low : ℕ) × Stands low None old.keeper.cabin) → (n : ℕ) → 0 < n → (breaks : Listed Break) → breaks ≡ with_lines (off_cut (is_lit old.power) (old.next - 1) old.begun) before.breaks → (new : Run) → new ≡ off_run n old → RunRinged o (done ++ dark n old.next) new (record before { breaks = breaks }) d
+  pub off-ringed : (old.power ≡ Lit → (low : ℕ) × CabinIsSound low None old.keeper.cabin) → (n : ℕ) → 0 < n → (breaks : Listed Break) → breaks ≡ with_lines (off_cut (is_lit old.power) (old.next - 1) old.begun) before.breaks → (new : Run) → new ≡ off_run n old → RunRinged o (done ++ dark n old.next) new (record before { breaks = breaks }) d
   off-ringed sits zero some breaks told new is = absurd (omega (arith, some))
   off-ringed sits (suc n) some breaks told new is =
       let power : new.power ≡ Due = ap (λ (x : Run). x.power) is in
@@ -182,7 +182,7 @@ module _ (o : Origin) (done : List TraceSecond) (old : Run) (before : Outcome) (
       plain-off : StoresOff o (log_of before) old.unfound h.spans d → StoresOff o (log_of (record before { breaks = with_lines [] before.breaks })) old.unfound h.spans d
       plain-off e = subst (λ (l : Listed Break). StoresOff o (log_of (record before { breaks = l })) old.unfound h.spans d) (no-lines before.breaks) e
 
-      so : (q : Power) (s : Supply) → r.supply ≡ s → Supplies q s → old.power ≡ q → Stores (is_lit q) o (log_of before) old.unfound old.keeper.odometer h.spans d →
+      so : (q : Power) (s : UnitPower) → r.supply ≡ s → Supplies q s → old.power ≡ q → Stores (is_lit q) o (log_of before) old.unfound old.keeper.odometer h.spans d →
           (spans : List SpanFrom) × RingedBehind o (done ++ dark (suc n) old.next) (log_of (record before { breaks = with_lines (off_cut (is_lit q) (old.next - 1) old.begun) before.breaks })) (old.next + suc n) spans
           (seats_of (record (darkened (is_lit q) old) { power = Due; next = old.next + suc n; begun = 0 })) d
           × StoresOff o (log_of (record before { breaks = with_lines (off_cut (is_lit q) (old.next - 1) old.begun) before.breaks })) old.unfound spans d
@@ -204,7 +204,7 @@ module _ (o : Origin) (done : List TraceSecond) (old : Run) (before : Outcome) (
       so Lost IsDue at powers power_is st = absurd powers
       so Lost IsLost at powers power_is st = (h.spans, plain (rings-off o d (log_of before) h.spans (seats_of old) n done old.next h.ringed), plain-off st)
 
-      by : (q : Power) → old.power ≡ q → (s : Supply) → r.supply ≡ s → Supplies old.power s →
+      by : (q : Power) → old.power ≡ q → (s : UnitPower) → r.supply ≡ s → Supplies old.power s →
           (spans : List SpanFrom) × RingedBehind o (done ++ dark (suc n) old.next) (log_of (record before { breaks = with_lines (off_cut (is_lit old.power) (old.next - 1) old.begun) before.breaks })) (old.next + suc n) spans (seats_of (off_run (suc n) old)) d
           × StoresOff o (log_of (record before { breaks = with_lines (off_cut (is_lit old.power) (old.next - 1) old.begun) before.breaks })) old.unfound spans d
       by q is_ s at powers =

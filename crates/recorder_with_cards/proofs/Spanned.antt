@@ -10,13 +10,13 @@ use Rattle.log_model.specs.declared.lines.Break.{Break}
 use Rattle.log_model.specs.declared.lines.Break.TheVariants.{Cut, Tear}
 use Rattle.log_model.specs.Log.{RunLog, Phase, phase_of}
 use Rattle.log_model.specs.Causes.{is_cut, has_failed, second_of, tears, places, visit_places, in_the_slot, pulled_of, torn_of}
-use Rattle.log_model.specs.Course.{Told, Before, Went, has_power, second_told, before_next, went_on, not_begun, went}
+use Rattle.log_model.specs.Course.{ToldSecond, Before, Went, has_power, second_told, before_next, went_on, not_begun, went}
 use Rattle.event_model.specs.Events.{Seen, Watched, seen_by, watched_on, seen_of, seen_on, seen_with, seen_spans}
 use Rattle.run_course.specs.Caused.{AreCaused}
 use Rattle.run_course.proofs.Told.{told-lit}
 
 -- ---- seconds without power
-pub record IsDarkSecond (t : Told) : Type 0 where
+pub record IsDarkSecond (t : ToldSecond) : Type 0 where
   pub cut : t.cut ≡ false
   pub pulled : t.course.pulled ≡ []
   pub torn : t.course.torn ≡ []
@@ -51,7 +51,7 @@ all-dark spans (x ∷ xs) is =
     (one.0, (one.1, rest.1))
 
 -- ---- the seconds as they went, and as their events see them
-push-dark : (ts : List Told) (t : Told) → AllByRecursion IsDarkSecond ts → IsDarkSecond t → AllByRecursion IsDarkSecond (ts ++ t ∷ [])
+push-dark : (ts : List ToldSecond) (t : ToldSecond) → AllByRecursion IsDarkSecond ts → IsDarkSecond t → AllByRecursion IsDarkSecond (ts ++ t ∷ [])
 push-dark [] t all one = (one, tt)
 push-dark (u ∷ ts) t all one = (all.0, push-dark ts t all.1 one)
 
@@ -78,15 +78,15 @@ unfolding seen_of went
 seen-dark log ss none = went-dark log ss (record { seen = []; before = not_begun.before }) not_begun refl tt (all-dark [] (seen_of log ss) none).1
 
 -- ---- so there is no break
-no-cuts : (ts : List Told) → AllByRecursion IsDarkSecond ts → filter (λ (t : Told). t.cut) ts ≡ []
+no-cuts : (ts : List ToldSecond) → AllByRecursion IsDarkSecond ts → filter (λ (t : ToldSecond). t.cut) ts ≡ []
 no-cuts [] all = refl
-no-cuts (t ∷ ts) all = ap (λ (b : Bool). cond b (t ∷ filter (λ (t : Told). t.cut) ts) (filter (λ (t : Told). t.cut) ts)) all.0.cut ∙ no-cuts ts all.1
+no-cuts (t ∷ ts) all = ap (λ (b : Bool). cond b (t ∷ filter (λ (t : ToldSecond). t.cut) ts) (filter (λ (t : ToldSecond). t.cut) ts)) all.0.cut ∙ no-cuts ts all.1
 
-no-pulled : (ts : List Told) → AllByRecursion IsDarkSecond ts → pulled_of ts ≡ []
+no-pulled : (ts : List ToldSecond) → AllByRecursion IsDarkSecond ts → pulled_of ts ≡ []
 no-pulled [] all = refl
 no-pulled (t ∷ ts) all = λ i. visit_places t.second.number (all.0.pulled i) ++ no-pulled ts all.1 i
 
-no-torn : (ts : List Told) → AllByRecursion IsDarkSecond ts → torn_of ts ≡ []
+no-torn : (ts : List ToldSecond) → AllByRecursion IsDarkSecond ts → torn_of ts ≡ []
 no-torn [] all = refl
 no-torn (t ∷ ts) all = λ i. visit_places t.second.number (all.0.torn i) ++ no-torn ts all.1 i
 
@@ -111,5 +111,5 @@ no-break log cuts pulled torn = by log.breaks cuts pulled torn
 pub no-span_no-break : (before now : Device → ℕ) (done : List TraceSecond) (log : RunLog) → AreCaused before now done log → seen_spans (seen_of log done) ≡ [] → log.breaks ≡ []
 no-span_no-break before now done log caused none =
     let dark : AllByRecursion IsDarkSecond (went log done).told = seen-dark log done none in
-    no-break log (map-none (filter is_cut log.breaks) (caused.cut_seconds ∙ ap (map (λ (t : Told). t.second.number)) (no-cuts (went log done).told dark))) (caused.tear_lines ∙ no-pulled (went log done).told dark)
+    no-break log (map-none (filter is_cut log.breaks) (caused.cut_seconds ∙ ap (map (λ (t : ToldSecond). t.second.number)) (no-cuts (went log done).told dark))) (caused.tear_lines ∙ no-pulled (went log done).told dark)
     (λ slot. caused.failed_tears slot ∙ ap (in_the_slot slot) (no-torn (went log done).told dark))

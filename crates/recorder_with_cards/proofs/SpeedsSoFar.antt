@@ -26,10 +26,10 @@ use Rattle.speed_store.specs.Feeding as minute
 use Rattle.speed_store.proofs.Feeding.{given-at, time-at}
 use Rattle.unit_notes.specs.declared.unit_event.UnitEvent.{UnitEvent}
 use Rattle.run_unit_course.specs.Lines.{log_of as log_with, cut_at, found_from}
-use Rattle.run_unit_course.specs.Followed.{Supply, Lit as IsLit, Due as IsDue, Lost as IsLost}
+use Rattle.run_unit_course.specs.Followed.{UnitPower, Lit as IsLit, Due as IsDue, Lost as IsLost}
 use Rattle.run_unit_course.proofs.Lines.{cut-found}
 use Rattle.run_course.specs.Moments.{and_break}
-use Rattle.run_course.specs.Followed.{Followed, Comes, IsSupplied}
+use Rattle.run_course.specs.Followed.{BookFollowsRun, Comes, IsSupplied}
 use Rattle.run_course.proofs.Lookups.{cut-by}
 use Rattle.run_course.proofs.Logs.{cut-rest, other-number}
 use Rattle.run_course.proofs.Told.{lit-power, comes-power}
@@ -171,10 +171,10 @@ then-gap kept speed failed old new before after reach vs is =
 
 -- nothing is kept of a minute yet
 abbrev IsFresh : Run → Type 0
-IsFresh run = (next : ℕ) → minute.StandsFor run.watch.speeds [] next
+IsFresh run = (next : ℕ) → minute.KeepsSpeedsOf run.watch.speeds [] next
 
 fresh-so : (old new : Run) → StaysSo old new → IsFresh old → IsFresh new
-fresh-so old new same fresh = λ next. subst (λ (w : Watch). minute.StandsFor w.speeds [] next) (sym same.watch) (fresh next)
+fresh-so old new same fresh = λ next. subst (λ (w : Watch). minute.KeepsSpeedsOf w.speeds [] next) (sym same.watch) (fresh next)
 
 record GoesAwake (failed : Bool) (first : ℕ) (new : Run) (before after : Outcome) : Type 0 where
   more : TellsMoreOf first before.breaks.items after.breaks.items
@@ -265,7 +265,7 @@ module _ (kept u : ℕ) (old : Run) (before : Outcome) (here : old.next ≡ u) (
       by false g e = record {
         says = subst (λ (o : Outcome). SaysMore u (log_of before) (log_of o)) (sym e.1) found;
         cut = λ off. absurd (let clash : true ≡ false = sym (ap is_lit (ap (λ (r : Run). r.power) e.0 ∙ g.lit refl)) ∙ off in cc);
-        watch = λ yes. inr (dark, λ next. subst (λ (r : Run). minute.StandsFor r.watch.speeds [] next) (sym e.0) (g.fresh refl next));
+        watch = λ yes. inr (dark, λ next. subst (λ (r : Run). minute.KeepsSpeedsOf r.watch.speeds [] next) (sym e.0) (g.fresh refl next));
         next = ap (λ (r : Run). r.next) e.0 ∙ g.next;
       }
 
@@ -365,20 +365,20 @@ came-acted u speed number items old mid new before told after here came is =
           let a = acted.lit on in
           ⊎_elim
           (λ goes. inl (goes.0, ap (λ (w : Watch). w.speeds) a.1 ∙ goes.1))
-          (λ begins. inr (begins.0, λ next. subst (λ (w : Watch). minute.StandsFor w.speeds [] next) (sym a.1) (begins.1 next)))
+          (λ begins. inr (begins.0, λ next. subst (λ (w : Watch). minute.KeepsSpeedsOf w.speeds [] next) (sym a.1) (begins.1 next)))
           (came.watch a.0);
       next = acted.next ∙ came.next;
     }
 
 -- ---- THE POWER OF A SECOND, as the seconds before it have it
 
-pub runs : (before : Before) (next : ℕ) (supply : Supply) → Supplies Lit supply → IsSupplied supply before next → before.running ≡ true
+pub runs : (before : Before) (next : ℕ) (supply : UnitPower) → Supplies Lit supply → IsSupplied supply before next → before.running ≡ true
 runs before next (IsLit (t ∷ span)) h power = power.running
 runs before next (IsLit []) h power = absurd h
 runs before next IsDue h power = absurd h
 runs before next IsLost h power = absurd h
 
-pub lit-has : (before : Before) (s : TraceSecond) (next : ℕ) (supply : Supply) → Supplies Lit supply → IsSupplied supply before next → s.number ≡ next → s.has_power ≡ true → has_power before s ≡ true
+pub lit-has : (before : Before) (s : TraceSecond) (next : ℕ) (supply : UnitPower) → Supplies Lit supply → IsSupplied supply before next → s.number ≡ next → s.has_power ≡ true → has_power before s ≡ true
 lit-has before s next (IsLit (t ∷ span)) h power number given = lit-power (t ∷ span) before s next power number given
 lit-has before s next (IsLit []) h power number given = absurd h
 lit-has before s next IsDue h power number given = absurd h
@@ -400,7 +400,7 @@ module _ (o : Origin) (done : List TraceSecond) (s : TraceSecond) (old new : Run
   abbrev spans : List (List SpeedSecond)
   spans = speed_spans log done
 
-  f : Followed (rule_of o) (start_at o) o.from (first_of o) done (progress (values_of old before) r.supply r.recorded.book)
+  f : BookFollowsRun (rule_of o) (start_at o) o.from (first_of o) done (progress (values_of old before) r.supply r.recorded.book)
   f = r.recorded.recorded.followed
 
   -- power, and whether a span goes on
@@ -431,16 +431,16 @@ module _ (o : Origin) (done : List TraceSecond) (s : TraceSecond) (old new : Run
   behind-is : speeds_before later done ≡ behind (is_lit old.power)
   behind-is = (λ i. cond (alike.0.running i) (last_speeds (alike.1 i)) []) ∙ ap behind running
 
-  stands : is_lit new.power ≡ true → minute.StandsFor new.watch.speeds (speeds_before later done) new.next
-  stands on = subst (λ (xs : List SpeedSecond). minute.StandsFor new.watch.speeds xs new.next) (sym behind-is) (⊎_elim goes begins (came.watch on))
+  stands : is_lit new.power ≡ true → minute.KeepsSpeedsOf new.watch.speeds (speeds_before later done) new.next
+  stands on = subst (λ (xs : List SpeedSecond). minute.KeepsSpeedsOf new.watch.speeds xs new.next) (sym behind-is) (⊎_elim goes begins (came.watch on))
     where
-      goes : (old.power ≡ Lit) × (new.watch.speeds ≡ old.watch.speeds) → minute.StandsFor new.watch.speeds (behind (is_lit old.power)) new.next
+      goes : (old.power ≡ Lit) × (new.watch.speeds ≡ old.watch.speeds) → minute.KeepsSpeedsOf new.watch.speeds (behind (is_lit old.power)) new.next
       goes w =
-          subst (λ (b : Bool). minute.StandsFor new.watch.speeds (behind b) new.next) (sym (ap is_lit w.0))
-          (subst (λ (n : ℕ). minute.StandsFor new.watch.speeds (last_speeds spans) n) (sym came.next) (subst (λ (kept : List ℕ). minute.StandsFor kept (last_speeds spans) old.next) (sym w.1) (h.watched w.0)))
+          subst (λ (b : Bool). minute.KeepsSpeedsOf new.watch.speeds (behind b) new.next) (sym (ap is_lit w.0))
+          (subst (λ (n : ℕ). minute.KeepsSpeedsOf new.watch.speeds (last_speeds spans) n) (sym came.next) (subst (λ (kept : List ℕ). minute.KeepsSpeedsOf kept (last_speeds spans) old.next) (sym w.1) (h.watched w.0)))
 
-      begins : (is_lit old.power ≡ false) × IsFresh new → minute.StandsFor new.watch.speeds (behind (is_lit old.power)) new.next
-      begins w = subst (λ (b : Bool). minute.StandsFor new.watch.speeds (behind b) new.next) (sym w.0) (w.1 new.next)
+      begins : (is_lit old.power ≡ false) × IsFresh new → minute.KeepsSpeedsOf new.watch.speeds (behind (is_lit old.power)) new.next
+      begins w = subst (λ (b : Bool). minute.KeepsSpeedsOf new.watch.speeds (behind b) new.next) (sym w.0) (w.1 new.next)
 
   -- the unit carries what it carried
   carries : HasBlocks o later done e

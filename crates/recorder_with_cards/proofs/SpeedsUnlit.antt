@@ -13,9 +13,9 @@ use Rattle.event_model.specs.Spans.{SpeedSecond}
 use Rattle.speed_model.specs.Blocks.{blocks_in}
 use Rattle.safety_model.specs.Safe.{Devices}
 use Rattle.run_unit_course.specs.Lines.{cut_at}
-use Rattle.run_unit_course.specs.Followed.{Supply, Lit as IsLit, Due as IsDue, Lost as IsLost}
+use Rattle.run_unit_course.specs.Followed.{UnitPower, Lit as IsLit, Due as IsDue, Lost as IsLost}
 use Rattle.run_course.specs.Moments.{and_break}
-use Rattle.run_course.specs.Followed.{Followed, IsSupplied, IsLost as HasLost, HadActions, IsLastOf}
+use Rattle.run_course.specs.Followed.{BookFollowsRun, IsSupplied, IsLost as HasLost, HadActions, IsLastOf}
 use Rattle.run_course.proofs.Logs.{went-refused}
 use Rattle.run_promise.specs.Origin.{Origin, rule_of, start_at, first_of}
 use Rattle.run_outcome.specs.Lines.{Listed}
@@ -49,13 +49,13 @@ module _ (o : Origin) (done : List TraceSecond) (old : Run) (before : Outcome) (
   abbrev log : RunLog
   log = log_of before
 
-  f : Followed (rule_of o) (start_at o) o.from (first_of o) done (progress (values_of old before) r.supply r.recorded.book)
+  f : BookFollowsRun (rule_of o) (start_at o) o.from (first_of o) done (progress (values_of old before) r.supply r.recorded.book)
   f = r.recorded.recorded.followed
 
   -- ---- so many seconds without power behind a failed call, the first with these actions
 
   lost : r.supply ≡ IsLost → HasLost (went log done).before
-  lost is = subst (λ (s : Supply). IsSupplied s (went log done).before old.next) is f.power
+  lost is = subst (λ (s : UnitPower). IsSupplied s (went log done).before old.next) is f.power
 
   spans-lost : (speed : ℕ) (actions : List Action) (refused : List Refused) → r.supply ≡ IsLost → 0 < old.next % 60 → (n : ℕ) → old.next % 60 + suc n ≤ 60 →
       speed_spans (record log { refused = refused }) (done ++ driven (suc n) old.next speed actions) ≡ speed_spans log done
@@ -114,7 +114,7 @@ module _ (o : Origin) (done : List TraceSecond) (old : Run) (before : Outcome) (
     spans-cut : speed_spans cut_log done ≡ speed_spans log done
     spans-cut = ap (speed_spans cut_log) t.are ∙ last-same log cut_log t.before last front-same ∙ ap (speed_spans log) (sym t.are)
 
-  had : (supply : Supply) → Supplies Lit supply → IsLastOf supply done old.begun → HadActions done old.begun
+  had : (supply : UnitPower) → Supplies Lit supply → IsLastOf supply done old.begun → HadActions done old.begun
   had (IsLit []) powers last = absurd powers
   had (IsLit (t ∷ span)) powers last = last
   had IsDue powers last = absurd powers

@@ -11,7 +11,7 @@ use Rattle.run_outcome.specs.Lines.{Listed}
 use Rattle.run_outcome.specs.declared.outcome.Outcome.{Outcome}
 use Rattle.run_minutes.specs.declared.keeper.Keeper.{Keeper}
 use Rattle.run_minutes.specs.declared.keeper.Moment.{Moment}
-use Rattle.run_minutes.specs.Minutes.{Told, AreKept, none, more, AreKeptUpTo}
+use Rattle.run_minutes.specs.Minutes.{KeepingState, AreKept, none, more, AreKeptUpTo}
 use Rattle.run_acts.specs.declared.run.Run.{Run}
 use Rattle.run_acts.specs.Acting.{IsSettled, IsClosedBehind, IsWithdrawn, IsPlaced, noted_run, pulled_run, told_of}
 use Rattle.recorder_with_cards.specs.Accepting.{IsInserted}
@@ -36,15 +36,15 @@ watched-only old new only = record { watch = ap (λ (r : Run). r.watch) only; me
 
 -- ---- minutes are kept
 
-pub kept-memory : (at : Moment) (ms : List Minute) (t u : Told) → AreKept at ms t u → u.keeper.memory ≡ t.keeper.memory
+pub kept-memory : (at : Moment) (ms : List Minute) (t u : KeepingState) → AreKept at ms t u → u.keeper.memory ≡ t.keeper.memory
 kept-memory at ms t u (none v) = refl
 kept-memory at ms t u (more m front round v mid kept is) = kept-memory at front v mid kept
 
-pub up-to-memory : (decided : List Minute) (at : Moment) (failed : Bool) (t u : Told) → AreKeptUpTo decided at failed t u → u.keeper.memory ≡ t.keeper.memory
+pub up-to-memory : (decided : List Minute) (at : Moment) (failed : Bool) (t u : KeepingState) → AreKeptUpTo decided at failed t u → u.keeper.memory ≡ t.keeper.memory
 up-to-memory decided at false t u kept = kept-memory at decided t u kept
 up-to-memory decided at true t u short =
     let before = kept-memory at short.front t short.between short.kept in
-    ⊎_elim (λ still. ap (λ (x : Told). x.keeper.memory) still ∙ before) (λ last. ap (λ (x : Told). x.keeper.memory) last.2 ∙ before) short.last
+    ⊎_elim (λ still. ap (λ (x : KeepingState). x.keeper.memory) still ∙ before) (λ last. ap (λ (x : KeepingState). x.keeper.memory) last.2 ∙ before) short.last
 
 pub settled-watched : (at : Moment) (failed : Bool) (old new : Run) (before after : Outcome) → IsSettled at failed old new before after → StaysWatched old new
 settled-watched at failed old new before after is = record {

@@ -2,7 +2,7 @@
 use Rattle.std.proofs.Common.{◌≡◌, ◌∙◌, inl, inr, ℕ, ◌+◌, ◌-◌, ◌<◌, ◌≤◌, Option, Some, None, [], ◌∷◌, length, refl, ap, arith, length-append}
 use Rattle.activity_codec.specs.declared.values.Slot.{Slot}
 use Rattle.trace_model.specs.declared.Card.{Card}
-use Rattle.run_crew.specs.Cabin.{Stands}
+use Rattle.run_crew.specs.Cabin.{CabinIsSound}
 use Rattle.run_minutes.specs.declared.keeper.Moment.{Moment}
 use Rattle.run_minutes.specs.Keeping.{with_lines}
 use Rattle.run_minutes.proofs.Counts.{lines-length}
@@ -96,7 +96,7 @@ module _ (old mid new : Run) (o : Outcome) (learned : Listed Break) (q : Outcome
       }
 
   -- and power was lost behind it
-  pub up-lost : (second from : ℕ) (leaving : Option Card) (line : Break) (cut : Run) (told : Listed Break) → Stands from leaving new.keeper.cabin → cut ≡ cut_run second new → told ≡ with_lines (line ∷ []) q.breaks
+  pub up-lost : (second from : ℕ) (leaving : Option Card) (line : Break) (cut : Run) (told : Listed Break) → CabinIsSound from leaving new.keeper.cabin → cut ≡ cut_run second new → told ≡ with_lines (line ∷ []) q.breaks
       → TakesAwake old cut o (record q { breaks = told })
   up-lost second from leaving line cut told stands is behind =
       let f = falls in

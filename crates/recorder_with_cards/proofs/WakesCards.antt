@@ -20,7 +20,7 @@ use Rattle.log_model.specs.Course.{Visit, has_power, fresh, unmoved, went}
 use Rattle.card_slots.specs.Calls.{card_in}
 use Rattle.run_unit_course.specs.Lines.{cut_at}
 use Rattle.safety_model.specs.Safe.{Devices, card_of}
-use Rattle.run_course.specs.Followed.{Progress, Followed, Comes}
+use Rattle.run_course.specs.Followed.{Progress, BookFollowsRun, Comes}
 use Rattle.run_course.specs.Seconds.{GoesOnBy}
 use Rattle.run_course.proofs.Logs.{all-before, found_log, same-found, kept-found}
 use Rattle.run_events.specs.Gaps.{AreKnownGaps}
@@ -37,7 +37,7 @@ use Rattle.run_promise.specs.Between.{devices}
 use Rattle.run_note_record.proofs.SoFar.{failed-more, left-itself}
 use Rattle.run_note_record.proofs.RingsWaking.{still-failed}
 use Rattle.run_record.specs.Recorded.{Values}
-use Rattle.run_record.specs.Within.{Beginning, Within}
+use Rattle.run_record.specs.Within.{Beginning, RecordInSecond}
 use Rattle.run_record.specs.Waking.{both_slots}
 use Rattle.run_acts.specs.declared.run.Run.{Run}
 use Rattle.run_acts.specs.Recording.{log_of, values_of}
@@ -80,7 +80,7 @@ learned-cards o done log i k d order known h c valid =
     subst (λ (xs : List Seen). CardShown o c later (gap_events as_accepted later done) xs (uses_in o c (notes_in later done)) d) (append-nil (seen_of log done) ∙ sym same) one
 
 -- ---- lines that a second told
-pub waking-later : (o : Origin) (done : List TraceSecond) (s : TraceSecond) (at : Phase) (waits : List Visit) (speed : Option ℕ) (rest : List Minute) (v : Values) (d : Devices) (w : Within o done s at waits speed rest v d) (later : RunLog) → TellsHere v.log later s.number → 0 < s.number →
+pub waking-later : (o : Origin) (done : List TraceSecond) (s : TraceSecond) (at : Phase) (waits : List Visit) (speed : Option ℕ) (rest : List Minute) (v : Values) (d : Devices) (w : RecordInSecond o done s at waits speed rest v d) (later : RunLog) → TellsHere v.log later s.number → 0 < s.number →
     IsLater w.b.run.log later done s.number
 waking-later o done s at waits speed rest v d w later h some =
     let g : GoesOnBy w.b.run later s = goes-by o done s at waits speed rest v d w later h in
@@ -94,7 +94,7 @@ waking-later o done s at waits speed rest v d w later h some =
     }
 
 -- ---- THE UNIT FAILED before a span began: power comes with a second, and is cut at once
-module _ (o : Origin) (done : List TraceSecond) (s : TraceSecond) (p : Progress) (f : Followed (rule_of o) (start_at o) o.from (first_of o) done p) (comes : Comes (went p.log done).before p.next) (number : s.number ≡ p.next) (given : s.has_power ≡ true) (some : 0 < s.number)
+module _ (o : Origin) (done : List TraceSecond) (s : TraceSecond) (p : Progress) (f : BookFollowsRun (rule_of o) (start_at o) o.from (first_of o) done p) (comes : Comes (went p.log done).before p.next) (number : s.number ≡ p.next) (given : s.has_power ≡ true) (some : 0 < s.number)
     (d : Devices) (h : CardsBehind o done p.log d) where
   abbrev cut : RunLog
   cut = with_cut p.log s []

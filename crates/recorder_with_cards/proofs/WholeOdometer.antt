@@ -13,7 +13,7 @@ use Rattle.minute_model.specs.declared.Rule.{Rule}
 use Rattle.minute_model.specs.declared.Minute.{Minute}
 use Rattle.minute_model.specs.Activity.{last as last_told}
 use Rattle.log_model.specs.Log.{RunLog}
-use Rattle.log_model.specs.Course.{Told, went}
+use Rattle.log_model.specs.Course.{ToldSecond, went}
 use Rattle.log_model.specs.Spans.{spans_of, AreInOrder}
 use Rattle.history_model.specs.Minutes.{HistoryMinute}
 use Rattle.history_model.specs.Presence.{Start}
@@ -144,8 +144,8 @@ find-none p (x ∷ xs) none = go (p x) refl none (λ none_. find-none p xs none_
     go true is none_ rest = absurd (let clash : Some x ≡ None = none_ in cc)
     go false is none_ rest = All-cons (λ (y : HistoryMinute). p y ≡ false) x xs is (rest none_)
 
-module _ (rule : Rule) (start : Start) (told : List Told) (limit : List Told → List (List Told) → Option ℕ) (k : ℕ) where
-  within-limit : (past : List HistoryMinute) (span : List Told) → ((d : Minute) → Contains (decided_of rule span) d → d.minute ≤ k) → (o : Option ℕ) → lost_minute o (span_minutes rule start told past span) ≡ None →
+module _ (rule : Rule) (start : Start) (told : List ToldSecond) (limit : List ToldSecond → List (List ToldSecond) → Option ℕ) (k : ℕ) where
+  within-limit : (past : List HistoryMinute) (span : List ToldSecond) → ((d : Minute) → Contains (decided_of rule span) d → d.minute ≤ k) → (o : Option ℕ) → lost_minute o (span_minutes rule start told past span) ≡ None →
       (d : Minute) → Contains (decided_of rule span) d → d.minute ≤ unwrap_or o k
   within-limit past span low None none d at = low d at
   within-limit past span low (Some m) none d at =
@@ -154,7 +154,7 @@ module _ (rule : Rule) (start : Start) (told : List Told) (limit : List Told →
       let same = i.2 in
       let le : i.0.minute ≤ m = grind (arith, test, nat_tests) in omega (arith, le, same)
 
-  all-whole : (past : List HistoryMinute) (spans : List (List Told)) → ((span : List Told) (d : Minute) → Contains spans span → Contains (decided_of rule span) d → d.minute ≤ k) → lost_by rule start limit told past spans ≡ [] →
+  all-whole : (past : List HistoryMinute) (spans : List (List ToldSecond)) → ((span : List ToldSecond) (d : Minute) → Contains spans span → Contains (decided_of rule span) d → d.minute ≤ k) → lost_by rule start limit told past spans ≡ [] →
       AreWhole rule limit k spans
   all-whole past [] low none = tt
   all-whole past (span ∷ later) low none =
@@ -190,7 +190,7 @@ whole-spans rule start log n ss order decided days x is =
     below : All (λ i. i.minute ≤ last_kept x) (unit_history rule start log (went log ss).told)
     below = history-low days (unit_history rule start log (went log ss).told) x (n / 60) ((n + length ss) / 60) (rises n rule start log ss order) is
 
-    low : (span : List Told) (d : Minute) → Contains (spans_of (went log ss).told) span → Contains (decided_of rule span) d → d.minute ≤ last_kept x
+    low : (span : List ToldSecond) (d : Minute) → Contains (spans_of (went log ss).told) span → Contains (decided_of rule span) d → d.minute ≤ last_kept x
     low span d at in_ =
         let i = decided span d at in_ in
         let le : i.0.minute ≤ last_kept x = All-contains (λ (j : HistoryMinute). j.minute ≤ last_kept x) (unit_history rule start log (went log ss).told) i.0 below i.1 in
@@ -208,20 +208,20 @@ or-true : (b : Bool) → (b || true) ≡ true
 or-true true = refl
 or-true false = refl
 
-whole-earlier : (rule : Rule) (log : RunLog) (k : ℕ) (earlier : List (List Told)) (span : List Told) (later : List (List Told)) → nat_lt 1 (length span) ≡ true → AllByRecursion (IsKnown rule log.breaks) earlier →
+whole-earlier : (rule : Rule) (log : RunLog) (k : ℕ) (earlier : List (List ToldSecond)) (span : List ToldSecond) (later : List (List ToldSecond)) → nat_lt 1 (length span) ≡ true → AllByRecursion (IsKnown rule log.breaks) earlier →
     AreWhole rule (limit_of log) k (earlier ++ span ∷ later) → AreWhole rule (closed_limit log) 0 earlier
 whole-earlier rule log k [] span later long known w = tt
 whole-earlier rule log k (e ∷ es) span later long known w = (here known.0, whole-earlier rule log k es span later long known.1 w.1)
   where
     any : any_long (es ++ span ∷ later) ≡ true
-    any = list_any-append (λ (s : List Told). nat_lt 1 (length s)) es (span ∷ later) ∙ ap (λ (b : Bool). any_long es || (b || any_long later)) long ∙ or-true (any_long es)
+    any = list_any-append (λ (s : List ToldSecond). nat_lt 1 (length s)) es (span ∷ later) ∙ ap (λ (b : Bool). any_long es || (b || any_long later)) long ∙ or-true (any_long es)
 
     here : IsKnown rule log.breaks e → All (λ d. d.minute ≤ unwrap_or (closed_limit log e es) 0) (decided_of rule e)
     here (inl none) = subst (All (λ (d : Minute). d.minute ≤ unwrap_or (closed_limit log e es) 0)) (sym none) (All-nil (λ (d : Minute). d.minute ≤ unwrap_or (closed_limit log e es) 0))
     here (inr cut) = subst (λ (n : ℕ). All (λ (d : Minute). d.minute ≤ n) (decided_of rule e))
         (ap (λ (b : Bool). unwrap_or (cond b (limit_by log (cut_second (last_told e))) None) k) any ∙ ap (λ (c : Option ℕ). unwrap_or (limit_by log c) k) cut.1 ∙ sym (ap (λ (c : Option ℕ). unwrap_or (limit_by log c) 0) cut.1)) w.0
 
-long-enough : (rule : Rule) (span : List Told) (d : Minute) → Contains (decided_of rule span) d → nat_lt 1 (length span) ≡ true
+long-enough : (rule : Rule) (span : List ToldSecond) (d : Minute) → Contains (decided_of rule span) d → nat_lt 1 (length span) ≡ true
 long-enough rule span d at = by (nat_lt 1 (length span)) refl
   where
     by : (b : Bool) → nat_lt 1 (length span) ≡ b → b ≡ true

@@ -15,11 +15,11 @@ use Rattle.event_model.specs.Spans.{gap_of}
 use Rattle.unit_notes.specs.declared.unit_event.UnitEvent.{UnitEvent}
 use Rattle.unit_minutes.specs.declared.notes.Notes.{Notes}
 use Rattle.run_unit_course.specs.Lines.{cut_at, found_from}
-use Rattle.run_unit_course.specs.Followed.{Supply, Due, Lit, Lost as IsLost, MayPower, IsDark}
+use Rattle.run_unit_course.specs.Followed.{UnitPower, Due, Lit, Lost as IsLost, MayPower, IsDark}
 use Rattle.safety_model.specs.Safe.{Devices, breakdowns_of}
 use Rattle.card_slots.specs.Calls.{seat_in, card_in}
-use Rattle.run_crew.specs.Cabin.{Stands}
-use Rattle.run_course.specs.Followed.{Progress, Followed}
+use Rattle.run_crew.specs.Cabin.{CabinIsSound}
+use Rattle.run_course.specs.Followed.{Progress, BookFollowsRun}
 use Rattle.run_course.specs.Moments.{and_break}
 use Rattle.run_course.specs.Seconds.{GoesOnBy}
 use Rattle.run_course.proofs.Logs.{went-found}
@@ -39,7 +39,7 @@ use Rattle.run_promise.specs.Seconds.{found_again}
 use Rattle.run_minutes.specs.declared.keeper.Moment.{Moment}
 use Rattle.run_minutes.specs.declared.keeper.Keeper.{Keeper}
 use Rattle.run_minutes.specs.Books.{HaveTime}
-use Rattle.run_record.specs.Recorded.{Values, progress, carried, IsOff, Recorded}
+use Rattle.run_record.specs.Recorded.{Values, progress, carried, RecordUnpowered, RecordBetweenSeconds}
 use Rattle.run_record.specs.Within.{Beginning}
 use Rattle.run_record.specs.Waking.{both_slots}
 use Rattle.run_record.proofs.Powering.{off-of}
@@ -68,15 +68,15 @@ use Rattle.recorder_with_cards.proofs.GapEvented.{gap-is, gap-small, gap-evented
 use Rattle.recorder_with_cards.proofs.Resumed.{RunWaking, IsReadAgain, within-of, waiting_in, driver-next, codriver-next, codriver-began}
 use Rattle.recorder_with_cards.proofs.Spanned.{no-span_no-break}
 
-is-dark : (supply : Supply) (next : ℕ) → MayPower supply next → IsDark supply
+is-dark : (supply : UnitPower) (next : ℕ) → MayPower supply next → IsDark supply
 is-dark (Lit span) next may = absurd may
 is-dark Due next may = tt
 is-dark IsLost next may = tt
 
 -- ---- THE UNIT WAS READ
 
-module _ (o : Origin) (done : List TraceSecond) (s : TraceSecond) (supply : Supply) (v : Values) (d e : Devices) (r : Recorded o done supply v d) (may : MayPower supply v.next) (number : s.number ≡ v.next) (given : s.has_power ≡ true) (k : ℕ)
-    (evented : Evented o done v.log v.unfound v.next supply d) (quiet : NotesNothing d e) (left : HaveLeftMore o d e) (followed : Followed (rule_of o) (start_at o) o.from (first_of o) done (found_again k (progress v supply r.book))) where
+module _ (o : Origin) (done : List TraceSecond) (s : TraceSecond) (supply : UnitPower) (v : Values) (d e : Devices) (r : RecordBetweenSeconds o done supply v d) (may : MayPower supply v.next) (number : s.number ≡ v.next) (given : s.has_power ≡ true) (k : ℕ)
+    (evented : Evented o done v.log v.unfound v.next supply d) (quiet : NotesNothing d e) (left : HaveLeftMore o d e) (followed : BookFollowsRun (rule_of o) (start_at o) o.from (first_of o) done (found_again k (progress v supply r.book))) where
   abbrev p : Progress
   p = progress v supply r.book
 
@@ -103,7 +103,7 @@ module _ (o : Origin) (done : List TraceSecond) (s : TraceSecond) (supply : Supp
   same-went : went q.log done ≡ went v.log done
   same-went = went-found v.log v.unfound k o.from done r.recorded.followed.order
 
-  off : IsOff o done v (carried v r.due r.book r.standing r.brought) d
+  off : RecordUnpowered o done v (carried v r.due r.book r.standing r.brought) d
   off = off-of o done supply v (carried v r.due r.book r.standing r.brought) d may r.held
 
   pub q-bare : AreBare (went q.log done).before.slots
@@ -211,14 +211,14 @@ woken-on o done s b run out d empty x is now limit watch began log =
 -- ---- THE WHOLE OF IT
 
 -- THE SPAN BEGINS: nothing is noted of it yet, and its cards may be judged
-pub wakes-evented : (o : Origin) (done : List TraceSecond) (s : TraceSecond) (supply : Supply) (v : Values) (d e : Devices) (r : Recorded o done supply v d) (may : MayPower supply v.next) (number : s.number ≡ v.next) (given : s.has_power ≡ true) (k : ℕ) →
+pub wakes-evented : (o : Origin) (done : List TraceSecond) (s : TraceSecond) (supply : UnitPower) (v : Values) (d e : Devices) (r : RecordBetweenSeconds o done supply v d) (may : MayPower supply v.next) (number : s.number ≡ v.next) (given : s.has_power ≡ true) (k : ℕ) →
     Evented o done v.log v.unfound v.next supply d → NotesNothing d e → (b : Beginning) (waits : List Visit) (run : Run) (out : Outcome) → RunWaking o done s b waits both_slots run out e →
     (b.run ≡ found_again k (progress v supply r.book)) × (b.span ≡ []) × HaveLeftMore o d e → log_of out ≡ (found_again k (progress v supply r.book)).log →
-    WakesEvented o done s b waits both_slots run out e × ComesInTurn Driver (log_of out) s.number × Followed (rule_of o) (start_at o) o.from (first_of o) done (found_again k (progress v supply r.book))
+    WakesEvented o done s b waits both_slots run out e × ComesInTurn Driver (log_of out) s.number × BookFollowsRun (rule_of o) (start_at o) o.from (first_of o) done (found_again k (progress v supply r.book))
 wakes-evented o done s supply v d e r may number given k evented quiet b waits run out waking is log =
     let q : Progress = found_again k (progress v supply r.book) in
-    let f : Followed (rule_of o) (start_at o) o.from (first_of o) done q =
-    subst (λ (x : Progress). Followed (rule_of o) (start_at o) o.from (first_of o) done x) (ap (λ (x : Beginning). x.run) waking.waking.began ∙ is.0) waking.waking.within.began.followed in (
+    let f : BookFollowsRun (rule_of o) (start_at o) o.from (first_of o) done q =
+    subst (λ (x : Progress). BookFollowsRun (rule_of o) (start_at o) o.from (first_of o) done x) (ap (λ (x : Beginning). x.run) waking.waking.began ∙ is.0) waking.waking.within.began.followed in (
       record {
         waking = waking;
         bare = subst (λ (x : Progress). AreBare (went x.log done).before.slots) (sym is.0) (q-bare o done s supply v d e r may number given k evented quiet is.2 f);
@@ -229,10 +229,10 @@ wakes-evented o done s supply v d e r may number given k evented quiet b waits r
       f,
     )
 
-module _ (o : Origin) (origin : IsOrigin o) (done : List TraceSecond) (s : TraceSecond) (supply : Supply) (v : Values) (d e : Devices) (r : Recorded o done supply v d) (may : MayPower supply v.next) (number : s.number ≡ v.next) (given : s.has_power ≡ true) (k : ℕ)
-    (evented : Evented o done v.log v.unfound v.next supply d) (quiet : NotesNothing d e) (left : HaveLeftMore o d e) (followed : Followed (rule_of o) (start_at o) o.from (first_of o) done (found_again k (progress v supply r.book)))
+module _ (o : Origin) (origin : IsOrigin o) (done : List TraceSecond) (s : TraceSecond) (supply : UnitPower) (v : Values) (d e : Devices) (r : RecordBetweenSeconds o done supply v d) (may : MayPower supply v.next) (number : s.number ≡ v.next) (given : s.has_power ≡ true) (k : ℕ)
+    (evented : Evented o done v.log v.unfound v.next supply d) (quiet : NotesNothing d e) (left : HaveLeftMore o d e) (followed : BookFollowsRun (rule_of o) (start_at o) o.from (first_of o) done (found_again k (progress v supply r.book)))
     (b : Beginning) (run_is : b.run ≡ found_again k (progress v supply r.book)) (empty : b.span ≡ []) (bare : AreBare (went b.run.log done).before.slots) (two : Run) (told : Outcome) (g : Devices) (w : RunWaking o done s b [] [] two told g) (now : EventedNow o done s b.run Waking (log_of told) g)
-    (low : ℕ) (stands : Stands low None two.keeper.cabin) (small : s.number < 2 ^ 32) where
+    (low : ℕ) (stands : CabinIsSound low None two.keeper.cabin) (small : s.number < 2 ^ 32) where
   abbrev x : RunWithin o done s (In 0) [] [] two told g
   x = within-of o done s b [] [] two told g w
 

@@ -15,21 +15,21 @@ use Rattle.minute_model.specs.Span.{travelled_of}
 use Rattle.log_model.specs.declared.lines.Verdict.{Verdict}
 use Rattle.log_model.specs.Log.{RunLog, Phase, In, cut_in, is_torn_in, found_in, is_accepting}
 use Rattle.log_model.specs.Slots.{Slots, Sitting, in_slot, other_slot}
-use Rattle.log_model.specs.Course.{Course, fresh, unmoved, with_slot, Told, Before, Moved, Visit, Went, visits, leaves, slot_told, both_told, has_power, went, second_told}
+use Rattle.log_model.specs.Course.{Course, fresh, unmoved, with_slot, ToldSecond, Before, Moved, Visit, Went, visits, leaves, slot_told, both_told, has_power, went, second_told}
 use Rattle.note_model.specs.Odometer.{SpanFrom, odometer_at}
 use Rattle.safety_model.specs.Safe.{Devices}
 use Rattle.unit_rule.specs.Odometer.{odometer_by, odometer_after}
 use Rattle.run_unit_course.specs.Lines.{cut_at}
 use Rattle.card_slots.specs.Calls.{card_in}
 use Rattle.run_promise.specs.Between.{devices}
-use Rattle.run_course.specs.Followed.{Progress, Followed, Comes, IsSupplied}
+use Rattle.run_course.specs.Followed.{Progress, BookFollowsRun, Comes, IsSupplied}
 use Rattle.run_course.specs.Seconds.{GoesOnBy}
 use Rattle.run_course.proofs.Steps.{went-same_}
 use Rattle.log_model.specs.Spans.{AreInOrder, spans_of}
 use Rattle.unit_model.specs.Image.{odometer_at as odometer_at_start}
 use Rattle.run_course.proofs.Logs.{all-before, found_log, same-found, went-found}
 use Rattle.run_course.proofs.Told.{comes-power, lost-comes}
-use Rattle.run_unit_course.specs.Followed.{Supply, MayPower, Lit, Due, Lost as IsLost}
+use Rattle.run_unit_course.specs.Followed.{UnitPower, MayPower, Lit, Due, Lost as IsLost}
 use Rattle.log_model.specs.Same.{SameAt}
 use Rattle.run_events.proofs.Later.{told-number}
 use Rattle.run_course.proofs.Reached.{TellsNothing, nothing-told}
@@ -54,7 +54,7 @@ use Rattle.run_note_record.proofs.Bases.{stored-first}
 use Rattle.run_note_record.proofs.OnCards.{places-itself}
 use Rattle.run_note_record.proofs.SoFar.{left-itself, go-on-in, cut-ends}
 use Rattle.run_note_record.proofs.RingsWaking.{behind-alike, still-failed, still-call-failed, power-begins, passed-anew, accepted-anew, cut-anew}
-use Rattle.run_record.specs.Recorded.{Values, Recorded}
+use Rattle.run_record.specs.Recorded.{Values, RecordBetweenSeconds}
 use Rattle.run_record.specs.Within.{Beginning}
 use Rattle.run_record.specs.Waking.{both_slots}
 use Rattle.run_acts.specs.declared.run.Run.{Run}
@@ -150,7 +150,7 @@ pub record IsCutAtOnce (done : List TraceSecond) (s : TraceSecond) (p : Progress
   pub goes : GoesOnBy p (with_cut p.log s []) s
   pub behind : GoesBehind p.log (with_cut p.log s []) done
 
-pub cut-at_once : (o : Origin) (done : List TraceSecond) (s : TraceSecond) (p : Progress) → Followed (rule_of o) (start_at o) o.from (first_of o) done p → Comes (went p.log done).before p.next → s.number ≡ p.next → s.has_power ≡ true → IsCutAtOnce done s p
+pub cut-at_once : (o : Origin) (done : List TraceSecond) (s : TraceSecond) (p : Progress) → BookFollowsRun (rule_of o) (start_at o) o.from (first_of o) done p → Comes (went p.log done).before p.next → s.number ≡ p.next → s.has_power ≡ true → IsCutAtOnce done s p
 cut-at_once o done s p f comes number given =
     let goes : GoesOnBy p (with_cut p.log s []) s = record { number = number; given = given; breaks = (cut_at s.number true 0 ∷ [], refl, (number, tt)); finds = ([], sym (append-nil p.log.finds), tt) } in
     record {
@@ -164,12 +164,12 @@ cut-at_once o done s p f comes number given =
     }
 
 -- ---- THE UNIT FAILED before a span began: power comes with a second, and is cut at once
-module _ (o : Origin) (done : List TraceSecond) (s : TraceSecond) (p : Progress) (f : Followed (rule_of o) (start_at o) o.from (first_of o) done p) (comes : Comes (went p.log done).before p.next) (number : s.number ≡ p.next) (given : s.has_power ≡ true)
+module _ (o : Origin) (done : List TraceSecond) (s : TraceSecond) (p : Progress) (f : BookFollowsRun (rule_of o) (start_at o) o.from (first_of o) done p) (comes : Comes (went p.log done).before p.next) (number : s.number ≡ p.next) (given : s.has_power ≡ true)
     (d : Devices) (spans : List SpanFrom) (seats : Card → Option Seating) (v : RingedBehind o done p.log s.number spans seats d) where
   abbrev cut : RunLog
   cut = with_cut p.log s []
 
-  abbrev t : Told
+  abbrev t : ToldSecond
   t = second_told p.log (went p.log done).before s
 
   at_once : IsCutAtOnce done s p
@@ -188,7 +188,7 @@ module _ (o : Origin) (done : List TraceSecond) (s : TraceSecond) (p : Progress)
       cut-ends d o done s p.log (with_cut p.log s []) [] s.actions spans base t nobody nobody told at_once.behind at_once.power refl (cut-is p.log s.number 0 at_once.none.cut) (λ c. inl refl)
 
 -- power may come with the next second
-pub comes-of : (supply : Supply) (before : Before) (next : ℕ) → MayPower supply next → IsSupplied supply before next → Comes before next
+pub comes-of : (supply : UnitPower) (before : Before) (next : ℕ) → MayPower supply next → IsSupplied supply before next → Comes before next
 comes-of (Lit span) before next may h = absurd may
 comes-of Due before next may h = h next
 comes-of IsLost before next may h = lost-comes before next h may
@@ -207,7 +207,7 @@ pub in-both : (slot : Slot) → Contains both_slots slot
 in-both Driver = Contains-append_left (Driver ∷ []) (CoDriver ∷ []) Driver (Contains-push [] Driver)
 in-both CoDriver = Contains-push (Driver ∷ []) CoDriver
 
-pub record WakesRinged (o : Origin) (done : List TraceSecond) (s : TraceSecond) (b : Beginning) (waits : List Visit) (untold : List Slot) (spans : List SpanFrom) (t : Told) (run : Run) (out : Outcome) (d : Devices) : Type 0 where
+pub record WakesRinged (o : Origin) (done : List TraceSecond) (s : TraceSecond) (b : Beginning) (waits : List Visit) (untold : List Slot) (spans : List SpanFrom) (t : ToldSecond) (run : Run) (out : Outcome) (d : Devices) : Type 0 where
   pub waking : RunWaking o done s b waits untold run out d
   pub rings : RingsWithin o done s b.run.log [] run (log_of out) spans t d
 
@@ -217,7 +217,7 @@ pub wakes-ringed : (o : Origin) (done : List TraceSecond) (s : TraceSecond) (b :
     WakesRinged o done s b waits both_slots spans (second_told (log_of out) (went (log_of out) done).before s) run out d
 wakes-ringed o done s b waits run out d waking log spans seats v bare counted =
     let x = within-of o done s b waits both_slots run out d waking in
-    let t : Told = second_told (log_of out) (went (log_of out) done).before s in
+    let t : ToldSecond = second_told (log_of out) (went (log_of out) done).before s in
     let same : (went x.within.b.run.log done).before ≡ (went (log_of out) done).before = ap (λ (y : Beginning). (went y.run.log done).before) waking.waking.began ∙ ap (λ (l : RunLog). (went l done).before) (sym log) in
     let power : has_power (went (log_of out) done).before s ≡ true = ap (λ (q : Before). has_power q s) (sym same) ∙ power-here o done s (In 0) waits None [] (values_of run out) d x.within in
     let off : (went (log_of out) done).before.running ≡ false = ap (λ (l : RunLog). (went l done).before.running) log ∙ waking.waking.starts in
@@ -236,7 +236,7 @@ wakes-ringed o done s b waits run out d waking log spans seats v bare counted =
 -- ---- THE CARD OF A SLOT IS JUDGED
 
 module _ (o : Origin) (done : List TraceSecond) (s : TraceSecond) (waits fewer : List Visit) (slot : Slot) (card : Card) (old new : Run) (before after : Outcome) (d e : Devices) (next : RunNext o done s 0 waits fewer old before d slot card)
-    (off : (went next.goes.within.b.run.log done).before.running ≡ false) (first : slot ≡ Driver → found_in (log_of before) s.number (In 0) CoDriver ≡ []) (spans : List SpanFrom) (t : Told) (rings : RingsWithin o done s next.goes.within.b.run.log [] old (log_of before) spans t d)
+    (off : (went next.goes.within.b.run.log done).before.running ≡ false) (first : slot ≡ Driver → found_in (log_of before) s.number (In 0) CoDriver ≡ []) (spans : List SpanFrom) (t : ToldSecond) (rings : RingsWithin o done s next.goes.within.b.run.log [] old (log_of before) spans t d)
     (failed : Bool) (j : IsJudgedInRings failed (since_in o next.goes.within.b.run.log done s) s 0 slot card (with_second spans old.keeper.odometer t) old new before after d e) where
   abbrev began : RunLog
   began = next.goes.within.b.run.log
@@ -314,7 +314,7 @@ module _ (o : Origin) (done : List TraceSecond) (s : TraceSecond) (waits fewer :
 
 -- by the call
 card-ringed : (o : Origin) (done : List TraceSecond) (s : TraceSecond) (b : Beginning) (waits fewer : List Visit) (slot : Slot) (card : Card) (old new : Run) (before after : Outcome) (d e : Devices) (next : RunNext o done s 0 waits fewer old before d slot card) → next.goes.within.b ≡ b → (went b.run.log done).before.running ≡ false →
-    (slot ≡ Driver → found_in (log_of before) s.number (In 0) CoDriver ≡ []) → (spans : List SpanFrom) (t : Told) → RingsWithin o done s b.run.log [] old (log_of before) spans t d → (at : Moment) → at ≡ moment_in s 0 → (failed : Bool) → RingsJudged slot card at failed old new before after d e → HaveTime e →
+    (slot ≡ Driver → found_in (log_of before) s.number (In 0) CoDriver ≡ []) → (spans : List SpanFrom) (t : ToldSecond) → RingsWithin o done s b.run.log [] old (log_of before) spans t d → (at : Moment) → at ≡ moment_in s 0 → (failed : Bool) → RingsJudged slot card at failed old new before after d e → HaveTime e →
     RingsGoOn failed o done s b [] new (log_of after) spans t e
 card-ringed o done s b waits fewer slot card old new before after d e next is off first spans t rings at at_is failed judges time =
     let here : RingsWithin o done s next.goes.within.b.run.log [] old (log_of before) spans t d = subst (λ (y : Beginning). RingsWithin o done s y.run.log [] old (log_of before) spans t d) (sym is) rings in
@@ -326,7 +326,7 @@ card-ringed o done s b waits fewer slot card old new before after d e next is of
     (slot-ringed o done s waits fewer slot card old new before after d e next off_here first spans t here failed j)
 
 -- nobody sits there
-bare-ringed : (o : Origin) (done : List TraceSecond) (s : TraceSecond) (b : Beginning) (old new : Run) (before after : Outcome) (d e : Devices) (spans : List SpanFrom) (t : Told) (failed : Bool) → failed ≡ false → new ≡ old → after ≡ before → ((P : Devices → Type 0) → P d → P e) →
+bare-ringed : (o : Origin) (done : List TraceSecond) (s : TraceSecond) (b : Beginning) (old new : Run) (before after : Outcome) (d e : Devices) (spans : List SpanFrom) (t : ToldSecond) (failed : Bool) → failed ≡ false → new ≡ old → after ≡ before → ((P : Devices → Type 0) → P d → P e) →
     RingsWithin o done s b.run.log [] old (log_of before) spans t d → RingsGoOn failed o done s b [] new (log_of after) spans t e
 bare-ringed o done s b old new before after d e spans t failed well same lines still rings =
     subst (λ (f : Bool). RingsGoOn f o done s b [] new (log_of after) spans t e) (sym well)
@@ -337,7 +337,7 @@ pub driver-first : CoDriver ≡ Driver → {T : Type 0} → T
 driver-first is {T} = absurd (cc)
 
 -- THE DRIVER SLOT'S CARD
-pub driver-ringed : (o : Origin) (done : List TraceSecond) (s : TraceSecond) (b : Beginning) (card : Option Card) (rest : List Visit) (old : Run) (before : Outcome) (d : Devices) (spans : List SpanFrom) (t : Told) → WakesRinged o done s b (waiting_in Driver card ++ rest) both_slots spans t old before d →
+pub driver-ringed : (o : Origin) (done : List TraceSecond) (s : TraceSecond) (b : Beginning) (card : Option Card) (rest : List Visit) (old : Run) (before : Outcome) (d : Devices) (spans : List SpanFrom) (t : ToldSecond) → WakesRinged o done s b (waiting_in Driver card ++ rest) both_slots spans t old before d →
     (none : found_in (log_of before) s.number (In 0) CoDriver ≡ []) → AllByRecursion (λ (x : Visit). x.phase ≡ In 0) rest → card_in old.keeper.cabin.slots.seats.driver ≡ card → IsBare old.keeper.cabin.slots.seats.driver → (at : Moment) → at ≡ moment_in s 0 → (speed : ℕ) (failed : Bool) (new : Run) (after : Outcome) →
     IsAnew card Driver at speed old new before after → (e : Devices) → (card ≡ None → (P : Devices → Type 0) → P d → P e) → HaveTime e → JudgesAnew card Driver at failed old new before after d e → RingsJudgedAnew card Driver at failed old new before after d e →
     RingsGoOn failed o done s b [] new (log_of after) spans t e
@@ -347,7 +347,7 @@ driver-ringed o done s b (Some card) rest old before d spans t w none once is ba
     card-ringed o done s b (waiting_in Driver (Some card) ++ rest) rest Driver card old new before after d e next.0 next.1 w.waking.waking.starts (λ is_driver. none) spans t w.rings at at_is failed rings time
 
 -- THE CO-DRIVER SLOT'S CARD
-pub codriver-ringed : (o : Origin) (done : List TraceSecond) (s : TraceSecond) (b : Beginning) (card : Option Card) (old : Run) (before : Outcome) (d : Devices) (spans : List SpanFrom) (t : Told) → WakesRinged o done s b (waiting_in CoDriver card) (CoDriver ∷ []) spans t old before d →
+pub codriver-ringed : (o : Origin) (done : List TraceSecond) (s : TraceSecond) (b : Beginning) (card : Option Card) (old : Run) (before : Outcome) (d : Devices) (spans : List SpanFrom) (t : ToldSecond) → WakesRinged o done s b (waiting_in CoDriver card) (CoDriver ∷ []) spans t old before d →
     card_in old.keeper.cabin.slots.seats.codriver ≡ card → IsBare old.keeper.cabin.slots.seats.codriver → (at : Moment) → at ≡ moment_in s 0 → (speed : ℕ) (failed : Bool) (new : Run) (after : Outcome) →
     IsAnew card CoDriver at speed old new before after → (e : Devices) → (card ≡ None → (P : Devices → Type 0) → P d → P e) → HaveTime e → JudgesAnew card CoDriver at failed old new before after d e → RingsJudgedAnew card CoDriver at failed old new before after d e →
     RingsGoOn failed o done s b [] new (log_of after) spans t e
@@ -359,7 +359,7 @@ codriver-ringed o done s b (Some card) old before d spans t w is bare at at_is s
 -- ---- WHAT IS STORED of odometers stands through them
 
 -- the seconds before, by the log as it was before what was kept was found
-pub spans-before : (o : Origin) (done : List TraceSecond) (supply : Supply) (v : Values) (d : Devices) → Recorded o done supply v d → (k : ℕ) (log : RunLog) → log ≡ found_log v.unfound k v.log → (spans : List SpanFrom) → map (λ (x : SpanFrom). x.span) spans ≡ spans_of (went log done).told →
+pub spans-before : (o : Origin) (done : List TraceSecond) (supply : UnitPower) (v : Values) (d : Devices) → RecordBetweenSeconds o done supply v d → (k : ℕ) (log : RunLog) → log ≡ found_log v.unfound k v.log → (spans : List SpanFrom) → map (λ (x : SpanFrom). x.span) spans ≡ spans_of (went log done).told →
     map (λ (x : SpanFrom). x.span) spans ≡ spans_of (went v.log done).told
 spans-before o done supply v d r k log is spans are =
     are ∙ ap (λ (l : RunLog). spans_of (went l done).told) is ∙ ap (λ (g : Went). spans_of g.told) (went-found v.log v.unfound k o.from done r.recorded.followed.order)
@@ -370,7 +370,7 @@ pub goes-odometer : (failed : Bool) (o : Origin) (done : List TraceSecond) (s : 
 goes-odometer false o done s at waits run out d b h well = h.goes.odometer ∙ ap (λ (x : Beginning). odometer_after (odometer_at_start o.recording.unit) x.travel.before) h.began
 goes-odometer true o done s at waits run out d b h well = absurd (cc)
 
-module _ (o : Origin) (done : List TraceSecond) (s : TraceSecond) (b : Beginning) (waits : List Visit) (untold : List Slot) (spans : List SpanFrom) (t : Told) (mid : Run) (out : Outcome) (d : Devices) (w : WakesRinged o done s b waits untold spans t mid out d)
+module _ (o : Origin) (done : List TraceSecond) (s : TraceSecond) (b : Beginning) (waits : List Visit) (untold : List Slot) (spans : List SpanFrom) (t : ToldSecond) (mid : Run) (out : Outcome) (d : Devices) (w : WakesRinged o done s b waits untold spans t mid out d)
     (log : RunLog) (began-so : b.run.log ≡ log) (stands : StandsOn o log mid.unfound spans mid.keeper.odometer) where
   stored : StoresOn o log mid.unfound mid.keeper.odometer (with_second spans mid.keeper.odometer t)
   stored = stored-first o log mid.unfound mid.keeper.odometer spans t w.rings.ringed.second.lit (w.rings.ringed.second.starts ∙ ap not w.waking.waking.starts) stands

@@ -5,14 +5,14 @@ use Rattle.trace_model.specs.Trace.{TraceSecond}
 use Rattle.minute_model.specs.Activity.{last}
 use Rattle.unit_model.specs.Image.{last_kept, odometer_at}
 use Rattle.log_model.specs.Log.{cut_in}
-use Rattle.log_model.specs.Course.{Told, Went, has_power, went, second_told}
+use Rattle.log_model.specs.Course.{ToldSecond, Went, has_power, went, second_told}
 use Rattle.history_model.specs.History.{cut_second}
 use Rattle.run_unit_course.specs.Lines.{cut_at, tells_cut}
-use Rattle.run_unit_course.specs.Followed.{Supply, Lit, Due, Lost, cuts_from}
+use Rattle.run_unit_course.specs.Followed.{UnitPower, Lit, Due, Lost, cuts_from}
 use Rattle.run_unit_course.proofs.Lines.{tells-here}
 use Rattle.note_model.specs.Odometer.{SpanFrom, MayStore}
 use Rattle.safety_model.specs.Safe.{Devices}
-use Rattle.run_course.specs.Followed.{Progress, Followed, Comes}
+use Rattle.run_course.specs.Followed.{Progress, BookFollowsRun, Comes}
 use Rattle.run_course.specs.Seconds.{GoesOnBy}
 use Rattle.run_course.proofs.Logs.{tells-none, breaks-front}
 use Rattle.run_course.proofs.Steps.{went-same_}
@@ -27,13 +27,13 @@ use Rattle.run_note_record.proofs.Bases.{with-first, stored-ends, failed-here, s
 use Rattle.run_acts.specs.RunRinged.{with_cut}
 use Rattle.run_acts.proofs.RingedSecond.{cut-is}
 
-cuts-below : (supply : Supply) (next : ℕ) → cuts_from supply next ≤ next
+cuts-below : (supply : UnitPower) (next : ℕ) → cuts_from supply next ≤ next
 cuts-below (Lit []) next = omega arith
 cuts-below (Lit (t ∷ span)) next = omega arith
 cuts-below Due next = omega arith
 cuts-below Lost next = omega arith
 
-module _ (o : Origin) (done : List TraceSecond) (s : TraceSecond) (p : Progress) (f : Followed (rule_of o) (start_at o) o.from (first_of o) done p) (comes : Comes (went p.log done).before p.next) (number : s.number ≡ p.next) (given : s.has_power ≡ true)
+module _ (o : Origin) (done : List TraceSecond) (s : TraceSecond) (p : Progress) (f : BookFollowsRun (rule_of o) (start_at o) o.from (first_of o) done p) (comes : Comes (went p.log done).before p.next) (number : s.number ≡ p.next) (given : s.has_power ≡ true)
     (spans : List SpanFrom) (e : Devices) where
   none : TellsNothing p.log s.number
   none = nothing-told (rule_of o) (start_at o) o.from (first_of o) done p f s.number (omega (arith, number))
@@ -48,7 +48,7 @@ module _ (o : Origin) (done : List TraceSecond) (s : TraceSecond) (p : Progress)
   power = ap (λ (g : Went). has_power g.before s) same ∙ comes-power (went p.log done).before s p.next comes number given
 
   -- the second as the cut leaves it
-  abbrev t : Told
+  abbrev t : ToldSecond
   t = second_told (with_cut p.log s []) (went (with_cut p.log s []) done).before s
 
   here : t.second.number ≡ s.number

@@ -15,7 +15,7 @@ use Rattle.history_model.specs.Minutes.{HistoryMinute, card_history}
 use Rattle.history_model.specs.Presence.{CardStart}
 use Rattle.history_model.specs.Book.{Book, all}
 use Rattle.history_model.proofs.Books.{history-append}
-use Rattle.run_unit_course.specs.Followed.{Supply, Lit, Due, Lost}
+use Rattle.run_unit_course.specs.Followed.{UnitPower, Lit, Due, Lost}
 use Rattle.safety_model.specs.Recording.{Recording, card_image, brought, history_of, expected_of}
 use Rattle.safety_model.specs.Safe.{Devices, card_of}
 use Rattle.run_promise.specs.Found.{found_of}
@@ -27,7 +27,7 @@ use Rattle.run_devices.specs.Strung.{HasSameHolder}
 use Rattle.run_devices.specs.Told.{sure_of}
 use Rattle.run_promise.specs.Origin.{Origin, first_of}
 use Rattle.run_promise.specs.Ends.{recording_by}
-use Rattle.run_record.specs.Recorded.{Values, progress, carried, IsHeldBy, Recorded}
+use Rattle.run_record.specs.Recorded.{Values, progress, carried, IsHeldBy, RecordBetweenSeconds}
 use Rattle.recorder_with_cards.specs.Written.{IsWritten, AreWritten}
 use Rattle.recorder_with_cards.specs.Still.{KeepTheirHolders}
 
@@ -70,7 +70,7 @@ sure-front : (b : Book) (history rest : List HistoryMinute) → history ≡ all 
 sure-front b history rest whole =
     whole ∙ append_assoc b.sure (option_to_list b.maybe) rest ∙ ap (λ (is : List HistoryMinute). is ++ (option_to_list b.maybe ++ rest)) (sym (append-nil b.sure))
 
-module _ (o : Origin) (done : List TraceSecond) (supply : Supply) (v : Values) (began now : Devices) (h : Recorded o done supply v now) (found : IsFound (recording_by o done v.log) o.found began) where
+module _ (o : Origin) (done : List TraceSecond) (supply : UnitPower) (v : Values) (began now : Devices) (h : RecordBetweenSeconds o done supply v now) (found : IsFound (recording_by o done v.log) o.found began) where
   abbrev r : Recording
   r = recording_by o done v.log
 
@@ -87,7 +87,7 @@ module _ (o : Origin) (done : List TraceSecond) (supply : Supply) (v : Values) (
           → IsWritten r c x
       dark b rest whole n held = written-held r c x (found_of o.found c).image (found_of o.found c).start (found.image c) (found.start c) (h.found.sizes c was) b rest whole n held
 
-      by : (s : Supply) → IsHeldBy o done s v (carried v h.due h.book h.standing h.brought) now → IsWritten r c x
+      by : (s : UnitPower) → IsHeldBy o done s v (carried v h.due h.book h.standing h.brought) now → IsWritten r c x
       by (Lit span) on = dark h.book front.0 front.1 _ ((on.powered.go.held c was).now x there)
       by Due off = dark (sure_of h.book) (option_to_list h.book.maybe ++ front.0) (sure-front h.book (history_of r) front.0 front.1) _ ((off.powerless.wait c was).held.now x there)
       by Lost off = dark (sure_of h.book) (option_to_list h.book.maybe ++ front.0) (sure-front h.book (history_of r) front.0 front.1) _ ((off.powerless.wait c was).held.now x there)
@@ -102,7 +102,7 @@ module _ (o : Origin) (done : List TraceSecond) (supply : Supply) (v : Values) (
       since : (card_of now c).left_since (found_of o.found c).began x
       since = subst (λ (t : ℕ). (card_of now c).left_since t x) (sym (found.clock c)) left
 
-      by : (s : Supply) → IsHeldBy o done s v (carried v h.due h.book h.standing h.brought) now → HasSameHolder (found_of o.found c).image x
+      by : (s : UnitPower) → IsHeldBy o done s v (carried v h.due h.book h.standing h.brought) now → HasSameHolder (found_of o.found c).image x
       by (Lit span) on = (on.powered.go.held c was).still x since
       by Due off = (off.powerless.wait c was).held.still x since
       by Lost off = (off.powerless.wait c was).held.still x since

@@ -6,7 +6,7 @@ use Rattle.trace_model.specs.declared.Card.TheVariants.{A, B}
 use Rattle.tach_media.specs.Medium.{State}
 use Rattle.card_layout.specs.declared.command.CardState.{CardState}
 use Rattle.minute_model.specs.Span.{Span, travelled_of}
-use Rattle.minute_rules.specs.Kept.{StandsFor}
+use Rattle.minute_rules.specs.Kept.{CountsSpan}
 use Rattle.message_model.specs.Records.{insertion_ring}
 use Rattle.card_slots.specs.declared.seats.Seat.{Seat}
 use Rattle.run_crew.specs.declared.cards.Accepted.{Accepted}
@@ -44,7 +44,7 @@ HasEntry noted a = (a.entry < insertion_ring.count) × (a.noted ≤ noted)
 
 -- an odometer value is that of now, by the minutes of a run
 abbrev pub IsOdometerNow : Run → (odometer : ℕ) → Type 0
-IsOdometerNow run odometer = (span : Span) → StandsFor run.minutes span → odometer ≡ odometer_by run.keeper.odometer (travelled_of span)
+IsOdometerNow run odometer = (span : Span) → CountsSpan run.minutes span → odometer ≡ odometer_by run.keeper.odometer (travelled_of span)
 
 -- a card enters now: it is this one, in this slot, at this moment and speed, and the odometer is that of now
 pub record IsEnteringNow (slot : Slot) (card : Card) (at : Moment) (speed : ℕ) (run : Run) (e : Entering) : Type 0 where

@@ -5,7 +5,7 @@ use Rattle.trace_model.specs.declared.Action.TheVariants.{Select, Insert, Withdr
 use Rattle.trace_model.specs.declared.Item.{Item}
 use Rattle.trace_model.specs.declared.Item.TheVariants.{Run as Driven, Off, Act}
 use Rattle.minute_model.specs.Span.{Span, picked}
-use Rattle.minute_rules.specs.Kept.{StandsFor}
+use Rattle.minute_rules.specs.Kept.{CountsSpan}
 use Rattle.log_model.specs.declared.lines.Refused.{Refused}
 use Rattle.log_model.specs.declared.lines.SlotFault.{SlotFault}
 use Rattle.log_model.specs.declared.lines.SlotFault.TheVariants.{NoPower}
@@ -43,7 +43,7 @@ refused_by true true seats speed action = refusal (logged seats) speed action
 
 -- of a selection: nothing but the minutes has changed, which have one selection more for the next second
 abbrev pub IsSelected : Action → (old new : Run) → Type 0
-IsSelected (Select slot pick) old new = (new ≡ record old { minutes = new.minutes }) × ((span : Span) → StandsFor old.minutes span → StandsFor new.minutes (picked span slot pick))
+IsSelected (Select slot pick) old new = (new ≡ record old { minutes = new.minutes }) × ((span : Span) → CountsSpan old.minutes span → CountsSpan new.minutes (picked span slot pick))
 IsSelected (Insert slot card) old new = Unit {0}
 IsSelected (Withdraw slot) old new = Unit {0}
 IsSelected (Tear slot) old new = Unit {0}

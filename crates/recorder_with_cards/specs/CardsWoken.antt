@@ -2,13 +2,13 @@
 use Rattle.std.specs.Prelude.{◌≡◌, ℕ, Bool, true, false, Result, Ok, Err, List, [], ◌∷◌, ◌++◌}
 use Rattle.trace_model.specs.Trace.{TraceSecond}
 use Rattle.log_model.specs.Log.{RunLog}
-use Rattle.run_unit_course.specs.Followed.{Supply, MayPower}
+use Rattle.run_unit_course.specs.Followed.{UnitPower, MayPower}
 use Rattle.safety_model.specs.Safe.{Devices}
 use Rattle.run_minutes.specs.Books.{HaveTime}
 use Rattle.run_opening.specs.declared.fault.RunFault.{RunFault}
 use Rattle.run_outcome.specs.declared.outcome.Outcome.{Outcome}
 use Rattle.run_promise.specs.Origin.{Origin}
-use Rattle.run_record.specs.Recorded.{Values, Recorded}
+use Rattle.run_record.specs.Recorded.{Values, RecordBetweenSeconds}
 use Rattle.run_record.specs.Powering.{read_values}
 use Rattle.run_note_record.specs.Evented.{limit_in, Evented}
 use Rattle.run_acts.specs.declared.run.Run.{Run}
@@ -29,7 +29,7 @@ CardsWoken true began o done s run log d = (run.keeper.memory.registration ≡ v
 
 -- THE UNIT WAS MENDED, and each card judged, behind seconds whose events the cards show.
 abbrev pub CardsResuming : (kept speed : ℕ) → (failed : Bool) → (old new : Run) → (before after : Outcome) → (d e : Devices) → Type 0
-CardsResuming kept speed failed old new before after d e = (o : Origin) → IsOrigin o → (done : List TraceSecond) (s : TraceSecond) (supply : Supply) (v : Values) → Recorded o done supply v d → AllStay o (marked v.marks (truths_of o v.log done)) 0 v.log (notes_in v.log done) old.keeper.memory.registration v.cabin d → MayPower supply v.next →
+CardsResuming kept speed failed old new before after d e = (o : Origin) → IsOrigin o → (done : List TraceSecond) (s : TraceSecond) (supply : UnitPower) (v : Values) → RecordBetweenSeconds o done supply v d → AllStay o (marked v.marks (truths_of o v.log done)) 0 v.log (notes_in v.log done) old.keeper.memory.registration v.cabin d → MayPower supply v.next →
     s.number ≡ v.next → s.has_power ≡ true → s.speed ≡ speed → values_of old before ≡ read_values kept v → Evented o done v.log v.unfound v.next supply d → old.keeper.memory.limit ≡ limit_in o → old.keeper.memory.registration ≡ vehicle_in o → CardsBehind o done (log_of before) d →
     HaveTime e → CardsWoken failed (log_of before) o done s new (log_of after) e
 

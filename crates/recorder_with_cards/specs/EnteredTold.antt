@@ -3,7 +3,7 @@ use Rattle.std.specs.Prelude.{ℕ, ◌^◌, ◌<◌, List, [], ◌∷◌, ◌++�
 use Rattle.trace_model.specs.declared.Card.{Card}
 use Rattle.event_model.specs.declared.kinds.TheConstants.{CARD_NOT_VALID, TIME_OVERLAP, INSERTION_WHILE_DRIVING, SESSION_NOT_CLOSED, CARD_FAULT}
 use Rattle.event_model.specs.Events.{Event, Crew, noted_with}
-pub use Rattle.run_acts.specs.NotedEvents.{IsTold, AreUnsure}
+pub use Rattle.run_acts.specs.NotedEvents.{NoteTellsEvent, AreUnsure}
 use Rattle.run_crew.specs.declared.cabin.Cabin.{Cabin}
 use Rattle.run_crew.specs.Cabin.{torn_out, crew_of}
 use Rattle.run_events.specs.Entries.{IsCrewOf}
@@ -18,7 +18,7 @@ TellEvents number [] (e ∷ events) = ⊥
 TellEvents number (Inserts insertion ∷ notes) events = TellEvents number notes events
 TellEvents number (BeginsRow card session spared ∷ notes) events = TellEvents number notes events
 TellEvents number (Tells v ∷ notes) [] = ⊥
-TellEvents number (Tells v ∷ notes) (e ∷ events) = IsTold number e v × TellEvents number notes events
+TellEvents number (Tells v ∷ notes) (e ∷ events) = NoteTellsEvent number e v × TellEvents number notes events
 
 -- that the vehicle moved, and that the session from another second was not closed: 0 is none
 abbrev pub moving_events : (speed second : ℕ) → Crew → List Event

@@ -10,7 +10,7 @@ use Rattle.run_promise.specs.Between.{devices}
 use Rattle.run_opening.specs.Opening.{IsRefused, IsAsItWas}
 use Rattle.run_outcome.specs.declared.outcome.Outcome.{Outcome}
 use Rattle.run_acts.specs.declared.run.Run.{Run}
-use Rattle.run_acts.specs.Going.{IsGoing, IsFoundLater}
+use Rattle.run_acts.specs.Going.{IsBetweenSeconds, IsFoundLater}
 
 -- the first item that waits for its second behind an item, where it was this one before: an action waits itself
 abbrev pub first_waiting : Item → (first index : ℕ) → ℕ
@@ -27,7 +27,7 @@ has_seconds (Act action) = false
 -- A RUN WENT ON by so many seconds, or a power-on has refused the unit: no failed call does.
 pub record HasGone (result : Result (Unit {0}) RunFault) (seconds : ℕ) (old new : Run) (after : Outcome) (unit : State) (chip_a chip_b : CardState) (a b : State) : Type 0 where
   pub late : IfErr result IsFoundLater
-  pub going : OnOk result (IsGoing new unit chip_a chip_b a b)
+  pub going : OnOk result (IsBetweenSeconds new unit chip_a chip_b a b)
   pub next : OnOk result (new.next ≡ old.next + seconds)
   pub unfound : OnOk result (new.unfound ≤ length after.breaks.items)
   pub is_unit : IsUnit unit

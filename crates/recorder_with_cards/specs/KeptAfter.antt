@@ -5,7 +5,7 @@ use Rattle.minute_model.specs.Activity.{last}
 use Rattle.tach_media.specs.Medium.{State}
 use Rattle.unit_model.specs.Image.{last_kept}
 use Rattle.log_model.specs.Log.{RunLog, kept_after}
-use Rattle.log_model.specs.Course.{Told}
+use Rattle.log_model.specs.Course.{ToldSecond}
 use Rattle.log_model.specs.Spans.{spans_of, first_in}
 use Rattle.history_model.specs.History.{cut_second}
 use Rattle.note_model.specs.Done.{has_failed_in}
@@ -17,12 +17,12 @@ WasKept unit k = (x : List ℕ) × unit x × (last_kept x ≡ k)
 
 -- After the cut of a second it was found what was kept, by a span behind it; or that is 0, and in the first second of each span behind it a call
 -- failed: none has loaded the unit.
-abbrev pub IsFoundAfter : (unit : List ℕ → Type 0) → RunLog → (later : List (List Told)) → (second : ℕ) → Type 0
+abbrev pub IsFoundAfter : (unit : List ℕ → Type 0) → RunLog → (later : List (List ToldSecond)) → (second : ℕ) → Type 0
 IsFoundAfter unit log later u = (WasKept unit (kept_after log u) × (0 < length later))
-    ⊎ ((kept_after log u ≡ 0) × AllByRecursion (λ (span : List Told). has_failed_in log (first_in span) ≡ true) later)
+    ⊎ ((kept_after log u ≡ 0) × AllByRecursion (λ (span : List ToldSecond). has_failed_in log (first_in span) ≡ true) later)
 
 -- so it is after each span that ended with a cut
-abbrev pub AreFoundAfter : (unit : List ℕ → Type 0) → RunLog → (spans : List (List Told)) → Type 0
+abbrev pub AreFoundAfter : (unit : List ℕ → Type 0) → RunLog → (spans : List (List ToldSecond)) → Type 0
 AreFoundAfter unit log [] = Unit {0}
 AreFoundAfter unit log (span ∷ later) = IfSome (cut_second (last span)) (IsFoundAfter unit log later) × AreFoundAfter unit log later
 

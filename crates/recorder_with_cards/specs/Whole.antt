@@ -2,7 +2,7 @@
 use Rattle.std.specs.Prelude.{◌≡◌, ◌⊎◌, ℕ, ◌+◌, ◌/◌, ◌≤◌, min, List, [], ◌∷◌, ◌++◌, Contains}
 use Rattle.minute_model.specs.declared.Rule.{Rule}
 use Rattle.minute_model.specs.declared.Minute.{Minute}
-use Rattle.log_model.specs.Course.{Told}
+use Rattle.log_model.specs.Course.{ToldSecond}
 use Rattle.log_model.specs.Spans.{spans_of}
 use Rattle.unit_model.specs.declared.layout.TheConstants.{HIGHEST_ODOMETER}
 use Rattle.history_model.specs.History.{decided_of}
@@ -14,21 +14,21 @@ use Rattle.safety_model.specs.Safe.{Devices}
 use Rattle.run_promise.specs.Whole.{IsWhole}
 
 -- an image's odometer is that of the start and the whole kilometres of each time with power, up to the last minute that it decided
-abbrev pub HasWholeOdometer : Rule → List Told → (odometer : ℕ) → List ℕ → Type 0
+abbrev pub HasWholeOdometer : Rule → List ToldSecond → (odometer : ℕ) → List ℕ → Type 0
 HasWholeOdometer rule told odometer x = odometer_at x ≡ min (odometer + kilometres_of (whole_legs rule (spans_of told))) HIGHEST_ODOMETER
 
 -- THE ODOMETER OF A DAY that a run began, which the unit did not record at the start: that at the end of the first minute of the day that a span has
 -- decided, the start's and the whole kilometres of each span before, and of that span up to there
 pub record HasDayOdometer (r : Recording) (day odometer : ℕ) : Type 0 where
   pub anew : (o : ℕ) → RecordsDay r.unit day o → ⊥
-  pub earlier : List (List Told)
-  pub span : List Told
-  pub later : List (List Told)
+  pub earlier : List (List ToldSecond)
+  pub span : List ToldSecond
+  pub later : List (List ToldSecond)
   pub are : spans_of (told_of r) ≡ earlier ++ span ∷ later
   pub minute : Minute
   pub decided : Contains (decided_of r.rule span) minute
   pub day_is : minute.minute / 1440 ≡ day
-  pub first : (s : List Told) (d : Minute) → Contains (spans_of (told_of r)) s → Contains (decided_of r.rule s) d → d.minute / 1440 ≡ day → minute.minute ≤ d.minute
+  pub first : (s : List ToldSecond) (d : Minute) → Contains (spans_of (told_of r)) s → Contains (decided_of r.rule s) d → d.minute / 1440 ≡ day → minute.minute ≤ d.minute
   pub sum_is : odometer ≡ min (odometer_at r.unit + kilometres_of (whole_legs r.rule earlier ++ minute.travelled ∷ [])) HIGHEST_ODOMETER
 
 -- Each decided minute stands in the history, the unit has all of it, a card that was accepted all of its entries; and so is the odometer, and that of

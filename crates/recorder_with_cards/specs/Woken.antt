@@ -3,17 +3,17 @@ use Rattle.std.specs.Prelude.{◌≡◌, ◌≤◌, ℕ, suc, Bool, true, false,
 use Rattle.trace_model.specs.declared.Card.{Card}
 use Rattle.trace_model.specs.Trace.{TraceSecond}
 use Rattle.log_model.specs.Log.{RunLog, In}
-use Rattle.log_model.specs.Course.{Told}
+use Rattle.log_model.specs.Course.{ToldSecond}
 use Rattle.note_model.specs.Odometer.{SpanFrom}
 use Rattle.run_unit_course.specs.Lines.{cut_at}
-use Rattle.run_unit_course.specs.Followed.{Supply, Lost, MayPower}
+use Rattle.run_unit_course.specs.Followed.{UnitPower, Lost, MayPower}
 use Rattle.safety_model.specs.Safe.{Devices}
 use Rattle.run_course.specs.Moments.{and_break}
 use Rattle.run_minutes.specs.Books.{HaveTime}
 use Rattle.run_opening.specs.declared.fault.RunFault.{RunFault}
 use Rattle.run_outcome.specs.declared.outcome.Outcome.{Outcome}
 use Rattle.run_promise.specs.Origin.{Origin}
-use Rattle.run_record.specs.Recorded.{Values, Recorded}
+use Rattle.run_record.specs.Recorded.{Values, RecordBetweenSeconds}
 use Rattle.run_record.specs.Powering.{read_values}
 use Rattle.run_note_record.specs.Evented.{limit_in, Evented}
 use Rattle.run_note_record.specs.Noting.{Acting}
@@ -32,7 +32,7 @@ use Rattle.run_acts.specs.Stays.{AllStay}
 
 -- THE UNIT WAS MENDED, in which this last-kept minute was found, and each card judged: the second goes on before its actions; or the unit failed.
 abbrev pub ResumesSo : (kept : ℕ) → (failed : Bool) → (old new : Run) → (before after : Outcome) → (d e : Devices) → Type 0
-ResumesSo kept failed old new before after d e = (o : Origin) → IsOrigin o → (done : List TraceSecond) (s : TraceSecond) (supply : Supply) (v : Values) → Recorded o done supply v d → AllStay o (marked v.marks (truths_of o v.log done)) 0 v.log (notes_in v.log done) old.keeper.memory.registration v.cabin d → MayPower supply v.next →
+ResumesSo kept failed old new before after d e = (o : Origin) → IsOrigin o → (done : List TraceSecond) (s : TraceSecond) (supply : UnitPower) (v : Values) → RecordBetweenSeconds o done supply v d → AllStay o (marked v.marks (truths_of o v.log done)) 0 v.log (notes_in v.log done) old.keeper.memory.registration v.cabin d → MayPower supply v.next →
     s.number ≡ v.next → s.has_power ≡ true → values_of old before ≡ read_values kept v → HaveTime e → GoesOnOrCut failed o done s (In 0) [] new after e
 
 -- what is noted of events with that, where the log was this as the second began: they are noted so far, with the interruption before; or the unit
@@ -43,7 +43,7 @@ EventsWoken true began o done s run out d = Evented o (done ++ s ∷ []) (and_br
 
 -- THE UNIT WAS MENDED, and each card judged, behind seconds whose events were noted.
 abbrev pub EventsResuming : (kept speed : ℕ) → (failed : Bool) → (old new : Run) → (before after : Outcome) → (d e : Devices) → Type 0
-EventsResuming kept speed failed old new before after d e = (o : Origin) → IsOrigin o → (done : List TraceSecond) (s : TraceSecond) (supply : Supply) (v : Values) → Recorded o done supply v d → AllStay o (marked v.marks (truths_of o v.log done)) 0 v.log (notes_in v.log done) old.keeper.memory.registration v.cabin d → MayPower supply v.next →
+EventsResuming kept speed failed old new before after d e = (o : Origin) → IsOrigin o → (done : List TraceSecond) (s : TraceSecond) (supply : UnitPower) (v : Values) → RecordBetweenSeconds o done supply v d → AllStay o (marked v.marks (truths_of o v.log done)) 0 v.log (notes_in v.log done) old.keeper.memory.registration v.cabin d → MayPower supply v.next →
     s.number ≡ v.next → s.has_power ≡ true → s.speed ≡ speed → values_of old before ≡ read_values kept v → Evented o done v.log v.unfound v.next supply d → old.keeper.memory.limit ≡ limit_in o → HaveTime e →
     EventsWoken failed (log_of before) o done s new after e
 
@@ -71,12 +71,12 @@ EventsWaking result speed old new before after d e = (o : Origin) (done : List T
 -- of a second that began by this log: they go on, by these spans and the one that begins; or the unit has failed before any action, and they are as
 -- the cut leaves them that is told next
 abbrev pub RingsWoken : (failed : Bool) → (began : RunLog) → Origin → List TraceSecond → TraceSecond → List SpanFrom → Run → RunLog → Devices → Type 0
-RingsWoken false began o done s spans run log d = (t : Told) × RingsWithin o done s began [] run log spans t d × StoresOn o began run.unfound run.keeper.odometer (with_second spans run.keeper.odometer t)
+RingsWoken false began o done s spans run log d = (t : ToldSecond) × RingsWithin o done s began [] run log spans t d × StoresOn o began run.unfound run.keeper.odometer (with_second spans run.keeper.odometer t)
 RingsWoken true began o done s spans run log d = (now : List SpanFrom) × (run.noted ≤ length log.finds) × RingedBehind o (done ++ s ∷ []) (with_cut log s []) (suc s.number) now nobody d × StoresOff o (with_cut log s []) run.unfound now d
 
 -- THE UNIT WAS MENDED, and each card judged, behind seconds whose rings show what they noted.
 abbrev pub RingsResuming : (kept : ℕ) → (failed : Bool) → (old new : Run) → (before after : Outcome) → (d e : Devices) → Type 0
-RingsResuming kept failed old new before after d e = (o : Origin) → IsOrigin o → (done : List TraceSecond) (s : TraceSecond) (supply : Supply) (v : Values) → Recorded o done supply v d → AllStay o (marked v.marks (truths_of o v.log done)) 0 v.log (notes_in v.log done) old.keeper.memory.registration v.cabin d → MayPower supply v.next →
+RingsResuming kept failed old new before after d e = (o : Origin) → IsOrigin o → (done : List TraceSecond) (s : TraceSecond) (supply : UnitPower) (v : Values) → RecordBetweenSeconds o done supply v d → AllStay o (marked v.marks (truths_of o v.log done)) 0 v.log (notes_in v.log done) old.keeper.memory.registration v.cabin d → MayPower supply v.next →
     s.number ≡ v.next → s.has_power ≡ true → values_of old before ≡ read_values kept v → (spans : List SpanFrom) (seats : Card → Option Seating) → RingedBehind o done (log_of before) s.number spans seats d → old.noted ≤ length (log_of before).finds → StoresOff o v.log v.unfound spans d → HaveTime e →
     RingsWoken failed (log_of before) o done s spans new (log_of after) e
 

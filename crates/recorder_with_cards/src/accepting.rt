@@ -6,7 +6,7 @@ ghost use Rattle.card_slots.specs.Calls.{seat_in, card_in};
 ghost use Rattle.run_acts.specs.declared.run.Power.TheVariants.{Lit};
 ghost use Rattle.run_speeds.specs.Speeds.{LeavesSpeeds};
 ghost use Rattle.run_minutes.specs.Later.{IsLater, AreLater, AreCalm, IsCalm};
-ghost use Rattle.run_acts.specs.Going.{first_second, end_of_seconds, IsHeld, IsLit};
+ghost use Rattle.run_acts.specs.Going.{first_second, end_of_seconds, CanBeCut, RunHasPowerAllSeated};
 ghost use Rattle.run_acts.specs.Room.{falls_of, bare_count, Takes};
 ghost use Rattle.recorder_with_cards.specs.Accepting.{chip_a_of, chip_b_of, a_of, b_of, IsAccepted, IsOdometerNow, IsEnteringNow, IsAnew, IsBare};
 ghost use Rattle.recorder_with_cards.specs.Judged.{JudgesSo, JudgesAnew, EventsJudged, EventsAnew};
@@ -39,8 +39,8 @@ pub(crate) fn accept_here<M: Medium, C: Chip, D: Chip>(
     requires lit { run.old.power ≡ Lit }
     requires low { first_second ≤ run.old.next }
     requires small { run.old.next ≤ end_of_seconds }
-    requires held { IsHeld (run.old.next / 60) run.old (M.state unit.old) (chip_a_of entering.which (C.card card.old) (D.card others.now)) (chip_b_of entering.which (C.card card.old) (D.card others.now)) (a_of entering.which (C.state card.old) (D.state others.now)) (b_of entering.which (C.state card.old) (D.state others.now)) }
-    requires going { IsLit (run.old.next / 60) run.old (M.state unit.old) (chip_a_of entering.which (C.card card.old) (D.card others.now)) (chip_b_of entering.which (C.card card.old) (D.card others.now)) (a_of entering.which (C.state card.old) (D.state others.now)) (b_of entering.which (C.state card.old) (D.state others.now)) }
+    requires held { CanBeCut (run.old.next / 60) run.old (M.state unit.old) (chip_a_of entering.which (C.card card.old) (D.card others.now)) (chip_b_of entering.which (C.card card.old) (D.card others.now)) (a_of entering.which (C.state card.old) (D.state others.now)) (b_of entering.which (C.state card.old) (D.state others.now)) }
+    requires going { RunHasPowerAllSeated (run.old.next / 60) run.old (M.state unit.old) (chip_a_of entering.which (C.card card.old) (D.card others.now)) (chip_b_of entering.which (C.card card.old) (D.card others.now)) (a_of entering.which (C.state card.old) (D.state others.now)) (b_of entering.which (C.state card.old) (D.state others.now)) }
     requires none { run.old.minutes.owing ≡ 0 }
     requires at { entering.at.second ≡ run.old.next }
     requires fits { entering.odometer.0 < 2 ^ 24 }
@@ -49,8 +49,8 @@ pub(crate) fn accept_here<M: Medium, C: Chip, D: Chip>(
     requires finds { length outcome.old.finds.items < outcome.old.finds.room }
     ensures accepted { IsAccepted entering run.old run.new outcome.old outcome.new }
     ensures beside { seat_in run.new.keeper.cabin.slots.seats (other_slot entering.slot) ≡ seat_in run.old.keeper.cabin.slots.seats (other_slot entering.slot) }
-    ensures held { IsHeld (run.new.next / 60) run.new (M.state unit.new) (chip_a_of entering.which (C.card card.new) (D.card others.now)) (chip_b_of entering.which (C.card card.new) (D.card others.now)) (a_of entering.which (C.state card.new) (D.state others.now)) (b_of entering.which (C.state card.new) (D.state others.now)) }
-    ensures going { OnOk result (IsLit (run.new.next / 60) run.new (M.state unit.new) (chip_a_of entering.which (C.card card.new) (D.card others.now)) (chip_b_of entering.which (C.card card.new) (D.card others.now)) (a_of entering.which (C.state card.new) (D.state others.now)) (b_of entering.which (C.state card.new) (D.state others.now))) }
+    ensures held { CanBeCut (run.new.next / 60) run.new (M.state unit.new) (chip_a_of entering.which (C.card card.new) (D.card others.now)) (chip_b_of entering.which (C.card card.new) (D.card others.now)) (a_of entering.which (C.state card.new) (D.state others.now)) (b_of entering.which (C.state card.new) (D.state others.now)) }
+    ensures going { OnOk result (RunHasPowerAllSeated (run.new.next / 60) run.new (M.state unit.new) (chip_a_of entering.which (C.card card.new) (D.card others.now)) (chip_b_of entering.which (C.card card.new) (D.card others.now)) (a_of entering.which (C.state card.new) (D.state others.now)) (b_of entering.which (C.state card.new) (D.state others.now))) }
     ensures takes { Takes 1 0 0 run.old run.new outcome.old outcome.new }
     ensures only { run.new ≡ record run.old { keeper = run.new.keeper; noted = run.new.noted } }
     ensures refused { outcome.new.refused ≡ outcome.old.refused }
@@ -99,8 +99,8 @@ pub(crate) fn accept_in<M: Medium, C: Chip, D: Chip>(
     requires lit { run.old.power ≡ Lit }
     requires low { first_second ≤ run.old.next }
     requires small { run.old.next ≤ end_of_seconds }
-    requires held { IsHeld (run.old.next / 60) run.old (M.state unit.old) (C.card card_a.old) (D.card card_b.old) (C.state card_a.old) (D.state card_b.old) }
-    requires going { IsLit (run.old.next / 60) run.old (M.state unit.old) (C.card card_a.old) (D.card card_b.old) (C.state card_a.old) (D.state card_b.old) }
+    requires held { CanBeCut (run.old.next / 60) run.old (M.state unit.old) (C.card card_a.old) (D.card card_b.old) (C.state card_a.old) (D.state card_b.old) }
+    requires going { RunHasPowerAllSeated (run.old.next / 60) run.old (M.state unit.old) (C.card card_a.old) (D.card card_b.old) (C.state card_a.old) (D.state card_b.old) }
     requires none { run.old.minutes.owing ≡ 0 }
     requires at { at.second ≡ run.old.next }
     requires seat { seat_in run.old.keeper.cabin.slots.seats slot ≡ Some (record { card = card; newest = None }) }
@@ -108,8 +108,8 @@ pub(crate) fn accept_in<M: Medium, C: Chip, D: Chip>(
     requires finds { length outcome.old.finds.items < outcome.old.finds.room }
     ensures accepted { (e : Enters) × IsEnteringNow slot card at speed run.old e × IsAccepted e run.old run.new outcome.old outcome.new }
     ensures beside { seat_in run.new.keeper.cabin.slots.seats (other_slot slot) ≡ seat_in run.old.keeper.cabin.slots.seats (other_slot slot) }
-    ensures held { IsHeld (run.new.next / 60) run.new (M.state unit.new) (C.card card_a.new) (D.card card_b.new) (C.state card_a.new) (D.state card_b.new) }
-    ensures going { OnOk result (IsLit (run.new.next / 60) run.new (M.state unit.new) (C.card card_a.new) (D.card card_b.new) (C.state card_a.new) (D.state card_b.new)) }
+    ensures held { CanBeCut (run.new.next / 60) run.new (M.state unit.new) (C.card card_a.new) (D.card card_b.new) (C.state card_a.new) (D.state card_b.new) }
+    ensures going { OnOk result (RunHasPowerAllSeated (run.new.next / 60) run.new (M.state unit.new) (C.card card_a.new) (D.card card_b.new) (C.state card_a.new) (D.state card_b.new)) }
     ensures only { run.new ≡ record run.old { keeper = run.new.keeper; noted = run.new.noted } }
     ensures refused { outcome.new.refused ≡ outcome.old.refused }
     ensures takes { Takes 1 0 0 run.old run.new outcome.old outcome.new }
@@ -169,8 +169,8 @@ pub(crate) fn accept_anew<M: Medium, C: Chip, D: Chip>(
     requires lit { run.old.power ≡ Lit }
     requires low { first_second ≤ run.old.next }
     requires small { run.old.next ≤ end_of_seconds }
-    requires held { IsHeld (run.old.next / 60) run.old (M.state unit.old) (C.card card_a.old) (D.card card_b.old) (C.state card_a.old) (D.state card_b.old) }
-    requires going { IsLit (run.old.next / 60) run.old (M.state unit.old) (C.card card_a.old) (D.card card_b.old) (C.state card_a.old) (D.state card_b.old) }
+    requires held { CanBeCut (run.old.next / 60) run.old (M.state unit.old) (C.card card_a.old) (D.card card_b.old) (C.state card_a.old) (D.state card_b.old) }
+    requires going { RunHasPowerAllSeated (run.old.next / 60) run.old (M.state unit.old) (C.card card_a.old) (D.card card_b.old) (C.state card_a.old) (D.state card_b.old) }
     requires none { run.old.minutes.owing ≡ 0 }
     requires at { at.second ≡ run.old.next }
     requires bare { IsBare (seat_in run.old.keeper.cabin.slots.seats slot) }
@@ -178,8 +178,8 @@ pub(crate) fn accept_anew<M: Medium, C: Chip, D: Chip>(
     requires finds { length outcome.old.finds.items + bare_count (seat_in run.old.keeper.cabin.slots.seats slot) ≤ outcome.old.finds.room }
     ensures accepted { IsAnew (card_in (seat_in run.old.keeper.cabin.slots.seats slot)) slot at speed run.old run.new outcome.old outcome.new }
     ensures beside { seat_in run.new.keeper.cabin.slots.seats (other_slot slot) ≡ seat_in run.old.keeper.cabin.slots.seats (other_slot slot) }
-    ensures held { IsHeld (run.new.next / 60) run.new (M.state unit.new) (C.card card_a.new) (D.card card_b.new) (C.state card_a.new) (D.state card_b.new) }
-    ensures going { OnOk result (IsLit (run.new.next / 60) run.new (M.state unit.new) (C.card card_a.new) (D.card card_b.new) (C.state card_a.new) (D.state card_b.new)) }
+    ensures held { CanBeCut (run.new.next / 60) run.new (M.state unit.new) (C.card card_a.new) (D.card card_b.new) (C.state card_a.new) (D.state card_b.new) }
+    ensures going { OnOk result (RunHasPowerAllSeated (run.new.next / 60) run.new (M.state unit.new) (C.card card_a.new) (D.card card_b.new) (C.state card_a.new) (D.state card_b.new)) }
     ensures only { run.new ≡ record run.old { keeper = run.new.keeper; noted = run.new.noted } }
     ensures refused { outcome.new.refused ≡ outcome.old.refused }
     ensures takes { Takes (bare_count (seat_in run.old.keeper.cabin.slots.seats slot)) 0 0 run.old run.new outcome.old outcome.new }

@@ -11,7 +11,7 @@ ghost use Rattle.run_outcome.specs.Broken.{BreaksDown};
 ghost use Rattle.run_promise.specs.Between.{devices};
 ghost use Rattle.run_acts.specs.declared.run.Power.TheVariants.{Lit};
 ghost use Rattle.run_acts.specs.Power.{is_lit};
-ghost use Rattle.run_acts.specs.Going.{largest_number, IsHeld, IsLit, IsWithin};
+ghost use Rattle.run_acts.specs.Going.{largest_number, CanBeCut, RunHasPowerAllSeated, IsInsideSecond};
 ghost use Rattle.run_acts.specs.Room.{HasRoomWithin, Takes};
 ghost use Rattle.run_acts.specs.Recording.{RecordsAction};
 ghost use Rattle.run_acts.specs.Evented.{EventsAction};
@@ -54,7 +54,7 @@ pub(crate) fn act_all<M: Medium, C: Chip, D: Chip>(
 )
     requires first { from ≤ to }
     requires last { to ≤ length items.now }
-    requires going { IsWithin run.old (M.state unit.old) (C.card card_a.old) (D.card card_b.old) (C.state card_a.old) (D.state card_b.old) }
+    requires going { IsInsideSecond run.old (M.state unit.old) (C.card card_a.old) (D.card card_b.old) (C.state card_a.old) (D.state card_b.old) }
     requires dark { has_power ≡ false → is_lit run.old.power ≡ false }
     requires room { HasRoomWithin run.old outcome.old 1 0 (insertions_in from to items.now) (to - from) }
     ensures acted { AreActed has_power speed 0 (between from to items.now) run.old run.new outcome.old outcome.new }
@@ -64,7 +64,7 @@ pub(crate) fn act_all<M: Medium, C: Chip, D: Chip>(
     ensures time { HaveTime (devices (M.state unit.new) (C.state card_a.new) (D.state card_b.new)) → HaveTime (devices (M.state unit.old) (C.state card_a.old) (D.state card_b.old)) }
     ensures later { AreLater (devices (M.state unit.old) (C.state card_a.old) (D.state card_b.old)) (devices (M.state unit.new) (C.state card_a.new) (D.state card_b.new)) }
     ensures calm { AreCalm outcome.old.breaks.items outcome.new.breaks.items (devices (M.state unit.old) (C.state card_a.old) (D.state card_b.old)) (devices (M.state unit.new) (C.state card_a.new) (D.state card_b.new)) }
-    ensures going { IsWithin run.new (M.state unit.new) (C.card card_a.new) (D.card card_b.new) (C.state card_a.new) (D.state card_b.new) }
+    ensures going { IsInsideSecond run.new (M.state unit.new) (C.card card_a.new) (D.card card_b.new) (C.state card_a.new) (D.state card_b.new) }
     ensures next { run.new.next ≡ run.old.next }
     ensures unfound { run.new.unfound ≡ run.old.unfound }
     ensures room { (left offs insertions actions : ℕ) → HasRoomWithin run.old outcome.old (1 + left) offs (insertions_in from to items.now + insertions) (to - from + actions) → HasRoomWithin run.new outcome.new (1 + left) offs insertions actions }
@@ -98,7 +98,7 @@ fn act_item<M: Medium, C: Chip, D: Chip>(
     card_b: &mut D,
     outcome: &mut Outcome,
 )
-    requires going { IsWithin run.old (M.state unit.old) (C.card card_a.old) (D.card card_b.old) (C.state card_a.old) (D.state card_b.old) }
+    requires going { IsInsideSecond run.old (M.state unit.old) (C.card card_a.old) (D.card card_b.old) (C.state card_a.old) (D.state card_b.old) }
     requires dark { has_power ≡ false → is_lit run.old.power ≡ false }
     requires room { HasRoomWithin run.old outcome.old 1 0 (insertion_count item.now) 1 }
     ensures acted { IsItemActed item.now has_power (is_lit run.old.power) begun speed run.old run.new outcome.old outcome.new }
@@ -108,7 +108,7 @@ fn act_item<M: Medium, C: Chip, D: Chip>(
     ensures time { HaveTime (devices (M.state unit.new) (C.state card_a.new) (D.state card_b.new)) → HaveTime (devices (M.state unit.old) (C.state card_a.old) (D.state card_b.old)) }
     ensures later { AreLater (devices (M.state unit.old) (C.state card_a.old) (D.state card_b.old)) (devices (M.state unit.new) (C.state card_a.new) (D.state card_b.new)) }
     ensures calm { AreCalm outcome.old.breaks.items outcome.new.breaks.items (devices (M.state unit.old) (C.state card_a.old) (D.state card_b.old)) (devices (M.state unit.new) (C.state card_a.new) (D.state card_b.new)) }
-    ensures going { IsWithin run.new (M.state unit.new) (C.card card_a.new) (D.card card_b.new) (C.state card_a.new) (D.state card_b.new) }
+    ensures going { IsInsideSecond run.new (M.state unit.new) (C.card card_a.new) (D.card card_b.new) (C.state card_a.new) (D.state card_b.new) }
     ensures dark { has_power ≡ false → is_lit run.new.power ≡ false }
     ensures next { run.new.next ≡ run.old.next }
     ensures unfound { run.new.unfound ≡ run.old.unfound }
@@ -137,7 +137,7 @@ fn act<M: Medium, C: Chip, D: Chip>(
     card_b: &mut D,
     outcome: &mut Outcome,
 )
-    requires going { IsWithin run.old (M.state unit.old) (C.card card_a.old) (D.card card_b.old) (C.state card_a.old) (D.state card_b.old) }
+    requires going { IsInsideSecond run.old (M.state unit.old) (C.card card_a.old) (D.card card_b.old) (C.state card_a.old) (D.state card_b.old) }
     requires dark { has_power ≡ false → is_lit run.old.power ≡ false }
     requires room { HasRoomWithin run.old outcome.old 1 0 (put_count action) 1 }
     ensures acted { IsActed has_power (is_lit run.old.power) action begun speed run.old run.new outcome.old outcome.new }
@@ -151,7 +151,7 @@ fn act<M: Medium, C: Chip, D: Chip>(
     ensures none { (refused_by has_power (is_lit run.old.power) run.old.keeper.cabin.slots.seats speed action ≡ None → ⊥) → run.new ≡ run.old }
     ensures lost { has_power ≡ true → is_lit run.old.power ≡ false → (run.new ≡ run.old) × (outcome.new ≡ outcome.old) }
     ensures selected { is_lit run.old.power ≡ true → IsSelected action run.old run.new }
-    ensures going { IsWithin run.new (M.state unit.new) (C.card card_a.new) (D.card card_b.new) (C.state card_a.new) (D.state card_b.new) }
+    ensures going { IsInsideSecond run.new (M.state unit.new) (C.card card_a.new) (D.card card_b.new) (C.state card_a.new) (D.state card_b.new) }
     ensures dark { is_lit run.old.power ≡ false → is_lit run.new.power ≡ false }
     ensures next { run.new.next ≡ run.old.next }
     ensures unfound { run.new.unfound ≡ run.old.unfound }
@@ -181,7 +181,7 @@ fn act_lit<M: Medium, C: Chip, D: Chip>(
     outcome: &mut Outcome,
 )
     requires lit { run.old.power ≡ Lit }
-    requires going { IsWithin run.old (M.state unit.old) (C.card card_a.old) (D.card card_b.old) (C.state card_a.old) (D.state card_b.old) }
+    requires going { IsInsideSecond run.old (M.state unit.old) (C.card card_a.old) (D.card card_b.old) (C.state card_a.old) (D.state card_b.old) }
     requires room { HasRoomWithin run.old outcome.old 1 0 (put_count action) 1 }
     ensures acted { IsActedBy (refusal (logged run.old.keeper.cabin.slots.seats) speed action) action begun speed run.old run.new outcome.old outcome.new }
     ensures ringed { RingsActions (action ∷ []) begun speed run.old run.new outcome.old outcome.new (devices (M.state unit.old) (C.state card_a.old) (D.state card_b.old)) (devices (M.state unit.new) (C.state card_a.new) (D.state card_b.new)) }
@@ -193,7 +193,7 @@ fn act_lit<M: Medium, C: Chip, D: Chip>(
     ensures refused { outcome.new.refused ≡ with_lines (refusal_lines (refusal (logged run.old.keeper.cabin.slots.seats) speed action) run.old.next begun) outcome.old.refused }
     ensures none { (refusal (logged run.old.keeper.cabin.slots.seats) speed action ≡ None → ⊥) → run.new ≡ run.old }
     ensures selected { IsSelected action run.old run.new }
-    ensures going { IsWithin run.new (M.state unit.new) (C.card card_a.new) (D.card card_b.new) (C.state card_a.new) (D.state card_b.new) }
+    ensures going { IsInsideSecond run.new (M.state unit.new) (C.card card_a.new) (D.card card_b.new) (C.state card_a.new) (D.state card_b.new) }
     ensures next { run.new.next ≡ run.old.next }
     ensures unfound { run.new.unfound ≡ run.old.unfound }
     ensures room { (left offs insertions actions : ℕ) → HasRoomWithin run.old outcome.old (1 + left) offs (put_count action + insertions) (1 + actions) → HasRoomWithin run.new outcome.new (1 + left) offs insertions actions }
@@ -235,7 +235,7 @@ fn carry_out<M: Medium, C: Chip, D: Chip>(
     outcome: &mut Outcome,
 ) -> Result<(), Failed>
     requires lit { run.old.power ≡ Lit }
-    requires going { IsWithin run.old (M.state unit.old) (C.card card_a.old) (D.card card_b.old) (C.state card_a.old) (D.state card_b.old) }
+    requires going { IsInsideSecond run.old (M.state unit.old) (C.card card_a.old) (D.card card_b.old) (C.state card_a.old) (D.state card_b.old) }
     requires allowed { refusal (logged run.old.keeper.cabin.slots.seats) speed action ≡ None }
     requires room { HasRoomWithin run.old outcome.old 1 0 (put_count action) 0 }
     ensures done { IsDone action (moment_of begun run.old) speed (is_err result) run.old run.new outcome.old outcome.new }
@@ -252,8 +252,8 @@ fn carry_out<M: Medium, C: Chip, D: Chip>(
     ensures selected { IsSelected action run.old run.new }
     ensures fine { IsFine action (is_err result) }
     ensures stays { StaysIn run.old run.new }
-    ensures held { IsHeld (run.new.next / 60) run.new (M.state unit.new) (C.card card_a.new) (D.card card_b.new) (C.state card_a.new) (D.state card_b.new) }
-    ensures going { OnOk result (IsLit (run.new.next / 60) run.new (M.state unit.new) (C.card card_a.new) (D.card card_b.new) (C.state card_a.new) (D.state card_b.new)) }
+    ensures held { CanBeCut (run.new.next / 60) run.new (M.state unit.new) (C.card card_a.new) (D.card card_b.new) (C.state card_a.new) (D.state card_b.new) }
+    ensures going { OnOk result (RunHasPowerAllSeated (run.new.next / 60) run.new (M.state unit.new) (C.card card_a.new) (D.card card_b.new) (C.state card_a.new) (D.state card_b.new)) }
     ensures takes { Takes (put_count action) (put_count action) 0 run.old run.new outcome.old outcome.new }
     ensures refused { outcome.new.refused ≡ outcome.old.refused }
     ensures breaks { length outcome.old.breaks.items ≤ length outcome.new.breaks.items }

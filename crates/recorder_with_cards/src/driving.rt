@@ -4,7 +4,7 @@ ghost use Rattle.run_promise.specs.Between.{devices};
 ghost use Rattle.run_minutes.specs.Books.{HaveTime};
 ghost use Rattle.run_minutes.specs.Later.{AreAfter, AreCalm};
 ghost use Rattle.run_outcome.specs.Broken.{BreaksDown};
-ghost use Rattle.run_acts.specs.Going.{largest_number, end_of_seconds, IsGoing};
+ghost use Rattle.run_acts.specs.Going.{largest_number, end_of_seconds, IsBetweenSeconds};
 ghost use Rattle.run_acts.specs.Room.{HasRoom};
 ghost use Rattle.recorder_with_cards.specs.Items.{between, insertions_in};
 ghost use Rattle.recorder_with_cards.specs.Recorded.{actions_in, RingsSeconds, RingsMore};
@@ -32,7 +32,7 @@ pub(crate) fn drive<M: Medium, C: Chip, D: Chip>(
     card_b: &mut D,
     outcome: &mut Outcome,
 ) -> Result<(), RunFault>
-    requires going { IsGoing run.old (M.state unit.old) (C.card card_a.old) (D.card card_b.old) (C.state card_a.old) (D.state card_b.old) }
+    requires going { IsBetweenSeconds run.old (M.state unit.old) (C.card card_a.old) (D.card card_b.old) (C.state card_a.old) (D.state card_b.old) }
     requires some { 0 < seconds }
     requires small { run.old.next + seconds ≤ end_of_seconds }
     requires first { from ≤ to }
@@ -67,7 +67,7 @@ fn drive_on<M: Medium, C: Chip, D: Chip>(
     card_b: &mut D,
     outcome: &mut Outcome,
 ) -> Result<(), RunFault>
-    requires going { IsGoing run.old (M.state unit.old) (C.card card_a.old) (D.card card_b.old) (C.state card_a.old) (D.state card_b.old) }
+    requires going { IsBetweenSeconds run.old (M.state unit.old) (C.card card_a.old) (D.card card_b.old) (C.state card_a.old) (D.state card_b.old) }
     requires small { run.old.next + seconds ≤ end_of_seconds }
     requires room { HasRoom run.old outcome.old seconds 0 0 0 }
     requires unfound { run.old.unfound ≤ length outcome.old.breaks.items }
@@ -99,7 +99,7 @@ fn step<M: Medium, C: Chip, D: Chip>(
     card_b: &mut D,
     outcome: &mut Outcome,
 ) -> Result<(), RunFault>
-    requires going { IsGoing run.old (M.state unit.old) (C.card card_a.old) (D.card card_b.old) (C.state card_a.old) (D.state card_b.old) }
+    requires going { IsBetweenSeconds run.old (M.state unit.old) (C.card card_a.old) (D.card card_b.old) (C.state card_a.old) (D.state card_b.old) }
     requires some { 0 < n }
     requires minute { run.old.next % 60 + n ≤ 60 }
     requires small { run.old.next + n ≤ end_of_seconds }

@@ -5,7 +5,7 @@ ghost use Rattle.log_model.specs.Slots.{other_slot};
 ghost use Rattle.card_slots.specs.Calls.{seat_in, is_card};
 ghost use Rattle.run_acts.specs.declared.run.Power.TheVariants.{Lit};
 ghost use Rattle.run_minutes.specs.Later.{AreLater, AreCalm};
-ghost use Rattle.run_acts.specs.Going.{first_second, end_of_seconds, IsHeld, IsLit};
+ghost use Rattle.run_acts.specs.Going.{first_second, end_of_seconds, CanBeCut, RunHasPowerAllSeated};
 ghost use Rattle.run_acts.specs.Room.{falls_of, Takes};
 ghost use Rattle.recorder_with_cards.specs.Accepting.{IsInserted};
 ghost use Rattle.recorder_with_cards.specs.Noting.{NotesInserting};
@@ -45,8 +45,8 @@ pub(crate) fn insert<M: Medium, C: Chip, D: Chip>(
     requires lit { run.old.power ≡ Lit }
     requires low { first_second ≤ run.old.next }
     requires small { run.old.next ≤ end_of_seconds }
-    requires held { IsHeld (run.old.next / 60) run.old (M.state unit.old) (C.card card_a.old) (D.card card_b.old) (C.state card_a.old) (D.state card_b.old) }
-    requires going { IsLit (run.old.next / 60) run.old (M.state unit.old) (C.card card_a.old) (D.card card_b.old) (C.state card_a.old) (D.state card_b.old) }
+    requires held { CanBeCut (run.old.next / 60) run.old (M.state unit.old) (C.card card_a.old) (D.card card_b.old) (C.state card_a.old) (D.state card_b.old) }
+    requires going { RunHasPowerAllSeated (run.old.next / 60) run.old (M.state unit.old) (C.card card_a.old) (D.card card_b.old) (C.state card_a.old) (D.state card_b.old) }
     requires at { at.second ≡ run.old.next }
     requires empty { seat_in run.old.keeper.cabin.slots.seats slot ≡ None }
     requires elsewhere { is_card (seat_in run.old.keeper.cabin.slots.seats (other_slot slot)) card ≡ false }
@@ -54,8 +54,8 @@ pub(crate) fn insert<M: Medium, C: Chip, D: Chip>(
     requires breaks { length outcome.old.breaks.items + falls_of run.old.keeper.cabin + 1 ≤ outcome.old.breaks.room }
     requires finds { length outcome.old.finds.items < outcome.old.finds.room }
     ensures inserted { IsInserted slot card at speed (is_err result) run.old run.new outcome.old outcome.new }
-    ensures held { IsHeld (run.new.next / 60) run.new (M.state unit.new) (C.card card_a.new) (D.card card_b.new) (C.state card_a.new) (D.state card_b.new) }
-    ensures going { OnOk result (IsLit (run.new.next / 60) run.new (M.state unit.new) (C.card card_a.new) (D.card card_b.new) (C.state card_a.new) (D.state card_b.new)) }
+    ensures held { CanBeCut (run.new.next / 60) run.new (M.state unit.new) (C.card card_a.new) (D.card card_b.new) (C.state card_a.new) (D.state card_b.new) }
+    ensures going { OnOk result (RunHasPowerAllSeated (run.new.next / 60) run.new (M.state unit.new) (C.card card_a.new) (D.card card_b.new) (C.state card_a.new) (D.state card_b.new)) }
     ensures only { run.new ≡ record run.old { minutes = run.new.minutes; keeper = run.new.keeper; noted = run.new.noted } }
     ensures refused { outcome.new.refused ≡ outcome.old.refused }
     ensures takes { Takes 1 1 0 run.old run.new outcome.old outcome.new }

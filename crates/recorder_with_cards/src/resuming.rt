@@ -8,7 +8,7 @@ ghost use Rattle.run_acts.specs.declared.run.Power.TheVariants.{Lit};
 ghost use Rattle.run_minutes.specs.Later.{AreLater, AreCalm};
 ghost use Rattle.run_outcome.specs.Broken.{failed_cuts, BreaksDown};
 ghost use Rattle.run_acts.specs.Power.{is_lit, has_power, minute_over};
-ghost use Rattle.run_acts.specs.Going.{IsHeld, IsLit, IsGoing, IsWithin, IsFoundLater};
+ghost use Rattle.run_acts.specs.Going.{CanBeCut, RunHasPowerAllSeated, IsBetweenSeconds, IsInsideSecond, IsFoundLater};
 ghost use Rattle.run_acts.specs.Room.{HasRoom, HasRoomWithin, falls_of, bare_seats};
 ghost use Rattle.recorder_with_cards.specs.Waking.{IsAwake, TakesUp, TakesAwake};
 ghost use Rattle.recorder_with_cards.specs.Woken.{ResumesSo, WakesSo, EventsResuming, EventsWaking, RingsResuming, RingsWaking};
@@ -43,14 +43,14 @@ pub(crate) fn begin_second<M: Medium, C: Chip, D: Chip>(
     card_b: &mut D,
     outcome: &mut Outcome,
 ) -> Result<bool, RunFault>
-    requires going { IsGoing run.old (M.state unit.old) (C.card card_a.old) (D.card card_b.old) (C.state card_a.old) (D.state card_b.old) }
+    requires going { IsBetweenSeconds run.old (M.state unit.old) (C.card card_a.old) (D.card card_b.old) (C.state card_a.old) (D.state card_b.old) }
     requires room { HasRoom run.old outcome.old 1 0 0 0 }
     requires unfound { run.old.unfound ≤ length outcome.old.breaks.items }
     ensures late { IfErr result IsFoundLater }
     ensures power { IfOk result (λ powered. powered ≡ has_power run.old.power run.old.next) }
     ensures dark { IfOk result (λ powered. powered ≡ false → (run.new ≡ run.old) × (outcome.new ≡ outcome.old) × (unit.new ≡ unit.old) × (card_a.new ≡ card_a.old) × (card_b.new ≡ card_b.old)) }
     ensures lit { is_lit run.old.power ≡ true → IsOk result × (run.new ≡ minute_over run.old) × (outcome.new ≡ outcome.old) × (unit.new ≡ unit.old) × (card_a.new ≡ card_a.old) × (card_b.new ≡ card_b.old) }
-    ensures going { OnOk result (IsWithin run.new (M.state unit.new) (C.card card_a.new) (D.card card_b.new) (C.state card_a.new) (D.state card_b.new)) }
+    ensures going { OnOk result (IsInsideSecond run.new (M.state unit.new) (C.card card_a.new) (D.card card_b.new) (C.state card_a.new) (D.state card_b.new)) }
     ensures next { OnOk result (run.new.next ≡ run.old.next) }
     ensures room { (left offs insertions actions : ℕ) → HasRoom run.old outcome.old (1 + left) offs insertions actions → OnOk result (HasRoomWithin run.new outcome.new (1 + left) offs insertions actions) }
     ensures unfound { OnOk result (run.new.unfound ≤ length outcome.new.breaks.items) }
@@ -87,12 +87,12 @@ fn power_on<M: Medium, C: Chip, D: Chip>(
     outcome: &mut Outcome,
 ) -> Result<(), RunFault>
     requires dark { is_lit run.old.power ≡ false }
-    requires going { IsWithin run.old (M.state unit.old) (C.card card_a.old) (D.card card_b.old) (C.state card_a.old) (D.state card_b.old) }
+    requires going { IsInsideSecond run.old (M.state unit.old) (C.card card_a.old) (D.card card_b.old) (C.state card_a.old) (D.state card_b.old) }
     requires breaks { length outcome.old.breaks.items + falls_of run.old.keeper.cabin < outcome.old.breaks.room }
     requires finds { length outcome.old.finds.items + bare_seats run.old.keeper.cabin.slots.seats ≤ outcome.old.finds.room }
     requires unfound { run.old.unfound ≤ length outcome.old.breaks.items }
     ensures late { IfErr result IsFoundLater }
-    ensures going { OnOk result (IsWithin run.new (M.state unit.new) (C.card card_a.new) (D.card card_b.new) (C.state card_a.new) (D.state card_b.new)) }
+    ensures going { OnOk result (IsInsideSecond run.new (M.state unit.new) (C.card card_a.new) (D.card card_b.new) (C.state card_a.new) (D.state card_b.new)) }
     ensures next { run.new.next ≡ run.old.next }
     ensures awake { OnOk result (IsAwake run.new) }
     ensures takes { TakesAwake run.old run.new outcome.old outcome.new }
@@ -145,14 +145,14 @@ fn found<M: Medium, C: Chip, D: Chip>(
     outcome: &mut Outcome,
 ) -> Result<(), RunFault>
     requires dark { is_lit run.old.power ≡ false }
-    requires going { IsWithin run.old (M.state unit.old) (C.card card_a.old) (D.card card_b.old) (C.state card_a.old) (D.state card_b.old) }
+    requires going { IsInsideSecond run.old (M.state unit.old) (C.card card_a.old) (D.card card_b.old) (C.state card_a.old) (D.state card_b.old) }
     requires loaded { IsLoaded (M.state unit.old) journal }
     requires rule { IfSome (M.state unit.old).image (λ x. rule ≡ rule_of x) }
     requires breaks { length outcome.old.breaks.items + falls_of run.old.keeper.cabin < outcome.old.breaks.room }
     requires finds { length outcome.old.finds.items + bare_seats run.old.keeper.cabin.slots.seats ≤ outcome.old.finds.room }
     requires unfound { run.old.unfound ≤ length outcome.old.breaks.items }
     ensures late { IfErr result IsFoundLater }
-    ensures going { OnOk result (IsWithin run.new (M.state unit.new) (C.card card_a.new) (D.card card_b.new) (C.state card_a.new) (D.state card_b.new)) }
+    ensures going { OnOk result (IsInsideSecond run.new (M.state unit.new) (C.card card_a.new) (D.card card_b.new) (C.state card_a.new) (D.state card_b.new)) }
     ensures next { run.new.next ≡ run.old.next }
     ensures awake { OnOk result (IsAwake run.new) }
     ensures takes { TakesAwake run.old run.new outcome.old outcome.new }
@@ -194,7 +194,7 @@ fn resume<M: Medium, C: Chip, D: Chip>(
     outcome: &mut Outcome,
 ) -> Result<(), Failed>
     requires dark { is_lit run.old.power ≡ false }
-    requires going { IsWithin run.old (M.state unit.old) (C.card card_a.old) (D.card card_b.old) (C.state card_a.old) (D.state card_b.old) }
+    requires going { IsInsideSecond run.old (M.state unit.old) (C.card card_a.old) (D.card card_b.old) (C.state card_a.old) (D.state card_b.old) }
     requires loaded { IsLoaded (M.state unit.old) journal }
     requires rule { IfSome (M.state unit.old).image (λ x. rule ≡ rule_of x) }
     requires later { journal.kept < run.old.next / 60 }
@@ -204,8 +204,8 @@ fn resume<M: Medium, C: Chip, D: Chip>(
     ensures unfound { run.new.unfound ≡ run.old.unfound }
     ensures power { OnOk result (run.new.power ≡ Lit) }
     ensures none { OnOk result (run.new.minutes.owing ≡ 0) }
-    ensures held { IsHeld (run.new.next / 60) run.new (M.state unit.new) (C.card card_a.new) (D.card card_b.new) (C.state card_a.new) (D.state card_b.new) }
-    ensures going { OnOk result (IsLit (run.new.next / 60) run.new (M.state unit.new) (C.card card_a.new) (D.card card_b.new) (C.state card_a.new) (D.state card_b.new)) }
+    ensures held { CanBeCut (run.new.next / 60) run.new (M.state unit.new) (C.card card_a.new) (D.card card_b.new) (C.state card_a.new) (D.state card_b.new) }
+    ensures going { OnOk result (RunHasPowerAllSeated (run.new.next / 60) run.new (M.state unit.new) (C.card card_a.new) (D.card card_b.new) (C.state card_a.new) (D.state card_b.new)) }
     ensures takes { TakesUp run.old run.new outcome.old outcome.new }
     ensures more { length outcome.old.breaks.items ≤ length outcome.new.breaks.items }
     ensures recorded { length outcome.old.marks.items + MOST_OWED * bare_seats run.old.keeper.cabin.slots.seats ≤ outcome.old.marks.room → ResumesSo journal.kept (is_err result) run.old run.new outcome.old outcome.new (devices (M.state unit.old) (C.state card_a.old) (D.state card_b.old)) (devices (M.state unit.new) (C.state card_a.new) (D.state card_b.new)) }

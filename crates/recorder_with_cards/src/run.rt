@@ -13,7 +13,7 @@ ghost use Rattle.run_acts.specs.Recording.{log_of};
 ghost use Rattle.log_model.specs.Causes.{cuts, tears};
 ghost use Rattle.tach_media.specs.Medium.{HasBroken};
 ghost use Rattle.run_outcome.specs.Broken.{BreaksDown};
-ghost use Rattle.run_acts.specs.Going.{largest_number, end_of_seconds, IsGoing};
+ghost use Rattle.run_acts.specs.Going.{largest_number, end_of_seconds, IsBetweenSeconds};
 ghost use Rattle.run_acts.specs.Room.{HasRoom};
 ghost use Rattle.recorder_with_cards.specs.Items.{between, insertions_in};
 ghost use Rattle.recorder_with_cards.specs.Recorded.{actions_in, RingsItem};
@@ -116,7 +116,7 @@ fn go_on<M: Medium, C: Chip, D: Chip>(
     requires item { InRange item }
     requires small { run.old.next + item_seconds item ≤ end_of_seconds }
     requires room { HasRoom run.old outcome.old (item_seconds item) (off_count item) (insertions_in from to items.now) (to - from) }
-    requires going { IsGoing run.old (M.state unit.old) (C.card card_a.old) (D.card card_b.old) (C.state card_a.old) (D.state card_b.old) }
+    requires going { IsBetweenSeconds run.old (M.state unit.old) (C.card card_a.old) (D.card card_b.old) (C.state card_a.old) (D.state card_b.old) }
     requires unfound { run.old.unfound ≤ length outcome.old.breaks.items }
     ensures ringed { length (actions_in (between from to items.now)) ≡ to - from → RingsItem result item (actions_in (between from to items.now)) run.old run.new outcome.old outcome.new (devices (M.state unit.old) (C.state card_a.old) (D.state card_b.old)) (devices (M.state unit.new) (C.state card_a.new) (D.state card_b.new)) }
     ensures cards { length (actions_in (between from to items.now)) ≡ to - from → CardsItem result item (actions_in (between from to items.now)) run.old run.new outcome.old outcome.new (devices (M.state unit.old) (C.state card_a.old) (D.state card_b.old)) (devices (M.state unit.new) (C.state card_a.new) (D.state card_b.new)) }

@@ -38,7 +38,7 @@ use Rattle.run_minutes.specs.declared.keeper.Keeper.{Keeper}
 use Rattle.run_minutes.specs.declared.keeper.Moment.{Moment}
 use Rattle.run_minutes.specs.Keeping.{Fate, Still, Has, Fell, has_fallen, cabin_by, breaks_by, marks_by, tear_of}
 use Rattle.minute_model.specs.declared.Minute.{Minute}
-use Rattle.run_minutes.specs.Minutes.{Told, Done, Reach, Whole, Short, IsReach, told_after, told_by, unit_mark, present_at}
+use Rattle.run_minutes.specs.Minutes.{KeepingState, Done, Reach, Whole, Short, IsReach, told_after, told_by, unit_mark, present_at}
 use Rattle.run_minutes.specs.Deeds.{KeepsOn, AllKeep}
 use Rattle.card_slots.specs.Calls.{Seats, seat_in, card_in}
 use Rattle.run_acts.specs.Closings.{Spell, spells_of, with_last_shut, last_slot}
@@ -676,7 +676,7 @@ no-fall Fell slot at none = absurd (cc)
 
 module _ (k : Keeper) (at : Moment) where
   -- behind some rounds there are lines more
-  pub lines-by : (xs : List Done) (t : Told) → (more : List Break) × ((told_by k at xs t).breaks.items ≡ t.breaks.items ++ more)
+  pub lines-by : (xs : List Done) (t : KeepingState) → (more : List Break) × ((told_by k at xs t).breaks.items ≡ t.breaks.items ++ more)
   lines-by [] t = ([], sym (append-nil t.breaks.items))
   lines-by (x ∷ xs) t =
       let rest = lines-by xs (told_after (present_at k.cabin x.minute.minute) x.minute.minute at x.round t) in
@@ -686,11 +686,11 @@ module _ (k : Keeper) (at : Moment) where
         rest.1 ∙ append_assoc (t.breaks.items ++ first) second rest.0 ∙ append_assoc t.breaks.items first (second ++ rest.0),
       )
 
-  pub sessions-stay : (xs : List Done) (t : Told) (c : Card) → filter failed_tear (told_by k at xs t).breaks.items ≡ [] → is_some (session_of t.keeper.cabin.cards c) ≡ true → is_some (session_of (told_by k at xs t).keeper.cabin.cards c) ≡ true
+  pub sessions-stay : (xs : List Done) (t : KeepingState) (c : Card) → filter failed_tear (told_by k at xs t).breaks.items ≡ [] → is_some (session_of t.keeper.cabin.cards c) ≡ true → is_some (session_of (told_by k at xs t).keeper.cabin.cards c) ≡ true
   sessions-stay [] t c none some = some
   sessions-stay (x ∷ xs) t c none some =
       let present : Present = present_at k.cabin x.minute.minute in
-      let next : Told = told_after present x.minute.minute at x.round t in
+      let next : KeepingState = told_after present x.minute.minute at x.round t in
       let lines = lines-by xs next in
       let here : filter failed_tear next.breaks.items ≡ [] = front-none failed_tear next.breaks.items lines.0 (ap (λ (bs : List Break). filter failed_tear bs) (sym lines.1) ∙ none) in
       let driver : List Break = breaks_by x.round.driver Driver at in
@@ -701,11 +701,11 @@ module _ (k : Keeper) (at : Moment) where
       (fate-stays x.round.codriver present.codriver at.second (cabin_by x.round.driver present.driver at.second t.keeper.cabin) c two (fate-stays x.round.driver present.driver at.second t.keeper.cabin c one some))
 
   -- where none of them tells of a failed call no line is told, and each card has its seat
-  lines-none : (xs : List Done) (t : Told) → filter failed_tear (told_by k at xs t).breaks.items ≡ [] → ((told_by k at xs t).breaks.items ≡ t.breaks.items) × ((told_by k at xs t).keeper.cabin.slots ≡ t.keeper.cabin.slots)
+  lines-none : (xs : List Done) (t : KeepingState) → filter failed_tear (told_by k at xs t).breaks.items ≡ [] → ((told_by k at xs t).breaks.items ≡ t.breaks.items) × ((told_by k at xs t).keeper.cabin.slots ≡ t.keeper.cabin.slots)
   lines-none [] t none = (refl, refl)
   lines-none (x ∷ xs) t none =
       let present : Present = present_at k.cabin x.minute.minute in
-      let next : Told = told_after present x.minute.minute at x.round t in
+      let next : KeepingState = told_after present x.minute.minute at x.round t in
       let lines = lines-by xs next in
       let here : filter failed_tear next.breaks.items ≡ [] = front-none failed_tear next.breaks.items lines.0 (ap (λ (bs : List Break). filter failed_tear bs) (sym lines.1) ∙ none) in
       let driver : List Break = breaks_by x.round.driver Driver at in
@@ -722,12 +722,12 @@ module _ (k : Keeper) (at : Moment) where
       (rest.0 ∙ same, rest.1 ∙ seats)
 
 -- what the unit remembers of its vehicle stays
-memory-by : (k : Keeper) (at : Moment) (xs : List Done) (t : Told) → (told_by k at xs t).keeper.memory.registration ≡ t.keeper.memory.registration
+memory-by : (k : Keeper) (at : Moment) (xs : List Done) (t : KeepingState) → (told_by k at xs t).keeper.memory.registration ≡ t.keeper.memory.registration
 memory-by k at [] t = refl
 memory-by k at (x ∷ xs) t = memory-by k at xs (told_after (present_at k.cabin x.minute.minute) x.minute.minute at x.round t)
 
 -- no mark is lost
-marks-one : (x : Done) (k : Keeper) (at : Moment) (t : Told) (mark : Mark) → Contains t.marks.items mark → Contains (told_after (present_at k.cabin x.minute.minute) x.minute.minute at x.round t).marks.items mark
+marks-one : (x : Done) (k : Keeper) (at : Moment) (t : KeepingState) (mark : Mark) → Contains t.marks.items mark → Contains (told_after (present_at k.cabin x.minute.minute) x.minute.minute at x.round t).marks.items mark
 marks-one x k at t mark among =
     let present : Present = present_at k.cabin x.minute.minute in
     let unit : List Mark = unit_mark x.minute.minute x.round.clock ∷ [] in
@@ -735,12 +735,12 @@ marks-one x k at t mark among =
     Contains-append_left ((t.marks.items ++ unit) ++ driver) (marks_by x.round.codriver present.codriver x.minute.minute) mark
     (Contains-append_left (t.marks.items ++ unit) driver mark (Contains-append_left t.marks.items unit mark among))
 
-marks-stay : (k : Keeper) (at : Moment) (xs : List Done) (t : Told) (mark : Mark) → Contains t.marks.items mark → Contains (told_by k at xs t).marks.items mark
+marks-stay : (k : Keeper) (at : Moment) (xs : List Done) (t : KeepingState) (mark : Mark) → Contains t.marks.items mark → Contains (told_by k at xs t).marks.items mark
 marks-stay k at [] t mark among = among
 marks-stay k at (x ∷ xs) t mark among = marks-stay k at xs (told_after (present_at k.cabin x.minute.minute) x.minute.minute at x.round t) mark (marks-one x k at t mark among)
 
 -- what a keeping that did not fail leaves: lines more, and each session where none of them tells of a failed call
-pub record Reached (t u : Told) : Type 0 where
+pub record Reached (t u : KeepingState) : Type 0 where
   pub more : List Break
   pub lines : u.breaks.items ≡ t.breaks.items ++ more
   pub stay : (c : Card) → filter failed_tear u.breaks.items ≡ [] → is_some (session_of t.keeper.cabin.cards c) ≡ true → is_some (session_of u.keeper.cabin.cards c) ≡ true
@@ -748,7 +748,7 @@ pub record Reached (t u : Told) : Type 0 where
   pub marks : (mark : Mark) → Contains t.marks.items mark → Contains u.marks.items mark
   pub same : filter failed_tear u.breaks.items ≡ [] → (u.breaks.items ≡ t.breaks.items) × (u.keeper.cabin.slots ≡ t.keeper.cabin.slots)
 
-pub reach-told : (decided : List Minute) (at : Moment) (t u : Told) (reach : Reach) → IsReach decided at false t u reach → Reached t u
+pub reach-told : (decided : List Minute) (at : Moment) (t u : KeepingState) (reach : Reach) → IsReach decided at false t u reach → Reached t u
 reach-told decided at t u (Short xs m round) is = absurd is
 reach-told decided at t u (Whole xs) is =
     subst (Reached t) (sym is.2)

@@ -15,7 +15,7 @@ use Rattle.run_crew.specs.declared.cards.Cards.{Cards}
 use Rattle.run_crew.specs.declared.cabin.Cabin.{Cabin}
 use Rattle.run_crew.specs.Cards.{known_of, session_of, with_session}
 use Rattle.run_crew.specs.Cabin.{torn_out, left_from, slot_with}
-use Rattle.run_minutes.specs.Keeping.{CardReady}
+use Rattle.run_minutes.specs.Keeping.{CardMayBeCalled}
 use Rattle.run_minutes.proofs.Sessions.{session-twice}
 use Rattle.run_acts.specs.Acting.{falls_by}
 
@@ -38,7 +38,7 @@ torn-apart c second cabin taken is =
     ∙ ap (λ (q : Cards). record { slots = left_from (slot_with cabin.slots.seats c) second cabin.slots; cards = q }) (session-twice c None None cabin.cards)
 
 -- what was noted on a card was noted by the sizes of its session
-pub noted-sizes : (c : Card) (cards : Cards) (app : Application) (chip : CardState) (X Y : State) → CardReady (known_of cards c) chip X → (known_of cards c).sizes ≡ Ok app → LeavesOnly X Y (IsNote app)
+pub noted-sizes : (c : Card) (cards : Cards) (app : Application) (chip : CardState) (X Y : State) → CardMayBeCalled (known_of cards c) chip X → (known_of cards c).sizes ≡ Ok app → LeavesOnly X Y (IsNote app)
     → IfSome (session_of cards c) (λ a. LeavesOnly X Y (IsNote a.session.application))
 noted-sizes A cards app chip X Y ready told run = by cards.a.accepted refl
   where
@@ -58,7 +58,7 @@ noted-sizes B cards app chip X Y ready told run = by cards.b.accepted refl
         subst (λ (p : Application). LeavesOnly X Y (IsNote p)) same run
 
 -- a card that it went well on is ready again
-pub ready-again : (known : Known) (app : Application) (chip next : CardState) (X Y : State) → CardReady known chip X → known.sizes ≡ Ok app → IsPort app None next Y → Y.works ≡ true → CardReady known next Y
+pub ready-again : (known : Known) (app : Application) (chip next : CardState) (X Y : State) → CardMayBeCalled known chip X → known.sizes ≡ Ok app → IsPort app None next Y → Y.works ≡ true → CardMayBeCalled known next Y
 ready-again known app chip next X Y ready told port works = record {
   is_known = ready.is_known;
   port = λ p is. let same : app ≡ p = cc in subst (λ (q : Application). IsPort q None next Y) same port;
@@ -70,7 +70,7 @@ ready-again known app chip next X Y ready told port works = record {
     by (Some a) = works
 
 -- a card with a session works
-pub session-works : (c : Card) (cards : Cards) (chip : CardState) (X : State) → CardReady (known_of cards c) chip X → is_some (session_of cards c) ≡ true → X.works ≡ true
+pub session-works : (c : Card) (cards : Cards) (chip : CardState) (X : State) → CardMayBeCalled (known_of cards c) chip X → is_some (session_of cards c) ≡ true → X.works ≡ true
 session-works A cards chip X ready some =
     let one = some-one cards.a.accepted some in
     subst (λ (o : Option Accepted). IfSome o (λ a. X.works ≡ true)) one.1 ready.works

@@ -16,9 +16,9 @@ use Rattle.card_slots.proofs.Refusing.{refuse-alike}
 use Rattle.run_course.proofs.Presence.{slots-agree}
 use Rattle.run_promise.specs.Origin.{Origin, start_at}
 use Rattle.run_record.specs.Recorded.{Values}
-use Rattle.run_record.specs.Within.{told_before, course_in, Within}
+use Rattle.run_record.specs.Within.{told_before, course_in, RecordInSecond}
 
-pub allowed-in : (o : Origin) (done : List TraceSecond) (s : TraceSecond) (at : Phase) (waits : List Visit) (speed : Option ℕ) (rest : List Minute) (v : Values) (d : Devices) (w : Within o done s at waits speed rest v d) (now : ℕ) (a : Action) → s.speed ≡ now →
+pub allowed-in : (o : Origin) (done : List TraceSecond) (s : TraceSecond) (at : Phase) (waits : List Visit) (speed : Option ℕ) (rest : List Minute) (v : Values) (d : Devices) (w : RecordInSecond o done s at waits speed rest v d) (now : ℕ) (a : Action) → s.speed ≡ now →
     refusal (logged v.cabin.slots.seats) now a ≡ None → refusal (course_in w.b done s at v.log).slots s.speed a ≡ None
 allowed-in o done s at waits speed rest v d w now a is allowed =
     let c = course_in w.b done s at v.log in

@@ -19,7 +19,7 @@ use Rattle.run_crew.specs.Cards.{session_of, with_session}
 use Rattle.run_crew.specs.Cabin.{left_from, slot_with}
 use Rattle.run_minutes.specs.declared.keeper.Moment.{Moment}
 use Rattle.run_minutes.specs.Keeping.{Fate, Still, Has, Fell, IsFateOf, cabin_by, session_at, kept_in}
-use Rattle.run_minutes.specs.Minutes.{Round, IsRound, Told, AreKept, none, more, present_at, minute_of, cabin_after}
+use Rattle.run_minutes.specs.Minutes.{Round, IsRound, KeepingState, AreKept, none, more, present_at, minute_of, cabin_after}
 use Rattle.run_acts.specs.Acting.{IsBareIn}
 
 two-cards : (a b : Card) (cards : Cards) → session_of cards a ≡ None → is_some (session_of cards b) ≡ true → same_card a b ≡ false
@@ -106,7 +106,7 @@ pub still-bare : (fate : Fate) (present : Option Card) (second : ℕ) (slot : Sl
 still-bare fate None second slot cabin is h = subst (λ (f : Fate). StaysBare slot cabin (cabin_by f None second cabin)) (sym is) (same-bare slot cabin h)
 still-bare fate (Some card) second slot cabin is h = subst (λ (f : Fate). StaysBare slot cabin (cabin_by f (Some card) second cabin)) (sym is) (same-bare slot cabin h)
 
-round-bare : (present : Present) (minute : KeptMinute) (at : Moment) (failed : Bool) (t : Told) (round : Round) (slot : Slot) → IsRound present minute at failed t.keeper round → IsBareIn t.keeper.cabin slot
+round-bare : (present : Present) (minute : KeptMinute) (at : Moment) (failed : Bool) (t : KeepingState) (round : Round) (slot : Slot) → IsRound present minute at failed t.keeper round → IsBareIn t.keeper.cabin slot
     → StaysBare slot t.keeper.cabin (cabin_after present at.second round t.keeper.cabin)
 round-bare present minute at failed t round slot is h =
     let cabin = t.keeper.cabin in
@@ -115,7 +115,7 @@ round-bare present minute at failed t round slot is h =
     then-bare slot cabin between (cabin_after present at.second round cabin) first
     (⊎_elim (λ broken. still-bare round.codriver present.codriver at.second slot between broken.not_asked first.bare) (λ fate. fate-bare round.codriver present.codriver (kept_in minute CoDriver) at.second slot between fate first.bare) is.codriver)
 
-pub all-bare : (at : Moment) (ms : List Minute) (t u : Told) (slot : Slot) → AreKept at ms t u → IsBareIn t.keeper.cabin slot → StaysBare slot t.keeper.cabin u.keeper.cabin
+pub all-bare : (at : Moment) (ms : List Minute) (t u : KeepingState) (slot : Slot) → AreKept at ms t u → IsBareIn t.keeper.cabin slot → StaysBare slot t.keeper.cabin u.keeper.cabin
 all-bare at ms t u slot (none v) h = same-bare slot v.keeper.cabin h
 all-bare at ms t u slot (more m front round v mid kept is) h =
     let before = all-bare at front v mid slot kept h in

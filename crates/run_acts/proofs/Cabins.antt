@@ -16,13 +16,13 @@ use Rattle.tacho_types.specs.declared.card_number.FullCardNumber.{FullCardNumber
 use Rattle.card_slots.specs.declared.seats.Seat.{Seat}
 use Rattle.card_slots.specs.Calls.{card_in}
 use Rattle.run_crew.specs.Cards.{known_of, session_of, with_session, accepted_number}
-use Rattle.run_crew.specs.Cabin.{Stands, number_of_seat}
+use Rattle.run_crew.specs.Cabin.{CabinIsSound, number_of_seat}
 use Rattle.run_minutes.specs.declared.keeper.Moment.{Moment}
-use Rattle.run_minutes.specs.Keeping.{UnitReady, CardReady, HasItsRow, SessionsGoOn, tears_of}
+use Rattle.run_minutes.specs.Keeping.{UnitMayBeCalled, CardMayBeCalled, HasItsRow, SessionsGoOn, tears_of}
 use Rattle.run_minutes.proofs.Seats.{sessions-none}
 use Rattle.run_acts.specs.declared.run.Run.{Run}
 use Rattle.run_acts.specs.Power.{with_cabin}
-use Rattle.run_acts.specs.Going.{CardAt, StandSomehow, IsHeld, IsGoingOn}
+use Rattle.run_acts.specs.Going.{CardAt, StandSomehow, CanBeCut, RunHasPower}
 use Rattle.run_acts.specs.Room.{falls_of}
 use Rattle.run_acts.proofs.Kept.{moved-going}
 use Rattle.run_acts.proofs.Torn.{torn-past, torn-minute, torn-falls, torn-sessions}
@@ -31,16 +31,16 @@ use Rattle.run_acts.specs.Acting.{noted_run, noted_breaks}
 -- ---- in general
 
 module _ {U V A0 A1 B0 B1 : State} {chip_a chip_b next_a next_b : CardState} (to : ℕ) (old new : Run) (cabin : Cabin) (is : new ≡ with_cabin cabin old) where
-  pub cabin-going : (leaving other : Option Card) (g : IsGoingOn leaving to old U chip_a chip_b A0 B0) → UnitReady new.keeper V → CardReady new.keeper.cabin.cards.a next_a A1 → CardReady new.keeper.cabin.cards.b next_b B1
-      → ((card : Card) → HasItsRow old.keeper.cabin.cards U card → HasItsRow new.keeper.cabin.cards V card) → cabin.slots.past ≡ old.keeper.cabin.slots.past → Stands (ungiven_of g.span) other new.keeper.cabin
-      → SessionsGoOn old.keeper.cabin.cards cabin.cards → IsGoingOn other to new V next_a next_b A1 B1
+  pub cabin-going : (leaving other : Option Card) (g : RunHasPower leaving to old U chip_a chip_b A0 B0) → UnitMayBeCalled new.keeper V → CardMayBeCalled new.keeper.cabin.cards.a next_a A1 → CardMayBeCalled new.keeper.cabin.cards.b next_b B1
+      → ((card : Card) → HasItsRow old.keeper.cabin.cards U card → HasItsRow new.keeper.cabin.cards V card) → cabin.slots.past ≡ old.keeper.cabin.slots.past → CabinIsSound (ungiven_of g.span) other new.keeper.cabin
+      → SessionsGoOn old.keeper.cabin.cards cabin.cards → RunHasPower other to new V next_a next_b A1 B1
   cabin-going leaving other g unit a b rows past stands sessions =
       let same : new.keeper.cabin ≡ cabin = ap (λ (r : Run). r.keeper.cabin) is in
       moved-going leaving other to old new g (ap (λ (r : Run). r.minutes) is) (ap (λ (r : Run). r.next) is) (ap (λ (r : Run). r.keeper.journal.kept) is) (record { unit_ready = unit; card_a = a; card_b = b }) rows
       (ap (λ (c : Cabin). c.slots.past) same ∙ past) stands (subst (λ (c : Cabin). SessionsGoOn old.keeper.cabin.cards c.cards) (sym same) sessions) (ap (λ (r : Run). r.noted) is) (ap (λ (r : Run). r.watch) is)
 
-  pub cabin-held : IsHeld to old U chip_a chip_b A0 B0 → IsUnit V → cabin.slots.minute ≤ to → CardAt new.keeper.cabin.cards.a next_a A1 → CardAt new.keeper.cabin.cards.b next_b B1 → StandSomehow new.keeper.cabin
-      → IsHeld to new V next_a next_b A1 B1
+  pub cabin-held : CanBeCut to old U chip_a chip_b A0 B0 → IsUnit V → cabin.slots.minute ≤ to → CardAt new.keeper.cabin.cards.a next_a A1 → CardAt new.keeper.cabin.cards.b next_b B1 → StandSomehow new.keeper.cabin
+      → CanBeCut to new V next_a next_b A1 B1
   cabin-held h unit minute a b stand =
       let odometer = ap (λ (r : Run). r.keeper.odometer) is in
       let same = ap (λ (r : Run). r.keeper.cabin.slots.minute) is in
@@ -48,8 +48,8 @@ module _ {U V A0 A1 B0 B1 : State} {chip_a chip_b next_a next_b : CardState} (to
       record { is_unit = unit; odometer = omega (arith, odometer, most); minute = omega (arith, same, minute); card_a = a; card_b = b; stand = stand }
 
 -- a card that is ready, or at hand, is so still where the same is known of it
-pub ready-same : {chip : CardState} {card : State} (old new : Cards) (c : Card) → known_of new c ≡ known_of old c → CardReady (known_of old c) chip card → CardReady (known_of new c) chip card
-ready-same {chip} {card} old new c is h = subst (λ k. CardReady k chip card) (sym is) h
+pub ready-same : {chip : CardState} {card : State} (old new : Cards) (c : Card) → known_of new c ≡ known_of old c → CardMayBeCalled (known_of old c) chip card → CardMayBeCalled (known_of new c) chip card
+ready-same {chip} {card} old new c is h = subst (λ k. CardMayBeCalled k chip card) (sym is) h
 
 pub at-same : {chip : CardState} {card : State} (old new : Cards) (c : Card) → known_of new c ≡ known_of old c → CardAt (known_of old c) chip card → CardAt (known_of new c) chip card
 at-same {chip} {card} old new c is h = subst (λ k. CardAt k chip card) (sym is) h
@@ -60,7 +60,7 @@ session-known cards B = refl
 
 -- one whose session was taken twice
 pub twice-ready : (which : Card) (cards : Cards) {chip : CardState} {card : State} → ((app : Application) → (known_of cards which).sizes ≡ Ok app → IsPort app None chip card)
-    → CardReady (known_of (with_session which None (with_session which None cards)) which) chip card
+    → CardMayBeCalled (known_of (with_session which None (with_session which None cards)) which) chip card
 twice-ready A cards port = record { is_known = record { sized = tt; numbered = tt }; port = port; works = tt }
 twice-ready B cards port = record { is_known = record { sized = tt; numbered = tt }; port = port; works = tt }
 

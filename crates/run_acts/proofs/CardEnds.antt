@@ -13,7 +13,7 @@ use Rattle.log_model.specs.declared.lines.Break.{Break}
 use Rattle.log_model.specs.Causes.{second_of}
 use Rattle.log_model.specs.Log.{RunLog, In, Keeping, cut_in, found_in, kept_after, is_accepting}
 use Rattle.log_model.specs.Slots.{same_card}
-use Rattle.log_model.specs.Course.{Course, Visit, Before, Told, Went, begins, both_told, unmoved, fresh, all_acted, cut_told, lit_course, second_told, has_power, went}
+use Rattle.log_model.specs.Course.{Course, Visit, Before, ToldSecond, Went, begins, both_told, unmoved, fresh, all_acted, cut_told, lit_course, second_told, has_power, went}
 use Rattle.event_model.specs.Events.{Event, Seen, number_of, seen_of, seen_spans, gap_events, gaps_between, last_number, first_card}
 use Rattle.note_model.specs.Done.{course_powered, done_by}
 use Rattle.note_model.specs.Noted.{Note, noted_in}
@@ -126,19 +126,19 @@ module _ (o : Origin) (done : List TraceSecond) (s : TraceSecond) (began later :
   told-is = ap (λ (w : Went). second_told later w.before s) l.behind.went_is
 
   course-is : (seen_next later done s).told.course ≡ lit_course later s (not (went began done).before.running) (went began done).before.slots
-  course-is = ap (λ (t : Told). t.course) told-is ∙ lit-course later (went began done).before s power
+  course-is = ap (λ (t : ToldSecond). t.course) told-is ∙ lit-course later (went began done).before s power
 
   number-is : number_of (seen_next later done s) ≡ s.number
   number-is = told-number later (went later done).before s
 
   speed-is : (seen_next later done s).told.second.speed ≡ s.speed
-  speed-is = ap (λ (t : Told). t.second.speed) told-is ∙ told-speed later (went began done).before s power
+  speed-is = ap (λ (t : ToldSecond). t.second.speed) told-is ∙ told-speed later (went began done).before s power
 
   starts-is : (seen_next later done s).told.starts ≡ not (went began done).before.running
-  starts-is = ap (λ (t : Told). t.starts) told-is ∙ (lit-told later (went began done).before s power).starts
+  starts-is = ap (λ (t : ToldSecond). t.starts) told-is ∙ (lit-told later (went began done).before s power).starts
 
   lit-is : (seen_next later done s).told.lit ≡ true
-  lit-is = ap (λ (t : Told). t.lit) told-is ∙ (lit-told later (went began done).before s power).lit
+  lit-is = ap (λ (t : ToldSecond). t.lit) told-is ∙ (lit-told later (went began done).before s power).lit
 
   seen-is : seen_of later done ≡ seen_of began done
   seen-is = seen-same began later done l.behind.same

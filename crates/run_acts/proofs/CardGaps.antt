@@ -17,7 +17,7 @@ use Rattle.log_model.specs.declared.lines.Verdict.{Verdict}
 use Rattle.log_model.specs.Causes.{second_of}
 use Rattle.log_model.specs.Log.{RunLog, Phase, In, Keeping, same_phase, cut_in, found_in, kept_by, kept_after, is_accepting}
 use Rattle.log_model.specs.Slots.{Sitting, same_card, in_slot, refusal}
-use Rattle.log_model.specs.Course.{Course, Visit, Before, Moved, card_in, visits, both_told, unmoved, all_acted, acted, answered, moved_by, begins, is_settling, cut_told, lit_course, slot_told, second_told, has_power, dark_course, Told, not_begun}
+use Rattle.log_model.specs.Course.{Course, Visit, Before, Moved, card_in, visits, both_told, unmoved, all_acted, acted, answered, moved_by, begins, is_settling, cut_told, lit_course, slot_told, second_told, has_power, dark_course, ToldSecond, not_begun}
 use Rattle.log_model.specs.declared.lines.SlotFault.{SlotFault}
 use Rattle.event_model.specs.declared.entries.Span.{Span}
 use Rattle.event_model.specs.declared.kinds.TheConstants.{POWER_INTERRUPTION}
@@ -273,7 +273,7 @@ met-power c log was s is = by (has_power was s) refl
     at = crew-of-found c (seen_by log was s) is
 
     by : (b : Bool) → has_power was s ≡ b → MetPower c (seen_by log was s)
-    by false off = absurd (let none : false ≡ true = sym (ap (λ (t : Told). is_card (first_card (filter (is_now at.0) t.course.found)) c) dark) ∙ at.1 in cc)
+    by false off = absurd (let none : false ≡ true = sym (ap (λ (t : ToldSecond). is_card (first_card (filter (is_now at.0) t.course.found)) c) dark) ∙ at.1 in cc)
       where
         dark : second_told log was s ≡ record { second = record { number = s.number; speed = s.speed; picks = [] }; given = s.has_power; lit = false; starts = false; cut = false; course = dark_course s was.slots }
         dark = rw off refl

@@ -27,10 +27,10 @@ use Rattle.run_crew.specs.declared.cards.Known.{Known}
 use Rattle.run_crew.specs.declared.cards.Cards.{Cards}
 use Rattle.run_crew.specs.declared.cabin.Cabin.{Cabin}
 use Rattle.run_crew.specs.Cards.{known_of, session_of, accepted_number, IsKnown}
-use Rattle.run_crew.specs.Cabin.{Stands, AreTwo, left_from, slot_with, number_of_seat}
+use Rattle.run_crew.specs.Cabin.{CabinIsSound, AreTwo, left_from, slot_with, number_of_seat}
 use Rattle.run_outcome.specs.Lines.{Listed}
 use Rattle.run_minutes.specs.declared.keeper.Moment.{Moment}
-use Rattle.run_minutes.specs.Keeping.{CardReady}
+use Rattle.run_minutes.specs.Keeping.{CardMayBeCalled}
 use Rattle.safety_model.specs.Safe.{Devices, card_of}
 use Rattle.tacho_types.specs.declared.texts.Registration.{Registration}
 use Rattle.unit_memory.specs.declared.format.Identity.{Identity}
@@ -102,7 +102,7 @@ on-unbegun None after events X = λ c left. left
 on-unbegun (Some a) after events X = λ c left. (c, left, shows-unbegun a.session.application events c c (λ kind. refl))
 
 -- by the sizes of its session
-pub on-session : (card : Card) (cards : Cards) (app : Application) (chip : CardState) (X Y : State) (after : Option Accepted) (events : List CardEvent) → CardReady (known_of cards card) chip X → (known_of cards card).sizes ≡ Ok app → is_some (session_of cards card) ≡ true
+pub on-session : (card : Card) (cards : Cards) (app : Application) (chip : CardState) (X Y : State) (after : Option Accepted) (events : List CardEvent) → CardMayBeCalled (known_of cards card) chip X → (known_of cards card).sizes ≡ Ok app → is_some (session_of cards card) ≡ true
     → NotesOnCard app events (not (is_some after)) X Y → NotesOn false (session_of cards card) after events X Y
 on-session A cards app chip X Y after events ready told some noted = by cards.a.accepted refl
   where
@@ -238,7 +238,7 @@ always-cut true = refl
 always-cut false = refl
 
 -- an accepted card sits in one of the slots
-pub sits-once : (from : ℕ) (cabin : Cabin) → Stands from None cabin → (event : CardEvent) (card : Card) → is_some (session_of cabin.cards card) ≡ true
+pub sits-once : (from : ℕ) (cabin : Cabin) → CabinIsSound from None cabin → (event : CardEvent) (card : Card) → is_some (session_of cabin.cards card) ≡ true
     → on_seat cabin.slots.seats.driver event card ++ on_seat cabin.slots.seats.codriver event card ≡ event ∷ []
 sits-once from cabin stands event card some = ⊎_elim
     (λ sits. ⊎_elim
@@ -257,7 +257,7 @@ sits-once from cabin stands event card some = ⊎_elim
     by false false one two which = absurd (⊎_elim (λ (is : false ≡ true). let wrong : false ≡ true = is in cc) (λ (is : false ≡ true). let wrong : false ≡ true = is in cc) which)
 
 -- BOTH CARDS, one after another
-module _ (from : ℕ) (old between new : Run) (at at2 : Moment) (breaks told after : Listed Break) (fell fell2 : Bool) (stands : Stands from None old.keeper.cabin)
+module _ (from : ℕ) (old between new : Run) (at at2 : Moment) (breaks told after : Listed Break) (fell fell2 : Bool) (stands : CabinIsSound from None old.keeper.cabin)
     (first_noted : IsNotedIn (card_in (seat_in old.keeper.cabin.slots.seats Driver)) Driver at old between breaks told fell)
     (second_noted : IsNotedIn (card_in (seat_in between.keeper.cabin.slots.seats CoDriver)) CoDriver at2 between new told after fell2)
     (event : CardEvent) (failed : Bool) (d m e : Devices) where
@@ -311,7 +311,7 @@ module _ (from : ℕ) (old between new : Run) (at at2 : Moment) (breaks told aft
           same_sizes a b is = let same : b ≡ a = cc in ap (λ (q : Accepted). q.session.application) same
 
 -- THE DRIVER'S CARD alone, where the unit failed as its fault was noted
-pub first-noted : (from : ℕ) (old between : Run) → Stands from None old.keeper.cabin → (event : CardEvent) (d m : Devices)
+pub first-noted : (from : ℕ) (old between : Run) → CabinIsSound from None old.keeper.cabin → (event : CardEvent) (d m : Devices)
     → NotesOnCards false old.keeper.cabin.cards between.keeper.cabin.cards (on_seat (seat_in old.keeper.cabin.slots.seats Driver) event) d m → NotesOnCards true old.keeper.cabin.cards between.keeper.cabin.cards (λ card. event ∷ []) d m
 first-noted from old between stands event d m firsts card = by (session_of old.keeper.cabin.cards card) (session_of between.keeper.cabin.cards card) (card_of d card) (card_of m card) (sits-once from old.keeper.cabin stands event card) (firsts card)
   where

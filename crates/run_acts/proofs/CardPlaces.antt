@@ -41,8 +41,8 @@ use Rattle.run_crew.specs.declared.cards.Accepted.{Accepted}
 use Rattle.run_crew.specs.declared.cards.Cards.{Cards}
 use Rattle.run_crew.specs.Cards.{known_of, session_of}
 use Rattle.run_promise.specs.Found.{found_of}
-use Rattle.run_promise.specs.Between.{Carried}
-use Rattle.run_devices.specs.Told.{AreFoundCards, IsPowered, IsOn, arranged}
+use Rattle.run_promise.specs.Between.{RunLedger}
+use Rattle.run_devices.specs.Told.{AreFoundCards, DevicesPowered, SessionIsOnCard, arranged}
 use Rattle.run_devices.proofs.Holders.{event-places, closing-places}
 use Rattle.run_devices.proofs.Parts.{CardLit, parts-of}
 use Rattle.run_record.proofs.Seats.{this-or}
@@ -51,7 +51,7 @@ use Rattle.run_promise.specs.Origin.{Origin}
 use Rattle.run_note_record.specs.OnCards.{has_call_failed_in, places_in, place_width, PlacesStay, TakesPlace, PlaceIsTaken, LeavesPlaces as LeavesRing}
 use Rattle.run_minutes.specs.declared.keeper.Moment.{Moment}
 use Rattle.run_minutes.specs.Books.{AreTimedOn}
-use Rattle.run_minutes.specs.Keeping.{CardReady, tear_of}
+use Rattle.run_minutes.specs.Keeping.{CardMayBeCalled, tear_of}
 use Rattle.run_acts.specs.declared.run.Run.{Run}
 use Rattle.run_acts.specs.CardNotes.{LeavesPlaces, LeavePlaces}
 use Rattle.run_acts.specs.CardWrites.{MayHavePlace, MayTakePlace, PlaceOn}
@@ -84,12 +84,12 @@ timed-places o origin d e h c valid y left =
     (was.0, was.1, file-ring (sizes_in o c) was.0 y (subst (λ (x : List ℕ). file_bytes (own_sizes x) 0x0506 y ≡ file_bytes (own_sizes x) 0x0506 was.0) (origin.image c) was.4))
 
 -- ---- A SESSION IS CLOSED, or was about to be
-closes-places : (o : Origin) (w : Carried) (cards : Cards) (c : Card) (U X Z : State) (Y : State) → IsOrigin o → AreFoundCards o.found cards → IsCoherent X → LARGEST_IMAGE ≤ X.size → (a : Accepted) (act : Activity) → session_of cards c ≡ Some a → IsPowered o.found w cards (arranged c U X Z) →
+closes-places : (o : Origin) (w : RunLedger) (cards : Cards) (c : Card) (U X Z : State) (Y : State) → IsOrigin o → AreFoundCards o.found cards → IsCoherent X → LARGEST_IMAGE ≤ X.size → (a : Accepted) (act : Activity) → session_of cards c ≡ Some a → DevicesPowered o.found w cards (arranged c U X Z) →
     LeavesOnly X Y (λ i n. IsSession a.session i → IsCardClosing a.session act i n) → IsOwnValid (card_image o.recording c) → LeavesRing (card_image o.recording c) X Y
 closes-places o w cards c U X Z Y origin found whole size a act has p run valid y left =
     let there : IsOwnValid (found_of o.found c).image = valid-found o origin c valid in
     let one : CardLit o.found w.book (w.standing c) (w.brought c) (Some a) c U X = subst (λ (q : Option Accepted). CardLit o.found w.book (w.standing c) (w.brought c) q c U X) has ((parts-of o.found w cards c U X Z p).mine there) in
-    let on : IsOn (found_of o.found c) one.goes.has (w.standing c) a.session X = one.goes.goes in
+    let on : SessionIsOnCard (found_of o.found c) one.goes.has (w.standing c) a.session X = one.goes.goes in
     let sizes : a.session.application ≡ own_sizes (card_image o.recording c) = on.sizes ∙ ap own_sizes (origin.image c) in
     let fits = largest_image a.session.application (subst IsApplication (sym on.sizes) (found.sizes c there)) in
     ⊎_elim
@@ -122,7 +122,7 @@ places-self None X = λ c left. left
 places-self (Some a) X = λ c left. (c, left, refl)
 
 -- by the session that a card has
-pub event-leaves : (c : Card) (cards : Cards) (app : Application) (event : CardEvent) (chip : CardState) (X Y : State) → IsCoherent X → CardReady (known_of cards c) chip X → (known_of cards c).sizes ≡ Ok app → is_some (session_of cards c) ≡ true → LeavesOnly X Y (IsNotingEvent app event) → LeavesPlaces (session_of cards c) X Y
+pub event-leaves : (c : Card) (cards : Cards) (app : Application) (event : CardEvent) (chip : CardState) (X Y : State) → IsCoherent X → CardMayBeCalled (known_of cards c) chip X → (known_of cards c).sizes ≡ Ok app → is_some (session_of cards c) ≡ true → LeavesOnly X Y (IsNotingEvent app event) → LeavesPlaces (session_of cards c) X Y
 event-leaves c cards app event chip X Y whole ready told some run = by c some ready told
   where
     one : (a : Accepted) → app ≡ a.session.application → LeavesPlaces (Some a) X Y
@@ -131,7 +131,7 @@ event-leaves c cards app event chip X Y whole ready told some run = by c some re
         (λ here. (here.0, whole.is_left here.0 here.1, subst (λ (p : Application). file_bytes p 0x0506 y ≡ file_bytes p 0x0506 here.0) same (event-places app here.0 y event here.2)))
         (run.now y left)
 
-    by : (c : Card) → is_some (session_of cards c) ≡ true → CardReady (known_of cards c) chip X → (known_of cards c).sizes ≡ Ok app → LeavesPlaces (session_of cards c) X Y
+    by : (c : Card) → is_some (session_of cards c) ≡ true → CardMayBeCalled (known_of cards c) chip X → (known_of cards c).sizes ≡ Ok app → LeavesPlaces (session_of cards c) X Y
     by A s ready told = at_a cards.a.accepted refl s
       where
         at_a : (q : Option Accepted) → cards.a.accepted ≡ q → is_some q ≡ true → LeavesPlaces q X Y
@@ -180,7 +180,7 @@ pub entry-wide : (v : PlaceEntry) → length (place_bytes v) ≡ place_width
 entry-wide v = omega arith
 
 -- by the session that a card has
-pub may-take : (c : Card) (cards : Cards) (app : Application) (entry : PlaceEntry) (chip : CardState) (X Y : State) → IsCoherent X → CardReady (known_of cards c) chip X → (known_of cards c).sizes ≡ Ok app → LeavesOnly X Y (IsNotingPlace app entry) → MayTakePlace (session_of cards c) entry X Y
+pub may-take : (c : Card) (cards : Cards) (app : Application) (entry : PlaceEntry) (chip : CardState) (X Y : State) → IsCoherent X → CardMayBeCalled (known_of cards c) chip X → (known_of cards c).sizes ≡ Ok app → LeavesOnly X Y (IsNotingPlace app entry) → MayTakePlace (session_of cards c) entry X Y
 may-take c cards app entry chip X Y whole ready told run = by c ready told
   where
     one : (a : Accepted) → app ≡ a.session.application → MayHavePlace a.session.application entry X Y
@@ -189,7 +189,7 @@ may-take c cards app entry chip X Y whole ready told run = by c ready told
         (λ here. (here.0, whole.is_left here.0 here.1, inr (subst (λ (p : Application). IsNotingPlace p entry here.0 y) same here.2)))
         (run.now y left)
 
-    by : (c : Card) → CardReady (known_of cards c) chip X → (known_of cards c).sizes ≡ Ok app → MayTakePlace (session_of cards c) entry X Y
+    by : (c : Card) → CardMayBeCalled (known_of cards c) chip X → (known_of cards c).sizes ≡ Ok app → MayTakePlace (session_of cards c) entry X Y
     by A ready told = at_a cards.a.accepted refl
       where
         at_a : (q : Option Accepted) → cards.a.accepted ≡ q → MayTakePlace q entry X Y

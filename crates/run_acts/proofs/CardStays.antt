@@ -23,8 +23,8 @@ use Rattle.run_crew.specs.declared.cards.Accepted.{Accepted}
 use Rattle.run_crew.specs.declared.cards.Cards.{Cards}
 use Rattle.run_crew.specs.Cards.{session_of}
 use Rattle.run_promise.specs.Found.{found_of}
-use Rattle.run_promise.specs.Between.{Carried}
-use Rattle.run_devices.specs.Told.{AreFoundCards, IsPowered, IsOn, GoesWith, arranged}
+use Rattle.run_promise.specs.Between.{RunLedger}
+use Rattle.run_devices.specs.Told.{AreFoundCards, DevicesPowered, SessionIsOnCard, GoesWith, arranged}
 use Rattle.run_devices.proofs.Parts.{CardLit, parts-of}
 use Rattle.run_outcome.specs.declared.outcome.Outcome.{Outcome}
 use Rattle.run_promise.specs.Origin.{Origin}
@@ -71,7 +71,7 @@ pub session-sizes : (o : Origin) (done : List TraceSecond) (s : TraceSecond) (at
     session_of run.keeper.cabin.cards c ≡ Some a → a.session.application ≡ sizes_in o c
 session-sizes o done s at waits rest run out d w c valid a has =
     let one = w.within.powered.go.goes c (valid-found o w.origin c valid) in
-    let on : IsOn (found_of o.found c) one.has (w.within.standing c) a.session (card_of d c) = subst (λ (q : Option Accepted). GoesWith (found_of o.found c) one.has (w.within.standing c) q (card_of d c)) has one.goes in
+    let on : SessionIsOnCard (found_of o.found c) one.has (w.within.standing c) a.session (card_of d c) = subst (λ (q : Option Accepted). GoesWith (found_of o.found c) one.has (w.within.standing c) q (card_of d c)) has one.goes in
     on.sizes ∙ ap own_sizes (w.origin.image c)
 
 -- A PLACE IS NOTED
@@ -86,12 +86,12 @@ place-still o done s at waits rest run out d e w after notes c valid = by (sessi
         (was.0, was.1, λ kind. subst (λ (app : Application). events_in app kind y ≡ events_in app kind was.0) (session-sizes o done s at waits rest run out d w c valid a is) (none-shown a.session.application (false || not (is_some (session_of after c))) was.0 y was.2 kind))
 
 -- A SESSION IS CLOSED, or was about to be
-closes-still : (o : Origin) (w : Carried) (cards : Cards) (c : Card) (U X Z : State) (Y : State) → IsOrigin o → AreFoundCards o.found cards → IsCoherent X → LARGEST_IMAGE ≤ X.size → (a : Accepted) (act : Activity) → session_of cards c ≡ Some a → IsPowered o.found w cards (arranged c U X Z) →
+closes-still : (o : Origin) (w : RunLedger) (cards : Cards) (c : Card) (U X Z : State) (Y : State) → IsOrigin o → AreFoundCards o.found cards → IsCoherent X → LARGEST_IMAGE ≤ X.size → (a : Accepted) (act : Activity) → session_of cards c ≡ Some a → DevicesPowered o.found w cards (arranged c U X Z) →
     LeavesOnly X Y (λ i n. IsSession a.session i → IsCardClosing a.session act i n) → IsOwnValid (card_image o.recording c) → StillShows (sizes_in o c) X Y
 closes-still o w cards c U X Z Y origin found whole size a act has p run valid y left =
     let there : IsOwnValid (found_of o.found c).image = valid-found o origin c valid in
     let one : CardLit o.found w.book (w.standing c) (w.brought c) (Some a) c U X = subst (λ (q : Option Accepted). CardLit o.found w.book (w.standing c) (w.brought c) q c U X) has ((parts-of o.found w cards c U X Z p).mine there) in
-    let on : IsOn (found_of o.found c) one.goes.has (w.standing c) a.session X = one.goes.goes in
+    let on : SessionIsOnCard (found_of o.found c) one.goes.has (w.standing c) a.session X = one.goes.goes in
     let sizes : a.session.application ≡ own_sizes (card_image o.recording c) = on.sizes ∙ ap own_sizes (origin.image c) in
     let fits = largest_image a.session.application (subst IsApplication (sym on.sizes) (found.sizes c there)) in
     ⊎_elim

@@ -15,7 +15,7 @@ use Rattle.safety_model.specs.Safe.{Devices, card_of}
 use Rattle.run_unit_course.specs.Lines.{cut_at}
 use Rattle.run_unit_course.specs.Followed.{Lit as IsLit}
 use Rattle.run_course.specs.Moments.{and_break}
-use Rattle.run_course.specs.Followed.{Progress, IsGoing, IsLost as HasLost}
+use Rattle.run_course.specs.Followed.{Progress, PowerGoesOn, IsLost as HasLost}
 use Rattle.run_course.proofs.Told.{lit-power, lost-dark, next-dark, dark-told}
 use Rattle.run_course.proofs.Quiet.{quiet-are-told}
 use Rattle.run_outcome.specs.declared.outcome.Outcome.{Outcome}
@@ -27,13 +27,13 @@ use Rattle.run_promise.specs.Beside.{HaveLeftMore}
 use Rattle.run_note_record.proofs.Lines.{early-before}
 use Rattle.run_note_record.proofs.SoFar.{failed-more, left-itself}
 use Rattle.run_record.specs.Recorded.{Values, progress}
-use Rattle.run_record.specs.Within.{Beginning, Within}
+use Rattle.run_record.specs.Within.{Beginning, RecordInSecond}
 use Rattle.run_record.specs.Turning.{last_of, before_last, BehindFirst, IsTurned}
 use Rattle.run_record.proofs.Turning.{turn-ends}
 use Rattle.run_acts.specs.declared.run.Run.{Run}
 use Rattle.run_acts.specs.declared.run.Power.TheVariants.{Lit}
 use Rattle.run_acts.specs.Booked.{IsBookedTurn}
-use Rattle.run_acts.specs.Going.{end_of_seconds, IsGoingOn}
+use Rattle.run_acts.specs.Going.{end_of_seconds, RunHasPower}
 use Rattle.run_acts.specs.Recording.{log_of, values_of, IsOrigin, IsNow, RunWithin, RunCut}
 use Rattle.run_acts.specs.Turning.{late_moment, told_of, cut_breaks, IsLitTurn}
 use Rattle.run_acts.specs.RunCards.{sizes_in, CardsBehind, CardsIn, StillShow}
@@ -48,7 +48,7 @@ use Rattle.run_note_record.proofs.Exact.{no-cut}
 use Rattle.run_acts.proofs.CardUses.{FoundTo, tears-none, lines-still, untold-to}
 
 -- lines of a second more
-pub lines-later : (o : Origin) (done : List TraceSecond) (s : TraceSecond) (at : Phase) (waits : List Visit) (speed : Option ℕ) (rest : List Minute) (v : Values) (d : Devices) (w : Within o done s at waits speed rest v d) (lines : List Break) (later : RunLog) → later ≡ record v.log { breaks = v.log.breaks ++ lines } →
+pub lines-later : (o : Origin) (done : List TraceSecond) (s : TraceSecond) (at : Phase) (waits : List Visit) (speed : Option ℕ) (rest : List Minute) (v : Values) (d : Devices) (w : RecordInSecond o done s at waits speed rest v d) (lines : List Break) (later : RunLog) → later ≡ record v.log { breaks = v.log.breaks ++ lines } →
     AllByRecursion (λ (b : Break). second_of b ≡ s.number) lines → 0 < s.number → IsLater w.b.run.log later done s.number
 lines-later o done s at waits speed rest v d w lines later is here some =
     let g = goes-by o done s at waits speed rest v d w lines later is here in
@@ -69,16 +69,16 @@ quiet number speed = record { number = number; has_power = true; speed = speed; 
 
 -- ---- quiet seconds, and dark ones behind a cut
 
-many-quiet : (j : ℕ) (o : Origin) (done : List TraceSecond) (log : RunLog) (u speed : ℕ) (d : Devices) → ((i : ℕ) → IsGoing (went log (done ++ driven i u speed [])).before) → CardsBehind o done log d → CardsBehind o (done ++ driven j u speed []) log d
+many-quiet : (j : ℕ) (o : Origin) (done : List TraceSecond) (log : RunLog) (u speed : ℕ) (d : Devices) → ((i : ℕ) → PowerGoesOn (went log (done ++ driven i u speed [])).before) → CardsBehind o done log d → CardsBehind o (done ++ driven j u speed []) log d
 many-quiet zero o done log u speed d goes h = subst (λ (ss : List TraceSecond). CardsBehind o ss log d) (sym (append-nil done)) h
 many-quiet (suc j) o done log u speed d goes h =
     let x : TraceSecond = quiet u speed in
     let before : Before = (went log done).before in
-    let now : IsGoing (went log done).before = subst (λ (ss : List TraceSecond). IsGoing (went log ss).before) (append-nil done) (goes zero) in
+    let now : PowerGoesOn (went log done).before = subst (λ (ss : List TraceSecond). PowerGoesOn (went log ss).before) (append-nil done) (goes zero) in
     let power : has_power before x ≡ true = lit-power (second_told log before x ∷ []) before x u now refl refl in
     let first : CardsBehind o (done ++ x ∷ []) log d = plain-same o done x log d (inr (power, now.running, refl)) h in
     subst (λ (ss : List TraceSecond). CardsBehind o ss log d) (append_assoc done (x ∷ []) (driven j (u + 1) speed []))
-    (many-quiet j o (done ++ x ∷ []) log (u + 1) speed d (λ i. subst (λ (ss : List TraceSecond). IsGoing (went log ss).before) (sym (append_assoc done (x ∷ []) (driven i (u + 1) speed []))) (goes (suc i))) first)
+    (many-quiet j o (done ++ x ∷ []) log (u + 1) speed d (λ i. subst (λ (ss : List TraceSecond). PowerGoesOn (went log ss).before) (sym (append_assoc done (x ∷ []) (driven i (u + 1) speed []))) (goes (suc i))) first)
 
 one-dark : (o : Origin) (done : List TraceSecond) (log : RunLog) (u speed : ℕ) (d : Devices) → HasLost (went log done).before → 0 < u % 60 → CardsBehind o done log d → HasLost (went log (done ++ quiet u speed ∷ [])).before × CardsBehind o (done ++ quiet u speed ∷ []) log d
 one-dark o done log u speed d lost some h =
@@ -116,7 +116,7 @@ dark-cards n speed old before d some minute o done s now cut h =
     all (suc j) more = many-dark (suc j) o (done ++ s ∷ []) (log_of before) (s.number + 1) speed d lost (omega (arith, number, minute, more)) (omega (arith, number, minute, more)) h
 
 -- ---- WITH POWER
-module _ {U A0 B0 : State} {chip_a chip_b : CardState} (n speed begun : ℕ) (old new : Run) (before after : Outcome) (d e : Devices) (g : IsGoingOn None (old.next / 60) old U chip_a chip_b A0 B0) (lit : old.power ≡ Lit) (some : 0 < n)
+module _ {U A0 B0 : State} {chip_a chip_b : CardState} (n speed begun : ℕ) (old new : Run) (before after : Outcome) (d e : Devices) (g : RunHasPower None (old.next / 60) old U chip_a chip_b A0 B0) (lit : old.power ≡ Lit) (some : 0 < n)
     (minute : old.next % 60 + n ≤ 60) (small : old.next + n ≤ end_of_seconds) (low : 0 < old.next) (h : IsBookedTurn n speed begun old new before after d e) where
   abbrev T : IsLitTurn n speed begun old new before after
   T = h.0
@@ -134,7 +134,7 @@ module _ {U A0 B0 : State} {chip_a chip_b : CardState} (n speed begun : ℕ) (ol
   told-is = ap log_of T.kept.outcome ∙ ap (λ (bs : List Break). record (log_of before) { breaks = bs }) told-tears.are
 
   -- THE LAST SECOND, once its actions are noted
-  module _ (o : Origin) (origin : IsOrigin o) (D : List TraceSecond) (L : TraceSecond) (rest : List Minute) (next_ gone : ℕ) (w : Within o D L Keeping [] (Some L.speed) rest (record (values_of old before) { minutes = T.fed.minutes; next = next_; begun = gone }) d)
+  module _ (o : Origin) (origin : IsOrigin o) (D : List TraceSecond) (L : TraceSecond) (rest : List Minute) (next_ gone : ℕ) (w : RecordInSecond o D L Keeping [] (Some L.speed) rest (record (values_of old before) { minutes = T.fed.minutes; next = next_; begun = gone }) d)
       (number : L.number ≡ old.next + n - 1) (acts : length L.actions ≡ begun) (timed : AreTimedOn o.found d e) (r : CardsIn o D L w.b.run.log L.actions (log_of before) d) where
     abbrev log : RunLog
     log = log_of before
@@ -239,14 +239,14 @@ module _ {U A0 B0 : State} {chip_a chip_b : CardState} (n speed begun : ℕ) (ol
       next-one : after_one.values.next ≡ s.number + 1
       next-one = let at_ = after_one.next in let number = now.number in omega (arith, at_, number)
 
-      goes : (i : ℕ) → IsGoing (went log_ ((done ++ s ∷ []) ++ driven i (s.number + 1) s.speed [])).before
+      goes : (i : ℕ) → PowerGoesOn (went log_ ((done ++ s ∷ []) ++ driven i (s.number + 1) s.speed [])).before
       goes i =
           let followed = after_one.recorded.recorded.followed in
           let p : Progress = progress after_one.values (IsLit (after_one.told ∷ after_one.span)) after_one.recorded.book in
           let told = quiet-are-told (rule_of o) (start_at o) o.from (first_of o) (done ++ s ∷ []) p followed after_one.told after_one.span refl i s.speed in
-          subst (λ (l : RunLog). IsGoing (went l ((done ++ s ∷ []) ++ driven i (s.number + 1) s.speed [])).before) after_one.log
-          (subst (λ (u : ℕ). IsGoing (went after_one.values.log ((done ++ s ∷ []) ++ driven i u s.speed [])).before) next-one
-          (subst (λ (g_ : Went). IsGoing g_.before) (sym told) followed.power))
+          subst (λ (l : RunLog). PowerGoesOn (went l ((done ++ s ∷ []) ++ driven i (s.number + 1) s.speed [])).before) after_one.log
+          (subst (λ (u : ℕ). PowerGoesOn (went after_one.values.log ((done ++ s ∷ []) ++ driven i u s.speed [])).before) next-one
+          (subst (λ (g_ : Went). PowerGoesOn g_.before) (sym told) followed.power))
 
       done-is : (done ++ s ∷ []) ++ driven c (s.number + 1) s.speed [] ≡ done ++ s ∷ driven c (s.number + 1) s.speed []
       done-is = append_assoc done (s ∷ []) (driven c (s.number + 1) s.speed [])
@@ -254,8 +254,8 @@ module _ {U A0 B0 : State} {chip_a chip_b : CardState} (n speed begun : ℕ) (ol
       behind-all : CardsBehind o (done ++ s ∷ driven c (s.number + 1) s.speed []) log_ d
       behind-all = subst (λ (ss : List TraceSecond). CardsBehind o ss log_ d) done-is (many-quiet c o (done ++ s ∷ []) log_ (s.number + 1) s.speed d goes first-behind)
 
-      goes-l : IsGoing (went log_ (done ++ s ∷ driven c (s.number + 1) s.speed [])).before
-      goes-l = subst (λ (ss : List TraceSecond). IsGoing (went log_ ss).before) done-is (goes c)
+      goes-l : PowerGoesOn (went log_ (done ++ s ∷ driven c (s.number + 1) s.speed [])).before
+      goes-l = subst (λ (ss : List TraceSecond). PowerGoesOn (went log_ ss).before) done-is (goes c)
 
       -- the log tells of no find in a later second
       untold_ : FoundTo log_ (last_of (suc c) s).number 0

@@ -22,7 +22,7 @@ use Rattle.run_rings.proofs.Notes.{answered-found, action-notes, later-lines, se
 use Rattle.run_rings.proofs.Actions.{none-ahead, power-notes}
 use Rattle.run_promise.specs.Origin.{Origin, rule_of, start_at, first_of}
 use Rattle.run_promise.specs.Whole.{NothingFailed}
-use Rattle.run_course.specs.Followed.{Progress, Followed}
+use Rattle.run_course.specs.Followed.{Progress, BookFollowsRun}
 use Rattle.run_course.proofs.Reached.{nothing-told}
 use Rattle.run_minutes.specs.declared.keeper.Moment.{Moment}
 use Rattle.run_minutes.specs.Keeping.{tear_of}
@@ -181,5 +181,5 @@ lines-still o began done s log later lines is quiet c none =
     (subst NothingFailed same none, ap (λ (l : RunLog). uses_in o c (notes_now began done l s)) same)
 
 -- a run has told of no find in a later second
-pub untold-to : (o : Origin) (done : List TraceSecond) (p : Progress) → Followed (rule_of o) (start_at o) o.from (first_of o) done p → (u : ℕ) → p.next ≤ u → (n : ℕ) → FoundTo p.log u n
+pub untold-to : (o : Origin) (done : List TraceSecond) (p : Progress) → BookFollowsRun (rule_of o) (start_at o) o.from (first_of o) done p → (u : ℕ) → p.next ≤ u → (n : ℕ) → FoundTo p.log u n
 untold-to o done p f u le n k slot lt = (nothing-told (rule_of o) (start_at o) o.from (first_of o) done p f u le).found (In k) slot

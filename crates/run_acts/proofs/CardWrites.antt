@@ -29,12 +29,12 @@ use Rattle.run_crew.specs.declared.cards.Cards.{Cards}
 use Rattle.run_crew.specs.Cards.{known_of, session_of, accepted_number, IsKnown}
 use Rattle.run_crew.specs.Cabin.{number_of_seat}
 use Rattle.run_promise.specs.Found.{Found, found_of}
-use Rattle.run_promise.specs.Between.{Carried}
-use Rattle.run_devices.specs.Told.{IsPowered, IsOn, arranged}
+use Rattle.run_promise.specs.Between.{RunLedger}
+use Rattle.run_devices.specs.Told.{DevicesPowered, SessionIsOnCard, arranged}
 use Rattle.run_devices.proofs.Parts.{CardLit, parts-of}
 use Rattle.run_minutes.specs.declared.keeper.Moment.{Moment}
-use Rattle.run_minutes.specs.Keeping.{CardReady}
-use Rattle.run_minutes.specs.Minutes.{Told, Reach, Whole, Short, IsReach}
+use Rattle.run_minutes.specs.Keeping.{CardMayBeCalled}
+use Rattle.run_minutes.specs.Minutes.{KeepingState, Reach, Whole, Short, IsReach}
 use Rattle.run_minutes.specs.Books.{HaveTime}
 use Rattle.run_minutes.specs.Decided.{BooksAll, MayBookAll, carried_by}
 use Rattle.run_acts.specs.Acting.{Closing, Closed}
@@ -103,7 +103,7 @@ module _ (entry : PlaceEntry) (X Y : State) where
           place-some a after (subst (λ (p : Application). HasPlace p entry X Y) same has)
 
   -- it stands on it, by the sizes of its session
-  pub place-on : (card : Card) (cards : Cards) (app : Application) (chip : CardState) (after : Option Accepted) → CardReady (known_of cards card) chip X → (known_of cards card).sizes ≡ Ok app → HasPlace app entry X Y → PlaceOn (session_of cards card) after false entry X Y
+  pub place-on : (card : Card) (cards : Cards) (app : Application) (chip : CardState) (after : Option Accepted) → CardMayBeCalled (known_of cards card) chip X → (known_of cards card).sizes ≡ Ok app → HasPlace app entry X Y → PlaceOn (session_of cards card) after false entry X Y
   place-on A cards app chip after ready told has = place-of app cards.a after ready.is_known told has
   place-on B cards app chip after ready told has = place-of app cards.b after ready.is_known told has
 
@@ -142,15 +142,15 @@ closes-well a act X Y R whole after works well run closed c left =
     )
 
 -- what the image of an accepted card is that is carried: its session knows it
-pub session-knows : (f : Found) (w : Carried) (cards : Cards) (c : Card) (U X Z : State) → IsPowered f w cards (arranged c U X Z) → IsOwnValid (found_of f c).image → (a : Accepted) → session_of cards c ≡ Some a → IfSome X.image (IsSession a.session)
+pub session-knows : (f : Found) (w : RunLedger) (cards : Cards) (c : Card) (U X Z : State) → DevicesPowered f w cards (arranged c U X Z) → IsOwnValid (found_of f c).image → (a : Accepted) → session_of cards c ≡ Some a → IfSome X.image (IsSession a.session)
 session-knows f w cards c U X Z p valid a has =
     let one = subst (λ (o : Option Accepted). CardLit f w.book (w.standing c) (w.brought c) o c U X) has ((parts-of f w cards c U X Z p).mine valid) in
-    let on : IsOn (found_of f c) one.goes.has (w.standing c) a.session X = one.goes.goes in
+    let on : SessionIsOnCard (found_of f c) one.goes.has (w.standing c) a.session X = one.goes.goes in
     on.session
 
-module _ (c : Card) (U V X Y Z : State) (unit : LeavesOnly U V LeavesJournal) (later : X.clock ≤ Y.clock) (closing : Closing) (decided : List Minute) (at : Moment) (t v : Told) (d : Devices) (act : Activity)
+module _ (c : Card) (U V X Y Z : State) (unit : LeavesOnly U V LeavesJournal) (later : X.clock ≤ Y.clock) (closing : Closing) (decided : List Minute) (at : Moment) (t v : KeepingState) (d : Devices) (act : Activity)
     (closes : ClosesCard closing (session_of v.keeper.cabin.cards c) act X Y) where
-  shut-by : (f : Found) (w : Carried) → IsPowered f w v.keeper.cabin.cards (arranged c U X Z) → IsOwnValid (found_of f c).image → closing ≡ Closed → IsShut (session_of v.keeper.cabin.cards c) act Y
+  shut-by : (f : Found) (w : RunLedger) → DevicesPowered f w v.keeper.cabin.cards (arranged c U X Z) → IsOwnValid (found_of f c).image → closing ≡ Closed → IsShut (session_of v.keeper.cabin.cards c) act Y
   shut-by f w p valid is = by (session_of v.keeper.cabin.cards c) refl
     where
       by : (o : Option Accepted) → session_of v.keeper.cabin.cards c ≡ o → IsShut o act Y
@@ -162,7 +162,7 @@ module _ (c : Card) (U V X Y Z : State) (unit : LeavesOnly U V LeavesJournal) (l
 
   -- behind the minutes that were kept first
   pub withdrawn-shut : (reach : Reach) → IsReach decided at false t v reach → BooksAll decided false reach t v d (arranged c U X Z)
-      → closing ≡ Closed → (f : Found) (w : Carried) (start : ℕ) (g : Travel) → MayBookAll f w decided t d → HasTravelled start w.book g d.unit → t.keeper.odometer ≡ odometer_after start g.before → HaveTime (arranged c V Y Z) → IsOwnValid (found_of f c).image
+      → closing ≡ Closed → (f : Found) (w : RunLedger) (start : ℕ) (g : Travel) → MayBookAll f w decided t d → HasTravelled start w.book g d.unit → t.keeper.odometer ≡ odometer_after start g.before → HaveTime (arranged c V Y Z) → IsOwnValid (found_of f c).image
       → IsShut (session_of v.keeper.cabin.cards c) act Y
   withdrawn-shut (Short xs m round) is books = absurd is
   withdrawn-shut (Whole xs) is books = λ same f w start g may gone stored time valid.

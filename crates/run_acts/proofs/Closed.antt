@@ -18,7 +18,7 @@ use Rattle.card_session.specs.Cards.{IsCardClosing}
 use Rattle.device_calls.specs.Times.{AreTimedSince}
 use Rattle.device_calls.proofs.TimedCalls.{closing-timed}
 use Rattle.minute_model.specs.Span.{Span, end_of}
-use Rattle.minute_rules.specs.Kept.{StandsFor}
+use Rattle.minute_rules.specs.Kept.{CountsSpan}
 use Rattle.log_model.specs.declared.lines.Break.{Break}
 use Rattle.log_model.specs.Log.{In}
 use Rattle.log_model.specs.Causes.{RoseBy}
@@ -32,11 +32,11 @@ use Rattle.run_crew.specs.declared.cards.Accepted.{Accepted}
 use Rattle.run_crew.specs.declared.cards.Cards.{Cards}
 use Rattle.run_crew.specs.declared.cabin.Cabin.{Cabin}
 use Rattle.run_crew.specs.Cards.{session_of, with_session}
-use Rattle.run_crew.specs.Cabin.{torn_out, with_session_of, Stands, crew_of}
+use Rattle.run_crew.specs.Cabin.{torn_out, with_session_of, CabinIsSound, crew_of}
 use Rattle.run_promise.specs.Found.{Found, found_of}
-use Rattle.run_promise.specs.Between.{Carried}
+use Rattle.run_promise.specs.Between.{RunLedger}
 use Rattle.run_course.specs.Seconds.{kept_all}
-use Rattle.run_devices.specs.Told.{AreFoundCards, IsOn, IsPowered, arranged}
+use Rattle.run_devices.specs.Told.{AreFoundCards, SessionIsOnCard, DevicesPowered, arranged}
 use Rattle.run_devices.proofs.Parts.{CardLit, parts-of}
 use Rattle.run_devices.proofs.Travelled.{travelled-noted}
 use Rattle.run_course.specs.Reached.{IsTearAt}
@@ -48,7 +48,7 @@ use Rattle.run_minutes.proofs.Fates.{no-lines}
 use Rattle.run_minutes.proofs.CardBooked.{session-unset}
 use Rattle.run_promise.specs.Origin.{Origin, rule_of}
 use Rattle.run_record.specs.Recorded.{Values, carried}
-use Rattle.run_record.specs.Within.{IsLeaving, GoesOnSo, GoesOn, CutWithin}
+use Rattle.run_record.specs.Within.{IsLeaving, GoesOnSo, SecondGoesOn, RecordAtFailure}
 use Rattle.run_record.specs.Taking.{IsCalledLeaving, fallen_values}
 use Rattle.run_record.proofs.Closing.{session-closed, closing-fails, leaving-torn, leaving-tear_fails}
 use Rattle.run_acts.specs.declared.run.Run.{Run}
@@ -99,11 +99,11 @@ use Rattle.run_acts.proofs.Since.{HasSat}
 use Rattle.run_acts.proofs.LastLine.{IsSince, since-line, only-second, acceptances-merged, lines-own, found_of_all, last-found}
 
 -- when a card was last used, behind the closing of its session
-closed-timed : (f : Found) (w : Carried) (cards : Cards) (c : Card) (U X Y Z : State) → AreFoundCards f cards → IsCoherent X → LARGEST_IMAGE ≤ X.size → (a : Accepted) (act : Activity) → session_of cards c ≡ Some a → IsPowered f w cards (arranged c U X Z) →
+closed-timed : (f : Found) (w : RunLedger) (cards : Cards) (c : Card) (U X Y Z : State) → AreFoundCards f cards → IsCoherent X → LARGEST_IMAGE ≤ X.size → (a : Accepted) (act : Activity) → session_of cards c ≡ Some a → DevicesPowered f w cards (arranged c U X Z) →
     LeavesOnly X Y (λ i n. IsSession a.session i → IsCardClosing a.session act i n) → IsOwnValid (found_of f c).image → AreTimedSince (found_of f c).image (found_of f c).began X → AreTimedSince (found_of f c).image (found_of f c).began Y
 closed-timed f w cards c U X Y Z found whole size a act has p run valid h =
     let one : CardLit f w.book (w.standing c) (w.brought c) (Some a) c U X = subst (λ (o : Option Accepted). CardLit f w.book (w.standing c) (w.brought c) o c U X) has ((parts-of f w cards c U X Z p).mine valid) in
-    let on : IsOn (found_of f c) one.goes.has (w.standing c) a.session X = one.goes.goes in
+    let on : SessionIsOnCard (found_of f c) one.goes.has (w.standing c) a.session X = one.goes.goes in
     let sound : IsApplication a.session.application = subst IsApplication (sym on.sizes) (found.sizes c valid) in
     let fits = largest_image a.session.application sound in
     closing-timed (found_of f c).image (found_of f c).began X Y one.rule.dark.later whole h a.session act sound (omega (arith, fits, size))
@@ -112,7 +112,7 @@ closed-timed f w cards c U X Y Z found whole size a act has p run valid h =
 
 module _ {C : Type 0} (state : C → State) (c : Card) (slot : Slot) (at : Moment) (run : Run) (told : Outcome) (U V Z : State) (x y : C) (unit_whole : IsCoherent U) (whole : IsCoherent (state x)) (size : LARGEST_IMAGE ≤ (state x).size)
     (left : IfSome (session_of run.keeper.cabin.cards c) (λ s. (act : Activity) × LeavesOnly (state x) (state y) (λ i n. IsSession s.session i → IsCardClosing s.session act i n))) (still : session_of run.keeper.cabin.cards c ≡ None → y ≡ x)
-    (unit : LeavesOnly U V LeavesJournal) (failed : Bool) (cause : HasCause U V failed) (span : Span) (stands : StandsFor run.minutes span) (ends : end_of span ≡ run.next)
+    (unit : LeavesOnly U V LeavesJournal) (failed : Bool) (cause : HasCause U V failed) (span : Span) (stands : CountsSpan run.minutes span) (ends : end_of span ≡ run.next)
     (o : Origin) (done : List TraceSecond) (s : TraceSecond) (n : ℕ) (moment : at ≡ record { second = s.number; begun = n; late = false }) (w : RunWithin o done s (In n) [] [] run told (arranged c U (state x) Z)) (from : w.within.from ≡ s.number / 60)
     (leaving : is_some (session_of run.keeper.cabin.cards c) ≡ true → IsLeaving (log_of told) (went w.within.b.run.log done).before s (In n) (s.number / 60) (s.number / 60) run.keeper.cabin slot c) where
   abbrev d : Devices
@@ -124,7 +124,7 @@ module _ {C : Type 0} (state : C → State) (c : Card) (slot : Slot) (at : Momen
   abbrev v : Values
   v = values_of run told
 
-  abbrev carries : Carried
+  abbrev carries : RunLedger
   carries = carried v w.within.due (kept_all w.within.new w.within.b.run.book) w.within.standing w.within.brought
 
   began : o.found.unit.began ≤ U.clock
@@ -173,7 +173,7 @@ module _ {C : Type 0} (state : C → State) (c : Card) (slot : Slot) (at : Momen
     stays-closed shut valid ss h =
         let one : CardLit o.found carries.book (carries.standing c) (carries.brought c) (Some a) c U (state x) =
         subst (λ (q : Option Accepted). CardLit o.found carries.book (carries.standing c) (carries.brought c) q c U (state x)) has ((parts-of o.found carries run.keeper.cabin.cards c U (state x) Z w.within.powered).mine valid) in
-        let on : IsOn (found_of o.found c) one.goes.has (carries.standing c) a.session (state x) = one.goes.goes in
+        let on : SessionIsOnCard (found_of o.found c) one.goes.has (carries.standing c) a.session (state x) = one.goes.goes in
         let sound : IsApplication a.session.application = subst IsApplication (sym on.sizes) (w.within.found.sizes c valid) in
         let most = largest_image a.session.application sound in
         stays-close s.number (found_of o.found c) run.keeper.memory.registration (spells_of c so-far) (sits_in run.keeper.cabin.slots.seats c) (sits_in run.keeper.cabin.slots.seats c) ss shut.0 a (state x) (state y)
@@ -251,7 +251,7 @@ module _ {C : Type 0} (state : C → State) (c : Card) (slot : Slot) (at : Momen
     fell : HasBroken (state x) (state y) 1 → (b : Bool) → failed ≡ b → IsPoweredOrOff b o.found (carried_closed Fell c carries) (with_session c None (with_session c None run.keeper.cabin.cards)) e →
         GoesOnOrFails b o done s (In n) [] (with_cabin (torn_out c at.second (with_session_of c None run.keeper.cabin)) run) (record told { breaks = with_lines (tear_of slot at ∷ []) told.breaks }) e w.within.b
     fell broken false is powered = goes-as o done s (In n) (In n) [] [] [] run (with_cabin (torn_out c at.second (with_session_of c None run.keeper.cabin)) run) told (record told { breaks = with_lines (tear_of slot at ∷ []) told.breaks }) d e w.within.from w refl refl
-        (subst (λ (u : ℕ). GoesOn o done s (In n) [] None [] (fallen_values (tear_of slot at) c u v) e w.within.b w.within.from) (sym second)
+        (subst (λ (u : ℕ). SecondGoesOn o done s (In n) [] None [] (fallen_values (tear_of slot at) c u v) e w.within.b w.within.from) (sym second)
         (leaving-torn d e o done s (In n) v w.within slot c called (tear_of slot at) tear-here (card-fell c U V (state x) (state y) Z cause.breakdowns (rose-by (state x).breakdowns (state y).breakdowns broken.breakdowns)) powered))
         (λ none. no-tear (log_of told) slot at none)
     fell broken true is powerless = record {
@@ -260,7 +260,7 @@ module _ {C : Type 0} (state : C → State) (c : Card) (slot : Slot) (at : Momen
       same = refl;
       odometer = run.keeper.odometer;
       counted = λ lit. refl;
-      within = subst (λ (u : ℕ). CutWithin o done s (In n) [] None (fallen_values (tear_of slot at) c u v) e) (sym second)
+      within = subst (λ (u : ℕ). RecordAtFailure o done s (In n) [] None (fallen_values (tear_of slot at) c u v) e) (sym second)
           (leaving-tear_fails d e o done s (In n) v w.within slot c called (tear_of slot at) tear-here (card-fell c U V (state x) (state y) Z cause.breakdowns (rose-by (state x).breakdowns (state y).breakdowns broken.breakdowns))
           powerless (broke is) (λ keeping. cc));
     }
@@ -297,7 +297,7 @@ module _ {C : Type 0} (state : C → State) (c : Card) (slot : Slot) (at : Momen
 
   -- ---- its events
 
-  module _ (small : s.number < 2 ^ 32) (none : NotFound (In n) (other_slot slot) (log_of told) s.number) (follows : MayFollow (In n) slot (log_of told) s) (low : ℕ) (sits_ : Stands low (Some c) run.keeper.cabin) (actions : List Action) (behind : IsLeft s (In n) actions)
+  module _ (small : s.number < 2 ^ 32) (none : NotFound (In n) (other_slot slot) (log_of told) s.number) (follows : MayFollow (In n) slot (log_of told) s) (low : ℕ) (sits_ : CabinIsSound low (Some c) run.keeper.cabin) (actions : List Action) (behind : IsLeft s (In n) actions)
       (now : EventedNow o done s w.within.b.run Acting (log_of told) d) where
     -- it is closed
     closes-evented : (state y).breakdowns ≡ (state x).breakdowns → (a : Accepted) → session_of run.keeper.cabin.cards c ≡ Some a → NotesEvents [] failed d e → EventsGoOn failed o done s w.within.b.run (In n) Acting (log_of told) e

@@ -13,7 +13,7 @@ use Rattle.tacho_types.specs.declared.numbers.TimeReal.{TimeReal}
 use Rattle.tacho_types.specs.declared.numbers.Odometer.{Odometer}
 use Rattle.tacho_types.specs.Numbers.{time_bytes, odometer_bytes}
 use Rattle.minute_model.specs.Span.{Span}
-use Rattle.minute_rules.specs.Kept.{StandsFor}
+use Rattle.minute_rules.specs.Kept.{CountsSpan}
 use Rattle.gated_ring.specs.Ring.{PointsInside, IsDense, size_of, place_of, indices, ring_list, entry_at, taken}
 use Rattle.gated_ring.specs.Change.{IsAdded, IsAdding}
 use Rattle.gated_ring.proofs.Elsewhere.{ring_outside}
@@ -23,7 +23,7 @@ use Rattle.message_model.specs.Records.{insertion_widths, insertion_ring, unit_p
 use Rattle.unit_notes.specs.Noting.{out_place, with_withdrawal, IsWithdrawn}
 use Rattle.unit_model.specs.Image.{IsUnit}
 use Rattle.run_crew.specs.declared.cards.Accepted.{Accepted}
-use Rattle.run_rings.specs.Carried.{Carries}
+use Rattle.run_rings.specs.Carried.{RingKeeps}
 use Rattle.run_rings.proofs.Carried.{carries-none, carries-more, carries-same}
 use Rattle.run_note_record.specs.Ringed.{HasSameRings, LeavesRings, WritesImages, Seating, IsAddedAt}
 use Rattle.run_note_record.proofs.OnCards.{whole-head}
@@ -38,7 +38,7 @@ use Rattle.run_acts.proofs.KeptEvents.{as-long}
 -- ---- one image behind another
 
 -- by the entries
-tells-carried : (x y : List ℕ) (more : List (List ℕ)) → Carries insertion_ring x y more → TellsMore (map told_in more) x y
+tells-carried : (x y : List ℕ) (more : List (List ℕ)) → RingKeeps insertion_ring x y more → TellsMore (map told_in more) x y
 tells-carried x y more h = record {
   points = h.points;
   dense = h.dense;
@@ -59,7 +59,7 @@ tells-bytes x y same points dense = tells-carried x y [] (carries-same insertion
 tells-added : (head x y : List ℕ) → IsAdded insertion_ring head x y → length head ≡ insertion_ring.width → PointsInside insertion_ring x → IsDense insertion_ring x → TellsMore (told_in head ∷ []) x y
 tells-added head x y added full points dense =
     tells-carried x y (head ∷ [])
-    (subst (λ (l : List ℕ). Carries insertion_ring x y (l ∷ [])) (whole-head insertion_ring x (taken insertion_ring x) head full)
+    (subst (λ (l : List ℕ). RingKeeps insertion_ring x y (l ∷ [])) (whole-head insertion_ring x (taken insertion_ring x) head full)
     (carries-more insertion_ring x x [] (carries-none insertion_ring x points dense) head y added))
 
 -- one after another
@@ -204,7 +204,7 @@ withdrawal-more s second odometer U V whole unit writes = λ y left.
     )
 
 -- a session is closed
-pub closes-more : (closing : Closing) (session : Option Accepted) (at : Moment) (failed : Bool) (run : Run) (U V : State) → IsCoherent V → IsUnit V → (span : Span) → StandsFor run.minutes span → ClosesRings closing session at failed run U V → failed ≡ false → TellMore [] U V
+pub closes-more : (closing : Closing) (session : Option Accepted) (at : Moment) (failed : Bool) (run : Run) (U V : State) → IsCoherent V → IsUnit V → (span : Span) → CountsSpan run.minutes span → ClosesRings closing session at failed run U V → failed ≡ false → TellMore [] U V
 closes-more Bare session at failed run U V whole unit span stands rings fine = leaves-more U V rings
 closes-more Closed None at failed run U V whole unit span stands rings fine = absurd rings
 closes-more Closed (Some a) at failed run U V whole unit span stands rings fine =

@@ -22,7 +22,7 @@ use Rattle.unit_rule.specs.Odometer.{HasTravelled}
 use Rattle.safety_model.specs.Safe.{card_of, breakdowns_of}
 use Rattle.run_promise.specs.Found.{found_of}
 use Rattle.run_promise.specs.Cards.{IsUntouched}
-use Rattle.run_promise.specs.Between.{Carried}
+use Rattle.run_promise.specs.Between.{RunLedger}
 use Rattle.run_course.specs.Seconds.{kept_all}
 use Rattle.run_course.specs.Telling.{IsMore, BrokeDown}
 use Rattle.run_devices.specs.Told.{arranged, for_card, with_standing}
@@ -37,7 +37,7 @@ use Rattle.run_insertion.specs.Entering.{Ending, Unfit, Ahead, Fell, Unasked, Un
 use Rattle.run_insertion.specs.Noted.{AreComingOnCard}
 use Rattle.run_insertion.specs.Told.{MayEnter, IsEnteredOn, MayHaveWritten}
 use Rattle.run_record.specs.Recorded.{carried, AreThere}
-use Rattle.run_record.specs.Within.{Within}
+use Rattle.run_record.specs.Within.{RecordInSecond}
 use Rattle.run_acts.specs.Entered.{values_with, MayJudge, HasGone, AreSound}
 use Rattle.run_acts.proofs.EnteredTravelled.{travelled-entered}
 use Rattle.run_minutes.specs.Later.{failed_tears}
@@ -106,8 +106,8 @@ untorn (Lost entered clock entry) e none = absurd (let one : 1 ≡ 0 = none in o
 
 -- ---- the call
 
-module _ (o : Origin) (done : List TraceSecond) (s : TraceSecond) (n : ℕ) (waits fewer : List Visit) (e : Entering) (k : Keeper) (out : Outcome) (unfound next_ begun : ℕ) (minutes : Kept) (U X Z : State) (w : Within o done s (In n) waits None [] (values_with k out unfound next_ begun minutes) (arranged e.which U X Z)) (m : MayJudge o done s n waits fewer e k out unfound next_ begun minutes U X Z w) where
-  abbrev pub before : Carried
+module _ (o : Origin) (done : List TraceSecond) (s : TraceSecond) (n : ℕ) (waits fewer : List Visit) (e : Entering) (k : Keeper) (out : Outcome) (unfound next_ begun : ℕ) (minutes : Kept) (U X Z : State) (w : RecordInSecond o done s (In n) waits None [] (values_with k out unfound next_ begun minutes) (arranged e.which U X Z)) (m : MayJudge o done s n waits fewer e k out unfound next_ begun minutes U X Z w) where
+  abbrev pub before : RunLedger
   before = carried (values_with k out unfound next_ begun minutes) w.due (kept_all w.new w.b.run.book) w.standing w.brought
 
   pub was : AreParts o.found (carried (values_with k out unfound next_ begun minutes) w.due (kept_all w.new w.b.run.book) w.standing w.brought) k.cabin.cards e.which U X Z

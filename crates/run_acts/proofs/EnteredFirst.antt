@@ -13,7 +13,7 @@ use Rattle.card_image.specs.View.{CardView}
 use Rattle.card_image.specs.Own.{own_view}
 use Rattle.log_model.specs.Causes.{device_of}
 use Rattle.log_model.specs.Log.{In}
-use Rattle.log_model.specs.Course.{Told, Visit, went}
+use Rattle.log_model.specs.Course.{ToldSecond, Visit, went}
 use Rattle.history_model.specs.Minutes.{card_history, up_to}
 use Rattle.history_model.specs.Completeness.{IsMarked}
 use Rattle.history_model.specs.Presence.{CardStart}
@@ -38,7 +38,7 @@ use Rattle.run_minutes.specs.declared.keeper.Keeper.{Keeper}
 use Rattle.device_calls.specs.declared.entering.Entered.{Entered}
 use Rattle.run_insertion.specs.declared.lines.Entering.{Entering}
 use Rattle.run_insertion.specs.Told.{IsToldSo}
-use Rattle.run_record.specs.Within.{course_in, often, BringsBy, MayBeWrittenSo, Within}
+use Rattle.run_record.specs.Within.{course_in, often, BringsBy, MayBeWrittenSo, RecordInSecond}
 use Rattle.log_model.specs.declared.lines.Verdict.TheVariants.{Accepted}
 use Rattle.run_acts.specs.Entered.{values_with, MayJudge}
 use Rattle.run_acts.proofs.EnteredFacts.{before, was}
@@ -53,11 +53,11 @@ front-none mark (e ∷ more) due es is low high =
     let late = All-head (λ (d : Entry). mark < d.minute) e (more ++ due) (subst (All (λ (d : Entry). mark < d.minute)) (sym is) high) in
     absurd (omega (arith, early, late))
 
-module _ (o : Origin) (done : List TraceSecond) (s : TraceSecond) (n : ℕ) (waits fewer : List Visit) (e : Entering) (k : Keeper) (out : Outcome) (unfound next_ begun : ℕ) (minutes : Kept) (U X Z : State) (w : Within o done s (In n) waits None [] (values_with k out unfound next_ begun minutes) (arranged e.which U X Z)) (m : MayJudge o done s n waits fewer e k out unfound next_ begun minutes U X Z w) (coherent : IsCoherent X) where
+module _ (o : Origin) (done : List TraceSecond) (s : TraceSecond) (n : ℕ) (waits fewer : List Visit) (e : Entering) (k : Keeper) (out : Outcome) (unfound next_ begun : ℕ) (minutes : Kept) (U X Z : State) (w : RecordInSecond o done s (In n) waits None [] (values_with k out unfound next_ begun minutes) (arranged e.which U X Z)) (m : MayJudge o done s n waits fewer e k out unfound next_ begun minutes U X Z w) (coherent : IsCoherent X) where
   abbrev r : Recording
   r = recording_by o done w.b.run.log
 
-  abbrev told_so_far : List Told
+  abbrev told_so_far : List ToldSecond
   told_so_far = (went w.b.run.log done).told
 
   abbrev book : Book

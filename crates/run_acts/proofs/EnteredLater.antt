@@ -24,7 +24,7 @@ use Rattle.device_calls.proofs.TimedCalls.{use-is}
 use Rattle.device_calls.proofs.OnCard.{own-is, session-is, mark-is}
 use Rattle.log_model.specs.Log.{In}
 use Rattle.log_model.specs.Slots.{same_card}
-use Rattle.log_model.specs.Course.{Told, Visit}
+use Rattle.log_model.specs.Course.{ToldSecond, Visit}
 use Rattle.history_model.specs.Minutes.{card_history, up_to}
 use Rattle.history_model.specs.Presence.{CardStart, closed_at}
 use Rattle.history_model.specs.Book.{all}
@@ -45,7 +45,7 @@ use Rattle.run_promise.specs.Origin.{Origin}
 use Rattle.run_promise.specs.Ends.{recording_by}
 use Rattle.run_minutes.specs.declared.keeper.Keeper.{Keeper}
 use Rattle.run_insertion.specs.declared.lines.Entering.{Entering}
-use Rattle.run_record.specs.Within.{course_in, often, MayBeWrittenSo, Within}
+use Rattle.run_record.specs.Within.{course_in, often, MayBeWrittenSo, RecordInSecond}
 use Rattle.run_acts.specs.Entered.{values_with, MayJudge}
 use Rattle.run_acts.proofs.EnteredFacts.{mine, was, now-is, unit-told, card-began}
 use Rattle.run_acts.proofs.EnteredNewest.{trimmed-most, closed-up, mark-low, beyond-low, brought-part, few-now}
@@ -57,20 +57,20 @@ both-true true true c d one two is = ap (λ (x : Bool). x && d) (one refl) ∙ t
 both-true true false c d one two is = absurd (cc)
 both-true false b c d one two is = absurd (cc)
 
-abbrev entered_in_ : Card → Told → List Visit
+abbrev entered_in_ : Card → ToldSecond → List Visit
 entered_in_ card x = filter (λ (v : Visit). same_card card v.card) x.course.entered
 
-abbrev here : ℕ → Told → Bool
+abbrev here : ℕ → ToldSecond → Bool
 here n x = nat_le x.second.number n && nat_eq (x.second.number / 60) (n / 60)
 
 pub entered-later : (r : Recording) (card : Card) (t u : ℕ) → t ≤ u → t / 60 ≡ u / 60 → entered_by r card t ≤ entered_by r card u
 entered-later r card t u le minute = by (told_of r)
   where
-    up : (x : Told) → here t x ≡ true → here u x ≡ true
+    up : (x : ToldSecond) → here t x ≡ true → here u x ≡ true
     up x is = both-true (nat_le x.second.number t) (nat_eq (x.second.number / 60) (t / 60)) (nat_le x.second.number u) (nat_eq (x.second.number / 60) (u / 60))
         (λ a. grind (arith, nat_tests)) (λ b. grind (arith, nat_tests)) is
 
-    one : (x : Told) → length (cond (here t x) (entered_in_ card x) []) ≤ length (cond (here u x) (entered_in_ card x) [])
+    one : (x : ToldSecond) → length (cond (here t x) (entered_in_ card x) []) ≤ length (cond (here u x) (entered_in_ card x) [])
     one x = go (here t x) (here u x) (up x)
       where
         go : (a b : Bool) → (a ≡ true → b ≡ true) → length (cond a (entered_in_ card x) []) ≤ length (cond b (entered_in_ card x) [])
@@ -78,13 +78,13 @@ entered-later r card t u le minute = by (told_of r)
         go true true imp = omega arith
         go true false imp = absurd (let e : false ≡ true = imp refl in cc)
 
-    by : (told : List Told) → length (flat_map (λ (x : Told). cond (here t x) (entered_in_ card x) []) told) ≤ length (flat_map (λ (x : Told). cond (here u x) (entered_in_ card x) []) told)
+    by : (told : List ToldSecond) → length (flat_map (λ (x : ToldSecond). cond (here t x) (entered_in_ card x) []) told) ≤ length (flat_map (λ (x : ToldSecond). cond (here u x) (entered_in_ card x) []) told)
     by [] = omega arith
     by (x ∷ told) =
         let first = one x in
         let rest = by told in
-        let a = length-append (cond (here t x) (entered_in_ card x) []) (flat_map (λ (x : Told). cond (here t x) (entered_in_ card x) []) told) in
-        let b = length-append (cond (here u x) (entered_in_ card x) []) (flat_map (λ (x : Told). cond (here u x) (entered_in_ card x) []) told) in
+        let a = length-append (cond (here t x) (entered_in_ card x) []) (flat_map (λ (x : ToldSecond). cond (here t x) (entered_in_ card x) []) told) in
+        let b = length-append (cond (here u x) (entered_in_ card x) []) (flat_map (λ (x : ToldSecond). cond (here u x) (entered_in_ card x) []) told) in
         omega (arith, first, rest, a, b)
 
 -- ---- the stored time of an image, by its last use, its end mark and its newest word
@@ -117,7 +117,7 @@ stores x =
 
 -- ---- it tells of a later time
 
-module _ (o : Origin) (done : List TraceSecond) (s : TraceSecond) (n : ℕ) (waits fewer : List Visit) (e : Entering) (k : Keeper) (out : Outcome) (unfound next_ begun : ℕ) (minutes : Kept) (U X Z : State) (w : Within o done s (In n) waits None [] (values_with k out unfound next_ begun minutes) (arranged e.which U X Z)) (m : MayJudge o done s n waits fewer e k out unfound next_ begun minutes U X Z w) (coherent : IsCoherent X) (whole_unit : IsCoherent U) (y : List ℕ) (there : X.may_leave y) (late : s.number < (own_view y).stored) (may : MayBeWrittenSo o w.b done (course_in w.b done s (In n) (values_with k out unfound next_ begun minutes).log) waits s.number k.cabin.slots e.which) where
+module _ (o : Origin) (done : List TraceSecond) (s : TraceSecond) (n : ℕ) (waits fewer : List Visit) (e : Entering) (k : Keeper) (out : Outcome) (unfound next_ begun : ℕ) (minutes : Kept) (U X Z : State) (w : RecordInSecond o done s (In n) waits None [] (values_with k out unfound next_ begun minutes) (arranged e.which U X Z)) (m : MayJudge o done s n waits fewer e k out unfound next_ begun minutes U X Z w) (coherent : IsCoherent X) (whole_unit : IsCoherent U) (y : List ℕ) (there : X.may_leave y) (late : s.number < (own_view y).stored) (may : MayBeWrittenSo o w.b done (course_in w.b done s (In n) (values_with k out unfound next_ begun minutes).log) waits s.number k.cabin.slots e.which) where
   abbrev img : List ℕ
   img = card_image o.recording e.which
 

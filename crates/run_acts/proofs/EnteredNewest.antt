@@ -48,7 +48,7 @@ use Rattle.device_calls.specs.declared.entering.Entered.{Entered}
 use Rattle.run_insertion.specs.declared.lines.Entering.{Entering}
 use Rattle.run_insertion.specs.Told.{IsToldSo}
 use Rattle.run_record.specs.Recorded.{SitsAccepted, LeftSince}
-use Rattle.run_record.specs.Within.{course_in, MayBeWrittenSo, Within}
+use Rattle.run_record.specs.Within.{course_in, MayBeWrittenSo, RecordInSecond}
 use Rattle.run_acts.specs.Entered.{values_with, MayJudge}
 use Rattle.run_acts.proofs.EnteredFacts.{mine, before, was, now-is, card-began}
 
@@ -185,7 +185,7 @@ start-is : (r : Recording) (c : Card) → card_start (start_of r) c ≡ brought 
 start-is r A = refl
 start-is r B = refl
 
-module _ (o : Origin) (done : List TraceSecond) (s : TraceSecond) (n : ℕ) (waits fewer : List Visit) (e : Entering) (k : Keeper) (out : Outcome) (unfound next_ begun : ℕ) (minutes : Kept) (U X Z : State) (w : Within o done s (In n) waits None [] (values_with k out unfound next_ begun minutes) (arranged e.which U X Z)) (m : MayJudge o done s n waits fewer e k out unfound next_ begun minutes U X Z w) (coherent : IsCoherent X) where
+module _ (o : Origin) (done : List TraceSecond) (s : TraceSecond) (n : ℕ) (waits fewer : List Visit) (e : Entering) (k : Keeper) (out : Outcome) (unfound next_ begun : ℕ) (minutes : Kept) (U X Z : State) (w : RecordInSecond o done s (In n) waits None [] (values_with k out unfound next_ begun minutes) (arranged e.which U X Z)) (m : MayJudge o done s n waits fewer e k out unfound next_ begun minutes U X Z w) (coherent : IsCoherent X) where
   abbrev book : Book
   book = kept_all w.new w.b.run.book
 

@@ -35,14 +35,14 @@ use Rattle.card_slots.specs.Kept.{Kept as SlotsKept}
 use Rattle.run_course.specs.Moments.{and_find}
 use Rattle.run_course.specs.Reached.{IsFindAt, moved_at}
 use Rattle.run_record.specs.Recorded.{Values}
-use Rattle.run_record.specs.Within.{Within}
+use Rattle.run_record.specs.Within.{RecordInSecond}
 use Rattle.run_record.specs.Judging.{IsNext}
 use Rattle.run_minutes.specs.declared.keeper.Moment.{Moment}
 use Rattle.run_crew.specs.declared.cards.Accepted.{Accepted}
 use Rattle.run_crew.specs.declared.cabin.Cabin.{Cabin}
 use Rattle.run_crew.specs.Cards.{session_of}
 use Rattle.run_promise.specs.Found.{CardFound, found_of}
-use Rattle.run_promise.specs.Between.{Carried}
+use Rattle.run_promise.specs.Between.{RunLedger}
 use Rattle.run_devices.specs.Told.{arranged, card_marks}
 use Rattle.run_devices.proofs.Known.{session-sized}
 use Rattle.run_promise.specs.Origin.{Origin}
@@ -106,7 +106,7 @@ pub record NotesFind (e : Entering) (log : RunLog) (notes : RunLog → List Note
   pub others : spells_of (other e.which) (notes (and_find log (find_of e verdict))) ≡ spells_of (other e.which) (notes log)
 
 -- so it is within a second
-pub finds-noted : (o : Origin) (done : List TraceSecond) (s : TraceSecond) (n : ℕ) (waits fewer : List Visit) (v : Values) (d : Devices) (w : Within o done s (In n) waits None [] v d) (e : Entering) → e.at ≡ record { second = s.number; begun = n; late = false } →
+pub finds-noted : (o : Origin) (done : List TraceSecond) (s : TraceSecond) (n : ℕ) (waits fewer : List Visit) (v : Values) (d : Devices) (w : RecordInSecond o done s (In n) waits None [] v d) (e : Entering) → e.at ≡ record { second = s.number; begun = n; late = false } →
     IsNext o done s (In n) waits fewer v d w e.slot e.which → found_in v.log s.number (In n) e.slot ≡ [] →
     (e.slot ≡ Driver → ((moved_at v.log (went w.b.run.log done).before s (In n)).enters CoDriver ≡ false) ⊎ (found_in v.log s.number (In n) CoDriver ≡ [])) → (verdict : Verdict) →
     NotesFind e v.log (λ log. notes_within w.b done s (In n) log) verdict
@@ -171,7 +171,7 @@ module _ (o : Origin) (e : Entering) (failed : Bool) (well : failed ≡ false) (
   none-more g rejected = filter-append accepting (log_of out).finds (g ∷ []) ∙ ap (λ (l : List Find). acceptances_told (log_of out) ++ l) rejected ∙ append-nil (acceptances_told (log_of out))
 
   -- what was owed to it as it was looked at, by an image that it may have left, where each entry of it has its mark by now
-  abbrev OwesIn : Carried → Type 0
+  abbrev OwesIn : RunLedger → Type 0
   OwesIn w = NothingFailed (log_of out) → (entered : Entered) → IsToldSo o.found w e entered U X → All (λ (d : Entry). IsMarked after.marks.items (device_of e.which) d.minute) entered.owed.items → (y : List ℕ) × X.may_leave y × t.owed e.which (find_of e (AcceptedWith entered.replayed)) (mark_of (book_of (own_sizes f.image) y)) entered.owed.items
 
   -- what becomes of its stays, as it sits in this cabin behind it
@@ -198,7 +198,7 @@ module _ (o : Origin) (e : Entering) (failed : Bool) (well : failed ≡ false) (
   }
 
   -- of a card that was judged
-  own-judged : (ending : Ending) → after ≡ outcome_by ending e out → (app : Application) (w : Carried) → OwesIn w → (cabin : Cabin) → IsEnding ending app k.memory.registration e failed U.image X Y → IsToldOf ending o.found w e U X → (IsOwnValid f.image → OpensSo ending k.memory.registration e f X Y) → TellsBy e.at.second ending f U W X → NothingFailed (log_by ending)
+  own-judged : (ending : Ending) → after ≡ outcome_by ending e out → (app : Application) (w : RunLedger) → OwesIn w → (cabin : Cabin) → IsEnding ending app k.memory.registration e failed U.image X Y → IsToldOf ending o.found w e U X → (IsOwnValid f.image → OpensSo ending k.memory.registration e f X Y) → TellsBy e.at.second ending f U W X → NothingFailed (log_by ending)
       → (ss : List Stay) (since : List Find) → TurnsBy ending (cabin_by ending e noted cabin) (session_by ending noted) ss since
   own-judged (Unfit fid place) behind app w owes cabin is told opens tells none ss since =
       turned-away (Unfit fid place) cabin (none-more (find_of e (NotValid fid place)) refl) (ap (λ (l : RunLog). spells_of e.which (notes l)) (one-find (NotValid fid place)) ∙ (judges (NotValid fid place)).rejects refl) opens tells ss since since
@@ -258,7 +258,7 @@ module _ (o : Origin) (e : Entering) (failed : Bool) (well : failed ≡ false) (
   }
   own-judged (Lost entered clock entry) behind app w owes cabin is told opens tells none ss since = no-tear (record (log_of out) { finds = (log_by (Lost entered clock entry)).finds }) e.slot e.at none
 
-  own : (way : Way) → after ≡ outcome_by (ending_of way) e out → (w : Carried) → OwesIn w → (cabin : Cabin) → IsWay way k.memory.registration e failed U.image X Y → IsToldOf (ending_of way) o.found w e U X → (IsOwnValid f.image → OpensSo (ending_of way) k.memory.registration e f X Y) → TellsBy e.at.second (ending_of way) f U W X → NothingFailed (log_by (ending_of way))
+  own : (way : Way) → after ≡ outcome_by (ending_of way) e out → (w : RunLedger) → OwesIn w → (cabin : Cabin) → IsWay way k.memory.registration e failed U.image X Y → IsToldOf (ending_of way) o.found w e U X → (IsOwnValid f.image → OpensSo (ending_of way) k.memory.registration e f X Y) → TellsBy e.at.second (ending_of way) f U W X → NothingFailed (log_by (ending_of way))
       → (ss : List Stay) (since : List Find) → TurnsBy (ending_of way) (cabin_by (ending_of way) e noted cabin) (session_by (ending_of way) noted) ss since
   own Unread behind w owes cabin is told opens tells none ss since = no-tear (log_of out) e.slot e.at none
   own (Unsized field) behind w owes cabin is told opens tells none ss since = own-judged (ending_of (Unsized field)) behind (own_sizes f.image) w owes cabin tt tt opens tells none ss since
@@ -323,7 +323,7 @@ module _ (o : Origin) (e : Entering) (failed : Bool) (well : failed ≡ false) (
   sized-slots (Unsized field) = refl
   sized-slots (Judged app ending) = refl
 
-  pub entered-stays : (way : Way) (w : Carried) → HasEntered e failed k v noted noted_after out after U W X Y way → IsEnteredOn (ending_of way) e failed k v U W X Y Z o.found w → OwesIn w → TellsBy e.at.second (ending_of way) f U W X → session_of k.cabin.cards e.which ≡ None
+  pub entered-stays : (way : Way) (w : RunLedger) → HasEntered e failed k v noted noted_after out after U W X Y way → IsEnteredOn (ending_of way) e failed k v U W X Y Z o.found w → OwesIn w → TellsBy e.at.second (ending_of way) f U W X → session_of k.cabin.cards e.which ≡ None
       → session_of v.cabin.cards (other e.which) ≡ session_of k.cabin.cards (other e.which) → AllStay o t u (log_of out) (notes (log_of out)) k.memory.registration k.cabin (arranged e.which U X Z) →
       AllStay o t u (log_of after) (notes (log_of after)) v.memory.registration v.cabin (arranged e.which W Y Z)
   entered-stays way w entered known owes tells bare others all =
@@ -347,7 +347,7 @@ module _ (o : Origin) (e : Entering) (failed : Bool) (well : failed ≡ false) (
       (λ none was. own-slot (ending_of way) (measured way e k).cabin v.cabin (sized-slots way) cabin session none)
       (λ none h. turned way w entered known owes tells none (h.stays e.which) (h.since e.which) bare cabin session) all))
     where
-      turned : (way : Way) (w : Carried) (entered : HasEntered e failed k v noted noted_after out after U W X Y way) → IsEnteredOn (ending_of way) e failed k v U W X Y Z o.found w → OwesIn w → TellsBy e.at.second (ending_of way) f U W X → NothingFailed (log_by (ending_of way)) → (ss : List Stay) (since : List Find) → session_of k.cabin.cards e.which ≡ None →
+      turned : (way : Way) (w : RunLedger) (entered : HasEntered e failed k v noted noted_after out after U W X Y way) → IsEnteredOn (ending_of way) e failed k v U W X Y Z o.found w → OwesIn w → TellsBy e.at.second (ending_of way) f U W X → NothingFailed (log_by (ending_of way)) → (ss : List Stay) (since : List Find) → session_of k.cabin.cards e.which ≡ None →
           v.cabin ≡ cabin_by (ending_of way) e noted (measured way e k).cabin → session_of v.cabin.cards e.which ≡ session_by (ending_of way) noted →
           Turns t e.which u f (log_of out) (log_by (ending_of way)) vehicle (spells_of e.which (notes (log_of out))) (spells_of e.which (notes (log_by (ending_of way)))) (sits_in k.cabin.slots.seats e.which) (sits_in v.cabin.slots.seats e.which) (session_of k.cabin.cards e.which) (session_of v.cabin.cards e.which) U W X Y ss since
       turned way w entered known owes tells none ss since bare cabin session =

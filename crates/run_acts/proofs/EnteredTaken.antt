@@ -32,7 +32,7 @@ use Rattle.run_course.specs.Presence.{IsNewestAt}
 use Rattle.run_course.specs.Seconds.{kept_all}
 use Rattle.run_promise.specs.Going.{IsTakenAt}
 use Rattle.run_devices.specs.Presence.{IsSeated}
-use Rattle.run_devices.specs.Told.{AreFoundCards, IsPowerless, arranged, for_card, card_marks, with_marks, with_standing}
+use Rattle.run_devices.specs.Told.{AreFoundCards, DevicesUnpowered, arranged, for_card, card_marks, with_marks, with_standing}
 use Rattle.run_devices.proofs.Known.{session-sized, early-accepted}
 use Rattle.run_outcome.specs.declared.outcome.Outcome.{Outcome}
 use Rattle.run_promise.specs.Origin.{Origin, start_at, first_of}
@@ -44,7 +44,7 @@ use Rattle.run_insertion.specs.declared.lines.Entering.{Entering}
 use Rattle.run_insertion.specs.Entering.{Way, ending_of, falls_of, find_of, seated, and_one, Unnoted, Seated, Lost}
 use Rattle.run_insertion.specs.Told.{IsTakenOn, IsToldSo}
 use Rattle.run_record.specs.Recorded.{Values, carried}
-use Rattle.run_record.specs.Within.{course_in, often, VerdictBy, AreOld, Within, CutWithin}
+use Rattle.run_record.specs.Within.{course_in, often, VerdictBy, AreOld, RecordInSecond, RecordAtFailure}
 use Rattle.run_record.specs.Judging.{IsJudged, judged_values}
 use Rattle.run_record.specs.Losing.{lost_values, IsLostSo}
 use Rattle.run_record.proofs.Known.{cut-same, taken-now, kept-before}
@@ -86,7 +86,7 @@ slot-put : (slot : Slot) (card : Card) (newest : Option ℕ) (kept : SlotsKept) 
 slot-put Driver card newest kept elsewhere = slot-there (put_in Driver card newest kept).seats Driver card (own-card card newest) elsewhere
 slot-put CoDriver card newest kept elsewhere = slot-there (put_in CoDriver card newest kept).seats CoDriver card (own-card card newest) elsewhere
 
-module _ (o : Origin) (done : List TraceSecond) (s : TraceSecond) (n : ℕ) (waits fewer : List Visit) (e : Entering) (k : Keeper) (out : Outcome) (unfound next_ begun : ℕ) (minutes : Kept) (U X Z : State) (w : Within o done s (In n) waits None [] (values_with k out unfound next_ begun minutes) (arranged e.which U X Z)) (m : MayJudge o done s n waits fewer e k out unfound next_ begun minutes U X Z w) (failed : Bool) (k' : Keeper) (noted noted' : ℕ) (out' : Outcome) (W Y : State) (way : Way) (g : HasGone e failed k k' noted noted' out out' U W X Y Z way) (sound : AreSound U W X Y) (entered : Entered) (clock : ℕ) (told : IsToldSo o.found (with_standing e.which Out (before o done s n waits fewer e k out unfound next_ begun minutes U X Z w m)) e entered U X)
+module _ (o : Origin) (done : List TraceSecond) (s : TraceSecond) (n : ℕ) (waits fewer : List Visit) (e : Entering) (k : Keeper) (out : Outcome) (unfound next_ begun : ℕ) (minutes : Kept) (U X Z : State) (w : RecordInSecond o done s (In n) waits None [] (values_with k out unfound next_ begun minutes) (arranged e.which U X Z)) (m : MayJudge o done s n waits fewer e k out unfound next_ begun minutes U X Z w) (failed : Bool) (k' : Keeper) (noted noted' : ℕ) (out' : Outcome) (W Y : State) (way : Way) (g : HasGone e failed k k' noted noted' out out' U W X Y Z way) (sound : AreSound U W X Y) (entered : Entered) (clock : ℕ) (told : IsToldSo o.found (with_standing e.which Out (before o done s n waits fewer e k out unfound next_ begun minutes U X Z w m)) e entered U X)
     (answered : IsNewestAt (start_at o) (w.b.run.book.sure ++ w.new) k.cabin.slots e.which entered.session.minute s.number)
     (may : (many : ℕ) × (many ≤ often o w.b done (course_in w.b done s (In n) (values_with k out unfound next_ begun minutes).log) s.number e.which) × VerdictBy o w.b done many (out.marks.items ++ card_marks e.which clock entered.owed.items) ((arranged e.which W Y Z).unit.left_since o.found.unit.began) ((card_of (arranged e.which W Y Z) e.which).left_since (found_of o.found e.which).began) e.which s.number (Accepted entered.replayed)) where
   -- the unit had kept this minute last
@@ -133,7 +133,7 @@ module _ (o : Origin) (done : List TraceSecond) (s : TraceSecond) (n : ℕ) (wai
     }
 
     -- and the unit failed behind that
-    taken-fails : falls_of (ending_of way) ≡ 0 → (z : Card → Standing) → failed ≡ true → IsPowerless o.found (carried (judged_values (find_of e (Accepted entered.replayed)) (out.marks.items ++ card_marks e.which clock entered.owed.items) cabin (values_with k out unfound next_ begun minutes)) w.due (kept_all w.new w.b.run.book) z (for_card e.which (k.journal.kept ∷ w.brought e.which) w.brought)) (arranged e.which W Y Z) → CutWithin o done s (In n) fewer None (judged_values (find_of e (Accepted entered.replayed)) (out.marks.items ++ card_marks e.which clock entered.owed.items) cabin (values_with k out unfound next_ begun minutes)) (arranged e.which W Y Z)
+    taken-fails : falls_of (ending_of way) ≡ 0 → (z : Card → Standing) → failed ≡ true → DevicesUnpowered o.found (carried (judged_values (find_of e (Accepted entered.replayed)) (out.marks.items ++ card_marks e.which clock entered.owed.items) cabin (values_with k out unfound next_ begun minutes)) w.due (kept_all w.new w.b.run.book) z (for_card e.which (k.journal.kept ∷ w.brought e.which) w.brought)) (arranged e.which W Y Z) → RecordAtFailure o done s (In n) fewer None (judged_values (find_of e (Accepted entered.replayed)) (out.marks.items ++ card_marks e.which clock entered.owed.items) cabin (values_with k out unfound next_ begun minutes)) (arranged e.which W Y Z)
     taken-fails calm z fails powerless = judging-fails (arranged e.which U X Z) (arranged e.which W Y Z) o done s (In n) waits fewer (values_with k out unfound next_ begun minutes) w e.which (find_of e (Accepted entered.replayed)) (out.marks.items ++ card_marks e.which clock entered.owed.items) cabin (for_card e.which (k.journal.kept ∷ w.brought e.which) w.brought) taken-judged
         (breakdowns o done s n waits fewer e k out unfound next_ begun minutes U X Z w m failed k' noted noted' out' W Y way g sound calm)
         (record { standing = z; powerless = powerless; broke = unit-broke o done s n waits fewer e k out unfound next_ begun minutes U X Z w m failed k' noted noted' out' W Y way g sound fails; no_keeping = λ keeping. not-keeping n keeping })

@@ -37,7 +37,7 @@ use Rattle.run_insertion.specs.declared.lines.Entering.{Entering}
 use Rattle.run_insertion.specs.Entering.{Way, ending_of, falls_of, find_of}
 use Rattle.run_insertion.specs.Told.{IsCarriedOn, MayHaveWritten}
 use Rattle.run_record.specs.Recorded.{Values}
-use Rattle.run_record.specs.Within.{course_in, often, VerdictBy, AreOld, Within, CutWithin}
+use Rattle.run_record.specs.Within.{course_in, often, VerdictBy, AreOld, RecordInSecond, RecordAtFailure}
 use Rattle.run_record.specs.Judging.{IsSeatedBy, IsJudged, MayBeWrittenBy, IsTornNext, judged_values, torn_values}
 use Rattle.run_record.proofs.Steps.{failure-recorded}
 use Rattle.run_record.proofs.Judging.{judged-so, judging-fails}
@@ -49,8 +49,8 @@ pub not-keeping : (n : ℕ) → In n ≡ Keeping → ⊥
 not-keeping n is = cc
 
 -- the power is cut with other sessions and numbers, and the same slots
-pub cut-cabin : (o : Origin) (done : List TraceSecond) (s : TraceSecond) (at : Phase) (waits : List Visit) (speed : Option ℕ) (v : Values) (d : Devices) (cards : Cards) → AreFoundCards o.found cards → CutWithin o done s at waits speed v d →
-    CutWithin o done s at waits speed (record v { cabin = record v.cabin { cards = cards } }) d
+pub cut-cabin : (o : Origin) (done : List TraceSecond) (s : TraceSecond) (at : Phase) (waits : List Visit) (speed : Option ℕ) (v : Values) (d : Devices) (cards : Cards) → AreFoundCards o.found cards → RecordAtFailure o done s at waits speed v d →
+    RecordAtFailure o done s at waits speed (record v { cabin = record v.cabin { cards = cards } }) d
 cut-cabin o done s at waits speed v d cards found w = record {
   b = w.b;
   lit = w.lit;
@@ -109,7 +109,7 @@ old-torn A sizes cards B some = some
 old-torn B sizes cards A some = some
 old-torn B sizes cards B some = absurd (cc)
 
-module _ (o : Origin) (done : List TraceSecond) (s : TraceSecond) (n : ℕ) (waits fewer : List Visit) (e : Entering) (k : Keeper) (out : Outcome) (unfound next_ begun : ℕ) (minutes : Kept) (U X Z : State) (w : Within o done s (In n) waits None [] (values_with k out unfound next_ begun minutes) (arranged e.which U X Z)) (m : MayJudge o done s n waits fewer e k out unfound next_ begun minutes U X Z w) (failed : Bool) (k' : Keeper) (noted noted' : ℕ) (out' : Outcome) (W Y : State) (way : Way) (g : HasGone e failed k k' noted noted' out out' U W X Y Z way) (sound : AreSound U W X Y) where
+module _ (o : Origin) (done : List TraceSecond) (s : TraceSecond) (n : ℕ) (waits fewer : List Visit) (e : Entering) (k : Keeper) (out : Outcome) (unfound next_ begun : ℕ) (minutes : Kept) (U X Z : State) (w : RecordInSecond o done s (In n) waits None [] (values_with k out unfound next_ begun minutes) (arranged e.which U X Z)) (m : MayJudge o done s n waits fewer e k out unfound next_ begun minutes U X Z w) (failed : Bool) (k' : Keeper) (noted noted' : ℕ) (out' : Outcome) (W Y : State) (way : Way) (g : HasGone e failed k k' noted noted' out out' U W X Y Z way) (sound : AreSound U W X Y) where
   -- ---- IT IS TURNED AWAY
 
   module _ (verdict : Verdict) (refused : is_accepting verdict ≡ false) (sizes : Result Application ℕ) (found : AreFoundCards o.found (with_sizes e.which sizes k.cabin.cards))

@@ -32,7 +32,7 @@ use Rattle.device_calls.specs.declared.entering.Entered.{Entered}
 use Rattle.run_insertion.specs.declared.lines.Entering.{Entering}
 use Rattle.run_insertion.specs.Entering.{APPLICATION_FILE}
 use Rattle.run_insertion.specs.Told.{IsToldSo}
-use Rattle.run_record.specs.Within.{course_in, often, VerdictBy, Within}
+use Rattle.run_record.specs.Within.{course_in, often, VerdictBy, RecordInSecond}
 use Rattle.run_acts.specs.Entered.{values_with, MayJudge}
 use Rattle.run_acts.proofs.EnteredFacts.{mine-back, unit-back, before, was, now-is, unit-began, card-began}
 use Rattle.run_acts.proofs.EnteredNewest.{written-or, in-time}
@@ -63,7 +63,7 @@ owed-as : (o : Origin) (c : Card) (u : List ℕ) (y : CardView) → (found_of o.
 owed-as o A u y is = ap (λ (n : List ℕ). owed A (unit_view n o.found.card_b.number u) y) is ∙ owed-a (own_number o.recording.card_a) o.found.card_b.number (own_number o.recording.card_b) u y
 owed-as o B u y is = ap (λ (n : List ℕ). owed B (unit_view o.found.card_a.number n u) y) is ∙ owed-b o.found.card_a.number (own_number o.recording.card_b) (own_number o.recording.card_a) u y
 
-module _ (o : Origin) (done : List TraceSecond) (s : TraceSecond) (n : ℕ) (waits fewer : List Visit) (e : Entering) (k : Keeper) (out : Outcome) (unfound next_ begun : ℕ) (minutes : Kept) (U X Z : State) (w : Within o done s (In n) waits None [] (values_with k out unfound next_ begun minutes) (arranged e.which U X Z)) (m : MayJudge o done s n waits fewer e k out unfound next_ begun minutes U X Z w) (coherent : IsCoherent X) (coherent_unit : IsCoherent U) (W Y : State) (left : HaveLeftMore o (arranged e.which U X Z) (arranged e.which W Y Z)) where
+module _ (o : Origin) (done : List TraceSecond) (s : TraceSecond) (n : ℕ) (waits fewer : List Visit) (e : Entering) (k : Keeper) (out : Outcome) (unfound next_ begun : ℕ) (minutes : Kept) (U X Z : State) (w : RecordInSecond o done s (In n) waits None [] (values_with k out unfound next_ begun minutes) (arranged e.which U X Z)) (m : MayJudge o done s n waits fewer e k out unfound next_ begun minutes U X Z w) (coherent : IsCoherent X) (coherent_unit : IsCoherent U) (W Y : State) (left : HaveLeftMore o (arranged e.which U X Z) (arranged e.which W Y Z)) where
   -- what the card might have left it might have left still
   card-left : (y : List ℕ) → X.may_leave y → (card_of (arranged e.which W Y Z) e.which).left_since (found_of o.found e.which).began y
   card-left y there = left.card e.which y (mine-back e.which U X Z (λ (a : State). a.left_since (found_of o.found e.which).began y) (coherent.counts_now (found_of o.found e.which).began y (card-began o done s n waits fewer e k out unfound next_ begun minutes U X Z w m) there))

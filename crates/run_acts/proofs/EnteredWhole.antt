@@ -37,7 +37,7 @@ use Rattle.run_insertion.specs.Noted.{AreOnCard, is_cut}
 use Rattle.run_insertion.specs.Entered.{IsFoundIn}
 use Rattle.run_insertion.specs.Told.{IsCarriedOn, IsTakenOn, IsToldSo}
 use Rattle.run_insertion.proofs.Carried.{number-still}
-use Rattle.run_record.specs.Within.{Within}
+use Rattle.run_record.specs.Within.{RecordInSecond}
 use Rattle.run_acts.specs.Entered.{values_with, MayJudge, HasGone, AreSound, GoesOnOrIsCut}
 use Rattle.run_acts.proofs.EnteredFacts.{before, now-is, card-tells, card-began, known, left}
 use Rattle.run_acts.proofs.EnteredLines.{lined-as, marks-are, values-as}
@@ -50,7 +50,7 @@ use Rattle.run_acts.proofs.EnteredVerdict.{bad-sizes, bad-file, not-valid, later
 found-before : (f : Found) (c : Card) (cards : Cards) → AreFoundCards f (with_session c None cards) → AreFoundCards f cards
 found-before f c cards found = found-still f (with_session c None cards) cards (λ d. sym (number-still c None cards d)) found
 
-module _ (o : Origin) (done : List TraceSecond) (s : TraceSecond) (n : ℕ) (waits fewer : List Visit) (e : Entering) (k : Keeper) (out : Outcome) (unfound next_ begun : ℕ) (minutes : Kept) (U X Z : State) (w : Within o done s (In n) waits None [] (values_with k out unfound next_ begun minutes) (arranged e.which U X Z)) (m : MayJudge o done s n waits fewer e k out unfound next_ begun minutes U X Z w) where
+module _ (o : Origin) (done : List TraceSecond) (s : TraceSecond) (n : ℕ) (waits fewer : List Visit) (e : Entering) (k : Keeper) (out : Outcome) (unfound next_ begun : ℕ) (minutes : Kept) (U X Z : State) (w : RecordInSecond o done s (In n) waits None [] (values_with k out unfound next_ begun minutes) (arranged e.which U X Z)) (m : MayJudge o done s n waits fewer e k out unfound next_ begun minutes U X Z w) where
   module _ (failed : Bool) (k' : Keeper) (noted noted' : ℕ) (out' : Outcome) (W Y : State) (way : Way) (g : HasGone e failed k k' noted noted' out out' U W X Y Z way) (sound : AreSound U W X Y) where
     -- keeper and lines behind it
     pub values-behind : values_with k' out' unfound next_ begun minutes ≡ values_with (record (measured way e k) { cabin = cabin_by (ending_of way) e noted (measured way e k).cabin }) (outcome_by (ending_of way) e out) unfound next_ begun minutes
@@ -83,7 +83,7 @@ module _ (o : Origin) (done : List TraceSecond) (s : TraceSecond) (n : ℕ) (wai
         g.in_time)
         ((known o done s n waits fewer e k out unfound next_ begun minutes U X Z w m failed k' noted noted' out' W Y way g sound).untouched same)
 
-module _ (o : Origin) (done : List TraceSecond) (s : TraceSecond) (n : ℕ) (waits fewer : List Visit) (e : Entering) (k : Keeper) (out : Outcome) (unfound next_ begun : ℕ) (minutes : Kept) (U X Z : State) (w : Within o done s (In n) waits None [] (values_with k out unfound next_ begun minutes) (arranged e.which U X Z)) (m : MayJudge o done s n waits fewer e k out unfound next_ begun minutes U X Z w) where
+module _ (o : Origin) (done : List TraceSecond) (s : TraceSecond) (n : ℕ) (waits fewer : List Visit) (e : Entering) (k : Keeper) (out : Outcome) (unfound next_ begun : ℕ) (minutes : Kept) (U X Z : State) (w : RecordInSecond o done s (In n) waits None [] (values_with k out unfound next_ begun minutes) (arranged e.which U X Z)) (m : MayJudge o done s n waits fewer e k out unfound next_ begun minutes U X Z w) where
   module _ (failed : Bool) (k' : Keeper) (noted noted' : ℕ) (out' : Outcome) (W Y : State) (sound : AreSound U W X Y) where
     abbrev Goes : Type 0
     Goes = GoesOnOrIsCut failed o done s n waits fewer (values_with k out unfound next_ begun minutes) (values_with k' out' unfound next_ begun minutes) (arranged e.which U X Z) (arranged e.which W Y Z) w

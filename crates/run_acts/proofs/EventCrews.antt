@@ -8,7 +8,7 @@ use Rattle.trace_model.specs.declared.Card.TheVariants.{A, B}
 use Rattle.tacho_types.specs.CardNumber.{card_number_bytes}
 use Rattle.tacho_types.specs.declared.card_number.FullCardNumber.{FullCardNumber}
 use Rattle.log_model.specs.Slots.{Slots, Sitting, same_card}
-use Rattle.log_model.specs.Course.{Told}
+use Rattle.log_model.specs.Course.{ToldSecond}
 use Rattle.history_model.specs.Minutes.{HistoryMinute}
 use Rattle.history_model.specs.Presence.{Start}
 use Rattle.event_model.specs.declared.kinds.TheConstants.{CARD_FAULT}
@@ -19,7 +19,7 @@ use Rattle.run_promise.specs.Found.{Found, found_of}
 use Rattle.run_devices.specs.Told.{AreFoundCards}
 use Rattle.run_minutes.specs.Keeping.{Fate, Still, Has, Fell}
 use Rattle.run_minutes.specs.Faults.{fault_entry, faults_by}
-use Rattle.run_acts.specs.NotedEvents.{IsTold, AreTold}
+use Rattle.run_acts.specs.NotedEvents.{NoteTellsEvent, AreTold}
 use Rattle.note_model.specs.Tables.{number_or_none}
 use Rattle.card_slots.specs.declared.seats.Seat.{Seat}
 use Rattle.card_slots.specs.Calls.{Seats, seat_in, is_card}
@@ -29,7 +29,7 @@ use Rattle.run_crew.specs.declared.cabin.Cabin.{Cabin}
 use Rattle.run_crew.specs.declared.cards.Accepted.{Accepted}
 use Rattle.run_crew.specs.declared.cards.Cards.{Cards}
 use Rattle.run_crew.specs.Cards.{known_of, session_of, with_session, accepted_number}
-use Rattle.run_crew.specs.Cabin.{Stands, AnswersTo, SeatAnswers, SitsNowhere, number_of_seat, slot_with, left_from, torn_out, crew_of}
+use Rattle.run_crew.specs.Cabin.{CabinIsSound, AnswersTo, SeatAnswers, SitsNowhere, number_of_seat, slot_with, left_from, torn_out, crew_of}
 use Rattle.run_record.proofs.Seats.{nowhere-none}
 use Rattle.run_events.specs.Entries.{number_or_no_card, IsCrewOf}
 use Rattle.run_crew.specs.declared.cards.Crew.{Crew}
@@ -71,7 +71,7 @@ seat-well : (low : ℕ) (cards : Cards) (seat : Option Seat) → SeatAnswers low
 seat-well low cards None h = tt
 seat-well low cards (Some seat) h = answers-well low seat.newest (session_of cards seat.card) h
 
-pub all-well : (low : ℕ) (leaving : Option Card) (cabin : Cabin) → Stands low leaving cabin → AllSitWell cabin
+pub all-well : (low : ℕ) (leaving : Option Card) (cabin : Cabin) → CabinIsSound low leaving cabin → AllSitWell cabin
 all-well low leaving cabin h = record { driver = seat-well low cabin.cards cabin.slots.seats.driver h.driver; codriver = seat-well low cabin.cards cabin.slots.seats.codriver h.codriver }
 
 module _ (cards : Cards) (start : Start) (past : List HistoryMinute) (from : ℕ) (kept : Kept) where
@@ -103,7 +103,7 @@ seat-as number cards known seat sitting (inr is) = is.2 ∙ known is.0 is.1 ∙ 
 
 -- ---- both
 
-module _ (start : Start) (told : List Told) (past : List HistoryMinute) (left : List Card) (u from : ℕ) (slots : Slots) (cabin : Cabin) (well : AllSitWell cabin) (tells : SlotsTell start told past left u from slots cabin.slots) where
+module _ (start : Start) (told : List ToldSecond) (past : List HistoryMinute) (left : List Card) (u from : ℕ) (slots : Slots) (cabin : Cabin) (well : AllSitWell cabin) (tells : SlotsTell start told past left u from slots cabin.slots) where
   first-is : SeatIs cabin.cards cabin.slots.seats.driver slots.driver
   first-is = seat-is cabin.cards start past from cabin.slots cabin.slots.seats.driver slots.driver tells.driver well.driver
 
@@ -123,12 +123,12 @@ module _ (start : Start) (told : List Told) (past : List HistoryMinute) (left : 
       ap (λ (q : Option FullCardNumber). record { driver = q; codriver = (crew_of cabin).codriver }) first
       ∙ ap (λ (q : Option FullCardNumber). record { driver = (named number (events.crew_of slots)).driver; codriver = q }) second
 
-pub cards-named : (number : Card → List ℕ) (start : Start) (told : List Told) (past : List HistoryMinute) (left : List Card) (u from low : ℕ) (leaving : Option Card) (slots : Slots) (cabin : Cabin) →
-    Stands low leaving cabin → SlotsTell start told past left u from slots cabin.slots → AreKnownBy number cabin.cards → IsCrewOf number (events.crew_of slots) (crew_of cabin)
+pub cards-named : (number : Card → List ℕ) (start : Start) (told : List ToldSecond) (past : List HistoryMinute) (left : List Card) (u from low : ℕ) (leaving : Option Card) (slots : Slots) (cabin : Cabin) →
+    CabinIsSound low leaving cabin → SlotsTell start told past left u from slots cabin.slots → AreKnownBy number cabin.cards → IsCrewOf number (events.crew_of slots) (crew_of cabin)
 cards-named number start told past left u from low leaving slots cabin stands tells known = sitting-named start told past left u from slots cabin (all-well low leaving cabin stands) tells number known
 
-pub crew-named : (number : Card → FullCardNumber) (start : Start) (told : List Told) (past : List HistoryMinute) (left : List Card) (u from low : ℕ) (leaving : Option Card) (slots : Slots) (cabin : Cabin) →
-    Stands low leaving cabin → SlotsTell start told past left u from slots cabin.slots → AreKnownAs number cabin.cards → crew_of cabin ≡ named number (events.crew_of slots)
+pub crew-named : (number : Card → FullCardNumber) (start : Start) (told : List ToldSecond) (past : List HistoryMinute) (left : List Card) (u from low : ℕ) (leaving : Option Card) (slots : Slots) (cabin : Cabin) →
+    CabinIsSound low leaving cabin → SlotsTell start told past left u from slots cabin.slots → AreKnownAs number cabin.cards → crew_of cabin ≡ named number (events.crew_of slots)
 crew-named number start told past left u from low leaving slots cabin stands tells known = crew-sits start told past left u from slots cabin (all-well low leaving cabin stands) tells number known
 
 -- ---- behind a tear
@@ -156,7 +156,7 @@ not-both seats card apart there = by (is_card seats.driver card) refl
     by false is = is
     by true is = let clash : true ≡ false = sym there ∙ apart card is in absurd (cc)
 
-module _ (number : Card → List ℕ) (start : Start) (told : List Told) (past : List HistoryMinute) (left : List Card) (u from : ℕ) (slots : Slots) (cabin : Cabin) (well : AllSitWell cabin) (tells : SlotsTell start told past left u from slots cabin.slots)
+module _ (number : Card → List ℕ) (start : Start) (told : List ToldSecond) (past : List HistoryMinute) (left : List Card) (u from : ℕ) (slots : Slots) (cabin : Cabin) (well : AllSitWell cabin) (tells : SlotsTell start told past left u from slots cabin.slots)
     (known : AreKnownBy number cabin.cards) where
   was : IsCrewOf number (events.crew_of slots) (crew_of cabin)
   was = sitting-named start told past left u from slots cabin well tells number known
@@ -192,8 +192,8 @@ module _ (number : Card → List ℕ) (start : Start) (told : List Told) (past :
       subst (λ (q : Option Slot). IsCrewOf number (events.with_card CoDriver None (events.crew_of slots)) (crew_of (record { slots = left_from q second cabin.slots; cards = with_session card None cabin.cards }))) (sym (nowhere-none cabin.slots.seats card nowhere))
       (record { driver = stays-in card cabin.slots.seats.driver nowhere.driver ∙ was.driver; codriver = empty-in card cabin.slots.seats.codriver empty })
 
-pub torn-named : (number : Card → List ℕ) (start : Start) (told : List Told) (past : List HistoryMinute) (left : List Card) (u from low : ℕ) (leaving : Option Card) (slots : Slots) (cabin : Cabin) →
-    Stands low leaving cabin → SlotsTell start told past left u from slots cabin.slots → AreKnownBy number cabin.cards → (slot : Slot) (card : Card) → is_card (seat_in cabin.slots.seats slot) card ≡ true → (second : ℕ) →
+pub torn-named : (number : Card → List ℕ) (start : Start) (told : List ToldSecond) (past : List HistoryMinute) (left : List Card) (u from low : ℕ) (leaving : Option Card) (slots : Slots) (cabin : Cabin) →
+    CabinIsSound low leaving cabin → SlotsTell start told past left u from slots cabin.slots → AreKnownBy number cabin.cards → (slot : Slot) (card : Card) → is_card (seat_in cabin.slots.seats slot) card ≡ true → (second : ℕ) →
     IsCrewOf number (events.with_card slot None (events.crew_of slots)) (crew_of (torn_out card second cabin))
 torn-named number start told past left u from low leaving slots cabin stands tells known slot card there second =
     torn-sits number start told past left u from slots cabin (all-well low leaving cabin stands) tells known slot card there second
@@ -210,7 +210,7 @@ sessions-known f number cards found valid same c has = by (known_of cards c).num
 
 -- ---- a fault
 
-fault-told : (number : Card → List ℕ) (second : ℕ) (crew : events.Crew) (numbers : Crew) → second < 2 ^ 32 → IsCrewOf number crew numbers → IsTold number (noted_with CARD_FAULT second second crew) (fault_entry second numbers)
+fault-told : (number : Card → List ℕ) (second : ℕ) (crew : events.Crew) (numbers : Crew) → second < 2 ^ 32 → IsCrewOf number crew numbers → NoteTellsEvent number (noted_with CARD_FAULT second second crew) (fault_entry second numbers)
 fault-told number second crew numbers low named = record {
   is = record {
     kind = refl;

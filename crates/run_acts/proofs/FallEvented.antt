@@ -9,7 +9,7 @@ use Rattle.card_image.specs.Own.{IsOwnValid}
 use Rattle.log_model.specs.declared.lines.Break.{Break}
 use Rattle.log_model.specs.Log.{RunLog, Phase, In, is_torn_in}
 use Rattle.log_model.specs.Slots.{Sitting, in_slot, other_slot}
-use Rattle.log_model.specs.Course.{Visit, Before, Told, Course, visits, card_in as card_of_sitting, went}
+use Rattle.log_model.specs.Course.{Visit, Before, ToldSecond, Course, visits, card_in as card_of_sitting, went}
 use Rattle.event_model.specs.declared.kinds.TheConstants.{CARD_FAULT}
 use Rattle.event_model.specs.Events.{with_card}
 use Rattle.event_model.specs.Events as events
@@ -18,7 +18,7 @@ use Rattle.safety_model.specs.Safe.{Devices, breakdowns_of}
 use Rattle.card_slots.specs.Calls.{seat_in, card_in}
 use Rattle.run_crew.specs.declared.cabin.Cabin.{Cabin}
 use Rattle.run_crew.specs.Cards.{session_of}
-use Rattle.run_crew.specs.Cabin.{Stands, torn_out, with_session_of, crew_of}
+use Rattle.run_crew.specs.Cabin.{CabinIsSound, torn_out, with_session_of, crew_of}
 use Rattle.run_events.specs.Entries.{IsCrewOf, entry_of}
 use Rattle.run_course.specs.Moments.{and_break}
 use Rattle.run_course.specs.Followed.{Progress}
@@ -30,7 +30,7 @@ use Rattle.run_minutes.specs.Keeping.{Fell}
 use Rattle.run_promise.specs.Origin.{Origin, start_at}
 use Rattle.run_promise.specs.Beside.{HaveLeftMore}
 use Rattle.run_record.specs.Recorded.{Values}
-use Rattle.run_record.specs.Within.{Within, course_in, told_before, IsLeaving}
+use Rattle.run_record.specs.Within.{RecordInSecond, course_in, told_before, IsLeaving}
 use Rattle.run_record.proofs.Moved.{not-leaving}
 use Rattle.run_record.proofs.Pulling.{sitting-now}
 use Rattle.run_record.proofs.Seats.{card-seated, none-sits, seat-tells}
@@ -51,7 +51,7 @@ use Rattle.run_acts.proofs.RoundFaults.{AddsFaults}
 -- ---- a call
 
 -- IT NOTES WHAT ITS LINES ADD, or has failed in that
-pub call-evented : (d e : Devices) → ACallNotes d e → AFailureCuts d e → (o : Origin) → AreLong o → (done : List TraceSecond) (s : TraceSecond) (p : Progress) (span : List Told) → BeginsNow o done p span s → (at : Phase) (log later : RunLog) (vs : List UnitEvent) →
+pub call-evented : (d e : Devices) → ACallNotes d e → AFailureCuts d e → (o : Origin) → AreLong o → (done : List TraceSecond) (s : TraceSecond) (p : Progress) (span : List ToldSecond) → BeginsNow o done p span s → (at : Phase) (log later : RunLog) (vs : List UnitEvent) →
     EventedNow o done s p Acting log d → AddsFaults o done s log later vs e → HaveLeftMore o d e → (failed : Bool) → NotesEvents vs failed d e → (failed ≡ true → IsFailing o done s p at later (breakdowns_of e)) → EventsGoOn failed o done s p at Acting later e
 call-evented d e notes cuts o long done s p span begins at log later vs now adds more false noted fails =
     notes o done s p Acting Acting log later adds.events now adds.adds (notes-at vs false d e noted o long adds.events adds.told adds.valid) more
@@ -67,14 +67,14 @@ taken-twice B second cabin = refl
 
 -- ---- within a second
 
-module _ (o : Origin) (origin : IsOrigin o) (done : List TraceSecond) (s : TraceSecond) (at : Phase) (v : Values) (d : Devices) (w : Within o done s at [] None [] v d) where
+module _ (o : Origin) (origin : IsOrigin o) (done : List TraceSecond) (s : TraceSecond) (at : Phase) (v : Values) (d : Devices) (w : RecordInSecond o done s at [] None [] v d) where
   abbrev p : Progress
   p = w.b.run
 
   abbrev was : Before
   was = (went p.log done).before
 
-  abbrev told0 : List Told
+  abbrev told0 : List ToldSecond
   told0 = told_before w.b done
 
   abbrev c : Course
@@ -105,7 +105,7 @@ module _ (o : Origin) (origin : IsOrigin o) (done : List TraceSecond) (s : Trace
       }
 
   -- A CARD FALLS that sits accepted in a slot
-  module _ (slot : Slot) (card : Card) (seated : card_in (seat_in v.cabin.slots.seats slot) ≡ Some card) (some : is_some (session_of v.cabin.cards card) ≡ true) (low : ℕ) (stands : Stands low None v.cabin) where
+  module _ (slot : Slot) (card : Card) (seated : card_in (seat_in v.cabin.slots.seats slot) ≡ Some card) (some : is_some (session_of v.cabin.cards card) ≡ true) (low : ℕ) (stands : CabinIsSound low None v.cabin) where
     sitting : (u : ℕ) × (in_slot c.slots slot ≡ Some (record { card = card; accepted = Some u }))
     sitting = sitting-now o done s at v d w slot card seated low stands some
 
@@ -123,7 +123,7 @@ module _ (o : Origin) (origin : IsOrigin o) (done : List TraceSecond) (s : Trace
         (tears o done p w.b.span s begins-now at v.log reaches-now slot card b here seated-untorn seated-out none follows)
 
   -- A CARD FALLS that is leaving its slot
-  module _ (slot : Slot) (card : Card) (low high : ℕ) (leaving : IsLeaving v.log was s at low high v.cabin slot card) (stand : ℕ) (who : Option Card) (stands : Stands stand who v.cabin) where
+  module _ (slot : Slot) (card : Card) (low high : ℕ) (leaving : IsLeaving v.log was s at low high v.cabin slot card) (stand : ℕ) (who : Option Card) (stands : CabinIsSound stand who v.cabin) where
     empty : in_slot c.slots slot ≡ None
     empty = none-sits (start_at o) (p.book.sure ++ w.new) w.from v.cabin.slots (seat_in v.cabin.slots.seats slot) (in_slot c.slots slot)
         (seat-tells (start_at o) told0 (p.book.sure ++ w.new) c.left s.number w.from c.slots v.cabin.slots w.tells slot) leaving.empty
@@ -146,7 +146,7 @@ pub left-over : (front rest : List Action) (a : Action) (s : TraceSecond) (begun
 left-over front rest a s begun here are = (front ++ a ∷ [], are ∙ sym (append_assoc front (a ∷ []) rest), let long = length-append front (a ∷ []) in omega (arith, long, here))
 
 -- nothing is told of it yet: of no card something was found, and none was torn out
-pub none-yet : (o : Origin) (done : List TraceSecond) (s : TraceSecond) (n begun : ℕ) (v : Values) (d : Devices) → Within o done s (In n) [] None [] v d → begun ≡ suc n → (slot : Slot) → NotFound (In begun) slot v.log s.number × MayFollow (In begun) slot v.log s
+pub none-yet : (o : Origin) (done : List TraceSecond) (s : TraceSecond) (n begun : ℕ) (v : Values) (d : Devices) → RecordInSecond o done s (In n) [] None [] v d → begun ≡ suc n → (slot : Slot) → NotFound (In begun) slot v.log s.number × MayFollow (In begun) slot v.log s
 none-yet o done s n begun v d w is slot =
     subst (λ (k : ℕ). NotFound (In k) slot v.log s.number × MayFollow (In k) slot v.log s) (sym is) (
       w.moment.up_to.found (In (suc n)) slot (omega arith),

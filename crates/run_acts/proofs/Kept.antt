@@ -9,7 +9,7 @@ use Rattle.card_layout.specs.declared.command.CardState.{CardState}
 use Rattle.message_model.specs.Records.{insertion_ring}
 use Rattle.minute_model.specs.declared.Minute.{Minute}
 use Rattle.minute_model.specs.Span.{Span, end_of, ungiven_of}
-use Rattle.minute_rules.specs.Kept.{StandsFor, Kept as Minutes}
+use Rattle.minute_rules.specs.Kept.{CountsSpan, Kept as Minutes}
 use Rattle.minute_model.proofs.Counted.{ungiven-most}
 use Rattle.card_slots.specs.declared.seats.Present.{Present}
 use Rattle.card_slots.specs.declared.seats.Ended.{Ended}
@@ -18,21 +18,21 @@ use Rattle.card_slots.specs.Calls.{Seats, present_in}
 use Rattle.run_crew.specs.declared.cards.Accepted.{Accepted}
 use Rattle.run_crew.specs.declared.cards.Cards.{Cards}
 use Rattle.run_crew.specs.Cards.{session_of}
-use Rattle.run_crew.specs.Cabin.{Stands}
+use Rattle.run_crew.specs.Cabin.{CabinIsSound}
 use Rattle.run_crew.proofs.Ended.{ended-known, ended-later, ended-same}
 use Rattle.run_events.specs.declared.watch.Watch.{Watch}
 use Rattle.run_events.specs.Watching.{Watches}
-use Rattle.run_minutes.specs.Keeping.{IsReady, HasItsRow, HaveRows, AreEmptied, GoesOnFrom, SessionsGoOn}
+use Rattle.run_minutes.specs.Keeping.{DevicesMayBeCalled, HasItsRow, HaveRows, AreEmptied, GoesOnFrom, SessionsGoOn}
 use Rattle.run_minutes.specs.Minutes.{kept_after}
 use Rattle.run_minutes.proofs.Decided.{rows-on}
 use Rattle.run_acts.specs.declared.run.Run.{Run}
-use Rattle.run_acts.specs.Going.{IsGoingOn}
+use Rattle.run_acts.specs.Going.{RunHasPower}
 use Rattle.run_acts.specs.Room.{bare_count, bare_seats}
 use Rattle.run_acts.proofs.Due.{Decides}
 
 -- ---- what the keeping is given
 
-module _ {U A0 B0 : State} {chip_a chip_b : CardState} (leaving : Option Card) (to later : ℕ) (run : Run) (g : IsGoingOn leaving to run U chip_a chip_b A0 B0) (items : List Minute) (d : Decides (ungiven_of g.span) later run.keeper.journal.kept items) (most : later ≤ to) where
+module _ {U A0 B0 : State} {chip_a chip_b : CardState} (leaving : Option Card) (to later : ℕ) (run : Run) (g : RunHasPower leaving to run U chip_a chip_b A0 B0) (items : List Minute) (d : Decides (ungiven_of g.span) later run.keeper.journal.kept items) (most : later ≤ to) where
   pub given-ended : All (λ (m : Minute). is_some (present_in run.keeper.cabin.slots.past m.minute) ≡ true) items
   given-ended = λ k x less.
       let low = d.from k x less in
@@ -70,12 +70,12 @@ present-went P Q goes None h = tt
 present-went P Q goes (Some p) h = goes p h
 
 -- the minutes up to a later one are given, and kept
-module _ {U V A0 A1 B0 B1 : State} {chip_a chip_b next_a next_b : CardState} (leaving : Option Card) (to : ℕ) (old new : Run) (g : IsGoingOn leaving to old U chip_a chip_b A0 B0) (later : Span) (items : List Minute)
+module _ {U V A0 A1 B0 B1 : State} {chip_a chip_b next_a next_b : CardState} (leaving : Option Card) (to : ℕ) (old new : Run) (g : RunHasPower leaving to old U chip_a chip_b A0 B0) (later : Span) (items : List Minute)
     (d : Decides (ungiven_of g.span) (ungiven_of later) old.keeper.journal.kept items) where
-  pub kept-going : StandsFor new.minutes later → end_of later ≡ new.next → later.first ≡ g.span.first → ungiven_of g.span ≤ ungiven_of later → ungiven_of later ≤ to → IsReady new.keeper V next_a next_b A1 B1
+  pub kept-going : CountsSpan new.minutes later → end_of later ≡ new.next → later.first ≡ g.span.first → ungiven_of g.span ≤ ungiven_of later → ungiven_of later ≤ to → DevicesMayBeCalled new.keeper V next_a next_b A1 B1
       → ((card : Card) → HasItsRow old.keeper.cabin.cards U card → HasItsRow new.keeper.cabin.cards V card) → new.keeper.cabin.slots.past ≡ old.keeper.cabin.slots.past → new.keeper.journal.kept ≡ kept_after old.keeper.journal.kept items
-      → ((from : ℕ) (l : Option Card) → All (λ (m : Minute). from ≤ m.minute) items → Stands from l old.keeper.cabin → (next : ℕ) → from ≤ next → kept_after old.keeper.journal.kept items < next → Stands next l new.keeper.cabin)
-      → SessionsGoOn old.keeper.cabin.cards new.keeper.cabin.cards → new.noted ≡ old.noted → Watches new.watch new.next → new.watch.limit ≡ new.watch.over.limit → IsGoingOn leaving to new V next_a next_b A1 B1
+      → ((from : ℕ) (l : Option Card) → All (λ (m : Minute). from ≤ m.minute) items → CabinIsSound from l old.keeper.cabin → (next : ℕ) → from ≤ next → kept_after old.keeper.journal.kept items < next → CabinIsSound next l new.keeper.cabin)
+      → SessionsGoOn old.keeper.cabin.cards new.keeper.cabin.cards → new.noted ≡ old.noted → Watches new.watch new.next → new.watch.limit ≡ new.watch.over.limit → RunHasPower leaving to new V next_a next_b A1 B1
   kept-going minutes end first more most ready rows past last stands sessions noted watches limit = record {
     ready = ready;
     span = later;
@@ -96,14 +96,14 @@ module _ {U V A0 A1 B0 B1 : State} {chip_a chip_b next_a next_b : CardState} (le
   }
 
 -- nothing is decided, and slots and sessions have changed: no session is new, and the minutes that have ended are the same
-module _ {U V A0 A1 B0 B1 : State} {chip_a chip_b next_a next_b : CardState} (leaving other : Option Card) (to : ℕ) (old new : Run) (g : IsGoingOn leaving to old U chip_a chip_b A0 B0) where
-  pub moved-going : new.minutes ≡ old.minutes → new.next ≡ old.next → new.keeper.journal.kept ≡ old.keeper.journal.kept → IsReady new.keeper V next_a next_b A1 B1
-      → ((card : Card) → HasItsRow old.keeper.cabin.cards U card → HasItsRow new.keeper.cabin.cards V card) → new.keeper.cabin.slots.past ≡ old.keeper.cabin.slots.past → Stands (ungiven_of g.span) other new.keeper.cabin
-      → SessionsGoOn old.keeper.cabin.cards new.keeper.cabin.cards → new.noted ≡ old.noted → new.watch ≡ old.watch → IsGoingOn other to new V next_a next_b A1 B1
+module _ {U V A0 A1 B0 B1 : State} {chip_a chip_b next_a next_b : CardState} (leaving other : Option Card) (to : ℕ) (old new : Run) (g : RunHasPower leaving to old U chip_a chip_b A0 B0) where
+  pub moved-going : new.minutes ≡ old.minutes → new.next ≡ old.next → new.keeper.journal.kept ≡ old.keeper.journal.kept → DevicesMayBeCalled new.keeper V next_a next_b A1 B1
+      → ((card : Card) → HasItsRow old.keeper.cabin.cards U card → HasItsRow new.keeper.cabin.cards V card) → new.keeper.cabin.slots.past ≡ old.keeper.cabin.slots.past → CabinIsSound (ungiven_of g.span) other new.keeper.cabin
+      → SessionsGoOn old.keeper.cabin.cards new.keeper.cabin.cards → new.noted ≡ old.noted → new.watch ≡ old.watch → RunHasPower other to new V next_a next_b A1 B1
   moved-going minutes next kept ready rows past stands sessions noted watch = record {
     ready = ready;
     span = g.span;
-    stands = subst (λ (k : Minutes). StandsFor k g.span) (sym minutes) g.stands;
+    stands = subst (λ (k : Minutes). CountsSpan k g.span) (sym minutes) g.stands;
     next = g.next ∙ sym next;
     low = g.low;
     due = g.due;
@@ -127,8 +127,8 @@ pub seats-less : (old new : Seats) → AreEmptied old new → bare_seats new ≤
 seats-less old new h = let a = bare-less old.driver new.driver h.0 in let b = bare-less old.codriver new.codriver h.1 in omega (arith, a, b)
 
 -- the minutes that wait
-pub owing-is : (k : Minutes) (span : Span) → StandsFor k span → k.owing ≡ end_of span / 60 - ungiven_of span
+pub owing-is : (k : Minutes) (span : Span) → CountsSpan k span → k.owing ≡ end_of span / 60 - ungiven_of span
 owing-is k span stands = ap (λ (m : Minutes). m.owing) stands.kept
 
-pub owing-sum : (k : Minutes) (span : Span) → StandsFor k span → ungiven_of span + k.owing ≡ end_of span / 60
+pub owing-sum : (k : Minutes) (span : Span) → CountsSpan k span → ungiven_of span + k.owing ≡ end_of span / 60
 owing-sum k span stands = let is = owing-is k span stands in let most = ungiven-most span stands.settled in omega (arith, is, most)

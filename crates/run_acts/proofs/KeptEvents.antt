@@ -30,7 +30,7 @@ use Rattle.card_slots.specs.declared.seats.Present.{Present}
 use Rattle.run_minutes.specs.declared.keeper.Keeper.{Keeper}
 use Rattle.run_minutes.specs.declared.keeper.Moment.{Moment}
 use Rattle.run_minutes.specs.Keeping.{Fate, Still, Has, Fell, cabin_by}
-use Rattle.run_minutes.specs.Minutes.{Round, Told, Done, Reach, Whole, Short, cabin_after, told_after, told_by, present_at}
+use Rattle.run_minutes.specs.Minutes.{Round, KeepingState, Done, Reach, Whole, Short, cabin_after, told_after, told_by, present_at}
 use Rattle.run_minutes.specs.Faults.{faults_by, round_faults, last_faults, faults_of, faults_to, TellsFaults, NotesFaults}
 use Rattle.run_acts.specs.NotedEvents.{AreUnsure, AreTold, NotesSo, NotesEvents}
 use Rattle.run_acts.proofs.NotedEvents.{unsure-front, unsure-back, unsure-shown}
@@ -56,13 +56,13 @@ last-are : (p : Present) (at : Moment) (round : Option Round) (cabin : Cabin) �
 last-are p at None cabin = tt
 last-are p at (Some round) cabin = round-are p at round cabin
 
-done-are : (k : Keeper) (at : Moment) (xs : List Done) (t : Told) → AreFaults (faults_of k at xs t)
+done-are : (k : Keeper) (at : Moment) (xs : List Done) (t : KeepingState) → AreFaults (faults_of k at xs t)
 done-are k at [] t = tt
 done-are k at (x ∷ xs) t =
-    let next : Told = told_after (present_at k.cabin x.minute.minute) x.minute.minute at x.round t in
+    let next : KeepingState = told_after (present_at k.cabin x.minute.minute) x.minute.minute at x.round t in
     both (round_faults (present_at k.cabin x.minute.minute) at x.round t.keeper.cabin) (faults_of k at xs next) (round-are (present_at k.cabin x.minute.minute) at x.round t.keeper.cabin) (done-are k at xs next)
 
-pub faults-are : (k : Keeper) (at : Moment) (reach : Reach) (t : Told) → AreFaults (faults_to k at reach t)
+pub faults-are : (k : Keeper) (at : Moment) (reach : Reach) (t : KeepingState) → AreFaults (faults_to k at reach t)
 faults-are k at (Whole xs) t = done-are k at xs t
 faults-are k at (Short xs m round) t =
     both (faults_of k at xs t) (last_faults (present_at k.cabin m.minute) at round (told_by k at xs t).keeper.cabin) (done-are k at xs t) (last-are (present_at k.cabin m.minute) at round (told_by k at xs t).keeper.cabin)

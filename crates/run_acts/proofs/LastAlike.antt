@@ -6,7 +6,7 @@ use Rattle.trace_model.specs.declared.Action.{Action}
 use Rattle.trace_model.specs.Trace.{TraceSecond}
 use Rattle.log_model.specs.Log.{RunLog, Phase, In, Keeping, is_torn_in, cut_in}
 use Rattle.log_model.specs.Slots.{Slots, Sitting, is_accepted}
-use Rattle.log_model.specs.Course.{Told, Course, Before, Went, unmoved, fresh, has_power, both_told, all_acted, lit_course, cut_told, before_next, second_told, went}
+use Rattle.log_model.specs.Course.{ToldSecond, Course, Before, Went, unmoved, fresh, has_power, both_told, all_acted, lit_course, cut_told, before_next, second_told, went}
 use Rattle.log_model.proofs.Growth.{went-more}
 use Rattle.event_model.specs.Runs.{runs_behind}
 use Rattle.event_model.specs.Events.{Event, Seen, course_by, seen_of, seen_spans, is_bare, bare_event, over_event}
@@ -45,7 +45,7 @@ module _ (log : RunLog) (front : List TraceSecond) (y s : TraceSecond) (none : s
   abbrev before_y : Before
   before_y = (went log front).before
 
-  abbrev told_y : Told
+  abbrev told_y : ToldSecond
   told_y = second_told log before_y y
 
   abbrev bef : Before

@@ -24,7 +24,7 @@ use Rattle.run_insertion.specs.declared.lines.Entering.{Entering}
 use Rattle.run_insertion.specs.Entering.{find_of}
 use Rattle.run_promise.specs.Origin.{Origin}
 use Rattle.run_record.specs.Recorded.{Values}
-use Rattle.run_record.specs.Within.{Within}
+use Rattle.run_record.specs.Within.{RecordInSecond}
 use Rattle.run_record.specs.Judging.{IsNext}
 use Rattle.run_course.proofs.Logs.{all-before}
 use Rattle.run_note_record.proofs.Stored.{AtEnd, nothing, push, at-end}
@@ -275,7 +275,7 @@ only-second from done s order number x at same = ⊎_elim
     (Contains-push_cases done s x at)
 
 -- ---- A CARD THAT IS JUDGED is so by its own line
-pub entered-now : (o : Origin) (done : List TraceSecond) (s : TraceSecond) (n : ℕ) (waits fewer : List Visit) (v : Values) (d : Devices) (w : Within o done s (In n) waits None [] v d) (e : Entering) → e.at ≡ record { second = s.number; begun = n; late = false } →
+pub entered-now : (o : Origin) (done : List TraceSecond) (s : TraceSecond) (n : ℕ) (waits fewer : List Visit) (v : Values) (d : Devices) (w : RecordInSecond o done s (In n) waits None [] v d) (e : Entering) → e.at ≡ record { second = s.number; begun = n; late = false } →
     IsNext o done s (In n) waits fewer v d w e.slot e.which → (verdict : Verdict) → IsLineOf (done ++ s ∷ []) e.which (find_of e verdict)
 entered-now o done s n waits fewer v d w e at next verdict =
     let begun : n ≡ e.at.begun = sym (ap (λ (m : Moment). m.begun) at) in

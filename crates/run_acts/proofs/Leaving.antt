@@ -10,12 +10,12 @@ use Rattle.minute_model.specs.Span.{ungiven_of}
 use Rattle.run_crew.specs.declared.cards.Accepted.{Accepted}
 use Rattle.run_crew.specs.declared.cabin.Cabin.{Cabin}
 use Rattle.run_crew.specs.Cards.{session_of, with_session}
-use Rattle.run_crew.specs.Cabin.{Stands, with_session_of, with_slot_left}
+use Rattle.run_crew.specs.Cabin.{CabinIsSound, with_session_of, with_slot_left}
 use Rattle.run_minutes.specs.declared.keeper.Moment.{Moment}
 use Rattle.run_minutes.specs.Keeping.{SessionsGoOn, tears_of}
 use Rattle.run_minutes.proofs.Seats.{sessions-none, sessions-then}
 use Rattle.run_acts.specs.declared.run.Run.{Run}
-use Rattle.run_acts.specs.Going.{IsHeld, IsGoingOn, IsLit}
+use Rattle.run_acts.specs.Going.{CanBeCut, RunHasPower, RunHasPowerAllSeated}
 use Rattle.run_acts.specs.Room.{falls_of}
 use Rattle.run_acts.proofs.Kept.{moved-going}
 use Rattle.run_acts.proofs.Torn.{torn-past, torn-minute, torn-falls, torn-sessions, sessions-without, tears-without}
@@ -24,14 +24,14 @@ use Rattle.run_acts.specs.Acting.{Closing, Bare, Closed, Fell, IsClosingOf, clos
 -- ---- it has left its slot
 
 module _ {U A0 B0 : State} {chip_a chip_b : CardState} (slot : Slot) (card : Card) (second : ℕ) (run : Run) where
-  pub left-going : (to : ℕ) (g : IsLit to run U chip_a chip_b A0 B0) → ((from : ℕ) → Stands from None run.keeper.cabin → Stands from (Some card) (with_slot_left slot second run.keeper.cabin)) → IsGoingOn (Some card) to (left_run slot second run) U chip_a chip_b A0 B0
+  pub left-going : (to : ℕ) (g : RunHasPowerAllSeated to run U chip_a chip_b A0 B0) → ((from : ℕ) → CabinIsSound from None run.keeper.cabin → CabinIsSound from (Some card) (with_slot_left slot second run.keeper.cabin)) → RunHasPower (Some card) to (left_run slot second run) U chip_a chip_b A0 B0
   left-going to g goes =
       let unit = g.ready.unit_ready in
       moved-going None (Some card) to run (left_run slot second run) g refl refl refl
       (record { unit_ready = record { is_unit = unit.is_unit; works = unit.works; agrees = unit.agrees }; card_a = g.ready.card_a; card_b = g.ready.card_b })
       (λ c h. h) refl (goes (ungiven_of g.span) g.cabin) (sessions-none run.keeper.cabin.cards) refl refl
 
-  pub left-held : (to : ℕ) → IsHeld to run U chip_a chip_b A0 B0 → second / 60 ≤ to → (from : ℕ) → Stands from (Some card) (with_slot_left slot second run.keeper.cabin) → IsHeld to (left_run slot second run) U chip_a chip_b A0 B0
+  pub left-held : (to : ℕ) → CanBeCut to run U chip_a chip_b A0 B0 → second / 60 ≤ to → (from : ℕ) → CabinIsSound from (Some card) (with_slot_left slot second run.keeper.cabin) → CanBeCut to (left_run slot second run) U chip_a chip_b A0 B0
   left-held to h le from stands = record { is_unit = h.is_unit; odometer = h.odometer; minute = le; card_a = h.card_a; card_b = h.card_b; stand = (from, Some card, stands) }
 
 -- ---- its session is closed

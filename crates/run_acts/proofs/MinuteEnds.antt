@@ -15,7 +15,7 @@ use Rattle.minute_model.specs.Second.{Second}
 use Rattle.minute_model.specs.Span.{Span, fed, end_of, decided_in, ungiven_of, AreNumbered, AreSettled, count_from}
 use Rattle.minute_model.proofs.Counted.{decided-minutes, ungiven-most, settled-more}
 use Rattle.log_model.specs.Log.{RunLog, Phase}
-use Rattle.log_model.specs.Course.{Told, Visit, Went, went}
+use Rattle.log_model.specs.Course.{ToldSecond, Visit, Went, went}
 use Rattle.log_model.specs.Spans.{spans_with, spans_of, seconds_in, first_in, end_in, AreInOrder, AreApart}
 use Rattle.log_model.proofs.Growth.{went-more}
 use Rattle.log_model.proofs.Spanning.{spanned, spans-more as spans-one}
@@ -26,7 +26,7 @@ use Rattle.history_model.proofs.Growing.{apart-last}
 use Rattle.run_unit_course.specs.Followed.{Lit as IsLit, as_spans}
 use Rattle.run_unit_course.specs.Turn.{span_at}
 use Rattle.safety_model.specs.Safe.{Devices}
-use Rattle.run_course.specs.Followed.{Followed, IsSupplied}
+use Rattle.run_course.specs.Followed.{BookFollowsRun, IsSupplied}
 use Rattle.run_course.specs.Seconds.{next_told}
 use Rattle.run_course.proofs.Steps.{with-supply, span-end}
 use Rattle.run_course.proofs.Told.{IsLitAs, lit-told, lit-starts, spans-lit}
@@ -34,7 +34,7 @@ use Rattle.run_course.specs.Kept.{settled_times, fed_where}
 use Rattle.run_promise.specs.Origin.{Origin, rule_of, start_at, first_of}
 use Rattle.run_note_record.proofs.Stored.{mapped, travelled-is}
 use Rattle.run_record.specs.Recorded.{Values}
-use Rattle.run_record.specs.Within.{Within, course_in}
+use Rattle.run_record.specs.Within.{RecordInSecond, course_in}
 use Rattle.run_acts.specs.Truths.{driven_in}
 use Rattle.run_acts.proofs.RingedSecond.{power-here}
 
@@ -63,7 +63,7 @@ decided-range sp numbered settled_ m at =
     (low, omega (arith, high))
 
 -- so of a power span: none before its first second, and each has ended with it
-pub decided-within : (rule : Rule) (span : List Told) → AreNumbered (first_in span) (seconds_in span) → (d : Minute) → Contains (decided_of rule span) d → (first_in span / 60 ≤ d.minute) × (d.minute < end_in span / 60)
+pub decided-within : (rule : Rule) (span : List ToldSecond) → AreNumbered (first_in span) (seconds_in span) → (d : Minute) → Contains (decided_of rule span) d → (first_in span / 60 ≤ d.minute) × (d.minute < end_in span / 60)
 decided-within rule span numbered d at =
     let all = span-settled rule span numbered in
     let range = decided-range (as_span rule span) numbered all d at in
@@ -74,12 +74,12 @@ decided-within rule span numbered d at =
     (low, omega (arith, high, most, n))
 
 -- and of spans none before the first
-pub decided-late : (rule : Rule) (from until : ℕ) (spans : List (List Told)) → AreApart from spans until → (span : List Told) (d : Minute) → Contains spans span → Contains (decided_of rule span) d → from / 60 ≤ d.minute
+pub decided-late : (rule : Rule) (from until : ℕ) (spans : List (List ToldSecond)) → AreApart from spans until → (span : List ToldSecond) (d : Minute) → Contains spans span → Contains (decided_of rule span) d → from / 60 ≤ d.minute
 decided-late rule from until [] apart span d at in_ = absurd (omega (arith, at.1))
 decided-late rule from until (x ∷ spans) apart span d at in_ =
     let begins : from ≤ first_in x = apart.1 in
     ⊎_elim
-    (λ (is : x ≡ span). let low = (decided-within rule x apart.2 d (subst (λ (y : List Told). Contains (decided_of rule y) d) (sym is) in_)).0 in omega (arith, begins, low))
+    (λ (is : x ≡ span). let low = (decided-within rule x apart.2 d (subst (λ (y : List ToldSecond). Contains (decided_of rule y) d) (sym is) in_)).0 in omega (arith, begins, low))
     (λ (there : Contains spans span). let rest : (first_in x + length x) / 60 ≤ d.minute = decided-late rule (end_in x) until spans apart.3 span d there in_ in omega (arith, begins, rest))
     (in-cons x spans span at)
 
@@ -137,13 +137,13 @@ times-end : (n : ℕ) (span : Span) → end_of (settled_times n span) ≡ end_of
 times-end zero span = refl
 times-end (suc n) span = times-end n span
 
-at-seconds : (rule : Rule) (next : ℕ) (span : List Told) → (span_at rule next span).seconds ≡ seconds_in span
+at-seconds : (rule : Rule) (next : ℕ) (span : List ToldSecond) → (span_at rule next span).seconds ≡ seconds_in span
 at-seconds rule next [] = refl
 at-seconds rule next (t ∷ span) = refl
 
 -- ---- what it has decided
 
-decided-at : (rule : Rule) (next : ℕ) (span : List Told) → decided_in (span_at rule next span) ≡ decided_of rule span
+decided-at : (rule : Rule) (next : ℕ) (span : List ToldSecond) → decided_in (span_at rule next span) ≡ decided_of rule span
 decided-at rule next [] = refl
 decided-at rule next (t ∷ span) = refl
 
@@ -170,11 +170,11 @@ pub record StandsAt (sp : Span) (next : ℕ) : Type 0 where
   pub settled : AreSettled sp
   pub end : end_of sp ≡ next
 
-pub span-stands : (rule : Rule) (log : RunLog) (from : ℕ) (done : List TraceSecond) (ended : List (List Told)) (span : List Told) (next : ℕ) → AreInOrder from done → next ≡ from + length done →
+pub span-stands : (rule : Rule) (log : RunLog) (from : ℕ) (done : List TraceSecond) (ended : List (List ToldSecond)) (span : List ToldSecond) (next : ℕ) → AreInOrder from done → next ≡ from + length done →
     IsSupplied (IsLit span) (went log done).before next → spans_of (went log done).told ≡ ended ++ as_spans span → StandsAt (span_at rule next span) next
 span-stands rule log from done ended [] next order number power are = record { numbered = tt; settled = tt; end = omega arith }
 span-stands rule log from done ended (t ∷ span) next order number power are =
-    let apart = apart-last from (from + length done) ended (t ∷ span) (subst (λ (ss : List (List Told)). AreApart from ss (from + length done)) are (spanned log from done order).apart) in
+    let apart = apart-last from (from + length done) ended (t ∷ span) (subst (λ (ss : List (List ToldSecond)). AreApart from ss (from + length done)) are (spanned log from done order).apart) in
     let all = counted (t ∷ span) in
     let end_ = span-end log from done ended t span next order number power.running are in
     record { numbered = apart.1; settled = span-settled rule (t ∷ span) apart.1; end = omega (arith, all, end_) }
@@ -189,8 +189,8 @@ late-none a (x ∷ xs) k numbered le =
     ∙ late-none (a + 1) xs k numbered.1 (omega (arith, le))
 
 -- it stands behind some and before others, and those up to it are these
-pub second-lies : (a : ℕ) (span : List Told) → AreNumbered a (seconds_in span) → (u : ℕ) → a ≤ u → u < a + length span →
-    (front : List Told) × (t : Told) × (behind : List Told) × (span ≡ front ++ t ∷ behind) × (t.second.number ≡ u) × (filter (λ (x : Second). nat_lt x.number (u + 1)) (seconds_in span) ≡ seconds_in (front ++ t ∷ []))
+pub second-lies : (a : ℕ) (span : List ToldSecond) → AreNumbered a (seconds_in span) → (u : ℕ) → a ≤ u → u < a + length span →
+    (front : List ToldSecond) × (t : ToldSecond) × (behind : List ToldSecond) × (span ≡ front ++ t ∷ behind) × (t.second.number ≡ u) × (filter (λ (x : Second). nat_lt x.number (u + 1)) (seconds_in span) ≡ seconds_in (front ++ t ∷ []))
 second-lies a [] numbered u from to = absurd (omega (arith, from, to))
 second-lies a (x ∷ span) numbered u from to =
     let is : x.second.number ≡ a = numbered.0 in
@@ -199,7 +199,7 @@ second-lies a (x ∷ span) numbered u from to =
     ⊎_elim
     (λ (later : a < u).
     let r = second-lies (a + 1) span numbered.1 u (omega (arith, later)) (omega (arith, to)) in
-    (x ∷ r.0, r.1, r.2, ap (λ (l : List Told). x ∷ l) r.3, r.4, first ∙ ap (λ (l : List Second). x.second ∷ l) r.5))
+    (x ∷ r.0, r.1, r.2, ap (λ (l : List ToldSecond). x ∷ l) r.3, r.4, first ∙ ap (λ (l : List Second). x.second ∷ l) r.5))
     (λ (here : u ≤ a). ([], x, span, refl, omega (arith, is, from, here), first ∙ ap (λ (l : List Second). x.second ∷ l) (late-none (a + 1) (seconds_in span) (u + 1) numbered.1 (omega (arith, here)))))
     (cases_lt a u)
 
@@ -209,8 +209,8 @@ sum-of (x ∷ xs) = sum_by-cons (λ (n : ℕ). n) x.speed (map (λ (y : Second).
 
 -- ---- within a second
 
-module _ (o : Origin) (done : List TraceSecond) (s : TraceSecond) (at : Phase) (waits : List Visit) (speed : Option ℕ) (rest : List Minute) (v : Values) (d : Devices) (w : Within o done s at waits speed rest v d) where
-  pub followed-lit : Followed (rule_of o) (start_at o) o.from (first_of o) done (record w.b.run { supply = IsLit w.b.span })
+module _ (o : Origin) (done : List TraceSecond) (s : TraceSecond) (at : Phase) (waits : List Visit) (speed : Option ℕ) (rest : List Minute) (v : Values) (d : Devices) (w : RecordInSecond o done s at waits speed rest v d) where
+  pub followed-lit : BookFollowsRun (rule_of o) (start_at o) o.from (first_of o) done (record w.b.run { supply = IsLit w.b.span })
   followed-lit = with-supply (rule_of o) (start_at o) o.from (first_of o) done w.b.run (IsLit w.b.span) w.lit w.began.followed
 
   -- the span as the second began
@@ -274,22 +274,22 @@ module _ (o : Origin) (done : List TraceSecond) (s : TraceSecond) (at : Phase) (
 
   -- THE END OF A MINUTE that it decides lies in the span
   pub minute-ends : (m : Minute) → Contains (w.ds ++ rest) m →
-      (front : List Told) × (t : Told) × (behind : List Told) × (w.b.span ≡ front ++ t ∷ behind) × (t.second.number ≡ 60 * m.minute + 59) × (m.travelled ≡ driven_in (front ++ t ∷ []))
+      (front : List ToldSecond) × (t : ToldSecond) × (behind : List ToldSecond) × (w.b.span ≡ front ++ t ∷ behind) × (t.second.number ≡ 60 * m.minute + 59) × (m.travelled ≡ driven_in (front ++ t ∷ []))
   minute-ends m among = by w.b.span refl
     where
-      by : (span : List Told) → w.b.span ≡ span → (front : List Told) × (t : Told) × (behind : List Told) × (w.b.span ≡ front ++ t ∷ behind) × (t.second.number ≡ 60 * m.minute + 59) × (m.travelled ≡ driven_in (front ++ t ∷ []))
+      by : (span : List ToldSecond) → w.b.span ≡ span → (front : List ToldSecond) × (t : ToldSecond) × (behind : List ToldSecond) × (w.b.span ≡ front ++ t ∷ behind) × (t.second.number ≡ 60 * m.minute + 59) × (m.travelled ≡ driven_in (front ++ t ∷ []))
       by [] is =
           let range = minute-range m among in
-          let low : w.b.run.next / 60 ≤ m.minute = subst (λ (l : List Told). (span_at (rule_of o) w.b.run.next l).first / 60 ≤ m.minute) is range.0 in
+          let low : w.b.run.next / 60 ≤ m.minute = subst (λ (l : List ToldSecond). (span_at (rule_of o) w.b.run.next l).first / 60 ≤ m.minute) is range.0 in
           let high = range.1 in
           let number = w.moment.number in
           absurd (omega (arith, low, high, number))
       by (x ∷ span) is =
           let range = minute-range m among in
-          let low : first_in (x ∷ span) / 60 ≤ m.minute = subst (λ (l : List Told). (span_at (rule_of o) w.b.run.next l).first / 60 ≤ m.minute) is range.0 in
+          let low : first_in (x ∷ span) / 60 ≤ m.minute = subst (λ (l : List ToldSecond). (span_at (rule_of o) w.b.run.next l).first / 60 ≤ m.minute) is range.0 in
           let high = range.1 in
           let number = w.moment.number in
-          let stands : StandsAt (span_at (rule_of o) w.b.run.next (x ∷ span)) w.b.run.next = subst (λ (l : List Told). StandsAt (span_at (rule_of o) w.b.run.next l) w.b.run.next) is old-stands in
+          let stands : StandsAt (span_at (rule_of o) w.b.run.next (x ∷ span)) w.b.run.next = subst (λ (l : List ToldSecond). StandsAt (span_at (rule_of o) w.b.run.next l) w.b.run.next) is old-stands in
           let end_ = stands.end in
           let all = counted (x ∷ span) in
           let lies = second-lies (first_in (x ∷ span)) (x ∷ span) stands.numbered (60 * m.minute + 59) (omega (arith, low)) (omega (arith, high, number, end_, all)) in
@@ -315,5 +315,5 @@ module _ (o : Origin) (done : List TraceSecond) (s : TraceSecond) (at : Phase) (
   spans-now =
       ap (λ (g : Went). spans_of g.told) (went-more w.b.run.log done s)
       ∙ spans-one (went w.b.run.log done).told (next_told w.b.run.log done s)
-      ∙ ap (λ (ss : List (List Told)). spans_with ss (next_told w.b.run.log done s)) followed-lit.spans
+      ∙ ap (λ (ss : List (List ToldSecond)). spans_with ss (next_told w.b.run.log done s)) followed-lit.spans
       ∙ spans-lit followed-lit.ended w.b.span (next_told w.b.run.log done s) this-lit.lit (this-lit.starts ∙ lit-starts w.b.span (went w.b.run.log done).before w.b.run.next followed-lit.power)

@@ -5,7 +5,7 @@ use Rattle.activity_codec.specs.declared.values.Slot.TheVariants.{Driver, CoDriv
 use Rattle.trace_model.specs.declared.Card.{Card}
 use Rattle.card_image.specs.Own.{IsOwnValid}
 use Rattle.log_model.specs.Slots.{Sitting}
-use Rattle.log_model.specs.Course.{Told, Course}
+use Rattle.log_model.specs.Course.{ToldSecond, Course}
 use Rattle.device_rule.specs.Rules.{Standing}
 use Rattle.event_model.specs.Events.{Event, Crew, accepted_card, crew_of, with_card}
 use Rattle.run_promise.specs.Found.{found_of}
@@ -39,7 +39,7 @@ card-valid o (Some x) h = by x.accepted refl
     by (Some u) is = subst (λ (q : Option ℕ). IfSome (accepted_card (Some (record { card = x.card; accepted = q }))) (ValidHere o)) (sym is)
         (h x.card u (ap (λ (q : Option ℕ). Some (record { card = x.card; accepted = q })) is))
 
-pub crew-valid : (o : Origin) → IsOrigin o → (standing : Card → Standing) (told : List Told) (c : Course) (number from : ℕ) (cabin : Cabin) → PresentStand o.found standing told c number from cabin → CrewValid o (crew_of c.slots)
+pub crew-valid : (o : Origin) → IsOrigin o → (standing : Card → Standing) (told : List ToldSecond) (c : Course) (number from : ℕ) (cabin : Cabin) → PresentStand o.found standing told c number from cabin → CrewValid o (crew_of c.slots)
 crew-valid o origin standing told c number from cabin h = record {
   driver = card-valid o c.slots.driver (λ card u there. subst IsOwnValid (origin.image card) (h.seated Driver card u there).0);
   codriver = card-valid o c.slots.codriver (λ card u there. subst IsOwnValid (origin.image card) (h.seated CoDriver card u there).0);

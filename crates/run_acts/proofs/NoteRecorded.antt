@@ -18,7 +18,7 @@ use Rattle.device_calls.specs.Times.{AreTimedSince}
 use Rattle.minute_model.specs.declared.Minute.{Minute}
 use Rattle.minute_model.specs.Span.{Span, end_of, ungiven_of}
 use Rattle.minute_model.proofs.Counted.{ungiven-most}
-use Rattle.minute_rules.specs.Kept.{Kept, StandsFor}
+use Rattle.minute_rules.specs.Kept.{Kept, CountsSpan}
 use Rattle.log_model.specs.declared.lines.Break.{Break}
 use Rattle.log_model.specs.declared.lines.Break.TheVariants.{Tear}
 use Rattle.log_model.specs.Log.{Phase, In, phase_of, RunLog}
@@ -38,11 +38,11 @@ use Rattle.run_crew.specs.Cards.{session_of, with_session}
 use Rattle.event_model.specs.declared.kinds.TheConstants.{CARD_FAULT}
 use Rattle.run_events.specs.Entries.{entry_of}
 use Rattle.run_crew.specs.declared.cabin.Cabin.{Cabin}
-use Rattle.run_crew.specs.Cabin.{Stands, torn_out, crew_of}
+use Rattle.run_crew.specs.Cabin.{CabinIsSound, torn_out, crew_of}
 use Rattle.run_promise.specs.Found.{found_of}
 use Rattle.run_promise.specs.Cards.{IsUntouched}
-use Rattle.run_promise.specs.Between.{Carried, devices}
-use Rattle.run_course.specs.Followed.{Followed}
+use Rattle.run_promise.specs.Between.{RunLedger, devices}
+use Rattle.run_course.specs.Followed.{BookFollowsRun}
 use Rattle.run_course.specs.Seconds.{kept_all}
 use Rattle.run_course.proofs.Logs.{went-later}
 use Rattle.run_course.proofs.Steps.{went-same_}
@@ -58,7 +58,7 @@ use Rattle.run_minutes.specs.declared.keeper.Moment.{Moment}
 use Rattle.run_minutes.specs.Keeping.{tear_of, with_lines}
 use Rattle.run_minutes.proofs.Fates.{no-lines}
 use Rattle.run_record.specs.Recorded.{Values, AreThere, carried}
-use Rattle.run_record.specs.Within.{Beginning, GoesOnSo, Within, CutWithin, GoesOn}
+use Rattle.run_record.specs.Within.{Beginning, GoesOnSo, RecordInSecond, RecordAtFailure, SecondGoesOn}
 use Rattle.run_record.specs.Judging.{torn_values}
 use Rattle.run_record.specs.Taking.{fallen, IsCalledSeated}
 use Rattle.run_record.proofs.Steps.{call-recorded, failure-recorded}
@@ -197,7 +197,7 @@ module _ (o : Origin) (cards : Cards) {R S : List ℕ → List ℕ → Type 0} w
 
 -- THE RUN GOES ON, where the record does
 pub run-on : (o : Origin) (done : List TraceSecond) (s : TraceSecond) (at next : Phase) (waits fewer : List Visit) (rest more : List Minute) (run new : Run) (out after : Outcome) (d e : Devices) (first : ℕ) → (w : RunWithin o done s at waits rest run out d) →
-    new.power ≡ run.power → new.keeper.odometer ≡ run.keeper.odometer → GoesOn o done s next fewer None more (values_of new after) e w.within.b first → AllStay o (marked after.marks.items (truths_within o w.within.b.run.log done s)) s.number (log_of after) (notes_within w.within.b done s next (log_of after)) new.keeper.memory.registration new.keeper.cabin e → RunWithin o done s next fewer more new after e
+    new.power ≡ run.power → new.keeper.odometer ≡ run.keeper.odometer → SecondGoesOn o done s next fewer None more (values_of new after) e w.within.b first → AllStay o (marked after.marks.items (truths_within o w.within.b.run.log done s)) s.number (log_of after) (notes_within w.within.b done s next (log_of after)) new.keeper.memory.registration new.keeper.cabin e → RunWithin o done s next fewer more new after e
 run-on o done s at next waits fewer rest more run new out after d e first w power odometer g stay = record {
   origin = w.origin;
   lit = power ∙ w.lit;
@@ -208,7 +208,7 @@ run-on o done s at next waits fewer rest more run new out after d e first w powe
 
 -- as it began
 pub goes-as : (o : Origin) (done : List TraceSecond) (s : TraceSecond) (at next : Phase) (waits fewer : List Visit) (rest : List Minute) (run new : Run) (out after : Outcome) (d e : Devices) (first : ℕ) → (w : RunWithin o done s at waits rest run out d) →
-    new.power ≡ run.power → new.keeper.odometer ≡ run.keeper.odometer → GoesOn o done s next fewer None [] (values_of new after) e w.within.b first → AllStay o (marked after.marks.items (truths_within o w.within.b.run.log done s)) s.number (log_of after) (notes_within w.within.b done s next (log_of after)) new.keeper.memory.registration new.keeper.cabin e → RunGoesOn o done s next fewer new after e w.within.b
+    new.power ≡ run.power → new.keeper.odometer ≡ run.keeper.odometer → SecondGoesOn o done s next fewer None [] (values_of new after) e w.within.b first → AllStay o (marked after.marks.items (truths_within o w.within.b.run.log done s)) s.number (log_of after) (notes_within w.within.b done s next (log_of after)) new.keeper.memory.registration new.keeper.cabin e → RunGoesOn o done s next fewer new after e w.within.b
 unfolding run-on
 goes-as o done s at next waits fewer rest run new out after d e first w power odometer g stay = record {
   goes = run-on o done s at next waits fewer rest [] run new out after d e first w power odometer g stay;
@@ -222,7 +222,7 @@ goes-plain true o done s at waits run out d b h = h
 
 -- THE SECONDS BEFORE went the same by the log of a second that is going on, also with more lines of that second
 module _ (o : Origin) (done : List TraceSecond) (s : TraceSecond) (at : Phase) (waits : List Visit) (rest : List Minute) (run : Run) (out : Outcome) (d : Devices) (w : RunWithin o done s at waits rest run out d) where
-  abbrev f : Followed (rule_of o) (start_at o) o.from (first_of o) done w.within.b.run
+  abbrev f : BookFollowsRun (rule_of o) (start_at o) o.from (first_of o) done w.within.b.run
   f = w.within.began.followed
 
   pub same-course : went (log_of out) done ≡ went w.within.b.run.log done
@@ -235,7 +235,7 @@ module _ (o : Origin) (done : List TraceSecond) (s : TraceSecond) (at : Phase) (
       ap (λ (x : Went). x.before.running) (went-later (log_of out) (log_of (record out { breaks = with_lines more out.breaks })) s.number more refl each [] (sym (append-nil out.finds.items)) tt o.from done f.order (omega (arith, next, number))) ∙ comes
 
 -- The first minute that is still to be kept is no later than this one, and one of the last five.
-module _ (o : Origin) (done : List TraceSecond) (s : TraceSecond) (at : Phase) (waits : List Visit) (run : Run) (out : Outcome) (d : Devices) (w : Within o done s at waits None [] (values_of run out) d) (span : Span) (stands : StandsFor run.minutes span) (ends : end_of span ≡ run.next) where
+module _ (o : Origin) (done : List TraceSecond) (s : TraceSecond) (at : Phase) (waits : List Visit) (run : Run) (out : Outcome) (d : Devices) (w : RecordInSecond o done s at waits None [] (values_of run out) d) (span : Span) (stands : CountsSpan run.minutes span) (ends : end_of span ≡ run.next) where
   pub number : s.number ≡ run.next
   number = w.moment.number ∙ sym w.next
 
@@ -247,9 +247,9 @@ module _ (o : Origin) (done : List TraceSecond) (s : TraceSecond) (at : Phase) (
 
 -- ---- A NOTE ON THE UNIT
 
-module _ (o : Origin) (done : List TraceSecond) (s : TraceSecond) (n : ℕ) (run : Run) (out : Outcome) (U V X Y : State) (whole : IsCoherent U) (unit : LeavesOnly U V LeavesJournal) (span : Span) (stands : StandsFor run.minutes span) (ends : end_of span ≡ run.next)
+module _ (o : Origin) (done : List TraceSecond) (s : TraceSecond) (n : ℕ) (run : Run) (out : Outcome) (U V X Y : State) (whole : IsCoherent U) (unit : LeavesOnly U V LeavesJournal) (span : Span) (stands : CountsSpan run.minutes span) (ends : end_of span ≡ run.next)
     (w : RunWithin o done s (In n) [] [] run out (devices U X Y)) where
-  abbrev noted-carries : Carried
+  abbrev noted-carries : RunLedger
   noted-carries = carried (values_of run out) w.within.due (kept_all w.within.new w.within.b.run.book) w.within.standing w.within.brought
 
   unit-began : o.found.unit.began ≤ U.clock
@@ -340,7 +340,7 @@ to-unit A U X Z P h = h
 to-unit B U X Z P h = h
 
 module _ (c : Card) (slot : Slot) (at : Moment) (run : Run) (breaks : Listed Break) (U V X Y Z : State) (unit_whole : IsCoherent U) (whole : IsCoherent X) (later : IsCoherent Y) (size : LARGEST_IMAGE ≤ X.size) (a : Accepted) (value : IsValue a.session)
-    (has : session_of run.keeper.cabin.cards c ≡ Some a) (seat : card_in (seat_in run.keeper.cabin.slots.seats slot) ≡ Some c) (second : at.second ≡ run.next) (late : at.late ≡ false) (span : Span) (stands : StandsFor run.minutes span) (ends : end_of span ≡ run.next) (cabin : Stands (ungiven_of span) None run.keeper.cabin)
+    (has : session_of run.keeper.cabin.cards c ≡ Some a) (seat : card_in (seat_in run.keeper.cabin.slots.seats slot) ≡ Some c) (second : at.second ≡ run.next) (late : at.late ≡ false) (span : Span) (stands : CountsSpan run.minutes span) (ends : end_of span ≡ run.next) (cabin : CabinIsSound (ungiven_of span) None run.keeper.cabin)
     (card : LeavesOnly X Y (IsNote a.session.application)) (unit : LeavesOnly U V LeavesJournal) (failed : Bool) (cause : HasCause U V failed) where
   abbrev d : Devices
   d = arranged c U X Z
@@ -352,7 +352,7 @@ module _ (c : Card) (slot : Slot) (at : Moment) (run : Run) (breaks : Listed Bre
     abbrev v : Values
     v = values_of run (record out { breaks = breaks })
 
-    abbrev carries : Carried
+    abbrev carries : RunLedger
     carries = carried v w.within.due (kept_all w.within.new w.within.b.run.book) w.within.standing w.within.brought
 
     -- what was noted so far
@@ -438,7 +438,7 @@ module _ (c : Card) (slot : Slot) (at : Moment) (run : Run) (breaks : Listed Bre
     fell : HasCause X Y true → HasBroken X Y 1 → (b : Bool) → failed ≡ b → IsPoweredOrOff b o.found (with_standing c (fallen w.within.from (w.within.standing c)) carries) (with_session c None run.keeper.cabin.cards) e
         → GoesOnOrFails b o done s (In at.begun) [] (with_cabin (torn_out c at.second run.keeper.cabin) run) (record out { breaks = with_lines (tear_of slot at ∷ []) breaks }) e w.within.b
     fell on_card broken false is powered = goes-as o done s (In at.begun) (In at.begun) [] [] [] run (with_cabin (torn_out c at.second run.keeper.cabin) run) (record out { breaks = breaks }) (record out { breaks = with_lines (tear_of slot at ∷ []) breaks }) d e w.within.from w refl refl
-        (subst (λ (n : ℕ). GoesOn o done s (In at.begun) [] None [] (torn_values (tear_of slot at) (torn_out c n run.keeper.cabin) v) e w.within.b w.within.from) (sym here)
+        (subst (λ (n : ℕ). SecondGoesOn o done s (In at.begun) [] None [] (torn_values (tear_of slot at) (torn_out c n run.keeper.cabin) v) e w.within.b w.within.from) (sym here)
         (seated-torn d e o done s (In at.begun) v w.within slot c (tear_of slot at) (called on_card broken) powered))
         (λ none. no-tear (log_of (record out { breaks = breaks })) slot at none)
     fell on_card broken true is powerless = record {
@@ -447,7 +447,7 @@ module _ (c : Card) (slot : Slot) (at : Moment) (run : Run) (breaks : Listed Bre
       same = refl;
       odometer = run.keeper.odometer;
       counted = λ lit. refl;
-      within = subst (λ (n : ℕ). CutWithin o done s (In at.begun) [] None (torn_values (tear_of slot at) (torn_out c n run.keeper.cabin) v) e) (sym here)
+      within = subst (λ (n : ℕ). RecordAtFailure o done s (In at.begun) [] None (torn_values (tear_of slot at) (torn_out c n run.keeper.cabin) v) e) (sym here)
           (seated-tear_fails d e o done s (In at.begun) v w.within slot c (tear_of slot at) (called on_card broken) powerless (broke is) (λ keeping. cc));
     }
 
@@ -565,7 +565,7 @@ power-noted o done s run new out breaks after d w who slot fell noted comes =
 -- the same of a card of which only that it has a session is known
 pub noted-some : (c : Card) (slot : Slot) (at : Moment) (run : Run) (breaks : Listed Break) (U V X Y Z : State) → IsCoherent U → IsCoherent X → IsCoherent Y → LARGEST_IMAGE ≤ X.size → is_some (session_of run.keeper.cabin.cards c) ≡ true →
     IfSome (session_of run.keeper.cabin.cards c) (λ a. IsValue a.session) → card_in (seat_in run.keeper.cabin.slots.seats slot) ≡ Some c → at.second ≡ run.next → at.late ≡ false →
-    (span : Span) → StandsFor run.minutes span → end_of span ≡ run.next → Stands (ungiven_of span) None run.keeper.cabin →
+    (span : Span) → CountsSpan run.minutes span → end_of span ≡ run.next → CabinIsSound (ungiven_of span) None run.keeper.cabin →
     IfSome (session_of run.keeper.cabin.cards c) (λ a. LeavesOnly X Y (IsNote a.session.application)) → LeavesOnly U V LeavesJournal → (failed : Bool) → HasCause U V failed → (failed ≡ false → TellMore [] U V) →
     (new : Run) (after : Listed Break) (fell : Bool) → IsNotedOn c slot at run new breaks after fell → HasBroken X Y (falls_by fell) → HasCause X Y fell → IsNoteRecorded (In at.begun) failed run new breaks after (arranged c U X Z) (arranged c V Y Z)
 noted-some c slot at run breaks U V X Y Z unit_whole whole later size some value seat second late span stands ends cabin card unit failed cause go new after fell is broken on_card =
@@ -575,7 +575,7 @@ noted-some c slot at run breaks U V X Y Z unit_whole whole later size some value
 
 pub some-evented : (c : Card) (slot : Slot) (at : Moment) (run : Run) (breaks : Listed Break) (U V X Y Z : State) → IsCoherent U → IsCoherent X → IsCoherent Y → LARGEST_IMAGE ≤ X.size → is_some (session_of run.keeper.cabin.cards c) ≡ true →
     IfSome (session_of run.keeper.cabin.cards c) (λ a. IsValue a.session) → card_in (seat_in run.keeper.cabin.slots.seats slot) ≡ Some c → at.second ≡ run.next → at.late ≡ false →
-    (span : Span) → StandsFor run.minutes span → end_of span ≡ run.next → Stands (ungiven_of span) None run.keeper.cabin →
+    (span : Span) → CountsSpan run.minutes span → end_of span ≡ run.next → CabinIsSound (ungiven_of span) None run.keeper.cabin →
     IfSome (session_of run.keeper.cabin.cards c) (λ a. LeavesOnly X Y (IsNote a.session.application)) → LeavesOnly U V LeavesJournal → (failed : Bool) → HasCause U V failed →
     (o : Origin) (done : List TraceSecond) (s : TraceSecond) (out : Outcome) (w : RunWithin o done s (In at.begun) [] [] run (record out { breaks = breaks }) (arranged c U X Z)) → (In at.begun ≡ In 0 → ComesPower done (record out { breaks = breaks })) → s.number < 2 ^ 32 →
     NotFound (In at.begun) (other_slot slot) (log_of (record out { breaks = breaks })) s.number → MayFollow (In at.begun) slot (log_of (record out { breaks = breaks })) s → (actions : List Action) → IsLeft s (In at.begun) actions →
@@ -588,7 +588,7 @@ some-evented c slot at run breaks U V X Y Z unit_whole whole later size some val
 
 pub some-leaves : (c : Card) (slot : Slot) (at : Moment) (run : Run) (breaks : Listed Break) (U V X Y Z : State) → IsCoherent U → IsCoherent X → IsCoherent Y → LARGEST_IMAGE ≤ X.size → is_some (session_of run.keeper.cabin.cards c) ≡ true →
     IfSome (session_of run.keeper.cabin.cards c) (λ a. IsValue a.session) → card_in (seat_in run.keeper.cabin.slots.seats slot) ≡ Some c → at.second ≡ run.next → at.late ≡ false →
-    (span : Span) → StandsFor run.minutes span → end_of span ≡ run.next → Stands (ungiven_of span) None run.keeper.cabin →
+    (span : Span) → CountsSpan run.minutes span → end_of span ≡ run.next → CabinIsSound (ungiven_of span) None run.keeper.cabin →
     IfSome (session_of run.keeper.cabin.cards c) (λ a. LeavesOnly X Y (IsNote a.session.application)) → LeavesOnly U V LeavesJournal → (failed : Bool) → HasCause U V failed →
     (o : Origin) (done : List TraceSecond) (s : TraceSecond) (out : Outcome) (w : RunWithin o done s (In at.begun) [] [] run (record out { breaks = breaks }) (arranged c U X Z)) → (In at.begun ≡ In 0 → ComesPower done (record out { breaks = breaks })) →
     (actions : List Action) → IsLeft s (In at.begun) actions → (fell : Bool) (new : Run) (after : Listed Break) → IsNotedOn c slot at run new breaks after fell → HasBroken X Y (falls_by fell) → HasCause X Y fell →
@@ -612,13 +612,13 @@ place-told o done s slot ending country region begun speed run out d now front r
     (allowed-in o done s (In (length front)) [] None [] (values_of run out) d w.within speed (Place slot ending country region) now.speed_is allowed) c) w.stay))
 
 -- a note on the unit, whichever card a call is about
-pub unit-any : (c : Card) (o : Origin) (done : List TraceSecond) (s : TraceSecond) (n : ℕ) (run : Run) (out : Outcome) (U V X Z : State) → IsCoherent U → LeavesOnly U V LeavesJournal → (span : Span) → StandsFor run.minutes span → end_of span ≡ run.next →
+pub unit-any : (c : Card) (o : Origin) (done : List TraceSecond) (s : TraceSecond) (n : ℕ) (run : Run) (out : Outcome) (U V X Z : State) → IsCoherent U → LeavesOnly U V LeavesJournal → (span : Span) → CountsSpan run.minutes span → end_of span ≡ run.next →
     (w : RunWithin o done s (In n) [] [] run out (arranged c U X Z)) → (failed : Bool) → HasCause U V failed → (failed ≡ false → TellMore [] U V) → GoesOnOrFails failed o done s (In n) [] run out (arranged c V X Z) w.within.b
 unit-any A o done s n run out U V X Z whole unit span stands ends w failed cause go = unit-recorded o done s n run out U V X Z whole unit span stands ends w failed cause go
 unit-any B o done s n run out U V X Z whole unit span stands ends w failed cause go = unit-recorded o done s n run out U V Z X whole unit span stands ends w failed cause go
 
 -- and of its events
-pub any-evented : (c : Card) (o : Origin) (done : List TraceSecond) (s : TraceSecond) (n : ℕ) (run : Run) (out : Outcome) (U V X Z : State) → IsCoherent U → LeavesOnly U V LeavesJournal → (span : Span) → StandsFor run.minutes span → end_of span ≡ run.next →
+pub any-evented : (c : Card) (o : Origin) (done : List TraceSecond) (s : TraceSecond) (n : ℕ) (run : Run) (out : Outcome) (U V X Z : State) → IsCoherent U → LeavesOnly U V LeavesJournal → (span : Span) → CountsSpan run.minutes span → end_of span ≡ run.next →
     (w : RunWithin o done s (In n) [] [] run out (arranged c U X Z)) → (actions : List Action) → IsLeft s (In n) actions → (failed : Bool) → HasCause U V failed → NotesEvents [] failed (arranged c U X Z) (arranged c V X Z) → EventedNow o done s w.within.b.run Acting (log_of out) (arranged c U X Z) →
     EventsGoOn failed o done s w.within.b.run (In n) Acting (log_of out) (arranged c V X Z)
 any-evented A o done s n run out U V X Z whole unit span stands ends w actions left failed cause notes now = unit-evented o done s n run out U V X Z whole unit span stands ends w actions left failed cause notes now

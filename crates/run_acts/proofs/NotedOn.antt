@@ -21,8 +21,8 @@ use Rattle.run_crew.specs.declared.cards.Accepted.{Accepted}
 use Rattle.run_crew.specs.declared.cards.Cards.{Cards}
 use Rattle.run_crew.specs.Cards.{session_of, with_session}
 use Rattle.run_promise.specs.Found.{Found, found_of}
-use Rattle.run_promise.specs.Between.{Carried}
-use Rattle.run_devices.specs.Told.{AreFoundCards, IsOn, IsPowered, arranged, with_standing, for_card}
+use Rattle.run_promise.specs.Between.{RunLedger}
+use Rattle.run_devices.specs.Told.{AreFoundCards, SessionIsOnCard, DevicesPowered, arranged, with_standing, for_card}
 use Rattle.run_devices.proofs.OnCards.{valid-or, no-marks, own-valid}
 use Rattle.run_devices.proofs.Parts.{CardLit, AreParts, parts-of, powered-of, at-other}
 use Rattle.run_devices.proofs.Noted.{noted-on, noted-off}
@@ -44,8 +44,8 @@ worked false broken = absurd (none (broken refl))
     none : false ≡ true → ⊥
     none e = cc
 
-module _ (f : Found) (w : Carried) (cards after : Cards) (c : Card) (U X Y Z : State) (found : AreFoundCards f cards) (unit_whole : IsCoherent U) (whole : IsCoherent X) (later : IsCoherent Y) (size : LARGEST_IMAGE ≤ X.size)
-    (a : Accepted) (value : IsValue a.session) (has : session_of cards c ≡ Some a) (p : IsPowered f w cards (arranged c U X Z)) (run : LeavesOnly X Y (IsNote a.session.application)) where
+module _ (f : Found) (w : RunLedger) (cards after : Cards) (c : Card) (U X Y Z : State) (found : AreFoundCards f cards) (unit_whole : IsCoherent U) (whole : IsCoherent X) (later : IsCoherent Y) (size : LARGEST_IMAGE ≤ X.size)
+    (a : Accepted) (value : IsValue a.session) (has : session_of cards c ≡ Some a) (p : DevicesPowered f w cards (arranged c U X Z)) (run : LeavesOnly X Y (IsNote a.session.application)) where
   parts : AreParts f w cards c U X Z
   parts = parts-of f w cards c U X Z p
 
@@ -77,10 +77,10 @@ module _ (f : Found) (w : Carried) (cards after : Cards) (c : Card) (U X Y Z : S
       own-valid (own_sizes (found_of f c).image) x (one.held.now x there).0 (one.valid x (whole.counts_now (found_of f c).began x one.rule.dark.later there))) (by-own valid)
 
   -- it is noted
-  stays : HasCause X Y false → IsPowered f w cards (arranged c U Y Z)
+  stays : HasCause X Y false → DevicesPowered f w cards (arranged c U Y Z)
   stays cause = by (valid-or (found_of f c).image)
     where
-      by : IsOwnValid (found_of f c).image ⊎ (IsOwnValid (found_of f c).image → ⊥) → IsPowered f w cards (arranged c U Y Z)
+      by : IsOwnValid (found_of f c).image ⊎ (IsOwnValid (found_of f c).image → ⊥) → DevicesPowered f w cards (arranged c U Y Z)
       by (inl valid) = noted-on f w cards c U X Y Z found unit_whole whole later a value has p (by-own valid) (worked X.works cause.broken) cause.works (room valid)
       by (inr bad) = powered-of f w cards c U Y Z found (record {
         unit = parts.unit;
@@ -91,14 +91,14 @@ module _ (f : Found) (w : Carried) (cards after : Cards) (c : Card) (U X Y Z : S
       })
 
   -- or the call failed, and it is torn out
-  falls : (floor : ℕ) → AreFoundCards f after → session_of after c ≡ None → session_of after (other c) ≡ session_of cards (other c) → IsPowered f (with_standing c (fallen floor (w.standing c)) w) after (arranged c U Y Z)
+  falls : (floor : ℕ) → AreFoundCards f after → session_of after c ≡ None → session_of after (other c) ≡ session_of cards (other c) → DevicesPowered f (with_standing c (fallen floor (w.standing c)) w) after (arranged c U Y Z)
   falls floor found_after none same = by (valid-or (found_of f c).image)
     where
-      by : IsOwnValid (found_of f c).image ⊎ (IsOwnValid (found_of f c).image → ⊥) → IsPowered f (with_standing c (fallen floor (w.standing c)) w) after (arranged c U Y Z)
+      by : IsOwnValid (found_of f c).image ⊎ (IsOwnValid (found_of f c).image → ⊥) → DevicesPowered f (with_standing c (fallen floor (w.standing c)) w) after (arranged c U Y Z)
       by (inl valid) =
-          let on : IsOn (found_of f c) (mine valid).goes.has (w.standing c) a.session X = (mine valid).goes.goes in
+          let on : SessionIsOnCard (found_of f c) (mine valid).goes.has (w.standing c) a.session X = (mine valid).goes.goes in
           let is : Torn on.time a.session.minute floor ≡ fallen floor (w.standing c) = ap (fallen floor) (sym on.stands) in
-          subst (λ (z : Standing). IsPowered f (with_standing c z w) after (arranged c U Y Z)) is
+          subst (λ (z : Standing). DevicesPowered f (with_standing c z w) after (arranged c U Y Z)) is
           (noted-off f w cards c U X Y Z found unit_whole whole later a value has p (by-own valid) on.time floor after found_after none same (λ _. on.stands))
       by (inr bad) = powered-of f (with_standing c (fallen floor (w.standing c)) w) after c U Y Z found_after (record {
         unit = record { tells = parts.unit.tells; works = parts.unit.works; unit = parts.unit.unit; none = parts.unit.none };
@@ -110,7 +110,7 @@ module _ (f : Found) (w : Carried) (cards after : Cards) (c : Card) (U X Y Z : S
       })
 
 -- a note on the unit behind it, which may have failed
-pub noted-any : (c : Card) (f : Found) (w : Carried) (cards : Cards) (U V X Y : State) → AreFoundCards f cards → IsCoherent U → IsPowered f w cards (arranged c U X Y) → LeavesOnly U V LeavesJournal → (failed : Bool) → V.works ≡ not failed → IsPoweredOrOff failed f w cards (arranged c V X Y)
+pub noted-any : (c : Card) (f : Found) (w : RunLedger) (cards : Cards) (U V X Y : State) → AreFoundCards f cards → IsCoherent U → DevicesPowered f w cards (arranged c U X Y) → LeavesOnly U V LeavesJournal → (failed : Bool) → V.works ≡ not failed → IsPoweredOrOff failed f w cards (arranged c V X Y)
 noted-any c f w cards U V X Y found whole p run false works = noted-here c f w cards U V X Y found whole p run works
 noted-any c f w cards U V X Y found whole p run true works = noted-cut c f w cards U V X Y found whole p run
 

@@ -30,9 +30,9 @@ use Rattle.card_slots.specs.Calls.{seat_in, card_in, logged}
 use Rattle.safety_model.specs.Safe.{Devices, breakdowns_of}
 use Rattle.run_crew.specs.declared.cards.Accepted.{Accepted}
 use Rattle.run_crew.specs.Cards.{session_of}
-use Rattle.run_crew.specs.Cabin.{Stands}
+use Rattle.run_crew.specs.Cabin.{CabinIsSound}
 use Rattle.run_course.specs.Moments.{and_break, and_find, and_refused}
-use Rattle.run_course.specs.Followed.{Progress, IsGoing, IsLost}
+use Rattle.run_course.specs.Followed.{Progress, PowerGoesOn, IsLost}
 use Rattle.run_course.proofs.Logs.{found_log, same-found}
 use Rattle.run_course.proofs.Quiet.{quiet-are-told}
 use Rattle.run_course.proofs.Lookups.{break-more, find-more, refusal-more}
@@ -51,7 +51,7 @@ use Rattle.run_note_record.proofs.Noted.{notes-alike, second-notes}
 use Rattle.run_record.specs.Recorded.{Values, progress}
 use Rattle.run_record.specs.Turning.{last_of, before_last, BehindFirst}
 use Rattle.run_unit_course.specs.Followed.{Lit as IsLit}
-use Rattle.run_record.specs.Within.{Beginning, Within, told_before, course_in}
+use Rattle.run_record.specs.Within.{Beginning, RecordInSecond, told_before, course_in}
 use Rattle.run_record.specs.Judging.{IsNext}
 use Rattle.run_record.proofs.Pulling.{sitting-now}
 use Rattle.run_record.proofs.Seats.{seat-tells, answers-in}
@@ -235,7 +235,7 @@ pub notes-found : (log : RunLog) (i k : ℕ) (ss : List TraceSecond) → notes_i
 notes-found log i k ss = notes-alike log (found_log i k log) ss (all-found log i k ss)
 
 -- nor does one with power that has no actions, where power goes on
-pub notes-quiet : (log : RunLog) (done : List TraceSecond) (u speed : ℕ) → IsGoing (went log done).before → notes_in log (done ++ record { number = u; has_power = true; speed = speed; actions = [] } ∷ []) ≡ notes_in log done
+pub notes-quiet : (log : RunLog) (done : List TraceSecond) (u speed : ℕ) → PowerGoesOn (went log done).before → notes_in log (done ++ record { number = u; has_power = true; speed = speed; actions = [] } ∷ []) ≡ notes_in log done
 notes-quiet log done u speed goes =
     let x : TraceSecond = record { number = u; has_power = true; speed = speed; actions = [] } in
     let before : Before = (went log done).before in
@@ -244,27 +244,27 @@ notes-quiet log done u speed goes =
     ∙ ap (λ (l : List Note). notes_in log done ++ l) ((power-notes log before x).1 goes.running) ∙ append-nil (notes_in log done)
 
 -- nor do several
-pub notes-driven : (j : ℕ) (log : RunLog) (done : List TraceSecond) (u speed : ℕ) → ((i : ℕ) → IsGoing (went log (done ++ driven i u speed [])).before) → notes_in log (done ++ driven j u speed []) ≡ notes_in log done
+pub notes-driven : (j : ℕ) (log : RunLog) (done : List TraceSecond) (u speed : ℕ) → ((i : ℕ) → PowerGoesOn (went log (done ++ driven i u speed [])).before) → notes_in log (done ++ driven j u speed []) ≡ notes_in log done
 notes-driven zero log done u speed goes = ap (λ (ss : List TraceSecond). notes_in log ss) (append-nil done)
 notes-driven (suc j) log done u speed goes =
     let x : TraceSecond = record { number = u; has_power = true; speed = speed; actions = [] } in
     ap (λ (ss : List TraceSecond). notes_in log ss) (sym (append_assoc done (x ∷ []) (driven j (u + 1) speed [])))
-    ∙ notes-driven j log (done ++ x ∷ []) (u + 1) speed (λ i. subst (λ (ss : List TraceSecond). IsGoing (went log ss).before) (sym (append_assoc done (x ∷ []) (driven i (u + 1) speed []))) (goes (suc i)))
-    ∙ notes-quiet log done u speed (subst (λ (ss : List TraceSecond). IsGoing (went log ss).before) (append-nil done) (goes zero))
+    ∙ notes-driven j log (done ++ x ∷ []) (u + 1) speed (λ i. subst (λ (ss : List TraceSecond). PowerGoesOn (went log ss).before) (sym (append_assoc done (x ∷ []) (driven i (u + 1) speed []))) (goes (suc i)))
+    ∙ notes-quiet log done u speed (subst (λ (ss : List TraceSecond). PowerGoesOn (went log ss).before) (append-nil done) (goes zero))
 
 -- power goes on behind the first of several seconds
-pub behind-goes : (o : Origin) (done : List TraceSecond) (s : TraceSecond) (v : Values) (d : Devices) (q : BehindFirst o done s v d) → s.number ≡ v.next → (i : ℕ) → IsGoing (went v.log ((done ++ s ∷ []) ++ driven i (s.number + 1) s.speed [])).before
+pub behind-goes : (o : Origin) (done : List TraceSecond) (s : TraceSecond) (v : Values) (d : Devices) (q : BehindFirst o done s v d) → s.number ≡ v.next → (i : ℕ) → PowerGoesOn (went v.log ((done ++ s ∷ []) ++ driven i (s.number + 1) s.speed [])).before
 behind-goes o done s v d q number i =
     let followed = q.recorded.recorded.followed in
     let p : Progress = progress q.values (IsLit (q.told ∷ q.span)) q.recorded.book in
     let next : q.values.next ≡ s.number + 1 = (let at_ = q.next in omega (arith, at_, number)) in
     let told = quiet-are-told (rule_of o) (start_at o) o.from (first_of o) (done ++ s ∷ []) p followed q.told q.span refl i s.speed in
-    subst (λ (l : RunLog). IsGoing (went l ((done ++ s ∷ []) ++ driven i (s.number + 1) s.speed [])).before) q.log
-    (subst (λ (u : ℕ). IsGoing (went q.values.log ((done ++ s ∷ []) ++ driven i u s.speed [])).before) next
-    (subst (λ (g : Went). IsGoing g.before) (sym told) followed.power))
+    subst (λ (l : RunLog). PowerGoesOn (went l ((done ++ s ∷ []) ++ driven i (s.number + 1) s.speed [])).before) q.log
+    (subst (λ (u : ℕ). PowerGoesOn (went q.values.log ((done ++ s ∷ []) ++ driven i u s.speed [])).before) next
+    (subst (λ (g : Went). PowerGoesOn g.before) (sym told) followed.power))
 
 -- IN THE LAST of several seconds what the first has noted is noted
-pub notes-last : (began log : RunLog) (done : List TraceSecond) (s : TraceSecond) (c : ℕ) → GoesBehind began log done → has_power (went began done).before s ≡ true → ((i : ℕ) → IsGoing (went log ((done ++ s ∷ []) ++ driven i (s.number + 1) s.speed [])).before) →
+pub notes-last : (began log : RunLog) (done : List TraceSecond) (s : TraceSecond) (c : ℕ) → GoesBehind began log done → has_power (went began done).before s ≡ true → ((i : ℕ) → PowerGoesOn (went log ((done ++ s ∷ []) ++ driven i (s.number + 1) s.speed [])).before) →
     (b : Beginning) → b.run.log ≡ log → notes_within b (before_last (suc c) s done) (last_of (suc c) s) Keeping log ≡ notes_so_far began done log s s.actions
 notes-last began log done s c behind power goes b is =
     let D : List TraceSecond = done ++ s ∷ driven c (s.number + 1) s.speed [] in
@@ -279,7 +279,7 @@ notes-last began log done s c behind power goes b is =
 
 -- ---- at an action of a second
 
-module _ (o : Origin) (done : List TraceSecond) (s : TraceSecond) (front rest : List Action) (a : Action) (are : s.actions ≡ front ++ a ∷ rest) (v : Values) (d : Devices) (w : Within o done s (In (length front)) [] None [] v d) where
+module _ (o : Origin) (done : List TraceSecond) (s : TraceSecond) (front rest : List Action) (a : Action) (are : s.actions ≡ front ++ a ∷ rest) (v : Values) (d : Devices) (w : RecordInSecond o done s (In (length front)) [] None [] v d) where
   abbrev was : Before
   was = (went w.b.run.log done).before
 
@@ -313,7 +313,7 @@ accepted-some : (b : Bool) (fault : SlotFault) → cond {A = Option SlotFault} b
 accepted-some true fault is = refl
 accepted-some false fault is = absurd (cc)
 
-pub place-now : (o : Origin) (done : List TraceSecond) (s : TraceSecond) (front rest : List Action) (slot : Slot) (ending : Bool) (country region : ℕ) (are : s.actions ≡ front ++ Place slot ending country region ∷ rest) (v : Values) (d : Devices) (w : Within o done s (In (length front)) [] None [] v d) →
+pub place-now : (o : Origin) (done : List TraceSecond) (s : TraceSecond) (front rest : List Action) (slot : Slot) (ending : Bool) (country region : ℕ) (are : s.actions ≡ front ++ Place slot ending country region ∷ rest) (v : Values) (d : Devices) (w : RecordInSecond o done s (In (length front)) [] None [] v d) →
     refusal (course_in w.b done s (In (length front)) v.log).slots s.speed (Place slot ending country region) ≡ None → (c : Card) →
     spells_of c (notes_within w.b done s (In (suc (length front))) v.log) ≡ spells_of c (notes_within w.b done s (In (length front)) v.log)
 place-now o done s front rest slot ending country region are v d w fine c =
@@ -330,18 +330,18 @@ place-now o done s front rest slot ending country region are v d w fine c =
         ∙ enters-same c (notes_within w.b done s (In (length front)) v.log) p
 
 -- nor does a selection
-pub select-now : (o : Origin) (done : List TraceSecond) (s : TraceSecond) (front rest : List Action) (slot : Slot) (pick : Pick) (are : s.actions ≡ front ++ Select slot pick ∷ rest) (v : Values) (d : Devices) (w : Within o done s (In (length front)) [] None [] v d) → (c : Card) →
+pub select-now : (o : Origin) (done : List TraceSecond) (s : TraceSecond) (front rest : List Action) (slot : Slot) (pick : Pick) (are : s.actions ≡ front ++ Select slot pick ∷ rest) (v : Values) (d : Devices) (w : RecordInSecond o done s (In (length front)) [] None [] v d) → (c : Card) →
     spells_of c (notes_within w.b done s (In (suc (length front))) v.log) ≡ spells_of c (notes_within w.b done s (In (length front)) v.log)
 select-now o done s front rest slot pick are v d w c = nothing-now o done s front rest (Select slot pick) are v d w (selections v.log (went w.b.run.log done).before s front slot pick) c
 
 -- nor an entry by hand
-pub hand-now : (o : Origin) (done : List TraceSecond) (s : TraceSecond) (front rest : List Action) (slot : Slot) (pick : Pick) (minute : ℕ) (are : s.actions ≡ front ++ Manual slot pick minute ∷ rest) (v : Values) (d : Devices) (w : Within o done s (In (length front)) [] None [] v d) → (c : Card) →
+pub hand-now : (o : Origin) (done : List TraceSecond) (s : TraceSecond) (front rest : List Action) (slot : Slot) (pick : Pick) (minute : ℕ) (are : s.actions ≡ front ++ Manual slot pick minute ∷ rest) (v : Values) (d : Devices) (w : RecordInSecond o done s (In (length front)) [] None [] v d) → (c : Card) →
     spells_of c (notes_within w.b done s (In (suc (length front))) v.log) ≡ spells_of c (notes_within w.b done s (In (length front)) v.log)
 hand-now o done s front rest slot pick minute are v d w c =
     nothing-now o done s front rest (Manual slot pick minute) are v d w (entries v.log (went w.b.run.log done).before s front slot pick minute) c
 
 -- nor a card that is pulled out, of which a line is told
-pub pull-now : (o : Origin) (done : List TraceSecond) (s : TraceSecond) (front rest : List Action) (slot : Slot) (are : s.actions ≡ front ++ Tear slot ∷ rest) (v : Values) (d : Devices) (w : Within o done s (In (length front)) [] None [] v d) → (c : Card) →
+pub pull-now : (o : Origin) (done : List TraceSecond) (s : TraceSecond) (front rest : List Action) (slot : Slot) (are : s.actions ≡ front ++ Tear slot ∷ rest) (v : Values) (d : Devices) (w : RecordInSecond o done s (In (length front)) [] None [] v d) → (c : Card) →
     spells_of c (notes_within w.b done s (In (suc (length front))) (and_break v.log (Torn s.number slot false (suc (length front)) false))) ≡ spells_of c (notes_within w.b done s (In (length front)) v.log)
 pull-now o done s front rest slot are v d w c =
     let later : RunLog = and_break v.log (Torn s.number slot false (suc (length front)) false) in
@@ -353,7 +353,7 @@ pub behind-refused : (log : RunLog) (before : Before) (s : TraceSecond) (front :
 unfolding is_torn_in found_in cut_in
 behind-refused log before s front line = refl
 
-pub refuse-now : (o : Origin) (done : List TraceSecond) (s : TraceSecond) (front rest : List Action) (a : Action) (are : s.actions ≡ front ++ a ∷ rest) (v : Values) (d : Devices) (w : Within o done s (In (length front)) [] None [] v d) →
+pub refuse-now : (o : Origin) (done : List TraceSecond) (s : TraceSecond) (front rest : List Action) (a : Action) (are : s.actions ≡ front ++ a ∷ rest) (v : Values) (d : Devices) (w : RecordInSecond o done s (In (length front)) [] None [] v d) →
     (fault : SlotFault) → refusal (course_in w.b done s (In (length front)) v.log).slots s.speed a ≡ Some fault → (line : Refused) → (c : Card) →
     spells_of c (notes_within w.b done s (In (suc (length front))) (and_refused v.log line)) ≡ spells_of c (notes_within w.b done s (In (length front)) v.log)
 refuse-now o done s front rest a are v d w fault is line c =
@@ -371,7 +371,7 @@ refuse-now o done s front rest a are v d w fault is line c =
     (refusals now before s front a fault (ap (λ (k : Course). refusal k.slots s.speed a) (behind-refused v.log before s front line ∙ behind-here o done s front rest a are v d w) ∙ is)))
 
 -- nor does a card that is put in, before it is judged
-pub put-now : (o : Origin) (done : List TraceSecond) (s : TraceSecond) (front rest : List Action) (slot : Slot) (card : Card) (are : s.actions ≡ front ++ Insert slot card ∷ rest) (v : Values) (d : Devices) (w : Within o done s (In (length front)) [] None [] v d) →
+pub put-now : (o : Origin) (done : List TraceSecond) (s : TraceSecond) (front rest : List Action) (slot : Slot) (card : Card) (are : s.actions ≡ front ++ Insert slot card ∷ rest) (v : Values) (d : Devices) (w : RecordInSecond o done s (In (length front)) [] None [] v d) →
     refusal (course_in w.b done s (In (length front)) v.log).slots s.speed (Insert slot card) ≡ None → (c : Card) →
     spells_of c (notes_within w.b done s (In (suc (length front))) v.log) ≡ spells_of c (notes_within w.b done s (In (length front)) v.log)
 put-now o done s front rest slot card are v d w fine c =
@@ -383,8 +383,8 @@ put-now o done s front rest slot card are v d w fine c =
     (insertions v.log (went w.b.run.log done).before s front (begun o done s front rest a are v d w) slot card (ap (λ (k : Course). refusal k.slots s.speed a) (behind-here o done s front rest a are v d w) ∙ fine))) c
 
 -- A CARD IS WITHDRAWN: the last of its spells is shut, where it has a session; and none of another card
-module _ (o : Origin) (done : List TraceSecond) (s : TraceSecond) (front rest : List Action) (slot : Slot) (are : s.actions ≡ front ++ Withdraw slot ∷ rest) (speed : ℕ) (now : s.speed ≡ speed) (card : Card) (v : Values) (d : Devices) (w : Within o done s (In (length front)) [] None [] v d)
-    (seat : card_in (seat_in v.cabin.slots.seats slot) ≡ Some card) (allowed : refusal (logged v.cabin.slots.seats) speed (Withdraw slot) ≡ None) (low : ℕ) (stands : Stands low None v.cabin) where
+module _ (o : Origin) (done : List TraceSecond) (s : TraceSecond) (front rest : List Action) (slot : Slot) (are : s.actions ≡ front ++ Withdraw slot ∷ rest) (speed : ℕ) (now : s.speed ≡ speed) (card : Card) (v : Values) (d : Devices) (w : RecordInSecond o done s (In (length front)) [] None [] v d)
+    (seat : card_in (seat_in v.cabin.slots.seats slot) ≡ Some card) (allowed : refusal (logged v.cabin.slots.seats) speed (Withdraw slot) ≡ None) (low : ℕ) (stands : CabinIsSound low None v.cabin) where
   still : nat_lt 0 s.speed ≡ false
   still = ap (λ (n : ℕ). nat_lt 0 n) now ∙ stands-still (not (is_some (in_slot (logged v.cabin.slots.seats) slot))) (nat_lt 0 speed) (Empty slot) (Moving speed) allowed
 
@@ -510,7 +510,7 @@ module _ (log : RunLog) (was : Before) (s : TraceSecond) (front rest : List Acti
       ∙ ap (λ (k : ℕ). accepted_in s.number (In k) c1.found) more
       ∙ ap (λ (k : Course). accepted_in s.number (In (suc n)) k.found) acted-at)
 
-module _ (o : Origin) (done : List TraceSecond) (s : TraceSecond) (n : ℕ) (waits fewer : List Visit) (v : Values) (d : Devices) (w : Within o done s (In n) waits None [] v d) (slot : Slot) (card : Card) (next : IsNext o done s (In n) waits fewer v d w slot card) (none : found_in v.log s.number (In n) slot ≡ [])
+module _ (o : Origin) (done : List TraceSecond) (s : TraceSecond) (n : ℕ) (waits fewer : List Visit) (v : Values) (d : Devices) (w : RecordInSecond o done s (In n) waits None [] v d) (slot : Slot) (card : Card) (next : IsNext o done s (In n) waits fewer v d w slot card) (none : found_in v.log s.number (In n) slot ≡ [])
     (order : slot ≡ Driver → ((moved_at v.log (went w.b.run.log done).before s (In n)).enters CoDriver ≡ false) ⊎ (found_in v.log s.number (In n) CoDriver ≡ [])) (f : Find) (here : IsFindAt s (In n) f) (slot_is : f.slot ≡ slot) where
   abbrev before_ : Before
   before_ = (went w.b.run.log done).before

@@ -8,7 +8,7 @@ use Rattle.card_layout.specs.declared.command.CardState.{CardState}
 use Rattle.run_crew.specs.declared.cards.Cards.{Cards}
 use Rattle.safety_model.specs.Safe.{Devices, card_of}
 use Rattle.tach_media.specs.declared.fault.Failed.{Failed}
-use Rattle.run_minutes.specs.Keeping.{HasLeftMore, CardReady, HasItsRow, UnitReady, SessionsGoOn}
+use Rattle.run_minutes.specs.Keeping.{HasLeftMore, CardMayBeCalled, HasItsRow, UnitMayBeCalled, SessionsGoOn}
 use Rattle.tach_media.specs.Medium.{IsCoherent, State, HasCause}
 use Rattle.trace_model.specs.declared.Card.TheVariants.{A, B}
 use Rattle.run_crew.specs.declared.cards.Known.{Known}
@@ -28,12 +28,12 @@ use Rattle.run_acts.proofs.RingedSecond.{left-after}
 use Rattle.run_acts.proofs.Cabins.{noted-a, noted-b, noted_cabin, at-same, cabin-going, cabin-held, keeper-only, noted-falls, noted-is, noted-minute, noted-past, noted-sessions, ready-same}
 use Rattle.device_rule.specs.Views.{other}
 use Rattle.log_model.specs.Slots.{same_card}
-use Rattle.run_acts.specs.Going.{IsHeld, IsLit, IsGoingOn, StandSomehow}
+use Rattle.run_acts.specs.Going.{CanBeCut, RunHasPowerAllSeated, RunHasPower, StandSomehow}
 use Rattle.run_acts.specs.Acting.{IsNotedOn, noted_breaks, Closing, IsClosed, closed_cabin}
 use Rattle.unit_model.specs.Image.{IsUnit}
 use Rattle.run_minutes.specs.declared.keeper.Moment.{Moment}
 use Rattle.activity_codec.specs.declared.values.Slot.{Slot}
-use Rattle.run_crew.specs.Cabin.{Stands}
+use Rattle.run_crew.specs.Cabin.{CabinIsSound}
 use Rattle.run_acts.specs.Room.{falls_of}
 use Rattle.run_minutes.proofs.Counts.{lines-length}
 use Rattle.minute_model.specs.Span.{ungiven_of}
@@ -199,39 +199,39 @@ of_b B mine others = mine
 
 -- WHATEVER FAILED, A RUN IS HELD whose cabin alone has changed, with what is known of this card
 pub held-by : (card : Card) (run new : Run) (cabin : Cabin) → new ≡ with_cabin cabin run → known_of new.keeper.cabin.cards (other card) ≡ known_of run.keeper.cabin.cards (other card) → cabin.slots.minute ≤ run.next / 60 → (U V X Y Z : State) (chip next chip_beside : CardState) →
-    IsHeld (run.next / 60) run U (of_a card chip chip_beside) (of_b card chip chip_beside) (of_a card X Z) (of_b card X Z) → IsUnit V → CardReady (known_of new.keeper.cabin.cards card) next Y → Y.size ≡ X.size → StandSomehow new.keeper.cabin →
-    IsHeld (new.next / 60) new V (of_a card next chip_beside) (of_b card next chip_beside) (of_a card Y Z) (of_b card Y Z)
+    CanBeCut (run.next / 60) run U (of_a card chip chip_beside) (of_b card chip chip_beside) (of_a card X Z) (of_b card X Z) → IsUnit V → CardMayBeCalled (known_of new.keeper.cabin.cards card) next Y → Y.size ≡ X.size → StandSomehow new.keeper.cabin →
+    CanBeCut (new.next / 60) new V (of_a card next chip_beside) (of_b card next chip_beside) (of_a card Y Z) (of_b card Y Z)
 held-by A run new cabin is known minute U V X Y Z chip next chip_beside held unit mine same stand =
-    subst (λ (m : ℕ). IsHeld (m / 60) new V next chip_beside Y Z) (sym (ap (λ (r : Run). r.next) is))
+    subst (λ (m : ℕ). CanBeCut (m / 60) new V next chip_beside Y Z) (sym (ap (λ (r : Run). r.next) is))
     (cabin-held (run.next / 60) run new cabin is held unit minute (record { port = mine.port; size = let size = held.card_a.size in omega (arith, same, size) }) (at-same run.keeper.cabin.cards new.keeper.cabin.cards B known held.card_b) stand)
 held-by B run new cabin is known minute U V X Y Z chip next chip_beside held unit mine same stand =
-    subst (λ (m : ℕ). IsHeld (m / 60) new V chip_beside next Z Y) (sym (ap (λ (r : Run). r.next) is))
+    subst (λ (m : ℕ). CanBeCut (m / 60) new V chip_beside next Z Y) (sym (ap (λ (r : Run). r.next) is))
     (cabin-held (run.next / 60) run new cabin is held unit minute (at-same run.keeper.cabin.cards new.keeper.cabin.cards A known held.card_a) (record { port = mine.port; size = let size = held.card_b.size in omega (arith, same, size) }) stand)
 
 -- and where nothing failed it goes on
 pub going-by : (card : Card) (run new : Run) (cabin : Cabin) → new ≡ with_cabin cabin run → known_of new.keeper.cabin.cards (other card) ≡ known_of run.keeper.cabin.cards (other card) → (U V X Y Z : State) (chip next chip_beside : CardState) (leaving stays : Option Card) →
-    (lit : IsGoingOn leaving (run.next / 60) run U (of_a card chip chip_beside) (of_b card chip chip_beside) (of_a card X Z) (of_b card X Z)) → UnitReady new.keeper V → CardReady (known_of new.keeper.cabin.cards card) next Y →
-    ((c : Card) → HasItsRow run.keeper.cabin.cards U c → HasItsRow new.keeper.cabin.cards V c) → cabin.slots.past ≡ run.keeper.cabin.slots.past → Stands (ungiven_of lit.span) stays new.keeper.cabin → SessionsGoOn run.keeper.cabin.cards cabin.cards →
-    IsGoingOn stays (new.next / 60) new V (of_a card next chip_beside) (of_b card next chip_beside) (of_a card Y Z) (of_b card Y Z)
+    (lit : RunHasPower leaving (run.next / 60) run U (of_a card chip chip_beside) (of_b card chip chip_beside) (of_a card X Z) (of_b card X Z)) → UnitMayBeCalled new.keeper V → CardMayBeCalled (known_of new.keeper.cabin.cards card) next Y →
+    ((c : Card) → HasItsRow run.keeper.cabin.cards U c → HasItsRow new.keeper.cabin.cards V c) → cabin.slots.past ≡ run.keeper.cabin.slots.past → CabinIsSound (ungiven_of lit.span) stays new.keeper.cabin → SessionsGoOn run.keeper.cabin.cards cabin.cards →
+    RunHasPower stays (new.next / 60) new V (of_a card next chip_beside) (of_b card next chip_beside) (of_a card Y Z) (of_b card Y Z)
 going-by A run new cabin is known U V X Y Z chip next chip_beside leaving stays lit unit mine rows past stands sessions =
-    subst (λ (m : ℕ). IsGoingOn stays (m / 60) new V next chip_beside Y Z) (sym (ap (λ (r : Run). r.next) is))
+    subst (λ (m : ℕ). RunHasPower stays (m / 60) new V next chip_beside Y Z) (sym (ap (λ (r : Run). r.next) is))
     (cabin-going (run.next / 60) run new cabin is leaving stays lit unit mine (ready-same run.keeper.cabin.cards new.keeper.cabin.cards B known lit.ready.card_b) rows past stands sessions)
 going-by B run new cabin is known U V X Y Z chip next chip_beside leaving stays lit unit mine rows past stands sessions =
-    subst (λ (m : ℕ). IsGoingOn stays (m / 60) new V chip_beside next Z Y) (sym (ap (λ (r : Run). r.next) is))
+    subst (λ (m : ℕ). RunHasPower stays (m / 60) new V chip_beside next Z Y) (sym (ap (λ (r : Run). r.next) is))
     (cabin-going (run.next / 60) run new cabin is leaving stays lit unit (ready-same run.keeper.cabin.cards new.keeper.cabin.cards A known lit.ready.card_a) mine rows past stands sessions)
 
 -- so behind a note
 module _ (card : Card) (slot : Slot) (at : Moment) (run new : Run) (breaks after : Listed Break) (fell : Bool) (noted : IsNotedOn card slot at run new breaks after fell) (U V X Y Z : State) (chip next chip_beside : CardState) where
-  pub held-noted : at.second ≡ run.next → IsHeld (run.next / 60) run U (of_a card chip chip_beside) (of_b card chip chip_beside) (of_a card X Z) (of_b card X Z) → IsUnit V → CardReady (known_of new.keeper.cabin.cards card) next Y → Y.size ≡ X.size →
-      ((from : ℕ) (leaving : Option Card) → Stands from leaving run.keeper.cabin → Stands from leaving new.keeper.cabin) → IsHeld (new.next / 60) new V (of_a card next chip_beside) (of_b card next chip_beside) (of_a card Y Z) (of_b card Y Z)
+  pub held-noted : at.second ≡ run.next → CanBeCut (run.next / 60) run U (of_a card chip chip_beside) (of_b card chip chip_beside) (of_a card X Z) (of_b card X Z) → IsUnit V → CardMayBeCalled (known_of new.keeper.cabin.cards card) next Y → Y.size ≡ X.size →
+      ((from : ℕ) (leaving : Option Card) → CabinIsSound from leaving run.keeper.cabin → CabinIsSound from leaving new.keeper.cabin) → CanBeCut (new.next / 60) new V (of_a card next chip_beside) (of_b card next chip_beside) (of_a card Y Z) (of_b card Y Z)
   held-noted here held unit mine same stands =
       let stand = held.stand in
       held-by card run new (noted_cabin fell card at.second run) (cabin-noted card slot at run new breaks after fell noted) (known-noted card slot at run new breaks after fell noted) (minute-noted card slot at run new breaks after fell noted here held.minute)
       U V X Y Z chip next chip_beside held unit mine same (stand.0, stand.1, stands stand.0 stand.1 stand.2)
 
-  pub going-noted : IsLit (run.next / 60) run U (of_a card chip chip_beside) (of_b card chip chip_beside) (of_a card X Z) (of_b card X Z) → UnitReady new.keeper V → CardReady (known_of new.keeper.cabin.cards card) next Y →
-      ((c : Card) → HasItsRow run.keeper.cabin.cards U c → HasItsRow new.keeper.cabin.cards V c) → ((from : ℕ) (leaving : Option Card) → Stands from leaving run.keeper.cabin → Stands from leaving new.keeper.cabin) →
-      IsLit (new.next / 60) new V (of_a card next chip_beside) (of_b card next chip_beside) (of_a card Y Z) (of_b card Y Z)
+  pub going-noted : RunHasPowerAllSeated (run.next / 60) run U (of_a card chip chip_beside) (of_b card chip chip_beside) (of_a card X Z) (of_b card X Z) → UnitMayBeCalled new.keeper V → CardMayBeCalled (known_of new.keeper.cabin.cards card) next Y →
+      ((c : Card) → HasItsRow run.keeper.cabin.cards U c → HasItsRow new.keeper.cabin.cards V c) → ((from : ℕ) (leaving : Option Card) → CabinIsSound from leaving run.keeper.cabin → CabinIsSound from leaving new.keeper.cabin) →
+      RunHasPowerAllSeated (new.next / 60) new V (of_a card next chip_beside) (of_b card next chip_beside) (of_a card Y Z) (of_b card Y Z)
   going-noted lit unit mine rows stands =
       going-by card run new (noted_cabin fell card at.second run) (cabin-noted card slot at run new breaks after fell noted) (known-noted card slot at run new breaks after fell noted) U V X Y Z chip next chip_beside None None lit unit mine rows
       (noted-past card at.second run fell) (stands (ungiven_of lit.span) None lit.cabin) (noted-sessions card at.second run fell)
@@ -241,15 +241,15 @@ module _ (card : Card) (slot : Slot) (at : Moment) (run new : Run) (breaks after
   known-closed : known_of new.keeper.cabin.cards (other card) ≡ known_of run.keeper.cabin.cards (other card)
   known-closed = ap (λ (r : Run). known_of r.keeper.cabin.cards (other card)) closed.run ∙ closed-beside card closing at.second run.keeper.cabin
 
-  pub held-closed : at.second ≡ run.next → IsHeld (run.next / 60) run U (of_a card chip chip_beside) (of_b card chip chip_beside) (of_a card X Z) (of_b card X Z) → IsUnit V → CardReady (known_of new.keeper.cabin.cards card) next Y → Y.size ≡ X.size → StandSomehow new.keeper.cabin →
-      IsHeld (new.next / 60) new V (of_a card next chip_beside) (of_b card next chip_beside) (of_a card Y Z) (of_b card Y Z)
+  pub held-closed : at.second ≡ run.next → CanBeCut (run.next / 60) run U (of_a card chip chip_beside) (of_b card chip chip_beside) (of_a card X Z) (of_b card X Z) → IsUnit V → CardMayBeCalled (known_of new.keeper.cabin.cards card) next Y → Y.size ≡ X.size → StandSomehow new.keeper.cabin →
+      CanBeCut (new.next / 60) new V (of_a card next chip_beside) (of_b card next chip_beside) (of_a card Y Z) (of_b card Y Z)
   held-closed here held unit mine same stand =
       held-by card run new (closed_cabin closing card at.second run.keeper.cabin) closed.run known-closed (closed-minute card at.second run.keeper.cabin closing (run.next / 60) held.minute (omega (arith, here)))
       U V X Y Z chip next chip_beside held unit mine same stand
 
-  pub going-closed : (g : IsGoingOn (Some card) (run.next / 60) run U (of_a card chip chip_beside) (of_b card chip chip_beside) (of_a card X Z) (of_b card X Z)) → UnitReady new.keeper V → CardReady (known_of new.keeper.cabin.cards card) next Y →
-      ((c : Card) → HasItsRow run.keeper.cabin.cards U c → HasItsRow new.keeper.cabin.cards V c) → Stands (ungiven_of g.span) None new.keeper.cabin →
-      IsLit (new.next / 60) new V (of_a card next chip_beside) (of_b card next chip_beside) (of_a card Y Z) (of_b card Y Z)
+  pub going-closed : (g : RunHasPower (Some card) (run.next / 60) run U (of_a card chip chip_beside) (of_b card chip chip_beside) (of_a card X Z) (of_b card X Z)) → UnitMayBeCalled new.keeper V → CardMayBeCalled (known_of new.keeper.cabin.cards card) next Y →
+      ((c : Card) → HasItsRow run.keeper.cabin.cards U c → HasItsRow new.keeper.cabin.cards V c) → CabinIsSound (ungiven_of g.span) None new.keeper.cabin →
+      RunHasPowerAllSeated (new.next / 60) new V (of_a card next chip_beside) (of_b card next chip_beside) (of_a card Y Z) (of_b card Y Z)
   going-closed g unit mine rows stands =
       going-by card run new (closed_cabin closing card at.second run.keeper.cabin) closed.run known-closed U V X Y Z chip next chip_beside (Some card) None g unit mine rows
       (closed-past card at.second run.keeper.cabin closing) stands (closed-sessions card at.second run.keeper.cabin closing)

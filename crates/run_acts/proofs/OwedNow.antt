@@ -22,7 +22,7 @@ use Rattle.log_model.specs.declared.lines.Break.{Break}
 use Rattle.log_model.specs.declared.lines.Find.{Find}
 use Rattle.log_model.specs.declared.lines.Verdict.TheVariants.{Accepted}
 use Rattle.log_model.specs.Causes.{device_of}
-use Rattle.log_model.specs.Course.{Told, Course, Visit, went, Went, second_told}
+use Rattle.log_model.specs.Course.{ToldSecond, Course, Visit, went, Went, second_told}
 use Rattle.history_model.specs.Minutes.{HistoryMinute, on_card, card_history, up_to}
 use Rattle.history_model.specs.Completeness.{deciding_of, IsMarked, TornBetween}
 use Rattle.log_model.proofs.Growth.{went-more}
@@ -58,7 +58,7 @@ use Rattle.device_calls.specs.declared.entering.Entered.{Entered}
 use Rattle.run_insertion.specs.declared.lines.Entering.{Entering}
 use Rattle.run_insertion.specs.Entering.{find_of}
 use Rattle.run_insertion.specs.Told.{IsToldSo}
-use Rattle.run_record.specs.Within.{Within, course_in}
+use Rattle.run_record.specs.Within.{RecordInSecond, course_in}
 use Rattle.run_acts.specs.Entered.{values_with, MayJudge}
 use Rattle.run_acts.specs.Owed.{IsPulledBefore, IsPulledHere, IsOwed, runs_on}
 use Rattle.run_acts.proofs.PulledBy.{none-torn, none-torn-in, tears-none, pulled-alone}
@@ -71,7 +71,7 @@ use Rattle.run_acts.proofs.WholeLegs.{whole-before, book-is}
 
 -- ---- A HISTORY THAT LOST NOTHING is all that its spans have decided, with the cards
 
-limited-whole : (start : Start) (told : List Told) (o : Option ℕ) (past : List HistoryMinute) (ds : List Minute) → All (λ (d : Minute). d.minute ≤ unwrap_or o 0) ds → limited_to o (minutes_after start told past ds) ≡ minutes_after start told past ds
+limited-whole : (start : Start) (told : List ToldSecond) (o : Option ℕ) (past : List HistoryMinute) (ds : List Minute) → All (λ (d : Minute). d.minute ≤ unwrap_or o 0) ds → limited_to o (minutes_after start told past ds) ≡ minutes_after start told past ds
 limited-whole start told None past ds low = refl
 limited-whole start told (Some k) past ds low =
     up_to-whole k (minutes_after start told past ds)
@@ -80,14 +80,14 @@ limited-whole start told (Some k) past ds low =
     let le : d.0.minute ≤ k = All-contains (λ (x : Minute). x.minute ≤ k) ds d.0 low d.1 in
     subst (λ (n : ℕ). n ≤ k) d.2 le))
 
-pub history-whole : (rule : Rule) (start : Start) (log : RunLog) (told : List Told) (past : List HistoryMinute) (spans : List (List Told)) → AreWhole rule (closed_limit log) 0 spans →
-    history_by rule start (closed_limit log) told past spans ≡ minutes_after start told past (flat_map (λ (span : List Told). decided_of rule span) spans)
+pub history-whole : (rule : Rule) (start : Start) (log : RunLog) (told : List ToldSecond) (past : List HistoryMinute) (spans : List (List ToldSecond)) → AreWhole rule (closed_limit log) 0 spans →
+    history_by rule start (closed_limit log) told past spans ≡ minutes_after start told past (flat_map (λ (span : List ToldSecond). decided_of rule span) spans)
 history-whole rule start log told past [] whole = refl
 history-whole rule start log told past (span ∷ later) whole =
     let own : limited_to (closed_limit log span later) (span_minutes rule start told past span) ≡ span_minutes rule start told past span = limited-whole start told (closed_limit log span later) past (decided_of rule span) whole.0 in
     (λ i. own i ++ history_by rule start (closed_limit log) told (past ++ own i) later)
     ∙ ap (λ (is : List HistoryMinute). span_minutes rule start told past span ++ is) (history-whole rule start log told (past ++ span_minutes rule start told past span) later whole.1)
-    ∙ sym (minutes-parts rule start told past (decided_of rule span) (flat_map (λ (s : List Told). decided_of rule s) later))
+    ∙ sym (minutes-parts rule start told past (decided_of rule span) (flat_map (λ (s : List ToldSecond). decided_of rule s) later))
 
 under : (a b : ℕ) → a < b → nat_lt a b ≡ true
 under a b lt = grind (arith, nat_tests)
@@ -119,7 +119,7 @@ said-on c (i ∷ past) e at = ⊎_elim
 
 -- ---- whether power goes on
 
-last-runs : (xs : List Told) (t : Told) → runs_on (xs ++ t ∷ []) ≡ (t.lit && not t.cut)
+last-runs : (xs : List ToldSecond) (t : ToldSecond) → runs_on (xs ++ t ∷ []) ≡ (t.lit && not t.cut)
 last-runs [] t = refl
 last-runs (x ∷ []) t = refl
 last-runs (x ∷ y ∷ xs) t = last-runs (y ∷ xs) t
@@ -139,18 +139,18 @@ runs-told log done = by done (at-end done)
         ∙ ap (λ (w : Went). runs_on w.told) (sym (went-more log ss s))
 
 -- ---- AS A CARD IS JUDGED
-module _ (o : Origin) (done : List TraceSecond) (s : TraceSecond) (n : ℕ) (waits fewer : List Visit) (e : Entering) (k : Keeper) (out : Outcome) (unfound next_ begun : ℕ) (minutes : Kept) (U X Z : State) (w : Within o done s (In n) waits None [] (values_with k out unfound next_ begun minutes) (arranged e.which U X Z)) (m : MayJudge o done s n waits fewer e k out unfound next_ begun minutes U X Z w) (coherent : IsCoherent X) (nothing : NothingFailed (values_with k out unfound next_ begun minutes).log) where
+module _ (o : Origin) (done : List TraceSecond) (s : TraceSecond) (n : ℕ) (waits fewer : List Visit) (e : Entering) (k : Keeper) (out : Outcome) (unfound next_ begun : ℕ) (minutes : Kept) (U X Z : State) (w : RecordInSecond o done s (In n) waits None [] (values_with k out unfound next_ begun minutes) (arranged e.which U X Z)) (m : MayJudge o done s n waits fewer e k out unfound next_ begun minutes U X Z w) (coherent : IsCoherent X) (nothing : NothingFailed (values_with k out unfound next_ begun minutes).log) where
   none : NothingFailed w.b.run.log
   none = began-none o done s (In n) waits None [] (values_with k out unfound next_ begun minutes) (arranged e.which U X Z) w nothing
 
-  abbrev told_so_far : List Told
+  abbrev told_so_far : List ToldSecond
   told_so_far = (went w.b.run.log done).told
 
-  abbrev ended_so_far : List (List Told)
+  abbrev ended_so_far : List (List ToldSecond)
   ended_so_far = (followed-lit o done s (In n) waits None [] (values_with k out unfound next_ begun minutes) (arranged e.which U X Z) w).ended
 
   abbrev decided_before : List Minute
-  decided_before = flat_map (λ (span : List Told). decided_of (rule_of o) span) ended_so_far
+  decided_before = flat_map (λ (span : List ToldSecond). decided_of (rule_of o) span) ended_so_far
 
   abbrev book : Book
   book = kept_all w.new w.b.run.book

@@ -10,7 +10,7 @@ use Rattle.minute_model.specs.declared.Rule.{Rule}
 use Rattle.minute_model.specs.Span.{decided_in}
 use Rattle.log_model.specs.Log.{RunLog}
 use Rattle.log_model.specs.declared.lines.Find.{Find}
-use Rattle.log_model.specs.Course.{Told, Went, Before, went, second_told, before_next, not_begun}
+use Rattle.log_model.specs.Course.{ToldSecond, Went, Before, went, second_told, before_next, not_begun}
 use Rattle.log_model.specs.Spans.{spans_of}
 use Rattle.log_model.proofs.Growth.{went-more}
 use Rattle.history_model.specs.Minutes.{card_history}
@@ -27,7 +27,7 @@ none-told : (log : RunLog) → (went log []).told ≡ []
 unfolding went
 none-told log = refl
 
-told-parts : (log : RunLog) (front rest : List TraceSecond) → (more : List Told) × ((went log (front ++ rest)).told ≡ (went log front).told ++ more) × (length more ≡ length rest)
+told-parts : (log : RunLog) (front rest : List TraceSecond) → (more : List ToldSecond) × ((went log (front ++ rest)).told ≡ (went log front).told ++ more) × (length more ≡ length rest)
 told-parts log front [] = ([], ap (λ (ss : List TraceSecond). (went log ss).told) (append-nil front) ∙ sym (append-nil (went log front).told), refl)
 told-parts log front (s ∷ rest) =
     let r = told-parts log (front ++ s ∷ []) rest in (
@@ -41,9 +41,9 @@ told-parts log front (s ∷ rest) =
 
 -- a line for each
 told-count : (log : RunLog) (ss : List TraceSecond) → length (went log ss).told ≡ length ss
-told-count log ss = let r = told-parts log [] ss in ap length (r.1 ∙ ap (λ (l : List Told). l ++ r.0) (none-told log)) ∙ r.2
+told-count log ss = let r = told-parts log [] ss in ap length (r.1 ∙ ap (λ (l : List ToldSecond). l ++ r.0) (none-told log)) ∙ r.2
 
-fronts-same : (a b x y : List Told) → a ++ x ≡ b ++ y → length a ≡ length b → a ≡ b
+fronts-same : (a b x y : List ToldSecond) → a ++ x ≡ b ++ y → length a ≡ length b → a ≡ b
 fronts-same a b x y is long = sym (take-append_seam a x) ∙ (λ i. take (long i) (is i)) ∙ take-append_seam b y
 
 -- where two logs tell the same of all they do of the first
@@ -54,10 +54,10 @@ told-front log later front rest same =
     fronts-same (went later front).told (went log front).told a.0 b.0 (sym a.1 ∙ ap (λ (w : Went). w.told) same ∙ b.1) (told-count later front ∙ sym (told-count log front))
 
 -- what the next second has to know is by what was told
-abbrev by-told : List Told → Before
+abbrev by-told : List ToldSecond → Before
 by-told told = fold before_next not_begun.before told
 
-told-push : (b : Before) (ts : List Told) (t : Told) → fold before_next b (ts ++ t ∷ []) ≡ before_next (fold before_next b ts) t
+told-push : (b : Before) (ts : List ToldSecond) (t : ToldSecond) → fold before_next b (ts ++ t ∷ []) ≡ before_next (fold before_next b ts) t
 told-push b [] t = refl
 told-push b (x ∷ ts) t = told-push (before_next b x) ts t
 
@@ -68,7 +68,7 @@ none-before log = refl
 before-parts : (log : RunLog) (front rest : List TraceSecond) → (went log front).before ≡ by-told (went log front).told → (went log (front ++ rest)).before ≡ by-told (went log (front ++ rest)).told
 before-parts log front [] is = subst (λ (ss : List TraceSecond). (went log ss).before ≡ by-told (went log ss).told) (sym (append-nil front)) is
 before-parts log front (s ∷ rest) is =
-    let t : Told = second_told log (went log front).before s in
+    let t : ToldSecond = second_told log (went log front).before s in
     subst (λ (ss : List TraceSecond). (went log ss).before ≡ by-told (went log ss).told) (append_assoc front (s ∷ []) rest)
     (before-parts log (front ++ s ∷ []) rest
     (ap (λ (w : Went). w.before) (went-more log front s) ∙ ap (λ (b : Before). before_next b t) is ∙ sym (told-push not_begun.before (went log front).told t) ∙ sym (ap (λ (w : Went). by-told w.told) (went-more log front s))))
@@ -95,18 +95,18 @@ module _ (rule : Rule) (start : Start) (log later : RunLog) (done now : List Tra
           earlier = h.at.earlier;
           span = h.at.span;
           spans = ap spans_of so.2 ∙ h.at.spans;
-          begins = h.at.begins ∙ ap (λ (told : List Told). not (runs_on told)) (sym so.2);
+          begins = h.at.begins ∙ ap (λ (told : List ToldSecond). not (runs_on told)) (sym so.2);
           times = h.at.times;
           decided = h.at.decided;
         };
         are = h.are
             ∙ ap
-            (λ (told : List Told). filter (λ (e : Entry). nat_lt mark e.minute) (lacks
-            ++ card_history c (minutes_after start told [] (flat_map (λ (span : List Told). decided_of rule span) h.at.earlier ++ decided_in (settled_times h.at.times (span_at rule f.second h.at.span))))))
+            (λ (told : List ToldSecond). filter (λ (e : Entry). nat_lt mark e.minute) (lacks
+            ++ card_history c (minutes_after start told [] (flat_map (λ (span : List ToldSecond). decided_of rule span) h.at.earlier ++ decided_in (settled_times h.at.times (span_at rule f.second h.at.span))))))
             (sym so.2);
         behind =
             subst (λ (b : Before). All (λ (e : Entry). Contains lacks e ⊎ (IsPulledBefore rule (went later h.at.front).told f.second h.at.span c e.minute ⊎ IsPulledHere rule b h.at.s h.at.span f.begun c e.minute)) es) (sym (before-same log later h.at.front so.2))
-            (subst (λ (told : List Told). All (λ (e : Entry). Contains lacks e ⊎ (IsPulledBefore rule told f.second h.at.span c e.minute ⊎ IsPulledHere rule (went log h.at.front).before h.at.s h.at.span f.begun c e.minute)) es) (sym so.2) h.behind);
+            (subst (λ (told : List ToldSecond). All (λ (e : Entry). Contains lacks e ⊎ (IsPulledBefore rule told f.second h.at.span c e.minute ⊎ IsPulledHere rule (went log h.at.front).before h.at.s h.at.span f.begun c e.minute)) es) (sym so.2) h.behind);
       }
 
 -- behind more seconds,

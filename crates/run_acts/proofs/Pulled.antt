@@ -10,7 +10,7 @@ use Rattle.log_model.specs.Log.{In}
 use Rattle.log_model.specs.Slots.{same_card}
 use Rattle.safety_model.specs.Safe.{Devices}
 use Rattle.card_slots.specs.Calls.{seat_in, card_in}
-use Rattle.run_crew.specs.Cabin.{Stands, torn_out}
+use Rattle.run_crew.specs.Cabin.{CabinIsSound, torn_out}
 use Rattle.run_outcome.specs.declared.outcome.Outcome.{Outcome}
 use Rattle.run_minutes.specs.Keeping.{with_lines}
 use Rattle.run_promise.specs.Origin.{Origin}
@@ -31,7 +31,7 @@ use Rattle.run_acts.proofs.AllStay.{Moves, moves-gone, moves-same, placed-same, 
 use Rattle.run_acts.proofs.SeatsThen.{same-as, sits-there, torn-other, torn-slot}
 use Rattle.run_acts.proofs.NotesThen.{pull-now}
 
-module _ (d : Devices) (slot : Slot) (begun speed : ℕ) (run : Run) (out : Outcome) (low : ℕ) (stands : Stands low None run.keeper.cabin) where
+module _ (d : Devices) (slot : Slot) (begun speed : ℕ) (run : Run) (out : Outcome) (low : ℕ) (stands : CabinIsSound low None run.keeper.cabin) where
   -- its card sat there, and has no session any more; another one sits as it did
   gone-so : (card : Card) → card_in (seat_in run.keeper.cabin.slots.seats slot) ≡ Some card → (second : ℕ) (noted now : List Spell) (c : Card) → now ≡ noted →
       Moves second noted now (sits_in run.keeper.cabin.slots.seats c) (sits_in (torn_out card second run.keeper.cabin).slots.seats c) (session_of run.keeper.cabin.cards c) (session_of (with_session card None run.keeper.cabin.cards) c)

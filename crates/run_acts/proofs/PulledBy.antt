@@ -18,7 +18,7 @@ use Rattle.log_model.specs.declared.lines.Verdict.{Verdict}
 use Rattle.log_model.specs.Log.{RunLog, Phase, In, cut_in, is_torn_in, found_in, is_accepting}
 use Rattle.log_model.specs.Causes.{is_cut, has_failed, tears, places, visit_places, in_the_slot, torn_of}
 use Rattle.log_model.specs.Slots.{Slots, Sitting, in_slot, other_slot, same_card, holds, refusal}
-use Rattle.log_model.specs.Course.{Told, Course, Visit, Moved, Before, card_in, visits, with_slot, leaves, answered, moved_by, slot_told, both_told, begins, is_settling, acted, all_acted, unmoved, fresh}
+use Rattle.log_model.specs.Course.{ToldSecond, Course, Visit, Moved, Before, card_in, visits, with_slot, leaves, answered, moved_by, slot_told, both_told, begins, is_settling, acted, all_acted, unmoved, fresh}
 use Rattle.event_model.specs.Events.{course_by}
 use Rattle.note_model.specs.Done.{course_powered}
 use Rattle.run_unit_course.specs.Lines.{log_of}
@@ -315,13 +315,13 @@ stands-at u (x ∷ vs) v at = ⊎_elim
     (λ there. Contains-append_right (visit_places u (x ∷ [])) (visit_places u vs) (u, v.phase, v.slot) (stands-at u vs v there))
     (Contains-append_cases (x ∷ []) vs v at)
 
-torn-stands : (told : List Told) (t : Told) (v : Visit) → Contains told t → Contains t.course.torn v → Contains (torn_of told) (t.second.number, v.phase, v.slot)
+torn-stands : (told : List ToldSecond) (t : ToldSecond) (v : Visit) → Contains told t → Contains t.course.torn v → Contains (torn_of told) (t.second.number, v.phase, v.slot)
 torn-stands [] t v at torn = absurd (omega (arith, at.1))
 torn-stands (x ∷ told) t v at torn = ⊎_elim
     (λ here. ⊎_elim
     (λ none. absurd (omega (arith, none.1)))
     (λ (is : x ≡ t). Contains-append_left (visit_places x.second.number x.course.torn) (torn_of told) (t.second.number, v.phase, v.slot)
-    (subst (λ (y : Told). Contains (visit_places y.second.number y.course.torn) (t.second.number, v.phase, v.slot)) (sym is) (stands-at t.second.number t.course.torn v torn)))
+    (subst (λ (y : ToldSecond). Contains (visit_places y.second.number y.course.torn) (t.second.number, v.phase, v.slot)) (sym is) (stands-at t.second.number t.course.torn v torn)))
     (Contains-push_cases [] x t here))
     (λ there. Contains-append_right (visit_places x.second.number x.course.torn) (torn_of told) (t.second.number, v.phase, v.slot) (torn-stands told t v there torn))
     (Contains-append_cases (x ∷ []) told t at)
@@ -349,7 +349,7 @@ none-there bs ps p none same at =
     omega (arith, gone.1)
 
 -- before,
-pub none-torn : (log : RunLog) (told : List Told) → tears true log ≡ [] → ((slot : Slot) → in_the_slot slot (flat_map places (tears true log)) ≡ in_the_slot slot (torn_of told)) → (t : Told) (v : Visit) → Contains told t → Contains t.course.torn v → ⊥
+pub none-torn : (log : RunLog) (told : List ToldSecond) → tears true log ≡ [] → ((slot : Slot) → in_the_slot slot (flat_map places (tears true log)) ≡ in_the_slot slot (torn_of told)) → (t : ToldSecond) (v : Visit) → Contains told t → Contains t.course.torn v → ⊥
 none-torn log told none same t v at torn = none-there (tears true log) (torn_of told) (t.second.number, v.phase, v.slot) none (same v.slot) (torn-stands told t v at torn)
 
 -- and in a second

@@ -8,13 +8,13 @@ use Rattle.trace_model.specs.declared.Card.TheVariants.{A, B}
 use Rattle.trace_model.specs.Trace.{TraceSecond}
 use Rattle.minute_model.specs.declared.Minute.{Minute}
 use Rattle.minute_model.specs.Span.{settled, travelled_of}
-use Rattle.minute_rules.specs.Kept.{StandsFor}
+use Rattle.minute_rules.specs.Kept.{CountsSpan}
 use Rattle.message_model.specs.Records.{insertion_ring}
 use Rattle.unit_rule.specs.Odometer.{odometer_by}
 use Rattle.log_model.specs.declared.lines.Break.{Break}
 use Rattle.log_model.specs.Log.{RunLog, In, is_torn_in}
 use Rattle.log_model.specs.Slots.{refusal}
-use Rattle.log_model.specs.Course.{Told}
+use Rattle.log_model.specs.Course.{ToldSecond}
 use Rattle.note_model.specs.Odometer.{SpanFrom}
 use Rattle.safety_model.specs.Safe.{Devices}
 use Rattle.card_slots.specs.Calls.{seat_in, card_in, logged}
@@ -22,7 +22,7 @@ use Rattle.run_crew.specs.declared.cabin.Cabin.{Cabin}
 use Rattle.run_crew.specs.declared.cards.Accepted.{Accepted}
 use Rattle.run_crew.specs.declared.cards.Cards.{Cards}
 use Rattle.run_crew.specs.Cards.{session_of, with_session}
-use Rattle.run_crew.specs.Cabin.{Stands}
+use Rattle.run_crew.specs.Cabin.{CabinIsSound}
 use Rattle.run_crew.proofs.Sessions.{session_set}
 use Rattle.run_outcome.specs.Lines.{Listed}
 use Rattle.run_outcome.specs.declared.outcome.Outcome.{Outcome}
@@ -84,8 +84,8 @@ went-of x y B new h is = went-on_ x.b.accepted new (subst (GoesOnFrom x.b.accept
 
 module _ (o : Origin) (done : List TraceSecond) (s : TraceSecond) (front rest : List Action) (slot : Slot) (are : s.actions ≡ front ++ Withdraw slot ∷ rest) (speed : ℕ) (now : s.speed ≡ speed) (c : Card) (run between : Run) (before told : Outcome) (d e : Devices)
     (w : RunWithin o done s (In (length front)) [] [] run before d) (seat : card_in (seat_in run.keeper.cabin.slots.seats slot) ≡ Some c) (allowed : refusal (logged run.keeper.cabin.slots.seats) speed (Withdraw slot) ≡ None)
-    (failed : Bool) (kept : IsSettled (acting_at s.number (suc (length front))) failed (left_run slot s.number run) between before told) (left : HaveLeftMore o d e) (places : PlacesStay o d e) (spans : List SpanFrom) (t : Told)
-    (rings : RingsWithin o done s w.within.b.run.log front run (log_of before) spans t d) (low : ℕ) (stands : Stands low None run.keeper.cabin) (small : s.number < 2 ^ 32)
+    (failed : Bool) (kept : IsSettled (acting_at s.number (suc (length front))) failed (left_run slot s.number run) between before told) (left : HaveLeftMore o d e) (places : PlacesStay o d e) (spans : List SpanFrom) (t : ToldSecond)
+    (rings : RingsWithin o done s w.within.b.run.log front run (log_of before) spans t d) (low : ℕ) (stands : CabinIsSound low None run.keeper.cabin) (small : s.number < 2 ^ 32)
     (entries : IfSome (session_of run.keeper.cabin.cards c) (λ q. q.entry < insertion_ring.count)) where
   abbrev at : Moment
   at = acting_at s.number (suc (length front))
@@ -163,7 +163,7 @@ module _ (o : Origin) (done : List TraceSecond) (s : TraceSecond) (front rest : 
         (subst (λ (b : ℕ). Withdraws f (seating_of between.noted x) s.number (record { 0 = odometer_by b (travelled_of w.within.sp) }) d.unit e.unit) told-tears.odometer h)
 
     -- whether a tear of its slot was told, by its session before and behind the minutes
-    module _ (stands_ : StandsFor between.minutes (settled w.within.sp))
+    module _ (stands_ : CountsSpan between.minutes (settled w.within.sp))
         (untorn : is_some (session_of run.keeper.cabin.cards c) ≡ true → is_some (session_of between.keeper.cabin.cards c) ≡ true → is_torn_in (log_of told) s.number (In (suc (length front))) slot ≡ false)
         (torn : is_some (session_of run.keeper.cabin.cards c) ≡ true → session_of between.keeper.cabin.cards c ≡ None → is_torn_in (log_of told) s.number (In (suc (length front))) slot ≡ true) where
       broken : (k : Closing) → closing ≡ k → (q : Option Accepted) → session_of between.keeper.cabin.cards c ≡ q → ClosesRings k q at true between d.unit e.unit →

@@ -7,7 +7,7 @@ use Rattle.trace_model.specs.Trace.{TraceSecond}
 use Rattle.event_model.specs.declared.entries.Span.{Span}
 use Rattle.log_model.specs.declared.lines.Break.{Break}
 use Rattle.log_model.specs.Log.{RunLog, In, cut_in, found_in}
-use Rattle.log_model.specs.Course.{Told, Before, Went, went}
+use Rattle.log_model.specs.Course.{ToldSecond, Before, Went, went}
 use Rattle.note_model.specs.Odometer.{SpanFrom}
 use Rattle.note_model.specs.Noted.{Note}
 use Rattle.safety_model.specs.Safe.{Devices}
@@ -116,7 +116,7 @@ gap-notes (Some span) at failed old new breaks after (BothSlots driver codriver)
 -- ---- before any action
 
 module _ (o : Origin) (done : List TraceSecond) (s : TraceSecond) (old new : Run) (out : Outcome) (after : Listed Break) (d e : Devices) (w : RunWithin o done s (In 0) [] [] old out d) (comes : ComesPower done out)
-    (n : NotesOn (record { second = s.number; begun = 0; late = false }) old new out.breaks after) (leaves : LeavesRings d.unit e.unit) (left : HaveLeftMore o d e) (places : PlacesStay o d e) (spans : List SpanFrom) (t : Told) (rings : RingsWithin o done s w.within.b.run.log [] old (log_of out) spans t d) where
+    (n : NotesOn (record { second = s.number; begun = 0; late = false }) old new out.breaks after) (leaves : LeavesRings d.unit e.unit) (left : HaveLeftMore o d e) (places : PlacesStay o d e) (spans : List SpanFrom) (t : ToldSecond) (rings : RingsWithin o done s w.within.b.run.log [] old (log_of out) spans t d) where
   abbrev log : RunLog
   log = log_of out
 

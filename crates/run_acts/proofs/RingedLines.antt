@@ -23,7 +23,7 @@ use Rattle.run_crew.specs.declared.cabin.Cabin.{Cabin}
 use Rattle.run_crew.specs.Cards.{session_of}
 use Rattle.run_minutes.specs.declared.keeper.Moment.{Moment}
 use Rattle.run_minutes.specs.Keeping.{Fate, Still, Has, Fell, cabin_by, breaks_by, tear_of, GoesOnFrom, SessionsGoOn}
-use Rattle.run_minutes.specs.Minutes.{Told, Round, AreKept, none, more, AreKeptUpTo, IsRound, minute_of, or_nobody, present_at, cabin_after, told_after}
+use Rattle.run_minutes.specs.Minutes.{KeepingState, Round, AreKept, none, more, AreKeptUpTo, IsRound, minute_of, or_nobody, present_at, cabin_after, told_after}
 use Rattle.run_minutes.proofs.Seats.{sessions-none, sessions-then}
 use Rattle.run_minutes.proofs.Counts.{past-by}
 use Rattle.run_acts.specs.Ringing.{seating_of}
@@ -144,14 +144,14 @@ fate-lines (Has accepted clock) slot at = tt
 fate-lines Fell slot at = ((slot, refl), tt)
 
 -- these lines more are told, each of a card that was torn out; and the sessions go on
-pub record TellsTears (at : Moment) (t u : Told) : Type 0 where
+pub record TellsTears (at : Moment) (t u : KeepingState) : Type 0 where
   pub lines : List Break
   pub are : u.breaks.items ≡ t.breaks.items ++ lines
   pub tears : AreTears at lines
   pub sessions : SessionsGoOn t.keeper.cabin.cards u.keeper.cabin.cards
   pub odometer : u.keeper.odometer ≡ t.keeper.odometer
 
-round-tells : (at : Moment) (m : Minute) (round : Round) (failed : Bool) (t : Told) → IsRound (present_at t.keeper.cabin m.minute) (minute_of m t.keeper) at failed t.keeper round →
+round-tells : (at : Moment) (m : Minute) (round : Round) (failed : Bool) (t : KeepingState) → IsRound (present_at t.keeper.cabin m.minute) (minute_of m t.keeper) at failed t.keeper round →
     TellsTears at t (told_after (present_at t.keeper.cabin m.minute) m.minute at round t)
 round-tells at m round failed t is = record {
   lines = breaks_by round.driver Driver at ++ breaks_by round.codriver CoDriver at;
@@ -161,10 +161,10 @@ round-tells at m round failed t is = record {
   odometer = refl;
 }
 
-tells-none : (at : Moment) (t : Told) → TellsTears at t t
+tells-none : (at : Moment) (t : KeepingState) → TellsTears at t t
 tells-none at t = record { lines = []; are = sym (append-nil t.breaks.items); tears = tt; sessions = sessions-none t.keeper.cabin.cards; odometer = refl }
 
-tells-then : (at : Moment) (t u v : Told) → TellsTears at t u → TellsTears at u v → TellsTears at t v
+tells-then : (at : Moment) (t u v : KeepingState) → TellsTears at t u → TellsTears at u v → TellsTears at t v
 tells-then at t u v first next = record {
   lines = first.lines ++ next.lines;
   are = next.are ∙ ap (λ (bs : List Break). bs ++ next.lines) first.are ∙ append_assoc t.breaks.items first.lines next.lines;
@@ -173,17 +173,17 @@ tells-then at t u v first next = record {
   odometer = next.odometer ∙ first.odometer;
 }
 
-pub kept-tells : (at : Moment) (ms : List Minute) (t u : Told) → AreKept at ms t u → TellsTears at t u
+pub kept-tells : (at : Moment) (ms : List Minute) (t u : KeepingState) → AreKept at ms t u → TellsTears at t u
 kept-tells at ms t u (none v) = tells-none at v
 kept-tells at ms t u (more m front round v mid kept is) =
     tells-then at v mid (told_after (present_at mid.keeper.cabin m.minute) m.minute at round mid) (kept-tells at front v mid kept) (round-tells at m round false mid is)
 
-pub up-to-tells : (at : Moment) (ms : List Minute) (failed : Bool) (t u : Told) → AreKeptUpTo ms at failed t u → TellsTears at t u
+pub up-to-tells : (at : Moment) (ms : List Minute) (failed : Bool) (t u : KeepingState) → AreKeptUpTo ms at failed t u → TellsTears at t u
 up-to-tells at ms false t u kept = kept-tells at ms t u kept
 up-to-tells at ms true t u kept =
     let first = kept-tells at kept.front t kept.between kept.kept in
-    ⊎_elim (λ same. subst (λ (v : Told). TellsTears at t v) (sym same) first)
-    (λ last. subst (λ (v : Told). TellsTears at t v) (sym last.2)
+    ⊎_elim (λ same. subst (λ (v : KeepingState). TellsTears at t v) (sym same) first)
+    (λ last. subst (λ (v : KeepingState). TellsTears at t v) (sym last.2)
     (tells-then at t kept.between (told_after (present_at kept.between.keeper.cabin kept.here.minute) kept.here.minute at last.0 kept.between) first (round-tells at kept.here last.0 true kept.between last.1)))
     kept.last
 
@@ -238,12 +238,12 @@ pub tear-behind : (slot : Slot) (at : Moment) (xs ys : List Break) → TellsTear
 tear-behind slot at xs ys t = (xs ++ t.0, t.1, ap (λ (l : List Break). xs ++ l) t.2 ∙ sym (append_assoc xs t.0 (tear_of slot at ∷ t.1)))
 
 -- these lines more are told, and among them its tear
-abbrev pub TellsItsTear : Slot → Moment → (t u : Told) → Type 0
+abbrev pub TellsItsTear : Slot → Moment → (t u : KeepingState) → Type 0
 TellsItsTear slot at t u = (lines : List Break) × (u.breaks.items ≡ t.breaks.items ++ lines) × TellsTear slot at lines
 
 module _ (c : Card) (slot : Slot) (from : ℕ) (at : Moment) where
   -- in one round
-  round-gone : (m : Minute) (round : Round) (t : Told) → SatIn c slot from t.keeper.cabin.slots.past → from ≤ m.minute → is_some (session_of t.keeper.cabin.cards c) ≡ true →
+  round-gone : (m : Minute) (round : Round) (t : KeepingState) → SatIn c slot from t.keeper.cabin.slots.past → from ≤ m.minute → is_some (session_of t.keeper.cabin.cards c) ≡ true →
       session_of (cabin_after (present_at t.keeper.cabin m.minute) at.second round t.keeper.cabin).cards c ≡ None → TellsTear slot at (breaks_by round.driver Driver at ++ breaks_by round.codriver CoDriver at)
   round-gone m round t sat low some gone = by (session_of (cabin_by round.driver (present_at t.keeper.cabin m.minute).driver at.second t.keeper.cabin).cards c) refl
     where
@@ -257,12 +257,12 @@ module _ (c : Card) (slot : Slot) (from : ℕ) (at : Moment) where
           let there = in-codriver (present_in t.keeper.cabin.slots.past m.minute) c fell.1 in
           codriver-tear round.codriver slot at (breaks_by round.driver Driver at) fell.0 (sat.codriver m.minute there.0 low there.1 there.2)
 
-  round-past : (m : Minute) (round : Round) (t : Told) → (cabin_after (present_at t.keeper.cabin m.minute) at.second round t.keeper.cabin).slots.past ≡ t.keeper.cabin.slots.past
+  round-past : (m : Minute) (round : Round) (t : KeepingState) → (cabin_after (present_at t.keeper.cabin m.minute) at.second round t.keeper.cabin).slots.past ≡ t.keeper.cabin.slots.past
   round-past m round t =
       past-by round.codriver (present_at t.keeper.cabin m.minute).codriver at.second (cabin_by round.driver (present_at t.keeper.cabin m.minute).driver at.second t.keeper.cabin)
       ∙ past-by round.driver (present_at t.keeper.cabin m.minute).driver at.second t.keeper.cabin
 
-  kept-past : (ms : List Minute) (t u : Told) → AreKept at ms t u → u.keeper.cabin.slots.past ≡ t.keeper.cabin.slots.past
+  kept-past : (ms : List Minute) (t u : KeepingState) → AreKept at ms t u → u.keeper.cabin.slots.past ≡ t.keeper.cabin.slots.past
   kept-past ms t u (none v) = refl
   kept-past ms t u (more m front round v mid kept is) = round-past m round mid ∙ kept-past front v mid kept
 
@@ -273,7 +273,7 @@ module _ (c : Card) (slot : Slot) (from : ℕ) (at : Moment) where
       (All-cons (λ (x : Minute). from ≤ x.minute) x ms (All-head (λ (x : Minute). from ≤ x.minute) x (ms ++ m ∷ []) all) rest.0, rest.1)
 
   -- A CARD THAT HAD A SESSION and has none behind the minutes was torn out of its slot, and that is told.
-  pub gone-torn : (ms : List Minute) (t u : Told) → AreKept at ms t u → SatIn c slot from t.keeper.cabin.slots.past → All (λ (x : Minute). from ≤ x.minute) ms → is_some (session_of t.keeper.cabin.cards c) ≡ true →
+  pub gone-torn : (ms : List Minute) (t u : KeepingState) → AreKept at ms t u → SatIn c slot from t.keeper.cabin.slots.past → All (λ (x : Minute). from ≤ x.minute) ms → is_some (session_of t.keeper.cabin.cards c) ≡ true →
       session_of u.keeper.cabin.cards c ≡ None → TellsItsTear slot at t u
   gone-torn ms t u (none v) sat low some gone = not-none (session_of v.keeper.cabin.cards c) some gone
   gone-torn ms t u (more m front round v mid kept is) sat low some gone = by (session_of mid.keeper.cabin.cards c) refl (λ none. gone-torn front v mid kept sat (all-front front m low).0 some none)

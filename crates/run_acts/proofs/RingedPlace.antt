@@ -20,7 +20,7 @@ use Rattle.log_model.specs.declared.lines.SlotFault.{SlotFault}
 use Rattle.log_model.specs.declared.lines.SlotFault.TheVariants.{NoCard}
 use Rattle.log_model.specs.Log.{RunLog, In}
 use Rattle.log_model.specs.Slots.{Sitting, in_slot, is_accepted, refusal, same_card}
-use Rattle.log_model.specs.Course.{Told}
+use Rattle.log_model.specs.Course.{ToldSecond}
 use Rattle.note_model.specs.Odometer.{SpanFrom, odometer_at}
 use Rattle.note_model.specs.Noted.{PlaceNote}
 use Rattle.safety_model.specs.Recording.{card_image}
@@ -32,7 +32,7 @@ use Rattle.run_crew.specs.declared.cards.Cards.{Cards}
 use Rattle.run_crew.specs.declared.cards.Known.{Known}
 use Rattle.run_crew.specs.declared.cabin.Cabin.{Cabin}
 use Rattle.run_crew.specs.Cards.{known_of, session_of, accepted_number, IsKnown}
-use Rattle.run_crew.specs.Cabin.{Stands, AnswersTo, SeatAnswers, number_of_seat}
+use Rattle.run_crew.specs.Cabin.{CabinIsSound, AnswersTo, SeatAnswers, number_of_seat}
 use Rattle.run_events.specs.Entries.{number_or_no_card}
 use Rattle.run_outcome.specs.Lines.{Listed}
 use Rattle.run_outcome.specs.declared.outcome.Outcome.{Outcome}
@@ -116,7 +116,7 @@ seated-there_ low cards a b (Some seat) answers is =
     by (Some n) (Some x) h some = refl
 
 -- A PLACE is not refused where an accepted card sits.
-pub who-enters : (low : ℕ) (cabin : Cabin) → Stands low None cabin → (slot : Slot) (speed : ℕ) (ending : Bool) (country region : ℕ) → refusal (logged cabin.slots.seats) speed (Place slot ending country region) ≡ None → IsThere cabin.cards (seat_in cabin.slots.seats slot)
+pub who-enters : (low : ℕ) (cabin : Cabin) → CabinIsSound low None cabin → (slot : Slot) (speed : ℕ) (ending : Bool) (country region : ℕ) → refusal (logged cabin.slots.seats) speed (Place slot ending country region) ≡ None → IsThere cabin.cards (seat_in cabin.slots.seats slot)
 who-enters low cabin stands slot speed ending country region allowed =
     seated-there_ low cabin.cards stands.a stands.b (seat_in cabin.slots.seats slot) (answers-in low cabin stands slot) (may-enter cabin.slots.seats slot speed ending country region allowed)
 
@@ -158,8 +158,8 @@ noted-tears true slot at = ((slot, refl), tt)
 
 module _ (o : Origin) (done : List TraceSecond) (s : TraceSecond) (front rest : List Action) (slot : Slot) (ending : Bool) (country region : ℕ) (are : s.actions ≡ front ++ Place slot ending country region ∷ rest) (run : Run) (before : Outcome) (d e : Devices)
     (w : RunWithin o done s (In (length front)) [] [] run before d) (lines : List Break) (later : RunLog) (is : later ≡ record (log_of before) { breaks = (log_of before).breaks ++ lines })
-    (tears : AreTears (record { second = s.number; begun = suc (length front); late = false }) lines) (left : HaveLeftMore o d e) (spans : List SpanFrom) (t : Told) (rings : RingsWithin o done s w.within.b.run.log front run (log_of before) spans t d)
-    (card : Card) (seat : card_in (seat_in run.keeper.cabin.slots.seats slot) ≡ Some card) (some : is_some (session_of run.keeper.cabin.cards card) ≡ true) (low : ℕ) (stands : Stands low None run.keeper.cabin)
+    (tears : AreTears (record { second = s.number; begun = suc (length front); late = false }) lines) (left : HaveLeftMore o d e) (spans : List SpanFrom) (t : ToldSecond) (rings : RingsWithin o done s w.within.b.run.log front run (log_of before) spans t d)
+    (card : Card) (seat : card_in (seat_in run.keeper.cabin.slots.seats slot) ≡ Some card) (some : is_some (session_of run.keeper.cabin.cards card) ≡ true) (low : ℕ) (stands : CabinIsSound low None run.keeper.cabin)
     (number : FullCardNumber) (numbered : number_of_seat run.keeper.cabin.cards (seat_in run.keeper.cabin.slots.seats slot) ≡ Some number) (entry : PlaceEntry) (now : IsPlaceNow ending country region run entry) (next : s.number ≡ run.next) (small : s.number < 2 ^ 32) where
   abbrev v : Values
   v = values_of run before
@@ -243,7 +243,7 @@ module _ (o : Origin) (done : List TraceSecond) (s : TraceSecond) (front rest : 
 -- ---- AS THE CALL SAYS IT
 
 pub place-goes : (slot : Slot) (entry : PlaceEntry) (at : Moment) (failed : Bool) (old new : Run) (breaks after : Listed Break) (d e : Devices) (card : Card) (number : FullCardNumber) (fell : Bool) → card_in (seat_in old.keeper.cabin.slots.seats slot) ≡ Some card →
-    number_of_seat old.keeper.cabin.cards (seat_in old.keeper.cabin.slots.seats slot) ≡ Some number → is_some (session_of old.keeper.cabin.cards card) ≡ true → (low : ℕ) → Stands low None old.keeper.cabin → at.second ≡ old.next → old.next ≤ end_of_seconds →
+    number_of_seat old.keeper.cabin.cards (seat_in old.keeper.cabin.slots.seats slot) ≡ Some number → is_some (session_of old.keeper.cabin.cards card) ≡ true → (low : ℕ) → CabinIsSound low None old.keeper.cabin → at.second ≡ old.next → old.next ≤ end_of_seconds →
     IsNotedOn card slot at old new breaks after fell → (is_some d.unit.image ≡ true → WritesPlace (Some number) entry failed d.unit e.unit) → AreLeftMore d e →
     ((a : Accepted) → session_of old.keeper.cabin.cards card ≡ Some a → PlaceCall fell failed a.session.application entry (card_of d card) (card_of e card)) → ((c : Card) → same_card card c ≡ false → (y : List ℕ) → (card_of e c).may_leave y → (card_of d c).may_leave y) →
     RingsPlace slot entry at failed old new breaks after d e

@@ -19,7 +19,7 @@ use Rattle.log_model.specs.declared.lines.Break.{Break}
 use Rattle.log_model.specs.Causes.{second_of}
 use Rattle.log_model.specs.Log.{RunLog, Phase, In, same_phase, cut_in, is_torn_in, found_in}
 use Rattle.log_model.specs.Slots.{Sitting, in_slot}
-use Rattle.log_model.specs.Course.{Told, Before, Visit, Course, begins, has_power, all_acted, went}
+use Rattle.log_model.specs.Course.{ToldSecond, Before, Visit, Course, begins, has_power, all_acted, went}
 use Rattle.log_model.specs.Spans.{seconds_in, spans_of}
 use Rattle.unit_events.proofs.Failing.{failed-here}
 use Rattle.note_model.specs.Done.{course_powered, has_failed_in}
@@ -37,7 +37,7 @@ use Rattle.run_crew.specs.declared.cards.Accepted.{Accepted}
 use Rattle.run_crew.specs.declared.cards.Cards.{Cards}
 use Rattle.run_crew.specs.Cards.{session_of}
 use Rattle.run_crew.specs.Cabin.{AnswersTo, SeatAnswers}
-use Rattle.run_course.specs.Followed.{Followed}
+use Rattle.run_course.specs.Followed.{BookFollowsRun}
 use Rattle.run_course.specs.Moments.{and_break, SameUpTo}
 use Rattle.run_course.specs.Presence.{SitsAs, IsNewest}
 use Rattle.run_course.specs.Seconds.{GoesOnBy}
@@ -59,7 +59,7 @@ use Rattle.run_note_record.specs.Ringed.{Seating}
 use Rattle.run_note_record.specs.RingsSoFar.{GoesBehind, RingedIn, HasMoreBreaks}
 use Rattle.run_note_record.specs.Steps.{GoesOnTo, IsCutIn}
 use Rattle.run_record.specs.Recorded.{Values}
-use Rattle.run_record.specs.Within.{Within, course_in}
+use Rattle.run_record.specs.Within.{RecordInSecond, course_in}
 use Rattle.run_acts.specs.Devices.{AreLeftMore}
 use Rattle.run_acts.specs.RunRinged.{IsLastFrom, with_cut}
 use Rattle.run_acts.proofs.RingedLines.{AreTears, TellsBeside, tears-beside}
@@ -99,7 +99,7 @@ tears-here_ second begun late [] h = tt
 tears-here_ second begun late (b ∷ lines) h = (ap second_of h.0.1, tears-here_ second begun late lines h.1)
 
 -- MORE LINES OF THE SECOND change no earlier one.
-module _ (o : Origin) (done : List TraceSecond) (s : TraceSecond) (at : Phase) (waits : List Visit) (speed : Option ℕ) (rest : List Minute) (v : Values) (d : Devices) (w : Within o done s at waits speed rest v d) where
+module _ (o : Origin) (done : List TraceSecond) (s : TraceSecond) (at : Phase) (waits : List Visit) (speed : Option ℕ) (rest : List Minute) (v : Values) (d : Devices) (w : RecordInSecond o done s at waits speed rest v d) where
   module _ (lines : List Break) (later : RunLog) (is : later ≡ record v.log { breaks = v.log.breaks ++ lines }) (here : AllByRecursion (λ (b : Break). second_of b ≡ s.number) lines) where
     pub goes-by : GoesOnBy w.b.run later s
     goes-by = record {
@@ -119,7 +119,7 @@ module _ (o : Origin) (done : List TraceSecond) (s : TraceSecond) (at : Phase) (
       went_is = went-same_ (rule_of o) (start_at o) o.from (first_of o) done w.b.run w.began.followed.order w.began.followed.next w.began.followed.unfound s later goes-by;
     }
 
-  lit-followed : Followed (rule_of o) (start_at o) o.from (first_of o) done (record w.b.run { supply = IsLit w.b.span })
+  lit-followed : BookFollowsRun (rule_of o) (start_at o) o.from (first_of o) done (record w.b.run { supply = IsLit w.b.span })
   lit-followed = with-supply (rule_of o) (start_at o) o.from (first_of o) done w.b.run (IsLit w.b.span) w.lit w.began.followed
 
   -- THE SECOND HAS POWER, which begins with it where its span has no second yet.
@@ -134,7 +134,7 @@ module _ (o : Origin) (done : List TraceSecond) (s : TraceSecond) (at : Phase) (
 
   -- ---- its odometer
 
-  at-seconds : (span : List Told) → (span_at (rule_of o) w.b.run.next span).seconds ≡ seconds_in span
+  at-seconds : (span : List ToldSecond) → (span_at (rule_of o) w.b.run.next span).seconds ≡ seconds_in span
   at-seconds [] = refl
   at-seconds (t ∷ span) = refl
 
@@ -143,7 +143,7 @@ times-seconds zero span = refl
 times-seconds (suc k) span = times-seconds k span
 
 -- the sum of the speeds of the span, before the second is fed
-pub travelled-is : (o : Origin) (done : List TraceSecond) (s : TraceSecond) (at : Phase) (waits : List Visit) (rest : List Minute) (v : Values) (d : Devices) (w : Within o done s at waits None rest v d) → travelled_of w.sp ≡ sum_by (λ (x : Second). x.speed) (seconds_in w.b.span)
+pub travelled-is : (o : Origin) (done : List TraceSecond) (s : TraceSecond) (at : Phase) (waits : List Visit) (rest : List Minute) (v : Values) (d : Devices) (w : RecordInSecond o done s at waits None rest v d) → travelled_of w.sp ≡ sum_by (λ (x : Second). x.speed) (seconds_in w.b.span)
 travelled-is o done s at waits rest v d w =
     ap (λ (x : Span). travelled_of x) w.decided.span_is
     ∙ ap (λ (ss : List Second). sum_by (λ (x : Second). x.speed) ss)
@@ -151,7 +151,7 @@ travelled-is o done s at waits rest v d w =
 
 -- ---- spans
 
-go-on-last : (earlier : List SpanFrom) (z : SpanFrom) (base : ℕ) (t : Told) → go_on_from (earlier ++ z ∷ []) base t ≡ earlier ++ record { base = z.base; span = z.span ++ t ∷ [] } ∷ []
+go-on-last : (earlier : List SpanFrom) (z : SpanFrom) (base : ℕ) (t : ToldSecond) → go_on_from (earlier ++ z ∷ []) base t ≡ earlier ++ record { base = z.base; span = z.span ++ t ∷ [] } ∷ []
 go-on-last [] z base t = refl
 go-on-last (x ∷ []) z base t = refl
 go-on-last (x ∷ y ∷ earlier) z base t = ap (λ (l : List SpanFrom). x ∷ l) (go-on-last (y ∷ earlier) z base t)
@@ -166,7 +166,7 @@ last-same (a ∷ c ∷ xs) [] x y is = absurd (cc)
 last-same (a ∷ xs) (b ∷ ys) x y is = last-same xs ys x y (let tails : xs ++ x ∷ [] ≡ ys ++ y ∷ [] = cc in tails)
 
 -- the span of the last one
-last-of-map : (spans : List SpanFrom) (ys : List (List Told)) (y : List Told) → map (λ (z : SpanFrom). z.span) spans ≡ ys ++ y ∷ [] → (earlier : List SpanFrom) × (z : SpanFrom) × (spans ≡ earlier ++ z ∷ []) × (z.span ≡ y)
+last-of-map : (spans : List SpanFrom) (ys : List (List ToldSecond)) (y : List ToldSecond) → map (λ (z : SpanFrom). z.span) spans ≡ ys ++ y ∷ [] → (earlier : List SpanFrom) × (z : SpanFrom) × (spans ≡ earlier ++ z ∷ []) × (z.span ≡ y)
 last-of-map [] [] y is = absurd (cc)
 last-of-map [] (b ∷ ys) y is = absurd (cc)
 last-of-map (z ∷ []) [] y is = ([], z, refl, (let heads : z.span ≡ y = cc in heads))
@@ -179,7 +179,7 @@ last-of-map (z ∷ x ∷ spans) (b ∷ ys) y is =
     (z ∷ rest.0, rest.1, ap (λ (l : List SpanFrom). z ∷ l) rest.2, rest.3)
 
 -- a span goes on from where it began, and a new one begins there
-pub goes-last : (base : ℕ) (spans : List SpanFrom) (t : Told) → t.lit ≡ true → t.starts ≡ false → IsLastFrom base spans → IsLastFrom base (with_second spans base t)
+pub goes-last : (base : ℕ) (spans : List SpanFrom) (t : ToldSecond) → t.lit ≡ true → t.starts ≡ false → IsLastFrom base spans → IsLastFrom base (with_second spans base t)
 goes-last base spans t lit starts last = (
   last.0,
   record { base = last.1.base; span = last.1.span ++ t ∷ [] },
@@ -187,7 +187,7 @@ goes-last base spans t lit starts last = (
   last.3,
 )
 
-pub begins-last : (base : ℕ) (spans : List SpanFrom) (t : Told) → t.lit ≡ true → t.starts ≡ true → IsLastFrom base (with_second spans base t)
+pub begins-last : (base : ℕ) (spans : List SpanFrom) (t : ToldSecond) → t.lit ≡ true → t.starts ≡ true → IsLastFrom base (with_second spans base t)
 begins-last base spans t lit starts = (spans, record { base = base; span = t ∷ [] }, (λ i. cond (lit i) (cond (starts i) (spans ++ record { base = base; span = t ∷ [] } ∷ []) (go_on_from spans base t)) spans), refl)
 
 -- a list of spans ends in one, or has none
@@ -199,7 +199,7 @@ ends-in-one (x ∷ spans) = ⊎_elim
     (ends-in-one spans)
 
 -- where none begins with the second, it was there before it
-last-before : (base : ℕ) (spans : List SpanFrom) (t : Told) → t.lit ≡ true → t.starts ≡ false → IsLastFrom base (with_second spans base t) → (spans ≡ []) ⊎ IsLastFrom base spans
+last-before : (base : ℕ) (spans : List SpanFrom) (t : ToldSecond) → t.lit ≡ true → t.starts ≡ false → IsLastFrom base (with_second spans base t) → (spans ≡ []) ⊎ IsLastFrom base spans
 last-before base spans t lit starts last = ⊎_elim
     (λ none. inl none)
     (λ (some : (earlier : List SpanFrom) × (z : SpanFrom) × (spans ≡ earlier ++ z ∷ [])).
@@ -212,7 +212,7 @@ last-before base spans t lit starts last = ⊎_elim
     (ends-in-one spans)
 
 -- whatever is told of the second
-pub alike-last : (base : ℕ) (spans : List SpanFrom) (t x : Told) → t.lit ≡ true → x.lit ≡ true → x.starts ≡ t.starts → IsLastFrom base (with_second spans base t) → IsLastFrom base (with_second spans base x)
+pub alike-last : (base : ℕ) (spans : List SpanFrom) (t x : ToldSecond) → t.lit ≡ true → x.lit ≡ true → x.starts ≡ t.starts → IsLastFrom base (with_second spans base t) → IsLastFrom base (with_second spans base x)
 alike-last base spans t x lit lit_x same last = by t.starts refl
   where
     by : (b : Bool) → t.starts ≡ b → IsLastFrom base (with_second spans base x)
@@ -228,19 +228,19 @@ alike-last base spans t x lit lit_x same last = by t.starts refl
         (last-before base spans t lit goes last)
 
 -- ---- THE ODOMETER OF NOW
-module _ (o : Origin) (done : List TraceSecond) (s : TraceSecond) (at : Phase) (waits : List Visit) (rest : List Minute) (v : Values) (d : Devices) (w : Within o done s at waits None rest v d) (front : List Action) (log : RunLog) (spans : List SpanFrom) (base : ℕ) (t : Told)
+module _ (o : Origin) (done : List TraceSecond) (s : TraceSecond) (at : Phase) (waits : List Visit) (rest : List Minute) (v : Values) (d : Devices) (w : RecordInSecond o done s at waits None rest v d) (front : List Action) (log : RunLog) (spans : List SpanFrom) (base : ℕ) (t : ToldSecond)
     (seats : Card → Option Seating) (r : RingedIn o done s w.b.run.log front log spans base t seats d) (last : IsLastFrom base (with_second spans base t)) where
   swap : (a b : ℕ) → min a b ≡ min b a
   swap a b = omega arith
 
-  by-span : (span : List Told) → w.b.span ≡ span → odometer_at t.second.number (with_second spans base t) ≡ odometer_on base (seconds_in span)
+  by-span : (span : List ToldSecond) → w.b.span ≡ span → odometer_at t.second.number (with_second spans base t) ≡ odometer_on base (seconds_in span)
   by-span [] is =
       (odometer-now spans base t r.second.lit (subst (λ (u : ℕ). AreAllBefore u spans) (sym r.second.number) r.before)).0
       (r.second.starts ∙ starts-here o done s at waits None rest v d w ∙ ap begins_with is)
   by-span (x ∷ xs) is =
       let starts : t.starts ≡ false = r.second.starts ∙ starts-here o done s at waits None rest v d w ∙ ap begins_with is in
       let are : map (λ (z : SpanFrom). z.span) spans ≡ (lit-followed o done s at waits None rest v d w).ended ++ (x ∷ xs) ∷ [] =
-      r.spans_are ∙ spans-here o done s at waits None rest v d w ∙ ap (λ (l : List Told). (lit-followed o done s at waits None rest v d w).ended ++ as_spans l) is in
+      r.spans_are ∙ spans-here o done s at waits None rest v d w ∙ ap (λ (l : List ToldSecond). (lit-followed o done s at waits None rest v d w).ended ++ as_spans l) is in
       let one = last-of-map spans (lit-followed o done s at waits None rest v d w).ended (x ∷ xs) are in
       let z : SpanFrom = one.1 in
       let there : IsLastFrom base spans = ⊎_elim
@@ -263,7 +263,7 @@ module _ (o : Origin) (done : List TraceSecond) (s : TraceSecond) (at : Phase) (
       ∙ ap (λ (k : ℕ). min (base + k / 3600) HIGHEST_ODOMETER) (sym (travelled-is o done s at waits rest v d w))
 
 -- ---- AT AN ACTION
-module _ (o : Origin) (done : List TraceSecond) (s : TraceSecond) (front rest : List Action) (a : Action) (are : s.actions ≡ front ++ a ∷ rest) (v : Values) (d : Devices) (w : Within o done s (In (length front)) [] None [] v d)
+module _ (o : Origin) (done : List TraceSecond) (s : TraceSecond) (front rest : List Action) (a : Action) (are : s.actions ≡ front ++ a ∷ rest) (v : Values) (d : Devices) (w : RecordInSecond o done s (In (length front)) [] None [] v d)
     (lines : List Break) (later : RunLog) (is : later ≡ record v.log { breaks = v.log.breaks ++ lines }) (tears : AreTears (record { second = s.number; begun = suc (length front); late = false }) lines) where
   abbrev was : Before
   was = (went w.b.run.log done).before
@@ -393,5 +393,5 @@ more-left o d e unit cards h = record { unit = λ x at. h.unit o.found.unit.bega
     of-card B x at = h.card_b o.found.card_b.began x (cards B) at
 
 -- more is told since the second began
-pub since-begun : (o : Origin) (done : List TraceSecond) (s : TraceSecond) (at : Phase) (waits : List Visit) (sp : Option ℕ) (rest : List Minute) (v : Values) (d : Devices) (w : Within o done s at waits sp rest v d) (later : RunLog) → HasMoreBreaks v.log later → HasMoreBreaks w.b.run.log later
+pub since-begun : (o : Origin) (done : List TraceSecond) (s : TraceSecond) (at : Phase) (waits : List Visit) (sp : Option ℕ) (rest : List Minute) (v : Values) (d : Devices) (w : RecordInSecond o done s at waits sp rest v d) (later : RunLog) → HasMoreBreaks v.log later → HasMoreBreaks w.b.run.log later
 since-begun o done s at waits sp rest v d w later more = (w.moment.breaks ++ more.0, more.1 ∙ ap (λ (bs : List Break). bs ++ more.0) w.moment.breaks_are ∙ append_assoc w.b.run.log.breaks w.moment.breaks more.0)

@@ -13,13 +13,13 @@ use Rattle.log_model.specs.declared.lines.Break.{Break}
 use Rattle.log_model.specs.Causes.{second_of}
 use Rattle.log_model.specs.Log.{RunLog, In, Keeping, cut_in}
 use Rattle.log_model.specs.Same.{SameAt}
-use Rattle.log_model.specs.Course.{Told, Before, Went, begins, has_power, went, second_told}
+use Rattle.log_model.specs.Course.{ToldSecond, Before, Went, begins, has_power, went, second_told}
 use Rattle.log_model.proofs.Growth.{went-more}
 use Rattle.note_model.specs.Odometer.{SpanFrom}
 use Rattle.safety_model.specs.Safe.{Devices}
 use Rattle.run_unit_course.specs.Lines.{cut_at}
 use Rattle.run_course.specs.Moments.{and_break}
-use Rattle.run_course.specs.Followed.{IsGoing, IsLost as HasLost}
+use Rattle.run_course.specs.Followed.{PowerGoesOn, IsLost as HasLost}
 use Rattle.run_course.proofs.Told.{IsLitAs, lit-told, dark-told, lit-power, lost-dark, next-dark}
 use Rattle.run_crew.specs.declared.cards.Accepted.{Accepted}
 use Rattle.run_outcome.specs.declared.outcome.Outcome.{Outcome}
@@ -38,14 +38,14 @@ use Rattle.run_note_record.proofs.Bases.{stored-later, stored-next, stored-alike
 use Rattle.run_note_record.proofs.Rings.{fewer-sit}
 use Rattle.run_note_record.proofs.SoFar.{second-begins, go-on-in, second-ends, dark-ends}
 use Rattle.run_record.specs.Recorded.{Values}
-use Rattle.run_record.specs.Within.{Beginning, Within, CutWithin}
+use Rattle.run_record.specs.Within.{Beginning, RecordInSecond, RecordAtFailure}
 use Rattle.run_record.specs.Turning.{last_of, before_last, BehindFirst, IsTurned}
 use Rattle.run_record.proofs.Turning.{turn-ends}
 use Rattle.run_acts.specs.declared.run.Run.{Run}
 use Rattle.run_acts.specs.declared.run.Power.{Power}
 use Rattle.run_acts.specs.declared.run.Power.TheVariants.{Lit, Lost}
 use Rattle.run_acts.specs.Booked.{IsBookedTurn}
-use Rattle.run_acts.specs.Going.{end_of_seconds, IsGoingOn}
+use Rattle.run_acts.specs.Going.{end_of_seconds, RunHasPower}
 use Rattle.run_acts.specs.Power.{is_lit, passed, cut_run}
 use Rattle.run_acts.specs.Rounds.{told_values}
 use Rattle.run_acts.specs.Recording.{log_of, values_of, IsNow, RunWithin, RunCut}
@@ -90,13 +90,13 @@ pub record SpansBehind (o : Origin) (done : List TraceSecond) (log : RunLog) (ne
   pub ringed : RingedBehind o done log next spans seats d
   pub stored : StoresOn o log unfound base spans
 
-one-quiet : (o : Origin) (done : List TraceSecond) (log : RunLog) (u speed unfound base : ℕ) (seats : Card → Option Seating) (d : Devices) → IsGoing (went log done).before → SpansBehind o done log u unfound base seats d →
+one-quiet : (o : Origin) (done : List TraceSecond) (log : RunLog) (u speed unfound base : ℕ) (seats : Card → Option Seating) (d : Devices) → PowerGoesOn (went log done).before → SpansBehind o done log u unfound base seats d →
     SpansBehind o (done ++ quiet u speed ∷ []) log (suc u) unfound base seats d
 one-quiet o done log u speed unfound base seats d goes q =
     let x : TraceSecond = quiet u speed in
     let before : Before = (went log done).before in
     let power : has_power before x ≡ true = lit-power (second_told log before x ∷ []) before x u goes refl refl in
-    let t : Told = second_told log before x in
+    let t : ToldSecond = second_told log before x in
     let is = second-as log before x power in
     record {
       spans = with_second q.spans base t;
@@ -105,7 +105,7 @@ one-quiet o done log u speed unfound base seats d goes q =
       stored = stored-next o log unfound base base q.spans t is.lit (is.starts ∙ ap not goes.running) q.stored;
     }
 
-many-quiet : (j : ℕ) (o : Origin) (done : List TraceSecond) (log : RunLog) (u speed unfound base : ℕ) (seats : Card → Option Seating) (d : Devices) → ((i : ℕ) → IsGoing (went log (done ++ driven i u speed [])).before) → SpansBehind o done log u unfound base seats d →
+many-quiet : (j : ℕ) (o : Origin) (done : List TraceSecond) (log : RunLog) (u speed unfound base : ℕ) (seats : Card → Option Seating) (d : Devices) → ((i : ℕ) → PowerGoesOn (went log (done ++ driven i u speed [])).before) → SpansBehind o done log u unfound base seats d →
     SpansBehind o (done ++ driven j u speed []) log (u + j) unfound base seats d
 many-quiet zero o done log u speed unfound base seats d goes q =
     subst (λ (k : ℕ). SpansBehind o (done ++ []) log k unfound base seats d) (let same : u ≡ u + 0 = omega arith in same) (subst (λ (ss : List TraceSecond). SpansBehind o ss log u unfound base seats d) (sym (append-nil done)) q)
@@ -113,8 +113,8 @@ many-quiet (suc j) o done log u speed unfound base seats d goes q =
     let x : TraceSecond = quiet u speed in
     let first : SpansBehind o (done ++ x ∷ []) log (u + 1) unfound base seats d =
     subst (λ (k : ℕ). SpansBehind o (done ++ x ∷ []) log k unfound base seats d) (let same : suc u ≡ u + 1 = omega arith in same)
-    (one-quiet o done log u speed unfound base seats d (subst (λ (ss : List TraceSecond). IsGoing (went log ss).before) (append-nil done) (goes zero)) q) in
-    let rest = many-quiet j o (done ++ x ∷ []) log (u + 1) speed unfound base seats d (λ i. subst (λ (ss : List TraceSecond). IsGoing (went log ss).before) (sym (append_assoc done (x ∷ []) (driven i (u + 1) speed []))) (goes (suc i))) first in
+    (one-quiet o done log u speed unfound base seats d (subst (λ (ss : List TraceSecond). PowerGoesOn (went log ss).before) (append-nil done) (goes zero)) q) in
+    let rest = many-quiet j o (done ++ x ∷ []) log (u + 1) speed unfound base seats d (λ i. subst (λ (ss : List TraceSecond). PowerGoesOn (went log ss).before) (sym (append_assoc done (x ∷ []) (driven i (u + 1) speed []))) (goes (suc i))) first in
     subst (λ (k : ℕ). SpansBehind o (done ++ driven (suc j) u speed []) log k unfound base seats d) (let same : u + 1 + j ≡ u + suc j = omega arith in same)
     (subst (λ (ss : List TraceSecond). SpansBehind o ss log (u + 1 + j) unfound base seats d) (append_assoc done (x ∷ []) (driven j (u + 1) speed [])) rest)
 
@@ -179,7 +179,7 @@ dark-ringed n speed begun old before d some minute o done s now cut spans counte
     all (suc j) more = many-dark (suc j) o (done ++ s ∷ []) (log_of before) (s.number + 1) speed spans 0 d lost (omega (arith, number, minute, more)) (omega (arith, number, minute, more)) first
 
 -- ---- WITH POWER
-module _ {U A0 B0 : State} {chip_a chip_b : CardState} (n speed begun : ℕ) (old new : Run) (before after : Outcome) (d e : Devices) (g : IsGoingOn None (old.next / 60) old U chip_a chip_b A0 B0) (lit : old.power ≡ Lit) (some : 0 < n)
+module _ {U A0 B0 : State} {chip_a chip_b : CardState} (n speed begun : ℕ) (old new : Run) (before after : Outcome) (d e : Devices) (g : RunHasPower None (old.next / 60) old U chip_a chip_b A0 B0) (lit : old.power ≡ Lit) (some : 0 < n)
     (minute : old.next % 60 + n ≤ 60) (small : old.next + n ≤ end_of_seconds) (h : IsBookedTurn n speed begun old new before after d e) (leaves : LeavesRings d.unit e.unit) where
   abbrev T : IsLitTurn n speed begun old new before after
   T = h.0
@@ -225,11 +225,11 @@ module _ {U A0 B0 : State} {chip_a chip_b : CardState} (n speed begun : ℕ) (ol
   new-fewer true r is = subst (λ (x : Run). AreFewer (seats_of old) (seats_of x)) (sym is) (λ c. inr (cut-seats (old.next + n - 1) T.between c))
 
   -- THE LAST SECOND, once its actions are noted: its keeping writes no ring, and it ends, cut or not
-  module _ (o : Origin) (first : o.found.unit.first ≡ first_of o) (D : List TraceSecond) (L : TraceSecond) (rest : List Minute) (next_ gone : ℕ) (w : Within o D L Keeping [] (Some L.speed) rest (record (values_of old before) { minutes = T.fed.minutes; next = next_; begun = gone }) d)
+  module _ (o : Origin) (first : o.found.unit.first ≡ first_of o) (D : List TraceSecond) (L : TraceSecond) (rest : List Minute) (next_ gone : ℕ) (w : RecordInSecond o D L Keeping [] (Some L.speed) rest (record (values_of old before) { minutes = T.fed.minutes; next = next_; begun = gone }) d)
       (number : L.number ≡ old.next + n - 1) (acts : length L.actions ≡ begun)
-      (fails : T.failed ≡ true → CutWithin o D L Keeping [] (Some L.speed) (told_values (told_of (record old { minutes = T.fed.minutes; keeper = T.between.keeper; watch = T.between.watch }) (record before { marks = T.told.marks; breaks = T.told.breaks }))
+      (fails : T.failed ≡ true → RecordAtFailure o D L Keeping [] (Some L.speed) (told_values (told_of (record old { minutes = T.fed.minutes; keeper = T.between.keeper; watch = T.between.watch }) (record before { marks = T.told.marks; breaks = T.told.breaks }))
       (record (values_of old before) { minutes = T.fed.minutes; next = next_; begun = gone })) e)
-      (places : PlacesStay o d e) (spans : List SpanFrom) (t : Told) (base : IsLastFrom old.keeper.odometer (with_second spans old.keeper.odometer t)) (counted : old.noted ≤ length (log_of before).finds) (r : RingedIn o D L w.b.run.log L.actions (log_of before) spans old.keeper.odometer t (seats_of old) d)
+      (places : PlacesStay o d e) (spans : List SpanFrom) (t : ToldSecond) (base : IsLastFrom old.keeper.odometer (with_second spans old.keeper.odometer t)) (counted : old.noted ≤ length (log_of before).finds) (r : RingedIn o D L w.b.run.log L.actions (log_of before) spans old.keeper.odometer t (seats_of old) d)
       (st : StoresOn o w.b.run.log w.b.run.unfound old.keeper.odometer (with_second spans old.keeper.odometer t)) where
     abbrev log : RunLog
     log = log_of before
@@ -387,7 +387,7 @@ module _ {U A0 B0 : State} {chip_a chip_b : CardState} (n speed begun : ℕ) (ol
 
   -- ---- ONE SECOND, OR SEVERAL
   module _ (o : Origin) (done : List TraceSecond) (s : TraceSecond) (now : IsNow s speed old) (actions : length s.actions ≡ begun) (none : 0 < n - 1 → s.actions ≡ []) (r : RunWithin o done s (In (length s.actions)) [] [] old before d) (time : HaveTime e)
-      (spans : List SpanFrom) (t : Told) (rings : RingsWithin o done s r.within.b.run.log s.actions old (log_of before) spans t d) (st : StoresOn o r.within.b.run.log r.within.b.run.unfound old.keeper.odometer (with_second spans old.keeper.odometer t)) where
+      (spans : List SpanFrom) (t : ToldSecond) (rings : RingsWithin o done s r.within.b.run.log s.actions old (log_of before) spans t d) (st : StoresOn o r.within.b.run.log r.within.b.run.unfound old.keeper.odometer (with_second spans old.keeper.odometer t)) where
     abbrev log_ : RunLog
     log_ = log_of before
 
@@ -423,7 +423,7 @@ module _ {U A0 B0 : State} {chip_a chip_b : CardState} (n speed begun : ℕ) (ol
       after_one : BehindFirst o done s (values_of old before) d
       after_one = x.behind (omega arith)
 
-      goes : (i : ℕ) → IsGoing (went log_ ((done ++ s ∷ []) ++ driven i (s.number + 1) s.speed [])).before
+      goes : (i : ℕ) → PowerGoesOn (went log_ ((done ++ s ∷ []) ++ driven i (s.number + 1) s.speed [])).before
       goes = behind-goes o done s (values_of old before) d after_one now.number
 
       done-is : (done ++ s ∷ []) ++ driven c (s.number + 1) s.speed [] ≡ done ++ s ∷ driven c (s.number + 1) s.speed []
@@ -436,8 +436,8 @@ module _ {U A0 B0 : State} {chip_a chip_b : CardState} (n speed begun : ℕ) (ol
           (many-quiet c o (done ++ s ∷ []) log_ (s.number + 1) s.speed old.unfound base_ (seats_of old) d goes
           (subst (λ (u : ℕ). SpansBehind o (done ++ s ∷ []) log_ u old.unfound base_ (seats_of old) d) (let same : suc s.number ≡ s.number + 1 = omega arith in same) first-behind)))
 
-      goes-l : IsGoing (went log_ (done ++ s ∷ driven c (s.number + 1) s.speed [])).before
-      goes-l = subst (λ (ss : List TraceSecond). IsGoing (went log_ ss).before) done-is (goes c)
+      goes-l : PowerGoesOn (went log_ (done ++ s ∷ driven c (s.number + 1) s.speed [])).before
+      goes-l = subst (λ (ss : List TraceSecond). PowerGoesOn (went log_ ss).before) done-is (goes c)
 
       power-l : has_power (went log_ (done ++ s ∷ driven c (s.number + 1) s.speed [])).before (last_of (suc c) s) ≡ true
       power-l = lit-power (after_one.told ∷ []) (went log_ (done ++ s ∷ driven c (s.number + 1) s.speed [])).before (last_of (suc c) s) (s.number + suc c) goes-l refl refl
@@ -446,7 +446,7 @@ module _ {U A0 B0 : State} {chip_a chip_b : CardState} (n speed begun : ℕ) (ol
       several-ringed is =
           let q = behind-all in
           let before_ : Before = (went log_ (done ++ s ∷ driven c (s.number + 1) s.speed [])).before in
-          let t_ : Told = second_told log_ before_ (last_of (suc c) s) in
+          let t_ : ToldSecond = second_told log_ before_ (last_of (suc c) s) in
           let second = second-as log_ before_ (last_of (suc c) s) power-l in
           let begun_ : RingedIn o (done ++ s ∷ driven c (s.number + 1) s.speed []) (last_of (suc c) s) log_ [] log_ q.spans base_ t_ (seats_of old) d =
           second-begins d o (done ++ s ∷ driven c (s.number + 1) s.speed []) (last_of (suc c) s) log_ q.spans base_ t_ (seats_of old) q.ringed goes-l.running second in

@@ -18,13 +18,13 @@ use Rattle.log_model.specs.declared.lines.SlotFault.{SlotFault}
 use Rattle.log_model.specs.declared.lines.SlotFault.TheVariants.{Moving, Empty}
 use Rattle.log_model.specs.Log.{RunLog, In, cut_in, is_torn_in}
 use Rattle.log_model.specs.Slots.{Sitting, same_card, in_slot, refusal}
-use Rattle.log_model.specs.Course.{Told, Before, begins, went}
+use Rattle.log_model.specs.Course.{ToldSecond, Before, begins, went}
 use Rattle.note_model.specs.Odometer.{SpanFrom, odometer_at}
 use Rattle.safety_model.specs.Safe.{Devices}
 use Rattle.card_slots.specs.Calls.{seat_in, card_in, logged}
 use Rattle.run_crew.specs.declared.cards.Accepted.{Accepted}
 use Rattle.run_crew.specs.Cards.{session_of}
-use Rattle.run_crew.specs.Cabin.{Stands}
+use Rattle.run_crew.specs.Cabin.{CabinIsSound}
 use Rattle.run_outcome.specs.declared.outcome.Outcome.{Outcome}
 use Rattle.run_rings.specs.Notes.{NotesMore, course_behind}
 use Rattle.run_rings.specs.Spans.{with_second}
@@ -70,8 +70,8 @@ none-written q time odometer d e leaves = λ y at.
 
 module _ (o : Origin) (done : List TraceSecond) (s : TraceSecond) (front rest : List Action) (slot : Slot) (are : s.actions ≡ front ++ Withdraw slot ∷ rest) (run : Run) (before : Outcome) (d e : Devices)
     (w : RunWithin o done s (In (length front)) [] [] run before d) (lines : List Break) (later : RunLog) (is : later ≡ record (log_of before) { breaks = (log_of before).breaks ++ lines })
-    (tears : AreTears (record { second = s.number; begun = suc (length front); late = false }) lines) (left : HaveLeftMore o d e) (places : PlacesStay o d e) (spans : List SpanFrom) (t : Told) (rings : RingsWithin o done s w.within.b.run.log front run (log_of before) spans t d)
-    (card : Card) (seat : card_in (seat_in run.keeper.cabin.slots.seats slot) ≡ Some card) (low : ℕ) (stands : Stands low None run.keeper.cabin) (speed : ℕ) (now : s.speed ≡ speed)
+    (tears : AreTears (record { second = s.number; begun = suc (length front); late = false }) lines) (left : HaveLeftMore o d e) (places : PlacesStay o d e) (spans : List SpanFrom) (t : ToldSecond) (rings : RingsWithin o done s w.within.b.run.log front run (log_of before) spans t d)
+    (card : Card) (seat : card_in (seat_in run.keeper.cabin.slots.seats slot) ≡ Some card) (low : ℕ) (stands : CabinIsSound low None run.keeper.cabin) (speed : ℕ) (now : s.speed ≡ speed)
     (allowed : refusal (logged run.keeper.cabin.slots.seats) speed (Withdraw slot) ≡ None) (small : s.number < 2 ^ 32) where
   abbrev v : Values
   v = values_of run before

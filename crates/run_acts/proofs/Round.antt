@@ -14,7 +14,7 @@ use Rattle.log_model.specs.declared.lines.Mark.{Mark}
 use Rattle.log_model.specs.Log.{RunLog}
 use Rattle.log_model.specs.Slots.{same_card}
 use Rattle.log_model.specs.Causes.{device_of}
-use Rattle.log_model.specs.Course.{Told as Seconds, Course, Visit}
+use Rattle.log_model.specs.Course.{ToldSecond as Seconds, Course, Visit}
 use Rattle.history_model.specs.Minutes.{HistoryMinute, Seat as HistorySeat, is_crew, entry_in, on_card}
 use Rattle.history_model.specs.History.{seated}
 use Rattle.history_model.specs.Completeness.{IsMarked}
@@ -36,7 +36,7 @@ use Rattle.run_devices.proofs.Presence.{step-leaves}
 use Rattle.run_promise.specs.Origin.{Origin, start_at}
 use Rattle.run_minutes.specs.declared.keeper.Keeper.{Keeper}
 use Rattle.run_minutes.specs.Keeping.{Fate, Still, Has, Fell, is_this, cabin_by, breaks_by, marks_by, session_at, kept_in, IsFateOf}
-use Rattle.run_minutes.specs.Minutes.{Round, IsRound, Told, cabin_after, unit_mark, or_nobody, present_at, minute_of}
+use Rattle.run_minutes.specs.Minutes.{Round, IsRound, KeepingState, cabin_after, unit_mark, or_nobody, present_at, minute_of}
 use Rattle.run_minutes.specs.Books.{standing_by, fate_of}
 use Rattle.run_minutes.specs.Decided.{decided_minute}
 use Rattle.run_minutes.proofs.Counts.{past-by}
@@ -126,7 +126,7 @@ mark-there fate present card a n minute marks has is =
     (subst (λ (o : Option Card). Contains (marks ++ marks_by (Has a n) o minute) (record { device = device_of card; minute = minute; clock = n })) (sym is)
     (Contains-push marks (record { device = device_of card; minute = minute; clock = n })))
 
-module _ (o : Origin) (done : List TraceSecond) (s : TraceSecond) (q : Point) (b : Beginning) (os : Outset) (first last : Device → ℕ) (k : Keeper) (m : Minute) (t : Told) (log : RunLog) (z : Card → Standing) (new : List HistoryMinute)
+module _ (o : Origin) (done : List TraceSecond) (s : TraceSecond) (q : Point) (b : Beginning) (os : Outset) (first last : Device → ℕ) (k : Keeper) (m : Minute) (t : KeepingState) (log : RunLog) (z : Card → Standing) (new : List HistoryMinute)
     (h : Slate o done s q b os m.minute (b.run.book.sure ++ new) log z t.keeper.cabin first last) (same_past : t.keeper.cabin.slots.past ≡ k.cabin.slots.past) (over : m.minute < s.number / 60) where
   abbrev past : List HistoryMinute
   past = b.run.book.sure ++ new

@@ -8,7 +8,7 @@ use Rattle.minute_model.specs.declared.Minute.{Minute}
 use Rattle.minute_model.specs.Span.{count_from, decided_in, ungiven_of}
 use Rattle.minute_model.proofs.Counted.{decided-minutes}
 use Rattle.log_model.specs.Log.{RunLog, Keeping}
-use Rattle.log_model.specs.Course.{Told as Second, Course, went}
+use Rattle.log_model.specs.Course.{ToldSecond as Second, Course, went}
 use Rattle.history_model.specs.Minutes.{HistoryMinute, on_card}
 use Rattle.history_model.specs.History.{decided_of}
 use Rattle.card_image.specs.Own.{IsOwnValid}
@@ -20,7 +20,7 @@ use Rattle.card_slots.specs.declared.seats.Present.{Present}
 use Rattle.card_slots.specs.Calls.{present_in}
 use Rattle.run_crew.specs.declared.cards.Accepted.{Accepted}
 use Rattle.run_promise.specs.Found.{CardFound, found_of}
-use Rattle.run_course.specs.Followed.{Progress, Followed}
+use Rattle.run_course.specs.Followed.{Progress, BookFollowsRun}
 use Rattle.run_course.specs.Seconds.{GoesOnBy, AreNew, next_told}
 use Rattle.run_course.proofs.New.{are-new}
 use Rattle.run_course.specs.Moment.{goes_on}
@@ -31,7 +31,7 @@ use Rattle.run_devices.specs.Presence.{SessionsStand}
 use Rattle.run_devices.proofs.Presence.{minute-says}
 use Rattle.run_devices.specs.Told.{GoesWith}
 use Rattle.run_promise.specs.Origin.{Origin, rule_of, start_at, first_of}
-use Rattle.run_minutes.specs.Minutes.{Told, or_nobody, present_at}
+use Rattle.run_minutes.specs.Minutes.{KeepingState, or_nobody, present_at}
 use Rattle.run_minutes.specs.Decided.{MayBookAll, decided_minute}
 use Rattle.run_record.specs.Recorded.{Values}
 use Rattle.run_record.specs.Within.{told_before, course_in}
@@ -84,7 +84,7 @@ many a zero = refl
 many a (suc n) = ap suc (many (a + 1) n)
 
 -- IN THE KEEPING of a second
-module _ (o : Origin) (done : List TraceSecond) (s : TraceSecond) (all : List Minute) (t : Told) (v : Values) (d : Devices) (w : InRounds o done s (keeping_of s) all t v d) where
+module _ (o : Origin) (done : List TraceSecond) (s : TraceSecond) (all : List Minute) (t : KeepingState) (v : Values) (d : Devices) (w : InRounds o done s (keeping_of s) all t v d) where
   abbrev pk : Progress
   pk = w.b.run
 
@@ -97,7 +97,7 @@ module _ (o : Origin) (done : List TraceSecond) (s : TraceSecond) (all : List Mi
   abbrev now : Second
   now = next_told lk done s
 
-  abbrev f : Followed (rule_of o) (start_at o) o.from (first_of o) done pk
+  abbrev f : BookFollowsRun (rule_of o) (start_at o) o.from (first_of o) done pk
   f = w.began.followed
 
   ends : now ≡ told_with (begins_with w.b.span) false s ck
@@ -117,7 +117,7 @@ module _ (o : Origin) (done : List TraceSecond) (s : TraceSecond) (all : List Mi
   are-over = subst (λ (n : ℕ). All (λ (m : Minute). m.minute < n / 60) all) (sym w.moment.number) (all-behind (λ (m : Minute). m.minute < pk.next / 60) w.ds all news.over)
 
 -- AT ANY POINT
-module _ (o : Origin) (done : List TraceSecond) (s : TraceSecond) (q : Point) (all : List Minute) (t : Told) (v : Values) (d : Devices) (w : InRounds o done s q all t v d) where
+module _ (o : Origin) (done : List TraceSecond) (s : TraceSecond) (q : Point) (all : List Minute) (t : KeepingState) (v : Values) (d : Devices) (w : InRounds o done s q all t v d) where
   abbrev log : RunLog
   log = (told_values t v).log
 

@@ -16,7 +16,7 @@ use Rattle.run_crew.proofs.Sessions.{session_set}
 use Rattle.run_minutes.specs.declared.keeper.Keeper.{Keeper}
 use Rattle.run_minutes.specs.declared.keeper.Moment.{Moment}
 use Rattle.run_minutes.specs.Keeping.{Fate, Still, Has, Fell, cabin_by, session_at, kept_in, IsFateOf, GoesOnFrom, SessionsGoOn}
-use Rattle.run_minutes.specs.Minutes.{Round, IsRound, Told, Done, AreRounds, told_after, told_by, present_at, minute_of}
+use Rattle.run_minutes.specs.Minutes.{Round, IsRound, KeepingState, Done, AreRounds, told_after, told_by, present_at, minute_of}
 use Rattle.run_minutes.proofs.Seats.{sessions-none, sessions-then, brought-sessions}
 use Rattle.run_acts.specs.Rounds.{HasBrokenDown, HaveBroken}
 use Rattle.run_acts.specs.RoundLaws.{HasBrokenLast, AreGone}
@@ -71,14 +71,14 @@ some-each (Some card) P h = h card refl
 
 -- ---- rounds
 
-module _ (k : Keeper) (at : Moment) (m : Minute) (round : Round) (failed : Bool) (t : Told) (is : IsRound (present_at k.cabin m.minute) (minute_of m k) at failed t.keeper round) where
+module _ (k : Keeper) (at : Moment) (m : Minute) (round : Round) (failed : Bool) (t : KeepingState) (is : IsRound (present_at k.cabin m.minute) (minute_of m k) at failed t.keeper round) where
   abbrev p : Present
   p = present_at k.cabin m.minute
 
   abbrev cabin1 : Cabin
   cabin1 = cabin_by round.driver p.driver at.second t.keeper.cabin
 
-  abbrev u : Told
+  abbrev u : KeepingState
   u = told_after p m.minute at round t
 
   second-is : (round.codriver ≡ Still) ⊎ IsFateOf (session_at cabin1.cards p.codriver) (kept_in (minute_of m k) CoDriver) round.codriver
@@ -103,20 +103,20 @@ module _ (k : Keeper) (at : Moment) (m : Minute) (round : Round) (failed : Bool)
       (λ card here. broke card (had t.keeper.cabin.cards cabin1.cards card first-on (fell-asked round.codriver cabin1.cards p.codriver card (kept_in (minute_of m k) CoDriver) second-is fell here))
       (gone u.keeper.cabin.cards end card on (fell-gone round.codriver p.codriver card at.second cabin1 fell here)))
 
-pub rounds-on : (k : Keeper) (at : Moment) (xs : List Done) (t : Told) → AreRounds k at xs t → SessionsGoOn t.keeper.cabin.cards (told_by k at xs t).keeper.cabin.cards
+pub rounds-on : (k : Keeper) (at : Moment) (xs : List Done) (t : KeepingState) → AreRounds k at xs t → SessionsGoOn t.keeper.cabin.cards (told_by k at xs t).keeper.cabin.cards
 rounds-on k at [] t rounds = sessions-none t.keeper.cabin.cards
 rounds-on k at (x ∷ xs) t rounds =
-    let u : Told = told_after (present_at k.cabin x.minute.minute) x.minute.minute at x.round t in
+    let u : KeepingState = told_after (present_at k.cabin x.minute.minute) x.minute.minute at x.round t in
     sessions-then t.keeper.cabin.cards u.keeper.cabin.cards (told_by k at xs u).keeper.cabin.cards (round-on k at x.minute x.round false t rounds.0) (rounds-on k at xs u rounds.1)
 
 -- what is known of the cards at the end is known behind a round
 gone-on : (x y end : Cards) (first last : Device → ℕ) → SessionsGoOn x y → AreGone x end first last → AreGone y end first last
 gone-on x y end first last on broke = λ card some none. broke card (had x y card on some) none
 
-pub have-broken : (k : Keeper) (at : Moment) (xs : List Done) (t : Told) (end : Cards) (first last : Device → ℕ) → AreRounds k at xs t → SessionsGoOn (told_by k at xs t).keeper.cabin.cards end → AreGone t.keeper.cabin.cards end first last → HaveBroken k xs first last
+pub have-broken : (k : Keeper) (at : Moment) (xs : List Done) (t : KeepingState) (end : Cards) (first last : Device → ℕ) → AreRounds k at xs t → SessionsGoOn (told_by k at xs t).keeper.cabin.cards end → AreGone t.keeper.cabin.cards end first last → HaveBroken k xs first last
 have-broken k at [] t end first last rounds on broke = tt
 have-broken k at (x ∷ xs) t end first last rounds on broke =
-    let u : Told = told_after (present_at k.cabin x.minute.minute) x.minute.minute at x.round t in
+    let u : KeepingState = told_after (present_at k.cabin x.minute.minute) x.minute.minute at x.round t in
     let later : SessionsGoOn u.keeper.cabin.cards end = sessions-then u.keeper.cabin.cards (told_by k at xs u).keeper.cabin.cards end (rounds-on k at xs u rounds.1) on in (
       driver-broken k at x.minute x.round false t rounds.0 end first last later broke,
       codriver-broken k at x.minute x.round false t rounds.0 end first last later broke,
@@ -124,13 +124,13 @@ have-broken k at (x ∷ xs) t end first last rounds on broke =
     )
 
 -- WHOLE, and where the unit failed
-pub cards-broken : (k : Keeper) (at : Moment) (xs : List Done) (t : Told) (first last : Device → ℕ) → AreRounds k at xs t → AreGone t.keeper.cabin.cards (told_by k at xs t).keeper.cabin.cards first last → HaveBroken k xs first last
+pub cards-broken : (k : Keeper) (at : Moment) (xs : List Done) (t : KeepingState) (first last : Device → ℕ) → AreRounds k at xs t → AreGone t.keeper.cabin.cards (told_by k at xs t).keeper.cabin.cards first last → HaveBroken k xs first last
 cards-broken k at xs t first last rounds broke = have-broken k at xs t (told_by k at xs t).keeper.cabin.cards first last rounds (sessions-none (told_by k at xs t).keeper.cabin.cards) broke
 
-pub cards-broken_last : (k : Keeper) (at : Moment) (xs : List Done) (m : Minute) (round : Round) (t : Told) (first last : Device → ℕ) → AreRounds k at xs t → IsRound (present_at k.cabin m.minute) (minute_of m k) at true (told_by k at xs t).keeper round →
+pub cards-broken_last : (k : Keeper) (at : Moment) (xs : List Done) (m : Minute) (round : Round) (t : KeepingState) (first last : Device → ℕ) → AreRounds k at xs t → IsRound (present_at k.cabin m.minute) (minute_of m k) at true (told_by k at xs t).keeper round →
     AreGone t.keeper.cabin.cards (told_after (present_at k.cabin m.minute) m.minute at round (told_by k at xs t)).keeper.cabin.cards first last → HaveBroken k xs first last × HasBrokenLast k m (Some round) first last
 cards-broken_last k at xs m round t first last rounds is broke =
-    let u : Told = told_by k at xs t in
+    let u : KeepingState = told_by k at xs t in
     let end : Cards = (told_after (present_at k.cabin m.minute) m.minute at round u).keeper.cabin.cards in
     let here : AreGone u.keeper.cabin.cards end first last = gone-on t.keeper.cabin.cards u.keeper.cabin.cards end first last (rounds-on k at xs t rounds) broke in (
       have-broken k at xs t end first last rounds (round-on k at m round true u is) broke,

@@ -15,17 +15,17 @@ use Rattle.run_unit_course.specs.Legs.{Travel, travelled, stranded, all_travelle
 use Rattle.unit_model.specs.Image.{odometer_at}
 use Rattle.unit_rule.specs.Odometer.{HasTravelled}
 use Rattle.safety_model.specs.Safe.{Devices, breakdowns_of}
-use Rattle.run_promise.specs.Between.{Carried}
+use Rattle.run_promise.specs.Between.{RunLedger}
 use Rattle.run_course.specs.Seconds.{kept_all, broken_at}
 use Rattle.run_course.proofs.Kept.{one-travelled}
-use Rattle.run_devices.specs.Told.{IsPowerless, AreEarly}
+use Rattle.run_devices.specs.Told.{DevicesUnpowered, AreEarly}
 use Rattle.run_promise.specs.Origin.{Origin, start_at}
-use Rattle.run_minutes.specs.Minutes.{Round, Told, Done, AreRounds, IsLast, told_by, told_after, present_at}
+use Rattle.run_minutes.specs.Minutes.{Round, KeepingState, Done, AreRounds, IsLast, told_by, told_after, present_at}
 use Rattle.run_minutes.specs.Books.{carried_after, carried_broken}
 use Rattle.run_minutes.specs.Decided.{carried_by, decided_minute}
 use Rattle.run_minutes.proofs.MarksBooked.{marks-by, marks-one}
 use Rattle.run_record.specs.Recorded.{Values, carried}
-use Rattle.run_record.specs.Within.{told_before, course_in, CutWithin, lost_minute}
+use Rattle.run_record.specs.Within.{told_before, course_in, RecordAtFailure, lost_minute}
 use Rattle.run_acts.specs.Rounds.{Point, told_values, moment_of, HaveBroken, Slate, SoFar}
 use Rattle.run_acts.specs.RoundLaws.{InRounds, carried_at, KeepsSo, travelled_at, HasBrokenLast, TheKeepingFails}
 use Rattle.run_minutes.specs.Later.{RestBy}
@@ -41,18 +41,18 @@ rose-since before mid now le (inl low) = inl (omega (arith, le, low))
 rose-since before mid now le (inr top) = inr top
 
 -- where power is cut behind what was kept so far, and a minute may be lost with it
-module _ (o : Origin) (done : List TraceSecond) (s : TraceSecond) (q : Point) (all : List Minute) (t : Told) (v : Values) (d e : Devices) (w : InRounds o done s q all t v d) (k : KeepsSo o done s q all t v d e w)
-    (x : Told) (behind : Carried) (ds : List Minute) (lost : Option Minute) (rest : List Minute) (new : List HistoryMinute) (from : ℕ)
+module _ (o : Origin) (done : List TraceSecond) (s : TraceSecond) (q : Point) (all : List Minute) (t : KeepingState) (v : Values) (d e : Devices) (w : InRounds o done s q all t v d) (k : KeepsSo o done s q all t v d e w)
+    (x : KeepingState) (behind : RunLedger) (ds : List Minute) (lost : Option Minute) (rest : List Minute) (new : List HistoryMinute) (from : ℕ)
     (so : SoFar o done s q w.b (outset o done s q all t v d w) (breakdowns_of d) (breakdowns_of e) t.keeper w.sp v t.marks.items (course_in w.b done s q.at (told_values t v).log) w.brought x behind ds (option_to_list lost ++ rest) new from)
     (rose : RoseBy 1 (breakdowns_of d Recorder) (breakdowns_of e Recorder)) (rests : RestBy t.keeper.cabin.cards x.keeper.cabin.cards d e) (none : s.number / 60 ≤ w.from → (new ≡ w.new) × (w.from ≤ from)) (low : from ≤ s.number / 60)
     (due : ℕ) (late : due ≤ s.number / 60) where
   abbrev book_then : Book
   book_then = broken_at (lost_minute o w.b done new lost) (kept_all new w.b.run.book)
 
-  abbrev carried_then : Carried
+  abbrev carried_then : RunLedger
   carried_then = carried (told_values x v) due book_then behind.standing behind.brought
 
-  cut-so : AreEarly carried_then → IsPowerless o.found carried_then e → HasTravelled (odometer_at o.recording.unit) book_then (stranded_at lost (all_travelled ds w.b.travel)) e.unit → CutWithin o done s q.at q.waits q.speed (told_values x v) e
+  cut-so : AreEarly carried_then → DevicesUnpowered o.found carried_then e → HasTravelled (odometer_at o.recording.unit) book_then (stranded_at lost (all_travelled ds w.b.travel)) e.unit → RecordAtFailure o done s q.at q.waits q.speed (told_values x v) e
   cut-so early powerless travels = record {
     b = w.b;
     lit = w.lit;
@@ -93,13 +93,13 @@ module _ (o : Origin) (done : List TraceSecond) (s : TraceSecond) (q : Point) (a
     travels = travels;
   }
 
-module _ (o : Origin) (done : List TraceSecond) (s : TraceSecond) (q : Point) (all : List Minute) (t : Told) (v : Values) (d e : Devices) (w : InRounds o done s q all t v d) (k : KeepsSo o done s q all t v d e w)
+module _ (o : Origin) (done : List TraceSecond) (s : TraceSecond) (q : Point) (all : List Minute) (t : KeepingState) (v : Values) (d e : Devices) (w : InRounds o done s q all t v d) (k : KeepsSo o done s q all t v d e w)
     (xs : List Done) (m : Minute) (rest : List Minute) (split : all ≡ map (λ (x : Done). x.minute) xs ++ m ∷ rest) (rounds : AreRounds t.keeper (moment_of s q) xs t) (broken_ : HaveBroken t.keeper xs (breakdowns_of d) (breakdowns_of e))
     (rose : RoseBy 1 (breakdowns_of d Recorder) (breakdowns_of e Recorder)) where
-  abbrev before : Carried
+  abbrev before : RunLedger
   before = carried_by t.keeper xs (carried_at o done s q all t v d w)
 
-  abbrev u : Told
+  abbrev u : KeepingState
   u = told_by t.keeper (moment_of s q) xs t
 
   abbrev c : Course
@@ -128,21 +128,21 @@ module _ (o : Origin) (done : List TraceSecond) (s : TraceSecond) (q : Point) (a
   g = travelled_at o done s q all t v d w xs
 
   -- not begun
-  pub cut-none : RestBy t.keeper.cabin.cards u.keeper.cabin.cards d e → IsPowerless o.found before e → HasTravelled (odometer_at o.recording.unit) before.book g e.unit → CutWithin o done s q.at q.waits q.speed (told_values u v) e
+  pub cut-none : RestBy t.keeper.cabin.cards u.keeper.cabin.cards d e → DevicesUnpowered o.found before e → HasTravelled (odometer_at o.recording.unit) before.book g e.unit → RecordAtFailure o done s q.at q.waits q.speed (told_values u v) e
   cut-none rests powerless travels =
       cut-so o done s q all t v d e w k u before th.ds_now None (m ∷ rest) th.new_now th.from_now th.so rose rests (λ late. let n = th.none late in let is = n.1 in (n.0, omega (arith, is))) (omega (arith, over, here)) before.due (let due = th.so.due in omega (arith, due, over, here)) th.so.early
-      (subst (λ (bk : Book). IsPowerless o.found (carried (told_values u v) before.due bk before.standing before.brought) e) th.so.book
-      (subst (λ (ms : List Mark). IsPowerless o.found (record before { marks = ms }) e) marks-are powerless))
+      (subst (λ (bk : Book). DevicesUnpowered o.found (carried (told_values u v) before.due bk before.standing before.brought) e) th.so.book
+      (subst (λ (ms : List Mark). DevicesUnpowered o.found (record before { marks = ms }) e) marks-are powerless))
       (subst (λ (bk : Book). HasTravelled (odometer_at o.recording.unit) bk (all_travelled th.ds_now w.b.travel) e.unit) th.so.book
       (subst (λ (h : Travel). HasTravelled (odometer_at o.recording.unit) before.book h e.unit) (sym th.travel) travels))
 
   -- begun
-  pub cut-begun : RestBy t.keeper.cabin.cards u.keeper.cabin.cards d e → IsPowerless o.found (carried_broken i before) e → HasTravelled (odometer_at o.recording.unit) (broken i before.book) (stranded m.minute m.travelled g) e.unit → CutWithin o done s q.at q.waits q.speed (told_values u v) e
+  pub cut-begun : RestBy t.keeper.cabin.cards u.keeper.cabin.cards d e → DevicesUnpowered o.found (carried_broken i before) e → HasTravelled (odometer_at o.recording.unit) (broken i before.book) (stranded m.minute m.travelled g) e.unit → RecordAtFailure o done s q.at q.waits q.speed (told_values u v) e
   cut-begun rests powerless travels =
       cut-so o done s q all t v d e w k u before th.ds_now (Some m) rest th.new_now th.from_now th.so rose rests (λ late. let n = th.none late in let is = n.1 in (n.0, omega (arith, is))) (omega (arith, over, here)) (suc m.minute) (omega (arith, over)) (λ card n at. let lt = th.so.early card n at in let due = th.so.due in omega (arith, lt, due, here))
-      (subst (λ (j : HistoryMinute). IsPowerless o.found (carried (told_values u v) (suc m.minute) (broken j (kept_all th.new_now w.b.run.book)) before.standing before.brought) e) (sym i-is)
-      (subst (λ (bk : Book). IsPowerless o.found (carried (told_values u v) (suc m.minute) (broken i bk) before.standing before.brought) e) th.so.book
-      (subst (λ (ms : List Mark). IsPowerless o.found (record (carried_broken i before) { marks = ms }) e) marks-are powerless)))
+      (subst (λ (j : HistoryMinute). DevicesUnpowered o.found (carried (told_values u v) (suc m.minute) (broken j (kept_all th.new_now w.b.run.book)) before.standing before.brought) e) (sym i-is)
+      (subst (λ (bk : Book). DevicesUnpowered o.found (carried (told_values u v) (suc m.minute) (broken i bk) before.standing before.brought) e) th.so.book
+      (subst (λ (ms : List Mark). DevicesUnpowered o.found (record (carried_broken i before) { marks = ms }) e) marks-are powerless)))
       (subst (λ (j : HistoryMinute). HasTravelled (odometer_at o.recording.unit) (broken j (kept_all th.new_now w.b.run.book)) (stranded m.minute m.travelled (all_travelled th.ds_now w.b.travel)) e.unit) (sym i-is)
       (subst (λ (bk : Book). HasTravelled (odometer_at o.recording.unit) (broken i bk) (stranded m.minute m.travelled (all_travelled th.ds_now w.b.travel)) e.unit) th.so.book
       (subst (λ (h : Travel). HasTravelled (odometer_at o.recording.unit) (broken i before.book) (stranded m.minute m.travelled h) e.unit) (sym th.travel) travels)))
@@ -150,31 +150,31 @@ module _ (o : Origin) (done : List TraceSecond) (s : TraceSecond) (q : Point) (a
   -- it is kept, and the unit failed as it noted the fault of a card
   module _ (round : Round) (last_one : IsLast t.keeper m (moment_of s q) u (told_after (present_at t.keeper.cabin m.minute) m.minute (moment_of s q) round u) (Some round))
       (more_broken : HasBrokenLast t.keeper m (Some round) (breakdowns_of d) (breakdowns_of e)) where
-    abbrev x : Told
+    abbrev x : KeepingState
     x = told_after (present_at t.keeper.cabin m.minute) m.minute (moment_of s q) round u
 
-    abbrev behind : Carried
+    abbrev behind : RunLedger
     behind = carried_after (present_at t.keeper.cabin m.minute) i round before
 
     so : SoFar o done s q w.b (outset o done s q all t v d w) (breakdowns_of d) (breakdowns_of e) t.keeper w.sp v t.marks.items c w.brought x behind (th.ds_now ++ m ∷ []) rest (th.new_now ++ i ∷ []) (suc th.from_now)
     so = one-on o done s q w.b (outset o done s q all t v d w) (breakdowns_of d) (breakdowns_of e) t.keeper w.sp v t.marks.items c w.brought k.few k.two m rest round true u before th.ds_now th.new_now th.from_now th.so last_one.0 more_broken.0 more_broken.1
 
-    pub cut-kept : RestBy t.keeper.cabin.cards x.keeper.cabin.cards d e → IsPowerless o.found behind e → HasTravelled (odometer_at o.recording.unit) (kept i before.book) (travelled m.minute m.travelled g) e.unit → CutWithin o done s q.at q.waits q.speed (told_values x v) e
+    pub cut-kept : RestBy t.keeper.cabin.cards x.keeper.cabin.cards d e → DevicesUnpowered o.found behind e → HasTravelled (odometer_at o.recording.unit) (kept i before.book) (travelled m.minute m.travelled g) e.unit → RecordAtFailure o done s q.at q.waits q.speed (told_values x v) e
     cut-kept rests powerless travels =
         cut-so o done s q all t v d e w k x behind (th.ds_now ++ m ∷ []) None rest (th.new_now ++ i ∷ []) (suc th.from_now) so rose rests (λ late. let n = th.none late in let is = n.1 in absurd (omega (arith, late, is, over, here))) (omega (arith, over, here)) behind.due (omega (arith, over)) so.early
-        (subst (λ (bk : Book). IsPowerless o.found (carried (told_values x v) behind.due bk behind.standing behind.brought) e) so.book
-        (subst (λ (ms : List Mark). IsPowerless o.found (record behind { marks = ms }) e) (marks-one t.keeper (moment_of s q) m round u before marks-are) powerless))
+        (subst (λ (bk : Book). DevicesUnpowered o.found (carried (told_values x v) behind.due bk behind.standing behind.brought) e) so.book
+        (subst (λ (ms : List Mark). DevicesUnpowered o.found (record behind { marks = ms }) e) (marks-one t.keeper (moment_of s q) m round u before marks-are) powerless))
         (subst (λ (bk : Book). HasTravelled (odometer_at o.recording.unit) bk (all_travelled (th.ds_now ++ m ∷ []) w.b.travel) e.unit) so.book
         (subst (λ (h : Travel). HasTravelled (odometer_at o.recording.unit) behind.book h e.unit) (sym (one-travelled th.ds_now m w.b.travel ∙ ap (travelled m.minute m.travelled) th.travel)) travels))
 
 -- behind all of them, as in the note of an event
-module _ (o : Origin) (done : List TraceSecond) (s : TraceSecond) (q : Point) (all : List Minute) (t : Told) (v : Values) (d e : Devices) (w : InRounds o done s q all t v d) (k : KeepsSo o done s q all t v d e w)
+module _ (o : Origin) (done : List TraceSecond) (s : TraceSecond) (q : Point) (all : List Minute) (t : KeepingState) (v : Values) (d e : Devices) (w : InRounds o done s q all t v d) (k : KeepsSo o done s q all t v d e w)
     (xs : List Done) (split : all ≡ map (λ (x : Done). x.minute) xs ++ []) (rounds : AreRounds t.keeper (moment_of s q) xs t) (broken_ : HaveBroken t.keeper xs (breakdowns_of d) (breakdowns_of e))
     (rose : RoseBy 1 (breakdowns_of d Recorder) (breakdowns_of e Recorder)) (low : w.from + length all ≤ s.number / 60) where
-  abbrev all_ : Carried
+  abbrev all_ : RunLedger
   all_ = carried_by t.keeper xs (carried_at o done s q all t v d w)
 
-  abbrev end : Told
+  abbrev end : KeepingState
   end = told_by t.keeper (moment_of s q) xs t
 
   thr : Through o done s q w.b (outset o done s q all t v d w) (breakdowns_of d) (breakdowns_of e) t.keeper w.sp v t.marks.items (course_in w.b done s q.at (told_values t v).log) w.brought k.few k.two xs [] t (carried_at o done s q all t v d w) w.ds w.new w.from
@@ -183,23 +183,23 @@ module _ (o : Origin) (done : List TraceSecond) (s : TraceSecond) (q : Point) (a
   low-now : thr.from_now ≤ s.number / 60
   low-now = let to = thr.so.ends in omega (arith, to, low)
 
-  pub cut-behind : RestBy t.keeper.cabin.cards end.keeper.cabin.cards d e → IsPowerless o.found all_ e → HasTravelled (odometer_at o.recording.unit) all_.book (travelled_at o done s q all t v d w xs) e.unit → CutWithin o done s q.at q.waits q.speed (told_values end v) e
+  pub cut-behind : RestBy t.keeper.cabin.cards end.keeper.cabin.cards d e → DevicesUnpowered o.found all_ e → HasTravelled (odometer_at o.recording.unit) all_.book (travelled_at o done s q all t v d w xs) e.unit → RecordAtFailure o done s q.at q.waits q.speed (told_values end v) e
   cut-behind rests powerless travels =
       cut-so o done s q all t v d e w k end all_ thr.ds_now None [] thr.new_now thr.from_now thr.so rose rests (λ late. let n = thr.none late in let is = n.1 in (n.0, omega (arith, is))) low-now all_.due (let due = thr.so.due in let le = low-now in omega (arith, due, le)) thr.so.early
-      (subst (λ (bk : Book). IsPowerless o.found (carried (told_values end v) all_.due bk all_.standing all_.brought) e) thr.so.book
-      (subst (λ (ms : List Mark). IsPowerless o.found (record all_ { marks = ms }) e) (marks-by t.keeper (moment_of s q) xs t (carried_at o done s q all t v d w) refl) powerless))
+      (subst (λ (bk : Book). DevicesUnpowered o.found (carried (told_values end v) all_.due bk all_.standing all_.brought) e) thr.so.book
+      (subst (λ (ms : List Mark). DevicesUnpowered o.found (record all_ { marks = ms }) e) (marks-by t.keeper (moment_of s q) xs t (carried_at o done s q all t v d w) refl) powerless))
       (subst (λ (bk : Book). HasTravelled (odometer_at o.recording.unit) bk (all_travelled thr.ds_now w.b.travel) e.unit) thr.so.book
       (subst (λ (h : Travel). HasTravelled (odometer_at o.recording.unit) all_.book h e.unit) (sym thr.travel) travels))
 
 -- ALL OF IT
 pub keeping-fails : (d e : Devices) → TheKeepingFails d e
 keeping-fails d e o done s q all t u v w k xs m rest None split rounds broken_ last_one more rose rests (inl cut) =
-    subst (λ (y : Told). CutWithin o done s q.at q.waits q.speed (told_values y v) e) (sym last_one) (cut-none o done s q all t v d e w k xs m rest split rounds broken_ rose
-    (subst (λ (y : Told). RestBy t.keeper.cabin.cards y.keeper.cabin.cards d e) last_one rests) cut.0 cut.1)
+    subst (λ (y : KeepingState). RecordAtFailure o done s q.at q.waits q.speed (told_values y v) e) (sym last_one) (cut-none o done s q all t v d e w k xs m rest split rounds broken_ rose
+    (subst (λ (y : KeepingState). RestBy t.keeper.cabin.cards y.keeper.cabin.cards d e) last_one rests) cut.0 cut.1)
 keeping-fails d e o done s q all t u v w k xs m rest None split rounds broken_ last_one more rose rests (inr cut) =
-    subst (λ (y : Told). CutWithin o done s q.at q.waits q.speed (told_values y v) e) (sym last_one) (cut-begun o done s q all t v d e w k xs m rest split rounds broken_ rose
-    (subst (λ (y : Told). RestBy t.keeper.cabin.cards y.keeper.cabin.cards d e) last_one rests) cut.0 cut.1)
+    subst (λ (y : KeepingState). RecordAtFailure o done s q.at q.waits q.speed (told_values y v) e) (sym last_one) (cut-begun o done s q all t v d e w k xs m rest split rounds broken_ rose
+    (subst (λ (y : KeepingState). RestBy t.keeper.cabin.cards y.keeper.cabin.cards d e) last_one rests) cut.0 cut.1)
 keeping-fails d e o done s q all t u v w k xs m rest (Some round) split rounds broken_ last_one more rose rests cut =
-    subst (λ (y : Told). CutWithin o done s q.at q.waits q.speed (told_values y v) e) (sym last_one.1)
+    subst (λ (y : KeepingState). RecordAtFailure o done s q.at q.waits q.speed (told_values y v) e) (sym last_one.1)
     (cut-kept o done s q all t v d e w k xs m rest split rounds broken_ rose round (last_one.0, refl) more
-    (subst (λ (y : Told). RestBy t.keeper.cabin.cards y.keeper.cabin.cards d e) last_one.1 rests) cut.0 cut.1)
+    (subst (λ (y : KeepingState). RestBy t.keeper.cabin.cards y.keeper.cabin.cards d e) last_one.1 rests) cut.0 cut.1)

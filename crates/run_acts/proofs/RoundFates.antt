@@ -13,7 +13,7 @@ use Rattle.log_model.specs.declared.lines.Break.{Break}
 use Rattle.log_model.specs.Log.{RunLog, Phase, is_torn_in}
 use Rattle.log_model.specs.Slots.{Slots, Sitting, same_card, in_slot}
 use Rattle.log_model.specs.Causes.{device_of, RoseBy}
-use Rattle.log_model.specs.Course.{Told, Course, Visit, Before, visits, card_in, went}
+use Rattle.log_model.specs.Course.{ToldSecond, Course, Visit, Before, visits, card_in, went}
 use Rattle.history_model.specs.Minutes.{HistoryMinute}
 use Rattle.card_image.specs.Own.{IsOwnValid}
 use Rattle.card_session.specs.declared.session.Kept.{Kept}
@@ -129,7 +129,7 @@ module _ (o : Origin) (done : List TraceSecond) (s : TraceSecond) (q : Point) (b
   abbrev c : Course
   c = course_in b done s q.at log
 
-  abbrev told0 : List Told
+  abbrev told0 : List ToldSecond
   told0 = told_before b done
 
   abbrev log_by : Fate → RunLog

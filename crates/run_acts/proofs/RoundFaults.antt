@@ -28,7 +28,7 @@ use Rattle.event_model.specs.Events.{Event, course_by, with_card, crew_of as eve
 use Rattle.safety_model.specs.Safe.{Devices, breakdowns_of}
 use Rattle.unit_notes.specs.declared.unit_event.UnitEvent.{UnitEvent}
 use Rattle.run_promise.specs.Found.{found_of}
-use Rattle.run_promise.specs.Between.{Carried}
+use Rattle.run_promise.specs.Between.{RunLedger}
 use Rattle.run_crew.specs.declared.cards.Accepted.{Accepted}
 use Rattle.run_crew.specs.declared.cards.Cards.{Cards}
 use Rattle.run_crew.specs.declared.cabin.Cabin.{Cabin}
@@ -50,7 +50,7 @@ use Rattle.run_note_record.proofs.Adding.{steps-follow, adds-nothing}
 use Rattle.run_note_record.proofs.Falling.{tear-adds}
 use Rattle.run_minutes.specs.declared.keeper.Keeper.{Keeper}
 use Rattle.run_minutes.specs.Keeping.{Fate, Still, Has, Fell, IsFateOf, cabin_by, breaks_by, tear_of, session_at, kept_in, card_in as present_of}
-use Rattle.run_minutes.specs.Minutes.{Round, IsRound, Told, Done, Reach, Whole, Short, AreRounds, IsReach, told_after, told_by, cabin_after, present_at, minute_of}
+use Rattle.run_minutes.specs.Minutes.{Round, IsRound, KeepingState, Done, Reach, Whole, Short, AreRounds, IsReach, told_after, told_by, cabin_after, present_at, minute_of}
 use Rattle.run_minutes.specs.Faults.{faults_by, round_faults, faults_of, faults_to, NotesFaults}
 use Rattle.activity_codec.specs.Activity.{same_slot}
 use Rattle.tacho_types.specs.declared.card_number.FullCardNumber.{FullCardNumber}
@@ -306,7 +306,7 @@ module _ (o : Origin) (done : List TraceSecond) (s : TraceSecond) (q : Point) (b
       by (Some old) some h_ = fell-follows card (valid card refl) old some (broken refl) p there_ at kept is q.at refl f
 
 -- ---- ONE ROUND
-module _ (o : Origin) (done : List TraceSecond) (s : TraceSecond) (q : Point) (b : Beginning) (os : Outset) (first last : Device → ℕ) (k : Keeper) (m : Minute) (t : Told) (log : RunLog) (z : Card → Standing) (new : List HistoryMinute)
+module _ (o : Origin) (done : List TraceSecond) (s : TraceSecond) (q : Point) (b : Beginning) (os : Outset) (first last : Device → ℕ) (k : Keeper) (m : Minute) (t : KeepingState) (log : RunLog) (z : Card → Standing) (new : List HistoryMinute)
     (h : Slate o done s q b os m.minute (b.run.book.sure ++ new) log z t.keeper.cabin first last) (same_past : t.keeper.cabin.slots.past ≡ k.cabin.slots.past) (over : m.minute < s.number / 60)
     (round : Round) (failed : Bool) (le : os.low ≤ m.minute) (few : s.number / 60 ≤ m.minute + 4) (is : IsRound (present_at k.cabin m.minute) (minute_of m k) (moment_of s q) failed t.keeper round)
     (two : AreTwo (present_at k.cabin m.minute).driver (present_at k.cabin m.minute).codriver) (driver_broken : HasBrokenDown round.driver (present_at k.cabin m.minute).driver first last)
@@ -402,12 +402,12 @@ module _ (o : Origin) (done : List TraceSecond) (s : TraceSecond) (q : Point) (b
     (few : s.number / 60 ≤ os.low + 4) (two : (m : ℕ) → AreTwo (present_at k.cabin m).driver (present_at k.cabin m).codriver)
     (origin : IsOrigin o) (begins : BeginsNow o done b.run b.span s) (small : s.number < 2 ^ 32) (e : Devices) (known : AreKnownBy (number_in o) os.cabin.cards) where
   -- what is known between rounds
-  pub record Known (t : Told) : Type 0 where
+  pub record Known (t : KeepingState) : Type 0 where
     pub well : AllSitWell t.keeper.cabin
     pub numbers : SameNumbers os.cabin.cards t.keeper.cabin.cards
     pub follows : Follows s q.at (told_values t v).log t.keeper.cabin
 
-  module _ (m : Minute) (rest : List Minute) (round : Round) (failed : Bool) (t : Told) (w : Carried) (ds : List Minute) (new : List HistoryMinute) (from : ℕ)
+  module _ (m : Minute) (rest : List Minute) (round : Round) (failed : Bool) (t : KeepingState) (w : RunLedger) (ds : List Minute) (new : List HistoryMinute) (from : ℕ)
       (h : SoFar o done s q b os first last k sp v marks0 c0 brought t w ds (m ∷ rest) new from) (is : IsRound (present_at k.cabin m.minute) (minute_of m k) (moment_of s q) failed t.keeper round)
       (broken : HasBrokenDown round.driver (present_at k.cabin m.minute).driver first last) (more : HasBrokenDown round.codriver (present_at k.cabin m.minute).codriver first last) (g : Known t) where
     here : m.minute ≡ from
@@ -428,7 +428,7 @@ module _ (o : Origin) (done : List TraceSecond) (s : TraceSecond) (q : Point) (b
     few-here : s.number / 60 ≤ m.minute + 4
     few-here = let high = h.high in omega (arith, high, here, few)
 
-    abbrev u : Told
+    abbrev u : KeepingState
     u = told_after (present_at k.cabin m.minute) m.minute (moment_of s q) round t
 
     pub one-adds : DriverFirst s q.at Driver log → AddsFaults o done s log (told_values u v).log (round_faults (present_at k.cabin m.minute) (moment_of s q) round t.keeper.cabin) e
@@ -441,7 +441,7 @@ module _ (o : Origin) (done : List TraceSecond) (s : TraceSecond) (q : Point) (b
       follows = follows-after o done s q b os first last k m t log w.standing new slate h.past over round failed low-here few-here is (two m.minute) broken more origin begins small e known g.well g.numbers g.follows;
     }
 
-  pub record Added (xs : List Done) (tail : List Minute) (t : Told) (w : Carried) : Type 0 where
+  pub record Added (xs : List Done) (tail : List Minute) (t : KeepingState) (w : RunLedger) : Type 0 where
     pub faults : AddsFaults o done s (told_values t v).log (told_values (told_by k (moment_of s q) xs t) v).log (faults_of k (moment_of s q) xs t) e
     pub ds_now : List Minute
     pub new_now : List HistoryMinute
@@ -450,7 +450,7 @@ module _ (o : Origin) (done : List TraceSecond) (s : TraceSecond) (q : Point) (b
     pub known_ : Known (told_by k (moment_of s q) xs t)
     pub once : IsOnce s q.at (told_values (told_by k (moment_of s q) xs t) v).log (length tail)
 
-  pub all-adds : (xs : List Done) (tail : List Minute) (t : Told) (w : Carried) (ds : List Minute) (new : List HistoryMinute) (from : ℕ) → SoFar o done s q b os first last k sp v marks0 c0 brought t w ds (map (λ (x : Done). x.minute) xs ++ tail) new from →
+  pub all-adds : (xs : List Done) (tail : List Minute) (t : KeepingState) (w : RunLedger) (ds : List Minute) (new : List HistoryMinute) (from : ℕ) → SoFar o done s q b os first last k sp v marks0 c0 brought t w ds (map (λ (x : Done). x.minute) xs ++ tail) new from →
       AreRounds k (moment_of s q) xs t → HaveBroken k xs first last → Known t → IsOnce s q.at (told_values t v).log (length (map (λ (x : Done). x.minute) xs ++ tail)) → Added xs tail t w
   all-adds [] tail t w ds new from h rounds broken g once = record {
     faults = none-added o done s (told_values t v).log (told_values t v).log e refl;
@@ -464,7 +464,7 @@ module _ (o : Origin) (done : List TraceSecond) (s : TraceSecond) (q : Point) (b
   all-adds (x ∷ xs) tail t w ds new from h rounds broken g once =
       let m = x.minute in
       let rest : List Minute = map (λ (y : Done). y.minute) xs ++ tail in
-      let u : Told = told_after (present_at k.cabin m.minute) m.minute (moment_of s q) x.round t in
+      let u : KeepingState = told_after (present_at k.cabin m.minute) m.minute (moment_of s q) x.round t in
       let one = one-on o done s q b os first last k sp v marks0 c0 brought few two m rest x.round false t w ds new from h rounds.0 broken.0 broken.1 in
       let adds = one-adds m rest x.round false t w ds new from h rounds.0 broken.0 broken.1 g (once-first s q.at (told_values t v).log (length rest) once) in
       let end = all-adds xs tail u (carried_after (present_at k.cabin m.minute) (decided_minute k m) x.round w) (ds ++ m ∷ []) (new ++ decided_minute k m ∷ []) (suc from) one rounds.1 broken.2
@@ -497,11 +497,11 @@ untold-once s (In n) log cabin all h = tt
 untold-once s Keeping log cabin all h = (h.0, λ more. h.1)
 
 -- it came so far
-abbrev pub HasCome : List Minute → KeepingAt → (t u : Told) → Reach → Type 0
+abbrev pub HasCome : List Minute → KeepingAt → (t u : KeepingState) → Reach → Type 0
 HasCome all at t u (Whole xs) = IsReach all at false t u (Whole xs)
 HasCome all at t u (Short xs m round) = IsReach all at true t u (Short xs m round)
 
-module _ (d e : Devices) (o : Origin) (origin : IsOrigin o) (done : List TraceSecond) (s : TraceSecond) (q : Point) (all : List Minute) (t u : Told) (v : Values) (w : InRounds o done s q all t v d) (keeps : KeepsSo o done s q all t v d e w) (small : s.number < 2 ^ 32)
+module _ (d e : Devices) (o : Origin) (origin : IsOrigin o) (done : List TraceSecond) (s : TraceSecond) (q : Point) (all : List Minute) (t u : KeepingState) (v : Values) (w : InRounds o done s q all t v d) (keeps : KeepsSo o done s q all t v d e w) (small : s.number < 2 ^ 32)
     (well : AllSitWell t.keeper.cabin) (untold : IsUntoldAt s q.at (told_values t v).log t.keeper.cabin all) (off : HaveBrokenOff t u d e) where
   abbrev os : Outset
   os = outset o done s q all t v d w
@@ -525,27 +525,27 @@ module _ (d e : Devices) (o : Origin) (origin : IsOrigin o) (done : List TraceSe
       (subst (λ (ms : List Minute). SoFar o done s q w.b os (breakdowns_of d) (breakdowns_of e) t.keeper w.sp v t.marks.items (course_in w.b done s q.at at_now) w.brought t (carried_at o done s q all t v d w) w.ds ms w.new w.from) split (begun-so o done s q all t v d w e keeps))
       rounds broken start-known (subst (λ (ms : List Minute). IsOnce s q.at at_now (length ms)) split (untold-once s q.at at_now t.keeper.cabin all untold))
 
-  gone-to : (y : Told) → u ≡ y → AreGone t.keeper.cabin.cards y.keeper.cabin.cards (breakdowns_of d) (breakdowns_of e)
-  gone-to y is = subst (λ (x : Told). AreGone t.keeper.cabin.cards x.keeper.cabin.cards (breakdowns_of d) (breakdowns_of e)) is (gone-cards t u d e off)
+  gone-to : (y : KeepingState) → u ≡ y → AreGone t.keeper.cabin.cards y.keeper.cabin.cards (breakdowns_of d) (breakdowns_of e)
+  gone-to y is = subst (λ (x : KeepingState). AreGone t.keeper.cabin.cards x.keeper.cabin.cards (breakdowns_of d) (breakdowns_of e)) is (gone-cards t u d e off)
 
-  at-end : (y : Told) (vs : List UnitEvent) → u ≡ y → AddsFaults o done s at_now (told_values y v).log vs e → AddsFaults o done s at_now (told_values u v).log vs e
-  at-end y vs is = subst (λ (x : Told). AddsFaults o done s at_now (told_values x v).log vs e) (sym is)
+  at-end : (y : KeepingState) (vs : List UnitEvent) → u ≡ y → AddsFaults o done s at_now (told_values y v).log vs e → AddsFaults o done s at_now (told_values u v).log vs e
+  at-end y vs is = subst (λ (x : KeepingState). AddsFaults o done s at_now (told_values x v).log vs e) (sym is)
 
   pub keeping-adds : (reach : Reach) → HasCome all (moment_of s q) t u reach → AddsFaults o done s at_now (told_values u v).log (faults_to t.keeper (moment_of s q) reach t) e
   keeping-adds (Whole xs) is =
-      let end : Told = told_by t.keeper (moment_of s q) xs t in
+      let end : KeepingState = told_by t.keeper (moment_of s q) xs t in
       at-end end (faults_of t.keeper (moment_of s q) xs t) is.2
       (added xs [] (is.0 ∙ sym (append-nil (map (λ (x : Done). x.minute) xs))) is.1 (cards-broken t.keeper (moment_of s q) xs t (breakdowns_of d) (breakdowns_of e) is.1 (gone-to end is.2))).faults
   keeping-adds (Short xs m None) is =
-      let end : Told = told_by t.keeper (moment_of s q) xs t in
+      let end : KeepingState = told_by t.keeper (moment_of s q) xs t in
       let vs : List UnitEvent = faults_of t.keeper (moment_of s q) xs t in
       at-end end (vs ++ []) is.2
       (both-added o done s at_now (told_values end v).log (told_values end v).log vs [] e
       (added xs (m ∷ is.0.0) is.0.1 is.1 (cards-broken t.keeper (moment_of s q) xs t (breakdowns_of d) (breakdowns_of e) is.1 (gone-to end is.2))).faults
       (none-added o done s (told_values end v).log (told_values end v).log e refl))
   keeping-adds (Short xs m (Some round)) is =
-      let mid : Told = told_by t.keeper (moment_of s q) xs t in
-      let end : Told = told_after (present_at t.keeper.cabin m.minute) m.minute (moment_of s q) round mid in
+      let mid : KeepingState = told_by t.keeper (moment_of s q) xs t in
+      let end : KeepingState = told_after (present_at t.keeper.cabin m.minute) m.minute (moment_of s q) round mid in
       let both = cards-broken_last t.keeper (moment_of s q) xs m round t (breakdowns_of d) (breakdowns_of e) is.1 is.2.0 (gone-to end is.2.1) in
       let a = added xs (m ∷ is.0.0) is.0.1 is.1 both.0 in
       at-end end (faults_of t.keeper (moment_of s q) xs t ++ round_faults (present_at t.keeper.cabin m.minute) (moment_of s q) round mid.keeper.cabin) is.2.1
@@ -554,16 +554,16 @@ module _ (d e : Devices) (o : Origin) (origin : IsOrigin o) (done : List TraceSe
       a.so is.2.0 both.1.0 both.1.1 a.known_ (once-first s q.at (told_values mid v).log (length is.0.0) a.once)))
 
   -- THE MOMENT that it has reached by then
-  pub record MomentThen (y : Told) : Type 0 where
+  pub record MomentThen (y : KeepingState) : Type 0 where
     pub now : Device → ℕ
     pub moment : Moment w.b.run (went w.b.run.log done).before s q.at (told_values y v).log q.waits w.b.broken now
     pub rise : IsMore now (breakdowns_of e)
 
   -- how often each device has broken down by then
-  rise-at : (y : Told) (now : Device → ℕ) → u ≡ y → now Recorder ≤ breakdowns_of e Recorder → ((c : Card) → StandsOrFell t.keeper.cabin.cards y.keeper.cabin.cards (breakdowns_of d) (breakdowns_of e) now c) → IsMore now (breakdowns_of e)
-  rise-at y now is rise fell = fell-more t.keeper.cabin.cards y.keeper.cabin.cards d e now rise fell (subst (λ (x : Told). RestBy t.keeper.cabin.cards x.keeper.cabin.cards d e) is off.rests)
+  rise-at : (y : KeepingState) (now : Device → ℕ) → u ≡ y → now Recorder ≤ breakdowns_of e Recorder → ((c : Card) → StandsOrFell t.keeper.cabin.cards y.keeper.cabin.cards (breakdowns_of d) (breakdowns_of e) now c) → IsMore now (breakdowns_of e)
+  rise-at y now is rise fell = fell-more t.keeper.cabin.cards y.keeper.cabin.cards d e now rise fell (subst (λ (x : KeepingState). RestBy t.keeper.cabin.cards x.keeper.cabin.cards d e) is off.rests)
 
-  moment-at : (y : Told) → u ≡ y → MomentThen y → MomentThen u
+  moment-at : (y : KeepingState) → u ≡ y → MomentThen y → MomentThen u
   moment-at y is = subst MomentThen (sym is)
 
   pub keeping-moment : (reach : Reach) → HasCome all (moment_of s q) t u reach → MomentThen u
@@ -574,8 +574,8 @@ module _ (d e : Devices) (o : Origin) (origin : IsOrigin o) (done : List TraceSe
       let a = (added xs (m ∷ is.0.0) is.0.1 is.1 (cards-broken t.keeper (moment_of s q) xs t (breakdowns_of d) (breakdowns_of e) is.1 (gone-to (told_by t.keeper (moment_of s q) xs t) is.2))).so.slate in
       moment-at (told_by t.keeper (moment_of s q) xs t) is.2 (record { now = a.now; moment = a.moment; rise = rise-at (told_by t.keeper (moment_of s q) xs t) a.now is.2 a.rise a.fell })
   keeping-moment (Short xs m (Some round)) is =
-      let mid : Told = told_by t.keeper (moment_of s q) xs t in
-      let end : Told = told_after (present_at t.keeper.cabin m.minute) m.minute (moment_of s q) round mid in
+      let mid : KeepingState = told_by t.keeper (moment_of s q) xs t in
+      let end : KeepingState = told_after (present_at t.keeper.cabin m.minute) m.minute (moment_of s q) round mid in
       let both = cards-broken_last t.keeper (moment_of s q) xs m round t (breakdowns_of d) (breakdowns_of e) is.1 is.2.0 (gone-to end is.2.1) in
       let a = added xs (m ∷ is.0.0) is.0.1 is.1 both.0 in
       let one = (one-on o done s q w.b os (breakdowns_of d) (breakdowns_of e) t.keeper w.sp v t.marks.items (course_in w.b done s q.at at_now) w.brought keeps.few keeps.two m is.0.0 round true mid (carried_by t.keeper xs (carried_at o done s q all t v d w)) a.ds_now a.new_now a.from_now

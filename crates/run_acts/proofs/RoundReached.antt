@@ -16,14 +16,14 @@ use Rattle.history_model.specs.Book.{Book, kept}
 use Rattle.run_unit_course.specs.Legs.{all_travelled}
 use Rattle.card_slots.specs.declared.seats.Present.{Present}
 use Rattle.run_crew.specs.Cabin.{AreTwo}
-use Rattle.run_promise.specs.Between.{Carried}
+use Rattle.run_promise.specs.Between.{RunLedger}
 use Rattle.run_course.specs.Seconds.{kept_all}
 use Rattle.run_course.specs.Kept.{HasDecided, AreMarkedSoFar}
 use Rattle.run_course.proofs.Kept.{minute-kept, nothing-else, one-travelled}
 use Rattle.run_promise.specs.Origin.{Origin, rule_of, start_at}
 use Rattle.run_minutes.specs.declared.keeper.Keeper.{Keeper}
 use Rattle.run_minutes.specs.Keeping.{cabin_by, session_at, kept_in, IsFateOf}
-use Rattle.run_minutes.specs.Minutes.{Round, IsRound, Told, Done, AreRounds, told_after, told_by, present_at, minute_of}
+use Rattle.run_minutes.specs.Minutes.{Round, IsRound, KeepingState, Done, AreRounds, told_after, told_by, present_at, minute_of}
 use Rattle.run_minutes.specs.Books.{carried_after}
 use Rattle.run_minutes.specs.Decided.{decided_minute, carried_by}
 use Rattle.run_record.specs.Recorded.{Values}
@@ -48,7 +48,7 @@ first-number m rest from is =
 module _ (o : Origin) (done : List TraceSecond) (s : TraceSecond) (q : Point) (b : Beginning) (os : Outset) (first last : Device → ℕ) (k : Keeper) (sp : Span) (v : Values) (marks0 : List Mark) (c0 : Course) (brought : Card → List ℕ)
     (few : s.number / 60 ≤ os.low + 4) (two : (m : ℕ) → AreTwo (present_at k.cabin m).driver (present_at k.cabin m).codriver) where
   -- ONE ROUND
-  module _ (m : Minute) (rest : List Minute) (round : Round) (failed : Bool) (t : Told) (w : Carried) (ds : List Minute) (new : List HistoryMinute) (from : ℕ)
+  module _ (m : Minute) (rest : List Minute) (round : Round) (failed : Bool) (t : KeepingState) (w : RunLedger) (ds : List Minute) (new : List HistoryMinute) (from : ℕ)
       (h : SoFar o done s q b os first last k sp v marks0 c0 brought t w ds (m ∷ rest) new from) (is : IsRound (present_at k.cabin m.minute) (minute_of m k) (moment_of s q) failed t.keeper round)
       (broken : HasBrokenDown round.driver (present_at k.cabin m.minute).driver first last) (more : HasBrokenDown round.codriver (present_at k.cabin m.minute).codriver first last) where
     abbrev p : Present
@@ -63,13 +63,13 @@ module _ (o : Origin) (done : List TraceSecond) (s : TraceSecond) (q : Point) (b
     abbrev i : HistoryMinute
     i = seated (start_at o) (told_before b done) (b.run.book.sure ++ new) m
 
-    abbrev u : Told
+    abbrev u : KeepingState
     u = told_after p m.minute (moment_of s q) round t
 
     abbrev d : Course
     d = course_in b done s q.at (told_values u v).log
 
-    abbrev x : Carried
+    abbrev x : RunLedger
     x = carried_after p (decided_minute k m) round w
 
     here : m.minute ≡ from
@@ -131,7 +131,7 @@ module _ (o : Origin) (done : List TraceSecond) (s : TraceSecond) (q : Point) (b
         (round-marked o done s q b os first last k m t log w.standing new slate h.past over round failed low-here few-here is (two m.minute) broken more asked old)
 
   -- SOME ROUNDS, in none of which the unit failed
-  pub record Through (xs : List Done) (tail : List Minute) (t : Told) (w : Carried) (ds : List Minute) (new : List HistoryMinute) (from : ℕ) : Type 0 where
+  pub record Through (xs : List Done) (tail : List Minute) (t : KeepingState) (w : RunLedger) (ds : List Minute) (new : List HistoryMinute) (from : ℕ) : Type 0 where
     pub ds_now : List Minute
     pub new_now : List HistoryMinute
     pub from_now : ℕ
@@ -141,11 +141,11 @@ module _ (o : Origin) (done : List TraceSecond) (s : TraceSecond) (q : Point) (b
     pub none : s.number / 60 ≤ from → (new_now ≡ new) × (from_now ≡ from)
     pub count : from_now ≡ from + length xs
 
-  asked-by : (m : Minute) (round : Round) (t : Told) → IsRound (present_at k.cabin m.minute) (minute_of m k) (moment_of s q) false t.keeper round →
+  asked-by : (m : Minute) (round : Round) (t : KeepingState) → IsRound (present_at k.cabin m.minute) (minute_of m k) (moment_of s q) false t.keeper round →
       IsFateOf (session_at (cabin_by round.driver (present_at k.cabin m.minute).driver s.number t.keeper.cabin).cards (present_at k.cabin m.minute).codriver) (kept_in (minute_of m k) CoDriver) round.codriver
   asked-by m round t is = ⊎_elim (λ off. let clash : false ≡ true = off.unit_failed in absurd (cc)) (λ f. f) is.codriver
 
-  pub all-on : (xs : List Done) (tail : List Minute) (t : Told) (w : Carried) (ds : List Minute) (new : List HistoryMinute) (from : ℕ) → SoFar o done s q b os first last k sp v marks0 c0 brought t w ds (map (λ (x : Done). x.minute) xs ++ tail) new from →
+  pub all-on : (xs : List Done) (tail : List Minute) (t : KeepingState) (w : RunLedger) (ds : List Minute) (new : List HistoryMinute) (from : ℕ) → SoFar o done s q b os first last k sp v marks0 c0 brought t w ds (map (λ (x : Done). x.minute) xs ++ tail) new from →
       AreMarkedSoFar t.marks.items (told_before b done) (course_in b done s q.at (told_values t v).log) s.number new → AreRounds k (moment_of s q) xs t → HaveBroken k xs first last → Through xs tail t w ds new from
   all-on [] tail t w ds new from h marked rounds broken = record { ds_now = ds; new_now = new; from_now = from; so = h; marked = marked; travel = refl; none = λ late. (refl, refl); count = omega arith }
   all-on (x ∷ xs) tail t w ds new from h marked rounds broken =

@@ -17,16 +17,16 @@ use Rattle.safety_model.specs.Safe.{Devices, card_of, breakdowns_of}
 use Rattle.card_slots.specs.Kept.{Kept as Slate_, left_of}
 use Rattle.run_crew.specs.declared.cabin.Cabin.{Cabin}
 use Rattle.run_promise.specs.Found.{found_of}
-use Rattle.run_promise.specs.Between.{Carried}
+use Rattle.run_promise.specs.Between.{RunLedger}
 use Rattle.run_course.specs.Seconds.{kept_all}
 use Rattle.run_promise.specs.Going.{IsTakenAt}
 use Rattle.run_course.specs.Lines.{times_of}
 use Rattle.run_course.proofs.Telling.{breakdowns-only}
-use Rattle.run_devices.specs.Told.{IsPowered}
+use Rattle.run_devices.specs.Told.{DevicesPowered}
 use Rattle.run_promise.specs.Origin.{Origin, first_of}
 use Rattle.run_promise.specs.Ends.{AreVerdicts}
 use Rattle.run_promise.proofs.Beside.{kept-later}
-use Rattle.run_minutes.specs.Minutes.{Told, Done, AreRounds, told_by}
+use Rattle.run_minutes.specs.Minutes.{KeepingState, Done, AreRounds, told_by}
 use Rattle.run_minutes.specs.Books.{AreBooked}
 use Rattle.run_minutes.specs.Decided.{carried_by}
 use Rattle.run_record.specs.Recorded.{Values, carried, GoesOnIn}
@@ -54,7 +54,7 @@ leaving-later log before s at low high next end cabin slot card le same h = reco
   codriver = λ m p from there. h.codriver m p (omega (arith, le, from)) there;
 }
 
-module _ (o : Origin) (done : List TraceSecond) (s : TraceSecond) (q : Point) (all : List Minute) (t : Told) (v : Values) (d e : Devices) (w : InRounds o done s q all t v d) (k : KeepsSo o done s q all t v d e w) where
+module _ (o : Origin) (done : List TraceSecond) (s : TraceSecond) (q : Point) (all : List Minute) (t : KeepingState) (v : Values) (d e : Devices) (w : InRounds o done s q all t v d) (k : KeepsSo o done s q all t v d e w) where
   abbrev c : Course
   c = course_in w.b done s q.at (told_values t v).log
 
@@ -103,10 +103,10 @@ module _ (o : Origin) (done : List TraceSecond) (s : TraceSecond) (q : Point) (a
       (spared-called o w.b done c q.waits s.number t.keeper.cabin.slots t.keeper.cabin.cards d e w.written k.goes.untouched card (w.spared card))
 
   module _ (xs : List Done) (rest : List Minute) (split : all ≡ map (λ (x : Done). x.minute) xs ++ rest) (rounds : AreRounds t.keeper (moment_of s q) xs t) (broken : HaveBroken t.keeper xs (breakdowns_of d) (breakdowns_of e)) where
-    abbrev Carried_ : Carried
+    abbrev Carried_ : RunLedger
     Carried_ = carried_by t.keeper xs (carried_at o done s q all t v d w)
 
-    abbrev u : Told
+    abbrev u : KeepingState
     u = told_by t.keeper (moment_of s q) xs t
 
     pub through : Through o done s q w.b (outset o done s q all t v d w) (breakdowns_of d) (breakdowns_of e) t.keeper w.sp v t.marks.items c w.brought k.few k.two xs rest t (carried_at o done s q all t v d w) w.ds w.new w.from
@@ -142,8 +142,8 @@ module _ (o : Origin) (done : List TraceSecond) (s : TraceSecond) (q : Point) (a
             due = Carried_.due;
             standing = Carried_.standing;
             brought = Carried_.brought;
-            powered = subst (λ (bk : Book). IsPowered o.found (carried (told_values u v) Carried_.due bk Carried_.standing Carried_.brought) u.keeper.cabin.cards e) so.book
-                (subst (λ (ms : List Mark). IsPowered o.found (record Carried_ { marks = ms }) u.keeper.cabin.cards e) booked.told booked.powered);
+            powered = subst (λ (bk : Book). DevicesPowered o.found (carried (told_values u v) Carried_.due bk Carried_.standing Carried_.brought) u.keeper.cabin.cards e) so.book
+                (subst (λ (ms : List Mark). DevicesPowered o.found (record Carried_ { marks = ms }) u.keeper.cabin.cards e) booked.told booked.powered);
             found = booked.found;
             early = booked.early;
             late = so.due;

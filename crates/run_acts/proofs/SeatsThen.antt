@@ -9,7 +9,7 @@ use Rattle.card_slots.specs.declared.seats.Seat.{Seat}
 use Rattle.card_slots.specs.Calls.{Seats, seat_in, with_seat, card_in, is_card}
 use Rattle.run_crew.specs.declared.cabin.Cabin.{Cabin}
 use Rattle.run_crew.specs.Cards.{session_of}
-use Rattle.run_crew.specs.Cabin.{SitsThere, SitsNowhere, Stands, left_from, torn_out}
+use Rattle.run_crew.specs.Cabin.{SitsThere, SitsNowhere, CabinIsSound, left_from, torn_out}
 use Rattle.run_acts.specs.Stays.{sits_in}
 
 or-first : (a b : Bool) → a ≡ true → (a || b) ≡ true
@@ -56,7 +56,7 @@ pub sits-in-one : (seats : Seats) (c : Card) → SitsThere seats c → sits_in s
 sits-in-one seats c there = ⊎_elim (λ driver. or-first (is_card seats.driver c) (is_card seats.codriver c) driver) (λ codriver. or-second (is_card seats.driver c) (is_card seats.codriver c) codriver) there
 
 -- so does each that has a session, where none is leaving
-pub stands-seated : (low : ℕ) (cabin : Cabin) → Stands low None cabin → (c : Card) → is_some (session_of cabin.cards c) ≡ true → sits_in cabin.slots.seats c ≡ true
+pub stands-seated : (low : ℕ) (cabin : Cabin) → CabinIsSound low None cabin → (c : Card) → is_some (session_of cabin.cards c) ≡ true → sits_in cabin.slots.seats c ≡ true
 stands-seated low cabin stands c some =
     ⊎_elim (λ there. sits-in-one cabin.slots.seats c there) (λ leaving. absurd (let wrong : None ≡ Some c = leaving in cc)) (stands.only c some)
 

@@ -7,10 +7,10 @@ use Rattle.minute_model.specs.declared.Minute.{Minute}
 use Rattle.minute_model.specs.Span.{ungiven_of, settled, decided_in}
 use Rattle.minute_model.proofs.Counted.{settled-more, ungiven-settled, ungiven-most}
 use Rattle.run_acts.specs.declared.run.Run.{Run}
-use Rattle.run_acts.specs.Going.{end_of_seconds, IsGoingOn}
+use Rattle.run_acts.specs.Going.{end_of_seconds, RunHasPower}
 use Rattle.run_acts.proofs.Due.{Decides, decides}
 
-module _ {U A0 B0 : State} {chip_a chip_b : CardState} (leaving : Option Card) (to : ℕ) (run : Run) (g : IsGoingOn leaving to run U chip_a chip_b A0 B0) where
+module _ {U A0 B0 : State} {chip_a chip_b : CardState} (leaving : Option Card) (to : ℕ) (run : Run) (g : RunHasPower leaving to run U chip_a chip_b A0 B0) where
   pub settled-ungiven : ungiven_of (settled g.span) ≡ run.next / 60
   settled-ungiven = ungiven-settled g.span g.stands.settled ∙ ap (λ (n : ℕ). n / 60) g.next
 

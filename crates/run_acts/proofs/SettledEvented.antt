@@ -6,7 +6,7 @@ use Rattle.card_layout.specs.declared.command.CardState.{CardState}
 use Rattle.tach_media.specs.Medium.{State, IsCoherent}
 use Rattle.minute_model.specs.declared.Minute.{Minute}
 use Rattle.minute_model.specs.Span.{decided_in, settled, ungiven_of}
-use Rattle.minute_rules.specs.Kept.{Kept, StandsFor}
+use Rattle.minute_rules.specs.Kept.{Kept, CountsSpan}
 use Rattle.log_model.specs.declared.lines.Break.{Break}
 use Rattle.log_model.specs.declared.lines.Mark.{Mark}
 use Rattle.log_model.specs.Log.{In}
@@ -26,12 +26,12 @@ use Rattle.run_minutes.specs.declared.keeper.Keeper.{Keeper}
 use Rattle.run_minutes.specs.declared.keeper.Moment.{Moment}
 use Rattle.run_minutes.specs.Books.{HaveTime}
 use Rattle.run_minutes.specs.Decided.{BooksAll}
-use Rattle.run_minutes.specs.Minutes.{Told, Reach, Whole, Short, IsReach}
+use Rattle.run_minutes.specs.Minutes.{KeepingState, Reach, Whole, Short, IsReach}
 use Rattle.run_minutes.specs.Faults.{faults_to, NotesFaults}
 use Rattle.run_record.specs.Recorded.{Values}
 use Rattle.run_acts.specs.declared.run.Run.{Run}
 use Rattle.run_acts.specs.Acting.{told_of}
-use Rattle.run_acts.specs.Going.{end_of_seconds, IsGoingOn}
+use Rattle.run_acts.specs.Going.{end_of_seconds, RunHasPower}
 use Rattle.run_acts.specs.Devices.{DevicesGoOn}
 use Rattle.run_acts.specs.Recording.{log_of, values_of, RunWithin}
 use Rattle.run_acts.specs.Rounds.{Point, moment_of, settling_at}
@@ -45,7 +45,7 @@ use Rattle.run_acts.proofs.GoesOn.{unit-rose}
 use Rattle.run_acts.proofs.RoundFaults.{AddsFaults, HasCome, keeping-adds, keeping-cuts, keeping-notes}
 use Rattle.run_acts.proofs.SettledRecorded.{keeps, number, booked}
 
-has-come : (all : List Minute) (at : Moment) (failed : Bool) (t u : Told) (reach : Reach) → IsReach all at failed t u reach → HasCome all at t u reach
+has-come : (all : List Minute) (at : Moment) (failed : Bool) (t u : KeepingState) (reach : Reach) → IsReach all at failed t u reach → HasCome all at t u reach
 has-come all at false t u (Whole xs) is = is
 has-come all at false t u (Short xs m round) is = absurd is
 has-come all at true t u (Whole xs) is = absurd is
@@ -53,7 +53,7 @@ has-come all at true t u (Short xs m round) is = is
 
 -- A SETTLING
 module _ {U A0 B0 : State} {chip_a chip_b : CardState} (old : Run) (before : Outcome) (minutes : Kept) (keeper : Keeper) (marks : Listed Mark) (breaks : Listed Break) (at : Moment) (failed : Bool) (decided : List Minute) (d e : Devices)
-    (leaving : Option Card) (g : IsGoingOn leaving (old.next / 60) old U chip_a chip_b A0 B0) (small : old.next ≤ end_of_seconds) (stands : StandsFor minutes (settled g.span)) (given : decided_in (settled g.span) ≡ decided_in g.span ++ decided)
+    (leaving : Option Card) (g : RunHasPower leaving (old.next / 60) old U chip_a chip_b A0 B0) (small : old.next ≤ end_of_seconds) (stands : CountsSpan minutes (settled g.span)) (given : decided_in (settled g.span) ≡ decided_in g.span ++ decided)
     (odometer : keeper.odometer ≡ old.keeper.odometer) (reach : Reach)
     (is : IsReach decided at failed (told_of old before) (told_of (record old { minutes = minutes; keeper = keeper }) (record before { marks = marks; breaks = breaks })) reach)
     (books : BooksAll decided failed reach (told_of old before) (told_of (record old { minutes = minutes; keeper = keeper }) (record before { marks = marks; breaks = breaks })) d e)

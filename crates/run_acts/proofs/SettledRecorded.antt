@@ -8,7 +8,7 @@ use Rattle.card_layout.specs.declared.command.CardState.{CardState}
 use Rattle.minute_model.specs.declared.Minute.{Minute}
 use Rattle.minute_model.specs.Span.{Span, end_of, settled, decided_in, ungiven_of}
 use Rattle.minute_model.proofs.Counted.{ungiven-most}
-use Rattle.minute_rules.specs.Kept.{Kept, StandsFor, kept_of}
+use Rattle.minute_rules.specs.Kept.{Kept, CountsSpan, kept_of}
 use Rattle.log_model.specs.declared.lines.Break.{Break}
 use Rattle.log_model.specs.declared.lines.Mark.{Mark}
 use Rattle.log_model.specs.Log.{In}
@@ -21,12 +21,12 @@ use Rattle.run_unit_course.proofs.Legs.{travelled-earlier}
 use Rattle.unit_model.specs.Image.{odometer_at}
 use Rattle.unit_rule.specs.Odometer.{odometer_after}
 use Rattle.run_crew.specs.declared.cabin.Cabin.{Cabin}
-use Rattle.run_crew.specs.Cabin.{AreTwo, EndedStands, Stands}
+use Rattle.run_crew.specs.Cabin.{AreTwo, EndedStands, CabinIsSound}
 use Rattle.run_outcome.specs.Lines.{Listed}
 use Rattle.run_outcome.specs.declared.outcome.Outcome.{Outcome}
 use Rattle.run_promise.specs.Origin.{Origin}
 use Rattle.run_record.specs.Recorded.{Values}
-use Rattle.run_record.specs.Within.{Beginning, Within, CutWithin}
+use Rattle.run_record.specs.Within.{Beginning, RecordInSecond, RecordAtFailure}
 use Rattle.run_minutes.specs.declared.keeper.Keeper.{Keeper}
 use Rattle.run_minutes.specs.declared.keeper.Moment.{Moment}
 use Rattle.run_minutes.specs.Minutes.{Reach, IsReach, or_nobody, present_at}
@@ -41,7 +41,7 @@ use Rattle.run_acts.proofs.RoundKept.{keeping-recorded}
 use Rattle.run_acts.specs.declared.run.Run.{Run}
 use Rattle.run_acts.specs.Acting.{told_of}
 use Rattle.run_acts.specs.Devices.{DevicesGoOn}
-use Rattle.run_acts.specs.Going.{end_of_seconds, IsGoingOn}
+use Rattle.run_acts.specs.Going.{end_of_seconds, RunHasPower}
 use Rattle.run_acts.specs.Recording.{log_of, values_of, RunWithin}
 use Rattle.run_acts.specs.Settling.{settled_run, SettlesTo}
 use Rattle.run_acts.proofs.GoesOn.{goes-on, unit-rose}
@@ -57,7 +57,7 @@ use Rattle.run_acts.proofs.WholeLegs.{kepts-now}
 use Rattle.run_acts.proofs.TruthsThen.{began-none}
 
 -- ---- two spans for which the same minutes stand
-pub same-ungiven : (minutes : Kept) (a b : Span) → StandsFor minutes a → StandsFor minutes b → ungiven_of a ≡ ungiven_of b
+pub same-ungiven : (minutes : Kept) (a b : Span) → CountsSpan minutes a → CountsSpan minutes b → ungiven_of a ≡ ungiven_of b
 same-ungiven minutes a b x y =
     let same : kept_of a ≡ kept_of b = sym x.kept ∙ y.kept in
     let next : end_of a ≡ end_of b = ap (λ (k : Kept). k.next) same in
@@ -75,7 +75,7 @@ two-in from before cabin (e ∷ past) m all = by (two-in from before cabin past 
     by rest true is = rw is (All-head (EndedStands from before cabin.cards) e past all).apart
     by rest false is = rw is rest
 
-pub two-present : (from : ℕ) (leaving : Option Card) (cabin : Cabin) → Stands from leaving cabin → (m : ℕ) → AreTwo (present_at cabin m).driver (present_at cabin m).codriver
+pub two-present : (from : ℕ) (leaving : Option Card) (cabin : Cabin) → CabinIsSound from leaving cabin → (m : ℕ) → AreTwo (present_at cabin m).driver (present_at cabin m).codriver
 two-present from leaving cabin h m = two-in from cabin.slots.minute cabin cabin.slots.past m h.past
 
 in-point : (s : TraceSecond) (n : ℕ) (waits : List Visit) → 0 < n → n ≤ length s.actions → IsPoint s (settling_at n waits)
@@ -83,7 +83,7 @@ in-point s n waits some few = record { phase = refl; acted = λ is. (let none : 
 
 -- ---- A SETTLING
 module _ {U A0 B0 : State} {chip_a chip_b : CardState} (old : Run) (before : Outcome) (minutes : Kept) (keeper : Keeper) (marks : Listed Mark) (breaks : Listed Break) (at : Moment) (failed : Bool) (decided : List Minute) (d e : Devices)
-    (leaving : Option Card) (g : IsGoingOn leaving (old.next / 60) old U chip_a chip_b A0 B0) (small : old.next ≤ end_of_seconds) (stands : StandsFor minutes (settled g.span)) (given : decided_in (settled g.span) ≡ decided_in g.span ++ decided)
+    (leaving : Option Card) (g : RunHasPower leaving (old.next / 60) old U chip_a chip_b A0 B0) (small : old.next ≤ end_of_seconds) (stands : CountsSpan minutes (settled g.span)) (given : decided_in (settled g.span) ≡ decided_in g.span ++ decided)
     (odometer : keeper.odometer ≡ old.keeper.odometer) (reach : Reach) where
   abbrev new : Run
   new = record old { minutes = minutes; keeper = keeper }
@@ -100,7 +100,7 @@ module _ {U A0 B0 : State} {chip_a chip_b : CardState} (old : Run) (before : Out
     abbrev v : Values
     v = values_of (settled_run minutes old) before
 
-    abbrev w : Within o done s (In n) waits None decided v d
+    abbrev w : RecordInSecond o done s (In n) waits None decided v d
     w = r.within
 
     pub number : s.number ≡ old.next
@@ -173,8 +173,8 @@ module _ {U A0 B0 : State} {chip_a chip_b : CardState} (old : Run) (before : Out
 
     so : TellMore [] d.unit e.unit → (f : Bool) → failed ≡ f → IsKeptTo f o done s q decided (told_of old before) (told_of new after) v d e w → SettlesTo f o done s (In n) waits w.b w.from (w.from + length decided) old new before after e
     so go false well k =
-        subst (λ (m : ℕ). (x : Within o done s (In n) waits None [] (record (values_of new after) { odometer = m }) e) → x.b ≡ w.b → x.from ≡ w.from + length decided → SettlesTo false o done s (In n) waits w.b w.from (w.from + length decided) old new before after e) odometer
-        (λ (x : Within o done s (In n) waits None [] (values_of new after) e) (began : x.b ≡ w.b) (from : x.from ≡ w.from + length decided). record {
+        subst (λ (m : ℕ). (x : RecordInSecond o done s (In n) waits None [] (record (values_of new after) { odometer = m }) e) → x.b ≡ w.b → x.from ≡ w.from + length decided → SettlesTo false o done s (In n) waits w.b w.from (w.from + length decided) old new before after e) odometer
+        (λ (x : RecordInSecond o done s (In n) waits None [] (values_of new after) e) (began : x.b ≡ w.b) (from : x.from ≡ w.from + length decided). record {
           goes = record {
             origin = r.origin;
             lit = r.lit;
@@ -187,7 +187,7 @@ module _ {U A0 B0 : State} {chip_a chip_b : CardState} (old : Run) (before : Out
           quiet = quiet-so well;
           leave = λ slot card l some. leaving-later (log_of after) (went w.b.run.log done).before s (In n) w.from (w.from + length decided) (s.number / 60) (s.number / 60) keeper.cabin slot card (let to = end in omega (arith, to)) (sym end) (k.1 slot card l some);
         }) k.0.within k.0.began k.0.from
-    so go true bad k = subst (λ (m : ℕ). CutWithin o done s (In n) waits None (record (values_of new after) { odometer = m }) e) (sym odometer) k
+    so go true bad k = subst (λ (m : ℕ). RecordAtFailure o done s (In n) waits None (record (values_of new after) { odometer = m }) e) (sym odometer) k
 
     pub settling-so : TellMore [] d.unit e.unit → SettlesTo failed o done s (In n) waits w.b w.from (w.from + length decided) old new before after e
     settling-so go = so go failed refl kept

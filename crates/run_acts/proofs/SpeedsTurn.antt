@@ -21,7 +21,7 @@ use Rattle.run_speeds.specs.Spans.{speeds_of, speed_spans, blocks_by, is_sure_bl
 use Rattle.run_speeds.proofs.Spans.{on-last, grown, before-them, grown-then, last-grown, grown-blocks, as-speed, speeds-lit, speeds-dark}
 use Rattle.run_unit_course.specs.Lines.{cut_at}
 use Rattle.run_course.specs.Moments.{and_break}
-use Rattle.run_course.specs.Followed.{IsGoing, IsLost as HasLost}
+use Rattle.run_course.specs.Followed.{PowerGoesOn, IsLost as HasLost}
 use Rattle.run_course.proofs.Told.{going-power, lost-dark, dark-told, next-dark}
 use Rattle.run_outcome.specs.declared.outcome.Outcome.{Outcome}
 use Rattle.run_minutes.specs.declared.keeper.Moment.{Moment}
@@ -30,14 +30,14 @@ use Rattle.run_promise.specs.Origin.{Origin}
 use Rattle.run_note_record.proofs.SoFar.{failed-more}
 use Rattle.run_note_record.proofs.Bases.{failed-here}
 use Rattle.run_record.specs.Recorded.{Values}
-use Rattle.run_record.specs.Within.{Within}
+use Rattle.run_record.specs.Within.{RecordInSecond}
 use Rattle.run_record.specs.Turning.{last_of, before_last, IsTurned}
 use Rattle.run_record.proofs.Turning.{turn-ends}
 use Rattle.run_acts.specs.declared.run.Run.{Run}
 use Rattle.run_acts.specs.declared.run.Power.{Power}
 use Rattle.run_acts.specs.declared.run.Power.TheVariants.{Lit, Lost}
 use Rattle.run_acts.specs.Booked.{IsBookedTurn}
-use Rattle.run_acts.specs.Going.{end_of_seconds, IsGoingOn}
+use Rattle.run_acts.specs.Going.{end_of_seconds, RunHasPower}
 use Rattle.run_acts.specs.Power.{is_lit, passed}
 use Rattle.run_acts.specs.Recording.{log_of, values_of, IsNow, RunWithin, RunCut}
 use Rattle.run_acts.specs.Turning.{late_moment, told_of, cut_where, cut_breaks, IsLitTurn}
@@ -53,12 +53,12 @@ quiet number speed = record { number = number; has_power = true; speed = speed; 
 
 -- ---- QUIET SECONDS of a span that goes on
 
-pub grown-quiet : (j : ℕ) (log : RunLog) (front : List TraceSecond) (u speed : ℕ) (starts : Bool) (spans : List (List SpeedSecond)) (xs : List SpeedSecond) → ((i : ℕ) → IsGoing (went log (front ++ driven i u speed [])).before) → speed_spans log front ≡ grown starts spans xs →
+pub grown-quiet : (j : ℕ) (log : RunLog) (front : List TraceSecond) (u speed : ℕ) (starts : Bool) (spans : List (List SpeedSecond)) (xs : List SpeedSecond) → ((i : ℕ) → PowerGoesOn (went log (front ++ driven i u speed [])).before) → speed_spans log front ≡ grown starts spans xs →
     speed_spans log (front ++ driven j u speed []) ≡ grown starts spans (xs ++ at_speed u j speed)
 grown-quiet zero log front u speed starts spans xs goes is = ap (speed_spans log) (append-nil front) ∙ is ∙ ap (grown starts spans) (sym (append-nil xs))
 grown-quiet (suc j) log front u speed starts spans xs goes is =
     let x : TraceSecond = quiet u speed in
-    let now : IsGoing (went log front).before = subst (λ (ss : List TraceSecond). IsGoing (went log ss).before) (append-nil front) (goes zero) in
+    let now : PowerGoesOn (went log front).before = subst (λ (ss : List TraceSecond). PowerGoesOn (went log ss).before) (append-nil front) (goes zero) in
     let power : has_power (went log front).before x ≡ true = going-power (went log front).before x now refl in
     let one : speed_spans log (front ++ x ∷ []) ≡ grown starts spans (xs ++ as-speed x ∷ []) =
     speeds-lit log front x power
@@ -66,7 +66,7 @@ grown-quiet (suc j) log front u speed starts spans xs goes is =
     ∙ ap (λ (l : List (List SpeedSecond)). on-last l (as-speed x ∷ [])) is
     ∙ grown-then starts spans xs (as-speed x ∷ []) in
     ap (speed_spans log) (sym (append_assoc front (x ∷ []) (driven j (u + 1) speed [])))
-    ∙ grown-quiet j log (front ++ x ∷ []) (u + 1) speed starts spans (xs ++ as-speed x ∷ []) (λ i. subst (λ (ss : List TraceSecond). IsGoing (went log ss).before) (sym (append_assoc front (x ∷ []) (driven i (u + 1) speed []))) (goes (suc i))) one
+    ∙ grown-quiet j log (front ++ x ∷ []) (u + 1) speed starts spans (xs ++ as-speed x ∷ []) (λ i. subst (λ (ss : List TraceSecond). PowerGoesOn (went log ss).before) (sym (append_assoc front (x ∷ []) (driven i (u + 1) speed []))) (goes (suc i))) one
     ∙ ap (grown starts spans) (append_assoc xs (as-speed x ∷ []) (at_speed (u + 1) j speed))
 
 -- ---- DARK SECONDS behind a cut
@@ -127,7 +127,7 @@ lit-cut : (failed : Bool) (second : ℕ) (run : Run) → run.power ≡ Lit → n
 lit-cut true second run lit = refl
 lit-cut false second run lit = ap (λ (p : Power). not (is_lit p)) lit
 
-module _ {U A0 B0 : State} {chip_a chip_b : CardState} (n speed begun : ℕ) (old new : Run) (before after : Outcome) (d e : Devices) (g : IsGoingOn None (old.next / 60) old U chip_a chip_b A0 B0) (lit : old.power ≡ Lit) (some : 0 < n)
+module _ {U A0 B0 : State} {chip_a chip_b : CardState} (n speed begun : ℕ) (old new : Run) (before after : Outcome) (d e : Devices) (g : RunHasPower None (old.next / 60) old U chip_a chip_b A0 B0) (lit : old.power ≡ Lit) (some : 0 < n)
     (minute_ : old.next % 60 + n ≤ 60) (small : old.next + n ≤ end_of_seconds) (h : IsBookedTurn n speed begun old new before after d e) (brings : BringsBlock n speed (not (is_lit new.power)) old new d.unit e.unit) where
   abbrev T : IsLitTurn n speed begun old new before after
   T = h.0
@@ -192,7 +192,7 @@ module _ {U A0 B0 : State} {chip_a chip_b : CardState} (n speed begun : ℕ) (ol
 
   -- THE LAST SECOND: by the log behind it the seconds have the same speeds as by that before
   module _ (o : Origin) (D : List TraceSecond) (L : TraceSecond) (picked : Option ℕ) (rest : List Minute) (next_ gone : ℕ)
-      (w : Within o D L Keeping [] picked rest (record (values_of old before) { minutes = T.fed.minutes; next = next_; begun = gone }) d) (number : L.number ≡ last) where
+      (w : RecordInSecond o D L Keeping [] picked rest (record (values_of old before) { minutes = T.fed.minutes; next = next_; begun = gone }) d) (number : L.number ≡ last) where
     abbrev v : Values
     v = record (values_of old before) { minutes = T.fed.minutes; next = next_; begun = gone }
 
@@ -264,17 +264,17 @@ module _ {U A0 B0 : State} {chip_a chip_b : CardState} (n speed begun : ℕ) (ol
     before-it : before-them starts spans ≡ speeds_before log done
     before-it = before-is (went log done).before.running spans
 
-    blocks-are : minute.StandsFor old.watch.speeds (speeds_before log done) old.next → blocks_by later all ≡ blocks_by log done ++ option_to_list brings.block
+    blocks-are : minute.KeepsSpeedsOf old.watch.speeds (speeds_before log done) old.next → blocks_by later all ≡ blocks_by log done ++ option_to_list brings.block
     blocks-are stands =
         ap blocks_in spans-all
         ∙ grown-blocks starts spans more (option_to_list brings.block)
         (subst (λ (before_ : List SpeedSecond). blocks_of (before_ ++ more) ≡ blocks_of before_ ++ option_to_list brings.block) (sym before-it) (brings.given (speeds_before log done) stands))
 
-    pub seconds-speeds : minute.StandsFor old.watch.speeds (speeds_before log done) old.next → HasBlocks o log done d → SpeedsBehind o all (passed n begun new) after e
+    pub seconds-speeds : minute.KeepsSpeedsOf old.watch.speeds (speeds_before log done) old.next → HasBlocks o log done d → SpeedsBehind o all (passed n begun new) after e
     seconds-speeds stands has = record {
       watched = λ on.
-          subst (λ (k : ℕ). minute.StandsFor new.watch.speeds (last_speeds (speed_spans later all)) (k + n)) (sym new-next)
-          (subst (λ (l : List SpeedSecond). minute.StandsFor new.watch.speeds l (old.next + n)) (sym (ap last_speeds spans-all ∙ last-grown starts spans more ∙ ap (λ (l : List SpeedSecond). l ++ more) before-it))
+          subst (λ (k : ℕ). minute.KeepsSpeedsOf new.watch.speeds (last_speeds (speed_spans later all)) (k + n)) (sym new-next)
+          (subst (λ (l : List SpeedSecond). minute.KeepsSpeedsOf new.watch.speeds l (old.next + n)) (sym (ap last_speeds spans-all ∙ last-grown starts spans more ∙ ap (λ (l : List SpeedSecond). l ++ more) before-it))
           (brings.stands (ap (λ (p : Power). not (is_lit p)) on) (speeds_before log done) stands));
       blocks = blocks-more o log later fails-more done all d e brings.block (not (is_lit new.power)) (blocks-are stands) r.within.there.unit
           (λ cut. unsure-here later last brings.block ends (fails-here (sym failed-is ∙ cut))) brings.carries has;

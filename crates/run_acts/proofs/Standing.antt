@@ -9,7 +9,7 @@ use Rattle.minute_model.specs.declared.Rule.{Rule}
 use Rattle.minute_model.specs.declared.Rule.TheVariants.{Original, Amended}
 use Rattle.minute_model.specs.Minute.{minutes_ahead}
 use Rattle.minute_model.specs.Span.{begin, ungiven_of}
-use Rattle.minute_rules.specs.Kept.{StandsFor}
+use Rattle.minute_rules.specs.Kept.{CountsSpan}
 use Rattle.event_rules.specs.Bare.{Bare}
 use Rattle.event_rules.specs.declared.speeding.Fast.{Fast}
 use Rattle.card_slots.specs.Calls.{present_in, ending}
@@ -21,7 +21,7 @@ use Rattle.run_crew.specs.declared.cards.Accepted.{Accepted}
 use Rattle.run_crew.specs.declared.cards.Known.{Known}
 use Rattle.run_crew.specs.declared.cabin.Cabin.{Cabin}
 use Rattle.run_crew.specs.Cards.{session_of, with_session, IsKnown}
-use Rattle.run_crew.specs.Cabin.{Stands, KnowsEnded}
+use Rattle.run_crew.specs.Cabin.{CabinIsSound, KnowsEnded}
 use Rattle.run_crew.proofs.Moves.{cut-stands, end-stands}
 use Rattle.run_events.specs.Watching.{Watches}
 use Rattle.run_events.specs.Watching as watching
@@ -29,12 +29,12 @@ use Rattle.speed_store.specs.Feeding as minute_speeds
 use Rattle.run_events.specs.declared.watch.Watch.{Watch}
 use Rattle.unit_minutes.specs.declared.notes.Notes.{Notes}
 use Rattle.run_minutes.specs.declared.keeper.Keeper.{Keeper}
-use Rattle.run_minutes.specs.Keeping.{UnitReady, CardReady, HaveRows}
+use Rattle.run_minutes.specs.Keeping.{UnitMayBeCalled, CardMayBeCalled, HaveRows}
 use Rattle.run_acts.specs.declared.run.Run.{Run}
 use Rattle.run_acts.specs.declared.run.Power.{Power}
 use Rattle.run_acts.specs.declared.run.Power.TheVariants.{Lit, Due, Lost}
 use Rattle.run_acts.specs.Power.{is_lit, cut_run, darkened, off_run, over_by, minute_over, passed, IsSpanBegun}
-use Rattle.run_acts.specs.Going.{first_second, end_of_seconds, CardAt, StandSomehow, IsHeld, IsLit, IsAt, IsGoing, IsWithin}
+use Rattle.run_acts.specs.Going.{first_second, end_of_seconds, CardAt, StandSomehow, CanBeCut, RunHasPowerAllSeated, IsAt, IsBetweenSeconds, IsInsideSecond}
 use Rattle.run_acts.proofs.Past.{none-later, one-more, ended-rows}
 
 pub lit-is : (p : Power) → is_lit p ≡ true → p ≡ Lit
@@ -54,11 +54,11 @@ gone cabin B = refl
 
 module _ {U A0 B0 : State} {chip_a chip_b : CardState} (run : Run) where
   -- in a second of a minute that is not over
-  cut-stand : (to second : ℕ) → IsHeld to run U chip_a chip_b A0 B0 → run.keeper.cabin.slots.minute ≤ second / 60 → (from : ℕ) → Stands from None (cut_run second run).keeper.cabin
+  cut-stand : (to second : ℕ) → CanBeCut to run U chip_a chip_b A0 B0 → run.keeper.cabin.slots.minute ≤ second / 60 → (from : ℕ) → CabinIsSound from None (cut_run second run).keeper.cabin
   cut-stand to second h le from =
       cut-stands run.keeper.cabin second h.stand.0 from h.stand.1 le (cut-knows run.keeper.cabin.slots second le h.stand.2.newest) h.stand.2
 
-  pub cut-at : (to later second : ℕ) → first_second ≤ run.next → run.next ≤ end_of_seconds → IsHeld to run U chip_a chip_b A0 B0 → run.keeper.cabin.slots.minute ≤ second / 60 → second / 60 ≤ later → IsAt later (cut_run second run) U chip_a chip_b A0 B0
+  pub cut-at : (to later second : ℕ) → first_second ≤ run.next → run.next ≤ end_of_seconds → CanBeCut to run U chip_a chip_b A0 B0 → run.keeper.cabin.slots.minute ≤ second / 60 → second / 60 ≤ later → IsAt later (cut_run second run) U chip_a chip_b A0 B0
   cut-at to later second low small h le late = record {
     low = low;
     small = small;
@@ -92,10 +92,10 @@ module _ {U A0 B0 : State} {chip_a chip_b : CardState} (run : Run) where
     lit = λ no. absurd (let bad : false ≡ true = sym is ∙ no in cc);
   }
 
-  pub off-at : (seconds : ℕ) → run.next + seconds ≤ end_of_seconds → IsGoing run U chip_a chip_b A0 B0 → IsGoing (off_run seconds run) U chip_a chip_b A0 B0
+  pub off-at : (seconds : ℕ) → run.next + seconds ≤ end_of_seconds → IsBetweenSeconds run U chip_a chip_b A0 B0 → IsBetweenSeconds (off_run seconds run) U chip_a chip_b A0 B0
   off-at seconds small h = by run.power refl
     where
-      by : (p : Power) → run.power ≡ p → IsGoing (record (darkened (is_lit p) run) { power = Due; next = run.next + seconds; begun = 0 }) U chip_a chip_b A0 B0
+      by : (p : Power) → run.power ≡ p → IsBetweenSeconds (record (darkened (is_lit p) run) { power = Due; next = run.next + seconds; begun = 0 }) U chip_a chip_b A0 B0
       by Lit is =
           let at = cut-at ((run.next - 1) / 60) ((run.next - 1) / 60) (run.next - 1) h.low h.small h.held h.held.minute (omega arith) in
           record {
@@ -115,16 +115,16 @@ module _ {U A0 B0 : State} {chip_a chip_b : CardState} (run : Run) where
       by Due is = dark-at ((run.next - 1) / 60) ((run.next + seconds - 1) / 60) Due (run.next + seconds) 0 refl (ap is_lit is) (omega arith) small (omega arith) h
       by Lost is = dark-at ((run.next - 1) / 60) ((run.next + seconds - 1) / 60) Due (run.next + seconds) 0 refl (ap is_lit is) (omega arith) small (omega arith) h
 
-  pub passed-at : (n begun : ℕ) → is_lit run.power ≡ false → run.next + n ≤ end_of_seconds → 0 < n → IsWithin run U chip_a chip_b A0 B0 → IsGoing (passed n begun run) U chip_a chip_b A0 B0
+  pub passed-at : (n begun : ℕ) → is_lit run.power ≡ false → run.next + n ≤ end_of_seconds → 0 < n → IsInsideSecond run U chip_a chip_b A0 B0 → IsBetweenSeconds (passed n begun run) U chip_a chip_b A0 B0
   passed-at n begun dark small some h = dark-at (run.next / 60) ((run.next + n - 1) / 60) run.power (run.next + n) begun dark dark (omega arith) small (omega (arith, some)) h
 
   -- a second begins without power
-  pub still-dark : is_lit run.power ≡ false → IsGoing run U chip_a chip_b A0 B0 → IsWithin run U chip_a chip_b A0 B0
+  pub still-dark : is_lit run.power ≡ false → IsBetweenSeconds run U chip_a chip_b A0 B0 → IsInsideSecond run U chip_a chip_b A0 B0
   still-dark dark h = dark-at ((run.next - 1) / 60) (run.next / 60) run.power run.next run.begun dark dark (omega arith) h.small (omega arith) h
 
   -- ---- a second begins with power
 
-  over-held : (b : Bool) → nat_eq (run.next % 60) 0 ≡ b → first_second ≤ run.next → IsHeld ((run.next - 1) / 60) run U chip_a chip_b A0 B0 → (lit : IsLit ((run.next - 1) / 60) run U chip_a chip_b A0 B0) → IsHeld (run.next / 60) (over_by b run) U chip_a chip_b A0 B0
+  over-held : (b : Bool) → nat_eq (run.next % 60) 0 ≡ b → first_second ≤ run.next → CanBeCut ((run.next - 1) / 60) run U chip_a chip_b A0 B0 → (lit : RunHasPowerAllSeated ((run.next - 1) / 60) run U chip_a chip_b A0 B0) → CanBeCut (run.next / 60) (over_by b run) U chip_a chip_b A0 B0
   over-held false is low h lit = record {
     is_unit = h.is_unit;
     odometer = h.odometer;
@@ -148,9 +148,9 @@ module _ {U A0 B0 : State} {chip_a chip_b : CardState} (run : Run) where
         stand = (ungiven_of lit.span, None, end-stands run.keeper.cabin m (ungiven_of lit.span) le early (end-knows run.keeper.cabin.slots m le lit.cabin.newest) lit.cabin);
       }
 
-  over-lit : (b : Bool) → nat_eq (run.next % 60) 0 ≡ b → first_second ≤ run.next → IsHeld ((run.next - 1) / 60) run U chip_a chip_b A0 B0 → IsLit ((run.next - 1) / 60) run U chip_a chip_b A0 B0
+  over-lit : (b : Bool) → nat_eq (run.next % 60) 0 ≡ b → first_second ≤ run.next → CanBeCut ((run.next - 1) / 60) run U chip_a chip_b A0 B0 → RunHasPowerAllSeated ((run.next - 1) / 60) run U chip_a chip_b A0 B0
       → ((from : ℕ) → run.next / 60 ≤ from + 4 → KnowsEnded from ((run.next - 1) / 60) run.keeper.cabin.slots → KnowsEnded from (run.next / 60) (over_by b run).keeper.cabin.slots)
-      → IsLit (run.next / 60) (over_by b run) U chip_a chip_b A0 B0
+      → RunHasPowerAllSeated (run.next / 60) (over_by b run) U chip_a chip_b A0 B0
   over-lit false is low h lit ended =
       let few = lit.ended.few in
       let at : run.next % 60 ≡ 0 → ⊥ = λ zero. let yes : true ≡ false = sym (ap (λ (n : ℕ). nat_eq n 0) zero) ∙ is in cc in
@@ -209,11 +209,11 @@ module _ {U A0 B0 : State} {chip_a chip_b : CardState} (run : Run) where
       }
 
   pub begun-at : is_lit run.power ≡ true → ((from : ℕ) → run.next / 60 ≤ from + 4 → KnowsEnded from ((run.next - 1) / 60) run.keeper.cabin.slots → KnowsEnded from (run.next / 60) (minute_over run).keeper.cabin.slots)
-      → IsGoing run U chip_a chip_b A0 B0 → IsWithin (minute_over run) U chip_a chip_b A0 B0
+      → IsBetweenSeconds run U chip_a chip_b A0 B0 → IsInsideSecond (minute_over run) U chip_a chip_b A0 B0
   begun-at is ended h = by (nat_eq (run.next % 60) 0) refl ended
     where
       by : (b : Bool) → nat_eq (run.next % 60) 0 ≡ b → ((from : ℕ) → run.next / 60 ≤ from + 4 → KnowsEnded from ((run.next - 1) / 60) run.keeper.cabin.slots → KnowsEnded from (run.next / 60) (over_by b run).keeper.cabin.slots)
-          → IsWithin (over_by b run) U chip_a chip_b A0 B0
+          → IsInsideSecond (over_by b run) U chip_a chip_b A0 B0
       by true at ends = record {
         low = h.low;
         small = h.small;
@@ -231,7 +231,7 @@ module _ {U A0 B0 : State} {chip_a chip_b : CardState} (run : Run) where
 
 -- ---- a span begins
 
-fresh-watches : (w : Watch) (next : ℕ) → watching.StandsFor w [] → minute_speeds.StandsFor w.speeds [] next → Watches w next
+fresh-watches : (w : Watch) (next : ℕ) → watching.WatchesSpan w [] → minute_speeds.KeepsSpeedsOf w.speeds [] next → Watches w next
 fresh-watches w next stands speeds = record {
   events = record {
     seconds = [];
@@ -243,12 +243,12 @@ fresh-watches w next stands speeds = record {
   speeds = ([], speeds);
 }
 
-ready-bare : (known : Known) (chip : CardState) (card : State) → known.accepted ≡ None → CardAt known chip card → IsKnown known → CardReady known chip card
+ready-bare : (known : Known) (chip : CardState) (card : State) → known.accepted ≡ None → CardAt known chip card → IsKnown known → CardMayBeCalled known chip card
 ready-bare known chip card none at is = record { is_known = is; port = at.port; works = subst (λ (o : Option Accepted). IfSome o (λ a. card.works ≡ true)) (sym none) tt }
 
 module _ {U V A0 B0 : State} {chip_a chip_b : CardState} (rule : Rule) (old new : Run) (journal : Notes) where
   -- where the unit was mended, and the last-kept minute is earlier, the run goes on with power
-  pub span-lit : is_lit old.power ≡ false → IsAt (old.next / 60) old U chip_a chip_b A0 B0 → IsSpanBegun rule old new journal → journal.kept < old.next / 60 → UnitReady new.keeper V → IsLit (old.next / 60) new V chip_a chip_b A0 B0
+  pub span-lit : is_lit old.power ≡ false → IsAt (old.next / 60) old U chip_a chip_b A0 B0 → IsSpanBegun rule old new journal → journal.kept < old.next / 60 → UnitMayBeCalled new.keeper V → RunHasPowerAllSeated (old.next / 60) new V chip_a chip_b A0 B0
   span-lit dark h begun late unit =
       let d = h.dark dark in
       let bare = d.bare in
@@ -258,8 +258,8 @@ module _ {U V A0 B0 : State} {chip_a chip_b : CardState} (rule : Rule) (old new 
       record {
         ready = record {
           unit_ready = unit;
-          card_a = subst (λ (c : Cabin). CardReady c.cards.a chip_a A0) (sym cabin) (ready-bare old.keeper.cabin.cards.a chip_a A0 (bare A) h.held.card_a (d.stands 0).a);
-          card_b = subst (λ (c : Cabin). CardReady c.cards.b chip_b B0) (sym cabin) (ready-bare old.keeper.cabin.cards.b chip_b B0 (bare B) h.held.card_b (d.stands 0).b);
+          card_a = subst (λ (c : Cabin). CardMayBeCalled c.cards.a chip_a A0) (sym cabin) (ready-bare old.keeper.cabin.cards.a chip_a A0 (bare A) h.held.card_a (d.stands 0).a);
+          card_b = subst (λ (c : Cabin). CardMayBeCalled c.cards.b chip_b B0) (sym cabin) (ready-bare old.keeper.cabin.cards.b chip_b B0 (bare B) h.held.card_b (d.stands 0).b);
         };
         span = begin rule old.next;
         stands = begun.minutes;
@@ -267,7 +267,7 @@ module _ {U V A0 B0 : State} {chip_a chip_b : CardState} (rule : Rule) (old new 
         low = h.low;
         due = omega (arith, is);
         later = let k = ap (λ (q : Keeper). q.journal.kept) begun.keeper in omega (arith, k, late, is);
-        cabin = subst (λ (c : Cabin). Stands u None c) (sym cabin) (d.stands u);
+        cabin = subst (λ (c : Cabin). CabinIsSound u None c) (sym cabin) (d.stands u);
         ended = record { few = omega (arith, is); each = λ k less. absurd (omega (arith, less, is)) };
         rows = λ card some. absurd (let none = ap (λ (c : Cabin). is_some (session_of c.cards card)) cabin ∙ ap is_some (bare card) in let no : false ≡ true = sym none ∙ some in cc);
         present = λ m from. subst (λ (c : Cabin). IfSome (present_in c.slots.past m) (HaveRows c.cards V)) (sym cabin)
@@ -279,7 +279,7 @@ module _ {U V A0 B0 : State} {chip_a chip_b : CardState} (rule : Rule) (old new 
       }
 
   -- it is held so
-  pub span-held : IsAt (old.next / 60) old U chip_a chip_b A0 B0 → IsSpanBegun rule old new journal → UnitReady new.keeper V → new.keeper.odometer ≤ HIGHEST_ODOMETER → IsHeld (old.next / 60) new V chip_a chip_b A0 B0
+  pub span-held : IsAt (old.next / 60) old U chip_a chip_b A0 B0 → IsSpanBegun rule old new journal → UnitMayBeCalled new.keeper V → new.keeper.odometer ≤ HIGHEST_ODOMETER → CanBeCut (old.next / 60) new V chip_a chip_b A0 B0
   span-held h begun unit most =
       let cabin : new.keeper.cabin ≡ old.keeper.cabin = ap (λ (k : Keeper). k.cabin) begun.keeper in
       record {

@@ -17,7 +17,7 @@ use Rattle.log_model.specs.declared.lines.Break.{Break}
 use Rattle.log_model.specs.declared.lines.Break.TheVariants.{Cut, Tear}
 use Rattle.log_model.specs.declared.lines.Mark.{Mark}
 use Rattle.log_model.specs.Causes.{second_of}
-use Rattle.log_model.specs.Course.{Told, Visit, Went, went}
+use Rattle.log_model.specs.Course.{ToldSecond, Visit, Went, went}
 use Rattle.log_model.specs.Log.{RunLog, Phase}
 use Rattle.log_model.specs.Spans.{seconds_in, first_in, end_in, spans_with, spans_of, AreApart}
 use Rattle.log_model.proofs.Spanning.{spans-more, spanned}
@@ -31,7 +31,7 @@ use Rattle.device_rule.specs.Views.{unit_view}
 use Rattle.unit_model.specs.declared.layout.TheConstants.{HIGHEST_ODOMETER}
 use Rattle.unit_model.specs.Image.{last_kept, odometer_at}
 use Rattle.run_unit_course.specs.Lines.{cut_at, found_from, tells_cut}
-use Rattle.run_unit_course.specs.Followed.{Supply, Lit, MayPower, as_spans, cuts_from}
+use Rattle.run_unit_course.specs.Followed.{UnitPower, Lit, MayPower, as_spans, cuts_from}
 use Rattle.run_unit_course.specs.Legs.{Travel, stranded_at, all_travelled}
 use Rattle.run_unit_course.specs.Travelled.{MayShow}
 use Rattle.run_unit_course.specs.Turn.{span_at, begins_with, cut_at_end, cut_last}
@@ -40,14 +40,14 @@ use Rattle.run_unit_course.proofs.Lines.{tells-here}
 use Rattle.run_unit_course.proofs.Alike.{decided-empty}
 use Rattle.run_unit_course.proofs.Spans.{decided-cut}
 use Rattle.unit_rule.proofs.Marking.{holds-dark}
-use Rattle.unit_rule.specs.Marks.{Holds}
+use Rattle.unit_rule.specs.Marks.{UnitFollowsBook}
 use Rattle.unit_rule.specs.Odometer.{odometer_by, odometer_after, ShowsOdometer, HasTravelled}
 use Rattle.unit_rule.proofs.Moves.{shown-last}
 use Rattle.unit_rule.proofs.Travelling.{odometer-sum}
 use Rattle.note_model.specs.Odometer.{SpanFrom, IsBeingKept, MayStore}
 use Rattle.safety_model.specs.Safe.{Devices, breakdowns_of}
 use Rattle.run_course.specs.Moments.{and_break}
-use Rattle.run_course.specs.Followed.{Progress, Followed, IsBreakBefore}
+use Rattle.run_course.specs.Followed.{Progress, BookFollowsRun, IsBreakBefore}
 use Rattle.run_course.specs.Seconds.{next_told, kept_all, broken_at}
 use Rattle.run_course.specs.Travelled.{AreLegsOf, AreShutLegs}
 use Rattle.run_course.proofs.Logs.{found_log, went-found, tells-none, breaks-front}
@@ -66,8 +66,8 @@ use Rattle.run_note_record.specs.Stored.{minutes_kept, IsNewest, StandsOn, Store
 use Rattle.run_note_record.proofs.Stored.{AtEnd, nothing, push, at-end, mapped, numbers, may-store}
 use Rattle.run_note_record.proofs.Bases.{with-first, next-are, stored-later, stored-ends, stored-found}
 use Rattle.run_note_record.proofs.Booked.{after-numbers, book-numbers, book-none, span-ends, found-newest, deciding-now, in-second}
-use Rattle.run_record.specs.Recorded.{Values, progress, carried, IsOn, Recorded}
-use Rattle.run_record.specs.Within.{lost_minute, told_before, CutWithin}
+use Rattle.run_record.specs.Recorded.{Values, progress, carried, RecordPowered, RecordBetweenSeconds}
+use Rattle.run_record.specs.Within.{lost_minute, told_before, RecordAtFailure}
 use Rattle.run_record.proofs.Cutting.{ends, goes, number, decides, cut-recorded}
 
 -- ---- odometers
@@ -84,7 +84,7 @@ rising-front first (x ∷ xs) ys h = (h.0, rising-front x.minute xs ys h.1)
 
 -- ---- what an image may show, by the rules of the unit
 
-module _ (o : Origin) (first : o.found.unit.first ≡ first_of o) (due : ℕ) (b : Book) (marks : List Mark) (unit : State) (holds : Holds o.found.unit due b marks unit) (g : Travel) where
+module _ (o : Origin) (first : o.found.unit.first ≡ first_of o) (due : ℕ) (b : Book) (marks : List Mark) (unit : State) (holds : UnitFollowsBook o.found.unit due b marks unit) (g : Travel) where
   rises : Rising (first_of o) b.sure
   rises = rising-front (first_of o) b.sure (option_to_list b.maybe) (subst (λ (n : ℕ). Rising n (all b)) first (holds.unit_holds [] []).order.now.rising)
 
@@ -102,7 +102,7 @@ module _ (o : Origin) (first : o.found.unit.first ≡ first_of o) (due : ℕ) (b
       }
 
 -- where that is stored which these may show, each image has stored so
-image-stores : (o : Origin) (first : o.found.unit.first ≡ first_of o) (due : ℕ) (b : Book) (marks : List Mark) (unit : State) → Holds o.found.unit due b marks unit → (g : Travel) → HasTravelled (odometer_at o.recording.unit) b g unit → (base : ℕ) →
+image-stores : (o : Origin) (first : o.found.unit.first ≡ first_of o) (due : ℕ) (b : Book) (marks : List Mark) (unit : State) → UnitFollowsBook o.found.unit due b marks unit → (g : Travel) → HasTravelled (odometer_at o.recording.unit) b g unit → (base : ℕ) →
     base ≡ odometer_after (odometer_at o.recording.unit) g.before → (spans : List SpanFrom) →
     ((kept leg : ℕ) → MayShow (first_of o) b g kept leg → MayStore (rule_of o) (odometer_at o.recording.unit) (first_of o) spans kept (odometer_by base leg)) →
     (x : List ℕ) → unit.may_leave x → MayStore (rule_of o) (odometer_at o.recording.unit) (first_of o) spans (last_kept x) (odometer_at x)
@@ -114,12 +114,12 @@ image-stores o first due b marks unit holds g travels base is spans stores x on 
 
 -- ---- WHILE THERE IS POWER, between two seconds
 
-module _ (o : Origin) (first : o.found.unit.first ≡ first_of o) (done : List TraceSecond) (v : Values) (d : Devices) (t : Told) (span : List Told) (r : Recorded o done (Lit (t ∷ span)) v d) (earlier : List SpanFrom)
+module _ (o : Origin) (first : o.found.unit.first ≡ first_of o) (done : List TraceSecond) (v : Values) (d : Devices) (t : ToldSecond) (span : List ToldSecond) (r : RecordBetweenSeconds o done (Lit (t ∷ span)) v d) (earlier : List SpanFrom)
     (are : spans_of (went v.log done).told ≡ map (λ (s : SpanFrom). s.span) earlier ++ (t ∷ span) ∷ []) (stands : StandsOn o v.log v.unfound earlier v.odometer) where
   abbrev so_far : Progress
   so_far = progress v (Lit (t ∷ span)) r.book
 
-  abbrev on : IsOn o done (t ∷ span) v (carried v r.due r.book r.standing r.brought) d
+  abbrev on : RecordPowered o done (t ∷ span) v (carried v r.due r.book r.standing r.brought) d
   on = r.held
 
   abbrev legs : AreShutLegs (rule_of o) (first_of o) v.log (take v.unfound v.log.breaks) r.recorded.legs.ended (t ∷ span) r.book r.travel
@@ -132,7 +132,7 @@ module _ (o : Origin) (first : o.found.unit.first ≡ first_of o) (done : List T
   none-left x is = absurd (cc)
 
   -- whatever of its last second is told, if it has decided the same
-  pub lit-stores : (other : List Told) → decided_of (rule_of o) other ≡ decided_of (rule_of o) (t ∷ span) → (x : List ℕ) → d.unit.may_leave x →
+  pub lit-stores : (other : List ToldSecond) → decided_of (rule_of o) other ≡ decided_of (rule_of o) (t ∷ span) → (x : List ℕ) → d.unit.may_leave x →
       MayStore (rule_of o) (odometer_at o.recording.unit) (first_of o) (earlier ++ record { base = v.odometer; span = other } ∷ []) (last_kept x) (odometer_at x)
   lit-stores other same x left =
       image-stores o first r.due r.book v.marks d.unit (holds-dark o.found.unit r.due r.book v.marks d.unit on.powered.lit.unit) r.travel r.beside.travels v.odometer counted-from (earlier ++ record { base = v.odometer; span = other } ∷ [])
@@ -148,26 +148,26 @@ module _ (o : Origin) (first : o.found.unit.first ≡ first_of o) (done : List T
       x left
 
   -- AN `off` LINE takes the power: the last second turns out to be a cut's.
-  last-cut : (xs : List Told) (x : Told) → cut_last (xs ++ x ∷ []) ≡ xs ++ cut_at_end x ∷ []
+  last-cut : (xs : List ToldSecond) (x : ToldSecond) → cut_last (xs ++ x ∷ []) ≡ xs ++ cut_at_end x ∷ []
   last-cut [] x = refl
   last-cut (y ∷ []) x = refl
-  last-cut (y ∷ z ∷ xs) x = ap (λ (l : List Told). y ∷ l) (last-cut (z ∷ xs) x)
+  last-cut (y ∷ z ∷ xs) x = ap (λ (l : List ToldSecond). y ∷ l) (last-cut (z ∷ xs) x)
 
   -- the number of a span's last second
-  ends-at : (ss : List Told) → AtEnd ss → 0 < length ss → AreNumbered (first_in ss) (seconds_in ss) → end_in ss ≡ v.next → cut_second (last (cut_last ss)) ≡ Some (v.next - 1)
+  ends-at : (ss : List ToldSecond) → AtEnd ss → 0 < length ss → AreNumbered (first_in ss) (seconds_in ss) → end_in ss ≡ v.next → cut_second (last (cut_last ss)) ≡ Some (v.next - 1)
   ends-at _ nothing some numbered end = absurd (omega (arith, some))
   ends-at _ (push xs x) some numbered end =
-      let parts = numbered-parts (first_in (xs ++ x ∷ [])) (seconds_in xs) (x.second ∷ []) (subst (AreNumbered (first_in (xs ++ x ∷ []))) (map-append (λ (y : Told). y.second) xs (x ∷ [])) numbered) in
+      let parts = numbered-parts (first_in (xs ++ x ∷ [])) (seconds_in xs) (x.second ∷ []) (subst (AreNumbered (first_in (xs ++ x ∷ []))) (map-append (λ (y : ToldSecond). y.second) xs (x ∷ [])) numbered) in
       let is : x.second.number ≡ first_in (xs ++ x ∷ []) + length (seconds_in xs) = parts.1.0 in
       let c = counted xs in
       let l = length-append xs (x ∷ []) in
       let last_number : x.second.number ≡ v.next - 1 = omega (arith, is, c, l, end) in
-      ap (λ (l : List Told). cut_second (last l)) (last-cut xs x) ∙ ap cut_second (last-push xs (cut_at_end x)) ∙ ap (λ (n : ℕ). Some n) last_number
+      ap (λ (l : List ToldSecond). cut_second (last l)) (last-cut xs x) ∙ ap cut_second (last-push xs (cut_at_end x)) ∙ ap (λ (n : ℕ). Some n) last_number
 
   pub lit-off : StoresOff o (and_break v.log (cut_at (v.next - 1) false v.begun)) v.unfound (earlier ++ record { base = v.odometer; span = cut_last (t ∷ span) } ∷ []) d
   lit-off =
       let f = r.recorded.followed in
-      let apart = apart-last o.from (o.from + length done) (map (λ (s : SpanFrom). s.span) earlier) (t ∷ span) (subst (λ (ss : List (List Told)). AreApart o.from ss (o.from + length done)) are (spanned v.log o.from done f.order).apart) in
+      let apart = apart-last o.from (o.from + length done) (map (λ (s : SpanFrom). s.span) earlier) (t ∷ span) (subst (λ (ss : List (List ToldSecond)). AreApart o.from ss (o.from + length done)) are (spanned v.log o.from done f.order).apart) in
       stored-ends o v.log (and_break v.log (cut_at (v.next - 1) false v.begun)) v.unfound earlier v.odometer (cut_last (t ∷ span)) (v.next - 1) d f.unfound (cut_at (v.next - 1) false v.begun ∷ [], refl) stands
       (ends-at (t ∷ span) (at-end (t ∷ span)) apart.0 apart.1 (span-end v.log o.from done (map (λ (s : SpanFrom). s.span) earlier) t span v.next f.order f.next f.power.running are))
       (tells-here v.log.breaks (v.next - 1) false v.begun)
@@ -183,7 +183,7 @@ kept-none : (is : List HistoryMinute) (b : Book) → b.maybe ≡ None → (kept_
 kept-none [] b none = none
 kept-none (i ∷ is) b none = kept-none is (record b { sure = b.sure ++ i ∷ []; maybe = None }) refl
 
-maybe-of : (start : Start) (told : List Told) (past : List HistoryMinute) (l : Option Minute) (b : Book) → b.maybe ≡ None → (i : HistoryMinute) → (broken_at (option_map {T = Minute} (seated start told past) l) b).maybe ≡ Some i → (d : Minute) × (l ≡ Some d) × (d.minute ≡ i.minute)
+maybe-of : (start : Start) (told : List ToldSecond) (past : List HistoryMinute) (l : Option Minute) (b : Book) → b.maybe ≡ None → (i : HistoryMinute) → (broken_at (option_map {T = Minute} (seated start told past) l) b).maybe ≡ Some i → (d : Minute) × (l ≡ Some d) × (d.minute ≡ i.minute)
 maybe-of start told past None b none i is = no-maybe i (sym none ∙ is)
 maybe-of start told past (Some d) b none i is = let same : seated start told past d ≡ i = cc in (d, refl, ap (λ (x : HistoryMinute). x.minute) same)
 
@@ -197,7 +197,7 @@ rising-last first (x ∷ xs) i h =
     (omega (arith, low, high), All-cons (λ (j : HistoryMinute). j.minute < i.minute) x xs rest.0 rest.1)
 
 -- so is the one of which the keeping was broken off
-later-of : (first : ℕ) (start : Start) (told : List Told) (past : List HistoryMinute) (l : Option Minute) (b : Book) → Rising first (all (broken_at (option_map {T = Minute} (seated start told past) l) b)) → (d : Minute) → l ≡ Some d →
+later-of : (first : ℕ) (start : Start) (told : List ToldSecond) (past : List HistoryMinute) (l : Option Minute) (b : Book) → Rising first (all (broken_at (option_map {T = Minute} (seated start told past) l) b)) → (d : Minute) → l ≡ Some d →
     (first < d.minute) × All (λ (i : HistoryMinute). i.minute < d.minute) (broken_at (option_map {T = Minute} (seated start told past) l) b).sure
 later-of first start told past None b rises d is = no-maybe d is
 later-of first start told past (Some x) b rises d is =
@@ -223,12 +223,12 @@ count-from_low a (suc n) m at = ⊎_elim
     (λ (there : Contains (count_from (a + 1) n) m). let rest = count-from_low (a + 1) n m there in omega (arith, rest))
     (Contains-append_cases (a ∷ []) (count_from (a + 1) n) m at)
 
-cuts-low : (span : List Told) (n : ℕ) → cuts_from (Lit span) n ≤ n
+cuts-low : (span : List ToldSecond) (n : ℕ) → cuts_from (Lit span) n ≤ n
 cuts-low [] n = omega arith
 cuts-low (t ∷ span) n = omega arith
 
-no-spans : (xs : List (List Told)) (x : List Told) {P : Type 0} → [] ≡ xs ++ x ∷ [] → P
-no-spans xs x is = absurd (let l = length-append xs (x ∷ []) in omega (arith, ap (λ (ss : List (List Told)). length ss) is, l))
+no-spans : (xs : List (List ToldSecond)) (x : List ToldSecond) {P : Type 0} → [] ≡ xs ++ x ∷ [] → P
+no-spans xs x is = absurd (let l = length-append xs (x ∷ []) in omega (arith, ap (λ (ss : List (List ToldSecond)). length ss) is, l))
 
 -- lines of before a second stand in front of those of that second
 in-front : (n : ℕ) (xs ys zs ws : List Break) → AllByRecursion (λ (b : Break). second_of b < n) xs → AllByRecursion (λ (b : Break). second_of b ≡ n) ws → xs ++ ys ≡ zs ++ ws → (more : List Break) × (zs ≡ xs ++ more)
@@ -251,13 +251,13 @@ all-before cuts next n (Cut second kept failed begun ∷ bs) a b h = (let lt : s
 all-before cuts next n (Tear second slot failed begun late ∷ bs) a b h = (let lt : second < next = h.0 in omega (arith, lt, b), all-before cuts next n bs a b h.1)
 
 -- the lines as a second began were of before it
-pub lines-early : (o : Origin) (done : List TraceSecond) (p : Progress) → Followed (rule_of o) (start_at o) o.from (first_of o) done p → (span : List Told) → p.supply ≡ Lit span → AllByRecursion (λ (b : Break). second_of b < p.next) p.log.breaks
+pub lines-early : (o : Origin) (done : List TraceSecond) (p : Progress) → BookFollowsRun (rule_of o) (start_at o) o.from (first_of o) done p → (span : List ToldSecond) → p.supply ≡ Lit span → AllByRecursion (λ (b : Break). second_of b < p.next) p.log.breaks
 lines-early o done p f span lit =
     all-before (cuts_from (Lit span) p.next) p.next p.next p.log.breaks (cuts-low span p.next) (omega arith)
-    (subst (λ (sup : Supply). AllByRecursion (IsBreakBefore (cuts_from sup p.next) p.next) p.log.breaks) lit f.lines.breaks)
+    (subst (λ (sup : UnitPower). AllByRecursion (IsBreakBefore (cuts_from sup p.next) p.next) p.log.breaks) lit f.lines.breaks)
 
-module _ (o : Origin) (first : o.found.unit.first ≡ first_of o) (done : List TraceSecond) (s : TraceSecond) (at : Phase) (waits : List Visit) (speed : Option ℕ) (v : Values) (d : Devices) (w : CutWithin o done s at waits speed v d) (left_actions : List Action) (left : IsLeft s at left_actions)
-    (spans : List SpanFrom) (are : map (λ (x : SpanFrom). x.span) spans ≡ spans_of (went w.b.run.log done).told) (t0 : Told) (lit0 : t0.lit ≡ true) (starts0 : t0.starts ≡ not (went w.b.run.log done).before.running)
+module _ (o : Origin) (first : o.found.unit.first ≡ first_of o) (done : List TraceSecond) (s : TraceSecond) (at : Phase) (waits : List Visit) (speed : Option ℕ) (v : Values) (d : Devices) (w : RecordAtFailure o done s at waits speed v d) (left_actions : List Action) (left : IsLeft s at left_actions)
+    (spans : List SpanFrom) (are : map (λ (x : SpanFrom). x.span) spans ≡ spans_of (went w.b.run.log done).told) (t0 : ToldSecond) (lit0 : t0.lit ≡ true) (starts0 : t0.starts ≡ not (went w.b.run.log done).before.running)
     (was : RunLog) (was_unfound : ℕ) (early : AllByRecursion (λ (b : Break). second_of b < s.number) was.breaks) (within_ : was_unfound ≤ length was.breaks) (goes-further : HasMoreBreaks was v.log) (same-unfound : v.unfound ≡ was_unfound)
     (before : StoresOn o was was_unfound v.odometer (with_second spans v.odometer t0)) where
   abbrev p : Progress
@@ -274,29 +274,29 @@ module _ (o : Origin) (first : o.found.unit.first ≡ first_of o) (done : List T
   abbrev log : RunLog
   log = and_break v.log (cut_at s.number true (begun_by s at))
 
-  abbrev t : Told
+  abbrev t : ToldSecond
   t = next_told log done s
 
-  abbrev f : Followed (rule_of o) (start_at o) o.from (first_of o) done p
+  abbrev f : BookFollowsRun (rule_of o) (start_at o) o.from (first_of o) done p
   f = w.began.followed
 
   is-lit : t.lit ≡ true
-  is-lit = ap (λ (x : Told). x.lit) (ends o done s at waits speed v d w left_actions left)
+  is-lit = ap (λ (x : ToldSecond). x.lit) (ends o done s at waits speed v d w left_actions left)
 
   is-cut : t.cut ≡ true
-  is-cut = ap (λ (x : Told). x.cut) (ends o done s at waits speed v d w left_actions left)
+  is-cut = ap (λ (x : ToldSecond). x.cut) (ends o done s at waits speed v d w left_actions left)
 
   begins-so : t.starts ≡ begins_with w.b.span
-  begins-so = ap (λ (x : Told). x.starts) (ends o done s at waits speed v d w left_actions left)
+  begins-so = ap (λ (x : ToldSecond). x.starts) (ends o done s at waits speed v d w left_actions left)
 
   -- the spans before the one that is cut
-  record Going (span : List Told) : Type 0 where
+  record Going (span : List ToldSecond) : Type 0 where
     earlier : List SpanFrom
     stands : StandsOn o p.log p.unfound earlier v.odometer
     were : spans_of (went p.log done).told ≡ map (λ (x : SpanFrom). x.span) earlier ++ as_spans span
     now : with_second spans v.odometer t ≡ earlier ++ record { base = v.odometer; span = span ++ t ∷ [] } ∷ []
 
-  going : (span : List Told) → p.supply ≡ Lit span → t.lit ≡ true → t.starts ≡ begins_with span → Going span
+  going : (span : List ToldSecond) → p.supply ≡ Lit span → t.lit ≡ true → t.starts ≡ begins_with span → Going span
   going [] lit is_lit begins =
       let g = lit-parts (rule_of o) (start_at o) o.from (first_of o) done p f [] lit w.began.waiting in
       let on : t0.starts ≡ true = starts0 ∙ ap not g.power.running in
@@ -317,8 +317,8 @@ module _ (o : Origin) (first : o.found.unit.first ≡ first_of o) (done : List T
       record {
         earlier = on.earlier;
         stands = on.stands;
-        were = sym are ∙ mapped_ ∙ ap (λ (sp : List Told). map (λ (y : SpanFrom). y.span) on.earlier ++ sp ∷ []) same.1;
-        now = next-are on.earlier v.odometer on.span spans v.odometer t on.are is_lit begins ∙ ap (λ (sp : List Told). on.earlier ++ record { base = v.odometer; span = sp ++ t ∷ [] } ∷ []) same.1;
+        were = sym are ∙ mapped_ ∙ ap (λ (sp : List ToldSecond). map (λ (y : SpanFrom). y.span) on.earlier ++ sp ∷ []) same.1;
+        now = next-are on.earlier v.odometer on.span spans v.odometer t on.are is_lit begins ∙ ap (λ (sp : List ToldSecond). on.earlier ++ record { base = v.odometer; span = sp ++ t ∷ [] } ∷ []) same.1;
       })
       so.1)
       (in-second o p.log p.unfound v.odometer spans t0 lit0 h)
@@ -326,7 +326,7 @@ module _ (o : Origin) (first : o.found.unit.first ≡ first_of o) (done : List T
   gone : Going w.b.span
   gone = going w.b.span w.lit is-lit begins-so
 
-  abbrev span : List Told
+  abbrev span : List ToldSecond
   span = w.b.span ++ t ∷ []
 
   abbrev spans-now : List SpanFrom
@@ -348,10 +348,10 @@ module _ (o : Origin) (first : o.found.unit.first ≡ first_of o) (done : List T
       let by = goes o done s at waits speed v d w left_actions left in
       let told : (went log (done ++ s ∷ [])).told ≡ (went p.log done).told ++ t ∷ [] = now-told (rule_of o) (start_at o) o.from (first_of o) done p f.order f.next f.unfound s log by in
       let are_now : spans_of (went log (done ++ s ∷ [])).told ≡ map (λ (x : SpanFrom). x.span) gone.earlier ++ span ∷ [] =
-      ap spans_of told ∙ spans-more (went p.log done).told t ∙ ap (λ (ss : List (List Told)). spans_with ss t) (sym are) ∙ sym (are-spans spans v.odometer t) ∙ ap (map (λ (x : SpanFrom). x.span)) gone.now
+      ap spans_of told ∙ spans-more (went p.log done).told t ∙ ap (λ (ss : List (List ToldSecond)). spans_with ss t) (sym are) ∙ sym (are-spans spans v.odometer t) ∙ ap (map (λ (x : SpanFrom). x.span)) gone.now
       ∙ map-append (λ (x : SpanFrom). x.span) gone.earlier (record { base = v.odometer; span = span } ∷ []) in
       (apart-last o.from (o.from + length (done ++ s ∷ [])) (map (λ (x : SpanFrom). x.span) gone.earlier) span
-      (subst (λ (ss : List (List Told)). AreApart o.from ss (o.from + length (done ++ s ∷ []))) are_now (spanned log o.from (done ++ s ∷ []) after.recorded.followed.order).apart)).1
+      (subst (λ (ss : List (List ToldSecond)). AreApart o.from ss (o.from + length (done ++ s ∷ []))) are_now (spanned log o.from (done ++ s ∷ []) after.recorded.followed.order).apart)).1
 
   abbrev more : List Minute
   more = w.rest ++ (decides o done s at waits speed v d w left_actions left).0
@@ -380,7 +380,7 @@ module _ (o : Origin) (first : o.found.unit.first ≡ first_of o) (done : List T
   travel = stranded_at w.lost (all_travelled w.ds w.b.travel)
 
   was-shut : AreShutLegs (rule_of o) (first_of o) p.log (take p.unfound p.log.breaks) w.began.legs.ended w.b.span p.book w.b.travel
-  was-shut = subst (λ (sup : Supply). AreLegsOf (rule_of o) (first_of o) p.log (take p.unfound p.log.breaks) w.began.legs.ended sup p.book w.b.travel) w.lit w.began.legs.legs
+  was-shut = subst (λ (sup : UnitPower). AreLegsOf (rule_of o) (first_of o) p.log (take p.unfound p.log.breaks) w.began.legs.ended sup p.book w.b.travel) w.lit w.began.legs.legs
 
   same-before : travel.before ≡ w.b.travel.before
   same-before = stranded-before w.lost (all_travelled w.ds w.b.travel) ∙ travelled-earlier w.ds w.b.travel
@@ -413,7 +413,7 @@ module _ (o : Origin) (first : o.found.unit.first ≡ first_of o) (done : List T
   pub stored-cut : StoresOff o log v.unfound (spans_cut spans v.odometer log done s) d
   stored-cut =
       let by = goes o done s at waits speed v d w left_actions left in
-      let lines = subst (λ (sup : Supply). AllByRecursion (IsBreakBefore (cuts_from sup p.next) p.next) p.log.breaks) w.lit f.lines.breaks in
+      let lines = subst (λ (sup : UnitPower). AllByRecursion (IsBreakBefore (cuts_from sup p.next) p.next) p.log.breaks) w.lit f.lines.breaks in
       let low = cuts-low w.b.span p.next in
       let is : s.number ≡ p.next = w.moment.number in
       subst (λ (ss : List SpanFrom). StoresOff o log v.unfound ss d) (sym gone.now)
@@ -424,12 +424,12 @@ module _ (o : Origin) (first : o.found.unit.first ≡ first_of o) (done : List T
 
 -- ---- POWER IS BACK: the unit was read
 
-module _ (o : Origin) (done : List TraceSecond) (supply : Supply) (v : Values) (d : Devices) (r : Recorded o done supply v d) (may : MayPower supply v.next) (k leg : ℕ) (shown : MayShow (first_of o) r.book r.travel k leg)
+module _ (o : Origin) (done : List TraceSecond) (supply : UnitPower) (v : Values) (d : Devices) (r : RecordBetweenSeconds o done supply v d) (may : MayPower supply v.next) (k leg : ℕ) (shown : MayShow (first_of o) r.book r.travel k leg)
     (spans : List SpanFrom) (are : map (λ (x : SpanFrom). x.span) spans ≡ spans_of (went v.log done).told) where
   abbrev p-read : Progress
   p-read = found_again k (progress v supply r.book)
 
-  read-followed : Followed (rule_of o) (start_at o) o.from (first_of o) done p-read
+  read-followed : BookFollowsRun (rule_of o) (start_at o) o.from (first_of o) done p-read
   read-followed = (found-recorded o done (progress v supply r.book) r.travel v.marks (breakdowns_of d) r.brought r.recorded may k leg shown).followed
 
   -- an image of the unit has this last-kept minute, which was found

@@ -7,17 +7,17 @@ use Rattle.trace_model.specs.Trace.{TraceSecond}
 use Rattle.minute_model.specs.declared.Minute.{Minute}
 use Rattle.log_model.specs.declared.lines.Break.{Break}
 use Rattle.log_model.specs.Causes.{second_of}
-use Rattle.log_model.specs.Course.{Told, Visit, Went, went}
+use Rattle.log_model.specs.Course.{ToldSecond, Visit, Went, went}
 use Rattle.log_model.specs.Log.{RunLog, Phase}
 use Rattle.log_model.specs.Spans.{spans_of}
 use Rattle.run_unit_course.specs.Lines.{cut_at}
-use Rattle.run_unit_course.specs.Followed.{Supply, Lit as IsLit, Due as IsDue, Lost as IsLost}
+use Rattle.run_unit_course.specs.Followed.{UnitPower, Lit as IsLit, Due as IsDue, Lost as IsLost}
 use Rattle.run_unit_course.specs.Turn.{cut_last}
 use Rattle.unit_model.specs.Image.{last_kept, odometer_at}
 use Rattle.unit_rule.specs.Rule.{Started}
 use Rattle.note_model.specs.Odometer.{SpanFrom, HaveBases, MayStore}
 use Rattle.safety_model.specs.Safe.{Devices}
-use Rattle.run_course.specs.Followed.{Progress, Followed}
+use Rattle.run_course.specs.Followed.{Progress, BookFollowsRun}
 use Rattle.run_course.specs.Moments.{and_break}
 use Rattle.run_course.specs.Telling.{IsLeft, begun_by}
 use Rattle.run_outcome.specs.declared.outcome.Outcome.{Outcome}
@@ -27,8 +27,8 @@ use Rattle.run_note_record.specs.RingsSoFar.{HasMoreBreaks}
 use Rattle.run_note_record.specs.Steps.{spans_cut}
 use Rattle.run_note_record.specs.Stored.{StoresOn, StoresOff, Stores}
 use Rattle.run_note_record.proofs.Bases.{stored-bases}
-use Rattle.run_record.specs.Recorded.{Values, Recorded}
-use Rattle.run_record.specs.Within.{CutWithin}
+use Rattle.run_record.specs.Recorded.{Values, RecordBetweenSeconds}
+use Rattle.run_record.specs.Within.{RecordAtFailure}
 use Rattle.run_acts.specs.declared.run.Run.{Run}
 use Rattle.run_acts.specs.declared.run.Power.{Power}
 use Rattle.run_acts.specs.declared.run.Power.TheVariants.{Lit, Due, Lost}
@@ -43,7 +43,7 @@ found-first o origin = ap (λ (u : Started). u.first) origin.unit
 
 -- ---- WHILE THERE IS POWER
 
-supplied : (power : Power) (supply : Supply) → Supplies power supply → power ≡ Lit → (t : Told) × (span : List Told) × (supply ≡ IsLit (t ∷ span))
+supplied : (power : Power) (supply : UnitPower) → Supplies power supply → power ≡ Lit → (t : ToldSecond) × (span : List ToldSecond) × (supply ≡ IsLit (t ∷ span))
 supplied Lit (IsLit []) h is = absurd h
 supplied Lit (IsLit (t ∷ span)) h is = (t, span, refl)
 supplied Lit IsDue h is = absurd h
@@ -53,35 +53,35 @@ supplied Lost supply h is = absurd (cc)
 
 module _ (o : Origin) (done : List TraceSecond) (run : Run) (out : Outcome) (d : Devices) (r : RunRecorded o done run out d) (lit : run.power ≡ Lit) (spans : List SpanFrom) (are : map (λ (s : SpanFrom). s.span) spans ≡ spans_of (went (log_of out) done).told)
     (h : StoresOn o (log_of out) run.unfound run.keeper.odometer spans) where
-  span-is : (t : Told) × (span : List Told) × (r.supply ≡ IsLit (t ∷ span))
+  span-is : (t : ToldSecond) × (span : List ToldSecond) × (r.supply ≡ IsLit (t ∷ span))
   span-is = supplied run.power r.supply r.powers lit
 
-  recorded-so : Recorded o done (IsLit (span-is.0 ∷ span-is.1)) (values_of run out) d
-  recorded-so = subst (λ (supply : Supply). Recorded o done supply (values_of run out) d) span-is.2 r.recorded
+  recorded-so : RecordBetweenSeconds o done (IsLit (span-is.0 ∷ span-is.1)) (values_of run out) d
+  recorded-so = subst (λ (supply : UnitPower). RecordBetweenSeconds o done supply (values_of run out) d) span-is.2 r.recorded
 
   same : (map (λ (s : SpanFrom). s.span) h.earlier ≡ recorded-so.recorded.followed.ended) × (h.span ≡ span-is.0 ∷ span-is.1)
   same = same_from_push (map (λ (s : SpanFrom). s.span) h.earlier) recorded-so.recorded.followed.ended h.span (span-is.0 ∷ span-is.1)
       (sym (ap (map (λ (s : SpanFrom). s.span)) h.are ∙ map-append (λ (s : SpanFrom). s.span) h.earlier (record { base = run.keeper.odometer; span = h.span } ∷ [])) ∙ are ∙ recorded-so.recorded.followed.spans)
 
   are-so : spans_of (went (log_of out) done).told ≡ map (λ (s : SpanFrom). s.span) h.earlier ++ (span-is.0 ∷ span-is.1) ∷ []
-  are-so = recorded-so.recorded.followed.spans ∙ ap (λ (l : List (List Told)). l ++ (span-is.0 ∷ span-is.1) ∷ []) (sym same.0)
+  are-so = recorded-so.recorded.followed.spans ∙ ap (λ (l : List (List ToldSecond)). l ++ (span-is.0 ∷ span-is.1) ∷ []) (sym same.0)
 
   -- each image has stored so
   pub run-stores : (x : List ℕ) → d.unit.may_leave x → MayStore (rule_of o) (odometer_at o.recording.unit) (first_of o) spans (last_kept x) (odometer_at x)
   run-stores x on =
       subst (λ (l : List SpanFrom). MayStore (rule_of o) (odometer_at o.recording.unit) (first_of o) l (last_kept x) (odometer_at x))
-      (sym (h.are ∙ ap (λ (sp : List Told). h.earlier ++ record { base = run.keeper.odometer; span = sp } ∷ []) same.1))
+      (sym (h.are ∙ ap (λ (sp : List ToldSecond). h.earlier ++ record { base = run.keeper.odometer; span = sp } ∷ []) same.1))
       (lit-stores o (found-first o r.origin) done (values_of run out) d span-is.0 span-is.1 recorded-so h.earlier are-so h.stands (span-is.0 ∷ span-is.1) refl x on)
 
   pub run-bases : HaveBases (rule_of o) (log_of out) (odometer_at o.recording.unit) (first_of o) [] spans
   run-bases = stored-bases o (log_of out) run.unfound run.keeper.odometer spans h
 
   -- an `off` line takes the power: of the last span the last second turns out to be a cut's
-  pub run-off : (cut : List SpanFrom) → ((earlier : List SpanFrom) (base : ℕ) (span : List Told) → spans ≡ earlier ++ record { base = base; span = span } ∷ [] → cut ≡ earlier ++ record { base = base; span = cut_last span } ∷ []) →
+  pub run-off : (cut : List SpanFrom) → ((earlier : List SpanFrom) (base : ℕ) (span : List ToldSecond) → spans ≡ earlier ++ record { base = base; span = span } ∷ [] → cut ≡ earlier ++ record { base = base; span = cut_last span } ∷ []) →
       StoresOff o (and_break (log_of out) (cut_at (run.next - 1) false run.begun)) run.unfound cut d
   run-off cut cuts =
       subst (λ (l : List SpanFrom). StoresOff o (and_break (log_of out) (cut_at (run.next - 1) false run.begun)) run.unfound l d)
-      (sym (cuts h.earlier run.keeper.odometer h.span h.are ∙ ap (λ (sp : List Told). h.earlier ++ record { base = run.keeper.odometer; span = cut_last sp } ∷ []) same.1))
+      (sym (cuts h.earlier run.keeper.odometer h.span h.are ∙ ap (λ (sp : List ToldSecond). h.earlier ++ record { base = run.keeper.odometer; span = cut_last sp } ∷ []) same.1))
       (lit-off o (found-first o r.origin) done (values_of run out) d span-is.0 span-is.1 recorded-so h.earlier are-so h.stands)
 
 -- ---- AT THE END, by the power: with which odometer each span began, and what each image has stored
@@ -108,8 +108,8 @@ end-stores o done run out d r spans are h = by run.power refl
 -- ---- POWER IS CUT within a second, which began so
 
 -- from the record of the seconds before it
-module _ (o : Origin) (first : o.found.unit.first ≡ first_of o) (done : List TraceSecond) (s : TraceSecond) (p : Progress) (f : Followed (rule_of o) (start_at o) o.from (first_of o) done p) (span : List Told) (lit : p.supply ≡ IsLit span) (number : s.number ≡ p.next)
-    (at : Phase) (waits : List Visit) (speed : Option ℕ) (v : Values) (e : Devices) (c : CutWithin o done s at waits speed v e) (left_actions : List Action) (left : IsLeft s at left_actions) where
+module _ (o : Origin) (first : o.found.unit.first ≡ first_of o) (done : List TraceSecond) (s : TraceSecond) (p : Progress) (f : BookFollowsRun (rule_of o) (start_at o) o.from (first_of o) done p) (span : List ToldSecond) (lit : p.supply ≡ IsLit span) (number : s.number ≡ p.next)
+    (at : Phase) (waits : List Visit) (speed : Option ℕ) (v : Values) (e : Devices) (c : RecordAtFailure o done s at waits speed v e) (left_actions : List Action) (left : IsLeft s at left_actions) where
   begun-early : AllByRecursion (λ (b : Break). second_of b < s.number) p.log.breaks
   begun-early = subst (λ (n : ℕ). AllByRecursion (λ (b : Break). second_of b < n) p.log.breaks) (sym number) (lines-early o done p f span lit)
 
@@ -122,7 +122,7 @@ module _ (o : Origin) (first : o.found.unit.first ≡ first_of o) (done : List T
 
   -- the spans and the second are as they were by the log as it began
   pub cut-stored : v.unfound ≡ p.unfound → (base : ℕ) → v.odometer ≡ base → HasMoreBreaks p.log v.log → went (and_break v.log (cut_at s.number true (begun_by s at))) done ≡ went p.log done →
-      (spans : List SpanFrom) → map (λ (x : SpanFrom). x.span) spans ≡ spans_of (went p.log done).told → (t : Told) → t.lit ≡ true → t.starts ≡ not (went p.log done).before.running →
+      (spans : List SpanFrom) → map (λ (x : SpanFrom). x.span) spans ≡ spans_of (went p.log done).told → (t : ToldSecond) → t.lit ≡ true → t.starts ≡ not (went p.log done).before.running →
       StoresOn o p.log p.unfound base (with_second spans base t) → StoresOff o (and_break v.log (cut_at s.number true (begun_by s at))) v.unfound (spans_cut spans base (and_break v.log (cut_at s.number true (begun_by s at))) done s) e
   cut-stored unfound base is more behind spans are t is_lit starts h =
       let went_same : went p.log done ≡ went c.b.run.log done = sym behind ∙ went-cut in
@@ -139,7 +139,7 @@ module _ (o : Origin) (done : List TraceSecond) (s : TraceSecond) (at : Phase) (
   cut = and_break (log_of out) (cut_at s.number true (begun_by s later))
 
   pub run-cut : run.unfound ≡ old.unfound → (base : ℕ) → run.keeper.odometer ≡ base → HasMoreBreaks w.within.b.run.log (log_of out) → went cut done ≡ went w.within.b.run.log done →
-      (spans : List SpanFrom) → map (λ (x : SpanFrom). x.span) spans ≡ spans_of (went w.within.b.run.log done).told → (t : Told) → t.lit ≡ true → t.starts ≡ not (went w.within.b.run.log done).before.running →
+      (spans : List SpanFrom) → map (λ (x : SpanFrom). x.span) spans ≡ spans_of (went w.within.b.run.log done).told → (t : ToldSecond) → t.lit ≡ true → t.starts ≡ not (went w.within.b.run.log done).before.running →
       StoresOn o w.within.b.run.log w.within.b.run.unfound base (with_second spans base t) → StoresOff o cut run.unfound (spans_cut spans base cut done s) e
   run-cut unfound base is more behind spans are t is_lit starts h =
       cut-stored o (found-first o w.origin) done s w.within.b.run w.within.began.followed w.within.b.span w.within.lit w.within.moment.number

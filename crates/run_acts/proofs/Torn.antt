@@ -12,7 +12,7 @@ use Rattle.run_crew.specs.declared.cards.Accepted.{Accepted}
 use Rattle.run_crew.specs.declared.cards.Cards.{Cards}
 use Rattle.run_crew.specs.declared.cabin.Cabin.{Cabin}
 use Rattle.run_crew.specs.Cards.{session_of, with_session}
-use Rattle.run_crew.specs.Cabin.{Stands, AnswersTo, SeatAnswers, AreTwo, torn_out, left_from, slot_with, with_power_lost}
+use Rattle.run_crew.specs.Cabin.{CabinIsSound, AnswersTo, SeatAnswers, AreTwo, torn_out, left_from, slot_with, with_power_lost}
 use Rattle.run_minutes.specs.Keeping.{AreEmptied, SessionsGoOn, Fell, tears_of, most_tears}
 use Rattle.run_minutes.proofs.Seats.{fate-seats, sessions-none}
 use Rattle.run_acts.specs.Room.{bare_count, bare_seats, falls_of}
@@ -90,7 +90,7 @@ sits-by Driver seats card is = inl is
 sits-by CoDriver seats card is = inr is
 
 -- a card that sits in a slot is one that can fall
-pub sitting-falls : (card : Card) (slot : Slot) (second from : ℕ) (leaving : Option Card) (cabin : Cabin) → is_card (seat_in cabin.slots.seats slot) card ≡ true → Stands from leaving cabin → falls_of (torn_out card second cabin) + 1 ≤ falls_of cabin
+pub sitting-falls : (card : Card) (slot : Slot) (second from : ℕ) (leaving : Option Card) (cabin : Cabin) → is_card (seat_in cabin.slots.seats slot) card ≡ true → CabinIsSound from leaving cabin → falls_of (torn_out card second cabin) + 1 ≤ falls_of cabin
 sitting-falls card slot second from leaving cabin is h = by (session_of cabin.cards card) refl
   where
     by : (o : Option Accepted) → session_of cabin.cards card ≡ o → falls_of (torn_out card second cabin) + 1 ≤ falls_of cabin
@@ -144,7 +144,7 @@ all-tears (Some s) None cards two = let t = one-tear s.card cards in omega (arit
 all-tears (Some s) (Some t) cards two = two-tears s.card t.card cards two
 
 -- each card that sat in a slot sits there still, and none has a session
-pub cut-falls : (second from : ℕ) (leaving : Option Card) (cabin : Cabin) → Stands from leaving cabin → falls_of (with_power_lost second cabin) ≤ falls_of cabin
+pub cut-falls : (second from : ℕ) (leaving : Option Card) (cabin : Cabin) → CabinIsSound from leaving cabin → falls_of (with_power_lost second cabin) ≤ falls_of cabin
 cut-falls second from leaving cabin h =
     let d = seat-dark from cabin.cards cabin.slots.seats.driver h.driver in
     let e = seat-dark from cabin.cards cabin.slots.seats.codriver h.codriver in

@@ -14,7 +14,7 @@ use Rattle.minute_model.specs.Span.{activity_next}
 use Rattle.log_model.specs.declared.lines.Find.{Find}
 use Rattle.log_model.specs.declared.lines.Verdict.TheVariants.{Accepted}
 use Rattle.log_model.specs.Log.{RunLog, In, cut_in, is_torn_in, found_in}
-use Rattle.log_model.specs.Course.{Told, Visit, Before, went, second_told}
+use Rattle.log_model.specs.Course.{ToldSecond, Visit, Before, went, second_told}
 use Rattle.log_model.specs.Spans.{spans_of}
 use Rattle.event_model.specs.Events.{course_by}
 use Rattle.history_model.specs.Growth.{picking}
@@ -40,13 +40,13 @@ third = record { number = 86402; has_power = true; speed = 0; actions = Select D
 abbrev trace : List TraceSecond
 trace = first ∷ second ∷ third ∷ []
 
-abbrev first_told : Told
+abbrev first_told : ToldSecond
 first_told = second_told quiet (went quiet []).before first
 
-abbrev next_told : Told
+abbrev next_told : ToldSecond
 next_told = second_told quiet (went quiet (first ∷ [])).before second
 
-abbrev last_told : Told
+abbrev last_told : ToldSecond
 last_told = second_told quiet (went quiet (first ∷ second ∷ [])).before third
 
 -- a card was accepted as power came with the first of them, and one with the third action of the third

@@ -5,7 +5,7 @@ use Rattle.trace_model.specs.Trace.{TraceSecond, driven}
 use Rattle.minute_model.specs.declared.Minute.{Minute}
 use Rattle.log_model.specs.declared.lines.Break.{Break}
 use Rattle.log_model.specs.Log.{RunLog, Phase}
-use Rattle.log_model.specs.Course.{Told, Visit, Before, Went, has_power, went, second_told}
+use Rattle.log_model.specs.Course.{ToldSecond, Visit, Before, Went, has_power, went, second_told}
 use Rattle.log_model.specs.Spans.{spans_of}
 use Rattle.log_model.proofs.Growth.{went-more}
 use Rattle.unit_model.specs.Image.{odometer_at}
@@ -14,7 +14,7 @@ use Rattle.run_promise.specs.Origin.{Origin, rule_of, start_at}
 use Rattle.run_promise.specs.Whole.{NothingFailed}
 use Rattle.safety_model.specs.Safe.{Devices}
 use Rattle.run_record.specs.Recorded.{Values}
-use Rattle.run_record.specs.Within.{Within}
+use Rattle.run_record.specs.Within.{RecordInSecond}
 use Rattle.run_record.specs.Turning.{last_of, before_last}
 use Rattle.run_acts.specs.Truths.{Grow, past_of, truths_of, truths_within, SpansGoOn, PastGoesOn}
 use Rattle.run_acts.proofs.AllStay.{fewer-none}
@@ -41,7 +41,7 @@ spans-then : (log : RunLog) (done more : List TraceSecond) → SpansGoOn (spans_
 spans-then log done [] = subst (λ (ss : List TraceSecond). SpansGoOn (spans_of (went log done).told) (spans_of (went log ss).told)) (sym (append-nil done)) (spans-same (spans_of (went log done).told))
 spans-then log done (s ∷ more) =
     spans-on (spans_of (went log done).told) (spans_of (went log (done ++ s ∷ [])).told) (spans_of (went log (done ++ s ∷ more)).told)
-    (subst (λ (ts : List Told). SpansGoOn (spans_of (went log done).told) (spans_of ts)) (sym (told-more log done s)) (spans-more (went log done).told (second_told log (went log done).before s ∷ [])))
+    (subst (λ (ts : List ToldSecond). SpansGoOn (spans_of (went log done).told) (spans_of ts)) (sym (told-more log done s)) (spans-more (went log done).told (second_told log (went log done).before s ∷ [])))
     (subst (λ (ss : List TraceSecond). SpansGoOn (spans_of (went log (done ++ s ∷ [])).told) (spans_of (went log ss).told)) (append_assoc done (s ∷ []) more) (spans-then log (done ++ s ∷ []) more))
 
 past-then : (log : RunLog) (done more : List TraceSecond) → PastGoesOn (past_of log done) (past_of log (done ++ more))
@@ -59,18 +59,18 @@ past-same log later done same = record {
 -- or of all but the last
 past-later : (log later : RunLog) (done : List TraceSecond) (s : TraceSecond) → went later done ≡ went log done → PastGoesOn (past_of log (done ++ s ∷ [])) (past_of later (done ++ s ∷ []))
 past-later log later done s same =
-    let ts : List Told = (went log done).told in
+    let ts : List ToldSecond = (went log done).told in
     let b : Before = (went log done).before in
     record {
       seconds = λ x at. at;
-      spans = subst (λ (l : List Told). SpansGoOn (spans_of l) (spans_of (went later (done ++ s ∷ [])).told)) (sym (told-more log done s))
-          (subst (λ (l : List Told). SpansGoOn (spans_of (ts ++ second_told log b s ∷ [])) (spans_of l)) (sym (told-more later done s ∙ ap (λ (w : Went). w.told ++ second_told later w.before s ∷ []) same))
+      spans = subst (λ (l : List ToldSecond). SpansGoOn (spans_of l) (spans_of (went later (done ++ s ∷ [])).told)) (sym (told-more log done s))
+          (subst (λ (l : List ToldSecond). SpansGoOn (spans_of (ts ++ second_told log b s ∷ [])) (spans_of l)) (sym (told-more later done s ∙ ap (λ (w : Went). w.told ++ second_told later w.before s ∷ []) same))
           (spans-alike ts (second_told log b s) (second_told later b s) (alike log later b s)));
     }
 
 -- ---- no call had failed as a second began
 
-pub began-none : (o : Origin) (done : List TraceSecond) (s : TraceSecond) (at : Phase) (waits : List Visit) (speed : Option ℕ) (rest : List Minute) (v : Values) (d : Devices) (w : Within o done s at waits speed rest v d) → NothingFailed v.log → NothingFailed w.b.run.log
+pub began-none : (o : Origin) (done : List TraceSecond) (s : TraceSecond) (at : Phase) (waits : List Visit) (speed : Option ℕ) (rest : List Minute) (v : Values) (d : Devices) (w : RecordInSecond o done s at waits speed rest v d) → NothingFailed v.log → NothingFailed w.b.run.log
 began-none o done s at waits speed rest v d w none =
     fewer-none w.b.run.log w.moment.breaks (subst (λ (bs : List Break). NothingFailed (record w.b.run.log { breaks = bs })) w.moment.breaks_are none)
 

@@ -7,28 +7,28 @@ use Rattle.minute_model.specs.declared.Minute.{Minute}
 use Rattle.unit_notes.specs.Journal.{LeavesJournal}
 use Rattle.safety_model.specs.Safe.{Devices}
 use Rattle.run_promise.specs.Found.{Found}
-use Rattle.run_promise.specs.Between.{Carried, devices}
+use Rattle.run_promise.specs.Between.{RunLedger, devices}
 use Rattle.run_unit_course.specs.Legs.{all_travelled}
 use Rattle.run_devices.proofs.Noted.{noted-powered, noted-powerless}
 use Rattle.run_devices.proofs.Travelled.{travelled-noted}
 use Rattle.run_minutes.specs.declared.keeper.Moment.{Moment}
-use Rattle.run_minutes.specs.Minutes.{Done, Reach, Whole, Short, Told, IsReach}
+use Rattle.run_minutes.specs.Minutes.{Done, Reach, Whole, Short, KeepingState, IsReach}
 use Rattle.run_minutes.specs.Deeds.{AllKeep, kepts_on}
 use Rattle.run_minutes.specs.Books.{AreBooked, HaveTime, AreTimedOn}
 use Rattle.run_minutes.specs.Decided.{BooksAll, carried_by}
 use Rattle.run_acts.specs.Booked.{IsTurnReach, BooksTurn}
 
 -- the unit failed in one of the minutes
-pub turn-cut : (decided : List Minute) (at : Moment) (t u : Told) (d e : Devices) (reach : Reach) → IsReach decided at true t u reach → BooksAll decided true reach t u d e → (r : Reach) × IsTurnReach decided at true t u r × BooksTurn decided true r t u d e
+pub turn-cut : (decided : List Minute) (at : Moment) (t u : KeepingState) (d e : Devices) (reach : Reach) → IsReach decided at true t u reach → BooksAll decided true reach t u d e → (r : Reach) × IsTurnReach decided at true t u r × BooksTurn decided true r t u d e
 turn-cut decided at t u d e (Whole xs) is books = absurd is
 turn-cut decided at t u d e (Short xs m round) is books = (Short xs m round, is, books)
 
 -- all are kept, and what has ended is noted
-module _ (decided : List Minute) (at : Moment) (t u : Told) (d : Devices) (U V X Y : State) (whole : IsCoherent U) (run : LeavesOnly U V LeavesJournal) where
+module _ (decided : List Minute) (at : Moment) (t u : KeepingState) (d : Devices) (U V X Y : State) (whole : IsCoherent U) (run : LeavesOnly U V LeavesJournal) where
   earlier : HaveTime (devices V X Y) → HaveTime (devices U X Y)
   earlier time = record { unit = omega (arith, time.unit, run.later); card_a = time.card_a; card_b = time.card_b }
 
-  noted-booked : (f : Found) (w : Carried) → AreBooked f w u.keeper.cabin.cards u.marks.items (devices U X Y) → V.works ≡ true → AreBooked f w u.keeper.cabin.cards u.marks.items (devices V X Y)
+  noted-booked : (f : Found) (w : RunLedger) → AreBooked f w u.keeper.cabin.cards u.marks.items (devices U X Y) → V.works ≡ true → AreBooked f w u.keeper.cabin.cards u.marks.items (devices V X Y)
   noted-booked f w booked works = record {
     found = booked.found;
     powered = noted-powered f w u.keeper.cabin.cards U V X Y booked.found whole booked.powered run works;

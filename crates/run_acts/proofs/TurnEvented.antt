@@ -10,7 +10,7 @@ use Rattle.log_model.specs.declared.lines.Break.{Break}
 use Rattle.log_model.specs.declared.lines.Mark.{Mark}
 use Rattle.log_model.specs.Log.{RunLog, Keeping}
 use Rattle.log_model.specs.Causes.{RoseBy}
-use Rattle.log_model.specs.Course.{Told as Second, went}
+use Rattle.log_model.specs.Course.{ToldSecond as Second, went}
 use Rattle.unit_memory.specs.declared.memory.UnitFacts.{UnitFacts}
 use Rattle.unit_model.specs.Image.{IsUnit, odometer_at}
 use Rattle.unit_rule.specs.Odometer.{odometer_after}
@@ -40,10 +40,10 @@ use Rattle.run_note_record.proofs.Ending.{ends-added}
 use Rattle.run_minutes.specs.declared.keeper.Keeper.{Keeper}
 use Rattle.run_minutes.specs.declared.keeper.Moment.{Moment}
 use Rattle.run_minutes.specs.Books.{HaveTime}
-use Rattle.run_minutes.specs.Minutes.{Told, Reach, Whole, Short, present_at}
+use Rattle.run_minutes.specs.Minutes.{KeepingState, Reach, Whole, Short, present_at}
 use Rattle.run_minutes.specs.Faults.{faults_to, NotesFaults}
 use Rattle.run_record.specs.Recorded.{Values}
-use Rattle.run_record.specs.Within.{Within}
+use Rattle.run_record.specs.Within.{RecordInSecond}
 use Rattle.run_acts.specs.declared.run.Run.{Run}
 use Rattle.run_acts.specs.declared.run.Power.{Power}
 use Rattle.run_acts.specs.declared.run.Power.TheVariants.{Lit}
@@ -65,7 +65,7 @@ use Rattle.run_acts.proofs.Numbers.{all-long, so-as, told-named}
 use Rattle.run_acts.proofs.RoundFaults.{AddsFaults, IsUntoldAt, HasCome, keeping-adds, keeping-moment, keeping-cuts, keeping-notes}
 use Rattle.run_acts.proofs.TurnRecorded.{pushed, keeps, off, rose, at-is}
 
-pub turn-come : (all : List Minute) (at : Moment) (failed : Bool) (t u : Told) (reach : Reach) → IsTurnReach all at failed t u reach → HasCome all at t u reach
+pub turn-come : (all : List Minute) (at : Moment) (failed : Bool) (t u : KeepingState) (reach : Reach) → IsTurnReach all at failed t u reach → HasCome all at t u reach
 turn-come all at failed t u (Whole xs) is = is
 turn-come all at false t u (Short xs m round) is = absurd is
 turn-come all at true t u (Short xs m round) is = is
@@ -76,7 +76,7 @@ module _ (old : Run) (before : Outcome) (minutes : Kept) (keeper : Keeper) (watc
     (books : BooksTurn decided failed reach (told_of (record old { minutes = minutes }) before) (told_of (record old { minutes = minutes; keeper = keeper; watch = watch }) (record before { marks = marks; breaks = breaks })) d e)
     (devices : DevicesGoOn failed old.keeper.cabin.cards keeper.cabin.cards d e) (odometer : keeper.odometer ≡ old.keeper.odometer) (two : (m : ℕ) → AreTwo (present_at old.keeper.cabin m).driver (present_at old.keeper.cabin m).codriver)
     (lit : old.power ≡ Lit) (some : 0 < n) (time : HaveTime e)
-    (o : Origin) (origin : IsOrigin o) (done : List TraceSecond) (s : TraceSecond) (next gone : ℕ) (w : Within o done s Keeping [] (Some s.speed) decided (record (values_of old before) { minutes = minutes; next = next; begun = gone }) d)
+    (o : Origin) (origin : IsOrigin o) (done : List TraceSecond) (s : TraceSecond) (next gone : ℕ) (w : RecordInSecond o done s Keeping [] (Some s.speed) decided (record (values_of old before) { minutes = minutes; next = next; begun = gone }) d)
     (number : s.number ≡ old.next + n - 1) (next_is : next ≡ old.next + n - 1) (actions : length s.actions ≡ begun) (stored : old.keeper.odometer ≡ odometer_after (odometer_at o.recording.unit) w.b.travel.before)
     (few : s.number / 60 ≤ w.from + 4) (low_end : w.from + length decided ≤ s.number / 60)
     (small : s.number < 2 ^ 32) (well : AllSitWell old.keeper.cabin) (untold : IsUntoldAt s Keeping (log_of before) old.keeper.cabin decided) (whole : IsCoherent d.unit) (unit : IsUnit d.unit)
@@ -97,10 +97,10 @@ module _ (old : Run) (before : Outcome) (minutes : Kept) (keeper : Keeper) (watc
   abbrev v : Values
   v = record (values_of old before) { minutes = minutes; next = next; begun = gone }
 
-  abbrev t : Told
+  abbrev t : KeepingState
   t = told_of fed before
 
-  abbrev u : Told
+  abbrev u : KeepingState
   u = told_of between told
 
   abbrev later : RunLog

@@ -9,14 +9,14 @@ use Rattle.card_layout.specs.declared.command.CardState.{CardState}
 use Rattle.tach_media.specs.Medium.{State, IsCoherent}
 use Rattle.minute_model.specs.declared.Minute.{Minute}
 use Rattle.minute_model.specs.Span.{Span, decided_in, fed_many, ungiven_of}
-use Rattle.minute_rules.specs.Kept.{Kept, StandsFor}
+use Rattle.minute_rules.specs.Kept.{Kept, CountsSpan}
 use Rattle.log_model.specs.declared.lines.Break.{Break}
 use Rattle.log_model.specs.declared.lines.Mark.{Mark}
 use Rattle.log_model.specs.Log.{RunLog, In, Keeping, is_torn_in}
-use Rattle.log_model.specs.Course.{Told as Second, Course, Before, has_power, went, Went, fresh}
+use Rattle.log_model.specs.Course.{ToldSecond as Second, Course, Before, has_power, went, Went, fresh}
 use Rattle.unit_model.specs.Image.{IsUnit, odometer_at}
 use Rattle.unit_rule.specs.Odometer.{odometer_after}
-use Rattle.run_unit_course.specs.Followed.{Supply, Lit as IsLit, Lost as IsLost, Due as IsDue}
+use Rattle.run_unit_course.specs.Followed.{UnitPower, Lit as IsLit, Lost as IsLost, Due as IsDue}
 use Rattle.run_unit_course.specs.Turn.{begins_with, span_at}
 use Rattle.event_model.specs.Events.{Event, Seen, course_by, seen_of, seen_spans, number_of, is_bare, accepted_card, seen_on}
 use Rattle.event_model.specs.Events as events
@@ -26,7 +26,7 @@ use Rattle.run_events.proofs.CrewsFed.{one-fed, still-seen, still-quiet, still-f
 use Rattle.safety_model.specs.Safe.{Devices, breakdowns_of}
 use Rattle.run_crew.specs.declared.cabin.Cabin.{Cabin}
 use Rattle.run_crew.specs.Cabin.{crew_of}
-use Rattle.run_course.specs.Followed.{Progress, Followed}
+use Rattle.run_course.specs.Followed.{Progress, BookFollowsRun}
 use Rattle.run_course.specs.Seconds.{next_told}
 use Rattle.run_course.proofs.Steps.{with-supply, went-same_}
 use Rattle.run_course.proofs.Told.{lit-told, lit-power, lit-starts}
@@ -46,7 +46,7 @@ use Rattle.run_note_record.proofs.Ending.{ends-added}
 use Rattle.run_minutes.specs.declared.keeper.Keeper.{Keeper}
 use Rattle.run_minutes.specs.Books.{HaveTime}
 use Rattle.run_minutes.specs.Minutes.{Reach}
-use Rattle.run_record.specs.Within.{Within, told_before, course_in, passed_values}
+use Rattle.run_record.specs.Within.{RecordInSecond, told_before, course_in, passed_values}
 use Rattle.run_acts.specs.declared.run.Run.{Run}
 use Rattle.run_acts.specs.declared.run.Power.{Power}
 use Rattle.run_acts.specs.declared.run.Power.TheVariants.{Lit, Lost, Due}
@@ -65,7 +65,7 @@ use Rattle.log_model.specs.Slots.{Slots, Sitting, is_accepted}
 use Rattle.run_events.specs.Watching.{seconds_with, CrewSecond}
 use Rattle.run_record.specs.Turning.{last_of, before_last, IsTurned, BehindFirst}
 use Rattle.run_record.proofs.Turning.{turn-is_fed, turn-ends as turn-ended}
-use Rattle.run_acts.specs.Going.{IsGoingOn, end_of_seconds, first_second}
+use Rattle.run_acts.specs.Going.{RunHasPower, end_of_seconds, first_second}
 use Rattle.run_acts.proofs.Named.{crew-valid, known-as}
 use Rattle.run_acts.proofs.SeenSpan.{span-more}
 use Rattle.run_acts.proofs.SettledRecorded.{same-ungiven}
@@ -202,8 +202,8 @@ left-same o d = record { unit = λ x h. h; card = λ c x h. h }
 
 -- ---- SEVERAL SECONDS
 module _ {U A0 B0 : State} {chip_a chip_b : CardState} (n speed begun : ℕ) (old : Run) (before : Outcome) (minutes : Kept) (keeper : Keeper) (watch : Watch) (marks : Listed Mark) (breaks : Listed Break) (failed : Bool) (decided : List Minute) (reach : Reach) (d e : Devices)
-    (g : IsGoingOn None (old.next / 60) old U chip_a chip_b A0 B0) (lit : old.power ≡ Lit) (some : 0 < n) (minute : old.next % 60 + n ≤ 60) (small : old.next + n ≤ end_of_seconds) (early : first_second ≤ old.next)
-    (stands : (sp : Span) → StandsFor old.minutes sp → StandsFor minutes (fed_many sp speed n)) (given : (sp : Span) → StandsFor old.minutes sp → decided_in (fed_many sp speed n) ≡ decided_in sp ++ decided)
+    (g : RunHasPower None (old.next / 60) old U chip_a chip_b A0 B0) (lit : old.power ≡ Lit) (some : 0 < n) (minute : old.next % 60 + n ≤ 60) (small : old.next + n ≤ end_of_seconds) (early : first_second ≤ old.next)
+    (stands : (sp : Span) → CountsSpan old.minutes sp → CountsSpan minutes (fed_many sp speed n)) (given : (sp : Span) → CountsSpan old.minutes sp → decided_in (fed_many sp speed n) ≡ decided_in sp ++ decided)
     (is : IsTurnReach decided (late_moment old.next n begun) failed (told_of (record old { minutes = minutes }) before) (told_of (record old { minutes = minutes; keeper = keeper; watch = watch }) (record before { marks = marks; breaks = breaks })) reach)
     (books : BooksTurn decided failed reach (told_of (record old { minutes = minutes }) before) (told_of (record old { minutes = minutes; keeper = keeper; watch = watch }) (record before { marks = marks; breaks = breaks })) d e)
     (devices : DevicesGoOn failed old.keeper.cabin.cards keeper.cabin.cards d e) (odometer : keeper.odometer ≡ old.keeper.odometer) (whole : IsCoherent d.unit) (unit : IsUnit d.unit)
@@ -236,10 +236,10 @@ module _ {U A0 B0 : State} {chip_a chip_b : CardState} (n speed begun : ℕ) (ol
   abbrev D : List TraceSecond
   D = before_last (suc c) s done
 
-  feeds-all : (sp : Span) → StandsFor old.minutes sp → StandsFor minutes (fed_many sp s.speed (suc (suc c)))
-  feeds-all sp h = subst (λ (k : ℕ). StandsFor minutes (fed_many sp s.speed k)) many (subst (λ (k : ℕ). StandsFor minutes (fed_many sp k n)) (sym now.speed_is) (stands sp h))
+  feeds-all : (sp : Span) → CountsSpan old.minutes sp → CountsSpan minutes (fed_many sp s.speed (suc (suc c)))
+  feeds-all sp h = subst (λ (k : ℕ). CountsSpan minutes (fed_many sp s.speed k)) many (subst (λ (k : ℕ). CountsSpan minutes (fed_many sp k n)) (sym now.speed_is) (stands sp h))
 
-  given-all : (sp : Span) → StandsFor old.minutes sp → decided_in (fed_many sp s.speed (suc (suc c))) ≡ decided_in sp ++ decided
+  given-all : (sp : Span) → CountsSpan old.minutes sp → decided_in (fed_many sp s.speed (suc (suc c))) ≡ decided_in sp ++ decided
   given-all sp h = subst (λ (k : ℕ). decided_in (fed_many sp s.speed k) ≡ decided_in sp ++ decided) many (subst (λ (k : ℕ). decided_in (fed_many sp k n) ≡ decided_in sp ++ decided) (sym now.speed_is) (given sp h))
 
   turned : IsTurned o done s (suc c) decided minutes (values_of old before) d r.within.within
@@ -248,11 +248,11 @@ module _ {U A0 B0 : State} {chip_a chip_b : CardState} (n speed begun : ℕ) (ol
   B : BehindFirst o done s (values_of old before) d
   B = turned.behind (omega arith)
 
-  abbrev W : Within o D L Keeping [] (Some L.speed) decided (record (values_of old before) { minutes = minutes; next = old.next + suc c; begun = turned.begun }) d
+  abbrev W : RecordInSecond o D L Keeping [] (Some L.speed) decided (record (values_of old before) { minutes = minutes; next = old.next + suc c; begun = turned.begun }) d
   W = turned.fed
 
   -- ---- the first of them
-  abbrev w : Within o done s (In (length s.actions)) [] None [] (values_of old before) d
+  abbrev w : RecordInSecond o done s (In (length s.actions)) [] None [] (values_of old before) d
   w = r.within.within
 
   abbrev p : Progress
@@ -315,7 +315,7 @@ module _ {U A0 B0 : State} {chip_a chip_b : CardState} (n speed begun : ℕ) (ol
   abbrev P1 : Progress
   P1 = progress B.values (IsLit (B.told ∷ B.span)) B.recorded.book
 
-  followed : Followed (rule_of o) (start_at o) o.from (first_of o) (done ++ s ∷ []) P1
+  followed : BookFollowsRun (rule_of o) (start_at o) o.from (first_of o) (done ++ s ∷ []) P1
   followed = B.recorded.recorded.followed
 
   behind-one : EventedBy o (done ++ s ∷ []) P1 d
@@ -423,7 +423,7 @@ module _ {U A0 B0 : State} {chip_a chip_b : CardState} (n speed begun : ℕ) (ol
       let h = has-first W.b.span goes-l.1 in
       let next_is : B.values.next + c ≡ W.b.run.next = (let at = B.next in let to = W.next in omega (arith, at, to)) in
       let unfound_is : B.values.unfound ≡ W.b.run.unfound = B.unfound ∙ W.unfound in
-      subst (λ (sp_ : Supply). Evented o D W.b.run.log W.b.run.unfound W.b.run.next sp_ d) (ap (λ (xs : List Second). IsLit xs) (sym h.is) ∙ sym W.lit)
+      subst (λ (sp_ : UnitPower). Evented o D W.b.run.log W.b.run.unfound W.b.run.next sp_ d) (ap (λ (xs : List Second). IsLit xs) (sym h.is) ∙ sym W.lit)
       (subst (λ (l : RunLog). Evented o D l W.b.run.unfound W.b.run.next (IsLit (h.first ∷ h.rest)) d) (sym goes-l.0)
       (subst (λ (k : ℕ). Evented o D log k W.b.run.next (IsLit (h.first ∷ h.rest)) d) unfound_is
       (subst (λ (k : ℕ). Evented o D log B.values.unfound k (IsLit (h.first ∷ h.rest)) d) next_is
@@ -577,8 +577,8 @@ module _ {U A0 B0 : State} {chip_a chip_b : CardState} (n speed begun : ℕ) (ol
 
 -- ---- ONE SECOND, OR SEVERAL
 module _ {U A0 B0 : State} {chip_a chip_b : CardState} (n speed begun : ℕ) (old : Run) (before : Outcome) (minutes : Kept) (keeper : Keeper) (watch : Watch) (marks : Listed Mark) (breaks : Listed Break) (failed : Bool) (decided : List Minute) (reach : Reach) (d e : Devices)
-    (g : IsGoingOn None (old.next / 60) old U chip_a chip_b A0 B0) (lit : old.power ≡ Lit) (some : 0 < n) (minute : old.next % 60 + n ≤ 60) (small : old.next + n ≤ end_of_seconds) (early : first_second ≤ old.next)
-    (stands : (sp : Span) → StandsFor old.minutes sp → StandsFor minutes (fed_many sp speed n)) (given : (sp : Span) → StandsFor old.minutes sp → decided_in (fed_many sp speed n) ≡ decided_in sp ++ decided)
+    (g : RunHasPower None (old.next / 60) old U chip_a chip_b A0 B0) (lit : old.power ≡ Lit) (some : 0 < n) (minute : old.next % 60 + n ≤ 60) (small : old.next + n ≤ end_of_seconds) (early : first_second ≤ old.next)
+    (stands : (sp : Span) → CountsSpan old.minutes sp → CountsSpan minutes (fed_many sp speed n)) (given : (sp : Span) → CountsSpan old.minutes sp → decided_in (fed_many sp speed n) ≡ decided_in sp ++ decided)
     (is : IsTurnReach decided (late_moment old.next n begun) failed (told_of (record old { minutes = minutes }) before) (told_of (record old { minutes = minutes; keeper = keeper; watch = watch }) (record before { marks = marks; breaks = breaks })) reach)
     (books : BooksTurn decided failed reach (told_of (record old { minutes = minutes }) before) (told_of (record old { minutes = minutes; keeper = keeper; watch = watch }) (record before { marks = marks; breaks = breaks })) d e)
     (devices : DevicesGoOn failed old.keeper.cabin.cards keeper.cabin.cards d e) (odometer : keeper.odometer ≡ old.keeper.odometer) (whole : IsCoherent d.unit) (unit : IsUnit d.unit)
@@ -607,7 +607,7 @@ module _ {U A0 B0 : State} {chip_a chip_b : CardState} (n speed begun : ℕ) (ol
   seconds-events = subst (λ (k : ℕ). TurnedEvents o (done ++ s ∷ driven (n - 1) (s.number + 1) k []) turned_run turned_out e) now.speed_is (by-count (n - 1) refl)
 
 -- ---- A TURN
-module _ {U A0 B0 : State} {chip_a chip_b : CardState} (n speed begun : ℕ) (old new : Run) (before after : Outcome) (d e : Devices) (g : IsGoingOn None (old.next / 60) old U chip_a chip_b A0 B0) (early : first_second ≤ old.next) (lit : old.power ≡ Lit) (some : 0 < n)
+module _ {U A0 B0 : State} {chip_a chip_b : CardState} (n speed begun : ℕ) (old new : Run) (before after : Outcome) (d e : Devices) (g : RunHasPower None (old.next / 60) old U chip_a chip_b A0 B0) (early : first_second ≤ old.next) (lit : old.power ≡ Lit) (some : 0 < n)
     (minute : old.next % 60 + n ≤ 60) (small : old.next + n ≤ end_of_seconds) (h : IsBookedTurn n speed begun old new before after d e) (whole : IsCoherent d.unit) (unit : IsUnit d.unit)
     (noted : NotesKeeping h.0.decided n speed (late_moment old.next n begun) h.0.failed h.0.fed h.0.between before h.0.told d.unit e.unit) (memory : h.0.between.keeper.memory ≡ old.keeper.memory) where
   abbrev T : IsLitTurn n speed begun old new before after
@@ -633,7 +633,7 @@ module _ {U A0 B0 : State} {chip_a chip_b : CardState} (n speed begun : ℕ) (ol
       (reach-is n speed begun old new before after d e g lit some minute small h) (books-is n speed begun old new before after d e g lit some minute small h) h.4 h.5 whole unit noted-is memory time o done s now actions behind r))
 
 -- WITHOUT POWER, and at any supply of a run's power
-pub at-supply : (o : Origin) (done : List TraceSecond) (log : RunLog) (unfound next : ℕ) (power : Power) (a b : Supply) (d : Devices) → Supplies power a → Supplies power b → Evented o done log unfound next a d → Evented o done log unfound next b d
+pub at-supply : (o : Origin) (done : List TraceSecond) (log : RunLog) (unfound next : ℕ) (power : Power) (a b : UnitPower) (d : Devices) → Supplies power a → Supplies power b → Evented o done log unfound next a d → Evented o done log unfound next b d
 at-supply o done log unfound next Lit (IsLit []) b d x y v = absurd x
 at-supply o done log unfound next Lit (IsLit (t ∷ xs)) (IsLit []) d x y v = absurd y
 at-supply o done log unfound next Lit (IsLit (t ∷ xs)) (IsLit (u ∷ ys)) d x y v = evented-lit o done log unfound next t u xs ys d v

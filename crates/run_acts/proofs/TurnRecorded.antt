@@ -7,13 +7,13 @@ use Rattle.card_layout.specs.declared.command.CardState.{CardState}
 use Rattle.run_model.specs.declared.Device.TheVariants.{Unit as Recorder}
 use Rattle.minute_model.specs.declared.Minute.{Minute}
 use Rattle.minute_model.specs.Span.{Span, fed_many, decided_in, ungiven_of}
-use Rattle.minute_rules.specs.Kept.{Kept, StandsFor}
+use Rattle.minute_rules.specs.Kept.{Kept, CountsSpan}
 use Rattle.log_model.specs.declared.lines.Break.{Break}
 use Rattle.log_model.specs.declared.lines.Mark.{Mark}
 use Rattle.log_model.specs.declared.lines.Refused.{Refused}
 use Rattle.log_model.specs.Log.{In, Keeping}
 use Rattle.log_model.specs.Causes.{RoseBy}
-use Rattle.log_model.specs.Course.{Told as Second}
+use Rattle.log_model.specs.Course.{ToldSecond as Second}
 use Rattle.safety_model.specs.Safe.{Devices, breakdowns_of}
 use Rattle.run_unit_course.specs.Followed.{Lit as IsLit, Lost as IsLost}
 use Rattle.run_unit_course.specs.Legs.{all_travelled}
@@ -27,8 +27,8 @@ use Rattle.run_outcome.specs.declared.outcome.Outcome.{Outcome}
 use Rattle.run_promise.specs.Origin.{Origin}
 use Rattle.run_course.specs.Moments.{and_break}
 use Rattle.run_course.specs.Seconds.{next_told}
-use Rattle.run_record.specs.Recorded.{Values, Recorded}
-use Rattle.run_record.specs.Within.{Beginning, Within, CutWithin, RecordedFrom, passed_values}
+use Rattle.run_record.specs.Recorded.{Values, RecordBetweenSeconds}
+use Rattle.run_record.specs.Within.{Beginning, RecordInSecond, RecordAtFailure, RecordedFrom, passed_values}
 use Rattle.run_record.specs.Turning.{last_of, before_last, IsTurned}
 use Rattle.run_record.proofs.Cutting.{cut-recorded}
 use Rattle.run_record.proofs.Ending.{second-over}
@@ -36,7 +36,7 @@ use Rattle.run_record.proofs.Going.{dark-recorded}
 use Rattle.run_record.proofs.Turning.{turn-ends, turn-is_fed}
 use Rattle.run_minutes.specs.declared.keeper.Keeper.{Keeper}
 use Rattle.run_minutes.specs.declared.keeper.Moment.{Moment}
-use Rattle.run_minutes.specs.Minutes.{Told, Reach, Whole, Short, IsReach, present_at}
+use Rattle.run_minutes.specs.Minutes.{KeepingState, Reach, Whole, Short, IsReach, present_at}
 use Rattle.run_minutes.specs.Deeds.{AllKeep, kepts_on}
 use Rattle.run_minutes.specs.Books.{HaveTime, AreTimedOn}
 use Rattle.run_acts.specs.Rounds.{Point, IsPoint, told_values, keeping_of, moment_of}
@@ -49,7 +49,7 @@ use Rattle.run_acts.specs.declared.run.Power.TheVariants.{Lit, Lost}
 use Rattle.run_acts.specs.Booked.{IsTurnReach, IsTurnBooked, BooksTurn, IsBookedTurn}
 use Rattle.run_acts.specs.Devices.{DevicesGoOn}
 use Rattle.run_acts.specs.Power.{cut_run, passed}
-use Rattle.run_acts.specs.Going.{end_of_seconds, IsLit as MayBeCalled}
+use Rattle.run_acts.specs.Going.{end_of_seconds, RunHasPowerAllSeated as MayBeCalled}
 use Rattle.run_acts.specs.Recording.{IsOrigin, IsNow, Supplies, RunRecorded, RunWithin, RunCut, log_of, values_of}
 use Rattle.run_acts.specs.Turning.{IsLitTurn, told_of, late_moment, cut_where, cut_breaks}
 use Rattle.run_acts.proofs.GoesOn.{goes-on, unit-rose}
@@ -97,7 +97,7 @@ module _ (old : Run) (before : Outcome) (minutes : Kept) (keeper : Keeper) (watc
   module _ (is : IsTurnReach decided (late_moment old.next n begun) failed (told_of fed before) (told_of between told) reach) (books : BooksTurn decided failed reach (told_of fed before) (told_of between told) d e)
       (devices : DevicesGoOn failed old.keeper.cabin.cards keeper.cabin.cards d e) (odometer : keeper.odometer ≡ old.keeper.odometer) (two : (m : ℕ) → AreTwo (present_at old.keeper.cabin m).driver (present_at old.keeper.cabin m).codriver)
       (lit : old.power ≡ Lit) (some : 0 < n) (time : HaveTime e)
-      (o : Origin) (origin : IsOrigin o) (done : List TraceSecond) (s : TraceSecond) (next gone : ℕ) (w : Within o done s Keeping [] (Some s.speed) decided (record (values_of old before) { minutes = minutes; next = next; begun = gone }) d)
+      (o : Origin) (origin : IsOrigin o) (done : List TraceSecond) (s : TraceSecond) (next gone : ℕ) (w : RecordInSecond o done s Keeping [] (Some s.speed) decided (record (values_of old before) { minutes = minutes; next = next; begun = gone }) d)
       (number : s.number ≡ old.next + n - 1) (next_is : next ≡ old.next + n - 1) (actions : length s.actions ≡ begun) (stored : old.keeper.odometer ≡ odometer_after (odometer_at o.recording.unit) w.b.travel.before)
       (few : s.number / 60 ≤ w.from + 4) (low : w.from + length decided ≤ s.number / 60) where
     abbrev q : Point
@@ -106,10 +106,10 @@ module _ (old : Run) (before : Outcome) (minutes : Kept) (keeper : Keeper) (watc
     abbrev v : Values
     v = record (values_of old before) { minutes = minutes; next = next; begun = gone }
 
-    abbrev t : Told
+    abbrev t : KeepingState
     t = told_of fed before
 
-    abbrev u : Told
+    abbrev u : KeepingState
     u = told_of between told
 
     pub booked : IsTurnBooked o.found (odometer_at o.recording.unit) (carried_at o done s q decided t v d w) old.keeper failed reach (all_travelled w.ds w.b.travel) u e × AreTimedOn o.found d e
@@ -160,16 +160,16 @@ module _ (old : Run) (before : Outcome) (minutes : Kept) (keeper : Keeper) (watc
         (λ none. marked-grow before.marks.items told.marks.items (truths_within o w.b.run.log done s) (truths_within o w.b.run.log done s) how.marks (grow-self (truths_within o w.b.run.log done s))) stay))
 
     -- the seconds before went as they did
-    behind-now : (x : Within o done s Keeping [] (Some s.speed) [] U e) → GoesBehind x.b.run.log (log_of told) done
+    behind-now : (x : RecordInSecond o done s Keeping [] (Some s.speed) [] U e) → GoesBehind x.b.run.log (log_of told) done
     behind-now x = goes-behind o done s Keeping [] (Some s.speed) [] U e x [] (log_of told) (ap (λ (bs : List Break). record (log_of told) { breaks = bs }) (sym (append-nil breaks.items))) tt
 
     -- all that was noted in it
-    all-notes : (x : Within o done s Keeping [] (Some s.speed) [] U e) → notes_in (log_of told) (done ++ s ∷ []) ≡ notes_within x.b done s Keeping (log_of told)
+    all-notes : (x : RecordInSecond o done s Keeping [] (Some s.speed) [] U e) → notes_in (log_of told) (done ++ s ∷ []) ≡ notes_within x.b done s Keeping (log_of told)
     all-notes x =
         notes-end x.b.run.log (log_of told) done s (behind-now x) (power-here o done s Keeping [] (Some s.speed) [] U e x)
 
     -- all is kept
-    over-now : (x : Within o done s Keeping [] (Some s.speed) [] U e) → x.b ≡ w.b → AllStay o (marked told.marks.items (truths_within o w.b.run.log done s)) 0 (log_of told) (notes_within w.b done s Keeping (log_of told)) keeper.memory.registration keeper.cabin e → RunRecorded o (done ++ s ∷ []) (passed n begun between) told e
+    over-now : (x : RecordInSecond o done s Keeping [] (Some s.speed) [] U e) → x.b ≡ w.b → AllStay o (marked told.marks.items (truths_within o w.b.run.log done s)) 0 (log_of told) (notes_within w.b done s Keeping (log_of told)) keeper.memory.registration keeper.cabin e → RunRecorded o (done ++ s ∷ []) (passed n begun between) told e
     over-now x same stays =
         let p = pushed x.b.span (next_told U.log done s) in
         let V : Values = values_of (passed n begun between) told in
@@ -194,10 +194,10 @@ module _ (old : Run) (before : Outcome) (minutes : Kept) (keeper : Keeper) (watc
         }
 
     -- or power is cut
-    cut-now : CutWithin o done s Keeping [] (Some s.speed) U e → RunRecorded o (done ++ s ∷ []) (passed n begun (cut_run (old.next + n - 1) between)) (cut_breaks true (old.next + n - 1) begun told) e
+    cut-now : RecordAtFailure o done s Keeping [] (Some s.speed) U e → RunRecorded o (done ++ s ∷ []) (passed n begun (cut_run (old.next + n - 1) between)) (cut_breaks true (old.next + n - 1) begun told) e
     cut-now x =
         let V : (second begun_ next_ : ℕ) → Values = λ second begun_ next_. record U { log = and_break U.log (cut_at second true begun_); cabin = with_power_lost second U.cabin; next = next_; begun = begun_ } in
-        let R : Values → Type 0 = λ val. Recorded o (done ++ s ∷ []) IsLost val e in
+        let R : Values → Type 0 = λ val. RecordBetweenSeconds o (done ++ s ∷ []) IsLost val e in
         record {
           origin = origin;
           supply = IsLost;
@@ -219,12 +219,12 @@ module _ (old : Run) (before : Outcome) (minutes : Kept) (keeper : Keeper) (watc
 
     -- where the unit failed: the record as power is about to be cut
     fails-by : (f : Bool) (r : Reach) → failed ≡ f → IsTurnReach decided (moment_of s q) f t u r → IsTurnBooked o.found (odometer_at o.recording.unit) (carried_at o done s q decided t v d w) old.keeper f r (all_travelled w.ds w.b.travel) u e →
-        f ≡ true → CutWithin o done s Keeping [] (Some s.speed) U e
+        f ≡ true → RecordAtFailure o done s Keeping [] (Some s.speed) U e
     fails-by false r same is_ b on = absurd (cc)
     fails-by true (Whole xs) same is_ b on = note-fails d e o done s q decided t u v w keeps low xs is_ off (rose same) b.0 b.1
     fails-by true (Short xs m round) same is_ b on = keeping-recorded d e o done s q decided t u v w keeps true (Short xs m round) is_ off (λ yes_. rose same) b
 
-    pub turn-fails : failed ≡ true → CutWithin o done s Keeping [] (Some s.speed) U e
+    pub turn-fails : failed ≡ true → RecordAtFailure o done s Keeping [] (Some s.speed) U e
     turn-fails on = fails-by failed reach refl turn-reach booked.0 on
 
     pub turn-core : TellMore [] d.unit e.unit → AllStay o (marked before.marks.items (truths_within o w.b.run.log done s)) 0 (log_of before) (notes_within w.b done s Keeping (log_of before)) old.keeper.memory.registration old.keeper.cabin d → RunRecorded o (done ++ s ∷ []) (passed n begun (cut_where failed (old.next + n - 1) between)) (cut_breaks failed (old.next + n - 1) begun told) e
@@ -251,7 +251,7 @@ module _ {U A0 B0 : State} {chip_a chip_b : CardState} (n speed begun : ℕ) (ol
   abbrev lines : Outcome
   lines = record before { marks = T.told.marks; breaks = T.told.breaks }
 
-  abbrev t_of : Keeper → Told
+  abbrev t_of : Keeper → KeepingState
   t_of k = record { keeper = k; marks = before.marks; breaks = before.breaks }
 
   pub reach-is : IsTurnReach T.decided (late_moment old.next n begun) T.failed (t_of old.keeper) (told_of here lines) h.1
@@ -273,10 +273,10 @@ module _ {U A0 B0 : State} {chip_a chip_b : CardState} (n speed begun : ℕ) (ol
     many : n ≡ suc (n - 1)
     many = omega (arith, some)
 
-    fed-so : (sp : Span) → StandsFor old.minutes sp → StandsFor T.fed.minutes (fed_many sp s.speed (suc (n - 1)))
-    fed-so sp x = subst (λ (k : ℕ). StandsFor T.fed.minutes (fed_many sp s.speed k)) many (subst (λ (k : ℕ). StandsFor T.fed.minutes (fed_many sp k n)) (sym now.speed_is) (T.minutes sp x))
+    fed-so : (sp : Span) → CountsSpan old.minutes sp → CountsSpan T.fed.minutes (fed_many sp s.speed (suc (n - 1)))
+    fed-so sp x = subst (λ (k : ℕ). CountsSpan T.fed.minutes (fed_many sp s.speed k)) many (subst (λ (k : ℕ). CountsSpan T.fed.minutes (fed_many sp k n)) (sym now.speed_is) (T.minutes sp x))
 
-    given-so : (sp : Span) → StandsFor old.minutes sp → decided_in (fed_many sp s.speed (suc (n - 1))) ≡ decided_in sp ++ T.decided
+    given-so : (sp : Span) → CountsSpan old.minutes sp → decided_in (fed_many sp s.speed (suc (n - 1))) ≡ decided_in sp ++ T.decided
     given-so sp x = subst (λ (k : ℕ). decided_in (fed_many sp s.speed k) ≡ decided_in sp ++ T.decided) many (subst (λ (k : ℕ). decided_in (fed_many sp k n) ≡ decided_in sp ++ T.decided) (sym now.speed_is) (T.given sp x))
 
     pub turned : IsTurned o done s (n - 1) T.decided T.fed.minutes (values_of old before) d r.within
@@ -293,7 +293,7 @@ module _ {U A0 B0 : State} {chip_a chip_b : CardState} (n speed begun : ℕ) (ol
 
     -- over the last second
     by-last : (c : ℕ) → c ≡ n - 1 → (D : List TraceSecond) (L : TraceSecond) (next gone : ℕ) → L.number ≡ s.number + c → next ≡ old.next + c → length L.actions ≡ begun →
-        (w : Within o D L Keeping [] (Some L.speed) T.decided (record (values_of old before) { minutes = T.fed.minutes; next = next; begun = gone }) d) → w.b.travel.before ≡ r.within.b.travel.before → w.from ≡ r.within.from → TellMore [] d.unit e.unit →
+        (w : RecordInSecond o D L Keeping [] (Some L.speed) T.decided (record (values_of old before) { minutes = T.fed.minutes; next = next; begun = gone }) d) → w.b.travel.before ≡ r.within.b.travel.before → w.from ≡ r.within.from → TellMore [] d.unit e.unit →
         AllStay o (marked before.marks.items (truths_within o w.b.run.log D L)) 0 (log_of before) (notes_within w.b D L Keeping (log_of before)) old.keeper.memory.registration old.keeper.cabin d → RunRecorded o (D ++ L ∷ []) (passed n begun new) after e
     by-last c is D L next gone number next_is acts w travel from go stay =
         let at = now.number in
@@ -311,8 +311,8 @@ module _ {U A0 B0 : State} {chip_a chip_b : CardState} (n speed begun : ℕ) (ol
 
     -- where the unit failed in its keeping: its record as power is about to be cut
     pub fails-last : (c : ℕ) → c ≡ n - 1 → (D : List TraceSecond) (L : TraceSecond) (next gone : ℕ) → L.number ≡ s.number + c → next ≡ old.next + c → length L.actions ≡ begun →
-        (w : Within o D L Keeping [] (Some L.speed) T.decided (record (values_of old before) { minutes = T.fed.minutes; next = next; begun = gone }) d) → w.b.travel.before ≡ r.within.b.travel.before → w.from ≡ r.within.from →
-        T.failed ≡ true → CutWithin o D L Keeping [] (Some L.speed) (told_values (told_of here lines) (record (values_of old before) { minutes = T.fed.minutes; next = next; begun = gone })) e
+        (w : RecordInSecond o D L Keeping [] (Some L.speed) T.decided (record (values_of old before) { minutes = T.fed.minutes; next = next; begun = gone }) d) → w.b.travel.before ≡ r.within.b.travel.before → w.from ≡ r.within.from →
+        T.failed ≡ true → RecordAtFailure o D L Keeping [] (Some L.speed) (told_values (told_of here lines) (record (values_of old before) { minutes = T.fed.minutes; next = next; begun = gone })) e
     fails-last c is D L next gone number next_is acts w travel from on =
         let at = now.number in
         let num : L.number ≡ old.next + n - 1 = omega (arith, number, is, at, some) in
@@ -327,7 +327,7 @@ module _ {U A0 B0 : State} {chip_a chip_b : CardState} (n speed begun : ℕ) (ol
 
     -- what its keeping leaves of when cards were used, and of their events
     pub timed-last : (c : ℕ) → c ≡ n - 1 → (D : List TraceSecond) (L : TraceSecond) (next gone : ℕ) → L.number ≡ s.number + c → next ≡ old.next + c → length L.actions ≡ begun →
-        (w : Within o D L Keeping [] (Some L.speed) T.decided (record (values_of old before) { minutes = T.fed.minutes; next = next; begun = gone }) d) → w.b.travel.before ≡ r.within.b.travel.before → w.from ≡ r.within.from → AreTimedOn o.found d e
+        (w : RecordInSecond o D L Keeping [] (Some L.speed) T.decided (record (values_of old before) { minutes = T.fed.minutes; next = next; begun = gone }) d) → w.b.travel.before ≡ r.within.b.travel.before → w.from ≡ r.within.from → AreTimedOn o.found d e
     timed-last c is D L next gone number next_is acts w travel from =
         let at = now.number in
         let num : L.number ≡ old.next + n - 1 = omega (arith, number, is, at, some) in
@@ -375,12 +375,12 @@ module _ (n speed begun : ℕ) (old : Run) (before : Outcome) (d : Devices) (som
   abbrev V : (next gone : ℕ) → Values
   V next gone = record (values_of old before) { next = next; begun = gone }
 
-  cut-recorded_ : (next gone : ℕ) (done_ : List TraceSecond) → next ≡ old.next + n → gone ≡ begun → Recorded o done_ IsLost (V next gone) d → RunRecorded o done_ (passed n begun old) before d
+  cut-recorded_ : (next gone : ℕ) (done_ : List TraceSecond) → next ≡ old.next + n → gone ≡ begun → RecordBetweenSeconds o done_ IsLost (V next gone) d → RunRecorded o done_ (passed n begun old) before d
   cut-recorded_ next gone done_ is at rec = record {
     origin = r.origin;
     supply = IsLost;
     powers = subst (λ (pw : Power). Supplies pw IsLost) (sym r.lost) tt;
-    recorded = subst (λ (m : ℕ). Recorded o done_ IsLost (V m begun) d) is (subst (λ (b : ℕ). Recorded o done_ IsLost (V next b) d) at rec);
+    recorded = subst (λ (m : ℕ). RecordBetweenSeconds o done_ IsLost (V m begun) d) is (subst (λ (b : ℕ). RecordBetweenSeconds o done_ IsLost (V next b) d) at rec);
     odometer = λ on. absurd (let clash : Lost ≡ Lit = sym r.lost ∙ on in cc);
     stay = λ none. absurd (r.failed none);
   }
@@ -393,8 +393,8 @@ module _ (n speed begun : ℕ) (old : Run) (before : Outcome) (d : Devices) (som
       let gone : 0 ≡ begun = sym (ap (λ (as_ : List Action). length as_) (none (omega (arith, is)))) ∙ actions in
       let dark = dark-recorded d o (done ++ s ∷ []) (passed_values s (values_of old before)) r.recorded c speed [] [] begun (omega (arith, minute, is)) (omega (arith, minute, is)) refl in
       cut-recorded_ (suc old.next + suc c) begun (done ++ s ∷ driven (suc c) (s.number + 1) speed []) (omega (arith, is, some)) refl
-      (subst (λ (ss : List TraceSecond). Recorded o ss IsLost (V (suc old.next + suc c) begun) d) (append_assoc done (s ∷ []) (driven (suc c) (suc old.next) speed []) ∙ ap (λ (m : ℕ). done ++ s ∷ driven (suc c) m speed []) number)
-      (subst (λ (rs : List Refused). Recorded o ((done ++ s ∷ []) ++ driven (suc c) (suc old.next) speed []) IsLost (record (V (suc old.next + suc c) begun) { log = record (log_of before) { refused = rs } }) d) (append-nil before.refused.items) dark))
+      (subst (λ (ss : List TraceSecond). RecordBetweenSeconds o ss IsLost (V (suc old.next + suc c) begun) d) (append_assoc done (s ∷ []) (driven (suc c) (suc old.next) speed []) ∙ ap (λ (m : ℕ). done ++ s ∷ driven (suc c) m speed []) number)
+      (subst (λ (rs : List Refused). RecordBetweenSeconds o ((done ++ s ∷ []) ++ driven (suc c) (suc old.next) speed []) IsLost (record (V (suc old.next + suc c) begun) { log = record (log_of before) { refused = rs } }) d) (append-nil before.refused.items) dark))
 
   pub turn-dark : RunRecorded o (done ++ s ∷ driven (n - 1) (s.number + 1) speed []) (passed n begun old) before d
   turn-dark = by-more (n - 1) refl

@@ -9,7 +9,7 @@ use Rattle.card_layout.specs.declared.command.CardState.{CardState}
 use Rattle.tach_media.specs.Medium.{State, IsCoherent}
 use Rattle.minute_model.specs.declared.Minute.{Minute}
 use Rattle.minute_model.specs.Span.{Span, decided_in, fed_many, ungiven_of}
-use Rattle.minute_rules.specs.Kept.{Kept, StandsFor}
+use Rattle.minute_rules.specs.Kept.{Kept, CountsSpan}
 use Rattle.log_model.specs.declared.lines.Break.{Break}
 use Rattle.log_model.specs.declared.lines.Mark.{Mark}
 use Rattle.log_model.specs.Log.{RunLog, Phase, In, Keeping, is_torn_in, tears_here, found_in}
@@ -44,9 +44,9 @@ use Rattle.run_note_record.specs.Noting.{Acting}
 use Rattle.run_note_record.specs.EventsSoFar.{EventedNow}
 use Rattle.run_minutes.specs.declared.keeper.Keeper.{Keeper}
 use Rattle.run_minutes.specs.Books.{HaveTime}
-use Rattle.run_minutes.specs.Minutes.{Told, Reach, Whole, Short, present_at, Done, Round, told_after, told_by}
+use Rattle.run_minutes.specs.Minutes.{KeepingState, Reach, Whole, Short, present_at, Done, Round, told_after, told_by}
 use Rattle.run_record.specs.Recorded.{Values}
-use Rattle.run_record.specs.Within.{Within, told_before, course_in, Beginning}
+use Rattle.run_record.specs.Within.{RecordInSecond, told_before, course_in, Beginning}
 use Rattle.run_acts.specs.declared.run.Run.{Run}
 use Rattle.run_acts.specs.declared.run.Power.TheVariants.{Lit}
 use Rattle.run_acts.specs.Power.{passed}
@@ -71,7 +71,7 @@ use Rattle.run_note_record.proofs.Brought.{SameBefore, course-until}
 use Rattle.run_note_record.proofs.Tearing.{told-elsewhere}
 use Rattle.run_record.specs.Turning.{IsTurned}
 use Rattle.run_record.proofs.Turning.{turn-is_fed}
-use Rattle.run_acts.specs.Going.{IsGoingOn, end_of_seconds, first_second}
+use Rattle.run_acts.specs.Going.{RunHasPower, end_of_seconds, first_second}
 use Rattle.run_acts.proofs.Named.{crew-valid, known-as}
 use Rattle.run_acts.proofs.SeenSpan.{span-more, keeping-slots, ends-valid}
 use Rattle.run_acts.proofs.SettledRecorded.{same-ungiven, two-present}
@@ -100,7 +100,7 @@ more-found u log (b ∷ more) p slot =
     ∙ more-found u (and_break log b) more p slot ∙ (break-more log b u).found p slot
 
 -- the lines of a keeping
-record LinesMore (u : ℕ) (t y : Told) : Type 0 where
+record LinesMore (u : ℕ) (t y : KeepingState) : Type 0 where
   more : List Break
   are : y.breaks.items ≡ t.breaks.items ++ more
   apart : AllByRecursion (IsApart u) more
@@ -110,7 +110,7 @@ fate-apart s Still slot = tt
 fate-apart s (Has a clock) slot = tt
 fate-apart s Fell slot = (λ n other. told-elsewhere s.number (length s.actions) true slot true Keeping (In n) other refl refl, tt)
 
-round-lines : (s : TraceSecond) (p : Present) (minute : ℕ) (round : Round) (t y : Told) → LinesMore s.number (told_after p minute (moment_of s (keeping_of s)) round t) y → LinesMore s.number t y
+round-lines : (s : TraceSecond) (p : Present) (minute : ℕ) (round : Round) (t y : KeepingState) → LinesMore s.number (told_after p minute (moment_of s (keeping_of s)) round t) y → LinesMore s.number t y
 round-lines s p minute round t y h =
     let one : List Break = breaks_by round.driver Driver (moment_of s (keeping_of s)) in
     let two_ : List Break = breaks_by round.codriver CoDriver (moment_of s (keeping_of s)) in
@@ -120,28 +120,28 @@ round-lines s p minute round t y h =
       apart = all-both (IsApart s.number) one (two_ ++ h.more) (fate-apart s round.driver Driver) (all-both (IsApart s.number) two_ h.more (fate-apart s round.codriver CoDriver) h.apart);
     }
 
-none-lines : (u : ℕ) (t : Told) → LinesMore u t t
+none-lines : (u : ℕ) (t : KeepingState) → LinesMore u t t
 none-lines u t = record { more = []; are = sym (append-nil t.breaks.items); apart = tt }
 
-rounds-lines : (s : TraceSecond) (k : Keeper) (xs : List Done) (t y : Told) → LinesMore s.number (told_by k (moment_of s (keeping_of s)) xs t) y → LinesMore s.number t y
+rounds-lines : (s : TraceSecond) (k : Keeper) (xs : List Done) (t y : KeepingState) → LinesMore s.number (told_by k (moment_of s (keeping_of s)) xs t) y → LinesMore s.number t y
 rounds-lines s k [] t y h = h
 rounds-lines s k (x ∷ xs) t y h =
     let p = present_at k.cabin x.minute.minute in
     round-lines s p x.minute.minute x.round t y (rounds-lines s k xs (told_after p x.minute.minute (moment_of s (keeping_of s)) x.round t) y h)
 
-come-lines : (s : TraceSecond) (all : List Minute) (t u : Told) (reach : Reach) → HasCome all (moment_of s (keeping_of s)) t u reach → LinesMore s.number t u
+come-lines : (s : TraceSecond) (all : List Minute) (t u : KeepingState) (reach : Reach) → HasCome all (moment_of s (keeping_of s)) t u reach → LinesMore s.number t u
 come-lines s all t u (Whole xs) is =
     subst (LinesMore s.number t) (sym is.2) (rounds-lines s t.keeper xs t (told_by t.keeper (moment_of s (keeping_of s)) xs t) (none-lines s.number (told_by t.keeper (moment_of s (keeping_of s)) xs t)))
 come-lines s all t u (Short xs m None) is =
     subst (LinesMore s.number t) (sym is.2) (rounds-lines s t.keeper xs t (told_by t.keeper (moment_of s (keeping_of s)) xs t) (none-lines s.number (told_by t.keeper (moment_of s (keeping_of s)) xs t)))
 come-lines s all t u (Short xs m (Some round)) is =
-    let mid : Told = told_by t.keeper (moment_of s (keeping_of s)) xs t in
+    let mid : KeepingState = told_by t.keeper (moment_of s (keeping_of s)) xs t in
     let p = present_at t.keeper.cabin m.minute in
-    let end : Told = told_after p m.minute (moment_of s (keeping_of s)) round mid in
+    let end : KeepingState = told_after p m.minute (moment_of s (keeping_of s)) round mid in
     subst (LinesMore s.number t) (sym is.2.1) (rounds-lines s t.keeper xs t end (round-lines s p m.minute round mid end (none-lines s.number end)))
 
 -- ---- THE LAST SECOND, as its events see it
-module _ (o : Origin) (origin : IsOrigin o) (done : List TraceSecond) (s : TraceSecond) (decided : List Minute) (V : Values) (d : Devices) (w : Within o done s Keeping [] (Some s.speed) decided V d) (well : AllSitWell V.cabin)
+module _ (o : Origin) (origin : IsOrigin o) (done : List TraceSecond) (s : TraceSecond) (decided : List Minute) (V : Values) (d : Devices) (w : RecordInSecond o done s Keeping [] (Some s.speed) decided V d) (well : AllSitWell V.cabin)
     (untorn : (slot : Slot) → is_torn_in V.log s.number Keeping slot ≡ false) (later : RunLog) (now : Device → ℕ) (m : SecondMoment w.b.run (went w.b.run.log done).before s Keeping later [] w.b.broken now)
     (more : List Break) (are : later ≡ and_breaks V.log more) (apart : AllByRecursion (IsApart s.number) more) where
   abbrev p : Progress
@@ -201,8 +201,8 @@ module _ (o : Origin) (origin : IsOrigin o) (done : List TraceSecond) (s : Trace
 
 -- ---- SECONDS WITH POWER
 module _ {U A0 B0 : State} {chip_a chip_b : CardState} (n speed begun : ℕ) (old : Run) (before : Outcome) (minutes : Kept) (keeper : Keeper) (watch : Watch) (marks : Listed Mark) (breaks : Listed Break) (failed : Bool) (decided : List Minute) (reach : Reach) (d e : Devices)
-    (g : IsGoingOn None (old.next / 60) old U chip_a chip_b A0 B0) (lit : old.power ≡ Lit) (some : 0 < n) (minute : old.next % 60 + n ≤ 60) (small : old.next + n ≤ end_of_seconds) (early : first_second ≤ old.next)
-    (stands : (sp : Span) → StandsFor old.minutes sp → StandsFor minutes (fed_many sp speed n)) (given : (sp : Span) → StandsFor old.minutes sp → decided_in (fed_many sp speed n) ≡ decided_in sp ++ decided)
+    (g : RunHasPower None (old.next / 60) old U chip_a chip_b A0 B0) (lit : old.power ≡ Lit) (some : 0 < n) (minute : old.next % 60 + n ≤ 60) (small : old.next + n ≤ end_of_seconds) (early : first_second ≤ old.next)
+    (stands : (sp : Span) → CountsSpan old.minutes sp → CountsSpan minutes (fed_many sp speed n)) (given : (sp : Span) → CountsSpan old.minutes sp → decided_in (fed_many sp speed n) ≡ decided_in sp ++ decided)
     (is : IsTurnReach decided (late_moment old.next n begun) failed (told_of (record old { minutes = minutes }) before) (told_of (record old { minutes = minutes; keeper = keeper; watch = watch }) (record before { marks = marks; breaks = breaks })) reach)
     (books : BooksTurn decided failed reach (told_of (record old { minutes = minutes }) before) (told_of (record old { minutes = minutes; keeper = keeper; watch = watch }) (record before { marks = marks; breaks = breaks })) d e)
     (devices : DevicesGoOn failed old.keeper.cabin.cards keeper.cabin.cards d e) (odometer : keeper.odometer ≡ old.keeper.odometer) (whole : IsCoherent d.unit) (unit : IsUnit d.unit)
@@ -237,7 +237,7 @@ module _ {U A0 B0 : State} {chip_a chip_b : CardState} (n speed begun : ℕ) (ol
 
   -- THE KEEPING of the last of them, by the span that is watched and the seconds that are fed to it
   module _ (o : Origin) (origin : IsOrigin o) (limit : old.keeper.memory.limit ≡ limit_in o) (done : List TraceSecond) (s : TraceSecond) (next gone : ℕ)
-      (w : Within o done s Keeping [] (Some s.speed) decided (record (values_of old before) { minutes = minutes; next = next; begun = gone }) d)
+      (w : RecordInSecond o done s Keeping [] (Some s.speed) decided (record (values_of old before) { minutes = minutes; next = next; begun = gone }) d)
       (number : s.number ≡ old.next + n - 1) (next_is : next ≡ old.next + n - 1) (actions : length s.actions ≡ begun) (stored : old.keeper.odometer ≡ odometer_after (odometer_at o.recording.unit) w.b.travel.before)
       (from : w.from ≡ ungiven_of g.span) (untorn : (slot : Slot) → is_torn_in (log_of before) s.number Keeping slot ≡ false) (evented : EventedNow o done s w.b.run Acting (log_of before) d) where
     day : s.number / 60 ≡ old.next / 60
@@ -316,10 +316,10 @@ module _ {U A0 B0 : State} {chip_a chip_b : CardState} (n speed begun : ℕ) (ol
 
   -- ONE SECOND
   module _ (one : n ≡ 1) (o : Origin) (done : List TraceSecond) (s : TraceSecond) (now : IsNow s speed old) (actions : length s.actions ≡ begun) (r : WithinEvented o done s (In (length s.actions)) [] [] Acting old before d) where
-    feeds-one : (sp : Span) → StandsFor old.minutes sp → StandsFor minutes (fed_many sp s.speed 1)
-    feeds-one sp h = subst (λ (k : ℕ). StandsFor minutes (fed_many sp s.speed k)) one (subst (λ (k : ℕ). StandsFor minutes (fed_many sp k n)) (sym now.speed_is) (stands sp h))
+    feeds-one : (sp : Span) → CountsSpan old.minutes sp → CountsSpan minutes (fed_many sp s.speed 1)
+    feeds-one sp h = subst (λ (k : ℕ). CountsSpan minutes (fed_many sp s.speed k)) one (subst (λ (k : ℕ). CountsSpan minutes (fed_many sp k n)) (sym now.speed_is) (stands sp h))
 
-    given-one : (sp : Span) → StandsFor old.minutes sp → decided_in (fed_many sp s.speed 1) ≡ decided_in sp ++ decided
+    given-one : (sp : Span) → CountsSpan old.minutes sp → decided_in (fed_many sp s.speed 1) ≡ decided_in sp ++ decided
     given-one sp h = subst (λ (k : ℕ). decided_in (fed_many sp s.speed k) ≡ decided_in sp ++ decided) one (subst (λ (k : ℕ). decided_in (fed_many sp k n) ≡ decided_in sp ++ decided) (sym now.speed_is) (given sp h))
 
     turned : IsTurned o done s 0 decided minutes (values_of old before) d r.within.within

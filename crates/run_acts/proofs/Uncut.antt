@@ -14,7 +14,7 @@ use Rattle.run_outcome.proofs.Broken.{cuts-behind, broke-same, broke-once, broke
 use Rattle.run_outcome.specs.declared.outcome.Outcome.{Outcome}
 use Rattle.run_minutes.specs.declared.keeper.Moment.{Moment}
 use Rattle.run_minutes.specs.Keeping.{Fate, Still, Has, Fell as FellThen, breaks_by}
-use Rattle.run_minutes.specs.Minutes.{Round, Told, breaks_after, AreKept, none, more, AreKeptUpTo}
+use Rattle.run_minutes.specs.Minutes.{Round, KeepingState, breaks_after, AreKept, none, more, AreKeptUpTo}
 use Rattle.run_acts.specs.declared.run.Run.{Run}
 use Rattle.run_acts.specs.Acting.{told_of as told_in, IsSettled, Closing, Bare, Closed, Fell, closed_breaks, IsWithdrawn, pulled_breaks, noted_breaks, IsNotedOn, IsPlaced, IsNotedIn}
 use Rattle.run_acts.specs.Noting.{GapReach, NoGap, UnitFailed, DriverFell, BothSlots, AreNotedIn, IsGapNoted}
@@ -47,15 +47,15 @@ round-uncut at round breaks =
     more-uncut (breaks.items ++ breaks_by round.driver Driver at) (breaks_by round.codriver CoDriver at) (fate-uncut round.codriver CoDriver at)
     ∙ more-uncut breaks.items (breaks_by round.driver Driver at) (fate-uncut round.driver Driver at)
 
-kept-uncut : (at : Moment) (ms : List Minute) (t u : Told) → AreKept at ms t u → failed_cuts u.breaks.items ≡ failed_cuts t.breaks.items
+kept-uncut : (at : Moment) (ms : List Minute) (t u : KeepingState) → AreKept at ms t u → failed_cuts u.breaks.items ≡ failed_cuts t.breaks.items
 kept-uncut at ms t u (none v) = refl
 kept-uncut at ms t u (more m front round v mid kept is) = round-uncut at round mid.breaks ∙ kept-uncut at front v mid kept
 
-pub kept-to-uncut : (decided : List Minute) (at : Moment) (failed : Bool) (t u : Told) → AreKeptUpTo decided at failed t u → failed_cuts u.breaks.items ≡ failed_cuts t.breaks.items
+pub kept-to-uncut : (decided : List Minute) (at : Moment) (failed : Bool) (t u : KeepingState) → AreKeptUpTo decided at failed t u → failed_cuts u.breaks.items ≡ failed_cuts t.breaks.items
 kept-to-uncut decided at false t u kept = kept-uncut at decided t u kept
 kept-to-uncut decided at true t u kept =
-    ⊎_elim (λ same. ap (λ (v : Told). failed_cuts v.breaks.items) same)
-    (λ round. ap (λ (v : Told). failed_cuts v.breaks.items) round.2 ∙ round-uncut at round.0 kept.between.breaks) kept.last
+    ⊎_elim (λ same. ap (λ (v : KeepingState). failed_cuts v.breaks.items) same)
+    (λ round. ap (λ (v : KeepingState). failed_cuts v.breaks.items) round.2 ∙ round-uncut at round.0 kept.between.breaks) kept.last
     ∙ kept-uncut at kept.front t kept.between kept.kept
 
 pub turn-uncut : (decided : List Minute) (n speed : ℕ) (at : Moment) (failed : Bool) (old new : Run) (before after : Outcome) → IsKeptInTurn decided n speed at failed old new before after → failed_cuts after.breaks.items ≡ failed_cuts before.breaks.items

@@ -16,7 +16,7 @@ use Rattle.minute_model.specs.Span.{travelled_of}
 use Rattle.minute_model.proofs.Ranges.{each-more}
 use Rattle.log_model.specs.declared.lines.Break.{Break}
 use Rattle.log_model.specs.Log.{RunLog, Phase, kept_after}
-use Rattle.log_model.specs.Course.{Told, Visit, went}
+use Rattle.log_model.specs.Course.{ToldSecond, Visit, went}
 use Rattle.log_model.specs.Spans.{spans_of, first_in, end_in, AreApart}
 use Rattle.log_model.proofs.Spanning.{spanned}
 use Rattle.history_model.specs.Minutes.{HistoryMinute, up_to}
@@ -31,13 +31,13 @@ use Rattle.history_model.proofs.Rising.{rises-span, rises-spans}
 use Rattle.card_session.specs.declared.session.Kept.{Kept}
 use Rattle.unit_model.specs.declared.layout.TheConstants.{HIGHEST_ODOMETER}
 use Rattle.unit_model.specs.Image.{odometer_at}
-use Rattle.run_unit_course.specs.Followed.{Supply, Lit as IsLit, as_spans, IsKnown}
+use Rattle.run_unit_course.specs.Followed.{UnitPower, Lit as IsLit, as_spans, IsKnown}
 use Rattle.run_unit_course.specs.Legs.{kilometres_of, AreLegs, AreWhole, whole_legs}
 use Rattle.run_unit_course.specs.Turn.{span_at}
 use Rattle.run_unit_course.proofs.Alike.{decided-empty}
 use Rattle.run_unit_course.proofs.Legs.{legs-whole}
 use Rattle.unit_rule.specs.Rule.{once_mended}
-use Rattle.unit_rule.specs.Marks.{IsHeld}
+use Rattle.unit_rule.specs.Marks.{MarkIsKept}
 use Rattle.unit_rule.specs.Odometer.{odometer_by, odometer_after}
 use Rattle.unit_rule.proofs.Travelling.{odometer-sum}
 use Rattle.safety_model.specs.Safe.{Devices}
@@ -57,7 +57,7 @@ use Rattle.run_minutes.specs.Minutes.{minute_of, present_at}
 use Rattle.run_minutes.specs.Deeds.{kept_on, kepts_on}
 use Rattle.activity_codec.specs.declared.values.Slot.TheVariants.{Driver, CoDriver}
 use Rattle.run_record.specs.Recorded.{Values}
-use Rattle.run_record.specs.Within.{Within}
+use Rattle.run_record.specs.Within.{RecordInSecond}
 use Rattle.run_acts.specs.Truths.{driven_in, IsOdometerBefore, IsOdometerBehind, past_of, truths_of}
 use Rattle.run_acts.proofs.RingedSecond.{travelled-is}
 use Rattle.run_acts.proofs.MinuteEnds.{decided-within, decided-late, followed-lit, minute-range, minute-ends, this-lit, spans-now}
@@ -65,16 +65,16 @@ use Rattle.run_acts.proofs.MinuteEnds.{decided-within, decided-late, followed-li
 -- ---- spans, and those behind them
 
 -- some spans end no later than the others begin
-pub apart-front : (from until : ℕ) (xs ys : List (List Told)) → AreApart from (xs ++ ys) until → (mid : ℕ) × AreApart from xs mid × AreApart mid ys until
+pub apart-front : (from until : ℕ) (xs ys : List (List ToldSecond)) → AreApart from (xs ++ ys) until → (mid : ℕ) × AreApart from xs mid × AreApart mid ys until
 apart-front from until [] ys h = (from, (let le : from ≤ from = omega arith in le), h)
 apart-front from until (x ∷ xs) ys h = let rest = apart-front (end_in x) until xs ys h.3 in (rest.0, (h.0, h.1, h.2, rest.1), rest.2)
 
 -- the span that goes on begins no earlier, and its minutes are no earlier
-pub begins-late : (rule : Rule) (mid until : ℕ) (span : List Told) → AreApart mid (as_spans span) until → mid ≤ (span_at rule until span).first
+pub begins-late : (rule : Rule) (mid until : ℕ) (span : List ToldSecond) → AreApart mid (as_spans span) until → mid ≤ (span_at rule until span).first
 begins-late rule mid until [] h = h
 begins-late rule mid until (t ∷ span) h = h.1
 
-pub span-late : (rule : Rule) (start : Start) (told : List Told) (past : List HistoryMinute) (mid until : ℕ) (span : List Told) → AreApart mid (as_spans span) until → (i : HistoryMinute) → Contains (span_minutes rule start told past span) i → mid / 60 ≤ i.minute
+pub span-late : (rule : Rule) (start : Start) (told : List ToldSecond) (past : List HistoryMinute) (mid until : ℕ) (span : List ToldSecond) → AreApart mid (as_spans span) until → (i : HistoryMinute) → Contains (span_minutes rule start told past span) i → mid / 60 ≤ i.minute
 span-late rule start told past mid until [] h i at =
     absurd (let none : Contains {X = HistoryMinute} [] i = subst (λ (ds : List Minute). Contains (minutes_after start told past ds) i) (decided-empty rule) at in omega (arith, none.1))
 span-late rule start told past mid until (t ∷ span) h i at =
@@ -84,9 +84,9 @@ span-late rule start told past mid until (t ∷ span) h i at =
     omega (arith, low, begins)
 
 -- ---- WHERE EACH MINUTE that some spans have decided stands in what the limits of their cuts leave, it is within the limit of its span's cut
-module _ (rule : Rule) (start : Start) (log : RunLog) (found : List Break) (told : List Told) where
-  whole-by : (past : List HistoryMinute) (from until : ℕ) (spans : List (List Told)) → AreApart from spans until → AllByRecursion (IsKnown rule found) spans →
-      ((span : List Told) (d : Minute) → Contains spans span → Contains (decided_of rule span) d → (i : HistoryMinute) × Contains (history_by rule start (closed_limit log) told past spans) i × (i.minute ≡ d.minute)) →
+module _ (rule : Rule) (start : Start) (log : RunLog) (found : List Break) (told : List ToldSecond) where
+  whole-by : (past : List HistoryMinute) (from until : ℕ) (spans : List (List ToldSecond)) → AreApart from spans until → AllByRecursion (IsKnown rule found) spans →
+      ((span : List ToldSecond) (d : Minute) → Contains spans span → Contains (decided_of rule span) d → (i : HistoryMinute) × Contains (history_by rule start (closed_limit log) told past spans) i × (i.minute ≡ d.minute)) →
       AreWhole rule (closed_limit log) 0 spans
   whole-by past from until [] apart known each = tt
   whole-by past from until (span ∷ later) apart known each = (
@@ -129,7 +129,7 @@ module _ (rule : Rule) (start : Start) (log : RunLog) (found : List Break) (told
           let same = i.2 in
           (let low : d.minute ≤ kept_after log cut.0 = omega (arith, le, same) in low)))
 
-      others : (s : List Told) (d : Minute) → Contains later s → Contains (decided_of rule s) d →
+      others : (s : List ToldSecond) (d : Minute) → Contains later s → Contains (decided_of rule s) d →
           (i : HistoryMinute) × Contains (history_by rule start (closed_limit log) told (past ++ limited_to (closed_limit log span later) (span_minutes rule start told past span)) later) i × (i.minute ≡ d.minute)
       others s d at in_ =
           let i = each s d (Contains-append_right (span ∷ []) later s at) in_ in
@@ -145,18 +145,18 @@ module _ (rule : Rule) (start : Start) (log : RunLog) (found : List Break) (told
 
 -- ---- NO MINUTE OF SOME SPANS IS LOST, where each is acknowledged, and what is acknowledged is in the book or newer: that has what the limits of their
 -- cuts leave, and then minutes of the spans behind them
-module _ (rule : Rule) (start : Start) (log : RunLog) (found : List Break) (told : List Told) (ended behind : List (List Told)) (from until : ℕ) (apart : AreApart from (ended ++ behind) until) (known : AllByRecursion (IsKnown rule found) ended)
+module _ (rule : Rule) (start : Start) (log : RunLog) (found : List Break) (told : List ToldSecond) (ended behind : List (List ToldSecond)) (from until : ℕ) (apart : AreApart from (ended ++ behind) until) (known : AllByRecursion (IsKnown rule found) ended)
     (sure going new : List HistoryMinute) (are : closed_history rule start log told ended ++ going ≡ sure)
-    (held : (e : List Told) (d : Minute) → Contains ended e → Contains (decided_of rule e) d → (i : HistoryMinute) × Contains (sure ++ new) i × (i.minute ≡ d.minute))
+    (held : (e : List ToldSecond) (d : Minute) → Contains ended e → Contains (decided_of rule e) d → (i : HistoryMinute) × Contains (sure ++ new) i × (i.minute ≡ d.minute))
     (late : (mid : ℕ) → AreApart mid behind until → (i : HistoryMinute) → Contains (going ++ new) i → mid / 60 ≤ i.minute) where
   parts : (mid : ℕ) × AreApart from ended mid × AreApart mid behind until
   parts = apart-front from until ended behind apart
 
-  each : (e : List Told) (d : Minute) → Contains ended e → Contains (decided_of rule e) d → (i : HistoryMinute) × Contains (closed_history rule start log told ended) i × (i.minute ≡ d.minute)
+  each : (e : List ToldSecond) (d : Minute) → Contains ended e → Contains (decided_of rule e) d → (i : HistoryMinute) × Contains (closed_history rule start log told ended) i × (i.minute ≡ d.minute)
   each e d at in_ =
       let i = held e d at in_ in
       let early : d.minute < parts.0 / 60 =
-      each-of (λ (x : Minute). x.minute < parts.0 / 60) (decided_of rule e) d (each-of (λ (s : List Told). AllByRecursion (λ (x : Minute). x.minute < parts.0 / 60) (decided_of rule s)) ended e (apart-ended rule from parts.0 ended parts.1) at) in_ in
+      each-of (λ (x : Minute). x.minute < parts.0 / 60) (decided_of rule e) d (each-of (λ (s : List ToldSecond). AllByRecursion (λ (x : Minute). x.minute < parts.0 / 60) (decided_of rule s)) ended e (apart-ended rule from parts.0 ended parts.1) at) in_ in
       let same = i.2 in
       ⊎_elim
       (λ old. ⊎_elim
@@ -177,18 +177,18 @@ pub one-leg : (start : ℕ) (xs : List ℕ) (leg : ℕ) → odometer_after start
 one-leg start xs leg = fold-append odometer_by start xs (leg ∷ [])
 
 -- ---- WITHIN A SECOND
-module _ (o : Origin) (done : List TraceSecond) (s : TraceSecond) (at : Phase) (waits : List Visit) (speed : Option ℕ) (rest : List Minute) (v : Values) (d : Devices) (w : Within o done s at waits speed rest v d) (none : NothingFailed w.b.run.log) where
-  abbrev told_so_far : List Told
+module _ (o : Origin) (done : List TraceSecond) (s : TraceSecond) (at : Phase) (waits : List Visit) (speed : Option ℕ) (rest : List Minute) (v : Values) (d : Devices) (w : RecordInSecond o done s at waits speed rest v d) (none : NothingFailed w.b.run.log) where
+  abbrev told_so_far : List ToldSecond
   told_so_far = (went w.b.run.log done).told
 
-  abbrev ended_so_far : List (List Told)
+  abbrev ended_so_far : List (List ToldSecond)
   ended_so_far = (followed-lit o done s at waits speed rest v d w).ended
 
   abbrev odometer_first : ℕ
   odometer_first = odometer_at o.recording.unit
 
   legs-lit : HasLegs (rule_of o) (first_of o) done (record w.b.run { supply = IsLit w.b.span }) w.b.travel
-  legs-lit = subst (λ (p : Supply). HasLegs (rule_of o) (first_of o) done (record w.b.run { supply = p }) w.b.travel) w.lit w.began.legs
+  legs-lit = subst (λ (p : UnitPower). HasLegs (rule_of o) (first_of o) done (record w.b.run { supply = p }) w.b.travel) w.lit w.began.legs
 
   same-ended : legs-lit.ended ≡ (followed-lit o done s at waits speed rest v d w).ended
   same-ended = append_cancel_right legs-lit.ended ended_so_far (as_spans w.b.span) (sym legs-lit.spans ∙ (followed-lit o done s at waits speed rest v d w).spans)
@@ -196,20 +196,20 @@ module _ (o : Origin) (done : List TraceSecond) (s : TraceSecond) (at : Phase) (
   all-apart : AreApart o.from (ended_so_far ++ as_spans w.b.span) w.b.run.next
   all-apart =
       let f = followed-lit o done s at waits speed rest v d w in
-      subst (λ (ss : List (List Told)). AreApart o.from ss w.b.run.next) f.spans (subst (λ (n : ℕ). AreApart o.from (spans_of told_so_far) n) (sym f.next) (spanned w.b.run.log o.from done f.order).apart)
+      subst (λ (ss : List (List ToldSecond)). AreApart o.from ss w.b.run.next) f.spans (subst (λ (n : ℕ). AreApart o.from (spans_of told_so_far) n) (sym f.next) (spanned w.b.run.log o.from done f.order).apart)
 
   -- what is acknowledged is in the book, or is kept in this second
   held-minute : (m : ℕ) → IsMarked w.b.marks Recorder m → (i : HistoryMinute) × Contains (w.b.run.book.sure ++ w.new) i × (i.minute ≡ m)
   held-minute m k =
       let mark = mark-of Recorder v.marks m (k.0, w.stay k.0 k.1, k.2, k.3) in
-      let h = All-contains (IsHeld (once_mended o.found.unit) (kept_all w.new w.b.run.book) d.unit) (marks_of Recorder v.marks) mark.0 w.powered.lit.unit.marks_hold mark.1 in
+      let h = All-contains (MarkIsKept (once_mended o.found.unit) (kept_all w.new w.b.run.book) d.unit) (marks_of Recorder v.marks) mark.0 w.powered.lit.unit.marks_hold mark.1 in
       (h.sure.0, subst (λ (is : List HistoryMinute). Contains is h.sure.0) (sure-kept w.new None w.b.run.book) h.sure.1, h.sure.2 ∙ mark.2)
 
-  held-ended : (e : List Told) (m : Minute) → Contains ended_so_far e → Contains (decided_of (rule_of o) e) m → (i : HistoryMinute) × Contains (w.b.run.book.sure ++ w.new) i × (i.minute ≡ m.minute)
+  held-ended : (e : List ToldSecond) (m : Minute) → Contains ended_so_far e → Contains (decided_of (rule_of o) e) m → (i : HistoryMinute) × Contains (w.b.run.book.sure ++ w.new) i × (i.minute ≡ m.minute)
   held-ended e m among in_ =
       held-minute m.minute
       (⊎_elim (λ marked. marked) (λ failed. absurd (no-failure w.b.run.log none.0 (deciding_of (rule_of o) (settlings_of e) m.minute) failed))
-      (w.began.complete.unit e m (subst (λ (ss : List (List Told)). Contains ss e) (sym (followed-lit o done s at waits speed rest v d w).spans) (Contains-append_left ended_so_far (as_spans w.b.span) e among)) in_))
+      (w.began.complete.unit e m (subst (λ (ss : List (List ToldSecond)). Contains ss e) (sym (followed-lit o done s at waits speed rest v d w).spans) (Contains-append_left ended_so_far (as_spans w.b.span) e among)) in_))
 
   new-late : (i : HistoryMinute) → Contains w.new i → (span_at (rule_of o) w.b.run.next w.b.span).first / 60 ≤ i.minute
   new-late i among =
@@ -239,13 +239,13 @@ module _ (o : Origin) (done : List TraceSecond) (s : TraceSecond) (at : Phase) (
   base-is : v.odometer ≡ odometer_after (odometer_at o.recording.unit) (whole_legs (rule_of o) (followed-lit o done s at waits speed rest v d w).ended)
   base-is =
       let e = legs-lit.legs.earlier in
-      let closed : AreLegs (rule_of o) (closed_limit w.b.run.log) 0 ended_so_far e.legs = subst (λ (ss : List (List Told)). AreLegs (rule_of o) (closed_limit w.b.run.log) 0 ss e.legs) same-ended e.closed in
+      let closed : AreLegs (rule_of o) (closed_limit w.b.run.log) 0 ended_so_far e.legs = subst (λ (ss : List (List ToldSecond)). AreLegs (rule_of o) (closed_limit w.b.run.log) 0 ss e.legs) same-ended e.closed in
       let are = legs-whole (rule_of o) (closed_limit w.b.run.log) 0 ended_so_far e.legs whole-before closed in
       w.odometer ∙ same-odometer odometer_first w.b.travel.before (whole_legs (rule_of o) ended_so_far) w.travels.begins (sym e.sums ∙ ap kilometres_of are)
 
   -- ---- with this second
 
-  abbrev this : Told
+  abbrev this : ToldSecond
   this = next_told w.b.run.log done s
 
   -- behind some seconds of the span
@@ -263,7 +263,7 @@ module _ (o : Origin) (done : List TraceSecond) (s : TraceSecond) (at : Phase) (
           t = e.1;
           behind = e.2 ++ this ∷ [];
           later = [];
-          are = spans-now o done s at waits speed rest v d w ∙ ap (λ (l : List Told). ended_so_far ++ (l ++ this ∷ []) ∷ []) e.3 ∙ ap (λ (l : List Told). ended_so_far ++ l ∷ []) (append_assoc e.0 (e.1 ∷ e.2) (this ∷ []));
+          are = spans-now o done s at waits speed rest v d w ∙ ap (λ (l : List ToldSecond). ended_so_far ++ (l ++ this ∷ []) ∷ []) e.3 ∙ ap (λ (l : List ToldSecond). ended_so_far ++ l ∷ []) (append_assoc e.0 (e.1 ∷ e.2) (this ∷ []));
           number = e.4;
         };
         is = odometer-behind (odometer_by v.odometer m.travelled) (driven_in (e.0 ++ e.1 ∷ [])) (ap (λ (n : ℕ). odometer_by v.odometer n) e.5);
@@ -294,7 +294,7 @@ module _ (o : Origin) (done : List TraceSecond) (s : TraceSecond) (at : Phase) (
           (on m (goes m (Contains-append_left (m ∷ []) ms m (Contains-push [] m))) (present_at k.cabin m.minute)) (some ms (λ x there. goes x (Contains-append_right (m ∷ []) ms x there)))
 
 -- AN ACCEPTANCE TELLS THE ODOMETER of its second, before that is fed
-pub accepted-now : (o : Origin) (done : List TraceSecond) (s : TraceSecond) (at : Phase) (waits : List Visit) (rest : List Minute) (v : Values) (d : Devices) (w : Within o done s at waits None rest v d) → NothingFailed w.b.run.log → (odometer : ℕ) →
+pub accepted-now : (o : Origin) (done : List TraceSecond) (s : TraceSecond) (at : Phase) (waits : List Visit) (rest : List Minute) (v : Values) (d : Devices) (w : RecordInSecond o done s at waits None rest v d) → NothingFailed w.b.run.log → (odometer : ℕ) →
     odometer ≡ odometer_by v.odometer (travelled_of w.sp) → IsOdometerBefore (rule_of o) (odometer_at o.recording.unit) (past_of w.b.run.log (done ++ s ∷ [])).spans s.number odometer
 accepted-now o done s at waits rest v d w none odometer is = record {
   at = record {

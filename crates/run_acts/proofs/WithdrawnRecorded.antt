@@ -13,7 +13,7 @@ use Rattle.card_session.specs.Sessions.{IsSession}
 use Rattle.card_session.specs.Cards.{IsCardClosing}
 use Rattle.minute_model.specs.declared.Minute.{Minute}
 use Rattle.minute_model.specs.Span.{Span, settled, decided_in, end_of}
-use Rattle.minute_rules.specs.Kept.{StandsFor}
+use Rattle.minute_rules.specs.Kept.{CountsSpan}
 use Rattle.log_model.specs.declared.lines.Break.{Break}
 use Rattle.log_model.specs.Log.{In, RunLog, Phase, is_torn_in, found_in}
 use Rattle.log_model.specs.Slots.{in_slot, refusal, other_slot, same_card}
@@ -33,7 +33,7 @@ use Rattle.run_devices.specs.Told.{arranged}
 use Rattle.run_outcome.specs.Lines.{Listed}
 use Rattle.run_outcome.specs.declared.outcome.Outcome.{Outcome}
 use Rattle.run_minutes.specs.declared.keeper.Moment.{Moment}
-use Rattle.run_minutes.specs.Minutes.{Told, AreKept}
+use Rattle.run_minutes.specs.Minutes.{KeepingState, AreKept}
 use Rattle.run_minutes.specs.Books.{HaveTime}
 use Rattle.run_promise.specs.Origin.{Origin}
 use Rattle.run_record.specs.Recorded.{Values}
@@ -49,7 +49,7 @@ use Rattle.run_acts.proofs.Apart.{not-both}
 use Rattle.run_acts.proofs.Asked.{allowed-in}
 use Rattle.run_acts.proofs.NoneComes.{none-comes}
 use Rattle.log_model.specs.declared.lines.Find.{Find}
-use Rattle.run_crew.specs.Cabin.{Stands, with_slot_left}
+use Rattle.run_crew.specs.Cabin.{CabinIsSound, with_slot_left}
 use Rattle.run_note_record.specs.Noting.{Acting}
 use Rattle.run_note_record.specs.EventsSoFar.{EventedNow, puts_into}
 use Rattle.run_acts.specs.NotedEvents.{NotesEvents}
@@ -98,8 +98,8 @@ found-as log later u p slot same = ap (λ (fs : List Find). found_in (record log
 -- ---- in a second, at its action
 
 module _ (o : Origin) (done : List TraceSecond) (s : TraceSecond) (front rest : List Action) (slot : Slot) (are : s.actions ≡ front ++ Withdraw slot ∷ rest) (speed : ℕ) (now : s.speed ≡ speed) (c : Card) (run between : Run) (before told : Outcome) (d : Devices)
-    (w : RunWithin o done s (In (length front)) [] [] run before d) (seat : card_in (seat_in run.keeper.cabin.slots.seats slot) ≡ Some c) (allowed : refusal (logged run.keeper.cabin.slots.seats) speed (Withdraw slot) ≡ None) (from_ : ℕ) (seated : Stands from_ None run.keeper.cabin)
-    (stands : StandsFor between.minutes (settled w.within.sp)) (decided : List Minute) (given : decided_in (settled w.within.sp) ≡ decided_in w.within.sp ++ decided) where
+    (w : RunWithin o done s (In (length front)) [] [] run before d) (seat : card_in (seat_in run.keeper.cabin.slots.seats slot) ≡ Some c) (allowed : refusal (logged run.keeper.cabin.slots.seats) speed (Withdraw slot) ≡ None) (from_ : ℕ) (seated : CabinIsSound from_ None run.keeper.cabin)
+    (stands : CountsSpan between.minutes (settled w.within.sp)) (decided : List Minute) (given : decided_in (settled w.within.sp) ≡ decided_in w.within.sp ++ decided) where
   abbrev v : Values
   v = values_of run before
 
@@ -192,9 +192,9 @@ module _ (o : Origin) (done : List TraceSecond) (s : TraceSecond) (front rest : 
   -- or they are kept, and its session is closed
   pub closing-recorded : {C : Type 0} (state : C → State) (U V Z : State) (x y : C) → IsCoherent U → IsCoherent (state x) → LARGEST_IMAGE ≤ (state x).size →
       IfSome (session_of between.keeper.cabin.cards c) (λ s. (act : Activity) × LeavesOnly (state x) (state y) (λ i n. IsSession s.session i → IsCardClosing s.session act i n)) → (session_of between.keeper.cabin.cards c ≡ None → y ≡ x) →
-      LeavesOnly U V LeavesJournal → (failed : Bool) → HasCause U V failed → (span : Span) → StandsFor between.minutes span → end_of span ≡ between.next →
+      LeavesOnly U V LeavesJournal → (failed : Bool) → HasCause U V failed → (span : Span) → CountsSpan between.minutes span → end_of span ≡ between.next →
       RecordsSettling decided (acting_at s.number (suc (length front))) false (left_run slot s.number run) between before told d (arranged c U (state x) Z) → HaveTime (arranged c U (state x) Z) →
-      (at : Moment) (ms : List Minute) (t : Told) → AreKept at ms t (told_of between told) → session_of t.keeper.cabin.cards c ≡ session_of run.keeper.cabin.cards c →
+      (at : Moment) (ms : List Minute) (t : KeepingState) → AreKept at ms t (told_of between told) → session_of t.keeper.cabin.cards c ≡ session_of run.keeper.cabin.cards c →
       (failed ≡ false → TellMore [] U V) → (new : Run) (after : Listed Break) (closing : Closing) → (closing ≡ Closed → ClosesOnCard slot between.minutes (session_of between.keeper.cabin.cards c) (state x) (state y)) → IsClosed c slot (acting_at s.number (suc (length front))) between new told.breaks after closing →
       IsCalm told.breaks.items after.items (state x) (state y) → HasBroken (state x) (state y) (closed_falls closing) →
       GoesOnOrFails failed o done s (In (suc (length front))) [] new (record told { breaks = after }) (arranged c V (state y) Z) w.within.b
@@ -282,10 +282,10 @@ module _ (o : Origin) (done : List TraceSecond) (s : TraceSecond) (front rest : 
   -- and its session is closed
   pub closing-evented : {C : Type 0} (state : C → State) (U V Z : State) (x y : C) → IsCoherent U → IsCoherent (state x) → LARGEST_IMAGE ≤ (state x).size →
       IfSome (session_of between.keeper.cabin.cards c) (λ s. (act : Activity) × LeavesOnly (state x) (state y) (λ i n. IsSession s.session i → IsCardClosing s.session act i n)) → (session_of between.keeper.cabin.cards c ≡ None → y ≡ x) →
-      LeavesOnly U V LeavesJournal → (failed : Bool) → HasCause U V failed → (span : Span) → StandsFor between.minutes span → end_of span ≡ between.next →
+      LeavesOnly U V LeavesJournal → (failed : Bool) → HasCause U V failed → (span : Span) → CountsSpan between.minutes span → end_of span ≡ between.next →
       RecordsSettling decided (acting_at s.number (suc (length front))) false (left_run slot s.number run) between before told d (arranged c U (state x) Z) → HaveTime (arranged c U (state x) Z) →
-      (at : Moment) (ms : List Minute) (t : Told) → AreKept at ms t (told_of between told) → session_of t.keeper.cabin.cards c ≡ session_of run.keeper.cabin.cards c →
-      s.number < 2 ^ 32 → told.finds ≡ before.finds → (low : ℕ) → Stands low (Some c) between.keeper.cabin → EventedNow o done s w.within.b.run Acting (log_of told) (arranged c U (state x) Z) →
+      (at : Moment) (ms : List Minute) (t : KeepingState) → AreKept at ms t (told_of between told) → session_of t.keeper.cabin.cards c ≡ session_of run.keeper.cabin.cards c →
+      s.number < 2 ^ 32 → told.finds ≡ before.finds → (low : ℕ) → CabinIsSound low (Some c) between.keeper.cabin → EventedNow o done s w.within.b.run Acting (log_of told) (arranged c U (state x) Z) →
       (new : Run) (after : Listed Break) (closing : Closing) → IsClosed c slot (acting_at s.number (suc (length front))) between new told.breaks after closing →
       IsCalm told.breaks.items after.items (state x) (state y) → HasBroken (state x) (state y) (closed_falls closing) →
       NotesEvents (closed_events closing s.number new) failed (arranged c U (state x) Z) (arranged c V (state y) Z) → EventsGoOn failed o done s w.within.b.run (In (suc (length front))) Acting (log_of (record told { breaks = after })) (arranged c V (state y) Z)

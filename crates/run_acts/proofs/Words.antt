@@ -28,7 +28,7 @@ use Rattle.run_course.specs.Kept.{settled_times}
 use Rattle.run_course.specs.Reached.{moved_at, moved_with, course_at, course_with}
 use Rattle.run_promise.specs.Origin.{Origin, rule_of}
 use Rattle.run_record.specs.Recorded.{Values}
-use Rattle.run_record.specs.Within.{Within, course_in}
+use Rattle.run_record.specs.Within.{RecordInSecond, course_in}
 use Rattle.run_course.specs.Seconds.{next_told}
 use Rattle.run_acts.specs.Words.{picks_of, IsWordOf}
 use Rattle.run_acts.specs.Truths.{past_of, IsWordIn}
@@ -125,7 +125,7 @@ takes-one n (Manual y pick minute) None slots slot x is = absurd (let wrong : []
 
 -- ---- THE WORD
 
-module _ (o : Origin) (done : List TraceSecond) (s : TraceSecond) (n : ℕ) (waits : List Visit) (rest : List Minute) (v : Values) (d : Devices) (w : Within o done s (In n) waits None rest v d) (slot : Slot) (x : Visit)
+module _ (o : Origin) (done : List TraceSecond) (s : TraceSecond) (n : ℕ) (waits : List Visit) (rest : List Minute) (v : Values) (d : Devices) (w : RecordInSecond o done s (In n) waits None rest v d) (slot : Slot) (x : Visit)
     (leaves_ : (moved_at v.log (went w.b.run.log done).before s (In n)).leaving slot ≡ x ∷ []) (word : Activity) (is : word ≡ activity_next slot w.sp) (f : Find) (there : f.slot ≡ slot)
     (since : (actions rest : List Action) → s.actions ≡ actions ++ Withdraw slot ∷ rest → n ≡ suc (length actions) → IsSince s.number f actions) where
   abbrev was : Before

@@ -4,7 +4,7 @@ use Rattle.activity_codec.specs.declared.values.Slot.{Slot}
 use Rattle.trace_model.specs.declared.Card.{Card}
 use Rattle.minute_model.specs.declared.Minute.{Minute}
 use Rattle.minute_model.specs.Span.{Span, settled, decided_in}
-use Rattle.minute_rules.specs.Kept.{StandsFor}
+use Rattle.minute_rules.specs.Kept.{CountsSpan}
 use Rattle.log_model.specs.declared.lines.Break.{Break}
 use Rattle.log_model.specs.declared.lines.Break.TheVariants.{Tear}
 use Rattle.card_slots.specs.Calls.{seat_in}
@@ -16,20 +16,20 @@ use Rattle.run_outcome.specs.Lines.{Listed}
 use Rattle.run_outcome.specs.declared.outcome.Outcome.{Outcome}
 use Rattle.run_minutes.specs.declared.keeper.Moment.{Moment}
 use Rattle.run_minutes.specs.Keeping.{tear_of, with_lines}
-use Rattle.run_minutes.specs.Minutes.{Told, AreKeptUpTo}
+use Rattle.run_minutes.specs.Minutes.{KeepingState, AreKeptUpTo}
 use Rattle.run_acts.specs.declared.run.Run.{Run}
 use Rattle.run_acts.specs.Power.{with_cabin}
 
 -- keeper, marks and breaks of a run
-abbrev pub told_of : Run → Outcome → Told
+abbrev pub told_of : Run → Outcome → KeepingState
 told_of run o = record { keeper = run.keeper; marks = o.marks; breaks = o.breaks }
 
 -- THE MINUTES BEFORE THIS ONE ARE DECIDED AND KEPT, up to the first that fails
 pub record IsSettled (at : Moment) (failed : Bool) (old new : Run) (before after : Outcome) : Type 0 where
   pub only : new ≡ record old { minutes = new.minutes; keeper = new.keeper }
-  pub minutes : (span : Span) → StandsFor old.minutes span → StandsFor new.minutes (settled span)
+  pub minutes : (span : Span) → CountsSpan old.minutes span → CountsSpan new.minutes (settled span)
   pub decided : List Minute
-  pub given : (span : Span) → StandsFor old.minutes span → decided_in (settled span) ≡ decided_in span ++ decided
+  pub given : (span : Span) → CountsSpan old.minutes span → decided_in (settled span) ≡ decided_in span ++ decided
   pub kept : AreKeptUpTo decided at failed (told_of old before) (told_of new after)
   pub outcome : after ≡ record before { marks = after.marks; breaks = after.breaks }
 

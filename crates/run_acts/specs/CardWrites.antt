@@ -15,7 +15,7 @@ use Rattle.gated_ring.specs.Ring.{PointsInside}
 use Rattle.log_model.specs.declared.lines.Break.{Break}
 use Rattle.minute_model.specs.declared.Minute.{Minute}
 use Rattle.minute_model.specs.Span.{Span, settled, decided_in, activity_next}
-use Rattle.minute_rules.specs.Kept.{StandsFor}
+use Rattle.minute_rules.specs.Kept.{CountsSpan}
 use Rattle.run_unit_course.specs.Legs.{Travel}
 use Rattle.unit_rule.specs.Odometer.{HasTravelled, odometer_after}
 use Rattle.safety_model.specs.Safe.{Devices, card_of}
@@ -24,9 +24,9 @@ use Rattle.run_crew.specs.Cards.{session_of}
 use Rattle.run_outcome.specs.Lines.{Listed}
 use Rattle.run_outcome.specs.declared.outcome.Outcome.{Outcome}
 use Rattle.run_promise.specs.Found.{Found, found_of}
-use Rattle.run_promise.specs.Between.{Carried}
+use Rattle.run_promise.specs.Between.{RunLedger}
 use Rattle.run_minutes.specs.declared.keeper.Moment.{Moment}
-use Rattle.run_minutes.specs.Minutes.{Told}
+use Rattle.run_minutes.specs.Minutes.{KeepingState}
 use Rattle.run_minutes.specs.Books.{HaveTime}
 use Rattle.run_minutes.specs.Decided.{MayBookAll}
 use Rattle.run_acts.specs.declared.run.Run.{Run}
@@ -67,7 +67,7 @@ pub record ShutsSo (card : Card) (slot : Slot) (at : Moment) (old new : Run) (br
   pub closing : Closing
   pub closed : IsClosed card slot at old new breaks after closing
   pub act : Activity
-  pub selected : (span : Span) → StandsFor old.minutes span → act ≡ activity_next slot span
+  pub selected : (span : Span) → CountsSpan old.minutes span → act ≡ activity_next slot span
   pub closes : ClosesCard closing (session_of old.keeper.cabin.cards card) act state state_after
 
 -- each image that a card may leave is one that its session knew, closed
@@ -76,16 +76,16 @@ IsShut None act card_after = ⊥
 IsShut (Some a) act card_after = (c : List ℕ) → card_after.may_leave c → (x : List ℕ) × IsSession a.session x × IsCardClosed a.session act x c
 
 -- A WITHDRAWN CARD: the minutes before are kept, and then it is closed, over devices that tell, where it was valid
-pub record ShutsBehind (card : Card) (slot : Slot) (at : Moment) (t : Told) (old new : Run) (after : Outcome) (d e : Devices) : Type 0 where
+pub record ShutsBehind (card : Card) (slot : Slot) (at : Moment) (t : KeepingState) (old new : Run) (after : Outcome) (d e : Devices) : Type 0 where
   pub decided : List Minute
-  pub given : (span : Span) → StandsFor old.minutes span → decided_in (settled span) ≡ decided_in span ++ decided
+  pub given : (span : Span) → CountsSpan old.minutes span → decided_in (settled span) ≡ decided_in span ++ decided
   pub between : Run
   pub told : Outcome
   pub closing : Closing
   pub closed : IsClosed card slot at between new told.breaks after.breaks closing
   pub act : Activity
-  pub selected : (span : Span) → StandsFor between.minutes span → act ≡ activity_next slot span
-  pub shut : closing ≡ Closed → (f : Found) (w : Carried) (start : ℕ) (g : Travel) → MayBookAll f w decided t d → HasTravelled start w.book g d.unit → t.keeper.odometer ≡ odometer_after start g.before → HaveTime e → IsOwnValid (found_of f card).image
+  pub selected : (span : Span) → CountsSpan between.minutes span → act ≡ activity_next slot span
+  pub shut : closing ≡ Closed → (f : Found) (w : RunLedger) (start : ℕ) (g : Travel) → MayBookAll f w decided t d → HasTravelled start w.book g d.unit → t.keeper.odometer ≡ odometer_after start g.before → HaveTime e → IsOwnValid (found_of f card).image
       → IsShut (session_of between.keeper.cabin.cards card) act (card_of e card)
 
 -- or the unit failed in these minutes

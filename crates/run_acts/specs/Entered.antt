@@ -22,14 +22,14 @@ use Rattle.run_promise.specs.Found.{found_of}
 use Rattle.run_outcome.specs.declared.outcome.Outcome.{Outcome}
 use Rattle.run_promise.specs.Origin.{Origin, first_of}
 use Rattle.run_minutes.specs.declared.keeper.Keeper.{Keeper}
-use Rattle.run_minutes.specs.Keeping.{UnitReady}
+use Rattle.run_minutes.specs.Keeping.{UnitMayBeCalled}
 use Rattle.run_minutes.specs.Later.{IsCalm}
 use Rattle.run_insertion.specs.declared.lines.Entering.{Entering}
 use Rattle.run_insertion.specs.Entering.{Way, most_owed}
 use Rattle.run_insertion.specs.Entered.{HasEntered}
 use Rattle.run_insertion.specs.Told.{BooksEntered}
 use Rattle.run_record.specs.Recorded.{Values}
-use Rattle.run_record.specs.Within.{Within, CutWithin}
+use Rattle.run_record.specs.Within.{RecordInSecond, RecordAtFailure}
 use Rattle.run_record.specs.Judging.{IsNext, Behind}
 
 -- what a run has by value, with this keeper and these lines
@@ -55,14 +55,14 @@ pub record IsFoundBy (o : Origin) : Type 0 where
 -- A CARD IS THE NEXT that is judged, in this second behind so many of its actions: it waits in its slot, nothing was found of it yet, and the
 -- driver's card is judged first; the unit may be called, and there is room for the marks.
 pub record MayJudge (o : Origin) (done : List TraceSecond) (s : TraceSecond) (n : ℕ) (waits fewer : List Visit) (e : Entering) (k : Keeper) (out : Outcome) (unfound next begun : ℕ) (minutes : Kept) (unit card others : State)
-    (w : Within o done s (In n) waits None [] (values_with k out unfound next begun minutes) (arranged e.which unit card others)) : Type 0 where
+    (w : RecordInSecond o done s (In n) waits None [] (values_with k out unfound next begun minutes) (arranged e.which unit card others)) : Type 0 where
   pub origin : IsFoundBy o
   pub moment : e.at ≡ record { second = s.number; begun = n; late = false }
   pub last : e.at.second / 60 < LATEST_MINUTE
   pub next_ : IsNext o done s (In n) waits fewer (values_with k out unfound next begun minutes) (arranged e.which unit card others) w e.slot e.which
   pub none : found_in (values_with k out unfound next begun minutes).log s.number (In n) e.slot ≡ []
   pub order : e.slot ≡ Driver → ((moved_at (values_with k out unfound next begun minutes).log (went w.b.run.log done).before s (In n)).enters CoDriver ≡ false) ⊎ (found_in (values_with k out unfound next begun minutes).log s.number (In n) CoDriver ≡ [])
-  pub ready : UnitReady k unit
+  pub ready : UnitMayBeCalled k unit
   pub seat : seat_in k.cabin.slots.seats e.slot ≡ Some (record { card = e.which; newest = None })
   pub elsewhere : is_card (seat_in k.cabin.slots.seats (other_slot e.slot)) e.which ≡ false
   pub bare : session_of k.cabin.cards e.which ≡ None
@@ -91,10 +91,10 @@ pub record IsCut (o : Origin) (done : List TraceSecond) (s : TraceSecond) (n : �
   pub left : List Visit
   pub cabin : Cabin
   pub same : with_power_lost s.number cabin ≡ with_power_lost s.number v.cabin
-  pub within : CutWithin o done s (In n) left None (record v { cabin = cabin }) d
+  pub within : RecordAtFailure o done s (In n) left None (record v { cabin = cabin }) d
 
 -- BEHIND IT the second goes on, where the others wait; or the unit has failed
-abbrev pub GoesOnOrIsCut : (failed : Bool) → (o : Origin) (done : List TraceSecond) (s : TraceSecond) (n : ℕ) (waits fewer : List Visit) (v later : Values) (d e : Devices) → Within o done s (In n) waits None [] v d → Type 0
+abbrev pub GoesOnOrIsCut : (failed : Bool) → (o : Origin) (done : List TraceSecond) (s : TraceSecond) (n : ℕ) (waits fewer : List Visit) (v later : Values) (d e : Devices) → RecordInSecond o done s (In n) waits None [] v d → Type 0
 GoesOnOrIsCut false o done s n waits fewer v later d e w = Behind o done s (In n) waits fewer v later d e w
 GoesOnOrIsCut true o done s n waits fewer v later d e w = IsCut o done s n later e
 
@@ -102,6 +102,6 @@ GoesOnOrIsCut true o done s n waits fewer v later d e w = IsCut o done s n later
 abbrev pub ACardThatEntersIsRecorded : (unit unit_after card card_after others : State) → Type 0
 ACardThatEntersIsRecorded unit unit_after card card_after others =
     (o : Origin) (done : List TraceSecond) (s : TraceSecond) (n : ℕ) (waits fewer : List Visit) (e : Entering) (k : Keeper) (out : Outcome) (unfound next begun : ℕ) (minutes : Kept) →
-    (w : Within o done s (In n) waits None [] (values_with k out unfound next begun minutes) (arranged e.which unit card others)) → MayJudge o done s n waits fewer e k out unfound next begun minutes unit card others w →
+    (w : RecordInSecond o done s (In n) waits None [] (values_with k out unfound next begun minutes) (arranged e.which unit card others)) → MayJudge o done s n waits fewer e k out unfound next begun minutes unit card others w →
     (failed : Bool) (v : Keeper) (noted noted_after : ℕ) (after : Outcome) (way : Way) → HasGone e failed k v noted noted_after out after unit unit_after card card_after others way → card_after.clock < last_count →
     GoesOnOrIsCut failed o done s n waits fewer (values_with k out unfound next begun minutes) (values_with v after unfound next begun minutes) (arranged e.which unit card others) (arranged e.which unit_after card_after others) w

@@ -6,7 +6,7 @@ use Rattle.tacho_types.specs.CardNumber.{card_number_bytes}
 use Rattle.tacho_types.specs.declared.card_number.FullCardNumber.{FullCardNumber}
 use Rattle.run_events.specs.Watched.{named}
 use Rattle.log_model.specs.Slots.{Slots}
-use Rattle.log_model.specs.Course.{Told}
+use Rattle.log_model.specs.Course.{ToldSecond}
 use Rattle.history_model.specs.Minutes.{HistoryMinute}
 use Rattle.history_model.specs.Presence.{Start}
 use Rattle.event_model.specs.declared.kinds.TheConstants.{CARD_FAULT}
@@ -18,7 +18,7 @@ use Rattle.card_slots.specs.Calls.{seat_in, is_card}
 use Rattle.run_crew.specs.declared.cabin.Cabin.{Cabin}
 use Rattle.run_crew.specs.declared.cards.Cards.{Cards}
 use Rattle.run_crew.specs.Cards.{known_of, session_of}
-use Rattle.run_crew.specs.Cabin.{Stands, torn_out, crew_of}
+use Rattle.run_crew.specs.Cabin.{CabinIsSound, torn_out, crew_of}
 use Rattle.run_events.specs.Entries.{number_or_no_card, IsCrewOf}
 use Rattle.run_promise.specs.Found.{Found, found_of}
 use Rattle.run_devices.specs.Told.{AreFoundCards}
@@ -32,21 +32,21 @@ AreKnownBy number cards = (c : Card) → is_some (session_of cards c) ≡ true �
 
 -- THE CARDS OF A MOMENT ARE NAMED: the numbers that the slots give are those of the accepted cards that the run has in them.
 abbrev pub CardsAreNamed : Type 0
-CardsAreNamed = (number : Card → List ℕ) (start : Start) (told : List Told) (past : List HistoryMinute) (left : List Card) (u from low : ℕ) (leaving : Option Card) (slots : Slots) (cabin : Cabin) →
-    Stands low leaving cabin → SlotsTell start told past left u from slots cabin.slots → AreKnownBy number cabin.cards → IsCrewOf number (events.crew_of slots) (crew_of cabin)
+CardsAreNamed = (number : Card → List ℕ) (start : Start) (told : List ToldSecond) (past : List HistoryMinute) (left : List Card) (u from low : ℕ) (leaving : Option Card) (slots : Slots) (cabin : Cabin) →
+    CabinIsSound low leaving cabin → SlotsTell start told past left u from slots cabin.slots → AreKnownBy number cabin.cards → IsCrewOf number (events.crew_of slots) (crew_of cabin)
 
 -- Where each card that has a session is known by this number, the crew are these cards.
 abbrev pub AreKnownAs : (Card → FullCardNumber) → Cards → Type 0
 AreKnownAs number cards = (c : Card) → is_some (session_of cards c) ≡ true → (known_of cards c).number ≡ Some (number c)
 
 abbrev pub CrewIsNamed : Type 0
-CrewIsNamed = (number : Card → FullCardNumber) (start : Start) (told : List Told) (past : List HistoryMinute) (left : List Card) (u from low : ℕ) (leaving : Option Card) (slots : Slots) (cabin : Cabin) →
-    Stands low leaving cabin → SlotsTell start told past left u from slots cabin.slots → AreKnownAs number cabin.cards → crew_of cabin ≡ named number (events.crew_of slots)
+CrewIsNamed = (number : Card → FullCardNumber) (start : Start) (told : List ToldSecond) (past : List HistoryMinute) (left : List Card) (u from low : ℕ) (leaving : Option Card) (slots : Slots) (cabin : Cabin) →
+    CabinIsSound low leaving cabin → SlotsTell start told past left u from slots cabin.slots → AreKnownAs number cabin.cards → crew_of cabin ≡ named number (events.crew_of slots)
 
 -- So they are behind the tear of the card of a slot, without that.
 abbrev pub CardsAreNamedBehind : Type 0
-CardsAreNamedBehind = (number : Card → List ℕ) (start : Start) (told : List Told) (past : List HistoryMinute) (left : List Card) (u from low : ℕ) (leaving : Option Card) (slots : Slots) (cabin : Cabin) →
-    Stands low leaving cabin → SlotsTell start told past left u from slots cabin.slots → AreKnownBy number cabin.cards → (slot : Slot) (card : Card) → is_card (seat_in cabin.slots.seats slot) card ≡ true → (second : ℕ) →
+CardsAreNamedBehind = (number : Card → List ℕ) (start : Start) (told : List ToldSecond) (past : List HistoryMinute) (left : List Card) (u from low : ℕ) (leaving : Option Card) (slots : Slots) (cabin : Cabin) →
+    CabinIsSound low leaving cabin → SlotsTell start told past left u from slots cabin.slots → AreKnownBy number cabin.cards → (slot : Slot) (card : Card) → is_card (seat_in cabin.slots.seats slot) card ≡ true → (second : ℕ) →
     IsCrewOf number (events.with_card slot None (events.crew_of slots)) (crew_of (torn_out card second cabin))
 
 -- WHO HAS A SESSION IS KNOWN: cards with sessions were found valid, and the numbers found are these.

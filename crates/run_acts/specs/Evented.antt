@@ -12,7 +12,7 @@ use Rattle.log_model.specs.Slots.{refusal}
 use Rattle.event_model.specs.Events.{Seen, seen_of, seen_spans, crew_of}
 use Rattle.card_slots.specs.Calls.{logged}
 use Rattle.run_unit_course.specs.Lines.{cut_at}
-use Rattle.run_unit_course.specs.Followed.{Supply, Lost as IsLost}
+use Rattle.run_unit_course.specs.Followed.{UnitPower, Lost as IsLost}
 use Rattle.safety_model.specs.Safe.{Devices}
 use Rattle.run_course.specs.Moments.{and_break}
 use Rattle.run_course.specs.Followed.{Progress}
@@ -25,7 +25,7 @@ use Rattle.run_note_record.specs.Evented.{limit_in, Evented}
 use Rattle.run_note_record.specs.Noting.{Stage, Acting}
 use Rattle.run_note_record.specs.EventsSoFar.{EventedNow, puts_into}
 use Rattle.run_events.specs.declared.watch.Watch.{Watch}
-use Rattle.run_events.specs.Watching.{StandsFor}
+use Rattle.run_events.specs.Watching.{WatchesSpan}
 use Rattle.run_events.specs.Watched.{watched}
 use Rattle.run_events.specs.Turned.{AreLow}
 use Rattle.run_minutes.specs.declared.keeper.Moment.{Moment}
@@ -40,7 +40,7 @@ use Rattle.run_acts.specs.Settling.{settled_run}
 
 -- a span is watched for its events, which has had these seconds, each with cards that are valid
 pub record IsWatching (o : Origin) (span : List Seen) (w : Watch) : Type 0 where
-  pub stands : StandsFor w (map (watched (watched_as o)) span)
+  pub stands : WatchesSpan w (map (watched (watched_as o)) span)
   pub limit : w.over.limit ≡ limit_in o
   pub low : AreLow span
   pub valid : AllByRecursion (λ x. CrewValid o (crew_of x.itself)) span
@@ -120,7 +120,7 @@ LastAt done speed = (front : List TraceSecond) × (y : TraceSecond) × (done ≡
 
 -- BEHIND THESE SECONDS the events are noted, by the power of a run
 pub record TurnedEvents (o : Origin) (done : List TraceSecond) (run : Run) (out : Outcome) (d : Devices) : Type 0 where
-  pub supply : Supply
+  pub supply : UnitPower
   pub powers : Supplies run.power supply
   pub evented : Evented o done (log_of out) run.unfound run.next supply d
   pub limit : run.keeper.memory.limit ≡ limit_in o

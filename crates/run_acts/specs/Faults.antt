@@ -3,7 +3,7 @@ use Rattle.std.specs.Prelude.{◌≡◌, ◌⊎◌, ℕ, Bool, true, false, List
 use Rattle.tach_media.specs.Medium.{State}
 use Rattle.minute_model.specs.declared.Minute.{Minute}
 use Rattle.minute_model.specs.Span.{Span, settled, decided_in}
-use Rattle.minute_rules.specs.Kept.{StandsFor}
+use Rattle.minute_rules.specs.Kept.{CountsSpan}
 use Rattle.run_crew.specs.Cabin.{crew_of}
 use Rattle.run_events.specs.declared.watch.Ended.{Ended}
 use Rattle.run_events.specs.Noting.{AreNoted, AreBeingNoted, IsFed}
@@ -17,7 +17,7 @@ use Rattle.run_acts.specs.Turning.{IsLitTurn, late_moment, told_of}
 
 -- A SETTLING NOTES the faults of the cards that were torn out as its minutes were kept.
 abbrev pub NotesSettling : Moment → (failed : Bool) → (old new : Run) → (before after : Outcome) → (unit unit_after : State) → Type 0
-NotesSettling at failed old new before after unit unit_after = (decided : List Minute) × ((span : Span) → StandsFor old.minutes span → decided_in (settled span) ≡ decided_in span ++ decided)
+NotesSettling at failed old new before after unit unit_after = (decided : List Minute) × ((span : Span) → CountsSpan old.minutes span → decided_in (settled span) ≡ decided_in span ++ decided)
     × (reach : Reach) × IsReach decided at failed (told_of old before) (told_of new after) reach × NotesFaults failed (faults_to old.keeper at reach (told_of old before)) unit unit_after
 
 -- what has ended is noted; or the unit failed in that, and none of it is, or a part

@@ -8,16 +8,16 @@ use Rattle.card_layout.specs.declared.files.TheConstants.{LARGEST_IMAGE}
 use Rattle.card_commands.specs.Ports.{IsPort}
 use Rattle.message_model.specs.Records.{insertion_ring}
 use Rattle.minute_model.specs.Span.{Span, end_of, ungiven_of}
-use Rattle.minute_rules.specs.Kept.{StandsFor}
+use Rattle.minute_rules.specs.Kept.{CountsSpan}
 use Rattle.unit_model.specs.declared.layout.TheConstants.{HIGHEST_ODOMETER}
 use Rattle.unit_model.specs.Image.{IsUnit}
 use Rattle.card_slots.specs.Calls.{present_in}
 use Rattle.run_crew.specs.declared.cards.Known.{Known}
 use Rattle.run_crew.specs.declared.cabin.Cabin.{Cabin}
 use Rattle.run_crew.specs.Cards.{session_of}
-use Rattle.run_crew.specs.Cabin.{Stands, KnowsEnded}
+use Rattle.run_crew.specs.Cabin.{CabinIsSound, KnowsEnded}
 use Rattle.run_events.specs.Watching.{Watches}
-use Rattle.run_minutes.specs.Keeping.{IsReady, HasItsRow, HaveRows}
+use Rattle.run_minutes.specs.Keeping.{DevicesMayBeCalled, HasItsRow, HaveRows}
 use Rattle.run_opening.specs.declared.fault.RunFault.{RunFault}
 use Rattle.run_opening.specs.declared.fault.RunFault.TheVariants.{MediumFault, BadUnit, ClockBack, SameCard}
 use Rattle.run_acts.specs.declared.run.Run.{Run}
@@ -41,10 +41,10 @@ pub record CardAt (known : Known) (chip : CardState) (card : State) : Type 0 whe
 
 -- slots and sessions go together, by some minute; a card may be leaving
 abbrev pub StandSomehow : Cabin → Type 0
-StandSomehow cabin = (from : ℕ) × (leaving : Option Card) × Stands from leaving cabin
+StandSomehow cabin = (from : ℕ) × (leaving : Option Card) × CabinIsSound from leaving cabin
 
 -- WHATEVER HAS FAILED: power can be lost now. No second's minute before this one is spoken of any more.
-pub record IsHeld (to : ℕ) (run : Run) (unit : State) (chip_a chip_b : CardState) (a b : State) : Type 0 where
+pub record CanBeCut (to : ℕ) (run : Run) (unit : State) (chip_a chip_b : CardState) (a b : State) : Type 0 where
   pub is_unit : IsUnit unit
   pub odometer : run.keeper.odometer ≤ HIGHEST_ODOMETER
   pub minute : run.keeper.cabin.slots.minute ≤ to
@@ -54,20 +54,20 @@ pub record IsHeld (to : ℕ) (run : Run) (unit : State) (chip_a chip_b : CardSta
 
 -- without power: no card is accepted
 pub record IsDark (cabin : Cabin) : Type 0 where
-  pub stands : (from : ℕ) → Stands from None cabin
+  pub stands : (from : ℕ) → CabinIsSound from None cabin
   pub bare : (card : Card) → session_of cabin.cards card ≡ None
 
 -- WITH POWER: unit and cards may be called; the minutes stand for the seconds of a span up to the next one, and none that they have not
 -- given yet is kept, or is one that may not be known. A card may be leaving.
-pub record IsGoingOn (leaving : Option Card) (to : ℕ) (run : Run) (unit : State) (chip_a chip_b : CardState) (a b : State) : Type 0 where
-  pub ready : IsReady run.keeper unit chip_a chip_b a b
+pub record RunHasPower (leaving : Option Card) (to : ℕ) (run : Run) (unit : State) (chip_a chip_b : CardState) (a b : State) : Type 0 where
+  pub ready : DevicesMayBeCalled run.keeper unit chip_a chip_b a b
   pub span : Span
-  pub stands : StandsFor run.minutes span
+  pub stands : CountsSpan run.minutes span
   pub next : end_of span ≡ run.next
   pub low : first_second ≤ span.first
   pub due : ungiven_of span ≤ to
   pub later : run.keeper.journal.kept < ungiven_of span
-  pub cabin : Stands (ungiven_of span) leaving run.keeper.cabin
+  pub cabin : CabinIsSound (ungiven_of span) leaving run.keeper.cabin
   pub ended : KnowsEnded (ungiven_of span) to run.keeper.cabin.slots
   -- each accepted card, and each that was present in a minute that is to be kept, has its row in the unit
   pub rows : (card : Card) → is_some (session_of run.keeper.cabin.cards card) ≡ true → HasItsRow run.keeper.cabin.cards unit card
@@ -78,24 +78,24 @@ pub record IsGoingOn (leaving : Option Card) (to : ℕ) (run : Run) (unit : Stat
   pub watches : Watches run.watch run.next
   pub limit : run.watch.limit ≡ run.watch.over.limit
 
-abbrev pub IsLit : (to : ℕ) → Run → (unit : State) → (chip_a chip_b : CardState) → (a b : State) → Type 0
-IsLit to run unit chip_a chip_b a b = IsGoingOn None to run unit chip_a chip_b a b
+abbrev pub RunHasPowerAllSeated : (to : ℕ) → Run → (unit : State) → (chip_a chip_b : CardState) → (a b : State) → Type 0
+RunHasPowerAllSeated to run unit chip_a chip_b a b = RunHasPower None to run unit chip_a chip_b a b
 
 -- a run, where the minutes before this one may be over
 pub record IsAt (to : ℕ) (run : Run) (unit : State) (chip_a chip_b : CardState) (a b : State) : Type 0 where
   pub low : first_second ≤ run.next
   pub small : run.next ≤ end_of_seconds
-  pub held : IsHeld to run unit chip_a chip_b a b
+  pub held : CanBeCut to run unit chip_a chip_b a b
   pub dark : is_lit run.power ≡ false → IsDark run.keeper.cabin
-  pub lit : is_lit run.power ≡ true → IsLit to run unit chip_a chip_b a b
+  pub lit : is_lit run.power ≡ true → RunHasPowerAllSeated to run unit chip_a chip_b a b
 
 -- BETWEEN TWO SECONDS
-abbrev pub IsGoing : Run → (unit : State) → (chip_a chip_b : CardState) → (a b : State) → Type 0
-IsGoing run unit chip_a chip_b a b = IsAt ((run.next - 1) / 60) run unit chip_a chip_b a b
+abbrev pub IsBetweenSeconds : Run → (unit : State) → (chip_a chip_b : CardState) → (a b : State) → Type 0
+IsBetweenSeconds run unit chip_a chip_b a b = IsAt ((run.next - 1) / 60) run unit chip_a chip_b a b
 
 -- WITHIN A SECOND, once it has begun
-abbrev pub IsWithin : Run → (unit : State) → (chip_a chip_b : CardState) → (a b : State) → Type 0
-IsWithin run unit chip_a chip_b a b = IsAt (run.next / 60) run unit chip_a chip_b a b
+abbrev pub IsInsideSecond : Run → (unit : State) → (chip_a chip_b : CardState) → (a b : State) → Type 0
+IsInsideSecond run unit chip_a chip_b a b = IsAt (run.next / 60) run unit chip_a chip_b a b
 
 -- Behind the opening no failed call refuses a run, since that is a cut; a unit that is read anew may: its image does not decode, or the minute of
 -- the second is not later than its last-kept one.

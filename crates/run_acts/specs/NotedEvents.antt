@@ -16,7 +16,7 @@ use Rattle.run_note_record.specs.Evented.{number_in, NotesMore}
 use Rattle.run_note_record.specs.Noting.{NotesThese}
 
 -- a note of the unit tells this event of a run
-pub record IsTold (number : Card → List ℕ) (e : Event) (v : UnitEvent) : Type 0 where
+pub record NoteTellsEvent (number : Card → List ℕ) (e : Event) (v : UnitEvent) : Type 0 where
   pub is : IsEventOf number e v
   pub there : Contains all_kinds e.kind
   pub other : e.kind ≢ OVER_SPEEDING
@@ -32,7 +32,7 @@ abbrev pub AreTold : (Card → List ℕ) → List UnitEvent → List Event → T
 AreTold number [] [] = Unit {0}
 AreTold number [] (e ∷ es) = ⊥
 AreTold number (v ∷ vs) [] = ⊥
-AreTold number (v ∷ vs) (e ∷ es) = IsTold number e v × AreTold number vs es
+AreTold number (v ∷ vs) (e ∷ es) = NoteTellsEvent number e v × AreTold number vs es
 
 -- THEY PART into those of two calls
 pub record IsSplit (number : Card → List ℕ) (vs ws : List UnitEvent) (es : List Event) : Type 0 where

@@ -12,7 +12,7 @@ use Rattle.run_acts.specs.NotedEvents.{NotesEvents}
 use Rattle.tach_media.specs.Medium.{State}
 use Rattle.minute_model.specs.declared.Minute.{Minute}
 use Rattle.minute_model.specs.Span.{Span as Minutes, settled, decided_in}
-use Rattle.minute_rules.specs.Kept.{StandsFor}
+use Rattle.minute_rules.specs.Kept.{CountsSpan}
 use Rattle.run_events.specs.Shown.{SaysNothing}
 use Rattle.run_minutes.specs.Minutes.{Reach, IsReach}
 use Rattle.run_minutes.specs.Faults.{faults_to}
@@ -24,8 +24,8 @@ use Rattle.run_crew.specs.declared.cards.Cards.{Cards}
 use Rattle.run_crew.specs.Cabin.{crew_of}
 use Rattle.run_events.specs.Entries.{entry_of}
 use Rattle.run_promise.specs.Found.{Found}
-use Rattle.run_promise.specs.Between.{Carried}
-use Rattle.run_devices.specs.Told.{AreFoundCards, IsPowered, with_standing}
+use Rattle.run_promise.specs.Between.{RunLedger}
+use Rattle.run_devices.specs.Told.{AreFoundCards, DevicesPowered, with_standing}
 use Rattle.run_outcome.specs.Lines.{Listed}
 use Rattle.run_outcome.specs.declared.outcome.Outcome.{Outcome}
 use Rattle.run_minutes.specs.declared.keeper.Moment.{Moment}
@@ -104,7 +104,7 @@ NotesPlace (Some card) slot at failed old new breaks after d e =
 
 -- the faults of the minutes that are settled
 abbrev pub SettlesThese : Moment → (failed : Bool) → (old new : Run) → (before after : Outcome) → List UnitEvent → Type 0
-SettlesThese at failed old new before after vs = (decided : List Minute) × ((span : Minutes) → StandsFor old.minutes span → decided_in (settled span) ≡ decided_in span ++ decided)
+SettlesThese at failed old new before after vs = (decided : List Minute) × ((span : Minutes) → CountsSpan old.minutes span → decided_in (settled span) ≡ decided_in span ++ decided)
     × (reach : Reach) × IsReach decided at failed (told_of old before) (told_of new after) reach × (vs ≡ faults_to old.keeper at reach (told_of old before))
 
 -- the fault of a card that fell as its session was closed, with the cards that are left
@@ -139,14 +139,14 @@ NotesWithdrawing (Some card) slot at failed old new before after d e = (events :
 -- ---- of unit and cards
 
 -- what is carried behind a note on a card, which may have fallen
-abbrev pub carried_noted : (fell : Bool) → Card → (floor : ℕ) → Carried → Carried
+abbrev pub carried_noted : (fell : Bool) → Card → (floor : ℕ) → RunLedger → RunLedger
 carried_noted false card floor w = w
 carried_noted true card floor w = with_standing card (fallen floor (w.standing card)) w
 
 -- IT IS NOTED ON A CARD with a session: unit and cards are as the book says, and a card that fell stands as one that is torn out; or the unit
 -- failed behind that.
 abbrev pub BooksNoted : Card → (failed fell : Bool) → (cards after : Cards) → (d e : Devices) → Type 0
-BooksNoted card failed fell cards after d e = (f : Found) (w : Carried) (floor : ℕ) → AreFoundCards f cards → IsPowered f w cards d → IsPoweredOrOff failed f (carried_noted fell card floor w) after e
+BooksNoted card failed fell cards after d e = (f : Found) (w : RunLedger) (floor : ℕ) → AreFoundCards f cards → DevicesPowered f w cards d → IsPoweredOrOff failed f (carried_noted fell card floor w) after e
 
 -- ---- of the record
 

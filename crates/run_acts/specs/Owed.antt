@@ -8,7 +8,7 @@ use Rattle.minute_model.specs.declared.Rule.{Rule}
 use Rattle.minute_model.specs.Span.{decided_in, ungiven_of}
 use Rattle.log_model.specs.Log.{RunLog}
 use Rattle.log_model.specs.declared.lines.Find.{Find}
-use Rattle.log_model.specs.Course.{Told, Visit, Before, went}
+use Rattle.log_model.specs.Course.{ToldSecond, Visit, Before, went}
 use Rattle.log_model.specs.Spans.{spans_of}
 use Rattle.event_model.specs.Events.{course_by}
 use Rattle.history_model.specs.Minutes.{HistoryMinute, card_history}
@@ -20,7 +20,7 @@ use Rattle.run_unit_course.specs.Turn.{span_at, begins_with}
 use Rattle.run_course.specs.Kept.{settled_times}
 
 -- the last of these seconds had power, and kept it
-abbrev pub runs_on : List Told → Bool
+abbrev pub runs_on : List ToldSecond → Bool
 runs_on [] = false
 runs_on (t ∷ []) = t.lit && not t.cut
 runs_on (t ∷ x ∷ ts) = runs_on (x ∷ ts)
@@ -33,8 +33,8 @@ pub record ReachedAt (rule : Rule) (log : RunLog) (done : List TraceSecond) (u :
   pub later : List TraceSecond
   pub are : done ≡ front ++ s ∷ later
   pub number : s.number ≡ u
-  pub earlier : List (List Told)
-  pub span : List Told
+  pub earlier : List (List ToldSecond)
+  pub span : List ToldSecond
   pub spans : spans_of (went log front).told ≡ earlier ++ as_spans span
   pub begins : begins_with span ≡ not (runs_on (went log front).told)
   pub times : ℕ
@@ -43,13 +43,13 @@ pub record ReachedAt (rule : Rule) (log : RunLog) (done : List TraceSecond) (u :
 -- the minutes that are decided by then, with the cards that were present in them
 abbrev pub minutes_before : (rule : Rule) (start : Start) (log : RunLog) (done : List TraceSecond) (u : ℕ) → ReachedAt rule log done u → List HistoryMinute
 minutes_before rule start log done u r =
-    minutes_after start (went log r.front).told [] (flat_map (λ (span : List Told). decided_of rule span) r.earlier ++ decided_in (settled_times r.times (span_at rule u r.span)))
+    minutes_after start (went log r.front).told [] (flat_map (λ (span : List ToldSecond). decided_of rule span) r.earlier ++ decided_in (settled_times r.times (span_at rule u r.span)))
 
 -- ---- why
 
 -- a second is no later than that in which a minute is decided in one of these spans
-pub record IsDecidedBy (rule : Rule) (spans : List (List Told)) (u m : ℕ) : Type 0 where
-  pub span : List Told
+pub record IsDecidedBy (rule : Rule) (spans : List (List ToldSecond)) (u m : ℕ) : Type 0 where
+  pub span : List ToldSecond
   pub among : Contains spans span
   pub d : Minute
   pub within : Contains (decided_of rule span) d
@@ -58,8 +58,8 @@ pub record IsDecidedBy (rule : Rule) (spans : List (List Told)) (u m : ℕ) : Ty
 
 -- A `tear` line PULLED THE CARD OUT in one of these seconds: behind a minute's end, and no later than in the second that decided the minute, which may be
 -- one that has not come yet.
-pub record IsPulledBefore (rule : Rule) (told : List Told) (u : ℕ) (span : List Told) (c : Card) (m : ℕ) : Type 0 where
-  pub t : Told
+pub record IsPulledBefore (rule : Rule) (told : List ToldSecond) (u : ℕ) (span : List ToldSecond) (c : Card) (m : ℕ) : Type 0 where
+  pub t : ToldSecond
   pub there : Contains told t
   pub behind : 60 * (m + 1) ≤ t.second.number
   pub before : IsDecidedBy rule (spans_of told) t.second.number m ⊎ (ungiven_of (span_at rule u span) ≤ m)
@@ -71,7 +71,7 @@ unlogged = record { breaks = []; refused = []; finds = [] }
 
 -- or one did in this second, among the first actions of it: by the cards in the slots as it began and by these actions, since no line of a second in which
 -- no call failed takes a card out. It is behind the minute's end, too, and decides it.
-pub record IsPulledHere (rule : Rule) (before : Before) (s : TraceSecond) (span : List Told) (begun : ℕ) (c : Card) (m : ℕ) : Type 0 where
+pub record IsPulledHere (rule : Rule) (before : Before) (s : TraceSecond) (span : List ToldSecond) (begun : ℕ) (c : Card) (m : ℕ) : Type 0 where
   pub behind : 60 * (m + 1) ≤ s.number
   pub decides : ungiven_of (span_at rule s.number span) ≤ m
   pub pulled : (v : Visit) × (v.card ≡ c) × Contains (course_by unlogged before s begun).pulled v

@@ -2,7 +2,7 @@
 use Rattle.std.specs.Prelude.{◌≡◌, ℕ, ◌+◌, ◌-◌, ◌/◌, ◌%◌, ◌==◌, Bool, true, false, List, [], ◌∷◌}
 use Rattle.minute_model.specs.declared.Rule.{Rule}
 use Rattle.minute_model.specs.Span.{begin}
-use Rattle.minute_rules.specs.Kept.{StandsFor}
+use Rattle.minute_rules.specs.Kept.{CountsSpan}
 use Rattle.log_model.specs.declared.lines.Break.{Break}
 use Rattle.run_crew.specs.declared.cabin.Cabin.{Cabin}
 use Rattle.run_crew.specs.Cabin.{with_power_lost, with_minute_ended}
@@ -67,7 +67,7 @@ pub record IsSpanBegun (rule : Rule) (old new : Run) (journal : Notes) : Type 0 
   pub unfound : new.unfound ≡ old.unfound
   pub noted : new.noted ≡ old.noted
   pub keeper : new.keeper ≡ record old.keeper { journal = journal; odometer = journal.odometer }
-  pub minutes : StandsFor new.minutes (begin rule old.next)
-  pub watch : watching.StandsFor new.watch []
-  pub speeds : (next : ℕ) → minute_speeds.StandsFor new.watch.speeds [] next
+  pub minutes : CountsSpan new.minutes (begin rule old.next)
+  pub watch : watching.WatchesSpan new.watch []
+  pub speeds : (next : ℕ) → minute_speeds.KeepsSpeedsOf new.watch.speeds [] next
   pub limit : (new.watch.over.limit ≡ old.keeper.memory.limit) × (new.watch.limit ≡ old.keeper.memory.limit)

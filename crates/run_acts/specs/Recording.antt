@@ -8,7 +8,7 @@ use Rattle.log_model.specs.Log.{RunLog, Phase, In}
 use Rattle.log_model.specs.Course.{Visit, went}
 use Rattle.log_model.specs.Slots.{refusal}
 use Rattle.card_slots.specs.Calls.{logged}
-use Rattle.run_unit_course.specs.Followed.{Supply, Lit as IsLit, Due as IsDue, Lost as IsLost}
+use Rattle.run_unit_course.specs.Followed.{UnitPower, Lit as IsLit, Due as IsDue, Lost as IsLost}
 use Rattle.unit_model.specs.Decoding.{Decodes}
 use Rattle.unit_model.specs.Image.{odometer_at}
 use Rattle.unit_model.specs.Versions.{rule_of}
@@ -25,8 +25,8 @@ use Rattle.run_promise.specs.Origin.{Origin}
 use Rattle.run_promise.specs.Whole.{NothingFailed}
 use Rattle.run_note_record.specs.Ringed.{notes_in}
 use Rattle.run_minutes.specs.Books.{HaveTime}
-use Rattle.run_record.specs.Recorded.{Values, Recorded}
-use Rattle.run_record.specs.Within.{Beginning, Within, CutWithin, passed_values}
+use Rattle.run_record.specs.Recorded.{Values, RecordBetweenSeconds}
+use Rattle.run_record.specs.Within.{Beginning, RecordInSecond, RecordAtFailure, passed_values}
 use Rattle.run_acts.specs.declared.run.Run.{Run}
 use Rattle.run_acts.specs.declared.run.Power.{Power}
 use Rattle.run_acts.specs.declared.run.Power.TheVariants.{Lit, Due, Lost}
@@ -44,7 +44,7 @@ abbrev pub values_of : Run → Outcome → Values
 values_of run out = record { log = log_of out; marks = out.marks.items; cabin = run.keeper.cabin; unfound = run.unfound; next = run.next; begun = run.begun; minutes = run.minutes; odometer = run.keeper.odometer }
 
 -- the power of a run between two seconds is that of the seconds so far: a span that goes on has a second
-abbrev pub Supplies : Power → Supply → Type 0
+abbrev pub Supplies : Power → UnitPower → Type 0
 Supplies Lit (IsLit (t ∷ span)) = Unit {0}
 Supplies Lit (IsLit []) = ⊥
 Supplies Lit IsDue = ⊥
@@ -71,9 +71,9 @@ pub record IsOrigin (o : Origin) : Type 0 where
 -- shows exactly what its stays make of it, where no call failed, by what is noted and true so far. No second goes on: its number counts for nothing.
 pub record RunRecorded (o : Origin) (done : List TraceSecond) (run : Run) (out : Outcome) (d : Devices) : Type 0 where
   pub origin : IsOrigin o
-  pub supply : Supply
+  pub supply : UnitPower
   pub powers : Supplies run.power supply
-  pub recorded : Recorded o done supply (values_of run out) d
+  pub recorded : RecordBetweenSeconds o done supply (values_of run out) d
   pub odometer : run.power ≡ Lit → run.keeper.odometer ≡ odometer_after (odometer_at o.recording.unit) recorded.travel.before
   pub stay : AllStay o (marked out.marks.items (truths_of o (log_of out) done)) 0 (log_of out) (notes_in (log_of out) done) run.keeper.memory.registration run.keeper.cabin d
 
@@ -81,7 +81,7 @@ pub record RunRecorded (o : Origin) (done : List TraceSecond) (run : Run) (out :
 pub record RunWithin (o : Origin) (done : List TraceSecond) (s : TraceSecond) (at : Phase) (waits : List Visit) (rest : List Minute) (run : Run) (out : Outcome) (d : Devices) : Type 0 where
   pub origin : IsOrigin o
   pub lit : run.power ≡ Lit
-  pub within : Within o done s at waits None rest (values_of run out) d
+  pub within : RecordInSecond o done s at waits None rest (values_of run out) d
   pub odometer : run.keeper.odometer ≡ odometer_after (odometer_at o.recording.unit) within.b.travel.before
   pub stay : AllStay o (marked out.marks.items (truths_within o within.b.run.log done s)) s.number (log_of out) (notes_within within.b done s at (log_of out)) run.keeper.memory.registration run.keeper.cabin d
 
@@ -93,7 +93,7 @@ ComesPower done out = (went (log_of out) done).before.running ≡ false
 pub record RunCut (o : Origin) (done : List TraceSecond) (s : TraceSecond) (run : Run) (out : Outcome) (d : Devices) : Type 0 where
   pub origin : IsOrigin o
   pub lost : run.power ≡ Lost
-  pub recorded : Recorded o (done ++ s ∷ []) IsLost (passed_values s (values_of run out)) d
+  pub recorded : RecordBetweenSeconds o (done ++ s ∷ []) IsLost (passed_values s (values_of run out)) d
   pub failed : NothingFailed (log_of out) → ⊥
 
 -- IN A SECOND to which the trace gives power, behind so many of its actions: it goes on, or power was cut in it
@@ -113,7 +113,7 @@ pub record RunFails (o : Origin) (done : List TraceSecond) (s : TraceSecond) (at
   pub same : with_power_lost s.number cabin ≡ with_power_lost s.number run.keeper.cabin
   pub odometer : ℕ
   pub counted : run.power ≡ Lit → odometer ≡ run.keeper.odometer
-  pub within : CutWithin o done s at waits None (record (values_of run out) { cabin = cabin; odometer = odometer }) d
+  pub within : RecordAtFailure o done s at waits None (record (values_of run out) { cabin = cabin; odometer = odometer }) d
 
 -- THE SECOND GOES ON at a moment where these wait, as it began
 pub record RunGoesOn (o : Origin) (done : List TraceSecond) (s : TraceSecond) (at : Phase) (waits : List Visit) (run : Run) (out : Outcome) (d : Devices) (b : Beginning) : Type 0 where

@@ -9,7 +9,7 @@ use Rattle.tach_media.specs.Medium.{State}
 use Rattle.gated_ring.specs.Change.{IsAdded}
 use Rattle.message_model.specs.Records.{unit_place_ring}
 use Rattle.minute_model.specs.Span.{Span, travelled_of}
-use Rattle.minute_rules.specs.Kept.{StandsFor}
+use Rattle.minute_rules.specs.Kept.{CountsSpan}
 use Rattle.note_model.specs.Rings.{kind_of}
 use Rattle.unit_model.specs.declared.layout.TheConstants.{HIGHEST_ODOMETER}
 use Rattle.unit_notes.specs.Entries.{unit_place_bytes}
@@ -32,7 +32,7 @@ pub record IsPlaceNow (ending : Bool) (country region : ℕ) (run : Run) (entry 
   pub kind : entry.kind ≡ kind_of ending
   pub country_is : entry.country.0 ≡ country
   pub region_is : entry.region ≡ region
-  pub odometer : (span : Span) → StandsFor run.minutes span → entry.odometer.0 ≡ odometer_by run.keeper.odometer (travelled_of span)
+  pub odometer : (span : Span) → CountsSpan run.minutes span → entry.odometer.0 ≡ odometer_by run.keeper.odometer (travelled_of span)
   pub most : entry.odometer.0 ≤ HIGHEST_ODOMETER
 
 -- an entry is added to the ring of places, or the unit failed in that
@@ -62,7 +62,7 @@ Withdraws true s second odometer old new = WritesImages (MayBeWithdrawn s (recor
 
 -- A WITHDRAWAL IS NOTED, with the odometer of now
 abbrev pub WritesWithdrawal : Seating → (second : ℕ) → (failed : Bool) → Run → (old new : State) → Type 0
-WritesWithdrawal s second failed run old new = (span : Span) → StandsFor run.minutes span → Withdraws failed s second (odometer_of run span) old new
+WritesWithdrawal s second failed run old new = (span : Span) → CountsSpan run.minutes span → Withdraws failed s second (odometer_of run span) old new
 
 -- the session of a card that has left its slot is closed, and its withdrawal is noted; or it had none, or fell
 abbrev pub ClosesRings : Closing → Option Accepted → Moment → (failed : Bool) → Run → (old new : State) → Type 0

@@ -18,7 +18,7 @@ use Rattle.run_unit_course.specs.Turn.{span_at}
 use Rattle.run_crew.specs.declared.cabin.Cabin.{Cabin}
 use Rattle.run_crew.specs.declared.cards.Cards.{Cards}
 use Rattle.run_crew.specs.Cards.{session_of}
-use Rattle.run_promise.specs.Between.{Carried}
+use Rattle.run_promise.specs.Between.{RunLedger}
 use Rattle.run_course.specs.Presence.{SlotsTell}
 use Rattle.run_course.specs.Seconds.{kept_all}
 use Rattle.run_course.specs.Moment.{Moment}
@@ -29,13 +29,13 @@ use Rattle.run_devices.specs.Told.{AreFoundCards, AreEarly}
 use Rattle.run_minutes.specs.declared.keeper.Moment.{Moment as KeepingAt}
 use Rattle.run_minutes.specs.Keeping.{Fate, Fell, is_this, tears_of}
 use Rattle.run_minutes.specs.declared.keeper.Keeper.{Keeper}
-use Rattle.run_minutes.specs.Minutes.{Told, Done, present_at}
+use Rattle.run_minutes.specs.Minutes.{KeepingState, Done, present_at}
 use Rattle.run_minutes.specs.Books.{standing_by}
 use Rattle.run_record.specs.Recorded.{Values, GoesOnIn}
 use Rattle.run_record.specs.Within.{Beginning, told_before, course_in, IsLeaving, AreBackAt, AreOld}
 
 -- what a run has by value, where keeper, marks and breaks are these
-abbrev pub told_values : Told → Values → Values
+abbrev pub told_values : KeepingState → Values → Values
 told_values t v = record v { log = record v.log { breaks = t.breaks.items }; marks = t.marks.items; cabin = t.keeper.cabin }
 
 -- Where in a second minutes are kept: at this moment, with these cards waiting to be judged; the second is fed, or not; and so are tears told.
@@ -126,7 +126,7 @@ HaveBroken k (x ∷ xs) first last =
 -- HOW FAR A KEEPING HAS GONE, by value, where this was the keeper before it, these its marks and this the course: these minutes are kept,
 -- and these, each over as the second begins, are still to be kept; and so much is carried of unit and cards.
 pub record SoFar (o : Origin) (done : List TraceSecond) (s : TraceSecond) (q : Point) (b : Beginning) (os : Outset) (first last : Device → ℕ) (k : Keeper) (sp : Span) (v : Values) (marks : List Mark) (old : Course) (brought : Card → List ℕ)
-    (t : Told) (w : Carried) (ds rest : List Minute) (new : List HistoryMinute) (from : ℕ) : Type 0 where
+    (t : KeepingState) (w : RunLedger) (ds rest : List Minute) (new : List HistoryMinute) (from : ℕ) : Type 0 where
   pub slate : Slate o done s q b os from (b.run.book.sure ++ new) (told_values t v).log w.standing t.keeper.cabin first last
   pub past : t.keeper.cabin.slots.past ≡ k.cabin.slots.past
   pub decided : HasDecided (rule_of o) (start_at o) (told_before b done) b.run b.span (course_in b done s q.at (told_values t v).log) q.speed sp ds rest new

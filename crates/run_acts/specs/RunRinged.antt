@@ -10,7 +10,7 @@ use Rattle.tacho_types.specs.declared.places.PlaceEntry.{PlaceEntry}
 use Rattle.log_model.specs.declared.lines.Break.{Break}
 use Rattle.log_model.specs.Log.{RunLog, In}
 use Rattle.log_model.specs.Slots.{refusal}
-use Rattle.log_model.specs.Course.{Told}
+use Rattle.log_model.specs.Course.{ToldSecond}
 use Rattle.card_slots.specs.Calls.{logged}
 use Rattle.unit_model.specs.Image.{odometer_at}
 use Rattle.unit_rule.specs.Odometer.{odometer_after}
@@ -59,7 +59,7 @@ pub record RunRinged (o : Origin) (done : List TraceSecond) (run : Run) (out : O
 -- ---- within a second
 
 -- THE RINGS WITHIN A SECOND that began by this log, behind these of its actions: its span is the last, and began with the odometer of a run
-pub record RingsWithin (o : Origin) (done : List TraceSecond) (s : TraceSecond) (began : RunLog) (front : List Action) (run : Run) (log : RunLog) (spans : List SpanFrom) (told : Told) (d : Devices) : Type 0 where
+pub record RingsWithin (o : Origin) (done : List TraceSecond) (s : TraceSecond) (began : RunLog) (front : List Action) (run : Run) (log : RunLog) (spans : List SpanFrom) (told : ToldSecond) (d : Devices) : Type 0 where
   pub base : IsLastFrom run.keeper.odometer (with_second spans run.keeper.odometer told)
   pub counted : run.noted ≤ length log.finds
   pub ringed : RingedIn o done s began front log spans run.keeper.odometer told (seats_of run) d
@@ -72,7 +72,7 @@ pub record WithinRinged (o : Origin) (done : List TraceSecond) (s : TraceSecond)
   pub are : s.actions ≡ front ++ rest
   pub number : length front ≡ n
   pub spans : List SpanFrom
-  pub told : Told
+  pub told : ToldSecond
   pub rings : RingsWithin o done s evented.within.within.b.run.log front run (log_of out) spans told d
   -- by the log as the second began
   pub stored : StoresOn o evented.within.within.b.run.log evented.within.within.b.run.unfound run.keeper.odometer (with_second spans run.keeper.odometer told)
@@ -101,7 +101,7 @@ with_cut log s front = and_break log (cut_at s.number true (length front))
 
 -- the unit has failed in the last of these actions: the rings are as the cut leaves them that is told next; more was told since the second began
 -- so, all of it of this second, and the odometer is the one of then
-pub record RingsCut (o : Origin) (done : List TraceSecond) (s : TraceSecond) (b : Beginning) (front : List Action) (run : Run) (log : RunLog) (spans : List SpanFrom) (told : Told) (d : Devices) : Type 0 where
+pub record RingsCut (o : Origin) (done : List TraceSecond) (s : TraceSecond) (b : Beginning) (front : List Action) (run : Run) (log : RunLog) (spans : List SpanFrom) (told : ToldSecond) (d : Devices) : Type 0 where
   pub counted : run.noted ≤ length log.finds
   pub lines : HasMoreBreaks b.run.log log
   pub behind : GoesBehind b.run.log (with_cut log s front) done
@@ -109,7 +109,7 @@ pub record RingsCut (o : Origin) (done : List TraceSecond) (s : TraceSecond) (b 
   pub ringed : RingedBehind o (done ++ s ∷ []) (with_cut log s front) (suc s.number) (spans_cut spans run.keeper.odometer (with_cut log s front) done s) nobody d
 
 -- BEHIND A CALL in a second that began so its rings go on; or the unit has failed.
-abbrev pub RingsGoOn : (failed : Bool) → Origin → List TraceSecond → TraceSecond → Beginning → (front : List Action) → Run → RunLog → List SpanFrom → Told → Devices → Type 0
+abbrev pub RingsGoOn : (failed : Bool) → Origin → List TraceSecond → TraceSecond → Beginning → (front : List Action) → Run → RunLog → List SpanFrom → ToldSecond → Devices → Type 0
 RingsGoOn false o done s b front run log spans t d = RingsWithin o done s b.run.log front run log spans t d
 RingsGoOn true o done s b front run log spans t d = RingsCut o done s b front run log spans t d
 
@@ -117,7 +117,7 @@ RingsGoOn true o done s b front run log spans t d = RingsCut o done s b front ru
 abbrev pub RingsAction : Action → (begun speed : ℕ) → (failed : Bool) → (old new : Run) → (before after : Outcome) → (d e : Devices) → Type 0
 RingsAction action begun speed failed old new before after d e = (o : Origin) (done : List TraceSecond) (s : TraceSecond) → IsNow s speed old →
     (front rest : List Action) → s.actions ≡ front ++ action ∷ rest → begun ≡ suc (length front) → refusal (logged old.keeper.cabin.slots.seats) speed action ≡ None →
-    (w : RunWithin o done s (In (length front)) [] [] old before d) → (spans : List SpanFrom) (t : Told) → RingsWithin o done s w.within.b.run.log front old (log_of before) spans t d → HaveTime e →
+    (w : RunWithin o done s (In (length front)) [] [] old before d) → (spans : List SpanFrom) (t : ToldSecond) → RingsWithin o done s w.within.b.run.log front old (log_of before) spans t d → HaveTime e →
     RingsGoOn failed o done s w.within.b (front ++ action ∷ []) new (log_of after) spans t e
 
 -- A PLACE IS NOTED that is entered now
@@ -132,7 +132,7 @@ RingsWithdrawal slot at failed old new before after d e = at.late ≡ false → 
 -- THE INTERRUPTION OF POWER IS NOTED, before any action, which writes no ring: power comes with the second.
 abbrev pub RingsGap : (failed : Bool) → (old new : Run) → (breaks after : Listed Break) → (d e : Devices) → Type 0
 RingsGap failed old new breaks after d e = (o : Origin) (done : List TraceSecond) (s : TraceSecond) (out : Outcome) → (w : RunWithin o done s (In 0) [] [] old (record out { breaks = breaks }) d) → ComesPower done (record out { breaks = breaks }) →
-    (spans : List SpanFrom) (t : Told) → RingsWithin o done s w.within.b.run.log [] old (log_of (record out { breaks = breaks })) spans t d →
+    (spans : List SpanFrom) (t : ToldSecond) → RingsWithin o done s w.within.b.run.log [] old (log_of (record out { breaks = breaks })) spans t d →
     RingsGoOn failed o done s w.within.b [] new (log_of (record out { breaks = after })) spans t e
 
 -- BEHIND THESE SECONDS the rings show what they noted, by the power of a run

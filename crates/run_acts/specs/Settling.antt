@@ -13,7 +13,7 @@ use Rattle.run_outcome.specs.declared.outcome.Outcome.{Outcome}
 use Rattle.run_promise.specs.Origin.{Origin}
 use Rattle.run_minutes.specs.declared.keeper.Moment.{Moment}
 use Rattle.run_minutes.specs.Books.{HaveTime}
-use Rattle.run_record.specs.Within.{Beginning, IsLeaving, CutWithin}
+use Rattle.run_record.specs.Within.{Beginning, IsLeaving, RecordAtFailure}
 use Rattle.run_acts.specs.declared.run.Run.{Run}
 use Rattle.run_promise.specs.Whole.{NothingFailed}
 use Rattle.run_acts.specs.Closings.{spells_of, notes_within}
@@ -36,7 +36,7 @@ pub record IsSettledIn (o : Origin) (done : List TraceSecond) (s : TraceSecond) 
 -- or the unit failed, and power is about to be cut
 abbrev pub SettlesTo : (failed : Bool) → Origin → List TraceSecond → TraceSecond → Phase → List Visit → Beginning → (low high : ℕ) → (old new : Run) → (before after : Outcome) → Devices → Type 0
 SettlesTo false o done s at waits b low high old new before after d = IsSettledIn o done s at waits b low high old new before after d
-SettlesTo true o done s at waits b low high old new before after d = CutWithin o done s at waits None (values_of new after) d
+SettlesTo true o done s at waits b low high old new before after d = RecordAtFailure o done s at waits None (values_of new after) d
 
 -- THE MINUTES THAT A SETTLING DECIDES were to be kept with an action, with these cards waiting to be judged, and so it is recorded behind it.
 abbrev pub RecordsSettling : (decided : List Minute) → Moment → (failed : Bool) → (old new : Run) → (before after : Outcome) → (d e : Devices) → Type 0

@@ -22,9 +22,9 @@ use Rattle.run_acts.specs.Recording.{log_of, IsNow, RunWithin, RunCut}
 -- of before, but for one that is not sure, where a call failed; else the speeds that are kept stand for these seconds too.
 pub record BringsBlock (n speed : ℕ) (failed : Bool) (old new : Run) (prior unit : State) : Type 0 where
   pub block : Option Block
-  pub given : (seconds : List SpeedSecond) → minute.StandsFor old.watch.speeds seconds old.next → blocks_of (seconds ++ at_speed old.next n speed) ≡ blocks_of seconds ++ option_to_list block
+  pub given : (seconds : List SpeedSecond) → minute.KeepsSpeedsOf old.watch.speeds seconds old.next → blocks_of (seconds ++ at_speed old.next n speed) ≡ blocks_of seconds ++ option_to_list block
   pub last : IfSome block (λ b. b.time + 60 ≡ old.next + n)
-  pub stands : failed ≡ false → (seconds : List SpeedSecond) → minute.StandsFor old.watch.speeds seconds old.next → minute.StandsFor new.watch.speeds (seconds ++ at_speed old.next n speed) (old.next + n)
+  pub stands : failed ≡ false → (seconds : List SpeedSecond) → minute.KeepsSpeedsOf old.watch.speeds seconds old.next → minute.KeepsSpeedsOf new.watch.speeds (seconds ++ at_speed old.next n speed) (old.next + n)
   pub carries : CarriesBlock block failed prior unit
 
 -- ---- of a run
@@ -35,12 +35,12 @@ HasBlocks o log done d = HasSpeedRing o.recording.unit → HasSpeeds (is_sure_bl
 
 -- BETWEEN TWO SECONDS: with power the speeds of the minute that goes on are kept, and the unit carries the blocks of the seconds so far.
 pub record SpeedsBehind (o : Origin) (done : List TraceSecond) (run : Run) (out : Outcome) (d : Devices) : Type 0 where
-  pub watched : run.power ≡ Lit → minute.StandsFor run.watch.speeds (last_speeds (speed_spans (log_of out) done)) run.next
+  pub watched : run.power ≡ Lit → minute.KeepsSpeedsOf run.watch.speeds (last_speeds (speed_spans (log_of out) done)) run.next
   pub blocks : HasBlocks o (log_of out) done d
 
 -- BEHIND ALL ACTIONS of a second it is so of the seconds before it; or power was cut in it, and it is over.
 abbrev pub SpeedsInBy : (lit : Bool) → Origin → List TraceSecond → TraceSecond → (n : ℕ) → Run → Outcome → Devices → Type 0
-SpeedsInBy true o done s n run out d = RunWithin o done s (In n) [] [] run out d × minute.StandsFor run.watch.speeds (speeds_before (log_of out) done) run.next × HasBlocks o (log_of out) done d
+SpeedsInBy true o done s n run out d = RunWithin o done s (In n) [] [] run out d × minute.KeepsSpeedsOf run.watch.speeds (speeds_before (log_of out) done) run.next × HasBlocks o (log_of out) done d
 SpeedsInBy false o done s n run out d = RunCut o done s run out d × HasBlocks o (log_of out) (done ++ s ∷ []) d
 
 -- N SECONDS of one minute: behind them it is so of all.

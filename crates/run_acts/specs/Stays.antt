@@ -9,7 +9,7 @@ use Rattle.activity_codec.specs.declared.entries.Entry.{Entry}
 use Rattle.trace_model.specs.declared.Card.{Card}
 use Rattle.trace_model.specs.declared.Card.TheVariants.{A, B}
 use Rattle.minute_model.specs.Span.{Span, activity_next}
-use Rattle.minute_rules.specs.Kept.{Kept as Minutes, StandsFor}
+use Rattle.minute_rules.specs.Kept.{Kept as Minutes, CountsSpan}
 use Rattle.tach_media.specs.Medium.{State, bytes_at}
 use Rattle.tacho_types.specs.declared.texts.Registration.{Registration}
 use Rattle.unit_model.specs.declared.layout.TheConstants.{REGISTRATION}
@@ -272,4 +272,4 @@ AllStay o t second log notes vehicle cabin d = NothingFailed log → AreStays o 
 abbrev pub ClosesOnCard : Slot → Minutes → (session : Option Accepted) → (card card_after : State) → Type 0
 ClosesOnCard slot minutes None card card_after = ⊥
 ClosesOnCard slot minutes (Some a) card card_after =
-    (act : Activity) × ((span : Span) → StandsFor minutes span → act ≡ activity_next slot span) × ((c : List ℕ) → card_after.may_leave c → (x : List ℕ) × (card.image ≡ Some x) × (IsSession a.session x → IsCardClosed a.session act x c))
+    (act : Activity) × ((span : Span) → CountsSpan minutes span → act ≡ activity_next slot span) × ((c : List ℕ) → card_after.may_leave c → (x : List ℕ) × (card.image ≡ Some x) × (IsSession a.session x → IsCardClosed a.session act x c))

@@ -8,7 +8,7 @@ use Rattle.trace_model.specs.Trace.{TraceSecond}
 use Rattle.minute_model.specs.declared.Rule.{Rule}
 use Rattle.minute_model.specs.Second.{Second}
 use Rattle.log_model.specs.Log.{RunLog}
-use Rattle.log_model.specs.Course.{Told, went}
+use Rattle.log_model.specs.Course.{ToldSecond, went}
 use Rattle.log_model.specs.Spans.{spans_of, seconds_in}
 use Rattle.log_model.specs.declared.lines.Find.{Find}
 use Rattle.log_model.specs.declared.lines.Mark.{Mark}
@@ -51,31 +51,31 @@ marked marks t = record t { owed = λ c f mark es. t.owed c f mark es × All (λ
 -- its seconds by the trace, and its power spans by the log
 pub record Past : Type 0 where
   pub seconds : List TraceSecond
-  pub spans : List (List Told)
+  pub spans : List (List ToldSecond)
 
 abbrev pub past_of : RunLog → List TraceSecond → Past
 past_of log done = record { seconds = done; spans = spans_of (went log done).told }
 
 -- A SECOND WITH POWER: it lies in this power span, behind these seconds of it; and these spans came before
-pub record Rides (spans : List (List Told)) (second : ℕ) : Type 0 where
-  pub earlier : List (List Told)
-  pub span : List Told
-  pub t : Told
-  pub behind : List Told
-  pub later : List (List Told)
+pub record Rides (spans : List (List ToldSecond)) (second : ℕ) : Type 0 where
+  pub earlier : List (List ToldSecond)
+  pub span : List ToldSecond
+  pub t : ToldSecond
+  pub behind : List ToldSecond
+  pub later : List (List ToldSecond)
   pub are : spans ≡ earlier ++ (span ++ t ∷ behind) ∷ later
   pub number : t.second.number ≡ second
 
 -- what was travelled in these seconds, in km/h times seconds
-abbrev pub driven_in : List Told → ℕ
+abbrev pub driven_in : List ToldSecond → ℕ
 driven_in span = sum_by (λ (s : Second). s.speed) (seconds_in span)
 
 -- THE ODOMETER as a second with power begins, and as it ends: the start's, with the whole kilometres of each power span before, and of this one so far
-pub record IsOdometerBefore (rule : Rule) (start : ℕ) (spans : List (List Told)) (second odometer : ℕ) : Type 0 where
+pub record IsOdometerBefore (rule : Rule) (start : ℕ) (spans : List (List ToldSecond)) (second odometer : ℕ) : Type 0 where
   pub at : Rides spans second
   pub is : odometer ≡ odometer_after start (whole_legs rule at.earlier ++ driven_in at.span ∷ [])
 
-pub record IsOdometerBehind (rule : Rule) (start : ℕ) (spans : List (List Told)) (second odometer : ℕ) : Type 0 where
+pub record IsOdometerBehind (rule : Rule) (start : ℕ) (spans : List (List ToldSecond)) (second odometer : ℕ) : Type 0 where
   pub at : Rides spans second
   pub is : odometer ≡ odometer_after start (whole_legs rule at.earlier ++ driven_in (at.span ++ at.t ∷ []) ∷ [])
 
@@ -126,9 +126,9 @@ truths_within o began done s = truths_of o began (done ++ s ∷ [])
 -- ---- a run goes on
 
 -- EACH POWER SPAN GOES ON: a second with power lies in it behind the same ones, and had the same speed
-abbrev pub SpansGoOn : (spans now : List (List Told)) → Type 0
+abbrev pub SpansGoOn : (spans now : List (List ToldSecond)) → Type 0
 SpansGoOn spans now = (u : ℕ) (r : Rides spans u) →
-    (x : Told) × (behind : List Told) × (later : List (List Told)) × (now ≡ r.earlier ++ (r.span ++ x ∷ behind) ∷ later) × (x.second.number ≡ r.t.second.number) × (x.second.speed ≡ r.t.second.speed)
+    (x : ToldSecond) × (behind : List ToldSecond) × (later : List (List ToldSecond)) × (now ≡ r.earlier ++ (r.span ++ x ∷ behind) ∷ later) × (x.second.number ≡ r.t.second.number) × (x.second.speed ≡ r.t.second.speed)
 
 pub record PastGoesOn (p q : Past) : Type 0 where
   pub seconds : (s : TraceSecond) → Contains p.seconds s → Contains q.seconds s

@@ -2,7 +2,7 @@
 use Rattle.std.specs.Prelude.{◌≡◌, ◌⊎◌, ℕ, ◌+◌, ◌-◌, Bool, true, false, List, [], ◌∷◌, ◌++◌}
 use Rattle.minute_model.specs.declared.Minute.{Minute}
 use Rattle.minute_model.specs.Span.{Span, fed_many, decided_in}
-use Rattle.minute_rules.specs.Kept.{StandsFor}
+use Rattle.minute_rules.specs.Kept.{CountsSpan}
 use Rattle.run_crew.specs.Cabin.{crew_of}
 use Rattle.run_events.specs.declared.watch.Ended.{Ended}
 use Rattle.run_events.specs.Noting.{IsFed}
@@ -10,7 +10,7 @@ use Rattle.run_outcome.specs.Lines.{cut_at}
 use Rattle.run_outcome.specs.declared.outcome.Outcome.{Outcome}
 use Rattle.run_minutes.specs.declared.keeper.Moment.{Moment}
 use Rattle.run_minutes.specs.Keeping.{with_lines}
-use Rattle.run_minutes.specs.Minutes.{Told, AreKept, AreKeptUpTo}
+use Rattle.run_minutes.specs.Minutes.{KeepingState, AreKept, AreKeptUpTo}
 use Rattle.run_acts.specs.declared.run.Run.{Run}
 use Rattle.run_acts.specs.Power.{cut_run, passed}
 
@@ -19,7 +19,7 @@ abbrev pub late_moment : (next n begun : ℕ) → Moment
 late_moment next n begun = record { second = next + n - 1; begun = begun; late = true }
 
 -- keeper, marks and breaks of a run
-abbrev pub told_of : Run → Outcome → Told
+abbrev pub told_of : Run → Outcome → KeepingState
 told_of run o = record { keeper = run.keeper; marks = o.marks; breaks = o.breaks }
 
 -- what n seconds decide is kept, up to the first minute that fails; once all are, what has ended with the second before is noted
@@ -45,9 +45,9 @@ pub record IsLitTurn (n speed begun : ℕ) (old new : Run) (before after : Outco
   pub between : Run
   pub told : Outcome
   pub only : fed ≡ record old { minutes = fed.minutes }
-  pub minutes : (span : Span) → StandsFor old.minutes span → StandsFor fed.minutes (fed_many span speed n)
+  pub minutes : (span : Span) → CountsSpan old.minutes span → CountsSpan fed.minutes (fed_many span speed n)
   pub decided : List Minute
-  pub given : (span : Span) → StandsFor old.minutes span → decided_in (fed_many span speed n) ≡ decided_in span ++ decided
+  pub given : (span : Span) → CountsSpan old.minutes span → decided_in (fed_many span speed n) ≡ decided_in span ++ decided
   pub kept : IsKeptInTurn decided n speed (late_moment old.next n begun) failed fed between before told
   pub run : new ≡ cut_where failed (old.next + n - 1) between
   pub outcome : after ≡ cut_breaks failed (old.next + n - 1) begun told

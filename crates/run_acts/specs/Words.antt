@@ -11,7 +11,7 @@ use Rattle.trace_model.specs.Trace.{TraceSecond}
 use Rattle.minute_model.specs.declared.Rule.{Rule}
 use Rattle.minute_model.specs.Span.{activity_next}
 use Rattle.log_model.specs.declared.lines.Find.{Find}
-use Rattle.log_model.specs.Course.{Told}
+use Rattle.log_model.specs.Course.{ToldSecond}
 use Rattle.history_model.specs.Growth.{picking}
 use Rattle.run_unit_course.specs.Turn.{span_at}
 
@@ -40,7 +40,7 @@ begun_in u f = if nat_eq f.second u then f.begun else 0
 
 -- THE WORD IS THAT OF A SLOT in which a card was accepted by this line, as an action of a second withdraws the card: by the seconds of its power span
 -- before it, and by what the actions before that one select. It is the first behind the acceptance that withdraws from the slot.
-pub record IsWordOf (rule : Rule) (span : List Told) (s : TraceSecond) (f : Find) (word : Activity) : Type 0 where
+pub record IsWordOf (rule : Rule) (span : List ToldSecond) (s : TraceSecond) (f : Find) (word : Activity) : Type 0 where
   pub front : List Action
   pub since : List Action
   pub rest : List Action

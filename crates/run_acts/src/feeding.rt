@@ -1,7 +1,7 @@
 //! Seconds of one minute.
 ghost use Rattle.std.specs.Prelude.{◌≡◌, ◌+◌, ◌%◌, ◌<◌, ◌≤◌, ◌++◌};
 ghost use Rattle.minute_model.specs.Span.{Span, decided_in, fed_many};
-ghost use Rattle.minute_rules.specs.Kept.{StandsFor};
+ghost use Rattle.minute_rules.specs.Kept.{CountsSpan};
 ghost use Rattle.run_acts.specs.Going.{largest_number};
 
 use activity_codec::Steps;
@@ -26,8 +26,8 @@ pub fn turn_length(next: u32, left: u32) -> u32
 pub(crate) fn feed(minutes: &mut Minutes, n: u32, speed: u8) -> Decided
     requires fits { minutes.old.next + n ≤ largest_number }
     requires minute { minutes.old.next % 60 + n ≤ 60 }
-    ensures fed { (span : Span) → StandsFor minutes.old span → StandsFor minutes.new (fed_many span speed n) }
-    ensures given { (span : Span) → StandsFor minutes.old span → decided_in (fed_many span speed n) ≡ decided_in span ++ result.items }
+    ensures fed { (span : Span) → CountsSpan minutes.old span → CountsSpan minutes.new (fed_many span speed n) }
+    ensures given { (span : Span) → CountsSpan minutes.old span → decided_in (fed_many span speed n) ≡ decided_in span ++ result.items }
     ensures next { minutes.new.next ≡ minutes.old.next + n }
 {
     feed_by::<Brand>(minutes, n, speed, Blank::new(1))
@@ -39,8 +39,8 @@ fn feed_by<L: Ledger>(minutes: &mut Minutes, n: u32, speed: u8, blank: Blank) ->
     requires one { blank.parts ≡ 1 }
     requires fits { minutes.old.next + n ≤ largest_number }
     requires minute { minutes.old.next % 60 + n ≤ 60 }
-    ensures fed { (span : Span) → StandsFor minutes.old span → StandsFor minutes.new (fed_many span speed n) }
-    ensures given { (span : Span) → StandsFor minutes.old span → decided_in (fed_many span speed n) ≡ decided_in span ++ result.items }
+    ensures fed { (span : Span) → CountsSpan minutes.old span → CountsSpan minutes.new (fed_many span speed n) }
+    ensures given { (span : Span) → CountsSpan minutes.old span → decided_in (fed_many span speed n) ≡ decided_in span ++ result.items }
     ensures next { minutes.new.next ≡ minutes.old.next + n }
 {
     let mut steps = Steps::<L>::new(blank);

@@ -1,13 +1,13 @@
 ghost use Rattle.run_minutes.specs.declared.keeper.Keeper.{Keeper};
 ghost use Rattle.run_minutes.specs.declared.keeper.Moment.{Moment};
-ghost use Rattle.run_minutes.specs.Minutes.{Reach, Told};
+ghost use Rattle.run_minutes.specs.Minutes.{Reach, KeepingState};
 ghost use Rattle.run_minutes.specs.Faults.{faults_to};
 ghost use Rattle.run_acts.specs.KeptEvents.{AreFaults};
 ghost use Rattle.run_acts.specs.EventCrews.{CardsAreNamed, CardsAreNamedBehind, CrewIsNamed, SessionsAreKnown, FaultsAreTold};
 
 /// As far as a keeping came, what it notes are faults of cards.
 pub fn keepings_note_faults()
-    ensures { (k : Keeper) (at : Moment) (reach : Reach) (t : Told) → AreFaults (faults_to k at reach t) }
+    ensures { (k : Keeper) (at : Moment) (reach : Reach) (t : KeepingState) → AreFaults (faults_to k at reach t) }
 {}
 
 /// The numbers that the slots give are those of the accepted cards that the run has in them.

@@ -3,15 +3,15 @@ ghost use Rattle.std.specs.Prelude.{◌≡◌, ◌≢◌, ℕ, ◌+◌, ◌/◌,
 ghost use Rattle.trace_model.specs.declared.Card.{Card};
 ghost use Rattle.tach_media.specs.Medium.{LeavesOnly, HasCause, HasBroken};
 ghost use Rattle.minute_model.specs.Span.{Span, travelled_of};
-ghost use Rattle.minute_rules.specs.Kept.{StandsFor};
+ghost use Rattle.minute_rules.specs.Kept.{CountsSpan};
 ghost use Rattle.unit_model.specs.declared.layout.TheConstants.{HIGHEST_ODOMETER};
 ghost use Rattle.unit_model.specs.Image.{IsUnit};
 ghost use Rattle.unit_notes.specs.Journal.{LeavesJournal};
 ghost use Rattle.card_slots.specs.Calls.{seat_in, card_in};
 ghost use Rattle.run_crew.specs.Cards.{known_of, session_of};
-ghost use Rattle.run_crew.specs.Cabin.{Stands, number_of_seat};
+ghost use Rattle.run_crew.specs.Cabin.{CabinIsSound, number_of_seat};
 ghost use Rattle.run_speeds.specs.Speeds.{LeavesSpeeds};
-ghost use Rattle.run_minutes.specs.Keeping.{UnitReady, CardReady, HasItsRow};
+ghost use Rattle.run_minutes.specs.Keeping.{UnitMayBeCalled, CardMayBeCalled, HasItsRow};
 ghost use Rattle.run_minutes.specs.Minutes.{odometer_by};
 ghost use Rattle.run_minutes.specs.Later.{AreLater, AreCalm};
 ghost use Rattle.run_promise.specs.Between.{devices};
@@ -27,7 +27,7 @@ ghost use Rattle.run_acts.specs.Ringing.{WritesPlace};
 ghost use Rattle.run_acts.specs.RunRinged.{RingsPlace};
 ghost use Rattle.run_acts.specs.RunCards.{CardsPlace};
 ghost use Rattle.run_acts.specs.declared.run.Power.TheVariants.{Lit};
-ghost use Rattle.run_acts.specs.Going.{first_second, end_of_seconds, IsHeld, IsLit};
+ghost use Rattle.run_acts.specs.Going.{first_second, end_of_seconds, CanBeCut, RunHasPowerAllSeated};
 ghost use Rattle.run_acts.specs.Room.{falls_of};
 ghost use Rattle.run_acts.specs.Acting.{IsNotedOn, IsPlaced, falls_by};
 
@@ -48,7 +48,7 @@ pub fn place(run: &Run, ending: bool, country: u8, region: u8) -> PlaceEntry
     ensures time { result.time.0 ≡ run.now.next }
     ensures kind { result.kind ≡ (if ending then 1 else 0) }
     ensures where_to { (result.country.0 ≡ country) × (result.region ≡ region) }
-    ensures odometer { (span : Span) → StandsFor run.now.minutes span → result.odometer.0 ≡ odometer_by run.now.keeper.odometer (travelled_of span) }
+    ensures odometer { (span : Span) → CountsSpan run.now.minutes span → result.odometer.0 ≡ odometer_by run.now.keeper.odometer (travelled_of span) }
     ensures most { result.odometer.0 ≤ HIGHEST_ODOMETER }
 {
     PlaceEntry {
@@ -78,8 +78,8 @@ pub fn note_place<M: Medium, C: Chip, D: Chip>(
     requires lit { run.old.power ≡ Lit }
     requires low { first_second ≤ run.old.next }
     requires small { run.old.next ≤ end_of_seconds }
-    requires held { IsHeld (run.old.next / 60) run.old (M.state unit.old) (C.card card_a.old) (D.card card_b.old) (C.state card_a.old) (D.state card_b.old) }
-    requires going { IsLit (run.old.next / 60) run.old (M.state unit.old) (C.card card_a.old) (D.card card_b.old) (C.state card_a.old) (D.state card_b.old) }
+    requires held { CanBeCut (run.old.next / 60) run.old (M.state unit.old) (C.card card_a.old) (D.card card_b.old) (C.state card_a.old) (D.state card_b.old) }
+    requires going { RunHasPowerAllSeated (run.old.next / 60) run.old (M.state unit.old) (C.card card_a.old) (D.card card_b.old) (C.state card_a.old) (D.state card_b.old) }
     requires at { at.second ≡ run.old.next }
     requires time { entry.now.time.0 ≢ 0 }
     requires odometer { entry.now.odometer.0 ≤ HIGHEST_ODOMETER }
@@ -98,8 +98,8 @@ pub fn note_place<M: Medium, C: Chip, D: Chip>(
     // What was noted of insertions and places goes on with it.
     ensures ringed { RingsPlace slot entry.now at (is_err result) run.old run.new breaks.old breaks.new (devices (M.state unit.old) (C.state card_a.old) (D.state card_b.old)) (devices (M.state unit.new) (C.state card_a.new) (D.state card_b.new)) }
     ensures only { run.new ≡ record run.old { keeper = run.new.keeper } }
-    ensures held { IsHeld (run.new.next / 60) run.new (M.state unit.new) (C.card card_a.new) (D.card card_b.new) (C.state card_a.new) (D.state card_b.new) }
-    ensures going { OnOk result (IsLit (run.new.next / 60) run.new (M.state unit.new) (C.card card_a.new) (D.card card_b.new) (C.state card_a.new) (D.state card_b.new)) }
+    ensures held { CanBeCut (run.new.next / 60) run.new (M.state unit.new) (C.card card_a.new) (D.card card_b.new) (C.state card_a.new) (D.state card_b.new) }
+    ensures going { OnOk result (RunHasPowerAllSeated (run.new.next / 60) run.new (M.state unit.new) (C.card card_a.new) (D.card card_b.new) (C.state card_a.new) (D.state card_b.new)) }
     ensures room { (breaks.new.room ≡ breaks.old.room) × (length breaks.new.items + falls_of run.new.keeper.cabin ≤ length breaks.old.items + falls_of run.old.keeper.cabin) }
     ensures more { length breaks.old.items ≤ length breaks.new.items }
     ensures cause { HasCause (M.state unit.old) (M.state unit.new) (is_err result) }
@@ -133,8 +133,8 @@ fn note_place_in<M: Medium, C: Chip>(
     card: &mut C,
     breaks: &mut Lines<Break>,
 ) -> Result<(), Failed>
-    requires ready { UnitReady run.old.keeper (M.state unit.old) }
-    requires card { CardReady (known_of run.old.keeper.cabin.cards which) (C.card card.old) (C.state card.old) }
+    requires ready { UnitMayBeCalled run.old.keeper (M.state unit.old) }
+    requires card { CardMayBeCalled (known_of run.old.keeper.cabin.cards which) (C.card card.old) (C.state card.old) }
     requires session { is_some (session_of run.old.keeper.cabin.cards which) ≡ true }
     requires minute { run.old.keeper.cabin.slots.minute ≤ at.second / 60 }
     requires second { at.second ≢ 0 }
@@ -152,10 +152,10 @@ fn note_place_in<M: Medium, C: Chip>(
     ensures moments { IfSome (session_of run.old.keeper.cabin.cards which) (λ a. LeavesOnly (C.state card.old) (C.state card.new) (IsNote a.session.application)) }
     ensures value { IfSome (session_of run.old.keeper.cabin.cards which) (λ a. IsValue a.session) }
     ensures unit { IsUnit (M.state unit.new) }
-    ensures ready { OnOk result (UnitReady run.new.keeper (M.state unit.new)) }
+    ensures ready { OnOk result (UnitMayBeCalled run.new.keeper (M.state unit.new)) }
     ensures rows { (c : Card) → HasItsRow run.old.keeper.cabin.cards (M.state unit.old) c → OnOk result (HasItsRow run.new.keeper.cabin.cards (M.state unit.new) c) }
-    ensures stands { (from : ℕ) (leaving : Option Card) → Stands from leaving run.old.keeper.cabin → Stands from leaving run.new.keeper.cabin }
-    ensures card { CardReady (known_of run.new.keeper.cabin.cards which) (C.card card.new) (C.state card.new) }
+    ensures stands { (from : ℕ) (leaving : Option Card) → CabinIsSound from leaving run.old.keeper.cabin → CabinIsSound from leaving run.new.keeper.cabin }
+    ensures card { CardMayBeCalled (known_of run.new.keeper.cabin.cards which) (C.card card.new) (C.state card.new) }
     ensures size { (C.state card.new).size ≡ (C.state card.old).size }
     ensures clock_card { (C.state card.old).clock ≤ (C.state card.new).clock }
     ensures cause { HasCause (M.state unit.old) (M.state unit.new) (is_err result) }

@@ -3,7 +3,7 @@ ghost use Rattle.std.specs.Prelude.{◌≡◌, ℕ, ◌+◌, ◌-◌, ◌/◌, �
 ghost use Rattle.unit_model.specs.declared.layout.TheConstants.{HIGHEST_ODOMETER};
 ghost use Rattle.trace_model.specs.declared.Card.{Card};
 ghost use Rattle.run_crew.specs.Cards.{session_of};
-ghost use Rattle.run_crew.specs.Cabin.{Stands, KnowsEnded};
+ghost use Rattle.run_crew.specs.Cabin.{CabinIsSound, KnowsEnded};
 ghost use Rattle.run_outcome.specs.Lines.{cut_at, found_from};
 ghost use Rattle.run_minutes.specs.Keeping.{with_lines};
 
@@ -26,7 +26,7 @@ impl Run {
         requires minute { self.old.keeper.cabin.slots.minute ≤ second / 60 }
         ensures run { self.new ≡ cut_run second self.old }
         ensures breaks { breaks.new ≡ with_lines (cut_at second failed begun ∷ []) breaks.old }
-        ensures stands { (from to : ℕ) (leaving : Option Card) → Stands from leaving self.old.keeper.cabin → Stands to None self.new.keeper.cabin }
+        ensures stands { (from to : ℕ) (leaving : Option Card) → CabinIsSound from leaving self.old.keeper.cabin → CabinIsSound to None self.new.keeper.cabin }
         ensures bare { (card : Card) → session_of self.new.keeper.cabin.cards card ≡ None }
     {
         breaks.add(Break::Cut {

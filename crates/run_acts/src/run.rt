@@ -3,9 +3,9 @@ ghost use Rattle.std.specs.Prelude.{◌≡◌, ℕ, ◌+◌, ◌<◌, ◌≤◌,
 ghost use Rattle.unit_model.specs.declared.layout.TheConstants.{HIGHEST_ODOMETER};
 ghost use Rattle.unit_model.specs.Versions.{rule_by};
 ghost use Rattle.minute_model.specs.Span.{Span, begin, travelled_of};
-ghost use Rattle.minute_rules.specs.Kept.{StandsFor};
+ghost use Rattle.minute_rules.specs.Kept.{CountsSpan};
 ghost use Rattle.card_slots.specs.Kept.{nothing_yet};
-ghost use Rattle.run_crew.specs.Cabin.{Stands};
+ghost use Rattle.run_crew.specs.Cabin.{CabinIsSound};
 ghost use Rattle.run_minutes.specs.Keeping.{with_lines};
 ghost use Rattle.run_minutes.specs.Minutes.{odometer_by};
 
@@ -63,10 +63,10 @@ impl Run {
         ensures begun { result.begun ≡ 0 }
         ensures unfound { result.unfound ≡ 0 }
         ensures noted { result.noted ≡ 0 }
-        ensures minutes { StandsFor result.minutes (begin (rule_by opened.unit.memory.rule_byte) start) }
+        ensures minutes { CountsSpan result.minutes (begin (rule_by opened.unit.memory.rule_byte) start) }
         ensures keeper { result.keeper ≡ record { memory = opened.unit.memory; journal = opened.unit.journal; odometer = opened.unit.journal.odometer; cabin = record { slots = nothing_yet; cards = record { a = opened.card_a; b = opened.card_b } } } }
         ensures odometer { result.keeper.odometer ≤ HIGHEST_ODOMETER }
-        ensures stands { (from : ℕ) → Stands from None result.keeper.cabin }
+        ensures stands { (from : ℕ) → CabinIsSound from None result.keeper.cabin }
     {
         let limit = opened.unit.memory.identity().limit;
         let rule = opened.unit.memory.rule();
@@ -110,7 +110,7 @@ impl Run {
     /// The odometer at the begin of the next second.
     pub fn odometer_now(&self) -> Odometer
         requires { self.now.keeper.odometer ≤ HIGHEST_ODOMETER }
-        ensures value { (span : Span) → StandsFor self.now.minutes span → result.0 ≡ odometer_by self.now.keeper.odometer (travelled_of span) }
+        ensures value { (span : Span) → CountsSpan self.now.minutes span → result.0 ≡ odometer_by self.now.keeper.odometer (travelled_of span) }
         ensures most { result.0 ≤ HIGHEST_ODOMETER }
     {
         odometer_after(self.keeper.odometer, self.minutes.travelled())

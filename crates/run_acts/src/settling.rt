@@ -4,13 +4,13 @@ ghost use Rattle.trace_model.specs.declared.Card.{Card};
 ghost use Rattle.tach_media.specs.Medium.{HasCause, HasBroken};
 ghost use Rattle.run_minutes.specs.Keeping.{tears_of, most_tears};
 ghost use Rattle.run_acts.specs.declared.run.Power.TheVariants.{Lit};
-ghost use Rattle.run_acts.specs.Going.{first_second, end_of_seconds, IsHeld, IsGoingOn};
+ghost use Rattle.run_acts.specs.Going.{first_second, end_of_seconds, CanBeCut, RunHasPower};
 ghost use Rattle.run_acts.specs.Room.{Takes};
 ghost use Rattle.activity_codec.specs.declared.values.Slot.{Slot};
 ghost use Rattle.card_slots.specs.Calls.{seat_in};
 ghost use Rattle.minute_model.specs.declared.Minute.{Minute};
 ghost use Rattle.minute_model.specs.Span.{Span, settled, decided_in};
-ghost use Rattle.minute_rules.specs.Kept.{StandsFor};
+ghost use Rattle.minute_rules.specs.Kept.{CountsSpan};
 ghost use Rattle.run_minutes.specs.Later.{AreLater, AreCalm};
 ghost use Rattle.run_promise.specs.Between.{devices};
 ghost use Rattle.run_minutes.specs.Minutes.{Reach, IsReach};
@@ -43,24 +43,24 @@ pub fn settle<M: Medium, C: Chip, D: Chip>(
     requires lit { run.old.power ≡ Lit }
     requires low { first_second ≤ run.old.next }
     requires small { run.old.next ≤ end_of_seconds }
-    requires held { IsHeld (run.old.next / 60) run.old (M.state unit.old) (C.card card_a.old) (D.card card_b.old) (C.state card_a.old) (D.state card_b.old) }
-    requires going { (leaving : Option Card) × IsGoingOn leaving (run.old.next / 60) run.old (M.state unit.old) (C.card card_a.old) (D.card card_b.old) (C.state card_a.old) (D.state card_b.old) }
+    requires held { CanBeCut (run.old.next / 60) run.old (M.state unit.old) (C.card card_a.old) (D.card card_b.old) (C.state card_a.old) (D.state card_b.old) }
+    requires going { (leaving : Option Card) × RunHasPower leaving (run.old.next / 60) run.old (M.state unit.old) (C.card card_a.old) (D.card card_b.old) (C.state card_a.old) (D.state card_b.old) }
     requires at { at.second ≡ run.old.next }
     requires marks { length outcome.old.marks.items + 3 * run.old.minutes.owing ≤ outcome.old.marks.room }
     requires breaks { length outcome.old.breaks.items + most_tears run.old.keeper.cabin.cards ≤ outcome.old.breaks.room }
     ensures settled { IsSettled at (is_err result) run.old run.new outcome.old outcome.new }
-    ensures booked { (decided : List Minute) × (reach : Reach) × ((span : Span) → StandsFor run.old.minutes span → decided_in (settled span) ≡ decided_in span ++ decided)
+    ensures booked { (decided : List Minute) × (reach : Reach) × ((span : Span) → CountsSpan run.old.minutes span → decided_in (settled span) ≡ decided_in span ++ decided)
         × IsReach decided at (is_err result) (told_of run.old outcome.old) (told_of run.new outcome.new) reach
         × BooksAll decided (is_err result) reach (told_of run.old outcome.old) (told_of run.new outcome.new) (devices (M.state unit.old) (C.state card_a.old) (D.state card_b.old)) (devices (M.state unit.new) (C.state card_a.new) (D.state card_b.new)) }
-    ensures recorded { (decided : List Minute) × ((span : Span) → StandsFor run.old.minutes span → decided_in (settled span) ≡ decided_in span ++ decided)
+    ensures recorded { (decided : List Minute) × ((span : Span) → CountsSpan run.old.minutes span → decided_in (settled span) ≡ decided_in span ++ decided)
         × RecordsSettling decided at (is_err result) run.old run.new outcome.old outcome.new (devices (M.state unit.old) (C.state card_a.old) (D.state card_b.old)) (devices (M.state unit.new) (C.state card_a.new) (D.state card_b.new)) }
     // What that notes of faults goes on with the events of its second.
-    ensures evented { (decided : List Minute) × ((span : Span) → StandsFor run.old.minutes span → decided_in (settled span) ≡ decided_in span ++ decided)
+    ensures evented { (decided : List Minute) × ((span : Span) → CountsSpan run.old.minutes span → decided_in (settled span) ≡ decided_in span ++ decided)
         × EventsSettling decided at (is_err result) run.old run.new outcome.old outcome.new (devices (M.state unit.old) (C.state card_a.old) (D.state card_b.old)) (devices (M.state unit.new) (C.state card_a.new) (D.state card_b.new)) }
     // And each card shows its events still.
-    ensures cards { (decided : List Minute) × ((span : Span) → StandsFor run.old.minutes span → decided_in (settled span) ≡ decided_in span ++ decided)
+    ensures cards { (decided : List Minute) × ((span : Span) → CountsSpan run.old.minutes span → decided_in (settled span) ≡ decided_in span ++ decided)
         × CardsSettling decided at run.old run.new outcome.old (devices (M.state unit.old) (C.state card_a.old) (D.state card_b.old)) (devices (M.state unit.new) (C.state card_a.new) (D.state card_b.new)) }
-    ensures places { (decided : List Minute) × ((span : Span) → StandsFor run.old.minutes span → decided_in (settled span) ≡ decided_in span ++ decided)
+    ensures places { (decided : List Minute) × ((span : Span) → CountsSpan run.old.minutes span → decided_in (settled span) ≡ decided_in span ++ decided)
         × PlacesSettling decided at run.old run.new outcome.old (devices (M.state unit.old) (C.state card_a.old) (D.state card_b.old)) (devices (M.state unit.new) (C.state card_a.new) (D.state card_b.new)) }
     ensures noted { NotesSettling at (is_err result) run.old run.new outcome.old outcome.new (M.state unit.old) (M.state unit.new) }
     ensures keeps { AreLeftMore (devices (M.state unit.old) (C.state card_a.old) (D.state card_b.old)) (devices (M.state unit.new) (C.state card_a.new) (D.state card_b.new)) }
@@ -68,9 +68,9 @@ pub fn settle<M: Medium, C: Chip, D: Chip>(
     ensures clock_a { (C.state card_a.old).clock ≤ (C.state card_a.new).clock }
     ensures clock_b { (D.state card_b.old).clock ≤ (D.state card_b.new).clock }
     ensures none { run.new.minutes.owing ≡ 0 }
-    ensures held { IsHeld (run.new.next / 60) run.new (M.state unit.new) (C.card card_a.new) (D.card card_b.new) (C.state card_a.new) (D.state card_b.new) }
-    ensures going { (leaving : Option Card) → IsGoingOn leaving (run.old.next / 60) run.old (M.state unit.old) (C.card card_a.old) (D.card card_b.old) (C.state card_a.old) (D.state card_b.old)
-        → OnOk result (IsGoingOn leaving (run.new.next / 60) run.new (M.state unit.new) (C.card card_a.new) (D.card card_b.new) (C.state card_a.new) (D.state card_b.new)) }
+    ensures held { CanBeCut (run.new.next / 60) run.new (M.state unit.new) (C.card card_a.new) (D.card card_b.new) (C.state card_a.new) (D.state card_b.new) }
+    ensures going { (leaving : Option Card) → RunHasPower leaving (run.old.next / 60) run.old (M.state unit.old) (C.card card_a.old) (D.card card_b.old) (C.state card_a.old) (D.state card_b.old)
+        → OnOk result (RunHasPower leaving (run.new.next / 60) run.new (M.state unit.new) (C.card card_a.new) (D.card card_b.new) (C.state card_a.new) (D.state card_b.new)) }
     ensures bare { OnOk result ((slot : Slot) → IsBareIn run.old.keeper.cabin slot → (seat_in run.new.keeper.cabin.slots.seats slot ≡ seat_in run.old.keeper.cabin.slots.seats slot) × IsBareIn run.new.keeper.cabin slot) }
     ensures takes { Takes 0 0 0 run.old run.new outcome.old outcome.new }
     ensures more { length outcome.old.breaks.items ≤ length outcome.new.breaks.items }

@@ -5,13 +5,13 @@ ghost use Rattle.tach_media.specs.Medium.{HasCause, HasBroken};
 ghost use Rattle.unit_model.specs.declared.layout.TheConstants.{HIGHEST_ODOMETER};
 ghost use Rattle.unit_model.specs.Image.{IsUnit};
 ghost use Rattle.card_slots.specs.Calls.{present_in};
-ghost use Rattle.run_crew.specs.Cabin.{Stands};
+ghost use Rattle.run_crew.specs.Cabin.{CabinIsSound};
 ghost use Rattle.run_events.specs.Watching.{Watches};
-ghost use Rattle.run_minutes.specs.Keeping.{IsReady, CardReady, HasItsRow, HaveRows, AreEmptied, SessionsGoOn, tears_of, most_tears};
+ghost use Rattle.run_minutes.specs.Keeping.{DevicesMayBeCalled, CardMayBeCalled, HasItsRow, HaveRows, AreEmptied, SessionsGoOn, tears_of, most_tears};
 ghost use Rattle.run_minutes.specs.Minutes.{AreDue, kept_after, Reach};
 ghost use Rattle.run_acts.specs.declared.run.Power.TheVariants.{Lit};
 ghost use Rattle.run_acts.specs.Power.{is_lit, passed};
-ghost use Rattle.run_acts.specs.Going.{end_of_seconds, IsWithin, IsGoing};
+ghost use Rattle.run_acts.specs.Going.{end_of_seconds, IsInsideSecond, IsBetweenSeconds};
 ghost use Rattle.run_acts.specs.Room.{HasRoom, HasRoomWithin};
 ghost use Rattle.run_acts.specs.Turning.{IsKeptInTurn, IsLitTurn, IsTurnOf, told_of};
 ghost use Rattle.run_acts.specs.Booked.{IsTurnReach, BooksTurn, IsBookedTurn};
@@ -45,7 +45,7 @@ pub fn turn<M: Medium, C: Chip, D: Chip>(
     card_b: &mut D,
     outcome: &mut Outcome,
 )
-    requires going { IsWithin run.old (M.state unit.old) (C.card card_a.old) (D.card card_b.old) (C.state card_a.old) (D.state card_b.old) }
+    requires going { IsInsideSecond run.old (M.state unit.old) (C.card card_a.old) (D.card card_b.old) (C.state card_a.old) (D.state card_b.old) }
     requires some { 0 < n }
     requires minute { run.old.next % 60 + n ≤ 60 }
     requires small { run.old.next + n ≤ end_of_seconds }
@@ -67,7 +67,7 @@ pub fn turn<M: Medium, C: Chip, D: Chip>(
     ensures clock_a { (C.state card_a.old).clock ≤ (C.state card_a.new).clock }
     ensures clock_b { (D.state card_b.old).clock ≤ (D.state card_b.new).clock }
     ensures dark { is_lit run.old.power ≡ false → (unit.new ≡ unit.old) × (card_a.new ≡ card_a.old) × (card_b.new ≡ card_b.old) }
-    ensures going { IsGoing run.new (M.state unit.new) (C.card card_a.new) (D.card card_b.new) (C.state card_a.new) (D.state card_b.new) }
+    ensures going { IsBetweenSeconds run.new (M.state unit.new) (C.card card_a.new) (D.card card_b.new) (C.state card_a.new) (D.state card_b.new) }
     ensures next { run.new.next ≡ run.old.next + n }
     ensures unfound { run.new.unfound ≡ run.old.unfound }
     ensures room { (left offs insertions actions : ℕ) → HasRoomWithin run.old outcome.old (n + left) offs insertions actions → HasRoom run.new outcome.new left offs insertions actions }
@@ -98,7 +98,7 @@ fn lit_turn<M: Medium, C: Chip, D: Chip>(
     outcome: &mut Outcome,
 )
     requires lit { run.old.power ≡ Lit }
-    requires going { IsWithin run.old (M.state unit.old) (C.card card_a.old) (D.card card_b.old) (C.state card_a.old) (D.state card_b.old) }
+    requires going { IsInsideSecond run.old (M.state unit.old) (C.card card_a.old) (D.card card_b.old) (C.state card_a.old) (D.state card_b.old) }
     requires some { 0 < n }
     requires minute { run.old.next % 60 + n ≤ 60 }
     requires small { run.old.next + n ≤ end_of_seconds }
@@ -111,7 +111,7 @@ fn lit_turn<M: Medium, C: Chip, D: Chip>(
     ensures clock { (M.state unit.old).clock ≤ (M.state unit.new).clock }
     ensures clock_a { (C.state card_a.old).clock ≤ (C.state card_a.new).clock }
     ensures clock_b { (D.state card_b.old).clock ≤ (D.state card_b.new).clock }
-    ensures going { IsGoing (passed n begun run.new) (M.state unit.new) (C.card card_a.new) (D.card card_b.new) (C.state card_a.new) (D.state card_b.new) }
+    ensures going { IsBetweenSeconds (passed n begun run.new) (M.state unit.new) (C.card card_a.new) (D.card card_b.new) (C.state card_a.new) (D.state card_b.new) }
     ensures next { run.new.next ≡ run.old.next }
     ensures unfound { run.new.unfound ≡ run.old.unfound }
     ensures room { (left offs insertions actions : ℕ) → HasRoomWithin run.old outcome.old (n + left) offs insertions actions → HasRoom (passed n begun run.new) outcome.new left offs insertions actions }
@@ -157,11 +157,11 @@ fn keep_turn<M: Medium, C: Chip, D: Chip>(
     card_b: &mut D,
     outcome: &mut Outcome,
 ) -> Result<(), Failed>
-    requires ready { IsReady run.old.keeper (M.state unit.old) (C.card card_a.old) (D.card card_b.old) (C.state card_a.old) (D.state card_b.old) }
+    requires ready { DevicesMayBeCalled run.old.keeper (M.state unit.old) (C.card card_a.old) (D.card card_b.old) (C.state card_a.old) (D.state card_b.old) }
     requires due { AreDue run.old.keeper.journal.kept decided.now }
     requires ended { All (λ m. is_some (present_in run.old.keeper.cabin.slots.past m.minute) ≡ true) decided.now }
     requires rows { All (λ m. IfSome (present_in run.old.keeper.cabin.slots.past m.minute) (HaveRows run.old.keeper.cabin.cards (M.state unit.old))) decided.now }
-    requires stands { (from : ℕ) × (leaving : Option Card) × All (λ m. from ≤ m.minute) decided.now × Stands from leaving run.old.keeper.cabin }
+    requires stands { (from : ℕ) × (leaving : Option Card) × All (λ m. from ≤ m.minute) decided.now × CabinIsSound from leaving run.old.keeper.cabin }
     requires odometer { run.old.keeper.odometer ≤ HIGHEST_ODOMETER }
     requires minute { run.old.keeper.cabin.slots.minute ≤ at.second / 60 }
     requires second { at.second ≢ 0 }
@@ -180,16 +180,16 @@ fn keep_turn<M: Medium, C: Chip, D: Chip>(
         × BooksTurn decided.now (is_err result) reach (told_of run.old outcome.old) (told_of run.new outcome.new) (devices (M.state unit.old) (C.state card_a.old) (D.state card_b.old)) (devices (M.state unit.new) (C.state card_a.new) (D.state card_b.new)) }
     ensures devices { DevicesGoOn (is_err result) run.old.keeper.cabin.cards run.new.keeper.cabin.cards (devices (M.state unit.old) (C.state card_a.old) (D.state card_b.old)) (devices (M.state unit.new) (C.state card_a.new) (D.state card_b.new)) }
     ensures unit { IsUnit (M.state unit.new) }
-    ensures ready { OnOk result (IsReady run.new.keeper (M.state unit.new) (C.card card_a.new) (D.card card_b.new) (C.state card_a.new) (D.state card_b.new)) }
+    ensures ready { OnOk result (DevicesMayBeCalled run.new.keeper (M.state unit.new) (C.card card_a.new) (D.card card_b.new) (C.state card_a.new) (D.state card_b.new)) }
     ensures rows { (card : Card) → HasItsRow run.old.keeper.cabin.cards (M.state unit.old) card → OnOk result (HasItsRow run.new.keeper.cabin.cards (M.state unit.new) card) }
     ensures same { (run.new.keeper.memory ≡ run.old.keeper.memory) × (run.new.keeper.odometer ≡ run.old.keeper.odometer) × (run.new.keeper.cabin.slots.past ≡ run.old.keeper.cabin.slots.past) }
     ensures minute { run.new.keeper.cabin.slots.minute ≤ at.second / 60 }
     ensures last { OnOk result (run.new.keeper.journal.kept ≡ kept_after run.old.keeper.journal.kept decided.now) }
-    ensures stands { (from : ℕ) (leaving : Option Card) → All (λ m. from ≤ m.minute) decided.now → Stands from leaving run.old.keeper.cabin → (next : ℕ) → from ≤ next → kept_after run.old.keeper.journal.kept decided.now < next → Stands next leaving run.new.keeper.cabin }
+    ensures stands { (from : ℕ) (leaving : Option Card) → All (λ m. from ≤ m.minute) decided.now → CabinIsSound from leaving run.old.keeper.cabin → (next : ℕ) → from ≤ next → kept_after run.old.keeper.journal.kept decided.now < next → CabinIsSound next leaving run.new.keeper.cabin }
     ensures seats { AreEmptied run.old.keeper.cabin.slots.seats run.new.keeper.cabin.slots.seats }
     ensures sessions { SessionsGoOn run.old.keeper.cabin.cards run.new.keeper.cabin.cards }
-    ensures card_a { CardReady run.new.keeper.cabin.cards.a (C.card card_a.new) (C.state card_a.new) }
-    ensures card_b { CardReady run.new.keeper.cabin.cards.b (D.card card_b.new) (D.state card_b.new) }
+    ensures card_a { CardMayBeCalled run.new.keeper.cabin.cards.a (C.card card_a.new) (C.state card_a.new) }
+    ensures card_b { CardMayBeCalled run.new.keeper.cabin.cards.b (D.card card_b.new) (D.state card_b.new) }
     ensures size_a { (C.state card_a.new).size ≡ (C.state card_a.old).size }
     ensures size_b { (D.state card_b.new).size ≡ (D.state card_b.old).size }
     ensures marks { (outcome.new.marks.room ≡ outcome.old.marks.room) × (length outcome.new.marks.items ≤ length outcome.old.marks.items + 3 * length decided.now) }

@@ -11,18 +11,18 @@ ghost use Rattle.unit_model.specs.Image.{IsUnit};
 ghost use Rattle.unit_notes.specs.Journal.{LeavesJournal};
 ghost use Rattle.card_slots.specs.Calls.{seat_in, card_in};
 ghost use Rattle.run_crew.specs.Cards.{known_of, session_of};
-ghost use Rattle.run_crew.specs.Cabin.{Stands};
+ghost use Rattle.run_crew.specs.Cabin.{CabinIsSound};
 ghost use Rattle.run_speeds.specs.Speeds.{LeavesSpeeds};
-ghost use Rattle.run_minutes.specs.Keeping.{UnitReady, CardReady, HasItsRow, tears_of, with_lines};
+ghost use Rattle.run_minutes.specs.Keeping.{UnitMayBeCalled, CardMayBeCalled, HasItsRow, tears_of, with_lines};
 ghost use Rattle.run_acts.specs.declared.run.Power.TheVariants.{Lit};
-ghost use Rattle.run_acts.specs.Going.{first_second, end_of_seconds, IsHeld, IsLit};
+ghost use Rattle.run_acts.specs.Going.{first_second, end_of_seconds, CanBeCut, RunHasPowerAllSeated};
 ghost use Rattle.run_acts.specs.Room.{falls_of, Takes};
 ghost use Rattle.minute_model.specs.declared.Minute.{Minute};
 ghost use Rattle.minute_model.specs.Span.{Span, settled, decided_in};
-ghost use Rattle.minute_rules.specs.Kept.{StandsFor};
+ghost use Rattle.minute_rules.specs.Kept.{CountsSpan};
 ghost use Rattle.run_minutes.specs.Later.{IsLater, AreLater, AreCalm, IsCalm};
 ghost use Rattle.run_promise.specs.Between.{devices};
-ghost use Rattle.run_minutes.specs.Minutes.{Told, Reach, IsReach};
+ghost use Rattle.run_minutes.specs.Minutes.{KeepingState, Reach, IsReach};
 ghost use Rattle.run_acts.specs.Stays.{ClosesOnCard};
 ghost use Rattle.run_acts.specs.Acting.{Closing, Closed, IsClosed, closed_falls, IsWithdrawn, left_run, pulled_run, pulled_breaks, told_of};
 ghost use Rattle.trace_model.specs.declared.Action.TheVariants.{Withdraw};
@@ -68,16 +68,16 @@ pub fn withdraw<M: Medium, C: Chip, D: Chip>(
     requires lit { run.old.power ≡ Lit }
     requires low { first_second ≤ run.old.next }
     requires small { run.old.next ≤ end_of_seconds }
-    requires held { IsHeld (run.old.next / 60) run.old (M.state unit.old) (C.card card_a.old) (D.card card_b.old) (C.state card_a.old) (D.state card_b.old) }
-    requires going { IsLit (run.old.next / 60) run.old (M.state unit.old) (C.card card_a.old) (D.card card_b.old) (C.state card_a.old) (D.state card_b.old) }
+    requires held { CanBeCut (run.old.next / 60) run.old (M.state unit.old) (C.card card_a.old) (D.card card_b.old) (C.state card_a.old) (D.state card_b.old) }
+    requires going { RunHasPowerAllSeated (run.old.next / 60) run.old (M.state unit.old) (C.card card_a.old) (D.card card_b.old) (C.state card_a.old) (D.state card_b.old) }
     requires at { at.second ≡ run.old.next }
     requires marks { length outcome.old.marks.items + 3 * run.old.minutes.owing ≤ outcome.old.marks.room }
     requires breaks { length outcome.old.breaks.items + falls_of run.old.keeper.cabin ≤ outcome.old.breaks.room }
     ensures withdrawn { IsWithdrawn (card_in (seat_in run.old.keeper.cabin.slots.seats slot)) slot at (is_err result) run.old run.new outcome.old outcome.new }
     ensures only { run.new ≡ record run.old { minutes = run.new.minutes; keeper = run.new.keeper } }
     ensures rest { outcome.new ≡ record outcome.old { marks = outcome.new.marks; breaks = outcome.new.breaks } }
-    ensures booked { (card : Card) → card_in (seat_in run.old.keeper.cabin.slots.seats slot) ≡ Some card → (decided : List Minute) × (reach : Reach) × (closing : Option Closing) × (between : Told)
-        × ((span : Span) → StandsFor run.old.minutes span → decided_in (settled span) ≡ decided_in span ++ decided)
+    ensures booked { (card : Card) → card_in (seat_in run.old.keeper.cabin.slots.seats slot) ≡ Some card → (decided : List Minute) × (reach : Reach) × (closing : Option Closing) × (between : KeepingState)
+        × ((span : Span) → CountsSpan run.old.minutes span → decided_in (settled span) ≡ decided_in span ++ decided)
         × IsReach decided at (not (is_some closing)) (told_of (left_run slot at.second run.old) outcome.old) between reach
         × BooksWithdrawn card decided (is_err result) reach closing (told_of (left_run slot at.second run.old) outcome.old) (told_of run.new outcome.new) (devices (M.state unit.old) (C.state card_a.old) (D.state card_b.old)) (devices (M.state unit.new) (C.state card_a.new) (D.state card_b.new)) }
     ensures events { NotesWithdrawing (card_in (seat_in run.old.keeper.cabin.slots.seats slot)) slot at (is_err result) run.old run.new outcome.old outcome.new (devices (M.state unit.old) (C.state card_a.old) (D.state card_b.old)) (devices (M.state unit.new) (C.state card_a.new) (D.state card_b.new)) }
@@ -90,8 +90,8 @@ pub fn withdraw<M: Medium, C: Chip, D: Chip>(
     ensures cards { CardsWithdrawal slot at (is_err result) run.old outcome.old outcome.new (devices (M.state unit.old) (C.state card_a.old) (D.state card_b.old)) (devices (M.state unit.new) (C.state card_a.new) (D.state card_b.new)) }
     // The card is closed with what is selected then.
     ensures shut { (card : Card) → card_in (seat_in run.old.keeper.cabin.slots.seats slot) ≡ Some card → WithdrawsShut card slot at (is_err result) run.old run.new outcome.old outcome.new (devices (M.state unit.old) (C.state card_a.old) (D.state card_b.old)) (devices (M.state unit.new) (C.state card_a.new) (D.state card_b.new)) }
-    ensures held { IsHeld (run.new.next / 60) run.new (M.state unit.new) (C.card card_a.new) (D.card card_b.new) (C.state card_a.new) (D.state card_b.new) }
-    ensures going { OnOk result (IsLit (run.new.next / 60) run.new (M.state unit.new) (C.card card_a.new) (D.card card_b.new) (C.state card_a.new) (D.state card_b.new)) }
+    ensures held { CanBeCut (run.new.next / 60) run.new (M.state unit.new) (C.card card_a.new) (D.card card_b.new) (C.state card_a.new) (D.state card_b.new) }
+    ensures going { OnOk result (RunHasPowerAllSeated (run.new.next / 60) run.new (M.state unit.new) (C.card card_a.new) (D.card card_b.new) (C.state card_a.new) (D.state card_b.new)) }
     ensures takes { Takes 0 0 0 run.old run.new outcome.old outcome.new }
     ensures more { length outcome.old.breaks.items ≤ length outcome.new.breaks.items }
     ensures cause { HasCause (M.state unit.old) (M.state unit.new) (is_err result) }
@@ -123,8 +123,8 @@ fn close<M: Medium, C: Chip>(
     card: &mut C,
     breaks: &mut Lines<Break>,
 ) -> Result<(), Failed>
-    requires ready { UnitReady run.old.keeper (M.state unit.old) }
-    requires card { CardReady (known_of run.old.keeper.cabin.cards which) (C.card card.old) (C.state card.old) }
+    requires ready { UnitMayBeCalled run.old.keeper (M.state unit.old) }
+    requires card { CardMayBeCalled (known_of run.old.keeper.cabin.cards which) (C.card card.old) (C.state card.old) }
     requires entry { IfSome (session_of run.old.keeper.cabin.cards which) (λ s. (s.entry < insertion_ring.count) × (s.noted ≤ run.old.noted)) }
     requires odometer { run.old.keeper.odometer ≤ HIGHEST_ODOMETER }
     requires minute { run.old.keeper.cabin.slots.minute ≤ at.second / 60 }
@@ -140,10 +140,10 @@ fn close<M: Medium, C: Chip>(
     ensures shut { ShutsSo which slot at run.old run.new breaks.old breaks.new (C.state card.old) (C.state card.new) }
     ensures bare { session_of run.old.keeper.cabin.cards which ≡ None → card.new ≡ card.old }
     ensures unit { IsUnit (M.state unit.new) }
-    ensures ready { OnOk result (UnitReady run.new.keeper (M.state unit.new)) }
+    ensures ready { OnOk result (UnitMayBeCalled run.new.keeper (M.state unit.new)) }
     ensures rows { (c : Card) → HasItsRow run.old.keeper.cabin.cards (M.state unit.old) c → OnOk result (HasItsRow run.new.keeper.cabin.cards (M.state unit.new) c) }
-    ensures stands { (from : ℕ) → Stands from (Some which) run.old.keeper.cabin → Stands from None run.new.keeper.cabin }
-    ensures card { CardReady (known_of run.new.keeper.cabin.cards which) (C.card card.new) (C.state card.new) }
+    ensures stands { (from : ℕ) → CabinIsSound from (Some which) run.old.keeper.cabin → CabinIsSound from None run.new.keeper.cabin }
+    ensures card { CardMayBeCalled (known_of run.new.keeper.cabin.cards which) (C.card card.new) (C.state card.new) }
     ensures size { (C.state card.new).size ≡ (C.state card.old).size }
     ensures more { (C.state card.old).breakdowns ≤ (C.state card.new).breakdowns }
     ensures clock_card { (C.state card.old).clock ≤ (C.state card.new).clock }
@@ -173,7 +173,7 @@ fn note_withdrawal<M: Medium>(
     at: Moment,
     unit: &mut M,
 ) -> Result<(), Failed>
-    requires ready { UnitReady run.now.keeper (M.state unit.old) }
+    requires ready { UnitMayBeCalled run.now.keeper (M.state unit.old) }
     requires entry { entry < insertion_ring.count }
     requires noted { noted ≤ run.now.noted }
     requires odometer { run.now.keeper.odometer ≤ HIGHEST_ODOMETER }
@@ -196,10 +196,10 @@ fn note_withdrawal<M: Medium>(
 pub fn pull(run: &mut Run, slot: Slot, at: Moment, breaks: &mut Lines<Break>)
     requires minute { run.old.keeper.cabin.slots.minute ≤ at.second / 60 }
     requires room { length breaks.old.items + falls_of run.old.keeper.cabin ≤ breaks.old.room }
-    requires stands { (from : ℕ) × (leaving : Option Card) × Stands from leaving run.old.keeper.cabin }
+    requires stands { (from : ℕ) × (leaving : Option Card) × CabinIsSound from leaving run.old.keeper.cabin }
     ensures run { run.new ≡ pulled_run (card_in (seat_in run.old.keeper.cabin.slots.seats slot)) at.second run.old }
     ensures breaks { breaks.new ≡ with_lines (pulled_breaks (card_in (seat_in run.old.keeper.cabin.slots.seats slot)) slot at) breaks.old }
-    ensures stands { (from : ℕ) (leaving : Option Card) → Stands from leaving run.old.keeper.cabin → Stands from leaving run.new.keeper.cabin }
+    ensures stands { (from : ℕ) (leaving : Option Card) → CabinIsSound from leaving run.old.keeper.cabin → CabinIsSound from leaving run.new.keeper.cabin }
 {
     let Some(card) = run.keeper.cabin.slots.card(slot) else {
         return;

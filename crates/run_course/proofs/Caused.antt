@@ -23,7 +23,7 @@ use Rattle.log_model.specs.declared.lines.Verdict.{Verdict}
 use Rattle.log_model.specs.Log.{RunLog, Phase, In, cut_of, cut_in, tears_here, is_torn_in}
 use Rattle.log_model.specs.Same.{SameAt}
 use Rattle.log_model.specs.Slots.{same_card}
-use Rattle.log_model.specs.Course.{Told, Visit, Went, Before, has_power, second_told, went}
+use Rattle.log_model.specs.Course.{ToldSecond, Visit, Went, Before, has_power, second_told, went}
 use Rattle.log_model.specs.Causes.{device_of, is_cut, has_failed, second_of, cuts, failed_cut_in, ComesBehind, AreInTime, tears, places, visit_places, in_the_slot, refusals_at, refusals_of, refusal_told, pulled_of, torn_of, cards_torn, finds_of, off_cuts, RoseBy, IsBegun, IsAtPowerOn, HasMoment, CutBy, IsJudged}
 use Rattle.log_model.specs.Spans.{seconds_in, AreInOrder}
 use Rattle.log_model.proofs.Spanning.{spanned, order-parts}
@@ -37,7 +37,7 @@ use Rattle.run_unit_course.proofs.Causing.{told-found, told-added}
 use Rattle.run_unit_course.proofs.Offs.{pair, off-given, off-later, off-same, over-failed, any-last, by-same, by-other, by-found}
 use Rattle.run_unit_course.proofs.Spans.{cuts_of, cuts-append, cut-push}
 use Rattle.run_course.specs.Moments.{and_break}
-use Rattle.run_course.specs.Followed.{Progress, IsBreakBefore, Followed, HadActions}
+use Rattle.run_course.specs.Followed.{Progress, IsBreakBefore, BookFollowsRun, HadActions}
 use Rattle.run_course.specs.Seconds.{next_told}
 use Rattle.run_course.specs.Caused.{StandsBy, failures, AreCaused, WellCaused, ASecondIsCaused, FoundStaysCaused, AnOffLineIsCaused, AnOffCutIsCaused, ARunIsCaused}
 use Rattle.run_course.proofs.Lookups.{cut-by, cut-first, break-more}
@@ -45,37 +45,37 @@ use Rattle.run_course.proofs.Logs.{BreaksBefore, cut-rest, same-at, other-number
 use Rattle.run_course.proofs.Steps.{now-told, lit-parts, cut-parts, cuts-bound}
 
 -- WHAT SECONDS TELL, one after another
-abbrev pulled_in : Told → List (ℕ × Phase × Slot)
+abbrev pulled_in : ToldSecond → List (ℕ × Phase × Slot)
 pulled_in t = visit_places t.second.number t.course.pulled
 
-abbrev torn_in : Told → List (ℕ × Phase × Slot)
+abbrev torn_in : ToldSecond → List (ℕ × Phase × Slot)
 torn_in t = visit_places t.second.number t.course.torn
 
-abbrev cards_in : Told → List Card
+abbrev cards_in : ToldSecond → List Card
 cards_in t = map (λ (v : Visit). v.card) t.course.torn
 
-abbrev refusals_in : Told → List (ℕ × ℕ × SlotFault)
+abbrev refusals_in : ToldSecond → List (ℕ × ℕ × SlotFault)
 refusals_in t = refusals_at t.second.number t.course.refused
 
-abbrev finds_in : Told → List (ℕ × Phase × Slot × Verdict)
+abbrev finds_in : ToldSecond → List (ℕ × Phase × Slot × Verdict)
 finds_in t = map (λ (f : Visit × Verdict). (t.second.number, f.0.phase, f.0.slot, f.1)) t.course.found
 
 abbrev find_as : Find → ℕ × Phase × Slot × Verdict
 find_as f = (f.second, In f.begun, f.slot, f.verdict)
 
-pub refusals-more : (xs ys : List Told) → refusals_of (xs ++ ys) ≡ refusals_of xs ++ refusals_of ys
+pub refusals-more : (xs ys : List ToldSecond) → refusals_of (xs ++ ys) ≡ refusals_of xs ++ refusals_of ys
 refusals-more xs ys = flat_map-append refusals_in xs ys
 
-pub pulled-more : (xs ys : List Told) → pulled_of (xs ++ ys) ≡ pulled_of xs ++ pulled_of ys
+pub pulled-more : (xs ys : List ToldSecond) → pulled_of (xs ++ ys) ≡ pulled_of xs ++ pulled_of ys
 pulled-more xs ys = flat_map-append pulled_in xs ys
 
-pub torn-more : (xs ys : List Told) → torn_of (xs ++ ys) ≡ torn_of xs ++ torn_of ys
+pub torn-more : (xs ys : List ToldSecond) → torn_of (xs ++ ys) ≡ torn_of xs ++ torn_of ys
 torn-more xs ys = flat_map-append torn_in xs ys
 
-pub cards-more : (xs ys : List Told) → cards_torn (xs ++ ys) ≡ cards_torn xs ++ cards_torn ys
+pub cards-more : (xs ys : List ToldSecond) → cards_torn (xs ++ ys) ≡ cards_torn xs ++ cards_torn ys
 cards-more xs ys = flat_map-append cards_in xs ys
 
-pub finds-more : (xs ys : List Told) → finds_of (xs ++ ys) ≡ finds_of xs ++ finds_of ys
+pub finds-more : (xs ys : List ToldSecond) → finds_of (xs ++ ys) ≡ finds_of xs ++ finds_of ys
 finds-more xs ys = flat_map-append finds_in xs ys
 
 -- WHAT BREAKS TELL
@@ -162,7 +162,7 @@ second-before next (Cut s k f n) is = is
 second-before next (Tear s slot f n late) is = is
 
 -- of an earlier second, and seconds behind it
-pub moments-old : (next : ℕ) (told more : List Told) (bs : List Break) → ((t : Told) → Contains more t → next ≤ t.second.number) → BreaksBefore next next bs → AllByRecursion (HasMoment told) bs → AllByRecursion (HasMoment (told ++ more)) bs
+pub moments-old : (next : ℕ) (told more : List ToldSecond) (bs : List Break) → ((t : ToldSecond) → Contains more t → next ≤ t.second.number) → BreaksBefore next next bs → AllByRecursion (HasMoment told) bs → AllByRecursion (HasMoment (told ++ more)) bs
 moments-old next told more [] later before h = tt
 moments-old next told more (b ∷ bs) later before h = (
   λ t at is. ⊎_elim (λ old. h.0 t old is)
@@ -172,23 +172,23 @@ moments-old next told more (b ∷ bs) later before h = (
 )
 
 -- of the newest second
-moments-new : (next : ℕ) (told : List Told) (t : Told) (bs : List Break) → ((x : Told) → Contains told x → x.second.number < next) → AllByRecursion (λ (b : Break). second_of b ≡ next) bs → AllByRecursion (IsAtPowerOn t.starts) bs → AllByRecursion (HasMoment (told ++ t ∷ [])) bs
+moments-new : (next : ℕ) (told : List ToldSecond) (t : ToldSecond) (bs : List Break) → ((x : ToldSecond) → Contains told x → x.second.number < next) → AllByRecursion (λ (b : Break). second_of b ≡ next) bs → AllByRecursion (IsAtPowerOn t.starts) bs → AllByRecursion (HasMoment (told ++ t ∷ [])) bs
 moments-new next told t [] earlier each h = tt
 moments-new next told t (b ∷ bs) earlier each h = (
   λ x at is. ⊎_elim
       (λ old. absurd (let lt = earlier x old in let e : second_of b ≡ next = each.0 in omega (arith, lt, e, is)))
-      (λ (here : t ≡ x). subst (λ (y : Told). IsAtPowerOn y.starts b) here h.0)
+      (λ (here : t ≡ x). subst (λ (y : ToldSecond). IsAtPowerOn y.starts b) here h.0)
       (Contains-push_cases told t x at),
   moments-new next told t bs earlier each.1 h.1,
 )
 
 -- where the last second turns out to be a cut's
-moments-cut : (front : List Told) (x : Told) (bs : List Break) → AllByRecursion (HasMoment (front ++ x ∷ [])) bs → AllByRecursion (HasMoment (front ++ cut_at_end x ∷ [])) bs
+moments-cut : (front : List ToldSecond) (x : ToldSecond) (bs : List Break) → AllByRecursion (HasMoment (front ++ x ∷ [])) bs → AllByRecursion (HasMoment (front ++ cut_at_end x ∷ [])) bs
 moments-cut front x [] h = tt
 moments-cut front x (b ∷ bs) h = (
   λ t at is. ⊎_elim
       (λ old. h.0 t (Contains-append_left front (x ∷ []) t old) is)
-      (λ (here : cut_at_end x ≡ t). subst (λ (y : Told). IsAtPowerOn y.starts b) here (h.0 x (Contains-push front x) (ap (λ (y : Told). y.second.number) here ∙ is)))
+      (λ (here : cut_at_end x ≡ t). subst (λ (y : ToldSecond). IsAtPowerOn y.starts b) here (h.0 x (Contains-push front x) (ap (λ (y : ToldSecond). y.second.number) here ∙ is)))
       (Contains-push_cases front (cut_at_end x) t at),
   moments-cut front x bs h.1,
 )
@@ -268,7 +268,7 @@ failed-found : (log : RunLog) (i k u : ℕ) → failed_cut_in (found_log i k log
 failed-found log i k u = failed-by (found_log i k log) u ∙ failures-found i k log.breaks u ∙ sym (failed-by log u)
 
 -- SECONDS THAT ARE OVER
-pub over-last : (failed : List ℕ) (told : List Told) (t : Told) → (t.lit && not (list_any (nat_eq t.second.number) failed)) ≡ false → IsOver failed (told ++ t ∷ [])
+pub over-last : (failed : List ℕ) (told : List ToldSecond) (t : ToldSecond) → (t.lit && not (list_any (nat_eq t.second.number) failed)) ≡ false → IsOver failed (told ++ t ∷ [])
 over-last failed [] t is = is
 over-last failed (x ∷ []) t is = is
 over-last failed (x ∷ y ∷ told) t is = over-last failed (y ∷ told) t is
@@ -279,14 +279,14 @@ without true false m h = refl
 without false g m h = refl
 
 -- nothing comes of a second behind them
-pub off-behind : (failed : List ℕ) (told : List Told) (t : Told) → IsOver failed told → off_cuts failed (told ++ t ∷ []) ≡ off_cuts failed told
+pub off-behind : (failed : List ℕ) (told : List ToldSecond) (t : ToldSecond) → IsOver failed told → off_cuts failed (told ++ t ∷ []) ≡ off_cuts failed told
 off-behind failed [] t over = refl
 off-behind failed (x ∷ []) t over =
     ap (λ (b : Bool). cond b (x.second.number ∷ []) [] ++ []) (without x.lit (not t.given) (not (list_any (nat_eq x.second.number) failed)) over)
 off-behind failed (x ∷ y ∷ told) t over = ap (λ (us : List ℕ). pair failed x y ++ us) (off-behind failed (y ∷ told) t over)
 
 -- a lit second, and one behind it that the trace gives no power
-off-lit : (failed : List ℕ) (told : List Told) (x t : Told) → x.lit ≡ true → t.given ≡ false → list_any (nat_eq x.second.number) failed ≡ false →
+off-lit : (failed : List ℕ) (told : List ToldSecond) (x t : ToldSecond) → x.lit ≡ true → t.given ≡ false → list_any (nat_eq x.second.number) failed ≡ false →
     off_cuts failed ((told ++ x ∷ []) ++ t ∷ []) ≡ off_cuts failed (told ++ x ∷ []) ++ x.second.number ∷ []
 off-lit failed [] x t lit given none = rw (lit, given, none) refl
 off-lit failed (y ∷ []) x t lit given none =
@@ -295,7 +295,7 @@ off-lit failed (y ∷ z ∷ told) x t lit given none =
     ap (λ (us : List ℕ). pair failed y z ++ us) (off-lit failed (z ∷ told) x t lit given none) ∙ sym (append_assoc (pair failed y z) (off_cuts failed ((z ∷ told) ++ x ∷ [])) (x.second.number ∷ []))
 
 -- failures of a later second change nothing
-off-failures : (failed us : List ℕ) (n next : ℕ) (told : List Told) → AreNumbered n (seconds_in told) → n + length told ≤ next + 1 → AllByRecursion (λ (u : ℕ). u ≡ next) us → off_cuts (failed ++ us) told ≡ off_cuts failed told
+off-failures : (failed us : List ℕ) (n next : ℕ) (told : List ToldSecond) → AreNumbered n (seconds_in told) → n + length told ≤ next + 1 → AllByRecursion (λ (u : ℕ). u ≡ next) us → off_cuts (failed ++ us) told ≡ off_cuts failed told
 off-failures failed [] n next told h le each = ap (λ (us : List ℕ). off_cuts us told) (append-nil failed)
 off-failures failed (u ∷ us) n next told h le each =
     ap (λ (vs : List ℕ). off_cuts vs told) (sym (append_assoc failed (u ∷ []) us))
@@ -319,30 +319,30 @@ failures-before cuts_ next v (Cut s k false n ∷ bs) h le = failures-before cut
 failures-before cuts_ next v (Tear s slot f n late ∷ bs) h le = failures-before cuts_ next v bs h.1 le
 
 -- JUDGEMENTS of earlier seconds
-number-of : (n : ℕ) (told : List Told) (t : Told) → AreNumbered n (seconds_in told) → Contains told t → t.second.number < n + length told
+number-of : (n : ℕ) (told : List ToldSecond) (t : ToldSecond) → AreNumbered n (seconds_in told) → Contains told t → t.second.number < n + length told
 number-of n [] t h at = absurd (omega (arith, at.1))
 number-of n (x ∷ told) t h at =
     ⊎_elim
-    (λ here. ⊎_elim (λ none. absurd (omega (arith, none.1))) (λ (is : x ≡ t). let e : t.second.number ≡ n = ap (λ (y : Told). y.second.number) (sym is) ∙ h.0 in omega (arith, e)) (Contains-push_cases [] x t here))
+    (λ here. ⊎_elim (λ none. absurd (omega (arith, none.1))) (λ (is : x ≡ t). let e : t.second.number ≡ n = ap (λ (y : ToldSecond). y.second.number) (sym is) ∙ h.0 in omega (arith, e)) (Contains-push_cases [] x t here))
     (λ rest. let lt = number-of (n + 1) told t h.1 rest in omega (arith, lt))
     (Contains-append_cases (x ∷ []) told t at)
 
-pub judged-same : (log later : RunLog) (t : Told) (e : Visit) → SameAt log later t.second.number → failed_cut_in later t.second.number ≡ failed_cut_in log t.second.number → IsJudged log t e → IsJudged later t e
+pub judged-same : (log later : RunLog) (t : ToldSecond) (e : Visit) → SameAt log later t.second.number → failed_cut_in later t.second.number ≡ failed_cut_in log t.second.number → IsJudged log t e → IsJudged later t e
 judged-same log later t e same fails j = record {
   once = j.once;
   missing = λ none. ⊎_elim (λ torn. inl (same.torn e.phase e.slot ∙ torn)) (λ cut. inr (subst (λ (o : Option ℕ). CutBy o e.phase) (sym fails) cut)) (j.missing none);
 }
 
 -- breaks so far
-pub breaks-next : (rule : Rule) (start : Start) (from first : ℕ) (done : List TraceSecond) (p : Progress) → Followed rule start from first done p → BreaksBefore p.next p.next p.log.breaks
+pub breaks-next : (rule : Rule) (start : Start) (from first : ℕ) (done : List TraceSecond) (p : Progress) → BookFollowsRun rule start from first done p → BreaksBefore p.next p.next p.log.breaks
 breaks-next rule start from first done p f = breaks-later (cuts_from p.supply p.next) p.next p.next p.next p.log.breaks (cuts-bound p.supply p.next) (omega arith) f.lines.breaks
 
 -- ONE SECOND MORE
 pub second-caused : ASecondIsCaused
 second-caused rule start from first done p f s later g refused more_refused before mid now a w q is over =
     let c = w.caused in
-    let t : Told = next_told later done s in
-    let told : List Told = (went p.log done).told in
+    let t : ToldSecond = next_told later done s in
+    let told : List ToldSecond = (went p.log done).told in
     let now_ = now-told rule start from first done p f.order f.next f.unfound s later g in
     let whole = spanned p.log from done f.order in
     let next = f.next in
@@ -352,9 +352,9 @@ second-caused rule start from first done p f s later g refused more_refused befo
     let torn_parts : (failed : Bool) → tears failed later ≡ tears failed p.log ++ tears failed (log_of g.breaks.0) = λ failed. ap (filter (by_tear failed)) g.breaks.1 ∙ filter-append (by_tear failed) p.log.breaks g.breaks.0 in
     let all_failures : failures later ≡ failures p.log ++ map second_of (cuts true (log_of g.breaks.0)) = ap (map second_of) (parts true) ∙ map-append second_of (cuts true p.log) (cuts true (log_of g.breaks.0)) in
     let done_before : (x : TraceSecond) → Contains done x → x.number < p.next = λ x at. (let w = numbers-from from done x f.order at in let to = w.1 in omega (arith, to, next)) in
-    let same_at : (x : Told) → Contains told x → SameAt p.log later x.second.number = λ x at.
+    let same_at : (x : ToldSecond) → Contains told x → SameAt p.log later x.second.number = λ x at.
     same-at p.log later p.next g.breaks.0 g.breaks.1 g.breaks.2 g.finds.0 g.finds.1 g.finds.2 x.second.number (other-number p.next x.second.number (let lt = number-of from told x whole.seconds at in omega (arith, lt, count, next))) in
-    let fails_at : (x : Told) → Contains told x → failed_cut_in later x.second.number ≡ failed_cut_in p.log x.second.number = λ x at.
+    let fails_at : (x : ToldSecond) → Contains told x → failed_cut_in later x.second.number ≡ failed_cut_in p.log x.second.number = λ x at.
     failed-rest p.log later g.breaks.0 p.next x.second.number g.breaks.1 (other-number p.next x.second.number (let lt = number-of from told x whole.seconds at in omega (arith, lt, count, next))) g.breaks.2 in
     let number : t.second.number ≡ p.next = told-number later (went later done).before s ∙ g.number in
     let so_far = breaks-next rule start from first done p f in
@@ -384,15 +384,15 @@ second-caused rule start from first done p f s later g refused more_refused befo
           ∙ slot-more slot (flat_map places (tears true p.log)) (flat_map places (tears true (log_of g.breaks.0)))
           ∙ ap (λ (xs : List (ℕ × Phase × Slot)). xs ++ in_the_slot slot (flat_map places (tears true (log_of g.breaks.0)))) (c.failed_tears slot)
           ∙ ap (λ (xs : List (ℕ × Phase × Slot)). in_the_slot slot (torn_of told) ++ xs) (a.failed_tears slot)
-          ∙ sym (ap (λ (ts : List Told). in_the_slot slot (torn_of ts)) now_ ∙ ap (λ (xs : List (ℕ × Phase × Slot)). in_the_slot slot xs) (torn-more told (t ∷ [])) ∙ slot-more slot (torn_of told) (torn_of (t ∷ [])));
+          ∙ sym (ap (λ (ts : List ToldSecond). in_the_slot slot (torn_of ts)) now_ ∙ ap (λ (xs : List (ℕ × Phase × Slot)). in_the_slot slot xs) (torn-more told (t ∷ [])) ∙ slot-more slot (torn_of told) (torn_of (t ∷ [])));
       torn_cards = λ card. subst (λ (n : ℕ). RoseBy n (before (device_of card)) (now (device_of card)))
-          (sym (ap (λ (ts : List Told). length (filter (same_card card) (cards_torn ts))) now_
+          (sym (ap (λ (ts : List ToldSecond). length (filter (same_card card) (cards_torn ts))) now_
           ∙ ap (λ (cs : List Card). length (filter (same_card card) cs)) (cards-more told (t ∷ []))
           ∙ ap (λ (cs : List Card). length cs) (filter-append (same_card card) (cards_torn told) (cards_torn (t ∷ [])))
           ∙ length-append (filter (same_card card) (cards_torn told)) (filter (same_card card) (cards_torn (t ∷ [])))))
           (rose-sum (length (filter (same_card card) (cards_torn told))) (length (filter (same_card card) (cards_torn (t ∷ [])))) (before (device_of card)) (mid (device_of card)) (now (device_of card)) (c.torn_cards card) (a.torn_cards card));
       calm_cards = λ card. subst (λ (n : ℕ). StandsBy n (before (device_of card)) (now (device_of card)))
-          (sym (ap (λ (ts : List Told). length (filter (same_card card) (cards_torn ts))) now_
+          (sym (ap (λ (ts : List ToldSecond). length (filter (same_card card) (cards_torn ts))) now_
           ∙ ap (λ (cs : List Card). length (filter (same_card card) cs)) (cards-more told (t ∷ []))
           ∙ ap (λ (cs : List Card). length cs) (filter-append (same_card card) (cards_torn told) (cards_torn (t ∷ [])))
           ∙ length-append (filter (same_card card) (cards_torn told)) (filter (same_card card) (cards_torn (t ∷ [])))))
@@ -401,7 +401,7 @@ second-caused rule start from first done p f s later g refused more_refused befo
           (each-more (IsBegun (done ++ s ∷ [])) p.log.breaks g.breaks.0
           (begun-old p.next done (s ∷ []) p.log.breaks (λ x at. one-number s x p.next g.number at) (breaks-next rule start from first done p f) c.begun)
           (begun-new p.next done (s ∷ []) g.breaks.0 done_before g.breaks.2 a.begun));
-      moments = subst (λ (ts : List Told). AllByRecursion (HasMoment ts) later.breaks) (sym now_) (subst (AllByRecursion (HasMoment (told ++ t ∷ []))) (sym g.breaks.1)
+      moments = subst (λ (ts : List ToldSecond). AllByRecursion (HasMoment ts) later.breaks) (sym now_) (subst (AllByRecursion (HasMoment (told ++ t ∷ []))) (sym g.breaks.1)
           (each-more (HasMoment (told ++ t ∷ [])) p.log.breaks g.breaks.0
           (moments-old p.next told (t ∷ []) p.log.breaks (λ x at. one-told t x p.next number at) so_far c.moments)
           (moments-new p.next told t g.breaks.0 (λ x at. let lt = number-of from told x whole.seconds at in omega (arith, lt, count, next)) g.breaks.2 a.moments)));
@@ -412,14 +412,14 @@ second-caused rule start from first done p f s later g refused more_refused befo
           ∙ sym (ap finds_of now_ ∙ finds-more told (t ∷ []));
       judged = λ x e at entered. ⊎_elim
           (λ old. judged-same p.log later x e (same_at x old) (fails_at x old) (c.judged x e old entered))
-          (λ (here : t ≡ x). subst (λ (y : Told). IsJudged later y e) here (a.judged e (subst (λ (y : Told). Contains y.course.entered e) (sym here) entered)))
-          (Contains-push_cases told t x (subst (λ (ts : List Told). Contains ts x) now_ at));
+          (λ (here : t ≡ x). subst (λ (y : ToldSecond). IsJudged later y e) here (a.judged e (subst (λ (y : ToldSecond). Contains y.course.entered e) (sym here) entered)))
+          (Contains-push_cases told t x (subst (λ (ts : List ToldSecond). Contains ts x) now_ at));
     } in
     let over_now : ((t.lit ≡ false) ⊎ (t.cut ≡ true)) → IsOver (failures later) (told ++ t ∷ []) = λ which. ⊎_elim
     (λ dark. over-last (failures later) told t (ap (λ (b : Bool). b && not (list_any (nat_eq t.second.number) (failures later))) dark))
     (λ cut. over-failed (failures later) told t
     (ap (list_any (nat_eq t.second.number))
-    (all_failures ∙ ap (λ (us : List ℕ). failures p.log ++ us) (ap (map second_of) (all-failures g.breaks.0 a.no_off) ∙ a.cut_seconds ∙ ap (λ (b : Bool). map (λ (t : Told). t.second.number) (cond b (t ∷ []) [])) cut))
+    (all_failures ∙ ap (λ (us : List ℕ). failures p.log ++ us) (ap (map second_of) (all-failures g.breaks.0 a.no_off) ∙ a.cut_seconds ∙ ap (λ (b : Bool). map (λ (t : ToldSecond). t.second.number) (cond b (t ∷ []) [])) cut))
     ∙ any-last (failures p.log) t.second.number)) which in
     record {
       caused = subst (λ (l : RunLog). AreCaused before now (done ++ s ∷ []) l) (sym is) all_;
@@ -440,8 +440,8 @@ second-caused rule start from first done p f s later g refused more_refused befo
         go true is = rw is refl
         go false is = rw is refl
 
-    one-told : (t x : Told) (next : ℕ) → t.second.number ≡ next → Contains (t ∷ []) x → next ≤ x.second.number
-    one-told t x next is at = ⊎_elim (λ none. absurd (omega (arith, none.1))) (λ (same : t ≡ x). let e : x.second.number ≡ next = ap (λ (y : Told). y.second.number) (sym same) ∙ is in omega (arith, e)) (Contains-push_cases [] t x at)
+    one-told : (t x : ToldSecond) (next : ℕ) → t.second.number ≡ next → Contains (t ∷ []) x → next ≤ x.second.number
+    one-told t x next is at = ⊎_elim (λ none. absurd (omega (arith, none.1))) (λ (same : t ≡ x). let e : x.second.number ≡ next = ap (λ (y : ToldSecond). y.second.number) (sym same) ∙ is in omega (arith, e)) (Contains-push_cases [] t x at)
 
     slot-more : (slot : Slot) (xs ys : List (ℕ × Phase × Slot)) → in_the_slot slot (xs ++ ys) ≡ in_the_slot slot xs ++ in_the_slot slot ys
     slot-more slot xs ys = filter-append (λ (p : ℕ × Phase × Slot). same_slot p.2 slot) xs ys
@@ -496,14 +496,14 @@ found-caused rule start from first done p f k before now w q is darker =
       off_lines = by-found false p.unfound k p.log.breaks ∙ c.off_lines ∙ ap (λ (us : List ℕ). off_cuts us (went p.log done).told) (sym fails) ∙ ap (off_cuts (failures later)) (sym told_);
       failed_cuts = subst (λ (n : ℕ). RoseBy n (before Recorder) (now Recorder)) (sym (sym (length-map (cuts true later)) ∙ ap (λ (us : List ℕ). length us) fails ∙ length-map (cuts true p.log))) c.failed_cuts;
       tear_lines = ap (flat_map places) (tears-found false p.unfound k p.log.breaks) ∙ c.tear_lines ∙ ap pulled_of (sym told_);
-      failed_tears = λ slot. ap (λ (bs : List Break). in_the_slot slot (flat_map places bs)) (tears-found true p.unfound k p.log.breaks) ∙ c.failed_tears slot ∙ ap (λ (ts : List Told). in_the_slot slot (torn_of ts)) (sym told_);
-      torn_cards = λ card. subst (λ (ts : List Told). RoseBy (length (filter (same_card card) (cards_torn ts))) (before (device_of card)) (now (device_of card))) (sym told_) (c.torn_cards card);
-      calm_cards = λ card. subst (λ (ts : List Told). StandsBy (length (filter (same_card card) (cards_torn ts))) (before (device_of card)) (now (device_of card))) (sym told_) (c.calm_cards card);
+      failed_tears = λ slot. ap (λ (bs : List Break). in_the_slot slot (flat_map places bs)) (tears-found true p.unfound k p.log.breaks) ∙ c.failed_tears slot ∙ ap (λ (ts : List ToldSecond). in_the_slot slot (torn_of ts)) (sym told_);
+      torn_cards = λ card. subst (λ (ts : List ToldSecond). RoseBy (length (filter (same_card card) (cards_torn ts))) (before (device_of card)) (now (device_of card))) (sym told_) (c.torn_cards card);
+      calm_cards = λ card. subst (λ (ts : List ToldSecond). StandsBy (length (filter (same_card card) (cards_torn ts))) (before (device_of card)) (now (device_of card))) (sym told_) (c.calm_cards card);
       begun = each-found (IsBegun done) (λ second old k begun failed h. h) p.unfound k p.log.breaks c.begun;
-      moments = subst (λ (ts : List Told). AllByRecursion (HasMoment ts) later.breaks) (sym told_) (each-found (HasMoment (went p.log done).told) (λ second old k begun failed h. h) p.unfound k p.log.breaks c.moments);
+      moments = subst (λ (ts : List ToldSecond). AllByRecursion (HasMoment ts) later.breaks) (sym told_) (each-found (HasMoment (went p.log done).told) (λ second old k begun failed h. h) p.unfound k p.log.breaks c.moments);
       order = in_time-found p.unfound k p.log.breaks c.order;
       finds = c.finds ∙ ap finds_of (sym told_);
-      judged = λ t e at entered. judged-same p.log later t e (same-found p.log p.unfound k t.second.number) (failed-found p.log p.unfound k t.second.number) (c.judged t e (subst (λ (ts : List Told). Contains ts t) told_ at) entered);
+      judged = λ t e at entered. judged-same p.log later t e (same-found p.log p.unfound k t.second.number) (failed-found p.log p.unfound k t.second.number) (c.judged t e (subst (λ (ts : List ToldSecond). Contains ts t) told_ at) entered);
     } in
     record {
       caused = subst (λ (l : RunLog). AreCaused before now done l) (sym is) all_;
@@ -518,8 +518,8 @@ off_second next = record { number = next; has_power = false; speed = 0; actions 
 off-one : (from : ℕ) (before now : Device → ℕ) (log : RunLog) (done : List TraceSecond) (next : ℕ) → BreaksBefore next next log.breaks → AreCaused before now done log → IsOver (failures log) (went log done).told →
     AreCaused before now (done ++ off_second next ∷ []) log × IsOver (failures log) (went log (done ++ off_second next ∷ [])).told
 off-one from before now log done next lines c over =
-    let told : List Told = (went log done).told in
-    let t : Told = second_told log (went log done).before (off_second next) in
+    let told : List ToldSecond = (went log done).told in
+    let t : ToldSecond = second_told log (went log done).before (off_second next) in
     let now_ : (went log (done ++ off_second next ∷ [])).told ≡ told ++ t ∷ [] = more-told log done (off_second next) in (
       record {
         refused = c.refused ∙ sym (ap refusals_of now_ ∙ refusals-more told (t ∷ []) ∙ append-nil (refusals_of told));
@@ -527,21 +527,21 @@ off-one from before now log done next lines c over =
         off_lines = c.off_lines ∙ sym (ap (off_cuts (failures log)) now_ ∙ off-behind (failures log) told t over);
         failed_cuts = c.failed_cuts;
         tear_lines = c.tear_lines ∙ sym (ap pulled_of now_ ∙ pulled-more told (t ∷ []) ∙ append-nil (pulled_of told));
-        failed_tears = λ slot. c.failed_tears slot ∙ sym (ap (λ (ts : List Told). in_the_slot slot (torn_of ts)) now_ ∙ ap (λ (xs : List (ℕ × Phase × Slot)). in_the_slot slot xs) (torn-more told (t ∷ []) ∙ append-nil (torn_of told)));
+        failed_tears = λ slot. c.failed_tears slot ∙ sym (ap (λ (ts : List ToldSecond). in_the_slot slot (torn_of ts)) now_ ∙ ap (λ (xs : List (ℕ × Phase × Slot)). in_the_slot slot xs) (torn-more told (t ∷ []) ∙ append-nil (torn_of told)));
         torn_cards = λ card. subst (λ (cs : List Card). RoseBy (length (filter (same_card card) cs)) (before (device_of card)) (now (device_of card)))
             (sym (ap cards_torn now_ ∙ cards-more told (t ∷ []) ∙ append-nil (cards_torn told))) (c.torn_cards card);
         calm_cards = λ card. subst (λ (cs : List Card). StandsBy (length (filter (same_card card) cs)) (before (device_of card)) (now (device_of card)))
             (sym (ap cards_torn now_ ∙ cards-more told (t ∷ []) ∙ append-nil (cards_torn told))) (c.calm_cards card);
         begun = begun-old next done (off_second next ∷ []) log.breaks
             (λ x at. ⊎_elim (λ none. absurd (omega (arith, none.1))) (λ (same : off_second next ≡ x). let e : next ≡ x.number = ap (λ (y : TraceSecond). y.number) same in omega (arith, e)) (Contains-push_cases [] (off_second next) x at)) lines c.begun;
-        moments = subst (λ (ts : List Told). AllByRecursion (HasMoment ts) log.breaks) (sym now_)
-            (moments-old next told (t ∷ []) log.breaks (λ x at. ⊎_elim (λ none. absurd (omega (arith, none.1))) (λ (same : t ≡ x). let e : next ≡ x.second.number = ap (λ (y : Told). y.second.number) same in omega (arith, e)) (Contains-push_cases [] t x at)) lines c.moments);
+        moments = subst (λ (ts : List ToldSecond). AllByRecursion (HasMoment ts) log.breaks) (sym now_)
+            (moments-old next told (t ∷ []) log.breaks (λ x at. ⊎_elim (λ none. absurd (omega (arith, none.1))) (λ (same : t ≡ x). let e : next ≡ x.second.number = ap (λ (y : ToldSecond). y.second.number) same in omega (arith, e)) (Contains-push_cases [] t x at)) lines c.moments);
         order = c.order;
         finds = c.finds ∙ sym (ap finds_of now_ ∙ finds-more told (t ∷ []) ∙ append-nil (finds_of told));
         judged = λ x e at entered. ⊎_elim
             (λ old. c.judged x e old entered)
-            (λ (here : t ≡ x). absurd (let nobody = subst (λ (y : Told). Contains y.course.entered e) (sym here) entered in omega (arith, nobody.1)))
-            (Contains-push_cases told t x (subst (λ (ts : List Told). Contains ts x) now_ at));
+            (λ (here : t ≡ x). absurd (let nobody = subst (λ (y : ToldSecond). Contains y.course.entered e) (sym here) entered in omega (arith, nobody.1)))
+            (Contains-push_cases told t x (subst (λ (ts : List ToldSecond). Contains ts x) now_ at));
       },
       subst (IsOver (failures log)) (sym now_) (over-last (failures log) told t refl),
     )
@@ -566,12 +566,12 @@ off-caused rule start from first done p f dark_ n before now w q is =
     well before now (done ++ dark (suc n) p.next) p.log (off-many from before now p.log n done p.next (breaks-next rule start from first done p f) w.caused (w.over dark_)) q is
 
 -- WHILE THERE IS POWER: the last second turns out to be a cut's
-numbered-front : (n : ℕ) (xs : List Told) (x : Told) → AreNumbered n (seconds_in (xs ++ x ∷ [])) → AreNumbered n (seconds_in xs)
+numbered-front : (n : ℕ) (xs : List ToldSecond) (x : ToldSecond) → AreNumbered n (seconds_in (xs ++ x ∷ [])) → AreNumbered n (seconds_in xs)
 numbered-front n [] x h = tt
 numbered-front n (y ∷ xs) x h = (h.0, numbered-front (n + 1) xs x h.1)
 
 -- what the last second's judgements were stays where it turns out to be a cut's
-judged-cut : (log : RunLog) (cut : Break) (x : Told) (e : Visit) → failed_cut_in (and_break log cut) x.second.number ≡ failed_cut_in log x.second.number →
+judged-cut : (log : RunLog) (cut : Break) (x : ToldSecond) (e : Visit) → failed_cut_in (and_break log cut) x.second.number ≡ failed_cut_in log x.second.number →
     ((p : Phase) (slot : Slot) → is_torn_in (and_break log cut) x.second.number p slot ≡ (is_torn_in log x.second.number p slot || tears_here x.second.number p slot cut)) →
     IsJudged log x e → IsJudged (and_break log cut) (cut_at_end x) e
 judged-cut log cut x e fails torn j = record {
@@ -605,22 +605,22 @@ off-cut-caused rule start from first done p g t span is none n before now w q lo
     let cut : Break = cut_at (p.next - 1) false p.begun in
     let later : RunLog = and_break p.log cut in
     let parts = cut-parts rule start from first done p t span f in
-    let front : List Told = parts.0 in
-    let x : Told = parts.1 in
-    let y : Told = cut_at_end x in
-    let t0 : Told = second_told later (went later done).before (off_second p.next) in
-    let now_ : (went later (done ++ off_second p.next ∷ [])).told ≡ (front ++ y ∷ []) ++ t0 ∷ [] = more-told later done (off_second p.next) ∙ ap (λ (ts : List Told). ts ++ t0 ∷ []) parts.3 in
-    let told : List Told = (went p.log done).told in
+    let front : List ToldSecond = parts.0 in
+    let x : ToldSecond = parts.1 in
+    let y : ToldSecond = cut_at_end x in
+    let t0 : ToldSecond = second_told later (went later done).before (off_second p.next) in
+    let now_ : (went later (done ++ off_second p.next ∷ [])).told ≡ (front ++ y ∷ []) ++ t0 ∷ [] = more-told later done (off_second p.next) ∙ ap (λ (ts : List ToldSecond). ts ++ t0 ∷ []) parts.3 in
+    let told : List ToldSecond = (went p.log done).told in
     let whole = spanned p.log from done f.order in
     let number : x.second.number ≡ p.next - 1 = parts.6 in
     let next = f.next in
-    let total = ap (λ (ts : List Told). length ts) parts.2 in
+    let total = ap (λ (ts : List ToldSecond). length ts) parts.2 in
     let count = whole.count in
     let size = length-append front (x ∷ []) in
     let some_next : p.next - 1 < p.next = omega (arith, total, count, size, next) in
     let lines = f.lines.breaks in
     let all_lines : BreaksBefore p.next p.next p.log.breaks = breaks-later (p.next - 1) p.next p.next p.next p.log.breaks (omega arith) (omega arith) lines in
-    let numbered : AreNumbered from (seconds_in front) = numbered-front from front x (subst (λ (ts : List Told). AreNumbered from (seconds_in ts)) parts.2 whole.seconds) in
+    let numbered : AreNumbered from (seconds_in front) = numbered-front from front x (subst (λ (ts : List ToldSecond). AreNumbered from (seconds_in ts)) parts.2 whole.seconds) in
     let no_failure : list_any (nat_eq y.second.number) (failures p.log) ≡ false = ap (λ (v : ℕ). list_any (nat_eq v) (failures p.log)) number ∙ failures-before (p.next - 1) p.next (p.next - 1) p.log.breaks lines (omega arith) in
     let fails : failures later ≡ failures p.log = by-other p.log.breaks (p.next - 1) false p.begun in
     let no_more : cuts true later ≡ cuts true p.log = filter-append (by_cut true) p.log.breaks (cut ∷ []) ∙ append-nil (cuts true p.log) in
@@ -628,7 +628,7 @@ off-cut-caused rule start from first done p g t span is none n before now w q lo
       refused = c.refused ∙ ap refusals_of parts.2 ∙ refusals-more front (x ∷ []) ∙ sym (ap refusals_of now_ ∙ refusals-more (front ++ y ∷ []) (t0 ∷ []) ∙ append-nil (refusals_of (front ++ y ∷ [])) ∙ refusals-more front (y ∷ []));
       cut_seconds =
           told-added p.log.breaks (p.next - 1) false p.begun
-          ∙ ap (λ (us : List ℕ). us ++ (p.next - 1) ∷ []) (c.cut_seconds ∙ ap cuts_of parts.2 ∙ cuts-append front (x ∷ []) ∙ ap (λ (b : Bool). cuts_of front ++ map (λ (t : Told). t.second.number) (cond b (x ∷ []) [])) parts.5 ∙ append-nil (cuts_of front))
+          ∙ ap (λ (us : List ℕ). us ++ (p.next - 1) ∷ []) (c.cut_seconds ∙ ap cuts_of parts.2 ∙ cuts-append front (x ∷ []) ∙ ap (λ (b : Bool). cuts_of front ++ map (λ (t : ToldSecond). t.second.number) (cond b (x ∷ []) [])) parts.5 ∙ append-nil (cuts_of front))
           ∙ ap (λ (v : ℕ). cuts_of front ++ v ∷ []) (sym number)
           ∙ sym (ap cuts_of now_ ∙ cuts-append (front ++ y ∷ []) (t0 ∷ []) ∙ append-nil (cuts_of (front ++ y ∷ [])) ∙ cuts-append front (y ∷ []));
       off_lines =
@@ -653,11 +653,11 @@ off-cut-caused rule start from first done p g t span is none n before now w q lo
           (λ z at. ⊎_elim (λ none. absurd (omega (arith, none.1))) (λ (same : off_second p.next ≡ z). let e : p.next ≡ z.number = ap (λ (z : TraceSecond). z.number) same in omega (arith, e)) (Contains-push_cases [] (off_second p.next) z at))
           all_lines c.begun)
           (begun-last rule start from first done p f.last f.order f.next, tt);
-      moments = subst (λ (ts : List Told). AllByRecursion (HasMoment ts) later.breaks) (sym now_)
+      moments = subst (λ (ts : List ToldSecond). AllByRecursion (HasMoment ts) later.breaks) (sym now_)
           (each-more (HasMoment ((front ++ y ∷ []) ++ t0 ∷ [])) p.log.breaks (cut ∷ [])
           (moments-old p.next (front ++ y ∷ []) (t0 ∷ []) p.log.breaks
-          (λ z at. ⊎_elim (λ none. absurd (omega (arith, none.1))) (λ (same : t0 ≡ z). let e : p.next ≡ z.second.number = ap (λ (v : Told). v.second.number) same in omega (arith, e)) (Contains-push_cases [] t0 z at))
-          all_lines (moments-cut front x p.log.breaks (subst (λ (ts : List Told). AllByRecursion (HasMoment ts) p.log.breaks) parts.2 c.moments)))
+          (λ z at. ⊎_elim (λ none. absurd (omega (arith, none.1))) (λ (same : t0 ≡ z). let e : p.next ≡ z.second.number = ap (λ (v : ToldSecond). v.second.number) same in omega (arith, e)) (Contains-push_cases [] t0 z at))
+          all_lines (moments-cut front x p.log.breaks (subst (λ (ts : List ToldSecond). AllByRecursion (HasMoment ts) p.log.breaks) parts.2 c.moments)))
           (λ z at same. tt, tt));
       order = in_time-more (p.next - 1) p.next (p.next - 1) p.log.breaks (cut ∷ []) lines (omega arith) (omega arith) (omega arith, tt) c.order (tt, tt);
       finds = c.finds ∙ ap finds_of parts.2 ∙ finds-more front (x ∷ []) ∙ sym (ap finds_of now_ ∙ finds-more (front ++ y ∷ []) (t0 ∷ []) ∙ append-nil (finds_of (front ++ y ∷ [])) ∙ finds-more front (y ∷ []));
@@ -666,13 +666,13 @@ off-cut-caused rule start from first done p g t span is none n before now w q lo
           (λ earlier. judged-same p.log later z e
           (same-at p.log later (p.next - 1) (cut ∷ []) refl (refl, tt) [] (sym (append-nil p.log.finds)) tt z.second.number (other-number (p.next - 1) z.second.number (let lt = number-of from front z numbered earlier in omega (arith, lt, total, count, size, next))))
           (failed-same p.log later z.second.number no_more)
-          (c.judged z e (subst (λ (ts : List Told). Contains ts z) (sym parts.2) (Contains-append_left front (x ∷ []) z earlier)) entered))
-          (λ (here : y ≡ z). subst (λ (v : Told). IsJudged later v e) here
+          (c.judged z e (subst (λ (ts : List ToldSecond). Contains ts z) (sym parts.2) (Contains-append_left front (x ∷ []) z earlier)) entered))
+          (λ (here : y ≡ z). subst (λ (v : ToldSecond). IsJudged later v e) here
           (judged-cut p.log cut x e (failed-same p.log later x.second.number no_more) (λ phase slot. (break-more p.log cut x.second.number).torn phase slot)
-          (c.judged x e (subst (λ (ts : List Told). Contains ts x) (sym parts.2) (Contains-push front x)) (subst (λ (v : Told). Contains v.course.entered e) (sym here) entered))))
+          (c.judged x e (subst (λ (ts : List ToldSecond). Contains ts x) (sym parts.2) (Contains-push front x)) (subst (λ (v : ToldSecond). Contains v.course.entered e) (sym here) entered))))
           (Contains-push_cases front y z old))
-          (λ (here : t0 ≡ z). absurd (let nobody = subst (λ (v : Told). Contains v.course.entered e) (sym here) entered in omega (arith, nobody.1)))
-          (Contains-push_cases (front ++ y ∷ []) t0 z (subst (λ (ts : List Told). Contains ts z) now_ at));
+          (λ (here : t0 ≡ z). absurd (let nobody = subst (λ (v : ToldSecond). Contains v.course.entered e) (sym here) entered in omega (arith, nobody.1)))
+          (Contains-push_cases (front ++ y ∷ []) t0 z (subst (λ (ts : List ToldSecond). Contains ts z) now_ at));
     } in
     let over_ : IsOver (failures later) (went later (done ++ off_second p.next ∷ [])).told = subst (IsOver (failures later)) (sym now_) (over-last (failures later) (front ++ y ∷ []) t0 refl) in
     well before now (done ++ dark (suc n) p.next) later

@@ -7,7 +7,7 @@ use Rattle.minute_model.specs.declared.Rule.{Rule}
 use Rattle.minute_model.specs.Activity.{last}
 use Rattle.log_model.specs.declared.lines.Break.{Break}
 use Rattle.log_model.specs.Log.{RunLog, kept_after}
-use Rattle.log_model.specs.Course.{Told, Went, went}
+use Rattle.log_model.specs.Course.{ToldSecond, Went, went}
 use Rattle.log_model.specs.Spans.{spans_of, AreInOrder, AreApart}
 use Rattle.log_model.proofs.Spanning.{spanned}
 use Rattle.history_model.specs.Minutes.{HistoryMinute}
@@ -20,7 +20,7 @@ use Rattle.history_model.proofs.Closing.{history-long}
 use Rattle.history_model.proofs.Following.{follows-kept, follows-broken, follows-found}
 use Rattle.history_model.proofs.Told.{rises}
 use Rattle.run_unit_course.specs.Lines.{found_from, tells_cut}
-use Rattle.run_unit_course.specs.Followed.{Supply, Lit, Due, Lost, going_on, as_spans}
+use Rattle.run_unit_course.specs.Followed.{UnitPower, Lit, Due, Lost, going_on, as_spans}
 use Rattle.run_unit_course.proofs.Lines.{take-all, tells-found, tells-front}
 use Rattle.run_unit_course.proofs.Parts.{beyond-mark, follows-whole, follows-same, whole-lost, short-history, short-lost}
 use Rattle.run_course.specs.Followed.{IsShut, IsTied}
@@ -29,45 +29,45 @@ use Rattle.run_course.proofs.Logs.{found_log, went-found, kept-found}
 use Rattle.run_course.proofs.Alike.{Stays, stays-same, empty-minutes, known-open}
 use Rattle.run_course.proofs.Ties.{shut-on, shut-off, open-off, ended-alike, same-minutes, same-losses, shut-kept, cut-long, found-shut, found-open}
 
-pub record Core (rule : Rule) (start : Start) (from first : ℕ) (done : List TraceSecond) (log : RunLog) (unfound next : ℕ) (supply : Supply) (b : Book) (waiting : List HistoryMinute) : Type 0 where
+pub record Core (rule : Rule) (start : Start) (from first : ℕ) (done : List TraceSecond) (log : RunLog) (unfound next : ℕ) (supply : UnitPower) (b : Book) (waiting : List HistoryMinute) : Type 0 where
   pub early : first < from / 60
   pub order : AreInOrder from done
   pub number : next ≡ from + length done
   pub within : unfound ≤ length log.breaks
-  pub ended : List (List Told)
+  pub ended : List (List ToldSecond)
   pub spans : spans_of (went log done).told ≡ ended ++ as_spans (going_on supply)
   pub tied : IsTied rule start log (take unfound log.breaks) (went log done).told ended supply b waiting
   pub follows : Follows (unit_history rule start log (went log done).told) (with_lost rule start log (went log done).told) b
 
 -- the history where the newest span has two seconds
-pub whole-history : (rule : Rule) (start : Start) (log : RunLog) (told : List Told) (ended : List (List Told)) (span : List Told) → spans_of told ≡ ended ++ span ∷ [] → nat_lt 1 (length span) ≡ true →
+pub whole-history : (rule : Rule) (start : Start) (log : RunLog) (told : List ToldSecond) (ended : List (List ToldSecond)) (span : List ToldSecond) → spans_of told ≡ ended ++ span ∷ [] → nat_lt 1 (length span) ≡ true →
     unit_history rule start log told ≡ closed_history rule start log told ended ++ span_minutes rule start told (closed_history rule start log told ended) span
 unfolding unit_history
 whole-history rule start log told ended span are long =
     ap (history_by rule start (limit_of log) told []) are ∙ history-long rule start told log ended span (ap (λ (b : Bool). b || false) long)
 
 -- a span of one second, or none, that decided nothing
-pub record IsShort (rule : Rule) (span longer : List Told) (new : List HistoryMinute) : Type 0 where
-  pub before : AllByRecursion (λ (span : List Told). decided_of rule span ≡ []) (as_spans span)
+pub record IsShort (rule : Rule) (span longer : List ToldSecond) (new : List HistoryMinute) : Type 0 where
+  pub before : AllByRecursion (λ (span : List ToldSecond). decided_of rule span ≡ []) (as_spans span)
   pub was : any_long (as_spans span) ≡ false
   pub after : decided_of rule longer ≡ []
   pub is : any_long (longer ∷ []) ≡ false
   pub none : new ≡ []
 
 -- THE SPAN GOES ON, or its last second turns out to be a cut's
-module _ (rule : Rule) (start : Start) (from first : ℕ) (done : List TraceSecond) (log : RunLog) (unfound next : ℕ) (span : List Told) (b : Book) (c : Core rule start from first done log unfound next (Lit span) b []) where
-  abbrev told : List Told
+module _ (rule : Rule) (start : Start) (from first : ℕ) (done : List TraceSecond) (log : RunLog) (unfound next : ℕ) (span : List ToldSecond) (b : Book) (c : Core rule start from first done log unfound next (Lit span) b []) where
+  abbrev told : List ToldSecond
   told = (went log done).told
 
   abbrev known : List Break
   known = take unfound log.breaks
 
-  module _ (now_done : List TraceSecond) (later : RunLog) (now_next : ℕ) (longer : List Told) (new : List HistoryMinute) (order : AreInOrder from now_done) (number : now_next ≡ from + length now_done)
+  module _ (now_done : List TraceSecond) (later : RunLog) (now_next : ℕ) (longer : List ToldSecond) (new : List HistoryMinute) (order : AreInOrder from now_done) (number : now_next ≡ from + length now_done)
       (front : take unfound later.breaks ≡ known) (within : unfound ≤ length later.breaks) (same : (u : ℕ) → tells_cut u known ≡ true → kept_after log u ≡ kept_after later u)
       (spans : spans_of (went later now_done).told ≡ c.ended ++ longer ∷ []) (solid : as_spans longer ≡ longer ∷ []) (stays : Stays rule start told (went later now_done).told c.ended)
       (on : span_minutes rule start (went later now_done).told (closed_history rule start log told c.ended) longer ≡ span_minutes rule start told (closed_history rule start log told c.ended) span ++ new)
       (which : (nat_lt 1 (length longer) ≡ true) ⊎ IsShort rule span longer new) where
-    abbrev now : List Told
+    abbrev now : List ToldSecond
     now = (went later now_done).told
 
     shut-now : IsShut rule start later known now c.ended longer b new
@@ -100,20 +100,20 @@ module _ (rule : Rule) (start : Start) (from first : ℕ) (done : List TraceSeco
       number = number;
       within = within;
       ended = c.ended;
-      spans = spans ∙ ap (λ (ss : List (List Told)). c.ended ++ ss) (sym solid);
+      spans = spans ∙ ap (λ (ss : List (List ToldSecond)). c.ended ++ ss) (sym solid);
       tied = subst (λ (bs : List Break). IsShut rule start later bs now c.ended longer b new) (sym front) shut-now;
       follows = follows-now;
     }
 
 -- A MINUTE IS KEPT
-module _ (rule : Rule) (start : Start) (from first : ℕ) (done : List TraceSecond) (log : RunLog) (unfound next : ℕ) (span : List Told) (solid : as_spans span ≡ span ∷ []) where
-  abbrev seconds : List Told
+module _ (rule : Rule) (start : Start) (from first : ℕ) (done : List TraceSecond) (log : RunLog) (unfound next : ℕ) (span : List ToldSecond) (solid : as_spans span ≡ span ∷ []) where
+  abbrev seconds : List ToldSecond
   seconds = (went log done).told
 
   -- the history, with the minutes that wait
   pub waits : (b : Book) (waiting : List HistoryMinute) (c : Core rule start from first done log unfound next (Lit span) b waiting) → nat_lt 1 (length span) ≡ true → unit_history rule start log seconds ≡ all b ++ waiting
   waits b waiting c long =
-      whole-history rule start log seconds c.ended span (c.spans ∙ ap (λ (ss : List (List Told)). c.ended ++ ss) solid) long
+      whole-history rule start log seconds c.ended span (c.spans ∙ ap (λ (ss : List (List ToldSecond)). c.ended ++ ss) solid) long
       ∙ c.tied.minutes ∙ ap (λ (is : List HistoryMinute). is ++ waiting) (sym (all-none b c.tied.none))
 
   pub keeps : (b : Book) (i : HistoryMinute) (rest : List HistoryMinute) → Core rule start from first done log unfound next (Lit span) b (i ∷ rest) → Core rule start from first done log unfound next (Lit span) (kept i b) rest
@@ -151,7 +151,7 @@ module _ (rule : Rule) (start : Start) (from first : ℕ) (done : List TraceSeco
       number = c.number;
       within = c.within;
       ended = c.ended ++ span ∷ [];
-      spans = c.spans ∙ ap (λ (ss : List (List Told)). c.ended ++ ss) solid ∙ sym (append-nil (c.ended ++ span ∷ []));
+      spans = c.spans ∙ ap (λ (ss : List (List ToldSecond)). c.ended ++ ss) solid ∙ sym (append-nil (c.ended ++ span ∷ []));
       tied = (refl, inr (cut-long rule start log known_ seconds c.ended span b i (option_to_list i ++ rest) second long is tells absent c.tied));
       follows = follows-cut b i rest c long;
     }
@@ -163,7 +163,7 @@ module _ (rule : Rule) (start : Start) (from first : ℕ) (done : List TraceSeco
       number = c.number;
       within = c.within;
       ended = c.ended ++ span ∷ [];
-      spans = c.spans ∙ ap (λ (ss : List (List Told)). c.ended ++ ss) solid ∙ sym (append-nil (c.ended ++ span ∷ []));
+      spans = c.spans ∙ ap (λ (ss : List (List ToldSecond)). c.ended ++ ss) solid ∙ sym (append-nil (c.ended ++ span ∷ []));
       tied = (refl, inl (shut-off rule start log log known_ (λ u t. refl) seconds seconds known_ c.ended (span ∷ []) b (stays-same rule start seconds c.ended) (λ u t. t) (none, tt) (shut c.tied)));
       follows = c.follows;
     }
@@ -213,19 +213,19 @@ due-lost rule start from first done log unfound next b w c =
     record { early = c.early; order = c.order; number = c.number; within = c.within; ended = c.ended; spans = c.spans; tied = c.tied; follows = c.follows }
 
 module _ (rule : Rule) (start : Start) (from first : ℕ) (done : List TraceSecond) (log : RunLog) (unfound next : ℕ) (b : Book) (w : List HistoryMinute) (c : Core rule start from first done log unfound next Due b w) where
-  abbrev before : List Told
+  abbrev before : List ToldSecond
   before = (went log done).told
 
   abbrev sure : List Break
   sure = take unfound log.breaks
 
   -- seconds and lines are added that decide nothing: without power, or a span of one second
-  pub rests : (now_done : List TraceSecond) (later : RunLog) (now_next : ℕ) (behind : List (List Told)) → AreInOrder from now_done → now_next ≡ from + length now_done →
+  pub rests : (now_done : List TraceSecond) (later : RunLog) (now_next : ℕ) (behind : List (List ToldSecond)) → AreInOrder from now_done → now_next ≡ from + length now_done →
       take unfound later.breaks ≡ sure → unfound ≤ length later.breaks → ((u : ℕ) → tells_cut u log.breaks ≡ true → tells_cut u later.breaks ≡ true) →
       ((u : ℕ) → tells_cut u sure ≡ true → kept_after log u ≡ kept_after later u) → spans_of (went later now_done).told ≡ c.ended ++ behind → Stays rule start before (went later now_done).told c.ended →
-      AllByRecursion (λ (span : List Told). decided_of rule span ≡ []) behind → any_long behind ≡ false → Core rule start from first now_done later unfound now_next Due b w
+      AllByRecursion (λ (span : List ToldSecond). decided_of rule span ≡ []) behind → any_long behind ≡ false → Core rule start from first now_done later unfound now_next Due b w
   rests now_done later now_next behind order number front within tells same spans stays none short =
-      let now : List Told = (went later now_done).told in
+      let now : List ToldSecond = (went later now_done).told in
       let alike = ended-alike rule start log later sure same before now c.ended b c.tied.1 in
       let was = c.spans in
       record {
@@ -252,8 +252,8 @@ module _ (rule : Rule) (start : Start) (from first : ℕ) (done : List TraceSeco
       }
 
   -- and the history is as it was
-  pub rests-minutes : (now_done : List TraceSecond) (later : RunLog) (behind : List (List Told)) → ((u : ℕ) → tells_cut u sure ≡ true → kept_after log u ≡ kept_after later u) → spans_of (went later now_done).told ≡ c.ended ++ behind →
-      Stays rule start before (went later now_done).told c.ended → AllByRecursion (λ (span : List Told). decided_of rule span ≡ []) behind → any_long behind ≡ false →
+  pub rests-minutes : (now_done : List TraceSecond) (later : RunLog) (behind : List (List ToldSecond)) → ((u : ℕ) → tells_cut u sure ≡ true → kept_after log u ≡ kept_after later u) → spans_of (went later now_done).told ≡ c.ended ++ behind →
+      Stays rule start before (went later now_done).told c.ended → AllByRecursion (λ (span : List ToldSecond). decided_of rule span ≡ []) behind → any_long behind ≡ false →
       unit_history rule start later (went later now_done).told ≡ unit_history rule start log before
   rests-minutes now_done later behind same spans stays none short =
       short-history rule start later (went later now_done).told c.ended behind spans short none
@@ -285,7 +285,7 @@ module _ (rule : Rule) (start : Start) (from first : ℕ) (done : List TraceSeco
         (λ sh. found-shut rule start log found_later sure (take count found_later.breaks) (kept-found log unfound k) before c.ended b k (λ u is. goes u (tells-front u unfound log.breaks is)) low sh)
         (λ o. let f = c.follows.front in
         let whole = spanned log from done c.order in
-        found-open rule start log unfound k before from (from + length done) c.ended (subst (λ (ss : List (List Told)). AreApart from ss (from + length done)) (c.spans ∙ append-nil c.ended) whole.apart) b low o
+        found-open rule start log unfound k before from (from + length done) c.ended (subst (λ (ss : List (List ToldSecond)). AreApart from ss (from + length done)) (c.spans ∙ append-nil c.ended) whole.apart) b low o
         (take count found_later.breaks) goes f.0 (sym minutes-now ∙ f.1)
         (beyond-mark first (from / 60) ((from + length done) / 60) k (all b) f.0 c.early (subst (λ (is : List HistoryMinute). Rises (from / 60) is ((from + length done) / 60)) f.1 (rises from rule start log done c.order)) mark))
         c.tied.1
@@ -293,13 +293,13 @@ module _ (rule : Rule) (start : Start) (from first : ℕ) (done : List TraceSeco
     -- the history is as it was
     pub found-minutes : unit_history rule start found_later (went found_later done).told ≡ unit_history rule start log before
     found-minutes =
-        let stays = subst (λ (ts : List Told). Stays rule start before ts c.ended) (sym seconds-same) (stays-same rule start before c.ended) in
+        let stays = subst (λ (ts : List ToldSecond). Stays rule start before ts c.ended) (sym seconds-same) (stays-same rule start before c.ended) in
         rests-minutes done found_later [] (kept-found log unfound k) (ap spans_of seconds-same ∙ c.spans) stays tt refl
 
     pub rest-found : Core rule start from first done found_later count next (Lit []) (found k b) []
     rest-found =
         let alike = ended-alike rule start log found_later sure (kept-found log unfound k) before (went found_later done).told c.ended b c.tied.1 in
-        let stays = subst (λ (ts : List Told). Stays rule start before ts c.ended) (sym seconds-same) (stays-same rule start before c.ended) in
+        let stays = subst (λ (ts : List ToldSecond). Stays rule start before ts c.ended) (sym seconds-same) (stays-same rule start before c.ended) in
         let spans = ap spans_of seconds-same ∙ c.spans in
         record {
           early = c.early;
@@ -308,7 +308,7 @@ module _ (rule : Rule) (start : Start) (from first : ℕ) (done : List TraceSeco
           within = omega arith;
           ended = c.ended;
           spans = spans;
-          tied = subst (λ (ts : List Told). IsShut rule start found_later (take count found_later.breaks) ts c.ended [] (found k b) []) (sym seconds-same) found-tied;
+          tied = subst (λ (ts : List ToldSecond). IsShut rule start found_later (take count found_later.breaks) ts c.ended [] (found k b) []) (sym seconds-same) found-tied;
           follows = follows-found k b low (unit_history rule start found_later (went found_later done).told) (with_lost rule start found_later (went found_later done).told)
               (follows-same (unit_history rule start log before) (unit_history rule start found_later (went found_later done).told) (with_lost rule start log before) (with_lost rule start found_later (went found_later done).told) b
               (short-history rule start found_later (went found_later done).told c.ended [] spans refl tt

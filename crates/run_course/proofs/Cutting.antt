@@ -10,7 +10,7 @@ use Rattle.minute_model.specs.Minute.{class_of}
 use Rattle.minute_model.specs.Span.{Span, end_of, fed, fed_many, settled, decided_in, count_from, ungiven_of, AreNumbered, AreSettled}
 use Rattle.minute_model.proofs.Counted.{settled-more, decided-settled}
 use Rattle.minute_model.proofs.Spans.{decided-fed_many}
-use Rattle.log_model.specs.Course.{Told}
+use Rattle.log_model.specs.Course.{ToldSecond}
 use Rattle.log_model.specs.Spans.{AreApart}
 use Rattle.log_model.proofs.Spanning.{spanned}
 use Rattle.history_model.specs.Presence.{Start}
@@ -20,7 +20,7 @@ use Rattle.history_model.proofs.Deciding.{span-settled}
 use Rattle.history_model.proofs.Growing.{apart-last}
 use Rattle.run_unit_course.specs.Followed.{Lit}
 use Rattle.run_unit_course.specs.Turn.{span_at}
-use Rattle.run_course.specs.Followed.{Progress, Followed}
+use Rattle.run_course.specs.Followed.{Progress, BookFollowsRun}
 use Rattle.run_course.specs.Seconds.{next_told}
 use Rattle.run_course.proofs.Steps.{rules_see, with-supply}
 use Rattle.run_course.specs.Kept.{settled_times, TheCutHasDecided}
@@ -31,10 +31,10 @@ record IsWhole (span : Span) : Type 0 where
   numbered : AreNumbered span.first span.seconds
   settled_ : AreSettled span
 
-base-whole : (rule : Rule) (start : Start) (from first : ℕ) (done : List TraceSecond) (p : Progress) (span : List Told) → Followed rule start from first done (record p { supply = Lit span }) → IsWhole (span_at rule p.next span)
+base-whole : (rule : Rule) (start : Start) (from first : ℕ) (done : List TraceSecond) (p : Progress) (span : List ToldSecond) → BookFollowsRun rule start from first done (record p { supply = Lit span }) → IsWhole (span_at rule p.next span)
 base-whole rule start from first done p [] f = record { numbered = tt; settled_ = tt }
 base-whole rule start from first done p (t ∷ span) f =
-    let numbered = (apart-last from (from + length done) f.ended (t ∷ span) (subst (λ (ss : List (List Told)). AreApart from ss (from + length done)) f.spans (spanned p.log from done f.order).apart)).1 in
+    let numbered = (apart-last from (from + length done) f.ended (t ∷ span) (subst (λ (ss : List (List ToldSecond)). AreApart from ss (from + length done)) f.spans (spanned p.log from done f.order).apart)).1 in
     record { numbered = numbered; settled_ = span-settled rule (t ∷ span) numbered }
 
 times-whole : (k : ℕ) (span : Span) → IsWhole span → IsWhole (settled_times k span)
@@ -71,7 +71,7 @@ grows base picks (suc k) false true speed whole is = absurd (let clash : true �
 
 pub cut-decided : TheCutHasDecided
 cut-decided rule start from first done p f span is s log goes c sp ds rest new h later picks settles speed =
-    let t : Told = next_told log done s in
+    let t : ToldSecond = next_told log done s in
     let base : Span = span_at rule p.next span in
     let m = grows base c.picks h.times c.settled later s.speed (base-whole rule start from first done p span (with-supply rule start from first done p (Lit span) is f)) h.settles in (
       m.0,

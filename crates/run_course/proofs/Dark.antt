@@ -14,7 +14,7 @@ use Rattle.log_model.specs.declared.lines.Refused.{Refused}
 use Rattle.log_model.specs.declared.lines.SlotFault.{SlotFault}
 use Rattle.log_model.specs.Log.{RunLog, Phase}
 use Rattle.log_model.specs.Slots.{same_card}
-use Rattle.log_model.specs.Course.{Told, Before, Went, went, has_power, second_told, before_next, without_power}
+use Rattle.log_model.specs.Course.{ToldSecond, Before, Went, went, has_power, second_told, before_next, without_power}
 use Rattle.log_model.specs.Causes.{device_of, HasMoment, in_the_slot, refusals_at, refusals_of, refusal_told, pulled_of, torn_of, cards_torn, finds_of, off_cuts, RoseBy}
 use Rattle.log_model.specs.Spans.{AreInOrder}
 use Rattle.log_model.proofs.Growth.{went-more}
@@ -58,26 +58,26 @@ lost-one : (log : RunLog) (done : List TraceSecond) (s : TraceSecond) → IsLost
     went log (done ++ s ∷ []) ≡ record { told = (went log done).told ++ dark_told s (went log done).before.slots ∷ []; before = (went log done).before }
 lost-one log done s lost some given =
     let before : Before = (went log done).before in
-    let told : List Told = (went log done).told in
+    let told : List ToldSecond = (went log done).told in
     went-more log done s
-    ∙ ap (λ (t : Told). record { told = told ++ t ∷ []; before = before_next before t }) (is-dark log before s (lost-dark before s lost some))
+    ∙ ap (λ (t : ToldSecond). record { told = told ++ t ∷ []; before = before_next before t }) (is-dark log before s (lost-dark before s lost some))
     ∙ ap (λ (b : Before). record { told = told ++ dark_told s before.slots ∷ []; before = b }) (lost-next before s lost given)
 
 lost-many : (log : RunLog) (n : ℕ) (done : List TraceSecond) (next speed : ℕ) (actions : List Action) → IsLost (went log done).before → 0 < next % 60 → next % 60 + n ≤ 60 →
     went log (done ++ driven n next speed actions) ≡ record { told = (went log done).told ++ all_dark (driven n next speed actions) (went log done).before.slots; before = (went log done).before }
 lost-many log zero done next speed actions lost some within =
-    ap (went log) (append-nil done) ∙ ap (λ (ts : List Told). record { told = ts; before = (went log done).before }) (sym (append-nil (went log done).told))
+    ap (went log) (append-nil done) ∙ ap (λ (ts : List ToldSecond). record { told = ts; before = (went log done).before }) (sym (append-nil (went log done).told))
 lost-many log (suc zero) done next speed actions lost some within = lost-one log done (lost_second next speed actions) lost some refl
 lost-many log (suc (suc n)) done next speed actions lost some within =
     let before : Before = (went log done).before in
-    let told : List Told = (went log done).told in
+    let told : List ToldSecond = (went log done).told in
     let s : TraceSecond = lost_second next speed actions in
     let one = lost-one log done s lost some refl in
     let step : (next + 1) % 60 ≡ next % 60 + 1 = omega (arith, within) in
     ap (went log) (sym (append_assoc done (s ∷ []) (driven (suc n) (next + 1) speed [])))
     ∙ lost-many log (suc n) (done ++ s ∷ []) (next + 1) speed [] (subst (λ (w : Went). IsLost w.before) (sym one) lost) (omega (arith, step)) (omega (arith, step, within))
     ∙ ap (λ (w : Went). record { told = w.told ++ all_dark (driven (suc n) (next + 1) speed []) w.before.slots; before = w.before }) one
-    ∙ ap (λ (ts : List Told). record { told = ts; before = before }) (append_assoc told (dark_told s before.slots ∷ []) (all_dark (driven (suc n) (next + 1) speed []) before.slots))
+    ∙ ap (λ (ts : List ToldSecond). record { told = ts; before = before }) (append_assoc told (dark_told s before.slots ∷ []) (all_dark (driven (suc n) (next + 1) speed []) before.slots))
 
 pub lost-are-told : LostSecondsAreTold
 lost-are-told rule start from first done p g is n speed actions some within =
@@ -110,8 +110,8 @@ dark-one : (before now : Device → ℕ) (log : RunLog) (xs : List Refused) (don
     AreCaused before now (done ++ s ∷ []) later × IsOver (failures later) (went later (done ++ s ∷ [])).told
 dark-one before now log xs done s lost some given lines are c over =
     let later : RunLog = record log { refused = xs } in
-    let told : List Told = (went log done).told in
-    let t : Told = dark_told s (went log done).before.slots in
+    let told : List ToldSecond = (went log done).told in
+    let t : ToldSecond = dark_told s (went log done).before.slots in
     let now_ : (went later (done ++ s ∷ [])).told ≡ told ++ t ∷ [] =
     ap (λ (w : Went). w.told) (went-refused log later refl refl (done ++ s ∷ []) ∙ lost-one log done s lost some given) in (
       record {
@@ -120,21 +120,21 @@ dark-one before now log xs done s lost some given lines are c over =
         off_lines = c.off_lines ∙ sym (ap (off_cuts (failures log)) now_ ∙ off-behind (failures log) told t over);
         failed_cuts = c.failed_cuts;
         tear_lines = c.tear_lines ∙ sym (ap pulled_of now_ ∙ pulled-more told (t ∷ []) ∙ append-nil (pulled_of told));
-        failed_tears = λ slot. c.failed_tears slot ∙ sym (ap (λ (ts : List Told). in_the_slot slot (torn_of ts)) now_ ∙ ap (λ (ys : List (ℕ × Phase × Slot)). in_the_slot slot ys) (torn-more told (t ∷ []) ∙ append-nil (torn_of told)));
+        failed_tears = λ slot. c.failed_tears slot ∙ sym (ap (λ (ts : List ToldSecond). in_the_slot slot (torn_of ts)) now_ ∙ ap (λ (ys : List (ℕ × Phase × Slot)). in_the_slot slot ys) (torn-more told (t ∷ []) ∙ append-nil (torn_of told)));
         torn_cards = λ card. subst (λ (cs : List Card). RoseBy (length (filter (same_card card) cs)) (before (device_of card)) (now (device_of card)))
             (sym (ap cards_torn now_ ∙ cards-more told (t ∷ []) ∙ append-nil (cards_torn told))) (c.torn_cards card);
         calm_cards = λ card. subst (λ (cs : List Card). StandsBy (length (filter (same_card card) cs)) (before (device_of card)) (now (device_of card)))
             (sym (ap cards_torn now_ ∙ cards-more told (t ∷ []) ∙ append-nil (cards_torn told))) (c.calm_cards card);
         begun = begun-old s.number done (s ∷ []) log.breaks
             (λ x at. ⊎_elim (λ none. absurd (omega (arith, none.1))) (λ (same : s ≡ x). let e : s.number ≡ x.number = ap (λ (y : TraceSecond). y.number) same in omega (arith, e)) (Contains-push_cases [] s x at)) lines c.begun;
-        moments = subst (λ (ts : List Told). AllByRecursion (HasMoment ts) log.breaks) (sym now_)
-            (moments-old s.number told (t ∷ []) log.breaks (λ x at. ⊎_elim (λ none. absurd (omega (arith, none.1))) (λ (same : t ≡ x). let e : s.number ≡ x.second.number = ap (λ (y : Told). y.second.number) same in omega (arith, e)) (Contains-push_cases [] t x at)) lines c.moments);
+        moments = subst (λ (ts : List ToldSecond). AllByRecursion (HasMoment ts) log.breaks) (sym now_)
+            (moments-old s.number told (t ∷ []) log.breaks (λ x at. ⊎_elim (λ none. absurd (omega (arith, none.1))) (λ (same : t ≡ x). let e : s.number ≡ x.second.number = ap (λ (y : ToldSecond). y.second.number) same in omega (arith, e)) (Contains-push_cases [] t x at)) lines c.moments);
         order = c.order;
         finds = c.finds ∙ sym (ap finds_of now_ ∙ finds-more told (t ∷ []) ∙ append-nil (finds_of told));
         judged = λ x e at entered. ⊎_elim
             (λ old. judged-same log later x e (refused-at log later refl refl x.second.number) (failed-same log later x.second.number refl) (c.judged x e old entered))
-            (λ (here : t ≡ x). absurd (let nobody = subst (λ (y : Told). Contains y.course.entered e) (sym here) entered in omega (arith, nobody.1)))
-            (Contains-push_cases told t x (subst (λ (ts : List Told). Contains ts x) now_ at));
+            (λ (here : t ≡ x). absurd (let nobody = subst (λ (y : ToldSecond). Contains y.course.entered e) (sym here) entered in omega (arith, nobody.1)))
+            (Contains-push_cases told t x (subst (λ (ts : List ToldSecond). Contains ts x) now_ at));
       },
       subst (IsOver (failures log)) (sym now_) (over-last (failures log) told t refl),
     )
@@ -236,4 +236,4 @@ dark-tell start told past number next from later slots k h s (x ∷ ss) le order
     let rest = dark-tell start (told ++ dark_told s slots ∷ []) past s.number (next + 1) later later slots k one x ss (omega (arith, is)) order.1 (omega arith) (omega (arith, empty)) in
     let next_ : next + 1 + length ss ≡ next + suc (length ss) = omega arith in
     subst (λ (m : ℕ). SlotsTell start (told ++ all_dark (s ∷ x ∷ ss) slots) past [] m later slots k) next_
-    (subst (λ (ts : List Told). SlotsTell start ts past [] (next + 1 + length ss) later slots k) (append_assoc told (dark_told s slots ∷ []) (all_dark (x ∷ ss) slots)) rest)
+    (subst (λ (ts : List ToldSecond). SlotsTell start ts past [] (next + 1 + length ss) later slots k) (append_assoc told (dark_told s slots ∷ []) (all_dark (x ∷ ss) slots)) rest)

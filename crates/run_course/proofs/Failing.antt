@@ -7,9 +7,9 @@ use Rattle.log_model.specs.Log.{RunLog, In, cut_in}
 use Rattle.log_model.specs.Course.{Went, Course, Before, unmoved, fresh, cut_told, has_power, second_told, went}
 use Rattle.history_model.specs.Presence.{Start}
 use Rattle.run_unit_course.specs.Lines.{cut_at}
-use Rattle.run_unit_course.specs.Followed.{Supply, Lit, Due, Lost, MayFail}
+use Rattle.run_unit_course.specs.Followed.{UnitPower, Lit, Due, Lost, MayFail}
 use Rattle.run_course.specs.Moments.{and_break}
-use Rattle.run_course.specs.Followed.{Progress, Comes, IsSupplied, Followed}
+use Rattle.run_course.specs.Followed.{Progress, Comes, IsSupplied, BookFollowsRun}
 use Rattle.run_course.specs.Seconds.{GoesOnBy, next_told}
 use Rattle.run_course.specs.Within.{not_begun}
 use Rattle.run_course.specs.Caused.{AreNewCauses}
@@ -22,14 +22,14 @@ use Rattle.run_course.proofs.Reached.{TellsNothing, nothing-told}
 use Rattle.run_course.proofs.Moment.{HasCourse, entered-here}
 use Rattle.run_course.proofs.Telling.{cut-now, lit-as, cut-course, cut-causes}
 
-comes-by : (rule : Rule) (start : Start) (from first : ℕ) (done : List TraceSecond) (p : Progress) → Followed rule start from first done p → MayFail p.supply p.next → Comes (went p.log done).before p.next
+comes-by : (rule : Rule) (start : Start) (from first : ℕ) (done : List TraceSecond) (p : Progress) → BookFollowsRun rule start from first done p → MayFail p.supply p.next → Comes (went p.log done).before p.next
 comes-by rule start from first done p f may = by p.supply refl may f.power
   where
-    by : (sp : Supply) → p.supply ≡ sp → MayFail sp p.next → IsSupplied p.supply (went p.log done).before p.next → Comes (went p.log done).before p.next
-    by (Lit []) is may h = subst (λ (s : Supply). IsSupplied s (went p.log done).before p.next) is h
+    by : (sp : UnitPower) → p.supply ≡ sp → MayFail sp p.next → IsSupplied p.supply (went p.log done).before p.next → Comes (went p.log done).before p.next
+    by (Lit []) is may h = subst (λ (s : UnitPower). IsSupplied s (went p.log done).before p.next) is h
     by (Lit (t ∷ span)) is may h = absurd may
-    by Due is may h = subst (λ (s : Supply). IsSupplied s (went p.log done).before p.next) is h p.next
-    by Lost is may h = lost-comes (went p.log done).before p.next (subst (λ (s : Supply). IsSupplied s (went p.log done).before p.next) is h) may
+    by Due is may h = subst (λ (s : UnitPower). IsSupplied s (went p.log done).before p.next) is h p.next
+    by Lost is may h = lost-comes (went p.log done).before p.next (subst (λ (s : UnitPower). IsSupplied s (went p.log done).before p.next) is h) may
 
 pub power-on_cut : APowerOnIsCut
 power-on_cut rule start from first done p f may s number given mid later more broke =

@@ -16,7 +16,7 @@ use Rattle.minute_model.specs.Minute.{minutes_ahead, horizon_of, known_at, class
 use Rattle.minute_model.specs.Span.{Span, end_of, fed, picked, settled, decided_in}
 use Rattle.log_model.specs.declared.lines.Mark.{Mark}
 use Rattle.log_model.specs.Causes.{device_of}
-use Rattle.log_model.specs.Course.{Told, Course}
+use Rattle.log_model.specs.Course.{ToldSecond, Course}
 use Rattle.history_model.specs.Minutes.{HistoryMinute, on_card}
 use Rattle.history_model.specs.History.{seated, decided_of}
 use Rattle.history_model.specs.Growth.{picking, settled_where}
@@ -159,13 +159,13 @@ second-fed rule start told p span c sp speed ds more new h given = record {
 }
 
 -- the decided minutes of a span as the rules of minutes have it
-pub decided-span : (rule : Rule) (next : ℕ) (span : List Told) (t : Told) → decided_in (span_at rule next (span ++ t ∷ [])) ≡ decided_of rule (span ++ t ∷ [])
+pub decided-span : (rule : Rule) (next : ℕ) (span : List ToldSecond) (t : ToldSecond) → decided_in (span_at rule next (span ++ t ∷ [])) ≡ decided_of rule (span ++ t ∷ [])
 decided-span rule next [] t = refl
 decided-span rule next (x ∷ xs) t = refl
 
 pub second-decided : TheSecondHasDecided
 second-decided rule start from first done p f span is s log goes c sp ds rest new h picks settles speed =
-    let t : Told = next_told log done s in
+    let t : ToldSecond = next_told log done s in
     let base : Span = span_at rule p.next span in
     sym (decided-span rule (suc p.next) span t) ∙ ap decided_in (rules_see rule start from first done p f span is s log goes)
     ∙ ap (λ (ps : List (Slot × Pick)). decided_in (fed (picking ps (settled_where t.course.settled base)) t.second.speed)) picks
@@ -187,7 +187,7 @@ nothing-marked marks told c number = record { unit = λ i at. absurd (none-in i 
 marked-on : (marks more : List Mark) (device : Device) (m : ℕ) → ((mark : Mark) → Contains marks mark → Contains more mark) → IsMarked marks device m → IsMarked more device m
 marked-on marks more device m stay k = (k.0, stay k.0 k.1, k.2, k.3)
 
-broken-on : (told : List Told) (c d : Course) (card : Card) (from number : ℕ) → StaysOut c d → BrokenSince told c card from number → BrokenSince told d card from number
+broken-on : (told : List ToldSecond) (c d : Course) (card : Card) (from number : ℕ) → StaysOut c d → BrokenSince told c card from number → BrokenSince told d card from number
 broken-on told c d card from number out (inl before) = inl before
 broken-on told c d card from number out (inr now) = inr (now.0, (now.1.0, now.1.1, ⊎_elim (λ torn. inl (out.torn now.1.0 torn)) (λ pulled. inr (out.pulled now.1.0 pulled)) now.1.2))
 

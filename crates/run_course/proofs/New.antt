@@ -8,7 +8,7 @@ use Rattle.minute_model.specs.Span.{Span, count_from, ungiven_of, AreNumbered}
 use Rattle.minute_model.proofs.Counted.{decided-minutes}
 use Rattle.minute_model.proofs.Numbered.{numbered-parts}
 use Rattle.std.proofs.lemmas.List.{map-append}
-use Rattle.log_model.specs.Course.{Told, went}
+use Rattle.log_model.specs.Course.{ToldSecond, went}
 use Rattle.log_model.specs.Spans.{seconds_in, first_in, end_in, AreApart}
 use Rattle.log_model.proofs.Spanning.{spanned, end-on}
 use Rattle.history_model.specs.History.{decided_of}
@@ -56,7 +56,7 @@ as-all n [] h = All-nil (λ (d : Minute). d.minute < n)
 as-all n (d ∷ ds) h = All-cons (λ (d : Minute). d.minute < n) d ds h.0 (as-all n ds h.1)
 
 -- a span that is numbered and ends with the next second: what one second more decides
-grown : (rule : Rule) (x : Told) (xs : List Told) (t : Told) (ds : List Minute) → AreNumbered (first_in (x ∷ xs)) (seconds_in (x ∷ xs)) → AreNumbered (first_in ((x ∷ xs) ++ t ∷ [])) (seconds_in ((x ∷ xs) ++ t ∷ [])) →
+grown : (rule : Rule) (x : ToldSecond) (xs : List ToldSecond) (t : ToldSecond) (ds : List Minute) → AreNumbered (first_in (x ∷ xs)) (seconds_in (x ∷ xs)) → AreNumbered (first_in ((x ∷ xs) ++ t ∷ [])) (seconds_in ((x ∷ xs) ++ t ∷ [])) →
     decided_of rule ((x ∷ xs) ++ t ∷ []) ≡ decided_of rule (x ∷ xs) ++ ds → map (λ (d : Minute). d.minute) ds ≡ count_from (ungiven_of (as_span rule (x ∷ xs))) (length ds)
 grown rule x xs t ds numbered longer decides =
     let old = as_span rule (x ∷ xs) in
@@ -76,7 +76,7 @@ nothing-more : (xs ys : List Minute) → xs ++ ys ≡ [] → ys ≡ []
 nothing-more [] ys h = h
 nothing-more (x ∷ xs) ys h = absurd (cc)
 
-due-push : (rule : Rule) (span : List Told) (t : Told) (next : ℕ) (ds : List Minute) → ((x : Told) (xs : List Told) → span ≡ x ∷ xs → AreNumbered (first_in (x ∷ xs)) (seconds_in (x ∷ xs))) →
+due-push : (rule : Rule) (span : List ToldSecond) (t : ToldSecond) (next : ℕ) (ds : List Minute) → ((x : ToldSecond) (xs : List ToldSecond) → span ≡ x ∷ xs → AreNumbered (first_in (x ∷ xs)) (seconds_in (x ∷ xs))) →
     AreNumbered (first_in (span ++ t ∷ [])) (seconds_in (span ++ t ∷ [])) → decided_of rule (span ++ t ∷ []) ≡ decided_of rule span ++ ds →
     map (λ (d : Minute). d.minute) ds ≡ count_from (ungiven_of (span_at rule next span)) (length ds)
 due-push rule [] t next ds old now decides =
@@ -84,11 +84,11 @@ due-push rule [] t next ds old now decides =
     (sym (nothing-more (decided_of rule []) ds (sym decides ∙ short-none rule t))) refl
 due-push rule (x ∷ xs) t next ds old now decides = grown rule x xs t ds (old x xs refl) now decides
 
-over-push : (rule : Rule) (span : List Told) (t : Told) (n : ℕ) → t.second.number ≡ n → AreNumbered (first_in (span ++ t ∷ [])) (seconds_in (span ++ t ∷ [])) →
+over-push : (rule : Rule) (span : List ToldSecond) (t : ToldSecond) (n : ℕ) → t.second.number ≡ n → AreNumbered (first_in (span ++ t ∷ [])) (seconds_in (span ++ t ∷ [])) →
     AllByRecursion (λ (d : Minute). d.minute < n / 60) (decided_of rule (span ++ t ∷ []))
 over-push rule [] t n is numbered = subst (AllByRecursion (λ (d : Minute). d.minute < n / 60)) (sym (short-none rule t)) tt
 over-push rule (x ∷ xs) t n is numbered =
-    let parts = numbered-parts (first_in (x ∷ xs)) (seconds_in (x ∷ xs)) (seconds_in (t ∷ [])) (subst (AreNumbered (first_in (x ∷ xs))) (map-append (λ (t : Told). t.second) (x ∷ xs) (t ∷ [])) numbered) in
+    let parts = numbered-parts (first_in (x ∷ xs)) (seconds_in (x ∷ xs)) (seconds_in (t ∷ [])) (subst (AreNumbered (first_in (x ∷ xs))) (map-append (λ (t : ToldSecond). t.second) (x ∷ xs) (t ∷ [])) numbered) in
     let here : t.second.number ≡ first_in (x ∷ xs) + length (seconds_in (x ∷ xs)) = parts.1.0 in
     let c = counted (x ∷ xs) in
     let end = end-on (x ∷ xs) t (omega arith) in
@@ -100,15 +100,15 @@ are-new rule start from first done p g span is none s later by ds decides =
     let f = lit-parts rule start from first done p g span is none in
     let c = core-of rule start from first done (record p { supply = Lit span; waiting = [] }) f in
     let lit_ = lit rule start from first done p f.order f.next f.unfound s later by span c f.power in
-    let t : Told = next_told later done s in
+    let t : ToldSecond = next_told later done s in
     let now = spans-now rule start from first done p f.order f.next f.unfound s later by span c f.power in
     let order = order-now rule start from first done p f.order f.next f.unfound s later by in
-    let apart = subst (λ (ss : List (List Told)). AreApart from ss (from + length (done ++ s ∷ []))) now (spanned later from (done ++ s ∷ []) order).apart in
+    let apart = subst (λ (ss : List (List ToldSecond)). AreApart from ss (from + length (done ++ s ∷ []))) now (spanned later from (done ++ s ∷ []) order).apart in
     let numbered = apart-last from (from + length (done ++ s ∷ [])) c.ended (span ++ t ∷ []) apart in
     let here : t.second.number ≡ p.next = lit_.number ∙ by.number in
     let over = all-second (p.next / 60) (decided_of rule span) ds (subst (AllByRecursion (λ (d : Minute). d.minute < p.next / 60)) decides (over-push rule span t p.next here numbered.1)) in
-    let old = λ (x : Told) (xs : List Told) (e : span ≡ x ∷ xs).
-    (apart-last from (from + length done) f.ended (x ∷ xs) (subst (λ (ss : List (List Told)). AreApart from ss (from + length done)) (f.spans ∙ ap (λ (sp : List Told). f.ended ++ as_spans sp) e) (spanned p.log from done f.order).apart)).1 in
+    let old = λ (x : ToldSecond) (xs : List ToldSecond) (e : span ≡ x ∷ xs).
+    (apart-last from (from + length done) f.ended (x ∷ xs) (subst (λ (ss : List (List ToldSecond)). AreApart from ss (from + length done)) (f.spans ∙ ap (λ (sp : List ToldSecond). f.ended ++ as_spans sp) e) (spanned p.log from done f.order).apart)).1 in
     record {
       due = due-push rule span t p.next ds old numbered.1 decides;
       over = as-all (p.next / 60) ds over;

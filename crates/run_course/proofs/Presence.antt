@@ -15,7 +15,7 @@ use Rattle.minute_model.specs.Second.{minute_of}
 use Rattle.minute_model.specs.Activity.{last}
 use Rattle.minute_model.proofs.Ranges.{last-push}
 use Rattle.log_model.specs.Slots.{Slots, Sitting, same_card, in_slot, is_accepted}
-use Rattle.log_model.specs.Course.{Told, with_slot, powerless, card_in}
+use Rattle.log_model.specs.Course.{ToldSecond, with_slot, powerless, card_in}
 use Rattle.history_model.specs.Minutes.{HistoryMinute}
 use Rattle.history_model.specs.Presence.{Start, card_start, expected_entries, newest_by, newest_minute, is_present, present_sitting, in_minute, present_in as present_by_history}
 use Rattle.history_model.proofs.Filters.{filter-none, all-front}
@@ -149,7 +149,7 @@ unfolding newest_minute
 newest-word start past card u = omega arith
 
 -- WHO IS PRESENT in a minute that ends
-module _ (start : Start) (past : List HistoryMinute) (from : ℕ) (kept : Kept) (m : ℕ) (le : from ≤ m) (ts : List Told)
+module _ (start : Start) (past : List HistoryMinute) (from : ℕ) (kept : Kept) (m : ℕ) (le : from ≤ m) (ts : List ToldSecond)
     (gone : (card : Card) → left_in kept.left card m ≡ list_any (λ t. list_any (same_card card) t.course.left) ts) where
   test-true : (a b : ℕ) → a < b → nat_lt a b ≡ true
   test-true a b lt = grind (arith, nat_tests)
@@ -204,11 +204,11 @@ module _ (start : Start) (past : List HistoryMinute) (from : ℕ) (kept : Kept) 
       ∙ ap (λ (c : Card). cond (is_present start past m ts c sitting.accepted) (Some c) None) is.0
 
 -- the minute of the last second, by the history
-present-last : (start : Start) (told : List Told) (past : List HistoryMinute) (number : ℕ) (slots : Slots) (e : EndsWith told number slots) (slot : Slot) →
+present-last : (start : Start) (told : List ToldSecond) (past : List HistoryMinute) (number : ℕ) (slots : Slots) (e : EndsWith told number slots) (slot : Slot) →
     present_by_history start told past (number / 60) slot ≡ present_sitting start past (number / 60) (in_minute (number / 60) told) (in_slot slots slot)
 unfolding present_by_history
 present-last start told past number slots e slot =
-    ap (λ (o : Option Told). present_sitting start past (number / 60) (in_minute (number / 60) told) (unwrap_or (option_map {T = Told} (λ t. in_slot t.course.slots slot) o) None)) newest
+    ap (λ (o : Option ToldSecond). present_sitting start past (number / 60) (in_minute (number / 60) told) (unwrap_or (option_map {T = ToldSecond} (λ t. in_slot t.course.slots slot) o) None)) newest
     ∙ ap (λ (s : Slots). present_sitting start past (number / 60) (in_minute (number / 60) told) (in_slot s slot)) e.slots_are
   where
     same : nat_eq (minute_of e.last.second) (number / 60) ≡ true
@@ -219,8 +219,8 @@ present-last start told past number slots e slot =
 
     newest : last (in_minute (number / 60) told) ≡ Some e.last
     newest =
-        ap (λ (ts : List Told). last (in_minute (number / 60) ts)) e.are
-        ∙ ap last (filter-append (λ (t : Told). nat_eq (minute_of t.second) (number / 60)) e.front (e.last ∷ []) ∙ ap (λ (ts : List Told). in_minute (number / 60) e.front ++ ts) one)
+        ap (λ (ts : List ToldSecond). last (in_minute (number / 60) ts)) e.are
+        ∙ ap last (filter-append (λ (t : ToldSecond). nat_eq (minute_of t.second) (number / 60)) e.front (e.last ∷ []) ∙ ap (λ (ts : List ToldSecond). in_minute (number / 60) e.front ++ ts) one)
         ∙ last-push (in_minute (number / 60) e.front) e.last
 
 -- MINUTES THAT FALL
@@ -255,20 +255,20 @@ falls-found (suc n) minute (e ∷ past) m h late is = by_test (nat_eq e.minute m
 
 -- SECONDS
 -- no second of a later minute is among these
-none-later : (told : List Told) (number m : ℕ) → number / 60 < m → All (λ t. t.second.number ≤ number) told → in_minute m told ≡ []
+none-later : (told : List ToldSecond) (number m : ℕ) → number / 60 < m → All (λ t. t.second.number ≤ number) told → in_minute m told ≡ []
 none-later told number m later each =
     filter-none (λ t. nat_eq (minute_of t.second) m) told
-    (All-weaker (λ (t : Told). t.second.number ≤ number) (λ t. nat_eq (minute_of t.second) m ≡ false) (λ t le. other (minute_of t.second) m (omega (arith, le, later))) told each)
+    (All-weaker (λ (t : ToldSecond). t.second.number ≤ number) (λ t. nat_eq (minute_of t.second) m ≡ false) (λ t le. other (minute_of t.second) m (omega (arith, le, later))) told each)
   where
     other : (a b : ℕ) → a < b → nat_eq a b ≡ false
     other a b lt = grind (arith, nat_tests)
 
 -- a second more of the minute: its leavings
-left-more : (told : List Told) (t : Told) (card : Card) → has_left [] (told ++ t ∷ []) card (t.second.number / 60) ≡ has_left t.course.left told card (t.second.number / 60)
+left-more : (told : List ToldSecond) (t : ToldSecond) (card : Card) → has_left [] (told ++ t ∷ []) card (t.second.number / 60) ≡ has_left t.course.left told card (t.second.number / 60)
 left-more told t card =
-    ap (list_any (λ (t : Told). list_any (same_card card) t.course.left)) (filter-append (λ (x : Told). nat_eq (minute_of x.second) (t.second.number / 60)) told (t ∷ []) ∙ ap (λ (ts : List Told). in_minute (t.second.number / 60) told ++ ts) one)
-    ∙ list_any-append (λ (t : Told). list_any (same_card card) t.course.left) (in_minute (t.second.number / 60) told) (t ∷ [])
-    ∙ turned (list_any (λ (t : Told). list_any (same_card card) t.course.left) (in_minute (t.second.number / 60) told)) (list_any (same_card card) t.course.left)
+    ap (list_any (λ (t : ToldSecond). list_any (same_card card) t.course.left)) (filter-append (λ (x : ToldSecond). nat_eq (minute_of x.second) (t.second.number / 60)) told (t ∷ []) ∙ ap (λ (ts : List ToldSecond). in_minute (t.second.number / 60) told ++ ts) one)
+    ∙ list_any-append (λ (t : ToldSecond). list_any (same_card card) t.course.left) (in_minute (t.second.number / 60) told) (t ∷ [])
+    ∙ turned (list_any (λ (t : ToldSecond). list_any (same_card card) t.course.left) (in_minute (t.second.number / 60) told)) (list_any (same_card card) t.course.left)
   where
     same : (a : ℕ) → nat_eq a a ≡ true
     same a = grind (arith, nat_tests)
@@ -283,14 +283,14 @@ left-more told t card =
     turned false false = refl
 
 -- in a later minute nobody has left
-gone-later : (told : List Told) (number later : ℕ) (kept : Kept) (card : Card) → number / 60 < later / 60 → ((m : ℕ) → left_in kept.left card m ≡ true → m ≤ number / 60) → All (λ t. t.second.number ≤ number) told →
+gone-later : (told : List ToldSecond) (number later : ℕ) (kept : Kept) (card : Card) → number / 60 < later / 60 → ((m : ℕ) → left_in kept.left card m ≡ true → m ≤ number / 60) → All (λ t. t.second.number ≤ number) told →
     left_in kept.left card (later / 60) ≡ has_left [] told card (later / 60)
 gone-later told number later kept card lt latest each =
     by_test (left_in kept.left card (later / 60)) (λ left. absurd (let le = latest (later / 60) left in omega (arith, le, lt))) (λ none. none)
-    ∙ sym (ap (list_any (λ (t : Told). list_any (same_card card) t.course.left)) (none-later told number (later / 60) lt each))
+    ∙ sym (ap (list_any (λ (t : ToldSecond). list_any (same_card card) t.course.left)) (none-later told number (later / 60) lt each))
 
-seconds-later : (told : List Told) (number later : ℕ) → number ≤ later → All (λ t. t.second.number ≤ number) told → All (λ t. t.second.number ≤ later) told
-seconds-later told number later le each = All-weaker (λ (t : Told). t.second.number ≤ number) (λ t. t.second.number ≤ later) (λ t early. omega (arith, early, le)) told each
+seconds-later : (told : List ToldSecond) (number later : ℕ) → number ≤ later → All (λ t. t.second.number ≤ number) told → All (λ t. t.second.number ≤ later) told
+seconds-later told number later le each = All-weaker (λ (t : ToldSecond). t.second.number ≤ number) (λ t. t.second.number ≤ later) (λ t early. omega (arith, early, le)) told each
 
 -- WHAT IS HAD OF IT
 pub slots-agree : SlotsAgree
@@ -312,7 +312,7 @@ nobody-sits start past number from le = record {
   gone = λ card. none card;
   latest = λ card m is. absurd (never card m is);
   ended = λ m ge lt more each. absurd (omega (arith, ge, lt, le));
-  so_far = All-nil (λ (t : Told). t.second.number ≤ number);
+  so_far = All-nil (λ (t : ToldSecond). t.second.number ≤ number);
   falls = tt;
   newest = new-knows;
   minute = omega arith;
@@ -371,7 +371,7 @@ put-in start told past left number from slots k h slot card newest accepted free
     }
 
 -- who has left, with the card of a slot
-with-card : (left more : List Card) (told : List Told) (card : Card) (m : ℕ) (before is : Bool) → before ≡ has_left left told card m → is ≡ list_any (same_card card) more → (before || is) ≡ has_left (left ++ more) told card m
+with-card : (left more : List Card) (told : List ToldSecond) (card : Card) (m : ℕ) (before is : Bool) → before ≡ has_left left told card m → is ≡ list_any (same_card card) more → (before || is) ≡ has_left (left ++ more) told card m
 with-card left more told card m before is here also =
     ap (λ (b : Bool). b || is) here
     ∙ turned (list_any (same_card card) left) (list_any (λ t. list_any (same_card card) t.course.left) (in_minute m told)) is
@@ -461,7 +461,7 @@ power-lost start told past left number from slots k h = record {
     card-same None c = refl
     card-same (Some seat) c = refl
 
-present-at_still : (start : Start) (told : List Told) (t : Told) (past : List HistoryMinute) (m : ℕ) → m < minute_of t.second → present_at start (told ++ t ∷ []) past m ≡ present_at start told past m
+present-at_still : (start : Start) (told : List ToldSecond) (t : ToldSecond) (past : List HistoryMinute) (m : ℕ) → m < minute_of t.second → present_at start (told ++ t ∷ []) past m ≡ present_at start told past m
 present-at_still start told t past m lt =
     ap (λ (c : Option Card). record { driver = c; codriver = present_by_history start (told ++ t ∷ []) past m CoDriver }) (present-still start told t past m Driver lt)
     ∙ ap (λ (c : Option Card). record { driver = present_by_history start told past m Driver; codriver = c }) (present-still start told t past m CoDriver lt)
@@ -474,19 +474,19 @@ second-gone start told past from t k h = record {
   gone = λ card. h.gone card ∙ sym (left-more told t card);
   latest = h.latest;
   ended = λ m le lt more each. h.ended m le lt more each ∙ ap (λ (p : Present). Some p) (sym (present-at_still start told t (past ++ more) m lt));
-  so_far = All-push (λ (t_ : Told). t_.second.number ≤ t.second.number) told t h.so_far (omega arith);
+  so_far = All-push (λ (t_ : ToldSecond). t_.second.number ≤ t.second.number) told t h.so_far (omega arith);
   falls = h.falls;
   newest = h.newest;
   minute = h.minute;
 }
 
 -- what a second of the minute adds to those that left
-left-with : (told : List Told) (t : Told) (left : List Card) (card : Card) (m : ℕ) → minute_of t.second ≡ m → has_left left (told ++ t ∷ []) card m ≡ (list_any (same_card card) left || (list_any (λ t. list_any (same_card card) t.course.left) (in_minute m told) || list_any (same_card card) t.course.left))
+left-with : (told : List ToldSecond) (t : ToldSecond) (left : List Card) (card : Card) (m : ℕ) → minute_of t.second ≡ m → has_left left (told ++ t ∷ []) card m ≡ (list_any (same_card card) left || (list_any (λ t. list_any (same_card card) t.course.left) (in_minute m told) || list_any (same_card card) t.course.left))
 left-with told t left card m is =
     ap (λ (b : Bool). list_any (same_card card) left || b)
-    (ap (list_any (λ (t : Told). list_any (same_card card) t.course.left)) (filter-append (λ (x : Told). nat_eq (minute_of x.second) m) told (t ∷ []) ∙ ap (λ (ts : List Told). in_minute m told ++ ts) one)
-    ∙ list_any-append (λ (t : Told). list_any (same_card card) t.course.left) (in_minute m told) (t ∷ [])
-    ∙ ap (λ (b : Bool). list_any (λ (t : Told). list_any (same_card card) t.course.left) (in_minute m told) || b) (or-nothing (list_any (same_card card) t.course.left)))
+    (ap (list_any (λ (t : ToldSecond). list_any (same_card card) t.course.left)) (filter-append (λ (x : ToldSecond). nat_eq (minute_of x.second) m) told (t ∷ []) ∙ ap (λ (ts : List ToldSecond). in_minute m told ++ ts) one)
+    ∙ list_any-append (λ (t : ToldSecond). list_any (same_card card) t.course.left) (in_minute m told) (t ∷ [])
+    ∙ ap (λ (b : Bool). list_any (λ (t : ToldSecond). list_any (same_card card) t.course.left) (in_minute m told) || b) (or-nothing (list_any (same_card card) t.course.left)))
   where
     same : nat_eq (minute_of t.second) m ≡ true
     same = grind (arith, nat_tests)
@@ -507,7 +507,7 @@ last-cut start told past from t k h =
       latest = lost.latest;
       ended = λ m le lt more each. lost.ended m le lt more each
           ∙ ap (λ (p : Present). Some p) (present-at_still start told t (past ++ more) m lt ∙ sym (present-at_still start told (cut_at_end t) (past ++ more) m lt));
-      so_far = All-push (λ (x : Told). x.second.number ≤ t.second.number) told (cut_at_end t) (all-front (λ (x : Told). x.second.number ≤ t.second.number) told (t ∷ []) h.so_far) (omega arith);
+      so_far = All-push (λ (x : ToldSecond). x.second.number ≤ t.second.number) told (cut_at_end t) (all-front (λ (x : ToldSecond). x.second.number ≤ t.second.number) told (t ∷ []) h.so_far) (omega arith);
       falls = lost.falls;
       newest = lost.newest;
       minute = lost.minute;
@@ -533,7 +533,7 @@ last-cut start told past from t k h =
     turned card =
         let d : Bool = list_any (same_card card) (card_in t.course.slots.driver) in
         let c : Bool = list_any (same_card card) (card_in t.course.slots.codriver) in
-        let told_ : Bool = list_any (λ (t : Told). list_any (same_card card) t.course.left) (in_minute (t.second.number / 60) told) in
+        let told_ : Bool = list_any (λ (t : ToldSecond). list_any (same_card card) t.course.left) (in_minute (t.second.number / 60) told) in
         let left : Bool = list_any (same_card card) t.course.left in
         ap (λ (b : Bool). b || (told_ || left)) (list_any-append (same_card card) (card_in t.course.slots.driver) (card_in t.course.slots.codriver))
         ∙ swapped d c told_ left

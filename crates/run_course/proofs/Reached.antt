@@ -22,7 +22,7 @@ use Rattle.run_unit_course.specs.Lines.{log_of}
 use Rattle.run_unit_course.specs.Followed.{Lit, cuts_from}
 use Rattle.run_unit_course.specs.Turn.{begins_with}
 use Rattle.run_course.specs.Moments.{and_break, and_find, and_refused, finds_here}
-use Rattle.run_course.specs.Followed.{Progress, IsBreakBefore, Followed}
+use Rattle.run_course.specs.Followed.{Progress, IsBreakBefore, BookFollowsRun}
 use Rattle.run_course.specs.Seconds.{GoesOnBy}
 use Rattle.run_course.proofs.Lookups.{cut-by, torn-by, found-by, cut-first, cut-nothing, break-more, find-more, refusal-more}
 use Rattle.run_course.proofs.Moments.{both-still}
@@ -101,7 +101,7 @@ pub record TellsNothing (log : RunLog) (u : ℕ) : Type 0 where
   pub torn : (p : Phase) (slot : Slot) → is_torn_in log u p slot ≡ false
   pub found : (p : Phase) (slot : Slot) → found_in log u p slot ≡ []
 
-pub nothing-told : (rule : Rule) (start : Start) (from first : ℕ) (done : List TraceSecond) (p : Progress) → Followed rule start from first done p → (u : ℕ) → p.next ≤ u → TellsNothing p.log u
+pub nothing-told : (rule : Rule) (start : Start) (from first : ℕ) (done : List TraceSecond) (p : Progress) → BookFollowsRun rule start from first done p → (u : ℕ) → p.next ≤ u → TellsNothing p.log u
 nothing-told rule start from first done p f u le = record {
   cut = cut-by p.log u ∙ no-cut (cuts_from p.supply p.next) p.next u p.log.breaks f.lines.breaks (let b = cuts-bound p.supply p.next in omega (arith, b, le));
   torn = λ ph slot. torn-by p.log u ph slot ∙ no-tear (cuts_from p.supply p.next) p.next u ph slot p.log.breaks f.lines.breaks le;

@@ -12,7 +12,7 @@ use Rattle.log_model.specs.declared.lines.Break.TheVariants.{Cut}
 use Rattle.log_model.specs.declared.lines.Verdict.TheVariants.{Accepted}
 use Rattle.log_model.specs.Log.{RunLog, cut_in, is_torn_in, found_in}
 use Rattle.log_model.specs.Slots.{Slots}
-use Rattle.log_model.specs.Course.{Told, Before, Went, went}
+use Rattle.log_model.specs.Course.{ToldSecond, Before, Went, went}
 use Rattle.event_model.specs.Events.{course_by}
 use Rattle.history_model.specs.Minutes.{HistoryMinute, card_history}
 use Rattle.history_model.specs.Presence.{Start, newest_minute, present_in as present_by_history}
@@ -23,7 +23,7 @@ use Rattle.card_slots.specs.Calls.{present_in}
 use Rattle.card_slots.specs.Kept.{nothing_yet, put_in, taken, minute_ended}
 use Rattle.run_unit_course.specs.Followed.{Lit, Due, Lost}
 use Rattle.run_unit_course.proofs.Alike.{decided-empty}
-use Rattle.run_course.specs.Followed.{Progress, Followed}
+use Rattle.run_course.specs.Followed.{Progress, BookFollowsRun}
 use Rattle.run_course.specs.Seconds.{next_told}
 use Rattle.run_course.specs.Presence.{present_at, SlotsTell}
 use Rattle.run_course.specs.Quiet.{quiet_on}
@@ -60,7 +60,7 @@ unfolding cut_in is_torn_in found_in
 behind_it = refl
 
 -- a last second of minute 11 with these leavings in it
-abbrev last_of : List Card → Told
+abbrev last_of : List Card → ToldSecond
 last_of left = record {
   second = record { number = 719; speed = 0; picks = [] };
   given = true;
@@ -102,13 +102,13 @@ unfolding present_by_history newest_minute card_history
 early_row = refl
 
 -- A SHORT RUN: from second 600 on, minute 9 kept last. Power comes, the card is put in, an `off` line of a minute cuts it, power comes again.
-started : Followed Original fresh_cards 600 9 [] (record { log = record { breaks = []; refused = []; finds = [] }; unfound = 0; next = 600; begun = 0; supply = Due; book = not_begun; waiting = [] })
+started : BookFollowsRun Original fresh_cards 600 9 [] (record { log = record { breaks = []; refused = []; finds = [] }; unfound = 0; next = 600; begun = 0; supply = Due; book = not_begun; waiting = [] })
 started = begins_run Original fresh_cards 600 9 (omega arith)
 
 abbrev lit_at : Progress
 lit_at = record { log = record { breaks = []; refused = []; finds = [] }; unfound = 0; next = 600; begun = 0; supply = Lit []; book = found 9 not_begun; waiting = [] }
 
-powered : Followed Original fresh_cards 600 9 [] lit_at
+powered : BookFollowsRun Original fresh_cards 600 9 [] lit_at
 powered = power_finds Original fresh_cards 600 9 [] (record { log = record { breaks = []; refused = []; finds = [] }; unfound = 0; next = 600; begun = 0; supply = Due; book = not_begun; waiting = [] }) started tt 9 (inl refl) (All-nil (λ (i : HistoryMinute). i.minute ≤ 9))
 
 uncut : cut_in accepting 600 ≡ None
@@ -119,16 +119,16 @@ abbrev entered : Progress
 entered = record { log = accepting; unfound = 0; next = 601; begun = 1; supply = Lit (next_told accepting [] inserting ∷ []); book = found 9 not_begun; waiting = [] }
 
 -- its one second decides nothing
-nothing : (t : Told) → decided_of Original ([] ++ t ∷ []) ≡ decided_of Original [] ++ []
+nothing : (t : ToldSecond) → decided_of Original ([] ++ t ∷ []) ≡ decided_of Original [] ++ []
 nothing t = short-none Original t ∙ sym (ap (λ (ds : List Minute). ds ++ []) (decided-empty Original))
 
-second_on : Followed Original fresh_cards 600 9 (inserting ∷ []) entered
+second_on : BookFollowsRun Original fresh_cards 600 9 (inserting ∷ []) entered
 second_on =
     goes_on Original fresh_cards 600 9 [] lit_at powered [] refl refl inserting accepting
     (record { number = refl; given = refl; breaks = ([], refl, tt); finds = (record { second = 600; slot = Driver; verdict = Accepted 0; begun = 1 } ∷ [], refl, (refl, tt)) })
     uncut [] ([], nothing (next_told accepting [] inserting), refl)
 
-cut_off_line : Followed Original fresh_cards 600 9 ((inserting ∷ []) ++ dark 60 601) (record {
+cut_off_line : BookFollowsRun Original fresh_cards 600 9 ((inserting ∷ []) ++ dark 60 601) (record {
   log = record { breaks = Cut 600 0 false 1 ∷ []; refused = []; finds = accepting.finds };
   unfound = 0;
   next = 661;
@@ -139,7 +139,7 @@ cut_off_line : Followed Original fresh_cards 600 9 ((inserting ∷ []) ++ dark 6
 })
 cut_off_line = off_cuts Original fresh_cards 600 9 (inserting ∷ []) entered second_on (next_told accepting [] inserting) [] refl refl 59
 
-found_again : Followed Original fresh_cards 600 9 ((inserting ∷ []) ++ dark 60 601) (record {
+found_again : BookFollowsRun Original fresh_cards 600 9 ((inserting ∷ []) ++ dark 60 601) (record {
   log = record { breaks = Cut 600 9 false 1 ∷ []; refused = []; finds = accepting.finds };
   unfound = 1;
   next = 661;
@@ -160,7 +160,7 @@ found_again =
     }) cut_off_line tt 9 (inl refl) (All-nil (λ (i : HistoryMinute). i.minute ≤ 9))
 
 -- Or half a minute goes on without actions,
-quiet : Followed Original fresh_cards 600 9 ((inserting ∷ []) ++ driven 30 601 0 []) (quiet_on 30 0 (next_told accepting [] inserting ∷ []) (went accepting (inserting ∷ [])).before.slots entered)
+quiet : BookFollowsRun Original fresh_cards 600 9 ((inserting ∷ []) ++ driven 30 601 0 []) (quiet_on 30 0 (next_told accepting [] inserting ∷ []) (went accepting (inserting ∷ [])).before.slots entered)
 quiet = (quiet-go-on Original fresh_cards 600 9 (inserting ∷ []) entered second_on (next_told accepting [] inserting) [] refl refl 30 0 (omega arith)).1
 
 -- or a failed call takes the power, up to the minute's end.
@@ -174,7 +174,7 @@ fails = refl
 abbrev lost_at : Progress
 lost_at = record { log = failing; unfound = 0; next = 601; begun = 1; supply = Lost; book = found 9 not_begun; waiting = [] }
 
-second_off : Followed Original fresh_cards 600 9 (inserting ∷ []) lost_at
+second_off : BookFollowsRun Original fresh_cards 600 9 (inserting ∷ []) lost_at
 second_off =
     breaks_off Original fresh_cards 600 9 [] lit_at powered [] refl refl inserting failing
     (record { number = refl; given = refl; breaks = (Cut 600 0 true 1 ∷ [], refl, (refl, tt)); finds = (record { second = 600; slot = Driver; verdict = Accepted 0; begun = 1 } ∷ [], refl, (refl, tt)) })

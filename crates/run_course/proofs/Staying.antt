@@ -8,7 +8,7 @@ use Rattle.minute_model.specs.Activity.{last}
 use Rattle.log_model.specs.declared.lines.Mark.{Mark}
 use Rattle.log_model.specs.declared.lines.Break.{Break}
 use Rattle.log_model.specs.Log.{RunLog, kept_after}
-use Rattle.log_model.specs.Course.{Told, Went, went}
+use Rattle.log_model.specs.Course.{ToldSecond, Went, went}
 use Rattle.log_model.specs.Spans.{spans_of, AreInOrder}
 use Rattle.history_model.specs.Minutes.{HistoryMinute}
 use Rattle.history_model.specs.Presence.{Start}
@@ -19,11 +19,11 @@ use Rattle.history_model.proofs.BySeconds.{same-history}
 use Rattle.history_model.proofs.Deciding.{short-none}
 use Rattle.run_unit_course.specs.Turn.{cut_at_end, cut_last}
 use Rattle.run_unit_course.specs.Lines.{log_of, cut_at}
-use Rattle.run_unit_course.specs.Followed.{Supply, Lit, Due, Lost, MayPower, MayFail}
+use Rattle.run_unit_course.specs.Followed.{UnitPower, Lit, Due, Lost, MayPower, MayFail}
 use Rattle.run_unit_course.proofs.Offs.{by-other, by-found}
 use Rattle.run_unit_course.proofs.Spans.{decided-cut, settlings-cut}
 use Rattle.run_course.specs.Moments.{and_break}
-use Rattle.run_course.specs.Followed.{Followed, Comes}
+use Rattle.run_course.specs.Followed.{BookFollowsRun, Comes}
 use Rattle.run_course.specs.Seconds.{next_told}
 use Rattle.run_course.specs.Complete.{FoundStaysComplete, AFailureStaysComplete, RefusalsStayComplete, ACutStaysComplete}
 use Rattle.run_course.proofs.Lookups.{kept-by}
@@ -34,13 +34,13 @@ use Rattle.run_course.proofs.Steps.{core-of, with-waiting, due-core, lost-core, 
 use Rattle.run_course.proofs.Told.{lost-comes}
 
 -- a span that decided what another did, by the same settlings
-record IsAs (rule : Rule) (told : List Told) (sp : List Told) : Type 0 where
-  old : List Told
+record IsAs (rule : Rule) (told : List ToldSecond) (sp : List ToldSecond) : Type 0 where
+  old : List ToldSecond
   among : Contains (spans_of told) old
   decides : decided_of rule sp ≡ decided_of rule old
   settles : settlings_of sp ≡ settlings_of old
 
-carried : (rule : Rule) (start : Start) (log later : RunLog) (told now : List Told) (marks : List Mark) → ((sp : List Told) → Contains (spans_of now) sp → IsAs rule told sp ⊎ (decided_of rule sp ≡ [])) →
+carried : (rule : Rule) (start : Start) (log later : RunLog) (told now : List ToldSecond) (marks : List Mark) → ((sp : List ToldSecond) → Contains (spans_of now) sp → IsAs rule told sp ⊎ (decided_of rule sp ≡ [])) →
     unit_history rule start later now ≡ unit_history rule start log told → ((u : ℕ) → FailedCutIn log u → FailedCutIn later u) → ((card : Card) (a b : ℕ) → BrokenIn log told card a b → BrokenIn later now card a b) →
     IsComplete rule start log told marks → IsComplete rule start later now marks
 carried rule start log later told now marks spans history cuts breaks c = record {
@@ -59,12 +59,12 @@ carried rule start log later told now marks spans history cuts breaks c = record
 }
 
 -- the same seconds
-same-seconds : (rule : Rule) (start : Start) (log later : RunLog) (told now : List Told) (marks : List Mark) → now ≡ told → unit_history rule start later now ≡ unit_history rule start log told → ((u : ℕ) → FailedCutIn log u → FailedCutIn later u) →
+same-seconds : (rule : Rule) (start : Start) (log later : RunLog) (told now : List ToldSecond) (marks : List Mark) → now ≡ told → unit_history rule start later now ≡ unit_history rule start log told → ((u : ℕ) → FailedCutIn log u → FailedCutIn later u) →
     IsComplete rule start log told marks → IsComplete rule start later now marks
 same-seconds rule start log later told now marks is history still c =
     carried rule start log later told now marks
-    (λ sp at. inl (record { old = sp; among = subst (λ (ts : List Told). Contains (spans_of ts) sp) is at; decides = refl; settles = refl })) history
-    still (λ card a b broken. subst (λ (ts : List Told). BrokenIn later ts card a b) (sym is) (⊎_elim (λ failed. inl (still b failed)) (λ torn. inr torn) broken)) c
+    (λ sp at. inl (record { old = sp; among = subst (λ (ts : List ToldSecond). Contains (spans_of ts) sp) is at; decides = refl; settles = refl })) history
+    still (λ card a b broken. subst (λ (ts : List ToldSecond). BrokenIn later ts card a b) (sym is) (⊎_elim (λ failed. inl (still b failed)) (λ torn. inr torn) broken)) c
 
 -- REFUSALS
 kept-same : (log later : RunLog) (u : ℕ) → later.breaks ≡ log.breaks → kept_after later u ≡ kept_after log u
@@ -74,7 +74,7 @@ limit-same : (log later : RunLog) → later.breaks ≡ log.breaks → (o : Optio
 limit-same log later is None = refl
 limit-same log later is (Some u) = ap (λ (k : ℕ). Some k) (kept-same log later u is)
 
-same-limits : (log later : RunLog) (spans : List (List Told)) → later.breaks ≡ log.breaks → SameLimits log later spans
+same-limits : (log later : RunLog) (spans : List (List ToldSecond)) → later.breaks ≡ log.breaks → SameLimits log later spans
 same-limits log later [] is = tt
 same-limits log later (span ∷ spans) is = (λ long. limit-same log later is (cut_second (last span)), same-limits log later spans is)
 
@@ -96,7 +96,7 @@ found-stays rule start from first done p g may k mark low marks c = by p.supply 
         (found-minutes rule start from first done p.log p.unfound p.next p.book p.waiting core k mark low)
         (λ u failed. subst (λ (us : List ℕ). Contains us u) (sym (by-found true p.unfound k p.log.breaks)) failed) c
 
-    by : (s : Supply) → MayPower s p.next → Followed rule start from first done (record p { supply = s }) → IsComplete rule start (found_log p.unfound k p.log) (went (found_log p.unfound k p.log) done).told marks
+    by : (s : UnitPower) → MayPower s p.next → BookFollowsRun rule start from first done (record p { supply = s }) → IsComplete rule start (found_log p.unfound k p.log) (went (found_log p.unfound k p.log) done).told marks
     by (Lit span) may f = absurd may
     by Due may f = at (due-core rule start from first done p f)
     by Lost may f = at (lost-core rule start from first done p f)
@@ -111,19 +111,19 @@ failure-stays rule start from first done p g may none s later by marks c = at_su
     at : AreInOrder from done → p.next ≡ from + length done → p.unfound ≤ length p.log.breaks → Core rule start from first done p.log p.unfound p.next Due p.book [] → Comes (went p.log done).before p.next →
         IsComplete rule start later (went later (done ++ s ∷ [])).told marks
     at order next within core comes =
-        let t : Told = next_told later done s in
+        let t : ToldSecond = next_told later done s in
         let adds = comes-adds rule start from first done p order next within s later by core comes in
         let is = now-told rule start from first done p order next within s later by in
         carried rule start p.log later (went p.log done).told (went later (done ++ s ∷ [])).told marks
         (λ sp at_. ⊎_elim
         (λ old. inl (record { old = sp; among = old; decides = refl; settles = refl }))
         (λ (here : t ∷ [] ≡ sp). inr (ap (decided_of rule) (sym here) ∙ short-none rule t))
-        (Contains-push_cases (spans_of (went p.log done).told) (t ∷ []) sp (subst (λ (ss : List (List Told)). Contains ss sp) adds.0 at_)))
+        (Contains-push_cases (spans_of (went p.log done).told) (t ∷ []) sp (subst (λ (ss : List (List ToldSecond)). Contains ss sp) adds.0 at_)))
         adds.1
         still
-        (λ card a b broken. subst (λ (ts : List Told). BrokenIn later ts card a b) (sym is) (broken-stays p.log later (went p.log done).told (t ∷ []) card a b still broken)) c
+        (λ card a b broken. subst (λ (ts : List ToldSecond). BrokenIn later ts card a b) (sym is) (broken-stays p.log later (went p.log done).told (t ∷ []) card a b still broken)) c
 
-    at_supply : (sp : Supply) → MayFail sp p.next → Followed rule start from first done (record p { supply = sp; waiting = [] }) → IsComplete rule start later (went later (done ++ s ∷ [])).told marks
+    at_supply : (sp : UnitPower) → MayFail sp p.next → BookFollowsRun rule start from first done (record p { supply = sp; waiting = [] }) → IsComplete rule start later (went later (done ++ s ∷ [])).told marks
     at_supply (Lit []) may f =
         at f.order f.next f.unfound (lit-due rule start from first done p.log p.unfound p.next p.book (core-of rule start from first done (record p { supply = Lit []; waiting = [] }) f)) f.power
     at_supply (Lit (x ∷ xs)) may f = absurd may
@@ -141,34 +141,34 @@ cut-stays_ rule start from first done p g t span is none marks c =
     (λ sp at. inl (⊎_elim
     (λ ended. record {
       old = sp;
-      among = subst (λ (ss : List (List Told)). Contains ss sp) (sym f.spans) (Contains-append_left f.ended ((t ∷ span) ∷ []) sp ended);
+      among = subst (λ (ss : List (List ToldSecond)). Contains ss sp) (sym f.spans) (Contains-append_left f.ended ((t ∷ span) ∷ []) sp ended);
       decides = refl;
       settles = refl;
     })
     (λ (here : cut_last (t ∷ span) ≡ sp). record {
       old = t ∷ span;
-      among = subst (λ (ss : List (List Told)). Contains ss (t ∷ span)) (sym f.spans) (Contains-push f.ended (t ∷ span));
+      among = subst (λ (ss : List (List ToldSecond)). Contains ss (t ∷ span)) (sym f.spans) (Contains-push f.ended (t ∷ span));
       decides = ap (decided_of rule) (sym here) ∙ decided-cut rule (t ∷ span);
       settles = ap settlings_of (sym here) ∙ settlings-cut (t ∷ span);
     })
-    (Contains-push_cases f.ended (cut_last (t ∷ span)) sp (subst (λ (ss : List (List Told)). Contains ss sp) spans at))))
+    (Contains-push_cases f.ended (cut_last (t ∷ span)) sp (subst (λ (ss : List (List ToldSecond)). Contains ss sp) spans at))))
     (cut-history rule start from first done p t span f)
     (λ u failed. still u failed)
     (λ card a b broken. ⊎_elim (λ failed. inl (still b failed))
-    (λ torn. inr (subst (λ (ts : List Told). TornBetween ts card a b) (sym parts.3) (torn-instead parts.0 parts.1 card a b (subst (λ (ts : List Told). TornBetween ts card a b) parts.2 torn))))
+    (λ torn. inr (subst (λ (ts : List ToldSecond). TornBetween ts card a b) (sym parts.3) (torn-instead parts.0 parts.1 card a b (subst (λ (ts : List ToldSecond). TornBetween ts card a b) parts.2 torn))))
     broken) c
   where
     still : (u : ℕ) → FailedCutIn p.log u → FailedCutIn (and_break p.log (cut_at (p.next - 1) false p.begun)) u
     still u failed = subst (λ (us : List ℕ). Contains us u) (sym (by-other p.log.breaks (p.next - 1) false p.begun)) failed
 
-    torn-instead : (front : List Told) (x : Told) (card : Card) (a b : ℕ) → TornBetween (front ++ x ∷ []) card a b → TornBetween (front ++ cut_at_end x ∷ []) card a b
+    torn-instead : (front : List ToldSecond) (x : ToldSecond) (card : Card) (a b : ℕ) → TornBetween (front ++ x ∷ []) card a b → TornBetween (front ++ cut_at_end x ∷ []) card a b
     torn-instead front x card a b torn = ⊎_elim
         (λ old. (torn.0, Contains-append_left front (cut_at_end x ∷ []) torn.0 old, torn.2, torn.3, torn.4))
         (λ (here : x ≡ torn.0). (
           cut_at_end x,
           Contains-push front (cut_at_end x),
-          subst (λ (y : Told). a ≤ y.second.number) (sym here) torn.2,
-          subst (λ (y : Told). y.second.number ≤ b) (sym here) torn.3,
-          subst (λ (y : Told). TornIn card y) (sym here) torn.4,
+          subst (λ (y : ToldSecond). a ≤ y.second.number) (sym here) torn.2,
+          subst (λ (y : ToldSecond). y.second.number ≤ b) (sym here) torn.3,
+          subst (λ (y : ToldSecond). TornIn card y) (sym here) torn.4,
         ))
         (Contains-push_cases front x torn.0 torn.1)

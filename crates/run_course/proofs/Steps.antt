@@ -13,7 +13,7 @@ use Rattle.minute_model.proofs.Ranges.{last-push}
 use Rattle.log_model.specs.declared.lines.Break.{Break}
 use Rattle.log_model.specs.declared.lines.Refused.{Refused}
 use Rattle.log_model.specs.Log.{RunLog, cut_in, kept_after, is_torn_in}
-use Rattle.log_model.specs.Course.{Told, Went, Before, has_power, second_told, before_next, went_on, went}
+use Rattle.log_model.specs.Course.{ToldSecond, Went, Before, has_power, second_told, before_next, went_on, went}
 use Rattle.log_model.specs.Spans.{spans_with, spans_of, seconds_in, first_in, end_in, AreInOrder, AreApart}
 use Rattle.log_model.proofs.Growth.{went-more}
 use Rattle.log_model.proofs.Spanning.{EndsAt, spanned, spans-more, spans-new, spans-dark, order-parts}
@@ -27,13 +27,13 @@ use Rattle.history_model.proofs.Deciding.{apart-ended, short-none, span-more}
 use Rattle.history_model.proofs.Growing.{apart-last}
 use Rattle.run_unit_course.specs.Turn.{cut_at_end, cut_last, begins_with, span_at}
 use Rattle.run_unit_course.specs.Lines.{cut_at, found_from, tells_cut}
-use Rattle.run_unit_course.specs.Followed.{Supply, Lit, Due, Lost, MayPower, MayFail, IsDark, as_spans, cuts_from}
+use Rattle.run_unit_course.specs.Followed.{UnitPower, Lit, Due, Lost, MayPower, MayFail, IsDark, as_spans, cuts_from}
 use Rattle.run_unit_course.proofs.Lines.{tells-here}
 use Rattle.run_unit_course.proofs.Alike.{decided-empty}
 use Rattle.run_unit_course.proofs.Parts.{order-behind}
 use Rattle.run_unit_course.proofs.Spans.{cut_spans, cut-spans-last, decided-cut, length-cut, cut-number, ends-last}
 use Rattle.run_course.specs.Moments.{and_break}
-use Rattle.run_course.specs.Followed.{Progress, Comes, IsGoing, IsLost, IsSupplied, IsLastOf, HadActions, AreBefore, Followed}
+use Rattle.run_course.specs.Followed.{Progress, Comes, PowerGoesOn, IsLost, IsSupplied, IsLastOf, HadActions, AreBefore, BookFollowsRun}
 use Rattle.run_course.specs.Seconds.{kept_all, broken_at, GoesOnBy, next_told, DecidedBy, ARunBegins, APowerOnFinds, APowerOnFails, ASecondGoesOn, ASecondBreaksOff, RulesSeeTheSecond, AMinuteStaysDark, AnOffLineIsDark, AnOffLineCuts}
 use Rattle.run_course.proofs.Lookups.{cut-by, kept-by, break-more}
 use Rattle.run_course.proofs.Logs.{same-number, went-later, kept-later, tells-later, front-later, within-later, went-refused, tells-none, breaks-front, tells-cut, lines-more, lines-on, lines-later, lines-found, breaks-push, found_log}
@@ -42,54 +42,54 @@ use Rattle.run_course.proofs.Core.{Core, IsShort, shifted, shifted-short, waits,
 use Rattle.run_course.proofs.Told.{IsLitAs, lit-told, dark-told, told-lit, comes-power, lit-power, lit-starts, lost-comes, lost-dark, next-going, next-lost, next-dark, IsOff, next-off, off-comes, spans-lit, solid-push, solid-cut, cut-with, second-cut}
 
 -- WHAT IS FOLLOWED, and its core
-abbrev pub core-of : (rule : Rule) (start : Start) (from first : ℕ) (done : List TraceSecond) (p : Progress) → Followed rule start from first done p → Core rule start from first done p.log p.unfound p.next p.supply p.book p.waiting
+abbrev pub core-of : (rule : Rule) (start : Start) (from first : ℕ) (done : List TraceSecond) (p : Progress) → BookFollowsRun rule start from first done p → Core rule start from first done p.log p.unfound p.next p.supply p.book p.waiting
 core-of rule start from first done p f =
     record { early = f.early; order = f.order; number = f.next; within = f.unfound; ended = f.ended; spans = f.spans; tied = f.tied; follows = f.follows }
 
-pub followed-by : (rule : Rule) (start : Start) (from first : ℕ) (done : List TraceSecond) (log : RunLog) (unfound next begun : ℕ) (s : Supply) (b : Book) (w : List HistoryMinute) → Core rule start from first done log unfound next s b w →
+pub followed-by : (rule : Rule) (start : Start) (from first : ℕ) (done : List TraceSecond) (log : RunLog) (unfound next begun : ℕ) (s : UnitPower) (b : Book) (w : List HistoryMinute) → Core rule start from first done log unfound next s b w →
     AreBefore (cuts_from s next) next log → IsSupplied s (went log done).before next → IsLastOf s done begun →
-    Followed rule start from first done (record { log = log; unfound = unfound; next = next; begun = begun; supply = s; book = b; waiting = w })
+    BookFollowsRun rule start from first done (record { log = log; unfound = unfound; next = next; begun = begun; supply = s; book = b; waiting = w })
 followed-by rule start from first done log unfound next begun s b w c lines power last_ =
     record { early = c.early; order = c.order; next = c.number; lines = lines; unfound = c.within; power = power; last = last_; ended = c.ended; spans = c.spans; tied = c.tied; follows = c.follows }
 
-pub with-supply : (rule : Rule) (start : Start) (from first : ℕ) (done : List TraceSecond) (p : Progress) (s : Supply) → p.supply ≡ s → Followed rule start from first done p → Followed rule start from first done (record p { supply = s })
-with-supply rule start from first done p s is f = subst (λ (s : Supply). Followed rule start from first done (record p { supply = s })) is f
+pub with-supply : (rule : Rule) (start : Start) (from first : ℕ) (done : List TraceSecond) (p : Progress) (s : UnitPower) → p.supply ≡ s → BookFollowsRun rule start from first done p → BookFollowsRun rule start from first done (record p { supply = s })
+with-supply rule start from first done p s is f = subst (λ (s : UnitPower). BookFollowsRun rule start from first done (record p { supply = s })) is f
 
-pub with-waiting : (rule : Rule) (start : Start) (from first : ℕ) (done : List TraceSecond) (p : Progress) (w : List HistoryMinute) → p.waiting ≡ w → Followed rule start from first done p → Followed rule start from first done (record p { waiting = w })
-with-waiting rule start from first done p w is f = subst (λ (w : List HistoryMinute). Followed rule start from first done (record p { waiting = w })) is f
+pub with-waiting : (rule : Rule) (start : Start) (from first : ℕ) (done : List TraceSecond) (p : Progress) (w : List HistoryMinute) → p.waiting ≡ w → BookFollowsRun rule start from first done p → BookFollowsRun rule start from first done (record p { waiting = w })
+with-waiting rule start from first done p w is f = subst (λ (w : List HistoryMinute). BookFollowsRun rule start from first done (record p { waiting = w })) is f
 
-pub cuts-bound : (s : Supply) (next : ℕ) → cuts_from s next ≤ next
+pub cuts-bound : (s : UnitPower) (next : ℕ) → cuts_from s next ≤ next
 cuts-bound (Lit []) next = omega arith
 cuts-bound (Lit (t ∷ span)) next = omega arith
 cuts-bound Due next = omega arith
 cuts-bound Lost next = omega arith
 
 -- a span with a second more
-going-push : (span : List Told) (t : Told) (before : Before) (next : ℕ) → IsGoing before → IsSupplied (Lit (span ++ t ∷ [])) before next
+going-push : (span : List ToldSecond) (t : ToldSecond) (before : Before) (next : ℕ) → PowerGoesOn before → IsSupplied (Lit (span ++ t ∷ [])) before next
 going-push [] t before next h = h
 going-push (x ∷ span) t before next h = h
 
-last-of_push : (span : List Told) (t : Told) (done : List TraceSecond) (begun : ℕ) → HadActions done begun → IsLastOf (Lit (span ++ t ∷ [])) done begun
+last-of_push : (span : List ToldSecond) (t : ToldSecond) (done : List TraceSecond) (begun : ℕ) → HadActions done begun → IsLastOf (Lit (span ++ t ∷ [])) done begun
 last-of_push [] t done begun h = h
 last-of_push (x ∷ span) t done begun h = h
 
-cuts-push : (span : List Told) (t : Told) (next : ℕ) → cuts_from (Lit (span ++ t ∷ [])) (suc next) ≡ next
+cuts-push : (span : List ToldSecond) (t : ToldSecond) (next : ℕ) → cuts_from (Lit (span ++ t ∷ [])) (suc next) ≡ next
 cuts-push [] t next = omega arith
 cuts-push (x ∷ span) t next = omega arith
 
 -- PARTS OF SPANS
-abbrev AreEarly : Rule → ℕ → List (List Told) → Type 0
-AreEarly rule n spans = AllByRecursion (λ (span : List Told). AllByRecursion (λ (d : Minute). d.minute < n) (decided_of rule span)) spans
+abbrev AreEarly : Rule → ℕ → List (List ToldSecond) → Type 0
+AreEarly rule n spans = AllByRecursion (λ (span : List ToldSecond). AllByRecursion (λ (d : Minute). d.minute < n) (decided_of rule span)) spans
 
-early-first : (rule : Rule) (n : ℕ) (xs ys : List (List Told)) → AreEarly rule n (xs ++ ys) → AreEarly rule n xs
+early-first : (rule : Rule) (n : ℕ) (xs ys : List (List ToldSecond)) → AreEarly rule n (xs ++ ys) → AreEarly rule n xs
 early-first rule n [] ys h = tt
 early-first rule n (x ∷ xs) ys h = (h.0, early-first rule n xs ys h.1)
 
-early-second : (rule : Rule) (n : ℕ) (xs ys : List (List Told)) → AreEarly rule n (xs ++ ys) → AreEarly rule n ys
+early-second : (rule : Rule) (n : ℕ) (xs ys : List (List ToldSecond)) → AreEarly rule n (xs ++ ys) → AreEarly rule n ys
 early-second rule n [] ys h = h
 early-second rule n (x ∷ xs) ys h = early-second rule n xs ys h.1
 
-pub apart-front : (from until : ℕ) (spans : List (List Told)) (span : List Told) → AreApart from (spans ++ span ∷ []) until → AreApart from spans (first_in span)
+pub apart-front : (from until : ℕ) (spans : List (List ToldSecond)) (span : List ToldSecond) → AreApart from (spans ++ span ∷ []) until → AreApart from spans (first_in span)
 apart-front from until [] span h = h.1
 apart-front from until (x ∷ spans) span h = (h.0, h.1, h.2, apart-front (end_in x) until spans span h.3)
 
@@ -97,21 +97,21 @@ two : (k : ℕ) → nat_lt 1 (suc (suc k)) ≡ true
 two k = grind (arith, nat_tests)
 
 -- whether a span has two seconds
-long-or_one : (t : Told) (span : List Told) → (nat_lt 1 (length (t ∷ span)) ≡ true) ⊎ (span ≡ [])
+long-or_one : (t : ToldSecond) (span : List ToldSecond) → (nat_lt 1 (length (t ∷ span)) ≡ true) ⊎ (span ≡ [])
 long-or_one t [] = inr refl
 long-or_one t (u ∷ span) = inl (two (length span))
 
-long-push : (x : Told) (span : List Told) (t : Told) → nat_lt 1 (length ((x ∷ span) ++ t ∷ [])) ≡ true
+long-push : (x : ToldSecond) (span : List ToldSecond) (t : ToldSecond) → nat_lt 1 (length ((x ∷ span) ++ t ∷ [])) ≡ true
 long-push x [] t = refl
 long-push x (y ∷ span) t = two (length (span ++ t ∷ []))
 
 -- A SECOND MORE of the trace
 module _ (rule : Rule) (start : Start) (from first : ℕ) (done : List TraceSecond) (p : Progress) (order : AreInOrder from done) (next : p.next ≡ from + length done) (within : p.unfound ≤ length p.log.breaks)
     (s : TraceSecond) (later : RunLog) (g : GoesOnBy p later s) where
-  abbrev t : Told
+  abbrev t : ToldSecond
   t = next_told later done s
 
-  abbrev now : List Told
+  abbrev now : List ToldSecond
   now = (went later (done ++ s ∷ [])).told
 
   pub went-same_ : went later done ≡ went p.log done
@@ -153,13 +153,13 @@ module _ (rule : Rule) (start : Start) (from first : ℕ) (done : List TraceSeco
   early-now : AreEarly rule ((from + length done) / 60) (spans_of (went p.log done).told)
   early-now = apart-ended rule from (from + length done) (spans_of (went p.log done).told) (spanned p.log from done order).apart
 
-  pub stays-now : (spans : List (List Told)) → t.second.number ≡ s.number → AreEarly rule ((from + length done) / 60) spans → Stays rule start (went p.log done).told now spans
+  pub stays-now : (spans : List (List ToldSecond)) → t.second.number ≡ s.number → AreEarly rule ((from + length done) / 60) spans → Stays rule start (went p.log done).told now spans
   stays-now spans is h =
       let number = g.number in
-      subst (λ (ts : List Told). Stays rule start (went p.log done).told ts spans) (sym now-told)
+      subst (λ (ts : List ToldSecond). Stays rule start (went p.log done).told ts spans) (sym now-told)
       (stays-more rule start (went p.log done).told t ((from + length done) / 60) spans (omega (arith, is, number, next)) h)
 
-  pub early-spans : (ended : List (List Told)) (behind : List (List Told)) → spans_of (went p.log done).told ≡ ended ++ behind → AreEarly rule ((from + length done) / 60) (ended ++ behind)
+  pub early-spans : (ended : List (List ToldSecond)) (behind : List (List ToldSecond)) → spans_of (went p.log done).told ≡ ended ++ behind → AreEarly rule ((from + length done) / 60) (ended ++ behind)
   early-spans ended behind are = subst (AreEarly rule ((from + length done) / 60)) are early-now
 
   -- what the last second had
@@ -174,7 +174,7 @@ module _ (rule : Rule) (start : Start) (from first : ℕ) (done : List TraceSeco
   }
 
   -- WITH POWER, in a span that goes on or begins
-  module _ (span : List Told) (c : Core rule start from first done p.log p.unfound p.next (Lit span) p.book []) (supplied : IsSupplied (Lit span) (went p.log done).before p.next) where
+  module _ (span : List ToldSecond) (c : Core rule start from first done p.log p.unfound p.next (Lit span) p.book []) (supplied : IsSupplied (Lit span) (went p.log done).before p.next) where
     power : has_power (went later done).before s ≡ true
     power = subst (λ (w : Went). has_power w.before s ≡ true) (sym went-same_) (lit-power span (went p.log done).before s p.next supplied g.number g.given)
 
@@ -186,12 +186,12 @@ module _ (rule : Rule) (start : Start) (from first : ℕ) (done : List TraceSeco
 
     pub spans-now : spans_of now ≡ c.ended ++ (span ++ t ∷ []) ∷ []
     spans-now =
-        ap spans_of now-told ∙ spans-more (went p.log done).told t ∙ ap (λ (ss : List (List Told)). spans_with ss t) c.spans ∙ spans-lit c.ended span t lit.lit starts
+        ap spans_of now-told ∙ spans-more (went p.log done).told t ∙ ap (λ (ss : List (List ToldSecond)). spans_with ss t) c.spans ∙ spans-lit c.ended span t lit.lit starts
 
     early-ended : AreEarly rule ((from + length done) / 60) (c.ended ++ as_spans span)
     early-ended = early-spans c.ended (as_spans span) c.spans
 
-    span-stays : (sp : List Told) → AreEarly rule ((from + length done) / 60) (as_spans sp) → (past : List HistoryMinute) → span_minutes rule start now past sp ≡ span_minutes rule start (went p.log done).told past sp
+    span-stays : (sp : List ToldSecond) → AreEarly rule ((from + length done) / 60) (as_spans sp) → (past : List HistoryMinute) → span_minutes rule start now past sp ≡ span_minutes rule start (went p.log done).told past sp
     span-stays [] h past = ap (minutes_after start now past) (decided-empty rule) ∙ sym (ap (minutes_after start (went p.log done).told past) (decided-empty rule))
     span-stays (x ∷ xs) h past = sym ((stays-now ((x ∷ xs) ∷ []) lit.number h).0 past)
 
@@ -208,22 +208,22 @@ module _ (rule : Rule) (start : Start) (from first : ℕ) (done : List TraceSeco
           ∙ minutes-parts rule start now closed (decided_of rule span) decides.0
           ∙ ap (λ (is : List HistoryMinute). is ++ minutes_after start now (closed ++ is) decides.0) (span-stays span (early-second rule ((from + length done) / 60) c.ended (as_spans span) early-ended) closed)
           ∙ ap (λ (is : List HistoryMinute). mine ++ minutes_after start now is decides.0) (c.tied.minutes ∙ append-nil p.book.sure)
-          ∙ ap (λ (ts : List Told). mine ++ minutes_after start ts p.book.sure decides.0) (ap (λ (w : Went). w.told) (went-more later done s))
+          ∙ ap (λ (ts : List ToldSecond). mine ++ minutes_after start ts p.book.sure decides.0) (ap (λ (w : Went). w.told) (went-more later done s))
           ∙ ap (λ (is : List HistoryMinute). mine ++ is) (sym decides.2)
 
       pub which : (nat_lt 1 (length (span ++ t ∷ [])) ≡ true) ⊎ IsShort rule span (span ++ t ∷ []) new
       which = go span refl
         where
-          go : (sp : List Told) → span ≡ sp → (nat_lt 1 (length (span ++ t ∷ [])) ≡ true) ⊎ IsShort rule span (span ++ t ∷ []) new
-          go (x ∷ xs) e = inl (ap (λ (sp : List Told). nat_lt 1 (length (sp ++ t ∷ []))) e ∙ long-push x xs t)
+          go : (sp : List ToldSecond) → span ≡ sp → (nat_lt 1 (length (span ++ t ∷ [])) ≡ true) ⊎ IsShort rule span (span ++ t ∷ []) new
+          go (x ∷ xs) e = inl (ap (λ (sp : List ToldSecond). nat_lt 1 (length (sp ++ t ∷ []))) e ∙ long-push x xs t)
           go [] e =
-              let one : decided_of rule (span ++ t ∷ []) ≡ [] = ap (λ (sp : List Told). decided_of rule (sp ++ t ∷ [])) e ∙ short-none rule t in
+              let one : decided_of rule (span ++ t ∷ []) ≡ [] = ap (λ (sp : List ToldSecond). decided_of rule (sp ++ t ∷ [])) e ∙ short-none rule t in
               let none : decides.0 ≡ [] = nothing-more (decided_of rule span) decides.0 (sym decides.1 ∙ one) in
               inr (record {
-                before = subst (λ (sp : List Told). AllByRecursion (λ (span : List Told). decided_of rule span ≡ []) (as_spans sp)) (sym e) tt;
-                was = ap (λ (sp : List Told). any_long (as_spans sp)) e;
+                before = subst (λ (sp : List ToldSecond). AllByRecursion (λ (span : List ToldSecond). decided_of rule span ≡ []) (as_spans sp)) (sym e) tt;
+                was = ap (λ (sp : List ToldSecond). any_long (as_spans sp)) e;
                 after = one;
-                is = ap (λ (sp : List Told). any_long ((sp ++ t ∷ []) ∷ [])) e;
+                is = ap (λ (sp : List ToldSecond). any_long ((sp ++ t ∷ []) ∷ [])) e;
                 none = decides.2 ∙ ap (minutes_after start ((went later done).told ++ t ∷ []) p.book.sure) none;
               })
 
@@ -238,8 +238,8 @@ module _ (rule : Rule) (start : Start) (from first : ℕ) (done : List TraceSeco
           (stays-now c.ended lit.number (early-first rule ((from + length done) / 60) c.ended (as_spans span) early-ended)) on which
 
 -- a second with power
-pub lit-parts : (rule : Rule) (start : Start) (from first : ℕ) (done : List TraceSecond) (p : Progress) → Followed rule start from first done p → (span : List Told) → p.supply ≡ Lit span → p.waiting ≡ [] →
-    Followed rule start from first done (record p { supply = Lit span; waiting = [] })
+pub lit-parts : (rule : Rule) (start : Start) (from first : ℕ) (done : List TraceSecond) (p : Progress) → BookFollowsRun rule start from first done p → (span : List ToldSecond) → p.supply ≡ Lit span → p.waiting ≡ [] →
+    BookFollowsRun rule start from first done (record p { supply = Lit span; waiting = [] })
 lit-parts rule start from first done p g span is none = with-waiting rule start from first done (record p { supply = Lit span }) [] none (with-supply rule start from first done p (Lit span) is g)
 
 pub goes_on : ASecondGoesOn
@@ -248,7 +248,7 @@ goes_on rule start from first done p g span is none s later by uncut new decides
     let q : Progress = record p { supply = Lit span; waiting = [] } in
     let c = core-of rule start from first done q f in
     let lit_ = lit rule start from first done p f.order f.next f.unfound s later by span c f.power in
-    let t : Told = next_told later done s in
+    let t : ToldSecond = next_told later done s in
     let fed_ = feeds rule start from first done p f.order f.next f.unfound s later by span c f.power new decides in
     let kept = keeps-all rule start from first (done ++ s ∷ []) later p.unfound (suc p.next) (span ++ t ∷ []) (solid-push span t) p.book new []
     (subst (λ (w : List HistoryMinute). Core rule start from first (done ++ s ∷ []) later p.unfound (suc p.next) (Lit (span ++ t ∷ [])) p.book w) (sym (append-nil new)) fed_) in
@@ -261,13 +261,13 @@ goes_on rule start from first done p g span is none s later by uncut new decides
     (last-of_push span t (done ++ s ∷ []) (length s.actions) (had-now rule start from first done p f.order f.next f.unfound s later by))
 
 -- the second of a cut
-cut-second : (span : List Told) (t : Told) (n : ℕ) → t.cut ≡ true → t.second.number ≡ n → cut_second (last (span ++ t ∷ [])) ≡ Some n
+cut-second : (span : List ToldSecond) (t : ToldSecond) (n : ℕ) → t.cut ≡ true → t.second.number ≡ n → cut_second (last (span ++ t ∷ [])) ≡ Some n
 cut-second span t n cut is =
     ap cut_second (last-push span t) ∙ ap (λ (b : Bool). if b then Some t.second.number else None) cut ∙ ap (λ (k : ℕ). Some k) is
 
 -- where it is, and that nothing is known of it
-pub break-facts : (rule : Rule) (start : Start) (from first : ℕ) (done : List TraceSecond) (p : Progress) (s : TraceSecond) (later : RunLog) (by : GoesOnBy p later s) (span : List Told) →
-    Followed rule start from first done (record p { supply = Lit span; waiting = [] }) → (begun : ℕ) → cut_in later s.number ≡ Some begun →
+pub break-facts : (rule : Rule) (start : Start) (from first : ℕ) (done : List TraceSecond) (p : Progress) (s : TraceSecond) (later : RunLog) (by : GoesOnBy p later s) (span : List ToldSecond) →
+    BookFollowsRun rule start from first done (record p { supply = Lit span; waiting = [] }) → (begun : ℕ) → cut_in later s.number ≡ Some begun →
     (cut_second (last (span ++ next_told later done s ∷ [])) ≡ Some s.number) × (tells_cut s.number later.breaks ≡ true) × (tells_cut s.number (take p.unfound later.breaks) ≡ false)
 break-facts rule start from first done p s later by span f begun cut =
     let c = core-of rule start from first done (record p { supply = Lit span; waiting = [] }) f in
@@ -287,7 +287,7 @@ breaks_off rule start from first done p g span is none s later by begun cut new 
     let q : Progress = record p { supply = Lit span; waiting = [] } in
     let c = core-of rule start from first done q f in
     let lit_ = lit rule start from first done p f.order f.next f.unfound s later by span c f.power in
-    let t : Told = next_told later done s in
+    let t : ToldSecond = next_told later done s in
     let is_cut : t.cut ≡ true = lit_.cut ∙ ap (λ (o : Option ℕ). is_some o) cut in
     let fed_ = feeds rule start from first done p f.order f.next f.unfound s later by span c f.power new decides in
     let kept = keeps-all rule start from first (done ++ s ∷ []) later p.unfound (suc p.next) (span ++ t ∷ []) (solid-push span t) p.book front (option_to_list i ++ rest)
@@ -309,22 +309,22 @@ breaks_off rule start from first done p g span is none s later by begun cut new 
 
 -- FOR THE RULES OF MINUTES
 -- the span that goes on ends with the number of the next second
-pub span-end : (log : RunLog) (from : ℕ) (done : List TraceSecond) (ended : List (List Told)) (t : Told) (span : List Told) (next : ℕ) → AreInOrder from done → next ≡ from + length done →
+pub span-end : (log : RunLog) (from : ℕ) (done : List TraceSecond) (ended : List (List ToldSecond)) (t : ToldSecond) (span : List ToldSecond) (next : ℕ) → AreInOrder from done → next ≡ from + length done →
     (went log done).before.running ≡ true → spans_of (went log done).told ≡ ended ++ (t ∷ span) ∷ [] → end_in (t ∷ span) ≡ next
 span-end log from done ended t span next order number going are =
     let whole = spanned log from done order in
-    ends-last ended (t ∷ span) next (subst (λ (ss : List (List Told)). EndsAt ss next) are
+    ends-last ended (t ∷ span) next (subst (λ (ss : List (List ToldSecond)). EndsAt ss next) are
     (subst (λ (u : ℕ). EndsAt (spans_of (went log done).told) u) (sym number) (whole.running going)))
 
-begun-seen : (rule : Rule) (t : Told) (next : ℕ) → t.second.number ≡ next → as_span rule (t ∷ []) ≡ fed (picking t.second.picks (settled_where t.course.settled (begin rule next))) t.second.speed
+begun-seen : (rule : Rule) (t : ToldSecond) (next : ℕ) → t.second.number ≡ next → as_span rule (t ∷ []) ≡ fed (picking t.second.picks (settled_where t.course.settled (begin rule next))) t.second.speed
 begun-seen rule t next is =
     let plus : next ≡ next + 0 = omega arith in
-    ap (λ (n : ℕ). record { rule = rule; first = n; seconds = t.second ∷ []; pending = []; settlings = map (λ (t : Told). t.second.number) (filter (λ (t : Told). t.course.settled) (t ∷ [])) }) is
-    ∙ ap (λ (n : ℕ). record { rule = rule; first = next; seconds = record { number = n; speed = t.second.speed; picks = t.second.picks } ∷ []; pending = []; settlings = map (λ (t : Told). t.second.number) (filter (λ (t : Told). t.course.settled) (t ∷ [])) }) (is ∙ plus)
+    ap (λ (n : ℕ). record { rule = rule; first = n; seconds = t.second ∷ []; pending = []; settlings = map (λ (t : ToldSecond). t.second.number) (filter (λ (t : ToldSecond). t.course.settled) (t ∷ [])) }) is
+    ∙ ap (λ (n : ℕ). record { rule = rule; first = next; seconds = record { number = n; speed = t.second.speed; picks = t.second.picks } ∷ []; pending = []; settlings = map (λ (t : ToldSecond). t.second.number) (filter (λ (t : ToldSecond). t.course.settled) (t ∷ [])) }) (is ∙ plus)
     ∙ by t.course.settled
   where
     by : (b : Bool) →
-        record { rule = rule; first = next; seconds = record { number = next + 0; speed = t.second.speed; picks = t.second.picks } ∷ []; pending = []; settlings = map (λ (t : Told). t.second.number) (cond b (t ∷ []) []) }
+        record { rule = rule; first = next; seconds = record { number = next + 0; speed = t.second.speed; picks = t.second.picks } ∷ []; pending = []; settlings = map (λ (t : ToldSecond). t.second.number) (cond b (t ∷ []) []) }
         ≡ fed (picking t.second.picks (settled_where b (begin rule next))) t.second.speed
     by true =
         let plus : next ≡ next + 0 = omega arith in
@@ -335,7 +335,7 @@ pub rules_see : RulesSeeTheSecond
 rules_see rule start from first done p g span is s later by =
     go span (with-supply rule start from first done p (Lit span) is g)
   where
-    go : (span : List Told) → Followed rule start from first done (record p { supply = Lit span }) →
+    go : (span : List ToldSecond) → BookFollowsRun rule start from first done (record p { supply = Lit span }) →
         span_at rule (suc p.next) (span ++ next_told later done s ∷ []) ≡ fed (picking (next_told later done s).second.picks (settled_where (next_told later done s).course.settled (span_at rule p.next span))) (next_told later done s).second.speed
     go [] f =
         let same = went-same_ rule start from first done p f.order f.next f.unfound s later by in
@@ -348,17 +348,17 @@ rules_see rule start from first done p g span is s later by =
         span-more rule (x ∷ xs) (next_told later done s) (omega arith) ((lit-told later (went later done).before s power).number ∙ by.number ∙ sym end)
 
 -- POWER IS BACK
-pub due-core : (rule : Rule) (start : Start) (from first : ℕ) (done : List TraceSecond) (p : Progress) → Followed rule start from first done (record p { supply = Due }) → Core rule start from first done p.log p.unfound p.next Due p.book p.waiting
+pub due-core : (rule : Rule) (start : Start) (from first : ℕ) (done : List TraceSecond) (p : Progress) → BookFollowsRun rule start from first done (record p { supply = Due }) → Core rule start from first done p.log p.unfound p.next Due p.book p.waiting
 due-core rule start from first done p f = core-of rule start from first done (record p { supply = Due }) f
 
-pub lost-core : (rule : Rule) (start : Start) (from first : ℕ) (done : List TraceSecond) (p : Progress) → Followed rule start from first done (record p { supply = Lost }) → Core rule start from first done p.log p.unfound p.next Due p.book p.waiting
+pub lost-core : (rule : Rule) (start : Start) (from first : ℕ) (done : List TraceSecond) (p : Progress) → BookFollowsRun rule start from first done (record p { supply = Lost }) → Core rule start from first done p.log p.unfound p.next Due p.book p.waiting
 lost-core rule start from first done p f = lost-due rule start from first done p.log p.unfound p.next p.book p.waiting (core-of rule start from first done (record p { supply = Lost }) f)
 
 pub power_finds : APowerOnFinds
 power_finds rule start from first done p g may k mark low = by p.supply may g
   where
     at : Core rule start from first done p.log p.unfound p.next Due p.book p.waiting → AreBefore p.next p.next p.log → Comes (went p.log done).before p.next →
-        Followed rule start from first done (record p { log = record p.log { breaks = found_from p.unfound k p.log.breaks }; unfound = length (found_from p.unfound k p.log.breaks); supply = Lit []; book = found k p.book; waiting = [] })
+        BookFollowsRun rule start from first done (record p { log = record p.log { breaks = found_from p.unfound k p.log.breaks }; unfound = length (found_from p.unfound k p.log.breaks); supply = Lit []; book = found k p.book; waiting = [] })
     at c lines comes =
         followed-by rule start from first done (found_log p.unfound k p.log) (length (found_from p.unfound k p.log.breaks)) p.next p.begun (Lit []) (found k p.book) []
         (rest-found rule start from first done p.log p.unfound p.next p.book p.waiting c k mark low)
@@ -366,8 +366,8 @@ power_finds rule start from first done p g may k mark low = by p.supply may g
         (subst (λ (w : Went). Comes w.before p.next) (sym (found-told rule start from first done p.log p.unfound p.next p.book p.waiting c k mark low)) comes)
         tt
 
-    by : (s : Supply) → MayPower s p.next → Followed rule start from first done (record p { supply = s }) →
-        Followed rule start from first done (record p { log = record p.log { breaks = found_from p.unfound k p.log.breaks }; unfound = length (found_from p.unfound k p.log.breaks); supply = Lit []; book = found k p.book; waiting = [] })
+    by : (s : UnitPower) → MayPower s p.next → BookFollowsRun rule start from first done (record p { supply = s }) →
+        BookFollowsRun rule start from first done (record p { log = record p.log { breaks = found_from p.unfound k p.log.breaks }; unfound = length (found_from p.unfound k p.log.breaks); supply = Lit []; book = found k p.book; waiting = [] })
     by (Lit span) may f = absurd may
     by Due may f = at (due-core rule start from first done p f) f.lines (f.power p.next)
     by Lost may f = at (lost-core rule start from first done p f) f.lines (lost-comes (went p.log done).before p.next f.power may)
@@ -379,7 +379,7 @@ pub comes-adds : (rule : Rule) (start : Start) (from first : ℕ) (done : List T
     (spans_of (went later (done ++ s ∷ [])).told ≡ spans_of (went p.log done).told ++ (next_told later done s ∷ []) ∷ [])
     × (unit_history rule start later (went later (done ++ s ∷ [])).told ≡ unit_history rule start p.log (went p.log done).told)
 comes-adds rule start from first done p order next within s later by c comes =
-    let t : Told = next_told later done s in
+    let t : ToldSecond = next_told later done s in
     let same = went-same_ rule start from first done p order next within s later by in
     let power = subst (λ (w : Went). has_power w.before s ≡ true) (sym same) (comes-power (went p.log done).before s p.next comes by.number by.given) in
     let lit_ = lit-told later (went later done).before s power in
@@ -388,7 +388,7 @@ comes-adds rule start from first done p order next within s later by c comes =
     let early = early-first rule ((from + length done) / 60) c.ended [] (early-spans rule start from first done p order next within s later by c.ended [] c.spans) in (
       spans,
       rests-minutes rule start from first done p.log p.unfound p.next p.book [] c (done ++ s ∷ []) later ((t ∷ []) ∷ []) (kept-now rule start from first done p order next within s later by)
-          (spans ∙ ap (λ (ss : List (List Told)). ss ++ (t ∷ []) ∷ []) (c.spans ∙ append-nil c.ended))
+          (spans ∙ ap (λ (ss : List (List ToldSecond)). ss ++ (t ∷ []) ∷ []) (c.spans ∙ append-nil c.ended))
           (stays-now rule start from first done p order next within s later by c.ended lit_.number early) (short-none rule t, tt) refl,
     )
 
@@ -396,16 +396,16 @@ pub power_fails : APowerOnFails
 power_fails rule start from first done p g may none s later by begun cut = at_supply p.supply may (with-waiting rule start from first done p [] none g)
   where
     at : AreInOrder from done → p.next ≡ from + length done → p.unfound ≤ length p.log.breaks → (c : Core rule start from first done p.log p.unfound p.next Due p.book []) → AreBefore p.next p.next p.log → Comes (went p.log done).before p.next →
-        Followed rule start from first (done ++ s ∷ []) (record { log = later; unfound = p.unfound; next = suc p.next; begun = length s.actions; supply = Lost; book = p.book; waiting = [] })
+        BookFollowsRun rule start from first (done ++ s ∷ []) (record { log = later; unfound = p.unfound; next = suc p.next; begun = length s.actions; supply = Lost; book = p.book; waiting = [] })
     at order next within c lines comes =
-        let t : Told = next_told later done s in
+        let t : ToldSecond = next_told later done s in
         let same = went-same_ rule start from first done p order next within s later by in
         let power = subst (λ (w : Went). has_power w.before s ≡ true) (sym same) (comes-power (went p.log done).before s p.next comes by.number by.given) in
         let lit_ = lit-told later (went later done).before s power in
         let starts : t.starts ≡ true = lit_.starts ∙ ap (λ (w : Went). not w.before.running) same ∙ ap not comes.running in
         let is_cut : t.cut ≡ true = lit_.cut ∙ ap (λ (o : Option ℕ). is_some o) cut in
         let spans = ap spans_of (now-told rule start from first done p order next within s later by) ∙ spans-more (went p.log done).told t ∙ spans-new (spans_of (went p.log done).told) t lit_.lit starts
-        ∙ ap (λ (ss : List (List Told)). ss ++ (t ∷ []) ∷ []) (c.spans ∙ append-nil c.ended) in
+        ∙ ap (λ (ss : List (List ToldSecond)). ss ++ (t ∷ []) ∷ []) (c.spans ∙ append-nil c.ended) in
         let early = early-first rule ((from + length done) / 60) c.ended [] (early-spans rule start from first done p order next within s later by c.ended [] c.spans) in
         followed-by rule start from first (done ++ s ∷ []) later p.unfound (suc p.next) (length s.actions) Lost p.book []
         (due-lost rule start from first (done ++ s ∷ []) later p.unfound (suc p.next) p.book []
@@ -418,8 +418,8 @@ power_fails rule start from first done p g may none s later by begun cut = at_su
         (subst (λ (w : Went). IsLost w.before) (sym (now-is rule start from first done p order next within s later by)) (next-lost (went p.log done).before t is_cut (lit_.given ∙ by.given)))
         tt
 
-    at_supply : (sp : Supply) → MayFail sp p.next → Followed rule start from first done (record p { supply = sp; waiting = [] }) →
-        Followed rule start from first (done ++ s ∷ []) (record { log = later; unfound = p.unfound; next = suc p.next; begun = length s.actions; supply = Lost; book = p.book; waiting = [] })
+    at_supply : (sp : UnitPower) → MayFail sp p.next → BookFollowsRun rule start from first done (record p { supply = sp; waiting = [] }) →
+        BookFollowsRun rule start from first (done ++ s ∷ []) (record { log = later; unfound = p.unfound; next = suc p.next; begun = length s.actions; supply = Lost; book = p.book; waiting = [] })
     at_supply (Lit []) may f =
         at f.order f.next f.unfound (lit-due rule start from first done p.log p.unfound p.next p.book (core-of rule start from first done (record p { supply = Lit []; waiting = [] }) f)) f.lines f.power
     at_supply (Lit (x ∷ xs)) may f = absurd may
@@ -432,7 +432,7 @@ module _ (rule : Rule) (start : Start) (from first : ℕ) (log : RunLog) (unfoun
   pub dark-second : (done : List TraceSecond) (next : ℕ) (c : Core rule start from first done log unfound next Due b w) (s : TraceSecond) → s.number ≡ next → has_power (went log done).before s ≡ false →
       Core rule start from first (done ++ s ∷ []) log unfound (next + 1) Due b w
   dark-second done next c s is none =
-      let t : Told = second_told log (went log done).before s in
+      let t : ToldSecond = second_told log (went log done).before s in
       let dark_ = dark-told log (went log done).before s none in
       let told = ap (λ (w : Went). w.told) (went-more log done s) in
       let number = c.number in
@@ -442,7 +442,7 @@ module _ (rule : Rule) (start : Start) (from first : ℕ) (log : RunLog) (unfoun
       let early = early-first rule ((from + length done) / 60) c.ended [] (subst (AreEarly rule ((from + length done) / 60)) c.spans (apart-ended rule from (from + length done) (spans_of (went log done).told) (spanned log from done c.order).apart)) in
       rests rule start from first done log unfound next b w c (done ++ s ∷ []) log (next + 1) []
       (order-behind from done (s ∷ []) c.order (omega (arith, is, number), tt)) (omega (arith, count, number)) refl c.within (λ u tells. tells) (λ u tells. refl) spans
-      (subst (λ (ts : List Told). Stays rule start (went log done).told ts c.ended) (sym told) (stays-more rule start (went log done).told t ((from + length done) / 60) c.ended (omega (arith, here, is, number)) early))
+      (subst (λ (ts : List ToldSecond). Stays rule start (went log done).told ts c.ended) (sym told) (stays-more rule start (went log done).told t ((from + length done) / 60) c.ended (omega (arith, here, is, number)) early))
       tt refl
 
   -- what comes behind it
@@ -531,7 +531,7 @@ refused-core rule start from first done log unfound next b w refused c =
     let later : RunLog = record log { refused = refused } in
     let same = ap (λ (w : Went). w.told) (went-refused log later refl refl done) in
     rests rule start from first done log unfound next b w c done later next [] c.order c.number refl c.within (λ u tells. tells) (λ u tells. kept-by log u ∙ sym (kept-by later u))
-    (ap spans_of same ∙ c.spans) (subst (λ (ts : List Told). Stays rule start (went log done).told ts c.ended) (sym same) (stays-same rule start (went log done).told c.ended)) tt refl
+    (ap spans_of same ∙ c.spans) (subst (λ (ts : List ToldSecond). Stays rule start (went log done).told ts c.ended) (sym same) (stays-same rule start (went log done).told c.ended)) tt refl
 
 pub stays_dark : AMinuteStaysDark
 stays_dark rule start from first done p g is n speed actions refused begun some within =
@@ -541,13 +541,13 @@ stays_dark rule start from first done p g is n speed actions refused begun some 
     let lost = subst (λ (w : Went). IsLost w.before) (sym (went-refused p.log later refl refl done)) f.power in
     let on = dark-minute rule start from first later p.unfound p.book p.waiting n done p.next speed actions c lost some within in
     let lines = lines-later p.next p.next (p.next + n) (p.next + n) p.log (omega arith) (omega arith) f.lines in
-    subst (λ (sp : Supply). Followed rule start from first (done ++ driven n p.next speed actions) (record p { log = later; next = p.next + n; begun = begun; supply = sp })) (sym is)
+    subst (λ (sp : UnitPower). BookFollowsRun rule start from first (done ++ driven n p.next speed actions) (record p { log = later; next = p.next + n; begun = begun; supply = sp })) (sym is)
     (followed-by rule start from first (done ++ driven n p.next speed actions) later p.unfound (p.next + n) begun Lost p.book p.waiting
     (due-lost rule start from first (done ++ driven n p.next speed actions) later p.unfound (p.next + n) p.book p.waiting on.0)
     (record { breaks = lines.breaks; finds = lines.finds }) on.1 tt)
 
 off-from : (rule : Rule) (start : Start) (from first : ℕ) (done : List TraceSecond) (log : RunLog) (unfound next : ℕ) (b : Book) (w : List HistoryMinute) (n : ℕ) → Core rule start from first done log unfound next Due b w → AreBefore next next log →
-    Followed rule start from first (done ++ dark (suc n) next) (record { log = log; unfound = unfound; next = next + suc n; begun = 0; supply = Due; book = b; waiting = w })
+    BookFollowsRun rule start from first (done ++ dark (suc n) next) (record { log = log; unfound = unfound; next = next + suc n; begun = 0; supply = Due; book = b; waiting = w })
 off-from rule start from first done log unfound next b w n c lines =
     let on = off-seconds rule start from first log unfound b w n done next c in
     followed-by rule start from first (done ++ dark (suc n) next) log unfound (next + suc n) 0 Due b w on.0
@@ -556,7 +556,7 @@ off-from rule start from first done log unfound next b w n c lines =
 pub off_dark : AnOffLineIsDark
 off_dark rule start from first done p g is n = by p.supply is g
   where
-    by : (s : Supply) → IsDark s → Followed rule start from first done (record p { supply = s }) → Followed rule start from first (done ++ dark (suc n) p.next) (record p { next = p.next + suc n; begun = 0; supply = Due })
+    by : (s : UnitPower) → IsDark s → BookFollowsRun rule start from first done (record p { supply = s }) → BookFollowsRun rule start from first (done ++ dark (suc n) p.next) (record p { next = p.next + suc n; begun = 0; supply = Due })
     by (Lit span) is f = absurd is
     by Due is f = off-from rule start from first done p.log p.unfound p.next p.book p.waiting n (due-core rule start from first done p f) f.lines
     by Lost is f = off-from rule start from first done p.log p.unfound p.next p.book p.waiting n (lost-core rule start from first done p f) f.lines
@@ -575,7 +575,7 @@ or-nothing : (b : Bool) → (b || false) ≡ b
 or-nothing true = refl
 or-nothing false = refl
 
-module _ (rule : Rule) (start : Start) (from first : ℕ) (done : List TraceSecond) (p : Progress) (t : Told) (span : List Told) (f : Followed rule start from first done (record p { supply = Lit (t ∷ span); waiting = [] })) where
+module _ (rule : Rule) (start : Start) (from first : ℕ) (done : List TraceSecond) (p : Progress) (t : ToldSecond) (span : List ToldSecond) (f : BookFollowsRun rule start from first done (record p { supply = Lit (t ∷ span); waiting = [] })) where
   abbrev cut : Break
   cut = cut_at (p.next - 1) false p.begun
 
@@ -603,14 +603,14 @@ module _ (rule : Rule) (start : Start) (from first : ℕ) (done : List TraceSeco
   abbrev front : Went
   front = went p.log h.before
 
-  abbrev x : Told
+  abbrev x : ToldSecond
   x = second_told p.log front.before s
 
   told-is : went p.log done ≡ record { told = front.told ++ x ∷ []; before = before_next front.before x }
   told-is = ap (went p.log) h.are ∙ went-more p.log h.before s
 
-  going : IsGoing (before_next front.before x)
-  going = subst (λ (w : Went). IsGoing w.before) told-is f.power
+  going : PowerGoesOn (before_next front.before x)
+  going = subst (λ (w : Went). PowerGoesOn w.before) told-is f.power
 
   lit-uncut : (x.lit ≡ true) × (x.cut ≡ false)
   lit-uncut = and-both x.lit x.cut going.running
@@ -648,7 +648,7 @@ module _ (rule : Rule) (start : Start) (from first : ℕ) (done : List TraceSeco
   cut-is : went cut_log done ≡ record { told = front.told ++ cut_at_end x ∷ []; before = before_next front.before (cut_at_end x) }
   cut-is =
       ap (went cut_log) h.are ∙ went-more cut_log h.before s ∙ ap (λ (w : Went). went_on cut_log w s) front-same
-      ∙ ap (λ (y : Told). record { told = front.told ++ y ∷ []; before = before_next front.before y }) x-cut
+      ∙ ap (λ (y : ToldSecond). record { told = front.told ++ y ∷ []; before = before_next front.before y }) x-cut
 
   pub spans-cut : spans_of (went cut_log done).told ≡ f.ended ++ cut_last (t ∷ span) ∷ []
   spans-cut =
@@ -660,17 +660,17 @@ module _ (rule : Rule) (start : Start) (from first : ℕ) (done : List TraceSeco
   end = span-end p.log from done f.ended t span p.next f.order f.next f.power.running f.spans
 
   apart : AreApart from (f.ended ++ (t ∷ span) ∷ []) (from + length done)
-  apart = subst (λ (ss : List (List Told)). AreApart from ss (from + length done)) f.spans (spanned p.log from done f.order).apart
+  apart = subst (λ (ss : List (List ToldSecond)). AreApart from ss (from + length done)) f.spans (spanned p.log from done f.order).apart
 
   numbered : AreNumbered (first_in (t ∷ span)) (seconds_in (t ∷ span))
   numbered = (apart-last from (from + length done) f.ended (t ∷ span) apart).1
 
-  stays-cut : (n : ℕ) (spans : List (List Told)) → n ≤ (p.next - 1) / 60 → AreEarly rule n spans → Stays rule start (went p.log done).told (went cut_log done).told spans
+  stays-cut : (n : ℕ) (spans : List (List ToldSecond)) → n ≤ (p.next - 1) / 60 → AreEarly rule n spans → Stays rule start (went p.log done).told (went cut_log done).told spans
   stays-cut n spans le early =
       let is = x-lit.number in
       let here = number in
-      subst (λ (ts : List Told). Stays rule start ts (went cut_log done).told spans) (sym (ap (λ (w : Went). w.told) told-is))
-      (subst (λ (ts : List Told). Stays rule start (front.told ++ x ∷ []) ts spans) (sym (ap (λ (w : Went). w.told) cut-is))
+      subst (λ (ts : List ToldSecond). Stays rule start ts (went cut_log done).told spans) (sym (ap (λ (w : Went). w.told) told-is))
+      (subst (λ (ts : List ToldSecond). Stays rule start (front.told ++ x ∷ []) ts spans) (sym (ap (λ (w : Went). w.told) cut-is))
       (stays-instead rule start front.told x (cut_at_end x) n spans (omega (arith, is, here, le)) (omega (arith, is, here, le)) early))
 
   stays-ended : Stays rule start (went p.log done).told (went cut_log done).told f.ended
@@ -689,8 +689,8 @@ module _ (rule : Rule) (start : Start) (from first : ℕ) (done : List TraceSeco
   which-cut = ⊎_elim
       (λ long. inl (ap (λ (k : ℕ). nat_lt 1 k) (length-cut (t ∷ span)) ∙ long))
       (λ (nil : span ≡ []).
-      let none = ap (λ (sp : List Told). decided_of rule (t ∷ sp)) nil ∙ short-none rule t in
-      let short : any_long ((t ∷ span) ∷ []) ≡ false = ap (λ (sp : List Told). any_long ((t ∷ sp) ∷ [])) nil in
+      let none = ap (λ (sp : List ToldSecond). decided_of rule (t ∷ sp)) nil ∙ short-none rule t in
+      let short : any_long ((t ∷ span) ∷ []) ≡ false = ap (λ (sp : List ToldSecond). any_long ((t ∷ sp) ∷ [])) nil in
       inr (record { before = (none, tt); was = short; after = decided-cut rule (t ∷ span) ∙ none; is = ap (λ (k : ℕ). nat_lt 1 k || false) (length-cut (t ∷ span)) ∙ short; none = refl }))
       (long-or_one t span)
 
@@ -718,7 +718,7 @@ module _ (rule : Rule) (start : Start) (from first : ℕ) (done : List TraceSeco
       which-cut
 
   -- the seconds so far but the last, and that
-  pub cut-parts : (front_ : List Told) × (x_ : Told) × ((went p.log done).told ≡ front_ ++ x_ ∷ []) × ((went cut_log done).told ≡ front_ ++ cut_at_end x_ ∷ [])
+  pub cut-parts : (front_ : List ToldSecond) × (x_ : ToldSecond) × ((went p.log done).told ≡ front_ ++ x_ ∷ []) × ((went cut_log done).told ≡ front_ ++ cut_at_end x_ ∷ [])
       × (x_.lit ≡ true) × (x_.cut ≡ false) × (x_.second.number ≡ p.next - 1) × (cut_in p.log x_.second.number ≡ None)
   cut-parts = (
     front.told,
@@ -755,7 +755,7 @@ module _ (rule : Rule) (start : Start) (from first : ℕ) (done : List TraceSeco
 pub off_cuts : AnOffLineCuts
 off_cuts rule start from first done p g t span is none n =
     let f = lit-parts rule start from first done p g (t ∷ span) is none in
-    subst (λ (w : List HistoryMinute). Followed rule start from first (done ++ dark (suc n) p.next)
+    subst (λ (w : List HistoryMinute). BookFollowsRun rule start from first (done ++ dark (suc n) p.next)
     (record p { log = and_break p.log (cut_at (p.next - 1) false p.begun); next = p.next + suc n; begun = 0; supply = Due; waiting = w })) (sym none)
     (off-from rule start from first done (and_break p.log (cut_at (p.next - 1) false p.begun)) p.unfound p.next p.book [] n (cut-ends rule start from first done p t span f) (cut-before rule start from first done p t span f))
 

@@ -22,14 +22,14 @@ use Rattle.log_model.specs.declared.lines.Verdict.{Verdict}
 use Rattle.log_model.specs.Log.{RunLog, Phase, In, Keeping, same_phase, phase_of, cut_of, cut_in, tears_here, is_torn_in, found_in}
 use Rattle.log_model.specs.Slots.{Slots, Sitting, same_card, in_slot}
 use Rattle.log_model.specs.Causes.{device_of, is_cut, has_failed, second_of, cuts, failed_cut_in, ComesBehind, AreInTime, tears, places, visit_places, in_the_slot, refusals_at, RoseBy, IsBegun, IsAtPowerOn, CutBy}
-use Rattle.log_model.specs.Course.{Told, Went, Course, Visit, Before, Moved, visits, card_in, slot_told, both_told, unmoved, cut_told, lit_course, has_power, second_told, went}
+use Rattle.log_model.specs.Course.{ToldSecond, Went, Course, Visit, Before, Moved, visits, card_in, slot_told, both_told, unmoved, cut_told, lit_course, has_power, second_told, went}
 use Rattle.event_model.specs.Events.{course_by}
 use Rattle.history_model.specs.Presence.{Start}
 use Rattle.run_unit_course.specs.Lines.{log_of, cut_at}
 use Rattle.run_unit_course.specs.Followed.{Lit}
 use Rattle.run_unit_course.specs.Turn.{begins_with}
 use Rattle.run_course.specs.Moments.{and_break, and_find, finds_here, SameUpTo}
-use Rattle.run_course.specs.Followed.{Progress, Followed}
+use Rattle.run_course.specs.Followed.{Progress, BookFollowsRun}
 use Rattle.run_course.specs.Seconds.{GoesOnBy, next_told}
 use Rattle.run_course.specs.Within.{IsFoundOf, not_begun}
 use Rattle.run_course.specs.Caused.{StandsBy, AreNewCauses}
@@ -555,11 +555,11 @@ told-causes p s at log mid now c starts h = record {
       (h.judged e among);
 }
 
-power-of : (rule : Rule) (start : Start) (from first : ℕ) (done : List TraceSecond) (p : Progress) → Followed rule start from first done p → (span : List Told) → p.supply ≡ Lit span → (s : TraceSecond) → s.number ≡ p.next → s.has_power ≡ true →
+power-of : (rule : Rule) (start : Start) (from first : ℕ) (done : List TraceSecond) (p : Progress) → BookFollowsRun rule start from first done p → (span : List ToldSecond) → p.supply ≡ Lit span → (s : TraceSecond) → s.number ≡ p.next → s.has_power ≡ true →
     has_power (went p.log done).before s ≡ true
 power-of rule start from first done p f span is s number given = lit-power span (went p.log done).before s p.next (with-supply rule start from first done p (Lit span) is f).power number given
 
-starts-of : (rule : Rule) (start : Start) (from first : ℕ) (done : List TraceSecond) (p : Progress) → Followed rule start from first done p → (span : List Told) → p.supply ≡ Lit span → not (went p.log done).before.running ≡ begins_with span
+starts-of : (rule : Rule) (start : Start) (from first : ℕ) (done : List TraceSecond) (p : Progress) → BookFollowsRun rule start from first done p → (span : List ToldSecond) → p.supply ≡ Lit span → not (went p.log done).before.running ≡ begins_with span
 starts-of rule start from first done p f span is = lit-starts span (went p.log done).before p.next (with-supply rule start from first done p (Lit span) is f).power
 
 -- the parts of a course, where power comes with the second just so

@@ -7,7 +7,7 @@ use Rattle.minute_model.specs.declared.Rule.{Rule}
 use Rattle.minute_model.specs.Activity.{last}
 use Rattle.log_model.specs.declared.lines.Break.{Break}
 use Rattle.log_model.specs.Log.{RunLog, kept_after}
-use Rattle.log_model.specs.Course.{Told}
+use Rattle.log_model.specs.Course.{ToldSecond}
 use Rattle.log_model.specs.Spans.{AreApart}
 use Rattle.history_model.specs.Minutes.{HistoryMinute, up_to}
 use Rattle.history_model.specs.Presence.{Start}
@@ -30,15 +30,15 @@ use Rattle.run_course.proofs.Logs.{found_log, kept-found}
 use Rattle.run_course.proofs.Alike.{Stays, stays-same, stays-front, empty-minutes, histories-alike, losses-alike, known-closed, known-open, known-parts}
 
 -- SECONDS AND LINES MORE: two logs that tell the same of what was kept after the cuts that are known, and two lists of seconds
-module _ (rule : Rule) (start : Start) (log later : RunLog) (found : List Break) (same : (u : ℕ) → tells_cut u found ≡ true → kept_after log u ≡ kept_after later u) (told more : List Told) where
-  pub closed-same : (spans : List (List Told)) → AllByRecursion (IsKnown rule found) spans → Stays rule start told more spans → closed_history rule start later more spans ≡ closed_history rule start log told spans
+module _ (rule : Rule) (start : Start) (log later : RunLog) (found : List Break) (same : (u : ℕ) → tells_cut u found ≡ true → kept_after log u ≡ kept_after later u) (told more : List ToldSecond) where
+  pub closed-same : (spans : List (List ToldSecond)) → AllByRecursion (IsKnown rule found) spans → Stays rule start told more spans → closed_history rule start later more spans ≡ closed_history rule start log told spans
   closed-same spans known stays = sym (histories-alike rule start told more (closed_limit log) (closed_limit later) [] spans (known-closed rule found log later same spans known) stays)
 
-  pub lost-same : (spans : List (List Told)) → AllByRecursion (IsKnown rule found) spans → Stays rule start told more spans → closed_lost rule start later more spans ≡ closed_lost rule start log told spans
+  pub lost-same : (spans : List (List ToldSecond)) → AllByRecursion (IsKnown rule found) spans → Stays rule start told more spans → closed_lost rule start later more spans ≡ closed_lost rule start log told spans
   lost-same spans known stays = sym (losses-alike rule start told more (closed_limit log) (closed_limit later) [] spans (known-closed rule found log later same spans known) stays)
 
   -- power is kept: the span goes on, and these minutes are decided
-  pub shut-on : (later_found : List Break) (ended : List (List Told)) (span longer : List Told) (b : Book) (new : List HistoryMinute) → Stays rule start told more ended →
+  pub shut-on : (later_found : List Break) (ended : List (List ToldSecond)) (span longer : List ToldSecond) (b : Book) (new : List HistoryMinute) → Stays rule start told more ended →
       ((u : ℕ) → tells_cut u found ≡ true → tells_cut u later_found ≡ true) →
       span_minutes rule start more (closed_history rule start log told ended) longer ≡ span_minutes rule start told (closed_history rule start log told ended) span ++ new → (new ≡ []) ⊎ (nat_lt 1 (length longer) ≡ true) →
       IsShut rule start log found told ended span b [] → IsShut rule start later later_found more ended longer b new
@@ -56,8 +56,8 @@ module _ (rule : Rule) (start : Start) (log later : RunLog) (found : List Break)
   }
 
   -- no power: spans that decided nothing are added
-  pub shut-off : (later_found : List Break) (ended behind : List (List Told)) (b : Book) → Stays rule start told more ended → ((u : ℕ) → tells_cut u found ≡ true → tells_cut u later_found ≡ true) →
-      AllByRecursion (λ (span : List Told). decided_of rule span ≡ []) behind → IsShut rule start log found told ended [] b [] → IsShut rule start later later_found more (ended ++ behind) [] b []
+  pub shut-off : (later_found : List Break) (ended behind : List (List ToldSecond)) (b : Book) → Stays rule start told more ended → ((u : ℕ) → tells_cut u found ≡ true → tells_cut u later_found ≡ true) →
+      AllByRecursion (λ (span : List ToldSecond). decided_of rule span ≡ []) behind → IsShut rule start log found told ended [] b [] → IsShut rule start later later_found more (ended ++ behind) [] b []
   shut-off later_found ended behind b stays goes none sh =
       let closes = closed-behind rule start later more ended behind none ∙ closed-same ended sh.known stays in record {
         known = known-append rule later_found ended behind (known-more rule found later_found ended goes sh.known) (known-nothing rule later_found behind none);
@@ -71,14 +71,14 @@ module _ (rule : Rule) (start : Start) (log later : RunLog) (found : List Break)
         lost = subst (λ (ls : List (List HistoryMinute)). AreLost ls b) (sym (lost-behind rule start later more ended behind none ∙ lost-same ended sh.known stays)) sh.lost;
       }
 
-  pub open-off : (later_found : List Break) (ended behind : List (List Told)) (b : Book) → Stays rule start told more ended → ((u : ℕ) → tells_cut u found ≡ tells_cut u later_found) → ((u : ℕ) → tells_cut u log.breaks ≡ true → tells_cut u later.breaks ≡ true) →
-      AllByRecursion (λ (span : List Told). decided_of rule span ≡ []) behind → any_long behind ≡ false → IsOpen rule start log found told ended b → IsOpen rule start later later_found more (ended ++ behind) b
+  pub open-off : (later_found : List Break) (ended behind : List (List ToldSecond)) (b : Book) → Stays rule start told more ended → ((u : ℕ) → tells_cut u found ≡ tells_cut u later_found) → ((u : ℕ) → tells_cut u log.breaks ≡ true → tells_cut u later.breaks ≡ true) →
+      AllByRecursion (λ (span : List ToldSecond). decided_of rule span ≡ []) behind → any_long behind ≡ false → IsOpen rule start log found told ended b → IsOpen rule start later later_found more (ended ++ behind) b
   open-off later_found ended behind b stays goes tells none short o =
       let front_stays = stays-front rule start told more o.front (o.span ∷ o.short) (subst (Stays rule start told more) o.are stays) in record {
         front = o.front;
         span = o.span;
         short = o.short ++ behind;
-        are = ap (λ (ss : List (List Told)). ss ++ behind) o.are ∙ append_assoc o.front (o.span ∷ o.short) behind;
+        are = ap (λ (ss : List (List ToldSecond)). ss ++ behind) o.are ∙ append_assoc o.front (o.span ∷ o.short) behind;
         known = known-more rule found later_found o.front (λ u is. sym (goes u) ∙ is) o.known;
         long = o.long;
         none = short-append o.short behind o.none short;
@@ -91,11 +91,11 @@ module _ (rule : Rule) (start : Start) (log later : RunLog) (found : List Break)
         lost = subst (λ (ls : List (List HistoryMinute)). AreLost ls b) (sym (lost-same o.front o.known front_stays)) o.lost;
       }
     where
-      all-append : (xs ys : List (List Told)) → AllByRecursion (λ (span : List Told). decided_of rule span ≡ []) xs → AllByRecursion (λ (span : List Told). decided_of rule span ≡ []) ys → AllByRecursion (λ (span : List Told). decided_of rule span ≡ []) (xs ++ ys)
+      all-append : (xs ys : List (List ToldSecond)) → AllByRecursion (λ (span : List ToldSecond). decided_of rule span ≡ []) xs → AllByRecursion (λ (span : List ToldSecond). decided_of rule span ≡ []) ys → AllByRecursion (λ (span : List ToldSecond). decided_of rule span ≡ []) (xs ++ ys)
       all-append [] ys h k = k
       all-append (x ∷ xs) ys h k = (h.0, all-append xs ys h.1 k)
 
-      short-append : (xs ys : List (List Told)) → any_long xs ≡ false → any_long ys ≡ false → any_long (xs ++ ys) ≡ false
+      short-append : (xs ys : List (List ToldSecond)) → any_long xs ≡ false → any_long ys ≡ false → any_long (xs ++ ys) ≡ false
       short-append [] ys h k = k
       short-append (x ∷ xs) ys h k = go (nat_lt 1 (length x)) h (λ rest. short-append xs ys rest k)
         where
@@ -104,7 +104,7 @@ module _ (rule : Rule) (start : Start) (log later : RunLog) (found : List Break)
           go false h rest = rest h
 
   -- the history of the spans that have ended is the same
-  pub ended-alike : (ended : List (List Told)) (b : Book) → IsShut rule start log found told ended [] b [] ⊎ IsOpen rule start log found told ended b → Alike rule (limit_of log) (limit_of later) ended
+  pub ended-alike : (ended : List (List ToldSecond)) (b : Book) → IsShut rule start log found told ended [] b [] ⊎ IsOpen rule start log found told ended b → Alike rule (limit_of log) (limit_of later) ended
   ended-alike ended b (inl sh) = known-open rule found log later same ended sh.known
   ended-alike ended b (inr o) =
       subst (Alike rule (limit_of log) (limit_of later)) (sym o.are)
@@ -113,14 +113,14 @@ module _ (rule : Rule) (start : Start) (log later : RunLog) (found : List Break)
         nothing-alike rule (limit_of log) (limit_of later) o.short o.nothing,
       ))
 
-  pub same-minutes : (ended : List (List Told)) → Stays rule start told more ended → Alike rule (limit_of log) (limit_of later) ended → history_by rule start (limit_of later) more [] ended ≡ history_by rule start (limit_of log) told [] ended
+  pub same-minutes : (ended : List (List ToldSecond)) → Stays rule start told more ended → Alike rule (limit_of log) (limit_of later) ended → history_by rule start (limit_of later) more [] ended ≡ history_by rule start (limit_of log) told [] ended
   same-minutes ended stays alike = sym (histories-alike rule start told more (limit_of log) (limit_of later) [] ended alike stays)
 
-  pub same-losses : (ended : List (List Told)) → Stays rule start told more ended → Alike rule (limit_of log) (limit_of later) ended → lost_by rule start (limit_of later) more [] ended ≡ lost_by rule start (limit_of log) told [] ended
+  pub same-losses : (ended : List (List ToldSecond)) → Stays rule start told more ended → Alike rule (limit_of log) (limit_of later) ended → lost_by rule start (limit_of later) more [] ended ≡ lost_by rule start (limit_of log) told [] ended
   same-losses ended stays alike = sym (losses-alike rule start told more (limit_of log) (limit_of later) [] ended alike stays)
 
 -- A MINUTE IS KEPT
-pub shut-kept : (rule : Rule) (start : Start) (log : RunLog) (found : List Break) (told : List Told) (ended : List (List Told)) (span : List Told) (b : Book) (i : HistoryMinute) (rest : List HistoryMinute) →
+pub shut-kept : (rule : Rule) (start : Start) (log : RunLog) (found : List Break) (told : List ToldSecond) (ended : List (List ToldSecond)) (span : List ToldSecond) (b : Book) (i : HistoryMinute) (rest : List HistoryMinute) →
     IsShut rule start log found told ended span b (i ∷ rest) → IsShut rule start log found told ended span (kept i b) rest
 shut-kept rule start log found told ended span b i rest sh = record {
   known = sh.known;
@@ -140,7 +140,7 @@ lost-broken : (ls : List (List HistoryMinute)) (o : Option HistoryMinute) (b : B
 lost-broken ls None b h = h
 lost-broken ls (Some i) b h = h
 
-pub cut-long : (rule : Rule) (start : Start) (log : RunLog) (found : List Break) (told : List Told) (ended : List (List Told)) (span : List Told) (b : Book) (maybe : Option HistoryMinute) (waiting : List HistoryMinute) (second : ℕ) →
+pub cut-long : (rule : Rule) (start : Start) (log : RunLog) (found : List Break) (told : List ToldSecond) (ended : List (List ToldSecond)) (span : List ToldSecond) (b : Book) (maybe : Option HistoryMinute) (waiting : List HistoryMinute) (second : ℕ) →
     nat_lt 1 (length span) ≡ true → cut_second (last span) ≡ Some second → tells_cut second log.breaks ≡ true → tells_cut second found ≡ false →
     IsShut rule start log found told ended span b waiting → IsOpen rule start log found told (ended ++ span ∷ []) (broken_at maybe b)
 cut-long rule start log found told ended span b maybe waiting second long is tells absent sh = record {
@@ -162,7 +162,7 @@ cut-long rule start log found told ended span b maybe waiting second long is tel
 
 -- WHAT WAS KEPT IS FOUND, where it was known already
 pub found-shut : (rule : Rule) (start : Start) (log later : RunLog) (known_breaks later_known : List Break) (same : (u : ℕ) → tells_cut u known_breaks ≡ true → kept_after log u ≡ kept_after later u)
-    (told : List Told) (ended : List (List Told)) (b : Book) (m : ℕ) → ((u : ℕ) → tells_cut u known_breaks ≡ true → tells_cut u later_known ≡ true) → All (λ i. i.minute ≤ m) b.sure →
+    (told : List ToldSecond) (ended : List (List ToldSecond)) (b : Book) (m : ℕ) → ((u : ℕ) → tells_cut u known_breaks ≡ true → tells_cut u later_known ≡ true) → All (λ i. i.minute ≤ m) b.sure →
     IsShut rule start log known_breaks told ended [] b [] → IsShut rule start later later_known told ended [] (found m b) []
 found-shut rule start log later known_breaks later_known same told ended b m goes low sh = record {
   known = known-more rule known_breaks later_known ended goes sh.known;
@@ -181,7 +181,7 @@ found-shut rule start log later known_breaks later_known same told ended b m goe
     sure = ap (up_to m) (all-none b sh.none) ∙ up_to-whole m b.sure low
 
 -- where it was not
-module _ (rule : Rule) (start : Start) (log : RunLog) (i m : ℕ) (told : List Told) (from until : ℕ) (ended : List (List Told)) (apart : AreApart from ended until)
+module _ (rule : Rule) (start : Start) (log : RunLog) (i m : ℕ) (told : List ToldSecond) (from until : ℕ) (ended : List (List ToldSecond)) (apart : AreApart from ended until)
     (b : Book) (low : All (λ j. j.minute ≤ m) b.sure) (o : IsOpen rule start log (take i log.breaks) told ended b) where
   abbrev later : RunLog
   later = found_log i m log

@@ -7,17 +7,17 @@ use Rattle.trace_model.specs.declared.Action.{Action}
 use Rattle.trace_model.specs.Trace.{TraceSecond}
 use Rattle.log_model.specs.Log.{RunLog, Phase, In, Keeping, cut_in, is_torn_in, found_in}
 use Rattle.log_model.specs.Slots.{Slots, refusal}
-use Rattle.log_model.specs.Course.{Course, Told, Before, Moved, moved_by, unmoved, answered, begins, slot_told, both_told, acted, all_acted, fresh, cut_told, lit_course, has_power, second_told, before_next}
+use Rattle.log_model.specs.Course.{Course, ToldSecond, Before, Moved, moved_by, unmoved, answered, begins, slot_told, both_told, acted, all_acted, fresh, cut_told, lit_course, has_power, second_told, before_next}
 use Rattle.log_model.specs.Spans.{go_on, spans_with}
 use Rattle.log_model.proofs.Spanning.{spans-new, spans-on}
 use Rattle.history_model.proofs.Growing.{go_on-last}
 use Rattle.run_unit_course.specs.Turn.{cut_at_end, cut_last, begins_with}
 use Rattle.run_unit_course.specs.Followed.{Lit, as_spans}
 use Rattle.run_unit_course.proofs.Spans.{cut_spans, cut-push, cut-spans-last}
-use Rattle.run_course.specs.Followed.{Comes, IsGoing, IsLost, IsSupplied}
+use Rattle.run_course.specs.Followed.{Comes, PowerGoesOn, IsLost, IsSupplied}
 
 -- WITH POWER
-pub record IsLitAs (log : RunLog) (before : Before) (s : TraceSecond) (t : Told) : Type 0 where
+pub record IsLitAs (log : RunLog) (before : Before) (s : TraceSecond) (t : ToldSecond) : Type 0 where
   pub lit : t.lit ≡ true
   pub starts : t.starts ≡ not before.running
   pub cut : t.cut ≡ is_some (cut_in log s.number)
@@ -28,7 +28,7 @@ pub lit-told : (log : RunLog) (before : Before) (s : TraceSecond) → has_power 
 lit-told log before s power = rw power (record { lit = refl; starts = refl; cut = refl; number = refl; given = refl })
 
 -- without
-pub record IsDarkAs (s : TraceSecond) (t : Told) : Type 0 where
+pub record IsDarkAs (s : TraceSecond) (t : ToldSecond) : Type 0 where
   pub lit : t.lit ≡ false
   pub cut : t.cut ≡ false
   pub number : t.second.number ≡ s.number
@@ -50,16 +50,16 @@ comes-power before s next h number given =
     ap (λ (b : Bool). b && (not before.gone || nat_eq (s.number % 60) 0 || not before.given)) given
     ∙ ap (λ (n : ℕ). true && (not before.gone || nat_eq (n % 60) 0 || not before.given)) number ∙ h.comes
 
-pub going-power : (before : Before) (s : TraceSecond) → IsGoing before → s.has_power ≡ true → has_power before s ≡ true
+pub going-power : (before : Before) (s : TraceSecond) → PowerGoesOn before → s.has_power ≡ true → has_power before s ≡ true
 going-power before s h given =
     ap (λ (b : Bool). b && (not before.gone || nat_eq (s.number % 60) 0 || not before.given)) given
     ∙ ap (λ (b : Bool). true && (not b || nat_eq (s.number % 60) 0 || not before.given)) h.gone
 
-pub lit-power : (span : List Told) (before : Before) (s : TraceSecond) (next : ℕ) → IsSupplied (Lit span) before next → s.number ≡ next → s.has_power ≡ true → has_power before s ≡ true
+pub lit-power : (span : List ToldSecond) (before : Before) (s : TraceSecond) (next : ℕ) → IsSupplied (Lit span) before next → s.number ≡ next → s.has_power ≡ true → has_power before s ≡ true
 lit-power [] before s next h number given = comes-power before s next h number given
 lit-power (t ∷ span) before s next h number given = going-power before s h given
 
-pub lit-starts : (span : List Told) (before : Before) (next : ℕ) → IsSupplied (Lit span) before next → not before.running ≡ begins_with span
+pub lit-starts : (span : List ToldSecond) (before : Before) (next : ℕ) → IsSupplied (Lit span) before next → not before.running ≡ begins_with span
 lit-starts [] before next h = ap not h.running
 lit-starts (t ∷ span) before next h = ap not h.running
 
@@ -95,21 +95,21 @@ and-false : (b : Bool) → (b && false) ≡ false
 and-false true = refl
 and-false false = refl
 
-pub next-going : (before : Before) (t : Told) → t.lit ≡ true → t.cut ≡ false → t.given ≡ true → IsGoing (before_next before t)
+pub next-going : (before : Before) (t : ToldSecond) → t.lit ≡ true → t.cut ≡ false → t.given ≡ true → PowerGoesOn (before_next before t)
 next-going before t lit cut given = record {
   running = ap (λ (b : Bool). b && not t.cut) lit ∙ ap (λ (b : Bool). true && not b) cut;
   gone = ap (λ (b : Bool). b || (before.gone && not t.lit)) cut ∙ ap (λ (b : Bool). false || (before.gone && not b)) lit ∙ and-false before.gone;
   given = given;
 }
 
-pub next-lost : (before : Before) (t : Told) → t.cut ≡ true → t.given ≡ true → IsLost (before_next before t)
+pub next-lost : (before : Before) (t : ToldSecond) → t.cut ≡ true → t.given ≡ true → IsLost (before_next before t)
 next-lost before t cut given = record {
   running = ap (λ (b : Bool). t.lit && not b) cut ∙ and-false t.lit;
   gone = ap (λ (b : Bool). b || (before.gone && not t.lit)) cut;
   given = given;
 }
 
-pub next-dark : (before : Before) (t : Told) → IsLost before → t.lit ≡ false → t.cut ≡ false → t.given ≡ true → IsLost (before_next before t)
+pub next-dark : (before : Before) (t : ToldSecond) → IsLost before → t.lit ≡ false → t.cut ≡ false → t.given ≡ true → IsLost (before_next before t)
 next-dark before t h lit cut given = record {
   running = ap (λ (b : Bool). b && not t.cut) lit;
   gone = ap (λ (b : Bool). b || (before.gone && not t.lit)) cut ∙ ap (λ (b : Bool). false || (b && not t.lit)) h.gone ∙ ap (λ (b : Bool). false || (true && not b)) lit;
@@ -121,7 +121,7 @@ pub record IsOff (before : Before) : Type 0 where
   pub running : before.running ≡ false
   pub given : before.given ≡ false
 
-pub next-off : (before : Before) (t : Told) → t.lit ≡ false → t.given ≡ false → IsOff (before_next before t)
+pub next-off : (before : Before) (t : ToldSecond) → t.lit ≡ false → t.given ≡ false → IsOff (before_next before t)
 next-off before t lit given = record { running = ap (λ (b : Bool). b && not t.cut) lit; given = given }
 
 pub off-comes : (before : Before) → IsOff before → (n : ℕ) → Comes before n
@@ -135,26 +135,26 @@ off-comes before h n = record {
     either false = refl
 
 -- IN THE SPANS
-pub spans-lit : (ended : List (List Told)) (span : List Told) (t : Told) → t.lit ≡ true → t.starts ≡ begins_with span → spans_with (ended ++ as_spans span) t ≡ ended ++ (span ++ t ∷ []) ∷ []
-spans-lit ended [] t lit starts = spans-new (ended ++ []) t lit starts ∙ ap (λ (ss : List (List Told)). ss ++ (t ∷ []) ∷ []) (append-nil ended)
+pub spans-lit : (ended : List (List ToldSecond)) (span : List ToldSecond) (t : ToldSecond) → t.lit ≡ true → t.starts ≡ begins_with span → spans_with (ended ++ as_spans span) t ≡ ended ++ (span ++ t ∷ []) ∷ []
+spans-lit ended [] t lit starts = spans-new (ended ++ []) t lit starts ∙ ap (λ (ss : List (List ToldSecond)). ss ++ (t ∷ []) ∷ []) (append-nil ended)
 spans-lit ended (x ∷ span) t lit starts = spans-on (ended ++ (x ∷ span) ∷ []) t lit starts ∙ go_on-last ended (x ∷ span) t
 
-pub solid-push : (span : List Told) (t : Told) → as_spans (span ++ t ∷ []) ≡ (span ++ t ∷ []) ∷ []
+pub solid-push : (span : List ToldSecond) (t : ToldSecond) → as_spans (span ++ t ∷ []) ≡ (span ++ t ∷ []) ∷ []
 solid-push [] t = refl
 solid-push (x ∷ span) t = refl
 
-pub solid-cut : (t : Told) (span : List Told) → as_spans (cut_last (t ∷ span)) ≡ cut_last (t ∷ span) ∷ []
+pub solid-cut : (t : ToldSecond) (span : List ToldSecond) → as_spans (cut_last (t ∷ span)) ≡ cut_last (t ∷ span) ∷ []
 solid-cut t [] = refl
 solid-cut t (u ∷ span) = refl
 
 -- THE SECOND TURNS OUT TO BE A CUT'S, behind all of its actions
-cut-on : (spans : List (List Told)) (t : Told) → go_on spans (cut_at_end t) ≡ cut_spans (go_on spans t)
+cut-on : (spans : List (List ToldSecond)) (t : ToldSecond) → go_on spans (cut_at_end t) ≡ cut_spans (go_on spans t)
 cut-on [] t = refl
-cut-on (x ∷ []) t = ap (λ (s : List Told). s ∷ []) (sym (cut-push x t))
-cut-on (x ∷ y ∷ []) t = ap (λ (ss : List (List Told)). x ∷ ss) (cut-on (y ∷ []) t)
-cut-on (x ∷ y ∷ z ∷ spans) t = ap (λ (ss : List (List Told)). x ∷ ss) (cut-on (y ∷ z ∷ spans) t)
+cut-on (x ∷ []) t = ap (λ (s : List ToldSecond). s ∷ []) (sym (cut-push x t))
+cut-on (x ∷ y ∷ []) t = ap (λ (ss : List (List ToldSecond)). x ∷ ss) (cut-on (y ∷ []) t)
+cut-on (x ∷ y ∷ z ∷ spans) t = ap (λ (ss : List (List ToldSecond)). x ∷ ss) (cut-on (y ∷ z ∷ spans) t)
 
-pub cut-with : (spans : List (List Told)) (t : Told) → t.lit ≡ true → spans_with spans (cut_at_end t) ≡ cut_spans (spans_with spans t)
+pub cut-with : (spans : List (List ToldSecond)) (t : ToldSecond) → t.lit ≡ true → spans_with spans (cut_at_end t) ≡ cut_spans (spans_with spans t)
 cut-with spans t lit = go t.starts refl
   where
     go : (b : Bool) → t.starts ≡ b → spans_with spans (cut_at_end t) ≡ cut_spans (spans_with spans t)
@@ -196,7 +196,7 @@ module _ (log later : RunLog) (s : TraceSecond) (torn : (p : Phase) (slot : Slot
       ∙ ap (cut_told true) keeps
       ∙ sym (ap (λ (o : Option ℕ). cut_told true (cut_told (is_some o) whole)) none)
 
-  abbrev lit_as : (starts : Bool) → Course → (cut : Bool) → Told
+  abbrev lit_as : (starts : Bool) → Course → (cut : Bool) → ToldSecond
   lit_as starts c cut = record { second = record { number = s.number; speed = s.speed; picks = c.picks }; given = s.has_power; lit = true; starts = starts; cut = cut; course = c }
 
   as-lit : (l : RunLog) (before : Before) → has_power before s ≡ true → second_told l before s ≡ lit_as (not before.running) (lit_course l s (not before.running) before.slots) (is_some (cut_in l s.number))

@@ -12,7 +12,7 @@ use Rattle.minute_model.specs.Activity.{last}
 use Rattle.log_model.specs.declared.lines.Break.{Break}
 use Rattle.log_model.specs.declared.lines.Refused.{Refused}
 use Rattle.log_model.specs.Log.{RunLog, cut_in, kept_after}
-use Rattle.log_model.specs.Course.{Told, Went, went}
+use Rattle.log_model.specs.Course.{ToldSecond, Went, went}
 use Rattle.log_model.specs.Spans.{spans_of, AreInOrder}
 use Rattle.history_model.specs.Minutes.{HistoryMinute}
 use Rattle.history_model.specs.Presence.{Start}
@@ -26,7 +26,7 @@ use Rattle.history_model.proofs.Filters.{all-front, all-back}
 use Rattle.history_model.proofs.Told.{rises}
 use Rattle.run_unit_course.specs.Turn.{cut_last}
 use Rattle.run_unit_course.specs.Lines.{cut_at, found_from, tells_cut}
-use Rattle.run_unit_course.specs.Followed.{Supply, Lit, Due, Lost, IsKnown, MayPower, MayFail, IsDark, as_spans}
+use Rattle.run_unit_course.specs.Followed.{UnitPower, Lit, Due, Lost, IsKnown, MayPower, MayFail, IsDark, as_spans}
 use Rattle.run_unit_course.specs.Legs.{Reckoned, Travel, reckoned, not_travelled, stranded_at, resumed, all_travelled, kilometres_of, travelled_by, IsLeg, AreLegs}
 use Rattle.run_unit_course.specs.Travelled.{MayShow}
 use Rattle.run_unit_course.proofs.Lines.{kept-now, tells-front, tells-behind, tells-found, take-all}
@@ -36,7 +36,7 @@ use Rattle.run_unit_course.proofs.Parts.{known-append, known-nothing, known-more
 use Rattle.run_unit_course.proofs.Legs.{travelled_by-push, travelled-all, travelled-none, travelled-earlier, travelled-begun, stranded-begun, nothing_of, kilometres-more, kilometres-leg, kilometres-none, legs-nothing, legs-alike, legs-agree, legs-parts, short-decides, short-shorter, found-again, leg-kept, leg-begun}
 use Rattle.run_unit_course.proofs.Travelled.{whole-legs}
 use Rattle.run_course.specs.Moments.{and_break}
-use Rattle.run_course.specs.Followed.{Progress, Followed, Comes, IsLost}
+use Rattle.run_course.specs.Followed.{Progress, BookFollowsRun, Comes, IsLost}
 use Rattle.run_course.specs.Seconds.{GoesOnBy, next_told, kept_all, broken_at}
 use Rattle.run_course.specs.Travelled.{AreClosedLegs, AreShutLegs, AreOpenLegs, AreEndedLegs, IsReckoned, HasLegs, NothingIsTravelled, FoundIsTravelled, AFailureIsTravelled, ASecondIsTravelled, ABrokenSecondIsTravelled, ADarkMinuteIsTravelled, AnOffLineIsTravelled, AnOffCutIsTravelled, ShownLegsAreThose}
 use Rattle.run_course.proofs.Lookups.{kept-by}
@@ -51,7 +51,7 @@ use Rattle.run_course.proofs.Told.{lost-comes, solid-push, solid-cut}
 abbrev AreAs : List HistoryMinute → List Minute → Type 0
 AreAs is ds = map (λ (i : HistoryMinute). i.minute) is ≡ map (λ (d : Minute). d.minute) ds
 
-as-after : (start : Start) (told : List Told) (past : List HistoryMinute) (ds : List Minute) → AreAs (minutes_after start told past ds) ds
+as-after : (start : Start) (told : List ToldSecond) (past : List HistoryMinute) (ds : List Minute) → AreAs (minutes_after start told past ds) ds
 as-after start told past [] = refl
 as-after start told past (d ∷ ds) = ap (λ (ns : List ℕ). d.minute ∷ ns) (as-after start told (past ++ seated start told past d ∷ []) ds)
 
@@ -70,13 +70,13 @@ as-append is js ds es one other =
     ∙ sym (map-append (λ (d : Minute). d.minute) ds es)
 
 -- LINES AND SPANS MORE
-nothing-append : (rule : Rule) (xs ys : List (List Told)) → AllByRecursion (λ (span : List Told). decided_of rule span ≡ []) xs → AllByRecursion (λ (span : List Told). decided_of rule span ≡ []) ys → AllByRecursion (λ (span : List Told). decided_of rule span ≡ []) (xs ++ ys)
+nothing-append : (rule : Rule) (xs ys : List (List ToldSecond)) → AllByRecursion (λ (span : List ToldSecond). decided_of rule span ≡ []) xs → AllByRecursion (λ (span : List ToldSecond). decided_of rule span ≡ []) ys → AllByRecursion (λ (span : List ToldSecond). decided_of rule span ≡ []) (xs ++ ys)
 nothing-append rule [] ys h k = k
 nothing-append rule (x ∷ xs) ys h k = (h.0, nothing-append rule xs ys h.1 k)
 
 module _ (rule : Rule) (first : ℕ) (log later : RunLog) (known_ : List Break) (same : (u : ℕ) → tells_cut u known_ ≡ true → kept_after log u ≡ kept_after later u) where
   -- the span goes on, and minutes are kept
-  closed-on : (later_known : List Break) (ended : List (List Told)) (span longer : List Told) (b c : Book) (before : List ℕ) → ((u : ℕ) → tells_cut u known_ ≡ true → tells_cut u later_known ≡ true) →
+  closed-on : (later_known : List Break) (ended : List (List ToldSecond)) (span longer : List ToldSecond) (b c : Book) (before : List ℕ) → ((u : ℕ) → tells_cut u known_ ≡ true → tells_cut u later_known ≡ true) →
       (nat_lt 1 (length longer) ≡ false → (nat_lt 1 (length span) ≡ false) × (c ≡ b)) → AreClosedLegs rule first log known_ ended span b before → AreClosedLegs rule first later later_known ended longer c before
   closed-on later_known ended span longer b c before goes still h = record {
     known = known-more rule known_ later_known ended goes h.known;
@@ -89,8 +89,8 @@ module _ (rule : Rule) (first : ℕ) (log later : RunLog) (known_ : List Break) 
   }
 
   -- spans are added that decided nothing
-  closed-off : (later_known : List Break) (ended behind : List (List Told)) (span : List Told) (b : Book) (before : List ℕ) → ((u : ℕ) → tells_cut u known_ ≡ true → tells_cut u later_known ≡ true) → nat_lt 1 (length span) ≡ false →
-      AllByRecursion (λ (span : List Told). decided_of rule span ≡ []) behind → any_long behind ≡ false → AreClosedLegs rule first log known_ ended span b before → AreClosedLegs rule first later later_known (ended ++ behind) [] b before
+  closed-off : (later_known : List Break) (ended behind : List (List ToldSecond)) (span : List ToldSecond) (b : Book) (before : List ℕ) → ((u : ℕ) → tells_cut u known_ ≡ true → tells_cut u later_known ≡ true) → nat_lt 1 (length span) ≡ false →
+      AllByRecursion (λ (span : List ToldSecond). decided_of rule span ≡ []) behind → any_long behind ≡ false → AreClosedLegs rule first log known_ ended span b before → AreClosedLegs rule first later later_known (ended ++ behind) [] b before
   closed-off later_known ended behind span b before goes one none short c = record {
     known = known-append rule later_known ended behind (known-more rule known_ later_known ended goes c.known) (known-nothing rule later_known behind none);
     legs = c.legs ++ nothing_of behind;
@@ -104,16 +104,16 @@ module _ (rule : Rule) (first : ℕ) (log later : RunLog) (known_ : List Break) 
     sums = kilometres-more c.legs behind ∙ c.sums;
   }
 
-  open-off : (later_known : List Break) (ended behind : List (List Told)) (b : Book) (g : Travel) → ((u : ℕ) → tells_cut u known_ ≡ tells_cut u later_known) → ((u : ℕ) → tells_cut u log.breaks ≡ true → tells_cut u later.breaks ≡ true) →
-      AllByRecursion (λ (span : List Told). decided_of rule span ≡ []) behind → any_long behind ≡ false → AreOpenLegs rule first log known_ ended b g → AreOpenLegs rule first later later_known (ended ++ behind) b g
+  open-off : (later_known : List Break) (ended behind : List (List ToldSecond)) (b : Book) (g : Travel) → ((u : ℕ) → tells_cut u known_ ≡ tells_cut u later_known) → ((u : ℕ) → tells_cut u log.breaks ≡ true → tells_cut u later.breaks ≡ true) →
+      AllByRecursion (λ (span : List ToldSecond). decided_of rule span ≡ []) behind → any_long behind ≡ false → AreOpenLegs rule first log known_ ended b g → AreOpenLegs rule first later later_known (ended ++ behind) b g
   open-off later_known ended behind b g goes tells nothing short o = record {
     front = o.front;
     span = o.span;
     short = o.short ++ behind;
-    are = ap (λ (ss : List (List Told)). ss ++ behind) o.are ∙ append_assoc o.front (o.span ∷ o.short) behind;
+    are = ap (λ (ss : List (List ToldSecond)). ss ++ behind) o.are ∙ append_assoc o.front (o.span ∷ o.short) behind;
     known = known-more rule known_ later_known o.front (λ u is. sym (goes u) ∙ is) o.known;
     long = o.long;
-    none = list_any-append (λ (s : List Told). nat_lt 1 (length s)) o.short behind ∙ ap (λ (b : Bool). b || any_long behind) o.none ∙ short;
+    none = list_any-append (λ (s : List ToldSecond). nat_lt 1 (length s)) o.short behind ∙ ap (λ (b : Bool). b || any_long behind) o.none ∙ short;
     nothing = nothing-append rule o.short behind o.nothing nothing;
     second = o.second;
     cut = o.cut;
@@ -125,8 +125,8 @@ module _ (rule : Rule) (first : ℕ) (log later : RunLog) (known_ : List Break) 
     leg = o.leg;
   }
 
-ended-off : (rule : Rule) (first : ℕ) (log later : RunLog) (i : ℕ) (ended behind : List (List Told)) (b : Book) (g : Travel) → take i later.breaks ≡ take i log.breaks → ((u : ℕ) → tells_cut u (take i log.breaks) ≡ true → kept_after log u ≡ kept_after later u) →
-    ((u : ℕ) → tells_cut u log.breaks ≡ true → tells_cut u later.breaks ≡ true) → AllByRecursion (λ (span : List Told). decided_of rule span ≡ []) behind → any_long behind ≡ false →
+ended-off : (rule : Rule) (first : ℕ) (log later : RunLog) (i : ℕ) (ended behind : List (List ToldSecond)) (b : Book) (g : Travel) → take i later.breaks ≡ take i log.breaks → ((u : ℕ) → tells_cut u (take i log.breaks) ≡ true → kept_after log u ≡ kept_after later u) →
+    ((u : ℕ) → tells_cut u log.breaks ≡ true → tells_cut u later.breaks ≡ true) → AllByRecursion (λ (span : List ToldSecond). decided_of rule span ≡ []) behind → any_long behind ≡ false →
     AreEndedLegs rule first log (take i log.breaks) ended b g → AreEndedLegs rule first later (take i later.breaks) (ended ++ behind) b g
 ended-off rule first log later i ended behind b g front same tells nothing short (inl s) = inl (record {
   earlier = closed-off rule first log later (take i log.breaks) same (take i later.breaks) ended behind [] b g.before (λ u is. ap (tells_cut u) front ∙ is) refl nothing short s.earlier;
@@ -150,7 +150,7 @@ module _ (rule : Rule) (first : ℕ) (log : RunLog) (unfound k leg : ℕ) (b : B
   again : (kept : ℕ) → IsMark first (all (found k b)) kept → All (λ i. i.minute ≤ kept) (found k b).sure → kept ≡ k
   again kept mark low = found-again first k kept (all b) early shown.mark (subst (λ (is : List HistoryMinute). IsMark first is kept) (all-found k b) mark) low
 
-  found-shut : (ended : List (List Told)) → AreShutLegs rule first log (take unfound log.breaks) ended [] b g → AreShutLegs rule first found_ all_known ended [] (found k b) (resumed leg g)
+  found-shut : (ended : List (List ToldSecond)) → AreShutLegs rule first log (take unfound log.breaks) ended [] b g → AreShutLegs rule first found_ all_known ended [] (found k b) (resumed leg g)
   found-shut ended s = record {
     earlier = record {
       known = known-more rule (take unfound log.breaks) all_known ended (λ u is. goes u (tells-front u unfound log.breaks is)) s.earlier.known;
@@ -167,18 +167,18 @@ module _ (rule : Rule) (first : ℕ) (log : RunLog) (unfound k leg : ℕ) (b : B
       nothing : leg ≡ 0
       nothing = ⊎_elim (λ (is : leg ≡ g.sure). is ∙ s.sure ∙ ap travelled_by (decided-empty rule)) (λ (is : g.maybe ≡ Some leg). absurd (let other : None ≡ Some leg = sym s.none ∙ is in cc)) shown.side
 
-  found-open : (ended : List (List Told)) → AreOpenLegs rule first log (take unfound log.breaks) ended b g → AreShutLegs rule first found_ all_known ended [] (found k b) (resumed leg g)
+  found-open : (ended : List (List ToldSecond)) → AreOpenLegs rule first log (take unfound log.breaks) ended b g → AreShutLegs rule first found_ all_known ended [] (found k b) (resumed leg g)
   found-open ended o = record {
     earlier = record {
       known = subst (AllByRecursion (IsKnown rule all_known)) (sym o.are)
           (known-append rule all_known o.front (o.span ∷ o.short) (known-more rule (take unfound log.breaks) all_known o.front (λ u is. goes u (tells-front u unfound log.breaks is)) o.known)
           (inr (o.second, o.cut, goes o.second o.told_cut), known-nothing rule all_known o.short o.nothing));
       legs = o.legs ++ leg ∷ nothing_of o.short;
-      closed = subst (λ (ss : List (List Told)). AreLegs rule (closed_limit found_) 0 ss (o.legs ++ leg ∷ nothing_of o.short)) (sym o.are)
+      closed = subst (λ (ss : List (List ToldSecond)). AreLegs rule (closed_limit found_) 0 ss (o.legs ++ leg ∷ nothing_of o.short)) (sym o.are)
           (legs-parts rule (closed_limit found_) 0 o.front (o.span ∷ o.short) o.legs (leg ∷ nothing_of o.short) front
           (subst (λ (l : Option ℕ). IsLeg (unwrap_or l 0) (decided_of rule o.span) leg) (sym limit) (o.leg k leg shown), legs-nothing rule (closed_limit found_) 0 o.short o.nothing));
       so_far = λ one kept mark low. subst (λ (j : ℕ). AreLegs rule (limit_of found_) j ended (o.legs ++ leg ∷ nothing_of o.short)) (sym (again kept mark low))
-          (subst (λ (ss : List (List Told)). AreLegs rule (limit_of found_) k ss (o.legs ++ leg ∷ nothing_of o.short)) (sym o.are)
+          (subst (λ (ss : List (List ToldSecond)). AreLegs rule (limit_of found_) k ss (o.legs ++ leg ∷ nothing_of o.short)) (sym o.are)
           (whole-legs rule found_ (take unfound log.breaks) o.front o.span o.short o.legs k leg o.known o.long o.none o.nothing front (o.leg k leg shown)));
       sums = kilometres-leg o.legs g.before leg o.short o.sums;
     };
@@ -251,7 +251,7 @@ none-alike None is = refl
 none-alike (Some i) is = absurd (cc)
 
 -- a span that ends with a cut, some of whose minutes are kept
-module _ (rule : Rule) (start : Start) (from first : ℕ) (done : List TraceSecond) (log : RunLog) (unfound next : ℕ) (span : List Told) (solid : as_spans span ≡ span ∷ []) (b : Book) (i : Option HistoryMinute) (rs : List HistoryMinute)
+module _ (rule : Rule) (start : Start) (from first : ℕ) (done : List TraceSecond) (log : RunLog) (unfound next : ℕ) (span : List ToldSecond) (solid : as_spans span ≡ span ∷ []) (b : Book) (i : Option HistoryMinute) (rs : List HistoryMinute)
     (c : Core rule start from first done log unfound next (Lit span) b (option_to_list i ++ rs)) (second : ℕ) (is : cut_second (last span) ≡ Some second) (tells : tells_cut second log.breaks ≡ true) (absent : tells_cut second (take unfound log.breaks) ≡ false)
     (g : Travel) (legs : AreClosedLegs rule first log (take unfound log.breaks) c.ended span b g.before) (parts : List Minute) (d : Option Minute) (rest : List Minute) (are : decided_of rule span ≡ parts ++ (option_to_list d ++ rest))
     (earlier ps : List HistoryMinute) (sure_is : b.sure ≡ earlier ++ ps) (as_ : AreAs ps parts) (behind : AreAs (option_to_list i ++ rs) (option_to_list d ++ rest)) (alike : is_some i ≡ is_some d)
@@ -299,7 +299,7 @@ module _ (rule : Rule) (start : Start) (from first : ℕ) (done : List TraceSeco
 -- THE STEPS
 pub nothing-travelled : NothingIsTravelled
 unfolding went spans_of
-nothing-travelled rule first image p is = subst (λ (s : Supply). HasLegs rule first [] (record p { supply = s }) (not_travelled image)) (sym is) (record {
+nothing-travelled rule first image p is = subst (λ (s : UnitPower). HasLegs rule first [] (record p { supply = s }) (not_travelled image)) (sym is) (record {
   ended = [];
   spans = refl;
   legs = inl (record {
@@ -310,11 +310,11 @@ nothing-travelled rule first image p is = subst (λ (s : Supply). HasLegs rule f
   begun = λ e at. absurd (omega (arith, at.1));
 })
 
-legs-by : (rule : Rule) (first : ℕ) (done : List TraceSecond) (p : Progress) (g : Travel) → HasLegs rule first done p g → (s : Supply) → p.supply ≡ s → HasLegs rule first done (record p { supply = s }) g
-legs-by rule first done p g h s is = subst (λ (s : Supply). HasLegs rule first done (record p { supply = s }) g) is h
+legs-by : (rule : Rule) (first : ℕ) (done : List TraceSecond) (p : Progress) (g : Travel) → HasLegs rule first done p g → (s : UnitPower) → p.supply ≡ s → HasLegs rule first done (record p { supply = s }) g
+legs-by rule first done p g h s is = subst (λ (s : UnitPower). HasLegs rule first done (record p { supply = s }) g) is h
 
 -- the minutes of the book are later than the last-kept one at the start
-after-first : (rule : Rule) (start : Start) (from first : ℕ) (done : List TraceSecond) (p : Progress) → Followed rule start from first done p → All (λ i. first < i.minute) (all p.book)
+after-first : (rule : Rule) (start : Start) (from first : ℕ) (done : List TraceSecond) (p : Progress) → BookFollowsRun rule start from first done p → All (λ i. first < i.minute) (all p.book)
 after-first rule start from first done p f =
     let front = f.follows.front in
     let later = rising-all (from / 60) ((from + length done) / 60) (all p.book ++ front.0)
@@ -325,7 +325,7 @@ after-first rule start from first done p f =
 pub found-travelled : FoundIsTravelled
 found-travelled rule start from first done p f g h may k leg shown = by p.supply may h
   where
-    at : (ended : List (List Told)) → spans_of (went p.log done).told ≡ ended ++ [] → AreEndedLegs rule first p.log (take p.unfound p.log.breaks) ended p.book g →
+    at : (ended : List (List ToldSecond)) → spans_of (went p.log done).told ≡ ended ++ [] → AreEndedLegs rule first p.log (take p.unfound p.log.breaks) ended p.book g →
         HasLegs rule first done (record p { log = found_log p.unfound k p.log; unfound = length (found_from p.unfound k p.log.breaks); supply = Lit []; book = found k p.book; waiting = [] }) (resumed leg g)
     at ended spans legs = record {
       ended = ended;
@@ -339,7 +339,7 @@ found-travelled rule start from first done p f g h may k leg shown = by p.supply
           (same-on rule (spans_of (went p.log done).told) (spans_of (went (found_log p.unfound k p.log) done).told) (ap (λ (w : Went). spans_of w.told) (went-found p.log p.unfound k from done f.order))) e (h.begun e at);
     }
 
-    by : (s : Supply) → MayPower s p.next → HasLegs rule first done (record p { supply = s }) g →
+    by : (s : UnitPower) → MayPower s p.next → HasLegs rule first done (record p { supply = s }) g →
         HasLegs rule first done (record p { log = found_log p.unfound k p.log; unfound = length (found_from p.unfound k p.log.breaks); supply = Lit []; book = found k p.book; waiting = [] }) (resumed leg g)
     by (Lit span) may h = absurd may
     by Due may h = at h.ended h.spans h.legs
@@ -349,14 +349,14 @@ pub failure-travelled : AFailureIsTravelled
 failure-travelled rule start from first done p f g h may none s later by = at_supply p.supply may (with-waiting rule start from first done p [] none f) h
   where
     at : (order : AreInOrder from done) (next : p.next ≡ from + length done) (within : p.unfound ≤ length p.log.breaks) → Core rule start from first done p.log p.unfound p.next Due p.book [] → Comes (went p.log done).before p.next →
-        (ended : List (List Told)) → spans_of (went p.log done).told ≡ ended ++ [] → AreEndedLegs rule first p.log (take p.unfound p.log.breaks) ended p.book g →
+        (ended : List (List ToldSecond)) → spans_of (went p.log done).told ≡ ended ++ [] → AreEndedLegs rule first p.log (take p.unfound p.log.breaks) ended p.book g →
         HasLegs rule first (done ++ s ∷ []) (record { log = later; unfound = p.unfound; next = suc p.next; begun = length s.actions; supply = Lost; book = p.book; waiting = [] }) g
     at order next within core comes ended spans legs =
-        let t : Told = next_told later done s in
+        let t : ToldSecond = next_told later done s in
         let adds = comes-adds rule start from first done p order next within s later by core comes in
         record {
           ended = ended ++ (t ∷ []) ∷ [];
-          spans = adds.0 ∙ ap (λ (ss : List (List Told)). ss ++ (t ∷ []) ∷ []) (spans ∙ append-nil ended) ∙ sym (append-nil (ended ++ (t ∷ []) ∷ []));
+          spans = adds.0 ∙ ap (λ (ss : List (List ToldSecond)). ss ++ (t ∷ []) ∷ []) (spans ∙ append-nil ended) ∙ sym (append-nil (ended ++ (t ∷ []) ∷ []));
           legs = ended-off rule first p.log later p.unfound ended ((t ∷ []) ∷ []) p.book g (front-now rule start from first done p order next within s later by)
               (kept-same rule start from first done p order next within s later by) (tells-now rule start from first done p order next within s later by) (short-none rule t, tt) refl legs;
           begun = λ e at. reckoned-on rule p.log later (take p.unfound p.log.breaks) (take p.unfound later.breaks) (spans_of (went p.log done).told) (spans_of (went later (done ++ s ∷ [])).told)
@@ -364,7 +364,7 @@ failure-travelled rule start from first done p f g h may none s later by = at_su
               (more-on rule (spans_of (went p.log done).told) (spans_of (went later (done ++ s ∷ [])).told) ((t ∷ []) ∷ []) adds.0) e (h.begun e at);
         }
 
-    at_supply : (sp : Supply) → MayFail sp p.next → Followed rule start from first done (record p { supply = sp; waiting = [] }) → HasLegs rule first done (record p { supply = sp }) g →
+    at_supply : (sp : UnitPower) → MayFail sp p.next → BookFollowsRun rule start from first done (record p { supply = sp; waiting = [] }) → HasLegs rule first done (record p { supply = sp }) g →
         HasLegs rule first (done ++ s ∷ []) (record { log = later; unfound = p.unfound; next = suc p.next; begun = length s.actions; supply = Lost; book = p.book; waiting = [] }) g
     at_supply (Lit []) may k l =
         at k.order k.next k.unfound (lit-due rule start from first done p.log p.unfound p.next p.book (core-of rule start from first done (record p { supply = Lit []; waiting = [] }) k)) k.power l.ended l.spans (inl l.legs)
@@ -385,15 +385,15 @@ kept-sure [] b = sym (append-nil b.sure)
 kept-sure (i ∷ is) b = kept-sure is (record b { sure = b.sure ++ i ∷ []; maybe = None }) ∙ append_assoc b.sure (i ∷ []) is
 
 -- ONE SECOND MORE with power
-module _ (rule : Rule) (start : Start) (from first : ℕ) (done : List TraceSecond) (p : Progress) (f0 : Followed rule start from first done p) (g : Travel) (h0 : HasLegs rule first done p g) (span : List Told) (is : p.supply ≡ Lit span) (none_waits : p.waiting ≡ [])
+module _ (rule : Rule) (start : Start) (from first : ℕ) (done : List TraceSecond) (p : Progress) (f0 : BookFollowsRun rule start from first done p) (g : Travel) (h0 : HasLegs rule first done p g) (span : List ToldSecond) (is : p.supply ≡ Lit span) (none_waits : p.waiting ≡ [])
     (s : TraceSecond) (later : RunLog) (by : GoesOnBy p later s) where
-  abbrev f : Followed rule start from first done (record p { supply = Lit span; waiting = [] })
+  abbrev f : BookFollowsRun rule start from first done (record p { supply = Lit span; waiting = [] })
   f = lit-parts rule start from first done p f0 span is none_waits
 
   abbrev l : HasLegs rule first done (record p { supply = Lit span }) g
   l = legs-by rule first done p g h0 (Lit span) is
 
-  abbrev t : Told
+  abbrev t : ToldSecond
   t = next_told later done s
 
   abbrev c : Core rule start from first done p.log p.unfound p.next (Lit span) p.book []
@@ -411,7 +411,7 @@ module _ (rule : Rule) (start : Start) (from first : ℕ) (done : List TraceSeco
       closed-on rule first p.log later (take p.unfound p.log.breaks) (kept-same rule start from first done p f.order f.next f.unfound s later by) (take p.unfound later.breaks) f.ended span (span ++ t ∷ []) p.book b g.before
       (λ u tells. ap (tells_cut u) (front-now rule start from first done p f.order f.next f.unfound s later by) ∙ tells)
       (λ one. (short-shorter span t [] one, same (nothing-more (decided_of rule span) ds (sym decides ∙ short-decides rule (span ++ t ∷ []) one))))
-      (subst (λ (es : List (List Told)). AreClosedLegs rule first p.log (take p.unfound p.log.breaks) es span p.book g.before) same-ended l.legs.earlier)
+      (subst (λ (es : List (List ToldSecond)). AreClosedLegs rule first p.log (take p.unfound p.log.breaks) es span p.book g.before) same-ended l.legs.earlier)
 
   -- what was reckoned before, and these minutes
   abbrev IsNow : Reckoned → Type 0
@@ -442,7 +442,7 @@ module _ (rule : Rule) (start : Start) (from first : ℕ) (done : List TraceSeco
       let new : List HistoryMinute = minutes_after start ((went later done).told ++ t ∷ []) p.book.sure ds in
       record {
         ended = f.ended;
-        spans = now-spans ∙ ap (λ (ss : List (List Told)). f.ended ++ ss) (sym (solid-push span t));
+        spans = now-spans ∙ ap (λ (ss : List (List ToldSecond)). f.ended ++ ss) (sym (solid-push span t));
         legs = record {
           earlier = subst (AreClosedLegs rule first later (take p.unfound later.breaks) f.ended (span ++ t ∷ []) (kept_all new p.book)) (sym (travelled-earlier ds g))
               (closed-now ds decides (kept_all new p.book) (λ nil. ap (λ (es : List Minute). kept_all (minutes_after start ((went later done).told ++ t ∷ []) p.book.sure es) p.book) nil));
@@ -465,7 +465,7 @@ module _ (rule : Rule) (start : Start) (from first : ℕ) (done : List TraceSeco
   some-as past (Some d) = refl
 
   pub second-off : (begun : ℕ) → cut_in later s.number ≡ Some begun → (front : List Minute) (d : Option Minute) (rest : List Minute) → decided_of rule (span ++ t ∷ []) ≡ decided_of rule span ++ (front ++ (option_to_list d ++ rest)) →
-      let now : List Told = (went later done).told ++ t ∷ [] in
+      let now : List ToldSecond = (went later done).told ++ t ∷ [] in
       let kept : List HistoryMinute = minutes_after start now p.book.sure front in
       HasLegs rule first (done ++ s ∷ []) (record {
         log = later;
@@ -477,7 +477,7 @@ module _ (rule : Rule) (start : Start) (from first : ℕ) (done : List TraceSeco
         waiting = [];
       }) (stranded_at d (all_travelled front g))
   second-off begun cut front d rest decides =
-      let now : List Told = (went later done).told ++ t ∷ [] in
+      let now : List ToldSecond = (went later done).told ++ t ∷ [] in
       let kept : List HistoryMinute = minutes_after start now p.book.sure front in
       let tail : List Minute = option_to_list d ++ rest in
       let after = tail-as (p.book.sure ++ kept) d rest in
@@ -488,14 +488,14 @@ module _ (rule : Rule) (start : Start) (from first : ℕ) (done : List TraceSeco
       let core = keeps-all rule start from first (done ++ s ∷ []) later p.unfound (suc p.next) (span ++ t ∷ []) (solid-push span t) p.book kept (option_to_list i ++ after.0)
       (subst (λ (w : List HistoryMinute). Core rule start from first (done ++ s ∷ []) later p.unfound (suc p.next) (Lit (span ++ t ∷ [])) p.book w) split fed_) in
       let facts = break-facts rule start from first done p s later by span f begun cut in
-      let ended_now : f.ended ≡ core.ended = append_cancel_right f.ended core.ended ((span ++ t ∷ []) ∷ []) (sym now-spans ∙ core.spans ∙ ap (λ (ss : List (List Told)). core.ended ++ ss) (solid-push span t)) in
+      let ended_now : f.ended ≡ core.ended = append_cancel_right f.ended core.ended ((span ++ t ∷ []) ∷ []) (sym now-spans ∙ core.spans ∙ ap (λ (ss : List (List ToldSecond)). core.ended ++ ss) (solid-push span t)) in
       let closed : List HistoryMinute = closed_history rule start p.log (went p.log done).told f.ended in
       let mine : List HistoryMinute = span_minutes rule start (went p.log done).told closed span in
       record {
         ended = core.ended ++ (span ++ t ∷ []) ∷ [];
-        spans = now-spans ∙ ap (λ (es : List (List Told)). es ++ (span ++ t ∷ []) ∷ []) ended_now ∙ sym (append-nil (core.ended ++ (span ++ t ∷ []) ∷ []));
+        spans = now-spans ∙ ap (λ (es : List (List ToldSecond)). es ++ (span ++ t ∷ []) ∷ []) ended_now ∙ sym (append-nil (core.ended ++ (span ++ t ∷ []) ∷ []));
         legs = cut-legs rule start from first (done ++ s ∷ []) later p.unfound (suc p.next) (span ++ t ∷ []) (solid-push span t) (kept_all kept p.book) i after.0 core s.number facts.0 facts.1 facts.2 (all_travelled front g)
-            (subst (λ (es : List (List Told)). AreClosedLegs rule first later (take p.unfound later.breaks) es (span ++ t ∷ []) (kept_all kept p.book) (all_travelled front g).before) ended_now
+            (subst (λ (es : List (List ToldSecond)). AreClosedLegs rule first later (take p.unfound later.breaks) es (span ++ t ∷ []) (kept_all kept p.book) (all_travelled front g).before) ended_now
             (subst (AreClosedLegs rule first later (take p.unfound later.breaks) f.ended (span ++ t ∷ []) (kept_all kept p.book)) (sym (travelled-earlier front g))
             (closed-now (front ++ tail) decides (kept_all kept p.book) (λ nil. ap (λ (es : List Minute). kept_all (minutes_after start now p.book.sure es) p.book) (nothing-first front tail nil)))))
             (decided_of rule span ++ front) d rest (decides ∙ sym (append_assoc (decided_of rule span) front tail))
@@ -524,9 +524,9 @@ pub broken-travelled : ABrokenSecondIsTravelled
 broken-travelled rule start from first done p f g h span is none s later by begun cut front d rest decides = second-off rule start from first done p f g h span is none s later by begun cut front d rest decides
 
 -- WITHOUT POWER
-ended-refused : (rule : Rule) (first : ℕ) (log : RunLog) (refused : List Refused) (i : ℕ) (ended : List (List Told)) (b : Book) (g : Travel) → AreEndedLegs rule first log (take i log.breaks) ended b g → AreEndedLegs rule first (record log { refused = refused }) (take i log.breaks) ended b g
+ended-refused : (rule : Rule) (first : ℕ) (log : RunLog) (refused : List Refused) (i : ℕ) (ended : List (List ToldSecond)) (b : Book) (g : Travel) → AreEndedLegs rule first log (take i log.breaks) ended b g → AreEndedLegs rule first (record log { refused = refused }) (take i log.breaks) ended b g
 ended-refused rule first log refused i ended b g legs =
-    subst (λ (es : List (List Told)). AreEndedLegs rule first (record log { refused = refused }) (take i log.breaks) es b g) (append-nil ended)
+    subst (λ (es : List (List ToldSecond)). AreEndedLegs rule first (record log { refused = refused }) (take i log.breaks) es b g) (append-nil ended)
     (ended-off rule first log (record log { refused = refused }) i ended [] b g refl (λ u tells. kept-by log u ∙ sym (kept-by (record log { refused = refused }) u)) (λ u tells. tells) tt refl legs)
 
 pub dark-travelled : ADarkMinuteIsTravelled
@@ -535,7 +535,7 @@ dark-travelled rule start from first done p f g h is n speed actions refused beg
     let l = legs-by rule first done p g h Lost is in
     let later : RunLog = record p.log { refused = refused } in
     let same = went-refused p.log later refl refl done in
-    subst (λ (sp : Supply). HasLegs rule first (done ++ driven n p.next speed actions) (record p { log = later; next = p.next + n; begun = begun; supply = sp }) g) (sym is) (record {
+    subst (λ (sp : UnitPower). HasLegs rule first (done ++ driven n p.next speed actions) (record p { log = later; next = p.next + n; begun = begun; supply = sp }) g) (sym is) (record {
       ended = l.ended;
       spans = dark-spans later n done p.next speed actions (subst (λ (w : Went). IsLost w.before) (sym same) k.power) some within ∙ ap (λ (w : Went). spans_of w.told) same ∙ l.spans;
       legs = ended-refused rule first p.log refused p.unfound l.ended p.book g l.legs;
@@ -552,7 +552,7 @@ off-travelled rule start from first done p f g h is n = by p.supply is h
     still e at = reckoned-on rule p.log p.log (take p.unfound p.log.breaks) (take p.unfound p.log.breaks) (spans_of (went p.log done).told) (spans_of (went p.log (done ++ dark (suc n) p.next)).told) (λ u tells. refl) (λ u tells. tells)
         (same-on rule (spans_of (went p.log done).told) (spans_of (went p.log (done ++ dark (suc n) p.next)).told) (off-spans p.log (suc n) done p.next)) e (h.begun e at)
 
-    by : (s : Supply) → IsDark s → HasLegs rule first done (record p { supply = s }) g → HasLegs rule first (done ++ dark (suc n) p.next) (record p { next = p.next + suc n; begun = 0; supply = Due }) g
+    by : (s : UnitPower) → IsDark s → HasLegs rule first done (record p { supply = s }) g → HasLegs rule first (done ++ dark (suc n) p.next) (record p { next = p.next + suc n; begun = 0; supply = Due }) g
     by (Lit span) is l = absurd is
     by Due is l = record { ended = l.ended; spans = off-spans p.log (suc n) done p.next ∙ l.spans; legs = l.legs; begun = still }
     by Lost is l = record { ended = l.ended; spans = off-spans p.log (suc n) done p.next ∙ l.spans; legs = l.legs; begun = still }
@@ -566,21 +566,21 @@ off-cut-travelled rule start from first done p f0 g h t span is none n =
     let facts = cut-facts rule start from first done p t span f in
     let spans = spans-cut rule start from first done p t span f in
     let same : l.ended ≡ f.ended = append_cancel_right l.ended f.ended ((t ∷ span) ∷ []) (sym l.spans ∙ f.spans) in
-    let now : f.ended ≡ core.ended = append_cancel_right f.ended core.ended (cut_last (t ∷ span) ∷ []) (sym spans ∙ core.spans ∙ ap (λ (ss : List (List Told)). core.ended ++ ss) (solid-cut t span)) in
+    let now : f.ended ≡ core.ended = append_cancel_right f.ended core.ended (cut_last (t ∷ span) ∷ []) (sym spans ∙ core.spans ∙ ap (λ (ss : List (List ToldSecond)). core.ended ++ ss) (solid-cut t span)) in
     let closed : List HistoryMinute = closed_history rule start p.log (went p.log done).told f.ended in
     let mine : List HistoryMinute = span_minutes rule start (went p.log done).told closed (t ∷ span) in
     let legs = closed-on rule first p.log later (take p.unfound p.log.breaks) facts.4 (take p.unfound later.breaks) f.ended (t ∷ span) (cut_last (t ∷ span)) p.book p.book g.before (λ u tells. ap (tells_cut u) facts.3 ∙ tells)
     (λ one. (sym (ap (λ (k : ℕ). nat_lt 1 k) (length-cut (t ∷ span))) ∙ one, refl))
-    (subst (λ (es : List (List Told)). AreClosedLegs rule first p.log (take p.unfound p.log.breaks) es (t ∷ span) p.book g.before) same l.legs.earlier) in
+    (subst (λ (es : List (List ToldSecond)). AreClosedLegs rule first p.log (take p.unfound p.log.breaks) es (t ∷ span) p.book g.before) same l.legs.earlier) in
     let ended = cut-legs rule start from first done later p.unfound p.next (cut_last (t ∷ span)) (solid-cut t span) p.book None [] core (p.next - 1) facts.0 facts.1 facts.2 g
-    (subst (λ (es : List (List Told)). AreClosedLegs rule first later (take p.unfound later.breaks) es (cut_last (t ∷ span)) p.book g.before) now legs)
+    (subst (λ (es : List (List ToldSecond)). AreClosedLegs rule first later (take p.unfound later.breaks) es (cut_last (t ∷ span)) p.book g.before) now legs)
     (decided_of rule (cut_last (t ∷ span))) None [] (sym (append-nil (decided_of rule (cut_last (t ∷ span)))))
     closed mine (sym (f.tied.minutes ∙ append-nil p.book.sure))
     (subst (λ (ds : List Minute). AreAs mine ds) (sym (decided-cut rule (t ∷ span))) (as-after start (went p.log done).told closed (decided_of rule (t ∷ span))))
     refl refl (l.legs.sure ∙ ap travelled_by (sym (decided-cut rule (t ∷ span)))) l.legs.none in
     record {
       ended = core.ended ++ cut_last (t ∷ span) ∷ [];
-      spans = off-spans later (suc n) done p.next ∙ spans ∙ ap (λ (es : List (List Told)). es ++ cut_last (t ∷ span) ∷ []) now ∙ sym (append-nil (core.ended ++ cut_last (t ∷ span) ∷ []));
+      spans = off-spans later (suc n) done p.next ∙ spans ∙ ap (λ (es : List (List ToldSecond)). es ++ cut_last (t ∷ span) ∷ []) now ∙ sym (append-nil (core.ended ++ cut_last (t ∷ span) ∷ []));
       legs = ended;
       begun = λ e at. reckoned-on rule p.log later (take p.unfound p.log.breaks) (take p.unfound later.breaks) (spans_of (went p.log done).told) (spans_of (went later (done ++ dark (suc n) p.next)).told) facts.4
           (λ u tells. ap (tells_cut u) facts.3 ∙ tells)
@@ -590,34 +590,34 @@ off-cut-travelled rule start from first done p f0 g h t span is none n =
 
 -- AT ANY MOMENT: whatever the unit may show, these are the legs of its spans
 module _ (rule : Rule) (start : Start) (from first : ℕ) (done : List TraceSecond) (p : Progress) (nothing_waits : p.waiting ≡ []) (g : Travel) (k leg : ℕ) (shown : MayShow first p.book g k leg) where
-  abbrev seconds : List Told
+  abbrev seconds : List ToldSecond
   seconds = (went p.log done).told
 
-  abbrev AreShown : List (List Told) → Type 0
+  abbrev AreShown : List (List ToldSecond) → Type 0
   AreShown spans = (legs : List ℕ) × AreLegs rule (limit_of p.log) k spans legs × (kilometres_of legs ≡ kilometres_of (g.before ++ leg ∷ []))
 
   sure-leg : (ds : List Minute) → g.sure ≡ travelled_by ds → g.maybe ≡ None → leg ≡ travelled_by ds
   sure-leg ds sure none = ⊎_elim (λ (is : leg ≡ g.sure). is ∙ sure) (λ (is : g.maybe ≡ Some leg). absurd (let other : None ≡ Some leg = sym none ∙ is in cc)) shown.side
 
-  none-on : (ended : List (List Told)) → AreShutLegs rule first p.log (take p.unfound p.log.breaks) ended [] p.book g → AreShown ended
+  none-on : (ended : List (List ToldSecond)) → AreShutLegs rule first p.log (take p.unfound p.log.breaks) ended [] p.book g → AreShown ended
   none-on ended s =
       let zero_ = sure-leg (decided_of rule []) s.sure s.none ∙ ap travelled_by (decided-empty rule) in
       (s.earlier.legs, s.earlier.so_far refl k shown.mark shown.low, s.earlier.sums ∙ sym (kilometres-none g.before leg zero_))
 
-  ended-shown : (ended : List (List Told)) → AreEndedLegs rule first p.log (take p.unfound p.log.breaks) ended p.book g → AreShown ended
+  ended-shown : (ended : List (List ToldSecond)) → AreEndedLegs rule first p.log (take p.unfound p.log.breaks) ended p.book g → AreShown ended
   ended-shown ended (inl s) = none-on ended s
   ended-shown ended (inr o) = (
     o.legs ++ leg ∷ nothing_of o.short,
-    subst (λ (ss : List (List Told)). AreLegs rule (limit_of p.log) k ss (o.legs ++ leg ∷ nothing_of o.short)) (sym o.are)
+    subst (λ (ss : List (List ToldSecond)). AreLegs rule (limit_of p.log) k ss (o.legs ++ leg ∷ nothing_of o.short)) (sym o.are)
         (whole-legs rule p.log (take p.unfound p.log.breaks) o.front o.span o.short o.legs k leg o.known o.long o.none o.nothing o.closed (o.leg k leg shown)),
     kilometres-leg o.legs g.before leg o.short o.sums,
   )
 
-  at-spans : (spans : List (List Told)) → spans_of seconds ≡ spans → AreShown spans → AreShown (spans_of seconds)
+  at-spans : (spans : List (List ToldSecond)) → spans_of seconds ≡ spans → AreShown spans → AreShown (spans_of seconds)
   at-spans spans are s = subst AreShown (sym are) s
 
   -- the span that goes on: its minutes are all kept
-  module _ (t : Told) (span : List Told) (f : Followed rule start from first done (record p { supply = Lit (t ∷ span) })) (h : HasLegs rule first done (record p { supply = Lit (t ∷ span) }) g) where
+  module _ (t : ToldSecond) (span : List ToldSecond) (f : BookFollowsRun rule start from first done (record p { supply = Lit (t ∷ span) })) (h : HasLegs rule first done (record p { supply = Lit (t ∷ span) }) g) where
     all-low : All (λ (d : Minute). d.minute ≤ k) (decided_of rule (t ∷ span))
     all-low =
         let closed : List HistoryMinute = closed_history rule start p.log seconds f.ended in
@@ -641,7 +641,7 @@ module _ (rule : Rule) (start : Start) (from first : ℕ) (done : List TraceSeco
     lit-shown : AreShown (spans_of seconds)
     lit-shown = at-spans (h.ended ++ (t ∷ span) ∷ []) h.spans (h.legs.earlier.legs ++ leg ∷ [], lit-legs (nat_lt 1 (length (t ∷ span))) refl, kilometres-leg h.legs.earlier.legs g.before leg [] h.legs.earlier.sums)
 
-  pub shown-by : (s : Supply) → Followed rule start from first done (record p { supply = s }) → HasLegs rule first done (record p { supply = s }) g → AreShown (spans_of seconds)
+  pub shown-by : (s : UnitPower) → BookFollowsRun rule start from first done (record p { supply = s }) → HasLegs rule first done (record p { supply = s }) g → AreShown (spans_of seconds)
   shown-by (Lit []) f h = at-spans h.ended (h.spans ∙ append-nil h.ended) (none-on h.ended h.legs)
   shown-by (Lit (t ∷ span)) f h = lit-shown t span f h
   shown-by Due f h = at-spans h.ended (h.spans ∙ append-nil h.ended) (ended-shown h.ended h.legs)

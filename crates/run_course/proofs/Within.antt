@@ -12,7 +12,7 @@ use Rattle.trace_model.specs.Trace.{TraceSecond}
 use Rattle.log_model.specs.declared.lines.Verdict.{Verdict}
 use Rattle.log_model.specs.Log.{RunLog, Phase, In, Keeping, cut_in, is_torn_in, found_in, is_accepting}
 use Rattle.log_model.specs.Slots.{Slots, Sitting, same_card, in_slot, refusal}
-use Rattle.log_model.specs.Course.{Told, Course, Visit, Before, Moved, begins, visits, card_in, leaves, with_slot, slot_told, both_told, acted, all_acted, moved_by, unmoved, answered, fresh, is_settling, cut_told, lit_course, has_power, second_told}
+use Rattle.log_model.specs.Course.{ToldSecond, Course, Visit, Before, Moved, begins, visits, card_in, leaves, with_slot, slot_told, both_told, acted, all_acted, moved_by, unmoved, answered, fresh, is_settling, cut_told, lit_course, has_power, second_told}
 use Rattle.event_model.specs.Events.{course_by}
 use Rattle.history_model.specs.Minutes.{HistoryMinute}
 use Rattle.history_model.specs.Presence.{Start}
@@ -367,7 +367,7 @@ find-told log later u p CoDriver v moved c h enters order =
     (found-codriver u p moved d v (is_accepting v || false) (accepts-one v)))
 
 -- WHAT THE SLOTS TELL
-same-members : (start : Start) (told : List Told) (past : List HistoryMinute) (left now : List Card) (number from : ℕ) (slots : Slots) (k : Kept) → ((card : Card) → list_any (same_card card) now ≡ list_any (same_card card) left) →
+same-members : (start : Start) (told : List ToldSecond) (past : List HistoryMinute) (left now : List Card) (number from : ℕ) (slots : Slots) (k : Kept) → ((card : Card) → list_any (same_card card) now ≡ list_any (same_card card) left) →
     SlotsTell start told past left number from slots k → SlotsTell start told past now number from slots k
 same-members start told past left now number from slots k same h = record {
   driver = h.driver;

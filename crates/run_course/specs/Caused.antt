@@ -12,14 +12,14 @@ use Rattle.log_model.specs.declared.lines.Find.{Find}
 use Rattle.log_model.specs.declared.lines.Refused.{Refused}
 use Rattle.log_model.specs.Log.{RunLog, In}
 use Rattle.log_model.specs.Slots.{same_card}
-use Rattle.log_model.specs.Course.{Told, Visit, went}
+use Rattle.log_model.specs.Course.{ToldSecond, Visit, went}
 use Rattle.log_model.specs.Causes.{device_of, is_cut, second_of, cuts, AreInTime, tears, places, in_the_slot, refusals_of, refusal_told, pulled_of, torn_of, cards_torn, finds_of, off_cuts, RoseBy, IsBegun, IsAtPowerOn, HasMoment, IsJudged}
 use Rattle.history_model.specs.Presence.{Start}
 use Rattle.run_unit_course.specs.Caused.{IsOver}
 use Rattle.run_unit_course.specs.Lines.{log_of, cut_at, found_from}
 use Rattle.run_unit_course.specs.Followed.{Lit, IsDark}
 use Rattle.run_course.specs.Moments.{and_break}
-use Rattle.run_course.specs.Followed.{Progress, Followed}
+use Rattle.run_course.specs.Followed.{Progress, BookFollowsRun}
 use Rattle.run_course.specs.Seconds.{GoesOnBy, next_told}
 
 -- a count that did not rise by any stands where it was
@@ -45,10 +45,10 @@ pub record AreCaused (before now : Device → ℕ) (ss : List TraceSecond) (log 
   pub moments : AllByRecursion (HasMoment (went log ss).told) log.breaks
   pub order : AreInTime log.breaks
   pub finds : map (λ f. (f.second, In f.begun, f.slot, f.verdict)) log.finds ≡ finds_of (went log ss).told
-  pub judged : (t : Told) (e : Visit) → Contains (went log ss).told t → Contains t.course.entered e → IsJudged log t e
+  pub judged : (t : ToldSecond) (e : Visit) → Contains (went log ss).told t → Contains t.course.entered e → IsJudged log t e
 
 -- What the new lines of a second have to tell: exactly what happened in it, each failed call a breakdown, and each breakdown of a card told.
-pub record AreNewCauses (mid now : Device → ℕ) (breaks : List Break) (finds : List Find) (refused : List Refused) (later : RunLog) (s : TraceSecond) (t : Told) : Type 0 where
+pub record AreNewCauses (mid now : Device → ℕ) (breaks : List Break) (finds : List Find) (refused : List Refused) (later : RunLog) (s : TraceSecond) (t : ToldSecond) : Type 0 where
   pub refusals : map refusal_told refused ≡ refusals_of (t ∷ [])
   pub cut_seconds : map second_of (filter is_cut breaks) ≡ map (λ t. t.second.number) (filter (λ t. t.cut) (t ∷ []))
   pub no_off : cuts false (log_of breaks) ≡ []
@@ -70,7 +70,7 @@ pub record WellCaused (before now : Device → ℕ) (done : List TraceSecond) (p
 
 -- A SECOND MORE that the trace gives power, lit or dark, whatever supply it leaves
 abbrev pub ASecondIsCaused : Type 0
-ASecondIsCaused = (rule : Rule) (start : Start) (from first : ℕ) (done : List TraceSecond) (p : Progress) → Followed rule start from first done p →
+ASecondIsCaused = (rule : Rule) (start : Start) (from first : ℕ) (done : List TraceSecond) (p : Progress) → BookFollowsRun rule start from first done p →
     (s : TraceSecond) (later : RunLog) (g : GoesOnBy p later s) (refused : List Refused) → later.refused ≡ p.log.refused ++ refused →
     (before mid now : Device → ℕ) → AreNewCauses mid now g.breaks.0 g.finds.0 refused later s (next_told later done s) → WellCaused before mid done p →
     (q : Progress) → q.log ≡ later → (IsDark q.supply → ((next_told later done s).lit ≡ false) ⊎ ((next_told later done s).cut ≡ true)) →
@@ -78,20 +78,20 @@ ASecondIsCaused = (rule : Rule) (start : Start) (from first : ℕ) (done : List 
 
 -- A POWER-ON finds what was kept.
 abbrev pub FoundStaysCaused : Type 0
-FoundStaysCaused = (rule : Rule) (start : Start) (from first : ℕ) (done : List TraceSecond) (p : Progress) → Followed rule start from first done p →
+FoundStaysCaused = (rule : Rule) (start : Start) (from first : ℕ) (done : List TraceSecond) (p : Progress) → BookFollowsRun rule start from first done p →
     (k : ℕ) (before now : Device → ℕ) → WellCaused before now done p → (q : Progress) → q.log ≡ record p.log { breaks = found_from p.unfound k p.log.breaks } → (IsDark q.supply → IsDark p.supply) →
     WellCaused before now done q
 
 -- AN `off` LINE while it is over,
 abbrev pub AnOffLineIsCaused : Type 0
-AnOffLineIsCaused = (rule : Rule) (start : Start) (from first : ℕ) (done : List TraceSecond) (p : Progress) → Followed rule start from first done p →
+AnOffLineIsCaused = (rule : Rule) (start : Start) (from first : ℕ) (done : List TraceSecond) (p : Progress) → BookFollowsRun rule start from first done p →
     IsDark p.supply → (n : ℕ) (before now : Device → ℕ) → WellCaused before now done p → (q : Progress) → q.log ≡ p.log →
     WellCaused before now (done ++ dark (suc n) p.next) q
 
 -- and while there is power.
 abbrev pub AnOffCutIsCaused : Type 0
-AnOffCutIsCaused = (rule : Rule) (start : Start) (from first : ℕ) (done : List TraceSecond) (p : Progress) → Followed rule start from first done p →
-    (t : Told) (span : List Told) → p.supply ≡ Lit (t ∷ span) → p.waiting ≡ [] → (n : ℕ) (before now : Device → ℕ) → WellCaused before now done p →
+AnOffCutIsCaused = (rule : Rule) (start : Start) (from first : ℕ) (done : List TraceSecond) (p : Progress) → BookFollowsRun rule start from first done p →
+    (t : ToldSecond) (span : List ToldSecond) → p.supply ≡ Lit (t ∷ span) → p.waiting ≡ [] → (n : ℕ) (before now : Device → ℕ) → WellCaused before now done p →
     (q : Progress) → q.log ≡ and_break p.log (cut_at (p.next - 1) false p.begun) → WellCaused before now (done ++ dark (suc n) p.next) q
 
 -- AT THE START

@@ -8,7 +8,7 @@ use Rattle.log_model.specs.declared.lines.Mark.{Mark}
 use Rattle.log_model.specs.declared.lines.Refused.{Refused}
 use Rattle.log_model.specs.Log.{RunLog}
 use Rattle.log_model.specs.Slots.{Slots}
-use Rattle.log_model.specs.Course.{Told, Before, Went, went, dark_course, without_power}
+use Rattle.log_model.specs.Course.{ToldSecond, Before, Went, went, dark_course, without_power}
 use Rattle.log_model.specs.Causes.{refusals_at, refusal_told}
 use Rattle.log_model.specs.Spans.{AreInOrder}
 use Rattle.history_model.specs.Minutes.{HistoryMinute}
@@ -16,12 +16,12 @@ use Rattle.history_model.specs.Presence.{Start}
 use Rattle.history_model.specs.Completeness.{IsComplete}
 use Rattle.card_slots.specs.Kept.{Kept}
 use Rattle.run_unit_course.specs.Followed.{Lost}
-use Rattle.run_course.specs.Followed.{Progress, Followed}
+use Rattle.run_course.specs.Followed.{Progress, BookFollowsRun}
 use Rattle.run_course.specs.Presence.{SlotsTell}
 use Rattle.run_course.specs.Caused.{WellCaused}
 
 -- a second without power, and several of them
-abbrev pub dark_told : TraceSecond → Slots → Told
+abbrev pub dark_told : TraceSecond → Slots → ToldSecond
 dark_told s slots = record {
   second = record { number = s.number; speed = s.speed; picks = [] };
   given = s.has_power;
@@ -31,12 +31,12 @@ dark_told s slots = record {
   course = dark_course s slots;
 }
 
-abbrev pub all_dark : List TraceSecond → Slots → List Told
+abbrev pub all_dark : List TraceSecond → Slots → List ToldSecond
 all_dark ss slots = map (λ s. dark_told s slots) ss
 
 -- HOW THEY GO, after a failed call,
 abbrev pub LostSecondsAreTold : Type 0
-LostSecondsAreTold = (rule : Rule) (start : Start) (from first : ℕ) (done : List TraceSecond) (p : Progress) → Followed rule start from first done p →
+LostSecondsAreTold = (rule : Rule) (start : Start) (from first : ℕ) (done : List TraceSecond) (p : Progress) → BookFollowsRun rule start from first done p →
     p.supply ≡ Lost → (n speed : ℕ) (actions : List Action) → 0 < p.next % 60 → p.next % 60 + n ≤ 60 →
     let before : Before = (went p.log done).before in
     went p.log (done ++ driven n p.next speed actions)
@@ -51,7 +51,7 @@ OffSecondsAreTold = (log : RunLog) (done : List TraceSecond) (n next : ℕ) →
 
 -- EACH LINE HAS ITS CAUSE: what is refused is so for lack of power.
 abbrev pub ADarkMinuteIsCaused : Type 0
-ADarkMinuteIsCaused = (rule : Rule) (start : Start) (from first : ℕ) (done : List TraceSecond) (p : Progress) → Followed rule start from first done p →
+ADarkMinuteIsCaused = (rule : Rule) (start : Start) (from first : ℕ) (done : List TraceSecond) (p : Progress) → BookFollowsRun rule start from first done p →
     p.supply ≡ Lost → (n speed : ℕ) (actions : List Action) (refused : List Refused) → 0 < p.next % 60 → p.next % 60 + suc n ≤ 60 →
     map refusal_told refused ≡ refusals_at p.next (without_power 0 actions) →
     (before now : Device → ℕ) → WellCaused before now done p → (q : Progress) → q.log ≡ record p.log { refused = p.log.refused ++ refused } →
@@ -59,7 +59,7 @@ ADarkMinuteIsCaused = (rule : Rule) (start : Start) (from first : ℕ) (done : L
 
 -- WHAT IS DECIDED is acknowledged as before.
 abbrev pub ADarkMinuteStaysComplete : Type 0
-ADarkMinuteStaysComplete = (rule : Rule) (start : Start) (from first : ℕ) (done : List TraceSecond) (p : Progress) → Followed rule start from first done p →
+ADarkMinuteStaysComplete = (rule : Rule) (start : Start) (from first : ℕ) (done : List TraceSecond) (p : Progress) → BookFollowsRun rule start from first done p →
     p.supply ≡ Lost → (n speed : ℕ) (actions : List Action) (refused : List Refused) → 0 < p.next % 60 → p.next % 60 + n ≤ 60 →
     (marks : List Mark) → IsComplete rule start p.log (went p.log done).told marks →
     let later : RunLog = record p.log { refused = refused } in
@@ -72,7 +72,7 @@ OffSecondsStayComplete = (rule : Rule) (start : Start) (from : ℕ) (log : RunLo
 
 -- WHO IS PRESENT, once no minute of before need be kept any more.
 abbrev pub DarkSecondsTell : Type 0
-DarkSecondsTell = (start : Start) (told : List Told) (past : List HistoryMinute) (number next from later : ℕ) (slots : Slots) (k : Kept) →
+DarkSecondsTell = (start : Start) (told : List ToldSecond) (past : List HistoryMinute) (number next from later : ℕ) (slots : Slots) (k : Kept) →
     SlotsTell start told past [] number from slots k → (s : TraceSecond) (ss : List TraceSecond) → number ≤ next → AreInOrder next (s ∷ ss) →
     from ≤ later → (next + length ss) / 60 ≤ later →
     SlotsTell start (told ++ all_dark (s ∷ ss) slots) past [] (next + length ss) later slots k

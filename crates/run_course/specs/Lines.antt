@@ -13,19 +13,19 @@ use Rattle.log_model.specs.declared.lines.Refused.{Refused}
 use Rattle.log_model.specs.Log.{RunLog, Phase, In, Keeping, is_torn_in, found_in}
 use Rattle.log_model.specs.Slots.{Sitting, same_card, in_slot, refusal}
 use Rattle.log_model.specs.Causes.{visit_places, in_the_slot}
-use Rattle.log_model.specs.Course.{Told, Course, Visit, Before, visits, answered, moved_by, fresh, went}
+use Rattle.log_model.specs.Course.{ToldSecond, Course, Visit, Before, visits, answered, moved_by, fresh, went}
 use Rattle.history_model.specs.Presence.{Start}
 use Rattle.run_unit_course.specs.Followed.{Lit}
 use Rattle.run_unit_course.specs.Turn.{begins_with}
 use Rattle.run_course.specs.Moments.{and_break, and_find, and_refused}
-use Rattle.run_course.specs.Followed.{Progress, Followed}
+use Rattle.run_course.specs.Followed.{Progress, BookFollowsRun}
 use Rattle.run_course.specs.Within.{IsTornFrom, IsFoundOf}
 use Rattle.run_course.specs.Reached.{course_at, moved_at, IsUpTo, Reaches, IsTearAt, IsFindAt}
 
 -- THE SECOND BEGINS, with its power-on if it is one: nothing is told of it yet.
 abbrev pub ASecondIsReached : Type 0
-ASecondIsReached = (rule : Rule) (start : Start) (from first : ℕ) (done : List TraceSecond) (p : Progress) → Followed rule start from first done p →
-    (span : List Told) → p.supply ≡ Lit span → (s : TraceSecond) → s.number ≡ p.next → s.has_power ≡ true →
+ASecondIsReached = (rule : Rule) (start : Start) (from first : ℕ) (done : List TraceSecond) (p : Progress) → BookFollowsRun rule start from first done p →
+    (span : List ToldSecond) → p.supply ≡ Lit span → (s : TraceSecond) → s.number ≡ p.next → s.has_power ≡ true →
     Reaches p s (In 0) p.log × (course_at p.log (went p.log done).before s (In 0) ≡ fresh (begins_with span) (went p.log done).before.slots)
 
 -- AN ACTION begins, of which nothing is told yet;

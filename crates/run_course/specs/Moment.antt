@@ -19,13 +19,13 @@ use Rattle.log_model.specs.declared.lines.Verdict.{Verdict}
 use Rattle.log_model.specs.Log.{RunLog, Phase, In, same_phase, is_torn_in}
 use Rattle.log_model.specs.Slots.{Sitting, same_card, in_slot, refusal}
 use Rattle.log_model.specs.Causes.{device_of, is_cut, second_of, tears, places, visit_places, in_the_slot, refusals_at, refusal_told, RoseBy, IsBegun, IsAtPowerOn}
-use Rattle.log_model.specs.Course.{Told, Course, Visit, Before, answered, fresh, went}
+use Rattle.log_model.specs.Course.{ToldSecond, Course, Visit, Before, answered, fresh, went}
 use Rattle.history_model.specs.Presence.{Start}
 use Rattle.run_unit_course.specs.Lines.{log_of}
 use Rattle.run_unit_course.specs.Followed.{Lit}
 use Rattle.run_unit_course.specs.Turn.{begins_with}
 use Rattle.run_course.specs.Moments.{and_break, and_refused}
-use Rattle.run_course.specs.Followed.{Progress, Followed}
+use Rattle.run_course.specs.Followed.{Progress, BookFollowsRun}
 use Rattle.run_course.specs.Seconds.{GoesOnBy}
 use Rattle.run_course.specs.Caused.{StandsBy}
 use Rattle.run_course.specs.Reached.{IsBehind, course_at, IsMoment, IsUpTo}
@@ -93,8 +93,8 @@ goes_on m = record { number = m.number; given = m.given; breaks = (m.breaks, m.b
 
 -- THE SECOND BEGINS: at a power-on each card in a slot enters anew.
 abbrev pub AMomentBegins : Type 0
-AMomentBegins = (rule : Rule) (start : Start) (from first : ℕ) (done : List TraceSecond) (p : Progress) → Followed rule start from first done p →
-    (span : List Told) → p.supply ≡ Lit span → (s : TraceSecond) → s.number ≡ p.next → s.has_power ≡ true → (mid : Device → ℕ) →
+AMomentBegins = (rule : Rule) (start : Start) (from first : ℕ) (done : List TraceSecond) (p : Progress) → BookFollowsRun rule start from first done p →
+    (span : List ToldSecond) → p.supply ≡ Lit span → (s : TraceSecond) → s.number ≡ p.next → s.has_power ≡ true → (mid : Device → ℕ) →
     let c : Course = fresh (begins_with span) (went p.log done).before.slots in
     Moment p (went p.log done).before s (In 0) p.log c.entered mid mid × (course_at p.log (went p.log done).before s (In 0) ≡ c)
 

@@ -5,7 +5,7 @@ use Rattle.activity_codec.specs.declared.values.Slot.{Slot}
 use Rattle.activity_codec.specs.declared.values.Slot.TheVariants.{Driver, CoDriver}
 use Rattle.trace_model.specs.declared.Card.{Card}
 use Rattle.log_model.specs.Slots.{Slots, Sitting, same_card, in_slot, is_accepted}
-use Rattle.log_model.specs.Course.{Told, with_slot, powerless, card_in}
+use Rattle.log_model.specs.Course.{ToldSecond, with_slot, powerless, card_in}
 use Rattle.history_model.specs.Minutes.{HistoryMinute}
 use Rattle.history_model.specs.Presence.{Start, card_start, newest_minute, in_minute, present_in as present_by_history}
 use Rattle.card_slots.specs.declared.seats.Seat.{Seat}
@@ -38,7 +38,7 @@ SitsAs start past from kept (Some seat) (Some sitting) =
     (seat.card ≡ sitting.card) × IsNewest start past from kept seat.card seat.newest sitting.accepted
 
 -- the cards that were present in a minute, by the history
-abbrev pub present_at : Start → List Told → List HistoryMinute → ℕ → Present
+abbrev pub present_at : Start → List ToldSecond → List HistoryMinute → ℕ → Present
 present_at start told past m =
     record { driver = present_by_history start told past m Driver; codriver = present_by_history start told past m CoDriver }
 
@@ -48,13 +48,13 @@ Falls minute [] = Unit {0}
 Falls minute (e ∷ past) = (e.minute < minute) × Falls e.minute past
 
 -- a card left in this minute, in these seconds or now
-abbrev pub has_left : List Card → List Told → Card → ℕ → Bool
+abbrev pub has_left : List Card → List ToldSecond → Card → ℕ → Bool
 has_left left told card m = list_any (same_card card) left || list_any (λ t. list_any (same_card card) t.course.left) (in_minute m told)
 
 -- At a moment of the second of this number, behind these seconds and with these slots and leavings in it: the slots have the cards of
 -- the course, who left in the minute is known, and so is who was present in each minute before it from one on, whatever minutes are
 -- kept from that one on.
-pub record SlotsTell (start : Start) (told : List Told) (past : List HistoryMinute) (left : List Card) (number from : ℕ) (slots : Slots) (kept : Kept) : Type 0 where
+pub record SlotsTell (start : Start) (told : List ToldSecond) (past : List HistoryMinute) (left : List Card) (number from : ℕ) (slots : Slots) (kept : Kept) : Type 0 where
   pub driver : SitsAs start past from kept kept.seats.driver slots.driver
   pub codriver : SitsAs start past from kept kept.seats.codriver slots.codriver
   pub apart : (card : Card) → is_card kept.seats.driver card ≡ true → is_card kept.seats.codriver card ≡ false
@@ -68,20 +68,20 @@ pub record SlotsTell (start : Start) (told : List Told) (past : List HistoryMinu
   pub minute : kept.minute ≤ number / 60
 
 -- the last of these seconds has this number, and left these slots
-pub record EndsWith (told : List Told) (number : ℕ) (slots : Slots) : Type 0 where
-  pub front : List Told
-  pub last : Told
+pub record EndsWith (told : List ToldSecond) (number : ℕ) (slots : Slots) : Type 0 where
+  pub front : List ToldSecond
+  pub last : ToldSecond
   pub are : told ≡ front ++ last ∷ []
   pub number_is : last.second.number ≡ number
   pub slots_are : last.course.slots ≡ slots
 
 -- WHAT IS HAD OF IT: the slots refuse as the course does, and tell who is present as the history does.
 abbrev pub SlotsAgree : Type 0
-SlotsAgree = (start : Start) (told : List Told) (past : List HistoryMinute) (left : List Card) (number from : ℕ) (slots : Slots) (k : Kept) →
+SlotsAgree = (start : Start) (told : List ToldSecond) (past : List HistoryMinute) (left : List Card) (number from : ℕ) (slots : Slots) (k : Kept) →
     SlotsTell start told past left number from slots k → Agrees k.seats slots
 
 abbrev pub SlotsTellWhoIsPresent : Type 0
-SlotsTellWhoIsPresent = (start : Start) (told : List Told) (past : List HistoryMinute) (left : List Card) (number from : ℕ) (slots : Slots) (k : Kept) →
+SlotsTellWhoIsPresent = (start : Start) (told : List ToldSecond) (past : List HistoryMinute) (left : List Card) (number from : ℕ) (slots : Slots) (k : Kept) →
     SlotsTell start told past left number from slots k → (m : ℕ) → from ≤ m → m < number / 60 →
     present_in k.past m ≡ Some (present_at start told past m)
 
@@ -93,63 +93,63 @@ NobodySits = (start : Start) (past : List HistoryMinute) (number from : ℕ) →
 -- A CARD IS PUT into a free slot, or is accepted in the one where it sits: with the second of this one, where all minutes before that
 -- are kept.
 abbrev pub ACardIsPutIn : Type 0
-ACardIsPutIn = (start : Start) (told : List Told) (past : List HistoryMinute) (left : List Card) (number from : ℕ) (slots : Slots) (k : Kept) →
+ACardIsPutIn = (start : Start) (told : List ToldSecond) (past : List HistoryMinute) (left : List Card) (number from : ℕ) (slots : Slots) (k : Kept) →
     SlotsTell start told past left number from slots k → (slot : Slot) (card : Card) (newest accepted : Option ℕ) → IsFree k.seats slot card →
     IsNewest start past from k card newest accepted →
     SlotsTell start told past left number from (with_slot slots slot (Some (record { card = card; accepted = accepted }))) (put_in slot card newest k)
 
 -- A CARD LEAVES its slot: it is withdrawn, pulled or torn out.
 abbrev pub ACardIsTakenOut : Type 0
-ACardIsTakenOut = (start : Start) (told : List Told) (past : List HistoryMinute) (left : List Card) (number from : ℕ) (slots : Slots) (k : Kept) →
+ACardIsTakenOut = (start : Start) (told : List ToldSecond) (past : List HistoryMinute) (left : List Card) (number from : ℕ) (slots : Slots) (k : Kept) →
     SlotsTell start told past left number from slots k → (slot : Slot) →
     SlotsTell start told past (left ++ card_in (in_slot slots slot)) number from (with_slot slots slot None) (taken slot number k)
 
 -- POWER IS LOST: every card leaves, and sits there.
 abbrev pub PowerIsLost : Type 0
-PowerIsLost = (start : Start) (told : List Told) (past : List HistoryMinute) (left : List Card) (number from : ℕ) (slots : Slots) (k : Kept) →
+PowerIsLost = (start : Start) (told : List ToldSecond) (past : List HistoryMinute) (left : List Card) (number from : ℕ) (slots : Slots) (k : Kept) →
     SlotsTell start told past left number from slots k →
     SlotsTell start told past (left ++ card_in slots.driver ++ card_in slots.codriver) number from
     (record { driver = powerless slots.driver; codriver = powerless slots.codriver }) (cut_off number k)
 
 -- A SECOND HAS GONE, with these leavings and slots at its end.
 abbrev pub ASecondHasGone : Type 0
-ASecondHasGone = (start : Start) (told : List Told) (past : List HistoryMinute) (from : ℕ) (t : Told) (k : Kept) →
+ASecondHasGone = (start : Start) (told : List ToldSecond) (past : List HistoryMinute) (from : ℕ) (t : ToldSecond) (k : Kept) →
     SlotsTell start told past t.course.left t.second.number from t.course.slots k →
     SlotsTell start (told ++ t ∷ []) past [] t.second.number from t.course.slots k
 
 -- THE LAST SECOND TURNS OUT TO BE A CUT'S, as an `off` line says: power is lost behind all of it.
 abbrev pub TheLastSecondIsCut : Type 0
-TheLastSecondIsCut = (start : Start) (told : List Told) (past : List HistoryMinute) (from : ℕ) (t : Told) (k : Kept) →
+TheLastSecondIsCut = (start : Start) (told : List ToldSecond) (past : List HistoryMinute) (from : ℕ) (t : ToldSecond) (k : Kept) →
     SlotsTell start (told ++ t ∷ []) past [] t.second.number from t.course.slots k →
     SlotsTell start (told ++ cut_at_end t ∷ []) past [] t.second.number from (cut_at_end t).course.slots (cut_off t.second.number k)
 
 -- The next second of THE SAME MINUTE begins.
 abbrev pub TheMinuteGoesOn : Type 0
-TheMinuteGoesOn = (start : Start) (told : List Told) (past : List HistoryMinute) (left : List Card) (number later from : ℕ) (slots : Slots) (k : Kept) →
+TheMinuteGoesOn = (start : Start) (told : List ToldSecond) (past : List HistoryMinute) (left : List Card) (number later from : ℕ) (slots : Slots) (k : Kept) →
     SlotsTell start told past left number from slots k → number ≤ later → later / 60 ≡ number / 60 →
     SlotsTell start told past left later from slots k
 
 -- A MINUTE ENDS: who is present in it is told as the history does.
 abbrev pub AMinuteEnds : Type 0
-AMinuteEnds = (start : Start) (told : List Told) (past : List HistoryMinute) (number later from : ℕ) (slots : Slots) (k : Kept) →
+AMinuteEnds = (start : Start) (told : List ToldSecond) (past : List HistoryMinute) (number later from : ℕ) (slots : Slots) (k : Kept) →
     SlotsTell start told past [] number from slots k → EndsWith told number slots → later / 60 ≡ number / 60 + 1 →
     from ≤ number / 60 → number / 60 ≤ from + 3 →
     SlotsTell start told past [] later from slots (minute_ended (number / 60) k)
 
 -- TIME PASSES in which no minute is kept, as without power.
 abbrev pub TimePasses : Type 0
-TimePasses = (start : Start) (told : List Told) (past : List HistoryMinute) (number later from next : ℕ) (slots : Slots) (k : Kept) →
+TimePasses = (start : Start) (told : List ToldSecond) (past : List HistoryMinute) (number later from next : ℕ) (slots : Slots) (k : Kept) →
     SlotsTell start told past [] number from slots k → number ≤ later → from ≤ next → later / 60 ≤ next →
     SlotsTell start told past [] later next slots k
 
 -- MINUTES ARE KEPT, or need not be any more.
 abbrev pub MinutesAreKept : Type 0
-MinutesAreKept = (start : Start) (told : List Told) (past : List HistoryMinute) (left : List Card) (number from next : ℕ) (slots : Slots) (k : Kept) →
+MinutesAreKept = (start : Start) (told : List ToldSecond) (past : List HistoryMinute) (left : List Card) (number from next : ℕ) (slots : Slots) (k : Kept) →
     SlotsTell start told past left number from slots k → (more : List HistoryMinute) → All (λ i. from ≤ i.minute) more → from ≤ next →
     SlotsTell start told (past ++ more) left number next slots k
 
 -- WHAT WAS KEPT IS FOUND at a power-on, before a card is accepted.
 abbrev pub WhatWasKeptIsFound : Type 0
-WhatWasKeptIsFound = (start : Start) (told : List Told) (past found : List HistoryMinute) (left : List Card) (number from next : ℕ) (slots : Slots) (k : Kept) →
+WhatWasKeptIsFound = (start : Start) (told : List ToldSecond) (past found : List HistoryMinute) (left : List Card) (number from next : ℕ) (slots : Slots) (k : Kept) →
     SlotsTell start told past left number from slots k → is_accepted slots.driver ≡ false → is_accepted slots.codriver ≡ false →
     number / 60 ≤ next → SlotsTell start told found left number next slots k

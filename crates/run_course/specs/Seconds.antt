@@ -11,7 +11,7 @@ use Rattle.log_model.specs.declared.lines.Find.{Find}
 use Rattle.log_model.specs.declared.lines.Refused.{Refused}
 use Rattle.log_model.specs.Log.{RunLog, cut_in}
 use Rattle.log_model.specs.Causes.{second_of}
-use Rattle.log_model.specs.Course.{Told, went, second_told}
+use Rattle.log_model.specs.Course.{ToldSecond, went, second_told}
 use Rattle.history_model.specs.Minutes.{HistoryMinute}
 use Rattle.history_model.specs.Presence.{Start}
 use Rattle.history_model.specs.History.{decided_of, minutes_after}
@@ -21,7 +21,7 @@ use Rattle.run_unit_course.specs.Followed.{Lit, Due, Lost, MayPower, MayFail, Is
 use Rattle.run_unit_course.specs.Turn.{span_at}
 use Rattle.run_unit_course.specs.Lines.{cut_at, found_from}
 use Rattle.run_course.specs.Moments.{and_break}
-use Rattle.run_course.specs.Followed.{Progress, Followed}
+use Rattle.run_course.specs.Followed.{Progress, BookFollowsRun}
 
 -- these minutes are kept, one after another
 abbrev pub kept_all : List HistoryMinute → Book → Book
@@ -42,11 +42,11 @@ pub record GoesOnBy (p : Progress) (later : RunLog) (s : TraceSecond) : Type 0 w
   pub finds : (rest : List Find) × (later.finds ≡ p.log.finds ++ rest) × AllByRecursion (λ (f : Find). f.second ≡ p.next) rest
 
 -- this second as it goes by that log
-abbrev pub next_told : RunLog → List TraceSecond → TraceSecond → Told
+abbrev pub next_told : RunLog → List TraceSecond → TraceSecond → ToldSecond
 next_told later done s = second_told later (went later done).before s
 
 -- the minutes that a second decides, with their cards, where these were kept before
-abbrev pub DecidedBy : Rule → Start → RunLog → (done : List TraceSecond) → TraceSecond → (span : List Told) → Book → List HistoryMinute → Type 0
+abbrev pub DecidedBy : Rule → Start → RunLog → (done : List TraceSecond) → TraceSecond → (span : List ToldSecond) → Book → List HistoryMinute → Type 0
 DecidedBy rule start later done s span b new =
     (ds : List Minute) × (decided_of rule (span ++ next_told later done s ∷ []) ≡ decided_of rule span ++ ds)
     × (new ≡ minutes_after start ((went later done).told ++ next_told later done s ∷ []) b.sure ds)
@@ -54,7 +54,7 @@ DecidedBy rule start later done s span b new =
 -- A RUN BEGINS with nothing kept, and power comes with the first second that the trace gives it.
 abbrev pub ARunBegins : Type 0
 ARunBegins = (rule : Rule) (start : Start) (from first : ℕ) → first < from / 60 →
-    Followed rule start from first [] (record {
+    BookFollowsRun rule start from first [] (record {
       log = record { breaks = []; refused = []; finds = [] };
       unfound = 0;
       next = from;
@@ -66,9 +66,9 @@ ARunBegins = (rule : Rule) (start : Start) (from first : ℕ) → first < from /
 
 -- POWER IS BACK: the last-kept minute is found, and it counts for all cuts of which nothing was known.
 abbrev pub APowerOnFinds : Type 0
-APowerOnFinds = (rule : Rule) (start : Start) (from first : ℕ) (done : List TraceSecond) (p : Progress) → Followed rule start from first done p →
+APowerOnFinds = (rule : Rule) (start : Start) (from first : ℕ) (done : List TraceSecond) (p : Progress) → BookFollowsRun rule start from first done p →
     MayPower p.supply p.next → (k : ℕ) → IsMark first (all p.book) k → All (λ i. i.minute ≤ k) p.book.sure →
-    Followed rule start from first done (record p {
+    BookFollowsRun rule start from first done (record p {
       log = record p.log { breaks = found_from p.unfound k p.log.breaks };
       unfound = length (found_from p.unfound k p.log.breaks);
       supply = Lit [];
@@ -78,16 +78,16 @@ APowerOnFinds = (rule : Rule) (start : Start) (from first : ℕ) (done : List Tr
 
 -- A POWER-ON FAILS in the second with which power came, before a minute is begun: also once the unit was read.
 abbrev pub APowerOnFails : Type 0
-APowerOnFails = (rule : Rule) (start : Start) (from first : ℕ) (done : List TraceSecond) (p : Progress) → Followed rule start from first done p →
+APowerOnFails = (rule : Rule) (start : Start) (from first : ℕ) (done : List TraceSecond) (p : Progress) → BookFollowsRun rule start from first done p →
     MayFail p.supply p.next → p.waiting ≡ [] → (s : TraceSecond) (later : RunLog) → GoesOnBy p later s → (begun : ℕ) → cut_in later s.number ≡ Some begun →
-    Followed rule start from first (done ++ s ∷ []) (record { log = later; unfound = p.unfound; next = suc p.next; begun = length s.actions; supply = Lost; book = p.book; waiting = [] })
+    BookFollowsRun rule start from first (done ++ s ∷ []) (record { log = later; unfound = p.unfound; next = suc p.next; begun = length s.actions; supply = Lost; book = p.book; waiting = [] })
 
 -- ONE SECOND MORE with power: all that it decides is kept.
 abbrev pub ASecondGoesOn : Type 0
-ASecondGoesOn = (rule : Rule) (start : Start) (from first : ℕ) (done : List TraceSecond) (p : Progress) → Followed rule start from first done p →
-    (span : List Told) → p.supply ≡ Lit span → p.waiting ≡ [] → (s : TraceSecond) (later : RunLog) → GoesOnBy p later s → cut_in later s.number ≡ None →
+ASecondGoesOn = (rule : Rule) (start : Start) (from first : ℕ) (done : List TraceSecond) (p : Progress) → BookFollowsRun rule start from first done p →
+    (span : List ToldSecond) → p.supply ≡ Lit span → p.waiting ≡ [] → (s : TraceSecond) (later : RunLog) → GoesOnBy p later s → cut_in later s.number ≡ None →
     (new : List HistoryMinute) → DecidedBy rule start later done s span p.book new →
-    Followed rule start from first (done ++ s ∷ []) (record {
+    BookFollowsRun rule start from first (done ++ s ∷ []) (record {
       log = later;
       unfound = p.unfound;
       next = suc p.next;
@@ -99,11 +99,11 @@ ASecondGoesOn = (rule : Rule) (start : Start) (from first : ℕ) (done : List Tr
 
 -- OR IT IS A CUT'S: some of what it decides is kept, and one minute more may be, or none was begun.
 abbrev pub ASecondBreaksOff : Type 0
-ASecondBreaksOff = (rule : Rule) (start : Start) (from first : ℕ) (done : List TraceSecond) (p : Progress) → Followed rule start from first done p →
-    (span : List Told) → p.supply ≡ Lit span → p.waiting ≡ [] → (s : TraceSecond) (later : RunLog) → GoesOnBy p later s → (begun : ℕ) →
+ASecondBreaksOff = (rule : Rule) (start : Start) (from first : ℕ) (done : List TraceSecond) (p : Progress) → BookFollowsRun rule start from first done p →
+    (span : List ToldSecond) → p.supply ≡ Lit span → p.waiting ≡ [] → (s : TraceSecond) (later : RunLog) → GoesOnBy p later s → (begun : ℕ) →
     cut_in later s.number ≡ Some begun →
     (new front rest : List HistoryMinute) (i : Option HistoryMinute) → DecidedBy rule start later done s span p.book new → new ≡ front ++ (option_to_list i ++ rest) →
-    Followed rule start from first (done ++ s ∷ []) (record {
+    BookFollowsRun rule start from first (done ++ s ∷ []) (record {
       log = later;
       unfound = p.unfound;
       next = suc p.next;
@@ -115,39 +115,39 @@ ASecondBreaksOff = (rule : Rule) (start : Start) (from first : ℕ) (done : List
 
 -- THE MINUTES that a second decides come one after another from the first that was not decided before, and are over as it begins: so
 -- who was present in them is told by the seconds before it.
-pub record AreNew (rule : Rule) (start : Start) (next : ℕ) (span told : List Told) (t : Told) (ds : List Minute) : Type 0 where
+pub record AreNew (rule : Rule) (start : Start) (next : ℕ) (span told : List ToldSecond) (t : ToldSecond) (ds : List Minute) : Type 0 where
   pub due : map (λ (d : Minute). d.minute) ds ≡ count_from (ungiven_of (span_at rule next span)) (length ds)
   pub over : All (λ (d : Minute). d.minute < next / 60) ds
   pub told_before : (past : List HistoryMinute) → minutes_after start (told ++ t ∷ []) past ds ≡ minutes_after start told past ds
 
 abbrev pub DecidedMinutesAreNew : Type 0
-DecidedMinutesAreNew = (rule : Rule) (start : Start) (from first : ℕ) (done : List TraceSecond) (p : Progress) → Followed rule start from first done p →
-    (span : List Told) → p.supply ≡ Lit span → p.waiting ≡ [] → (s : TraceSecond) (later : RunLog) → GoesOnBy p later s →
+DecidedMinutesAreNew = (rule : Rule) (start : Start) (from first : ℕ) (done : List TraceSecond) (p : Progress) → BookFollowsRun rule start from first done p →
+    (span : List ToldSecond) → p.supply ≡ Lit span → p.waiting ≡ [] → (s : TraceSecond) (later : RunLog) → GoesOnBy p later s →
     (ds : List Minute) → decided_of rule (span ++ next_told later done s ∷ []) ≡ decided_of rule span ++ ds →
     AreNew rule start p.next span (went later done).told (next_told later done s) ds
 
 -- FOR THE RULES OF MINUTES a second with power is that span with its settling, its selections and its speed.
 abbrev pub RulesSeeTheSecond : Type 0
-RulesSeeTheSecond = (rule : Rule) (start : Start) (from first : ℕ) (done : List TraceSecond) (p : Progress) → Followed rule start from first done p →
-    (span : List Told) → p.supply ≡ Lit span → (s : TraceSecond) (later : RunLog) → GoesOnBy p later s →
-    let t : Told = next_told later done s in
+RulesSeeTheSecond = (rule : Rule) (start : Start) (from first : ℕ) (done : List TraceSecond) (p : Progress) → BookFollowsRun rule start from first done p →
+    (span : List ToldSecond) → p.supply ≡ Lit span → (s : TraceSecond) (later : RunLog) → GoesOnBy p later s →
+    let t : ToldSecond = next_told later done s in
     span_at rule (suc p.next) (span ++ t ∷ []) ≡ fed (picking t.second.picks (settled_where t.course.settled (span_at rule p.next span))) t.second.speed
 
 -- AFTER A FAILED CALL the seconds up to the minute's end are dark, and their actions are refused.
 abbrev pub AMinuteStaysDark : Type 0
-AMinuteStaysDark = (rule : Rule) (start : Start) (from first : ℕ) (done : List TraceSecond) (p : Progress) → Followed rule start from first done p →
+AMinuteStaysDark = (rule : Rule) (start : Start) (from first : ℕ) (done : List TraceSecond) (p : Progress) → BookFollowsRun rule start from first done p →
     p.supply ≡ Lost → (n speed : ℕ) (actions : List Action) (refused : List Refused) (begun : ℕ) → 0 < p.next % 60 → p.next % 60 + n ≤ 60 →
-    Followed rule start from first (done ++ driven n p.next speed actions) (record p { log = record p.log { refused = refused }; next = p.next + n; begun = begun })
+    BookFollowsRun rule start from first (done ++ driven n p.next speed actions) (record p { log = record p.log { refused = refused }; next = p.next + n; begun = begun })
 
 -- AN `off` LINE of a second at least while there is no power,
 abbrev pub AnOffLineIsDark : Type 0
-AnOffLineIsDark = (rule : Rule) (start : Start) (from first : ℕ) (done : List TraceSecond) (p : Progress) → Followed rule start from first done p →
+AnOffLineIsDark = (rule : Rule) (start : Start) (from first : ℕ) (done : List TraceSecond) (p : Progress) → BookFollowsRun rule start from first done p →
     IsDark p.supply → (n : ℕ) →
-    Followed rule start from first (done ++ dark (suc n) p.next) (record p { next = p.next + suc n; begun = 0; supply = Due })
+    BookFollowsRun rule start from first (done ++ dark (suc n) p.next) (record p { next = p.next + suc n; begun = 0; supply = Due })
 
 -- and while there is: its last second turns out to be a cut's, behind all of its actions.
 abbrev pub AnOffLineCuts : Type 0
-AnOffLineCuts = (rule : Rule) (start : Start) (from first : ℕ) (done : List TraceSecond) (p : Progress) → Followed rule start from first done p →
-    (t : Told) (span : List Told) → p.supply ≡ Lit (t ∷ span) → p.waiting ≡ [] → (n : ℕ) →
-    Followed rule start from first (done ++ dark (suc n) p.next)
+AnOffLineCuts = (rule : Rule) (start : Start) (from first : ℕ) (done : List TraceSecond) (p : Progress) → BookFollowsRun rule start from first done p →
+    (t : ToldSecond) (span : List ToldSecond) → p.supply ≡ Lit (t ∷ span) → p.waiting ≡ [] → (n : ℕ) →
+    BookFollowsRun rule start from first (done ++ dark (suc n) p.next)
     (record p { log = and_break p.log (cut_at (p.next - 1) false p.begun); next = p.next + suc n; begun = 0; supply = Due })

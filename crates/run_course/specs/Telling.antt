@@ -14,13 +14,13 @@ use Rattle.log_model.specs.declared.lines.Find.{Find}
 use Rattle.log_model.specs.Log.{RunLog, Phase, In, Keeping, is_torn_in, found_in}
 use Rattle.log_model.specs.Slots.{Sitting, in_slot}
 use Rattle.log_model.specs.Causes.{device_of, RoseBy}
-use Rattle.log_model.specs.Course.{Told, Course, Visit, Before, visits, fresh, cut_told, went}
+use Rattle.log_model.specs.Course.{ToldSecond, Course, Visit, Before, visits, fresh, cut_told, went}
 use Rattle.history_model.specs.Presence.{Start}
 use Rattle.run_unit_course.specs.Lines.{cut_at}
 use Rattle.run_unit_course.specs.Followed.{Lit, MayFail}
 use Rattle.run_unit_course.specs.Turn.{begins_with}
 use Rattle.run_course.specs.Moments.{and_break, and_find}
-use Rattle.run_course.specs.Followed.{Progress, Followed}
+use Rattle.run_course.specs.Followed.{Progress, BookFollowsRun}
 use Rattle.run_course.specs.Seconds.{next_told}
 use Rattle.run_course.specs.Within.{IsFoundOf, not_begun}
 use Rattle.run_course.specs.Caused.{AreNewCauses}
@@ -84,7 +84,7 @@ TheKeepingComes = (p : Progress) (before : Before) (s : TraceSecond) (log : RunL
     Moment p before s Keeping log [] mid now × (course_at log before s Keeping ≡ course_at log before s (In (length s.actions)))
 
 -- a second with power, with this course
-abbrev pub told_with : (starts cut : Bool) → TraceSecond → Course → Told
+abbrev pub told_with : (starts cut : Bool) → TraceSecond → Course → ToldSecond
 told_with starts cut s c = record {
   second = record { number = s.number; speed = s.speed; picks = c.picks };
   given = true;
@@ -96,8 +96,8 @@ told_with starts cut s c = record {
 
 -- THE SECOND ENDS: this is how it went, and its new lines tell exactly that.
 abbrev pub TheSecondEnds : Type 0
-TheSecondEnds = (rule : Rule) (start : Start) (from first : ℕ) (done : List TraceSecond) (p : Progress) → Followed rule start from first done p →
-    (span : List Told) → p.supply ≡ Lit span → (s : TraceSecond) (log : RunLog) (mid now : Device → ℕ) → (m : Moment p (went p.log done).before s Keeping log [] mid now) →
+TheSecondEnds = (rule : Rule) (start : Start) (from first : ℕ) (done : List TraceSecond) (p : Progress) → BookFollowsRun rule start from first done p →
+    (span : List ToldSecond) → p.supply ≡ Lit span → (s : TraceSecond) (log : RunLog) (mid now : Device → ℕ) → (m : Moment p (went p.log done).before s Keeping log [] mid now) →
     (next_told log done s ≡ told_with (begins_with span) false s (course_at log (went p.log done).before s Keeping))
     × AreNewCauses mid now m.breaks m.finds m.refused log s (next_told log done s)
 
@@ -113,8 +113,8 @@ IsLeft s Keeping rest = rest ≡ []
 
 -- OR A CUT ENDS IT at a moment: a call on the unit has failed.
 abbrev pub ACutEnds : Type 0
-ACutEnds = (rule : Rule) (start : Start) (from first : ℕ) (done : List TraceSecond) (p : Progress) → Followed rule start from first done p →
-    (span : List Told) → p.supply ≡ Lit span → (s : TraceSecond) (at : Phase) (log : RunLog) (waits : List Visit) (mid now later : Device → ℕ) →
+ACutEnds = (rule : Rule) (start : Start) (from first : ℕ) (done : List TraceSecond) (p : Progress) → BookFollowsRun rule start from first done p →
+    (span : List ToldSecond) → p.supply ≡ Lit span → (s : TraceSecond) (at : Phase) (log : RunLog) (waits : List Visit) (mid now later : Device → ℕ) →
     (m : Moment p (went p.log done).before s at log waits mid now) → IsMore now later → RoseBy 1 (mid Recorder) (later Recorder) → (rest : List Action) → IsLeft s at rest →
     let cut : Break = cut_at s.number true (begun_by s at) in
     let told_log : RunLog = and_break log cut in
@@ -123,7 +123,7 @@ ACutEnds = (rule : Rule) (start : Start) (from first : ℕ) (done : List TraceSe
 
 -- A POWER-ON FAILS at once: the second with which power came is a cut's.
 abbrev pub APowerOnIsCut : Type 0
-APowerOnIsCut = (rule : Rule) (start : Start) (from first : ℕ) (done : List TraceSecond) (p : Progress) → Followed rule start from first done p →
+APowerOnIsCut = (rule : Rule) (start : Start) (from first : ℕ) (done : List TraceSecond) (p : Progress) → BookFollowsRun rule start from first done p →
     MayFail p.supply p.next → (s : TraceSecond) → s.number ≡ p.next → s.has_power ≡ true → (mid later : Device → ℕ) → IsMore mid later → RoseBy 1 (mid Recorder) (later Recorder) →
     let cut : Break = cut_at s.number true 0 in
     let told_log : RunLog = and_break p.log cut in

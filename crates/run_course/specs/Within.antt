@@ -9,7 +9,7 @@ use Rattle.trace_model.specs.Trace.{TraceSecond}
 use Rattle.log_model.specs.declared.lines.Verdict.{Verdict}
 use Rattle.log_model.specs.Log.{RunLog, Phase, In, Keeping, is_accepting, cut_in, is_torn_in, found_in}
 use Rattle.log_model.specs.Slots.{Sitting, same_card, in_slot, other_slot, refusal}
-use Rattle.log_model.specs.Course.{Told, Course, Visit, Before, Moved, visits, card_in, with_slot, both_told, moved_by, unmoved, answered, fresh, is_settling, cut_told, has_power, second_told}
+use Rattle.log_model.specs.Course.{ToldSecond, Course, Visit, Before, Moved, visits, card_in, with_slot, both_told, moved_by, unmoved, answered, fresh, is_settling, cut_told, has_power, second_told}
 use Rattle.event_model.specs.Events.{course_by}
 use Rattle.history_model.specs.Minutes.{HistoryMinute}
 use Rattle.history_model.specs.Presence.{Start}
@@ -101,12 +101,12 @@ AFindIsTold = (log later : RunLog) (u : ℕ) (p : Phase) (slot : Slot) (v : Verd
 
 -- WHAT THE SLOTS TELL behind a tear, and behind an acceptance.
 abbrev pub SlotsTellATear : Type 0
-SlotsTellATear = (start : Start) (told : List Told) (past : List HistoryMinute) (number from : ℕ) (slot : Slot) (old new : Course) (k : Kept) →
+SlotsTellATear = (start : Start) (told : List ToldSecond) (past : List HistoryMinute) (number from : ℕ) (slot : Slot) (old new : Course) (k : Kept) →
     SlotsTell start told past old.left number from old.slots k → IsTornFrom slot old new →
     SlotsTell start told past new.left number from new.slots (taken slot number k)
 
 abbrev pub SlotsTellAnAcceptance : Type 0
-SlotsTellAnAcceptance = (start : Start) (told : List Told) (past : List HistoryMinute) (number from : ℕ) (p : Phase) (slot : Slot) (v : Verdict) (card : Card) (newest : ℕ) (old new : Course) (k : Kept) →
+SlotsTellAnAcceptance = (start : Start) (told : List ToldSecond) (past : List HistoryMinute) (number from : ℕ) (p : Phase) (slot : Slot) (v : Verdict) (card : Card) (newest : ℕ) (old new : Course) (k : Kept) →
     SlotsTell start told past old.left number from old.slots k → IsFoundOf number p slot v old new → is_accepting v ≡ true →
     in_slot old.slots slot ≡ Some (record { card = card; accepted = None }) → IsFree k.seats slot card →
     IsNewest start past from k card (Some newest) (Some number) →

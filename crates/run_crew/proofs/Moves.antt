@@ -21,7 +21,7 @@ use Rattle.run_crew.specs.declared.cards.Known.{Known}
 use Rattle.run_crew.specs.declared.cards.Cards.{Cards}
 use Rattle.run_crew.specs.declared.cabin.Cabin.{Cabin}
 use Rattle.run_crew.specs.Cards.{known_of, session_of, with_session, with_number, with_sizes, IsKnown}
-use Rattle.run_crew.specs.Cabin.{Stands, AnswersTo, SeatAnswers, AreTwo, IsBehind, EndedStands, SitsThere, SitsNowhere, MayBeKept, slot_with, left_from, with_card_in, with_sizes_of, with_accepted, with_slot_left, with_session_of, torn_out, with_power_lost, with_minute_ended}
+use Rattle.run_crew.specs.Cabin.{CabinIsSound, AnswersTo, SeatAnswers, AreTwo, IsBehind, EndedStands, SitsThere, SitsNowhere, MayBeKept, slot_with, left_from, with_card_in, with_sizes_of, with_accepted, with_slot_left, with_session_of, torn_out, with_power_lost, with_minute_ended}
 use Rattle.run_crew.proofs.Sessions.{same_self, session_set, session_apart, session_named, sized_of, numbered_of, SameBut, seat_apart, two_first, two_second, two_none, off_first, off_second, sits_is, behind_none, ended_less, gone_or_same, all_gone, kept_is_apart}
 
 -- ---- a card that has no session
@@ -32,7 +32,7 @@ known_bare known none = record {
   numbered = subst (λ (o : Option Accepted). IfSome o (λ a. is_some known.number ≡ true)) (sym none) tt;
 }
 
-pub new-stands : (a b : Known) → a.accepted ≡ None → b.accepted ≡ None → (from : ℕ) → Stands from None (record { slots = nothing_yet; cards = record { a = a; b = b } })
+pub new-stands : (a b : Known) → a.accepted ≡ None → b.accepted ≡ None → (from : ℕ) → CabinIsSound from None (record { slots = nothing_yet; cards = record { a = a; b = b } })
 new-stands a b no_a no_b from = record {
   a = known_bare a no_a;
   b = known_bare b no_b;
@@ -58,7 +58,7 @@ without B B cards a b = record { sized = tt; numbered = tt }
 -- ---- a card is put in
 
 -- a card that sits nowhere has no session
-no_session : (cabin : Cabin) (from : ℕ) (card : Card) → Stands from None cabin → SitsNowhere cabin.slots.seats card → session_of cabin.cards card ≡ None
+no_session : (cabin : Cabin) (from : ℕ) (card : Card) → CabinIsSound from None cabin → SitsNowhere cabin.slots.seats card → session_of cabin.cards card ≡ None
 no_session cabin from card h off = by (session_of cabin.cards card) refl
   where
     nowhere : SitsThere cabin.slots.seats card ⊎ (None ≡ Some card) → ⊥
@@ -78,7 +78,7 @@ bare_answers : (from : ℕ) (cards : Cards) (card : Card) → session_of cards c
 bare_answers from cards card none = subst (λ (s : Option Accepted). AnswersTo from None s) (sym none) tt
 
 pub put-stands : (cabin : Cabin) (slot : Slot) (card : Card) (from : ℕ) → seat_in cabin.slots.seats slot ≡ None → is_card (seat_in cabin.slots.seats (other_slot slot)) card ≡ false
-    → KnowsNewest (put_in slot card None cabin.slots) → Stands from None cabin → Stands from None (with_card_in slot card cabin)
+    → KnowsNewest (put_in slot card None cabin.slots) → CabinIsSound from None cabin → CabinIsSound from None (with_card_in slot card cabin)
 put-stands cabin Driver card from empty off newest h =
     let none = no_session cabin from card h (put-seats cabin.slots.seats Driver card empty off) in
     record {
@@ -123,8 +123,8 @@ seat_same from cards new same None answers = tt
 seat_same from cards new same (Some seat) answers = subst (λ (s : Option Accepted). AnswersTo from seat.newest s) (sym (same seat.card)) answers
 
 -- where each session is as it was
-same-stands : (cabin : Cabin) (new : Cards) (from : ℕ) (leaving : Option Card) → ((c : Card) → session_of new c ≡ session_of cabin.cards c) → IsKnown new.a → IsKnown new.b → Stands from leaving cabin
-    → Stands from leaving (record { slots = cabin.slots; cards = new })
+same-stands : (cabin : Cabin) (new : Cards) (from : ℕ) (leaving : Option Card) → ((c : Card) → session_of new c ≡ session_of cabin.cards c) → IsKnown new.a → IsKnown new.b → CabinIsSound from leaving cabin
+    → CabinIsSound from leaving (record { slots = cabin.slots; cards = new })
 same-stands cabin new from leaving same a b h = record {
   a = a;
   b = b;
@@ -138,7 +138,7 @@ same-stands cabin new from leaving same a b h = record {
   newest = h.newest;
 }
 
-pub measure-stands : (cabin : Cabin) (card : Card) (sizes : Result Application ℕ) (from : ℕ) (leaving : Option Card) → session_of cabin.cards card ≡ None → Stands from leaving cabin → Stands from leaving (with_sizes_of card sizes cabin)
+pub measure-stands : (cabin : Cabin) (card : Card) (sizes : Result Application ℕ) (from : ℕ) (leaving : Option Card) → session_of cabin.cards card ≡ None → CabinIsSound from leaving cabin → CabinIsSound from leaving (with_sizes_of card sizes cabin)
 measure-stands cabin A sizes from leaving bare h =
     same-stands cabin (with_sizes A sizes cabin.cards) from leaving same (known_bare (record cabin.cards.a { sizes = sizes }) bare) h.b h
   where
@@ -155,7 +155,7 @@ measure-stands cabin B sizes from leaving bare h =
 -- ---- a card is accepted
 
 module _ (cabin : Cabin) (card : Card) (number : FullCardNumber) (row : ℕ) (accepted : Accepted) (from : ℕ) (early : cabin.slots.minute ≤ from)
-    (sizes : (known_of cabin.cards card).sizes ≡ Ok accepted.session.application) (h : Stands from None cabin) where
+    (sizes : (known_of cabin.cards card).sizes ≡ Ok accepted.session.application) (h : CabinIsSound from None cabin) where
   known_now : (c : Card) → IsKnown (known_of (with_session card (Some accepted) (with_number card number row cabin.cards)) c)
   known_now c = by card c sizes
     where
@@ -193,7 +193,7 @@ module _ (cabin : Cabin) (card : Card) (number : FullCardNumber) (row : ℕ) (ac
   seated o c is = ap (λ (o : Option Seat). is_card o c) is
 
   pub accept-stands : (slot : Slot) → seat_in cabin.slots.seats slot ≡ Some (record { card = card; newest = None }) → is_card (seat_in cabin.slots.seats (other_slot slot)) card ≡ false
-      → KnowsNewest (put_in slot card (Some accepted.session.minute) cabin.slots) → Stands from None (with_accepted slot card number row accepted cabin)
+      → KnowsNewest (put_in slot card (Some accepted.session.minute) cabin.slots) → CabinIsSound from None (with_accepted slot card number row accepted cabin)
   accept-stands Driver seat off newest = record {
     a = known_now A;
     b = known_now B;
@@ -242,7 +242,7 @@ later_past from before after cards past le h =
     All-weaker (EndedStands from before cards) (EndedStands from after cards) (λ e was. ended_less from before after cards cards le (λ c. inr refl) e was) past h
 
 pub leave-stands : (cabin : Cabin) (slot : Slot) (second from : ℕ) (card : Card) → cabin.slots.minute ≤ second / 60 → card_in (seat_in cabin.slots.seats slot) ≡ Some card
-    → KnowsNewest (taken slot second cabin.slots) → Stands from None cabin → Stands from (Some card) (with_slot_left slot second cabin)
+    → KnowsNewest (taken slot second cabin.slots) → CabinIsSound from None cabin → CabinIsSound from (Some card) (with_slot_left slot second cabin)
 leave-stands cabin Driver second from card le is newest h = record {
   a = h.a;
   b = h.b;
@@ -285,7 +285,7 @@ apart_none card cards c off = session_apart card c None cards off
 still_some : (card c : Card) (cards : Cards) → is_some (session_of (with_session card None cards) c) ≡ true → is_some (session_of cards c) ≡ true
 still_some card c cards some = ap is_some (sym (session_apart card c None cards (kept_is_apart card c cards some))) ∙ some
 
-pub close-stands : (cabin : Cabin) (card : Card) (from : ℕ) → Stands from (Some card) cabin → Stands from None (with_session_of card None cabin)
+pub close-stands : (cabin : Cabin) (card : Card) (from : ℕ) → CabinIsSound from (Some card) cabin → CabinIsSound from None (with_session_of card None cabin)
 close-stands cabin card from h = record {
   a = without card A cabin.cards h.a h.b;
   b = without card B cabin.cards h.a h.b;
@@ -306,14 +306,14 @@ close-stands cabin card from h = record {
         let own : same_card c card ≡ true = subst (λ (d : Card). same_card d card ≡ true) e (same_self card) in
         absurd (cc)
 
-module _ (cabin : Cabin) (card : Card) (second from : ℕ) (leaving : Option Card) (le : cabin.slots.minute ≤ second / 60) (h : Stands from leaving cabin) where
+module _ (cabin : Cabin) (card : Card) (second from : ℕ) (leaving : Option Card) (le : cabin.slots.minute ≤ second / 60) (h : CabinIsSound from leaving cabin) where
   torn_past : (after : ℕ) → cabin.slots.minute ≤ after → All (EndedStands from after (with_session card None cabin.cards)) cabin.slots.past
   torn_past after late = All-weaker (EndedStands from cabin.slots.minute cabin.cards) (EndedStands from after (with_session card None cabin.cards))
       (λ e was. ended_less from cabin.slots.minute after cabin.cards (with_session card None cabin.cards) late (gone_or_same card cabin.cards) e was) cabin.slots.past h.past
 
   -- from the driver slot
   torn-driver : is_card cabin.slots.seats.driver card ≡ true → KnowsNewest (taken Driver second cabin.slots)
-      → Stands from leaving (record { slots = taken Driver second cabin.slots; cards = with_session card None cabin.cards })
+      → CabinIsSound from leaving (record { slots = taken Driver second cabin.slots; cards = with_session card None cabin.cards })
   torn-driver here newest =
       let off = off_first card cabin.slots.seats.codriver (subst (λ (o : Option Card). AreTwo o (card_in cabin.slots.seats.codriver)) (sits_is card cabin.slots.seats.driver here) h.apart) in
       record {
@@ -343,7 +343,7 @@ module _ (cabin : Cabin) (card : Card) (second from : ℕ) (leaving : Option Car
 
   -- from the co-driver slot
   torn-codriver : is_card cabin.slots.seats.driver card ≡ false → is_card cabin.slots.seats.codriver card ≡ true → KnowsNewest (taken CoDriver second cabin.slots)
-      → Stands from leaving (record { slots = taken CoDriver second cabin.slots; cards = with_session card None cabin.cards })
+      → CabinIsSound from leaving (record { slots = taken CoDriver second cabin.slots; cards = with_session card None cabin.cards })
   torn-codriver off here newest = record {
     a = without card A cabin.cards h.a h.b;
     b = without card B cabin.cards h.a h.b;
@@ -371,7 +371,7 @@ module _ (cabin : Cabin) (card : Card) (second from : ℕ) (leaving : Option Car
 
   -- from none
   torn-nowhere : is_card cabin.slots.seats.driver card ≡ false → is_card cabin.slots.seats.codriver card ≡ false
-      → Stands from leaving (record { slots = cabin.slots; cards = with_session card None cabin.cards })
+      → CabinIsSound from leaving (record { slots = cabin.slots; cards = with_session card None cabin.cards })
   torn-nowhere off beside = record {
     a = without card A cabin.cards h.a h.b;
     b = without card B cabin.cards h.a h.b;
@@ -385,12 +385,12 @@ module _ (cabin : Cabin) (card : Card) (second from : ℕ) (leaving : Option Car
   }
 
   abbrev TornBy : Option Slot → Type 0
-  TornBy o = Stands from leaving (record { slots = left_from o second cabin.slots; cards = with_session card None cabin.cards })
+  TornBy o = CabinIsSound from leaving (record { slots = left_from o second cabin.slots; cards = with_session card None cabin.cards })
 
-  pub tear-stands : KnowsNewest (left_from (slot_with cabin.slots.seats card) second cabin.slots) → Stands from leaving (torn_out card second cabin)
+  pub tear-stands : KnowsNewest (left_from (slot_with cabin.slots.seats card) second cabin.slots) → CabinIsSound from leaving (torn_out card second cabin)
   tear-stands newest = by (is_card cabin.slots.seats.driver card) (is_card cabin.slots.seats.codriver card) refl refl
     where
-      by : (d k : Bool) → is_card cabin.slots.seats.driver card ≡ d → is_card cabin.slots.seats.codriver card ≡ k → Stands from leaving (torn_out card second cabin)
+      by : (d k : Bool) → is_card cabin.slots.seats.driver card ≡ d → is_card cabin.slots.seats.codriver card ≡ k → CabinIsSound from leaving (torn_out card second cabin)
       by true k here beside =
           let at : slot_with cabin.slots.seats card ≡ Some Driver = ap (λ (d : Bool). cond d (Some Driver) (cond (is_card cabin.slots.seats.codriver card) (Some CoDriver) None)) here in
           subst TornBy (sym at) (torn-driver here (subst (λ (o : Option Slot). KnowsNewest (left_from o second cabin.slots)) at newest))
@@ -404,11 +404,11 @@ module _ (cabin : Cabin) (card : Card) (second from : ℕ) (leaving : Option Car
           subst TornBy (sym at) (torn-nowhere off beside)
 
 -- a card that has left its slot is torn out as its session is closed
-pub tear-left : (cabin : Cabin) (card : Card) (second from : ℕ) → Stands from (Some card) cabin → Stands from None (torn_out card second cabin)
+pub tear-left : (cabin : Cabin) (card : Card) (second from : ℕ) → CabinIsSound from (Some card) cabin → CabinIsSound from None (torn_out card second cabin)
 tear-left cabin card second from h =
     let at : slot_with cabin.slots.seats card ≡ None =
     ap (λ (d : Bool). cond d (Some Driver) (cond (is_card cabin.slots.seats.codriver card) (Some CoDriver) None)) h.left.driver ∙ ap (λ (k : Bool). cond k (Some CoDriver) None) h.left.codriver in
-    subst (λ (o : Option Slot). Stands from None (record { slots = left_from o second cabin.slots; cards = with_session card None cabin.cards })) (sym at) (close-stands cabin card from h)
+    subst (λ (o : Option Slot). CabinIsSound from None (record { slots = left_from o second cabin.slots; cards = with_session card None cabin.cards })) (sym at) (close-stands cabin card from h)
 
 -- ---- power is lost
 
@@ -420,7 +420,7 @@ dark_card : (seat : Option Seat) → card_in (powerless seat) ≡ card_in seat
 dark_card None = refl
 dark_card (Some seat) = refl
 
-pub cut-stands : (cabin : Cabin) (second from to : ℕ) (leaving : Option Card) → cabin.slots.minute ≤ second / 60 → KnowsNewest (cut_off second cabin.slots) → Stands from leaving cabin → Stands to None (with_power_lost second cabin)
+pub cut-stands : (cabin : Cabin) (second from to : ℕ) (leaving : Option Card) → cabin.slots.minute ≤ second / 60 → KnowsNewest (cut_off second cabin.slots) → CabinIsSound from leaving cabin → CabinIsSound to None (with_power_lost second cabin)
 cut-stands cabin second from to leaving le newest h = record {
   a = record { sized = tt; numbered = tt };
   b = record { sized = tt; numbered = tt };
@@ -483,7 +483,7 @@ two_less a b c d two (inl none) second = subst (λ (o : Option Card). AreTwo o b
 two_less a b c d two (inr same) (inl none) = subst (λ (o : Option Card). AreTwo a o) (sym none) (two_none a)
 two_less a b c d two (inr same) (inr here) = subst (λ (o : Option Card). AreTwo o b) (sym same) (subst (λ (o : Option Card). AreTwo c o) (sym here) two)
 
-pub end-stands : (cabin : Cabin) (m from : ℕ) → cabin.slots.minute ≤ m → from ≤ m → KnowsNewest (minute_ended m cabin.slots) → Stands from None cabin → Stands from None (with_minute_ended m cabin)
+pub end-stands : (cabin : Cabin) (m from : ℕ) → cabin.slots.minute ≤ m → from ≤ m → KnowsNewest (minute_ended m cabin.slots) → CabinIsSound from None cabin → CabinIsSound from None (with_minute_ended m cabin)
 end-stands cabin m from le early newest h =
     let ended : Ended = record { minute = m; present = record { driver = present_of (left_in cabin.slots.left) m cabin.slots.seats.driver; codriver = present_of (left_in cabin.slots.left) m cabin.slots.seats.codriver } } in
     record {
@@ -526,7 +526,7 @@ present-found from before cards m p (e ∷ past) late h is =
 -- ---- a session that kept a minute
 
 module _ (from m : ℕ) (card : Card) (old new : Accepted) (cabin : Cabin) (leaving : Option Card) (le : from ≤ m + 1) (is : session_of cabin.cards card ≡ Some old)
-    (sizes : new.session.application ≡ old.session.application) (most : new.session.minute ≤ m) (h : Stands from leaving cabin) where
+    (sizes : new.session.application ≡ old.session.application) (most : new.session.minute ≤ m) (h : CabinIsSound from leaving cabin) where
   known_on : (c : Card) → IsKnown (known_of (with_session card (Some new) cabin.cards) c)
   known_on c = by card c is (sized_of cabin.cards card old is h.a h.b) (numbered_of cabin.cards card old is h.a h.b)
     where
@@ -594,7 +594,7 @@ module _ (from m : ℕ) (card : Card) (old new : Accepted) (cabin : Cabin) (leav
       by (inl own) = ap is_some (ap (session_of cabin.cards) own.0 ∙ is)
       by (inr same) = ap is_some (sym same) ∙ some
 
-  pub kept-stands : Stands (m + 1) leaving (with_session_of card (Some new) cabin)
+  pub kept-stands : CabinIsSound (m + 1) leaving (with_session_of card (Some new) cabin)
   kept-stands = record {
     a = known_on A;
     b = known_on B;
@@ -621,7 +621,7 @@ later_seat : (from to : ℕ) (cards : Cards) → from ≤ to → (seat : Option 
 later_seat from to cards le None answers = tt
 later_seat from to cards le (Some seat) answers = later_answers from to le seat.newest (session_of cards seat.card) answers
 
-pub later-stands : (from to : ℕ) (leaving : Option Card) (cabin : Cabin) → from ≤ to → Stands from leaving cabin → Stands to leaving cabin
+pub later-stands : (from to : ℕ) (leaving : Option Card) (cabin : Cabin) → from ≤ to → CabinIsSound from leaving cabin → CabinIsSound to leaving cabin
 later-stands from to leaving cabin le h = record {
   a = h.a;
   b = h.b;

@@ -123,7 +123,7 @@ pub record SitsNowhere (seats : Seats) (card : Card) : Type 0 where
 
 -- The slots and the sessions between two calls, where the minutes before `from` are kept or not to be kept any more. A card may be
 -- leaving: it has left its slot, and its session is not closed yet.
-pub record Stands (from : ℕ) (leaving : Option Card) (cabin : Cabin) : Type 0 where
+pub record CabinIsSound (from : ℕ) (leaving : Option Card) (cabin : Cabin) : Type 0 where
   pub a : IsKnown cabin.cards.a
   pub b : IsKnown cabin.cards.b
   pub driver : SeatAnswers from cabin.cards cabin.slots.seats.driver

@@ -5,7 +5,7 @@ ghost use Rattle.card_slots.specs.Calls.{seat_in, card_in, is_card, present_in};
 ghost use Rattle.card_slots.specs.Kept.{IsFree, nothing_yet};
 ghost use Rattle.log_model.specs.Slots.{other_slot};
 ghost use Rattle.run_crew.specs.Cards.{known_of, session_of};
-ghost use Rattle.run_crew.specs.Cabin.{Stands, SitsNowhere, MayBeKept, KnowsEnded, with_card_in, with_sizes_of, with_accepted, with_slot_left, with_session_of, torn_out, with_power_lost, with_minute_ended, slot_with, number_of_seat, crew_of};
+ghost use Rattle.run_crew.specs.Cabin.{CabinIsSound, SitsNowhere, MayBeKept, KnowsEnded, with_card_in, with_sizes_of, with_accepted, with_slot_left, with_session_of, torn_out, with_power_lost, with_minute_ended, slot_with, number_of_seat, crew_of};
 
 use crate::cards::{Accepted, Cards, Crew, Known};
 use activity_codec::Slot;
@@ -28,7 +28,7 @@ impl Cabin {
         requires a { a.accepted ≡ None }
         requires b { b.accepted ≡ None }
         ensures kept { result ≡ record { slots = nothing_yet; cards = record { a = a; b = b } } }
-        ensures stands { (from : ℕ) → Stands from None result }
+        ensures stands { (from : ℕ) → CabinIsSound from None result }
     {
         Cabin {
             slots: Slots::new(),
@@ -41,7 +41,7 @@ impl Cabin {
         requires empty { seat_in self.old.slots.seats slot ≡ None }
         requires elsewhere { is_card (seat_in self.old.slots.seats (other_slot slot)) card ≡ false }
         ensures kept { self.new ≡ with_card_in slot card self.old }
-        ensures stands { (from : ℕ) → Stands from None self.old → Stands from None self.new }
+        ensures stands { (from : ℕ) → CabinIsSound from None self.old → CabinIsSound from None self.new }
     {
         self.slots.put(slot, card, None);
     }
@@ -50,7 +50,7 @@ impl Cabin {
     pub fn measure(&mut self, card: Card, sizes: Result<Application, u8>)
         requires bare { session_of self.old.cards card ≡ None }
         ensures kept { self.new ≡ with_sizes_of card sizes self.old }
-        ensures stands { (from : ℕ) (leaving : Option Card) → Stands from leaving self.old → Stands from leaving self.new }
+        ensures stands { (from : ℕ) (leaving : Option Card) → CabinIsSound from leaving self.old → CabinIsSound from leaving self.new }
     {
         self.cards.measure(card, sizes);
     }
@@ -69,7 +69,7 @@ impl Cabin {
         requires elsewhere { is_card (seat_in self.old.slots.seats (other_slot slot)) card ≡ false }
         requires sizes { (known_of self.old.cards card).sizes ≡ Ok accepted.session.application }
         ensures kept { self.new ≡ with_accepted slot card number row accepted self.old }
-        ensures stands { (from : ℕ) → self.old.slots.minute ≤ from → Stands from None self.old → Stands from None self.new }
+        ensures stands { (from : ℕ) → self.old.slots.minute ≤ from → CabinIsSound from None self.old → CabinIsSound from None self.new }
     {
         let newest = accepted.session.newest_minute();
         self.slots.put(slot, card, Some(newest));
@@ -82,7 +82,7 @@ impl Cabin {
         requires card { is_some (seat_in self.old.slots.seats slot) ≡ true }
         requires minute { self.old.slots.minute ≤ second / 60 }
         ensures kept { self.new ≡ with_slot_left slot second self.old }
-        ensures stands { (from : ℕ) (card : Card) → card_in (seat_in self.old.slots.seats slot) ≡ Some card → Stands from None self.old → Stands from (Some card) self.new }
+        ensures stands { (from : ℕ) (card : Card) → card_in (seat_in self.old.slots.seats slot) ≡ Some card → CabinIsSound from None self.old → CabinIsSound from (Some card) self.new }
     {
         self.slots.take(slot, second);
     }
@@ -91,7 +91,7 @@ impl Cabin {
     pub fn close(&mut self, card: Card) -> Option<Accepted>
         ensures session { result ≡ session_of self.old.cards card }
         ensures kept { self.new ≡ with_session_of card None self.old }
-        ensures stands { (from : ℕ) → Stands from (Some card) self.old → Stands from None self.new }
+        ensures stands { (from : ℕ) → CabinIsSound from (Some card) self.old → CabinIsSound from None self.new }
     {
         self.cards.take(card)
     }
@@ -100,8 +100,8 @@ impl Cabin {
     pub fn tear(&mut self, card: Card, second: u32)
         requires minute { self.old.slots.minute ≤ second / 60 }
         ensures kept { self.new ≡ torn_out card second self.old }
-        ensures stands { (from : ℕ) (leaving : Option Card) → Stands from leaving self.old → Stands from leaving self.new }
-        ensures left { (from : ℕ) → Stands from (Some card) self.old → Stands from None self.new }
+        ensures stands { (from : ℕ) (leaving : Option Card) → CabinIsSound from leaving self.old → CabinIsSound from leaving self.new }
+        ensures left { (from : ℕ) → CabinIsSound from (Some card) self.old → CabinIsSound from None self.new }
     {
         if let Some(slot) = self.slot_of(card) {
             self.slots.take(slot, second);
@@ -113,7 +113,7 @@ impl Cabin {
     pub fn cut(&mut self, second: u32)
         requires minute { self.old.slots.minute ≤ second / 60 }
         ensures kept { self.new ≡ with_power_lost second self.old }
-        ensures stands { (from to : ℕ) (leaving : Option Card) → Stands from leaving self.old → Stands to None self.new }
+        ensures stands { (from to : ℕ) (leaving : Option Card) → CabinIsSound from leaving self.old → CabinIsSound to None self.new }
     {
         self.slots.cut(second);
         self.cards.set_session(Card::A, None);
@@ -124,7 +124,7 @@ impl Cabin {
     pub fn end_minute(&mut self, minute: u32)
         requires minute { self.old.slots.minute ≤ minute }
         ensures kept { self.new ≡ with_minute_ended minute self.old }
-        ensures stands { (from : ℕ) → from ≤ minute → Stands from None self.old → Stands from None self.new }
+        ensures stands { (from : ℕ) → from ≤ minute → CabinIsSound from None self.old → CabinIsSound from None self.new }
         ensures ended { (from : ℕ) → minute < from + 4 → KnowsEnded from minute self.old.slots → KnowsEnded from (minute + 1) self.new.slots }
     {
         self.slots.end_minute(minute);
@@ -134,7 +134,7 @@ impl Cabin {
     pub fn present(&self, minute: u32) -> Present
         requires ended { is_some (present_in self.now.slots.past minute) ≡ true }
         ensures present { Some result ≡ present_in self.now.slots.past minute }
-        ensures stands { (from : ℕ) (leaving : Option Card) → from ≤ minute → Stands from leaving self.now → MayBeKept self.now.cards minute result }
+        ensures stands { (from : ℕ) (leaving : Option Card) → from ≤ minute → CabinIsSound from leaving self.now → MayBeKept self.now.cards minute result }
     {
         self.slots.present(minute)
     }

@@ -7,22 +7,22 @@ use Rattle.history_model.specs.Minutes.{HistoryMinute}
 use Rattle.history_model.specs.Book.{Book}
 use Rattle.history_model.proofs.Books.{mark-earlier}
 use Rattle.unit_rule.specs.Rule.{Started, once_mended}
-use Rattle.unit_rule.specs.Marks.{Holds}
+use Rattle.unit_rule.specs.Marks.{UnitFollowsBook}
 use Rattle.unit_rule.proofs.Moves.{shown-last}
 use Rattle.device_rule.specs.Views.{unit_view}
 use Rattle.unit_rule.specs.Safe.{Devices}
 use Rattle.run_promise.specs.Found.{Found}
-use Rattle.run_promise.specs.Between.{Carried, IsLit}
+use Rattle.run_promise.specs.Between.{RunLedger, LedgerStandsPowered}
 use Rattle.run_promise.specs.Going.{IsTakenAt}
 use Rattle.run_promise.proofs.Taken.{taken-last}
 
 -- It is earlier than each minute that is decided later.
-pub last-early : (s : Started) (due : ℕ) (b : Book) (marks : List Mark) (unit : State) → Holds s due b marks unit → (u : List ℕ) → unit.may_leave u → last_kept u < due
+pub last-early : (s : Started) (due : ℕ) (b : Book) (marks : List Mark) (unit : State) → UnitFollowsBook s due b marks unit → (u : List ℕ) → unit.may_leave u → last_kept u < due
 last-early s due b marks unit h u on =
     let held = h.unit_holds [] [] in
     subst (λ (n : ℕ). n < due) (shown-last [] [] u) (mark-earlier s.first due b (unit_view [] [] u).last held.order (held.now (unit_view [] [] u) (u, on, refl)).mark)
 
 -- And it is what an acceptance is taken at: where the book that is carried then has all that was sure before the second (`p`) and what the
 -- second has decided (`new`), and what is sure behind the second (`q`) goes on with it.
-pub taken-lit : (f : Found) (w : Carried) (d : Devices) (p q : Book) (new more : List HistoryMinute) → IsLit f w d → w.book.sure ≡ p.sure ++ new → q.sure ≡ w.book.sure ++ more → (u : List ℕ) → d.unit.may_leave u → IsTakenAt f.unit.first p q new (last_kept u)
+pub taken-lit : (f : Found) (w : RunLedger) (d : Devices) (p q : Book) (new more : List HistoryMinute) → LedgerStandsPowered f w d → w.book.sure ≡ p.sure ++ new → q.sure ≡ w.book.sure ++ more → (u : List ℕ) → d.unit.may_leave u → IsTakenAt f.unit.first p q new (last_kept u)
 taken-lit f w d p q new more lit kept later u on = taken-last (once_mended f.unit) w.due p w.book q w.marks new more d.unit kept later lit.none lit.unit u on

@@ -14,7 +14,7 @@ use Rattle.device_rule.specs.Rules.{Standing, In, Out, Torn, since, CardRule, Is
 use Rattle.device_rule.specs.Marked.{of_card, HasBrought}
 use Rattle.device_rule.proofs.Repairing.{repaired-in}
 use Rattle.unit_rule.specs.Rule.{Started, once_mended, IsCards}
-use Rattle.unit_rule.specs.Marks.{Holds}
+use Rattle.unit_rule.specs.Marks.{UnitFollowsBook}
 use Rattle.device_calls.specs.Rule.{Both, opened, number_of, card_seen, CardHolds, IsKeptUp, IsRowTaken}
 use Rattle.device_calls.proofs.PowerBack.{torn}
 use Rattle.device_calls.proofs.TornOut.{torn-out}
@@ -24,10 +24,10 @@ use Rattle.run_crew.specs.Cards.{session_of}
 use Rattle.unit_rule.proofs.Marking.{holds-dark}
 use Rattle.run_promise.specs.Found.{CardFound, Found, found_of, unit_seen, AnyKept}
 use Rattle.run_promise.specs.Cards.{brought_by}
-use Rattle.run_promise.specs.Between.{Carried}
-use Rattle.run_devices.specs.Strung.{IsHeld}
+use Rattle.run_promise.specs.Between.{RunLedger}
+use Rattle.run_devices.specs.Strung.{CardHoldsString}
 use Rattle.run_devices.proofs.Strung.{held-out}
-use Rattle.run_devices.specs.Told.{AreFoundCards, IsPutIn, IsPowered, IsPowerless, for_card, arranged, with_standing, with_acceptance}
+use Rattle.run_devices.specs.Told.{AreFoundCards, IsPutIn, DevicesPowered, DevicesUnpowered, for_card, arranged, with_standing, with_acceptance}
 use Rattle.run_devices.proofs.Parts.{both_of, as-steps, of-steps, of-rests, left-one, CardLit, CardOff, AreParts, parts-of, powered-of, powerless-of, brought-on, at-card, at-other}
 use Rattle.run_devices.proofs.OnCards.{bound_of}
 
@@ -41,7 +41,7 @@ number-as f two A = refl
 number-as f two B = refl
 
 -- a string that may go on from here may go on from later
-pub held-later : (f : CardFound) (c : Card) (b : Book) (y z : Standing) (X : State) → ((x : List ℕ) → X.may_leave x → max f.start.word (since y (own_view x).newest) ≤ max f.start.word (since z (own_view x).newest)) → IsHeld f c b y X → IsHeld f c b z X
+pub held-later : (f : CardFound) (c : Card) (b : Book) (y z : Standing) (X : State) → ((x : List ℕ) → X.may_leave x → max f.start.word (since y (own_view x).newest) ≤ max f.start.word (since z (own_view x).newest)) → CardHoldsString f c b y X → CardHoldsString f c b z X
 held-later f c b y z X later h = record {
   tells = h.tells;
   now = λ x there. let was = h.now x there in let le = later x there in (was.0, later_holds (own_sizes f.image) f.image (brought_by c f.start b) (bound_of f y x) (bound_of f z x) x (omega (arith, le)) was.1);
@@ -52,10 +52,10 @@ held-later f c b y z X later h = record {
 
 -- ---- THE ROW IS BEGUN of a card that was put in, where the calls say this
 
-module _ (f : Found) (w : Carried) (cards : Cards) (c : Card) (U V X Y : State) (found : AreFoundCards f cards) (whole : IsCoherent U) (now : ℕ) (a : Accepted) (valid : IsOwnValid (found_of f c).image) (out : w.standing c ≡ Out) (put : IsPutIn (found_of f c) c w.book now a.session X)
-    (p : IsPowered f w cards (arranged c U X Y)) (late : w.due ≤ now / 60) (number : List ℕ) (spared : Option (List ℕ)) (failed : Bool)
-    (holds : (s : Started) (due : ℕ) (b : Book) (marks : List Mark) → IsCards s number → Holds s due b marks U → Holds s due b marks V)
-    (mine : (r : Both) (s : Started) (due : ℕ) (b : Book) (marks : List Mark) (newest : ℕ) → number ≡ number_of r c → Holds s due b marks U → due ≤ now / 60 → CardHolds r c b Out [] [] U X → IsEntered (opened r c).start (opened r c).began now newest (card_seen X) → IsRowTaken r c b now newest failed V X)
+module _ (f : Found) (w : RunLedger) (cards : Cards) (c : Card) (U V X Y : State) (found : AreFoundCards f cards) (whole : IsCoherent U) (now : ℕ) (a : Accepted) (valid : IsOwnValid (found_of f c).image) (out : w.standing c ≡ Out) (put : IsPutIn (found_of f c) c w.book now a.session X)
+    (p : DevicesPowered f w cards (arranged c U X Y)) (late : w.due ≤ now / 60) (number : List ℕ) (spared : Option (List ℕ)) (failed : Bool)
+    (holds : (s : Started) (due : ℕ) (b : Book) (marks : List Mark) → IsCards s number → UnitFollowsBook s due b marks U → UnitFollowsBook s due b marks V)
+    (mine : (r : Both) (s : Started) (due : ℕ) (b : Book) (marks : List Mark) (newest : ℕ) → number ≡ number_of r c → UnitFollowsBook s due b marks U → due ≤ now / 60 → CardHolds r c b Out [] [] U X → IsEntered (opened r c).start (opened r c).began now newest (card_seen X) → IsRowTaken r c b now newest failed V X)
     (others : (r : Both) (s : Started) (due : ℕ) (b : Book) (marks : List Mark) (z : Standing) (m d : List Entry) → number ≡ number_of r c → spared ≡ Some (number_of r (other c)) → CardHolds r (other c) b z m d U Y → IsKeptUp r (other c) b z m d failed V Y)
     (tells : is_some V.image ≡ is_some U.image) (named : number ≡ (found_of f c).number) (spares : IsOwnValid (found_of f (other c)).image → spared ≡ Some (found_of f (other c)).number) where
   parts : AreParts f w cards c U X Y
@@ -64,7 +64,7 @@ module _ (f : Found) (w : Carried) (cards : Cards) (c : Card) (U V X Y : State) 
   one : CardLit f w.book Out (w.brought c) (session_of cards c) c U X
   one = subst (λ (z : Standing). CardLit f w.book z (w.brought c) (session_of cards c) c U X) out (parts.mine valid)
 
-  unit-after : Holds (once_mended f.unit) w.due w.book w.marks V
+  unit-after : UnitFollowsBook (once_mended f.unit) w.due w.book w.marks V
   unit-after = holds (once_mended f.unit) w.due w.book w.marks (subst (IsCards f.unit) (sym named) (found.own c valid)) parts.unit.unit
 
   taken : IsRowTaken (both_of f found.two) c w.book now a.session.minute failed V X
@@ -107,7 +107,7 @@ module _ (f : Found) (w : Carried) (cards : Cards) (c : Card) (U V X Y : State) 
       goes = (parts.others there).goes;
     }
 
-    pub begun-powered : IsPowered f (with_acceptance c now a.session.minute kept w) after (arranged c V X Y)
+    pub begun-powered : DevicesPowered f (with_acceptance c now a.session.minute kept w) after (arranged c V X Y)
     begun-powered = powered-of f (with_acceptance c now a.session.minute kept w) after c V X Y found_after (record {
       unit = record { tells = tells ∙ parts.unit.tells; works = works; unit = unit-after; none = parts.unit.none };
       mine = λ there. subst (λ (o : Option Accepted). CardLit f w.book (for_card c (In now a.session.minute) w.standing c) (for_card c (kept ∷ w.brought c) w.brought c) o c V X) (sym has)
@@ -121,7 +121,7 @@ module _ (f : Found) (w : Carried) (cards : Cards) (c : Card) (U V X Y : State) 
     })
 
   -- or the unit failed: it is not accepted yet
-  pub begun-powerless : IsPowerless f w (arranged c V X Y)
+  pub begun-powerless : DevicesUnpowered f w (arranged c V X Y)
   begun-powerless = powerless-of f w cards c V X Y found (record {
     tells = tells ∙ parts.unit.tells;
     unit = holds-dark f.unit w.due w.book w.marks V unit-after;
@@ -148,11 +148,11 @@ module _ (f : Found) (w : Carried) (cards : Cards) (c : Card) (U V X Y : State) 
 
 -- ---- A CARD STANDS OTHERWISE, and no device was called
 
-module _ (f : Found) (w : Carried) (cards after : Cards) (c : Card) (U X Y : State) (found_after : AreFoundCards f after) (none : session_of after c ≡ None) (same : session_of after (other c) ≡ session_of cards (other c)) (p : IsPowered f w cards (arranged c U X Y)) where
+module _ (f : Found) (w : RunLedger) (cards after : Cards) (c : Card) (U X Y : State) (found_after : AreFoundCards f after) (none : session_of after c ≡ None) (same : session_of after (other c) ≡ session_of cards (other c)) (p : DevicesPowered f w cards (arranged c U X Y)) where
   before : AreParts f w cards c U X Y
   before = parts-of f w cards c U X Y p
 
-  pub stood-powered : (z : Standing) → (IsOwnValid (found_of f c).image → CardLit f w.book z (w.brought c) None c U X) → IsPowered f (with_standing c z w) after (arranged c U X Y)
+  pub stood-powered : (z : Standing) → (IsOwnValid (found_of f c).image → CardLit f w.book z (w.brought c) None c U X) → DevicesPowered f (with_standing c z w) after (arranged c U X Y)
   stood-powered z lit = powered-of f (with_standing c z w) after c U X Y found_after (record {
     unit = record { tells = before.unit.tells; works = before.unit.works; unit = before.unit.unit; none = before.unit.none };
     mine = λ valid. subst (λ (o : Option Accepted). CardLit f w.book (for_card c z w.standing c) (w.brought c) o c U X) (sym none)
@@ -164,7 +164,7 @@ module _ (f : Found) (w : Carried) (cards after : Cards) (c : Card) (U X Y : Sta
   })
 
   -- TORN OUT between two calls: one that was accepted in this second
-  pub tear-powered : (a : Accepted) → session_of cards c ≡ Some a → (time floor : ℕ) → (IsOwnValid (found_of f c).image → w.standing c ≡ In time a.session.minute) → AreFoundCards f cards → IsPowered f (with_standing c (Torn time a.session.minute floor) w) after (arranged c U X Y)
+  pub tear-powered : (a : Accepted) → session_of cards c ≡ Some a → (time floor : ℕ) → (IsOwnValid (found_of f c).image → w.standing c ≡ In time a.session.minute) → AreFoundCards f cards → DevicesPowered f (with_standing c (Torn time a.session.minute floor) w) after (arranged c U X Y)
   tear-powered a has time floor stands found = stood-powered (Torn time a.session.minute floor) lit
     where
       lit : IsOwnValid (found_of f c).image → CardLit f w.book (Torn time a.session.minute floor) (w.brought c) None c U X
@@ -180,7 +180,7 @@ module _ (f : Found) (w : Carried) (cards after : Cards) (c : Card) (U X Y : Sta
           }
 
   -- TAKEN AS ONE THAT IS NOT ACCEPTED, as before it is put in again
-  pub out-powered : AreFoundCards f cards → IsCoherent U → IsPowered f (with_standing c Out w) after (arranged c U X Y)
+  pub out-powered : AreFoundCards f cards → IsCoherent U → DevicesPowered f (with_standing c Out w) after (arranged c U X Y)
   out-powered found whole = stood-powered Out lit
     where
       lit : IsOwnValid (found_of f c).image → CardLit f w.book Out (w.brought c) None c U X

@@ -54,7 +54,7 @@ use Rattle.device_rule.proofs.OwedView.{owed-seen}
 use Rattle.device_rule.proofs.Pairs.{owed-above}
 use Rattle.device_rule.proofs.Brought.{all-up_to}
 use Rattle.unit_rule.specs.Unit.{marks_of}
-use Rattle.unit_rule.specs.Marks.{Holds}
+use Rattle.unit_rule.specs.Marks.{UnitFollowsBook}
 use Rattle.unit_rule.proofs.Marking.{holds-read, holds-dark}
 use Rattle.unit_rule.proofs.Moves.{shown-last}
 use Rattle.device_calls.specs.declared.entering.Entered.{Entered}
@@ -74,10 +74,10 @@ use Rattle.run_crew.specs.Cards.{session_of}
 use Rattle.unit_rule.specs.Rule.{once_mended}
 use Rattle.run_promise.specs.Found.{CardFound, Found, found_of, unit_seen, AnyKept}
 use Rattle.run_promise.specs.Cards.{brought_by, IsCardHeld}
-use Rattle.run_promise.specs.Between.{Carried}
+use Rattle.run_promise.specs.Between.{RunLedger}
 use Rattle.run_promise.proofs.OwedRises.{owed-rises}
-use Rattle.run_devices.specs.Strung.{IsHeld, HasSameHolder}
-use Rattle.run_devices.specs.Told.{HasFoundSo, AreFoundCards, IsPutIn, IsPowered, IsPowerless, arranged, card_marks, with_marks}
+use Rattle.run_devices.specs.Strung.{CardHoldsString, HasSameHolder}
+use Rattle.run_devices.specs.Told.{HasFoundSo, AreFoundCards, IsPutIn, DevicesPowered, DevicesUnpowered, arranged, card_marks, with_marks}
 use Rattle.run_devices.proofs.Parts.{both_of, as-steps, of-steps, told-one, CardLit, off-of, UnitLit, AreParts, MarksLit, parts-of, powered-of, powerless-of, brought-on}
 use Rattle.run_devices.proofs.Holders.{inserting-rest}
 use Rattle.run_devices.proofs.OnCards.{valid-own, valid-or, no-marks, number-own, own-holder-still, Rises, rises-run, none-falls, marks-on, brought-card, bound_of, held-on, held-read, valid-on}
@@ -286,7 +286,7 @@ module _ (f : Found) (b : Book) (c : Card) (u x : List ℕ) (sound : IsApplicati
 
 -- ---- A CARD IS PUT IN, over the devices: what is carried of it stands at each exit
 
-module _ (f : Found) (w : Carried) (c : Card) (U V X Y : State) (two : f.card_a.number ≢ f.card_b.number) (sound : IsApplication (own_sizes (found_of f c).image)) (unit_whole : IsCoherent U) (unit_after : IsCoherent V) (whole : IsCoherent X) (after : IsCoherent Y)
+module _ (f : Found) (w : RunLedger) (c : Card) (U V X Y : State) (two : f.card_a.number ≢ f.card_b.number) (sound : IsApplication (own_sizes (found_of f c).image)) (unit_whole : IsCoherent U) (unit_after : IsCoherent V) (whole : IsCoherent X) (after : IsCoherent Y)
     (registration : Registration) (long : length registration.0 ≡ 15) (odometer now : ℕ) (few : now < 2 ^ 32) (answer : Result Entered NotEntered) (unit : UnitLit f w U) (ks : List ℕ) (one : CardLit f w.book Out ks None c U X) (late : w.due ≤ now / 60)
     (room : image_size_of (own_sizes (found_of f c).image) ≤ X.size) (enters : IsEntering (own_sizes (found_of f c).image) registration odometer now U V X Y answer) where
   is-asked : IfSome X.image (IsAsked (both_of f two) c (own_sizes (found_of f c).image))
@@ -315,7 +315,7 @@ module _ (f : Found) (w : Carried) (c : Card) (U V X Y : State) (two : f.card_a.
     -- the card was read, or an insertion began
     pub record IsPutSo : Type 0 where
       pub views : LeavesViews (of_card X) (of_card Y) Rises
-      pub held : IsHeld (found_of f c) c w.book Out Y
+      pub held : CardHoldsString (found_of f c) c w.book Out Y
       pub valid : (y : List ℕ) → Y.left_since (found_of f c).began y → IsOwnValid y
 
     only-read : LeavesOnly X Y Unchanged → IsPutSo
@@ -545,8 +545,8 @@ module _ (f : Found) (w : Carried) (c : Card) (U V X Y : State) (two : f.card_a.
 
 -- ---- so all of it stands, where nothing more is written on the unit
 
-module _ (f : Found) (w : Carried) (cards : Cards) (c : Card) (U V X Y Z : State) (found : AreFoundCards f cards) (unit_whole : IsCoherent U) (unit_after : IsCoherent V) (whole : IsCoherent X) (after : IsCoherent Y) (registration : Registration) (long : length registration.0 ≡ 15) (odometer now : ℕ) (few : now < 2 ^ 32) (answer : Result Entered NotEntered)
-    (out : w.standing c ≡ Out) (bare : session_of cards c ≡ None) (p : IsPowered f w cards (arranged c U X Z)) (late : w.due ≤ now / 60) (app : Application) (measured : IsOwnValid (found_of f c).image → app ≡ own_sizes (found_of f c).image) (size : image_size_of app ≤ X.size) (told : IsEntering app registration odometer now U V X Y answer) where
+module _ (f : Found) (w : RunLedger) (cards : Cards) (c : Card) (U V X Y Z : State) (found : AreFoundCards f cards) (unit_whole : IsCoherent U) (unit_after : IsCoherent V) (whole : IsCoherent X) (after : IsCoherent Y) (registration : Registration) (long : length registration.0 ≡ 15) (odometer now : ℕ) (few : now < 2 ^ 32) (answer : Result Entered NotEntered)
+    (out : w.standing c ≡ Out) (bare : session_of cards c ≡ None) (p : DevicesPowered f w cards (arranged c U X Z)) (late : w.due ≤ now / 60) (app : Application) (measured : IsOwnValid (found_of f c).image → app ≡ own_sizes (found_of f c).image) (size : image_size_of app ≤ X.size) (told : IsEntering app registration odometer now U V X Y answer) where
   room : IsOwnValid (found_of f c).image → image_size_of (own_sizes (found_of f c).image) ≤ X.size
   room valid = subst (λ (a : Application). image_size_of a ≤ X.size) (measured valid) size
 
@@ -583,11 +583,11 @@ module _ (f : Found) (w : Carried) (cards : Cards) (c : Card) (U V X Y Z : State
       by (inl valid) = entered-marks f w c U V X Y found.two (found.sizes c valid) unit_whole unit_after whole after registration long odometer now few answer parts.unit (w.brought c) (one-before valid) late (room valid) (enters valid) parts.marks_mine
       by (inr bad) = no-marks f c w.book w.marks X Y bad parts.marks_mine
 
-  unit-after : Holds (once_mended f.unit) w.due w.book w.marks V
+  unit-after : UnitFollowsBook (once_mended f.unit) w.due w.book w.marks V
   unit-after = holds-read (once_mended f.unit) w.due w.book w.marks parts.unit.unit unit_whole told.unit.leaves
 
   -- however it was answered, where the unit works
-  pub entered-powered-by : V.works ≡ true → IsPowered f w cards (arranged c V Y Z)
+  pub entered-powered-by : V.works ≡ true → DevicesPowered f w cards (arranged c V Y Z)
   entered-powered-by works = powered-of f w cards c V Y Z found (record {
     unit = record { tells = told.unit.leaves.tells ∙ parts.unit.tells; works = works; unit = unit-after; none = parts.unit.none };
     mine = one-after;
@@ -597,7 +597,7 @@ module _ (f : Found) (w : Carried) (cards : Cards) (c : Card) (U V X Y Z : State
   })
 
   -- or the unit failed
-  pub entered-powerless-by : IsPowerless f w (arranged c V Y Z)
+  pub entered-powerless-by : DevicesUnpowered f w (arranged c V Y Z)
   entered-powerless-by = powerless-of f w cards c V Y Z found (record {
     tells = told.unit.leaves.tells ∙ parts.unit.tells;
     unit = holds-dark f.unit w.due w.book w.marks V unit-after;
@@ -613,7 +613,7 @@ module _ (f : Found) (w : Carried) (cards : Cards) (c : Card) (U V X Y Z : State
   accepted-put-by valid e ok = entered-put f w c U V X Y found.two (found.sizes c valid) unit_whole unit_after whole after registration long odometer now few answer parts.unit (w.brought c) (one-before valid) late (room valid) (enters valid) e ok
 
   -- and the entries that were put on it are marked, where its clock has not stopped
-  pub accepted-marked-by : IsOwnValid (found_of f c).image → (e : Entered) → answer ≡ Ok e → V.works ≡ true → IsSettled Y → IsPowered f (with_marks (card_marks c Y.clock e.owed.items) w) cards (arranged c V Y Z)
+  pub accepted-marked-by : IsOwnValid (found_of f c).image → (e : Entered) → answer ≡ Ok e → V.works ≡ true → IsSettled Y → DevicesPowered f (with_marks (card_marks c Y.clock e.owed.items) w) cards (arranged c V Y Z)
   accepted-marked-by valid e ok works settled =
       let facts = entered-owed f w c U V X Y found.two (found.sizes c valid) unit_whole unit_after whole after registration long odometer now few answer parts.unit (w.brought c) (one-before valid) late (room valid) (enters valid) e ok in
       marked-powered f w cards c V Y Z found (entered-powered-by works) after settled valid facts.began e.owed.items facts.rises facts.sure facts.there (λ m in_. facts.older m (All-contains (IsCardHeld (found_of f c) c w.book X) (marks_of (device_of c) w.marks) m parts.marks_mine.held in_))
@@ -631,22 +631,22 @@ module _ (f : Found) (w : Carried) (cards : Cards) (c : Card) (U V X Y Z : State
 
 -- ---- by the card's own sizes
 
-module _ (f : Found) (w : Carried) (cards : Cards) (c : Card) (U V X Y Z : State) (found : AreFoundCards f cards) (unit_whole : IsCoherent U) (unit_after : IsCoherent V) (whole : IsCoherent X) (after : IsCoherent Y) (registration : Registration) (long : length registration.0 ≡ 15) (odometer now : ℕ) (few : now < 2 ^ 32) (answer : Result Entered NotEntered)
-    (out : w.standing c ≡ Out) (bare : session_of cards c ≡ None) (p : IsPowered f w cards (arranged c U X Z)) (late : w.due ≤ now / 60) (room : image_size_of (own_sizes (found_of f c).image) ≤ X.size) (enters : IsEntering (own_sizes (found_of f c).image) registration odometer now U V X Y answer) where
-  pub entered-powered : V.works ≡ true → IsPowered f w cards (arranged c V Y Z)
+module _ (f : Found) (w : RunLedger) (cards : Cards) (c : Card) (U V X Y Z : State) (found : AreFoundCards f cards) (unit_whole : IsCoherent U) (unit_after : IsCoherent V) (whole : IsCoherent X) (after : IsCoherent Y) (registration : Registration) (long : length registration.0 ≡ 15) (odometer now : ℕ) (few : now < 2 ^ 32) (answer : Result Entered NotEntered)
+    (out : w.standing c ≡ Out) (bare : session_of cards c ≡ None) (p : DevicesPowered f w cards (arranged c U X Z)) (late : w.due ≤ now / 60) (room : image_size_of (own_sizes (found_of f c).image) ≤ X.size) (enters : IsEntering (own_sizes (found_of f c).image) registration odometer now U V X Y answer) where
+  pub entered-powered : V.works ≡ true → DevicesPowered f w cards (arranged c V Y Z)
   entered-powered = entered-powered-by f w cards c U V X Y Z found unit_whole unit_after whole after registration long odometer now few answer out bare p late (own_sizes (found_of f c).image) (λ valid. refl) room enters
 
-  pub entered-powerless : IsPowerless f w (arranged c V Y Z)
+  pub entered-powerless : DevicesUnpowered f w (arranged c V Y Z)
   entered-powerless = entered-powerless-by f w cards c U V X Y Z found unit_whole unit_after whole after registration long odometer now few answer out bare p late (own_sizes (found_of f c).image) (λ valid. refl) room enters
 
   pub accepted-put : IsOwnValid (found_of f c).image → (e : Entered) → answer ≡ Ok e → IsPutIn (found_of f c) c w.book now e.session Y
   accepted-put = accepted-put-by f w cards c U V X Y Z found unit_whole unit_after whole after registration long odometer now few answer out bare p late (own_sizes (found_of f c).image) (λ valid. refl) room enters
 
-  pub accepted-marked : IsOwnValid (found_of f c).image → (e : Entered) → answer ≡ Ok e → V.works ≡ true → IsSettled Y → IsPowered f (with_marks (card_marks c Y.clock e.owed.items) w) cards (arranged c V Y Z)
+  pub accepted-marked : IsOwnValid (found_of f c).image → (e : Entered) → answer ≡ Ok e → V.works ≡ true → IsSettled Y → DevicesPowered f (with_marks (card_marks c Y.clock e.owed.items) w) cards (arranged c V Y Z)
   accepted-marked = accepted-marked-by f w cards c U V X Y Z found unit_whole unit_after whole after registration long odometer now few answer out bare p late (own_sizes (found_of f c).image) (λ valid. refl) room enters
 
 -- the sizes that it was measured by are those that it told at the start
-pub measured-own : (f : Found) (w : Carried) (cards : Cards) (c : Card) (U X Z : State) → IsPowered f w cards (arranged c U X Z) → IsCoherent X → (app : Application) → IfSome X.image (λ x. own_sizes x ≡ app) → IsOwnValid (found_of f c).image → app ≡ own_sizes (found_of f c).image
+pub measured-own : (f : Found) (w : RunLedger) (cards : Cards) (c : Card) (U X Z : State) → DevicesPowered f w cards (arranged c U X Z) → IsCoherent X → (app : Application) → IfSome X.image (λ x. own_sizes x ≡ app) → IsOwnValid (found_of f c).image → app ≡ own_sizes (found_of f c).image
 measured-own f w cards c U X Z p whole app told valid =
     let one = (parts-of f w cards c U X Z p).mine valid in
     let x = told-one X.image one.held.tells in

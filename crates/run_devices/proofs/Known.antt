@@ -12,7 +12,7 @@ use Rattle.run_crew.specs.declared.cards.Accepted.{Accepted}
 use Rattle.run_crew.specs.declared.cards.Cards.{Cards}
 use Rattle.run_crew.specs.Cards.{known_of, session_of, with_session, with_number, with_sizes}
 use Rattle.run_promise.specs.Found.{Found, found_of}
-use Rattle.run_promise.specs.Between.{Carried}
+use Rattle.run_promise.specs.Between.{RunLedger}
 use Rattle.run_devices.specs.Told.{AreFoundCards, AreEarly, for_card, with_acceptance}
 
 -- ---- the sessions
@@ -77,7 +77,7 @@ found-number f B n row cards own found = record { two = found.two; named = named
 
 -- ---- the minutes of acceptances are earlier than what may come
 
-pub early-accepted : (w : Carried) (c : Card) (now newest kept : ℕ) → kept < w.due → AreEarly w → AreEarly (with_acceptance c now newest kept w)
+pub early-accepted : (w : RunLedger) (c : Card) (now newest kept : ℕ) → kept < w.due → AreEarly w → AreEarly (with_acceptance c now newest kept w)
 early-accepted w c now newest kept late early = by c
   where
     either : (d : Card) (k : ℕ) → Contains (kept ∷ w.brought d) k → k < w.due

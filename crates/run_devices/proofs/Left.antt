@@ -47,8 +47,8 @@ use Rattle.run_crew.specs.Cards.{session_of}
 use Rattle.unit_rule.specs.Rule.{once_mended}
 use Rattle.run_promise.specs.Found.{Found, found_of, unit_seen, AnyKept}
 use Rattle.run_promise.specs.Cards.{brought_by}
-use Rattle.run_promise.specs.Between.{Carried}
-use Rattle.run_devices.specs.Told.{AreFoundCards, IsOn, IsPowered, for_card, arranged, with_standing}
+use Rattle.run_promise.specs.Between.{RunLedger}
+use Rattle.run_devices.specs.Told.{AreFoundCards, SessionIsOnCard, DevicesPowered, for_card, arranged, with_standing}
 use Rattle.run_devices.proofs.Parts.{both_of, as-steps, of-steps, left-one, CardLit, UnitLit, AreParts, MarksLit, parts-of, powered-of, at-card, at-other}
 use Rattle.run_devices.proofs.Holders.{HaveSameRest, closing-rest}
 use Rattle.run_devices.proofs.OnCards.{own-valid, valid-own, valid-or, no-marks, own-holder-still, Rises, rises-run, none-falls, marks-on, brought-card, held-on, valid-on, bound_of as place_on}
@@ -85,9 +85,9 @@ newest-low app x word are ends low = by (is_open (end_mark app x) (card_days app
 
 -- ---- A CARD IN ITS SLOT is taken out
 
-module _ (f : Found) (w : Carried) (c : Card) (U X Y : State) (two : f.card_a.number ≢ f.card_b.number) (unit_whole : IsCoherent U) (whole : IsCoherent X) (unit : UnitLit f w U) (sound : IsApplication (own_sizes (found_of f c).image)) (a : Accepted) (act : Activity)
+module _ (f : Found) (w : RunLedger) (c : Card) (U X Y : State) (two : f.card_a.number ≢ f.card_b.number) (unit_whole : IsCoherent U) (whole : IsCoherent X) (unit : UnitLit f w U) (sound : IsApplication (own_sizes (found_of f c).image)) (a : Accepted) (act : Activity)
     (room : image_size_of (own_sizes (found_of f c).image) ≤ X.size) (one : CardLit f w.book (w.standing c) (w.brought c) (Some a) c U X) (run : LeavesOnly X Y (λ x n. IsSession a.session x → IsCardClosing a.session act x n)) where
-  abbrev on : IsOn (found_of f c) one.goes.has (w.standing c) a.session X
+  abbrev on : SessionIsOnCard (found_of f c) one.goes.has (w.standing c) a.session X
   on = one.goes.goes
 
   sound-s : IsApplication a.session.application
@@ -212,8 +212,8 @@ module _ (f : Found) (w : Carried) (c : Card) (U X Y : State) (two : f.card_a.nu
   left-marks h = marks-on (found_of f c) c w.book w.marks X Y whole views h
 
 -- so all of it stands, however the call ended: the card is not accepted any more
-module _ (f : Found) (w : Carried) (cards : Cards) (c : Card) (U X Y Z : State) (found : AreFoundCards f cards) (unit_whole : IsCoherent U) (whole : IsCoherent X) (a : Accepted) (act : Activity) (has : session_of cards c ≡ Some a) (room : image_size_of (own_sizes (found_of f c).image) ≤ X.size)
-    (p : IsPowered f w cards (arranged c U X Z)) (run : LeavesOnly X Y (λ x n. IsSession a.session x → IsCardClosing a.session act x n)) where
+module _ (f : Found) (w : RunLedger) (cards : Cards) (c : Card) (U X Y Z : State) (found : AreFoundCards f cards) (unit_whole : IsCoherent U) (whole : IsCoherent X) (a : Accepted) (act : Activity) (has : session_of cards c ≡ Some a) (room : image_size_of (own_sizes (found_of f c).image) ≤ X.size)
+    (p : DevicesPowered f w cards (arranged c U X Z)) (run : LeavesOnly X Y (λ x n. IsSession a.session x → IsCardClosing a.session act x n)) where
   parts : AreParts f w cards c U X Z
   parts = parts-of f w cards c U X Z p
 
@@ -227,7 +227,7 @@ module _ (f : Found) (w : Carried) (cards : Cards) (c : Card) (U X Y Z : State) 
       by (inl valid) = left-marks f w c U X Y found.two unit_whole whole parts.unit (found.sizes c valid) a act room (mine valid) run parts.marks_mine
       by (inr bad) = no-marks f c w.book w.marks X Y bad parts.marks_mine
 
-  pub left-powered : (after : Cards) → AreFoundCards f after → session_of after c ≡ None → session_of after (other c) ≡ session_of cards (other c) → IsPowered f (with_standing c Out w) after (arranged c U Y Z)
+  pub left-powered : (after : Cards) → AreFoundCards f after → session_of after c ≡ None → session_of after (other c) ≡ session_of cards (other c) → DevicesPowered f (with_standing c Out w) after (arranged c U Y Z)
   left-powered after found_after none same = powered-of f (with_standing c Out w) after c U Y Z found_after (record {
     unit = record { tells = parts.unit.tells; works = parts.unit.works; unit = parts.unit.unit; none = parts.unit.none };
     mine = λ valid. subst (λ (o : Option Accepted). CardLit f w.book (for_card c Out w.standing c) (w.brought c) o c U Y) (sym none)

@@ -22,12 +22,12 @@ use Rattle.device_rule.specs.Marked.{of_card, HasMarked}
 use Rattle.device_rule.proofs.Holding.{acknowledged}
 use Rattle.unit_rule.specs.Unit.{is_of, marks_of, Increase}
 use Rattle.unit_rule.specs.Rule.{Started, once_mended}
-use Rattle.unit_rule.specs.Marks.{Holds, IsHeld as IsUnitHeld}
+use Rattle.unit_rule.specs.Marks.{UnitFollowsBook, MarkIsKept as IsUnitHeld}
 use Rattle.run_crew.specs.declared.cards.Cards.{Cards}
 use Rattle.run_promise.specs.Found.{CardFound, Found, found_of}
 use Rattle.run_promise.specs.Cards.{IsCardHeld, CardMarksHold}
-use Rattle.run_promise.specs.Between.{Carried}
-use Rattle.run_devices.specs.Told.{AreFoundCards, IsPowered, arranged, card_marks, with_marks}
+use Rattle.run_promise.specs.Between.{RunLedger}
+use Rattle.run_devices.specs.Told.{AreFoundCards, DevicesPowered, arranged, card_marks, with_marks}
 use Rattle.run_devices.proofs.Parts.{AreParts, MarksLit, parts-of, powered-of}
 
 -- ---- which marks are of which device
@@ -83,7 +83,7 @@ increase-both (m ∷ k ∷ xs) ys first last apart = (first.0, increase-both (k 
 
 -- ---- the unit and the other card have the marks that they had
 
-unit-still : (s : Started) (due : ℕ) (b : Book) (marks ms : List Mark) (unit : State) → marks_of Recorder (marks ++ ms) ≡ marks_of Recorder marks → Holds s due b marks unit → Holds s due b (marks ++ ms) unit
+unit-still : (s : Started) (due : ℕ) (b : Book) (marks ms : List Mark) (unit : State) → marks_of Recorder (marks ++ ms) ≡ marks_of Recorder marks → UnitFollowsBook s due b marks unit → UnitFollowsBook s due b (marks ++ ms) unit
 unit-still s due b marks ms unit same h = record {
   unit_holds = h.unit_holds;
   decodes = h.decodes;
@@ -104,7 +104,7 @@ card-still f d b marks ms card same h = record {
 
 -- ---- ALL OF IT, with marks of entries that the card has, each later than those that are marked
 
-module _ (f : Found) (w : Carried) (cards : Cards) (c : Card) (V Y Z : State) (found : AreFoundCards f cards) (p : IsPowered f w cards (arranged c V Y Z)) (whole : IsCoherent Y) (settled : IsSettled Y) (valid : IsOwnValid (found_of f c).image) (began : (found_of f c).began ≤ Y.clock) (es : List Entry) (rise : Rise es)
+module _ (f : Found) (w : RunLedger) (cards : Cards) (c : Card) (V Y Z : State) (found : AreFoundCards f cards) (p : DevicesPowered f w cards (arranged c V Y Z)) (whole : IsCoherent Y) (settled : IsSettled Y) (valid : IsOwnValid (found_of f c).image) (began : (found_of f c).began ≤ Y.clock) (es : List Entry) (rise : Rise es)
     (sure : (e : Entry) → Contains es e → Contains ((found_of f c).start.owed ++ card_history c w.book.sure) e) (there : (y : List ℕ) → Y.may_leave y → (e : Entry) → Contains es e → e.minute ≤ (own_view y).mark)
     (older : (m : Mark) → Contains (marks_of (device_of c) w.marks) m → (e : Entry) → Contains es e → m.minute < e.minute) where
   parts : AreParts f w cards c V Y Z
@@ -128,7 +128,7 @@ module _ (f : Found) (w : Carried) (cards : Cards) (c : Card) (V Y Z : State) (f
     none = λ bad. absurd (bad valid);
   }
 
-  pub marked-powered : IsPowered f (with_marks (card_marks c Y.clock es) w) cards (arranged c V Y Z)
+  pub marked-powered : DevicesPowered f (with_marks (card_marks c Y.clock es) w) cards (arranged c V Y Z)
   marked-powered = powered-of f (with_marks (card_marks c Y.clock es) w) cards c V Y Z found (record {
     unit = record { tells = parts.unit.tells; works = parts.unit.works; unit = unit-still (once_mended f.unit) w.due w.book w.marks (card_marks c Y.clock es) V (unit-marks c Y.clock es w.marks) parts.unit.unit; none = parts.unit.none };
     mine = parts.mine;

@@ -33,9 +33,9 @@ use Rattle.unit_rule.specs.Rule.{once_mended}
 use Rattle.unit_rule.proofs.Marking.{holds-dark}
 use Rattle.run_promise.specs.Found.{Found, found_of, unit_seen, AnyKept}
 use Rattle.run_promise.specs.Cards.{brought_by, CardMarksHold}
-use Rattle.run_promise.specs.Between.{Carried, devices}
-use Rattle.run_devices.specs.Strung.{IsHeld}
-use Rattle.run_devices.specs.Told.{AreFoundCards, IsOn, GoesOwing, owes_nothing, AllGo, IsLitWith, IsPowered, IsPowerless, arranged, with_standing}
+use Rattle.run_promise.specs.Between.{RunLedger, devices}
+use Rattle.run_devices.specs.Strung.{CardHoldsString}
+use Rattle.run_devices.specs.Told.{AreFoundCards, SessionIsOnCard, GoesOwing, owes_nothing, AllGo, IsLitWith, DevicesPowered, DevicesUnpowered, arranged, with_standing}
 use Rattle.run_devices.proofs.Parts.{both_of, as-steps, of-steps, CardLit, off-of, UnitLit, AreParts, MarksLit, parts-of, powered-of, powerless-of, owing-of, brought-on, at-card, at-other}
 use Rattle.run_devices.proofs.Holders.{note-rest}
 use Rattle.run_devices.proofs.OnCards.{own-holder-still, own-valid, valid-own, valid-or, no-marks, time-of, Rises, rises-run, none-falls, marks-on, brought-card, bound_of, held-on, valid-on, told-on}
@@ -43,7 +43,7 @@ use Rattle.run_devices.proofs.NotedCard.{note-ends, note-number, note-book, note
 
 -- ---- ON THE UNIT, whatever is put or owed
 
-module _ (f : Found) (two : f.card_a.number ≢ f.card_b.number) (w : Carried) (puts owes : Card → List Entry) (U V X Y : State) (whole : IsCoherent U) (h : IsLitWith f w puts owes (devices U X Y)) (run : LeavesOnly U V LeavesJournal) where
+module _ (f : Found) (two : f.card_a.number ≢ f.card_b.number) (w : RunLedger) (puts owes : Card → List Entry) (U V X Y : State) (whole : IsCoherent U) (h : IsLitWith f w puts owes (devices U X Y)) (run : LeavesOnly U V LeavesJournal) where
   rule-on : (c : Card) (Z : State) (m d : List Entry) → CardRule c (found_of f c).start AnyKept (found_of f c).began w.book (w.standing c) m d (unit_seen f U) (of_card Z) → CardRule c (found_of f c).start AnyKept (found_of f c).began w.book (w.standing c) m d (unit_seen f V) (of_card Z)
   rule-on c Z m d rule =
       of-steps f two c w.book (w.standing c) m d V Z (noted-card (both_of f two) c (once_mended f.unit) w.due w.book w.marks (w.standing c) Z whole h.unit run m d (as-steps f two c w.book (w.standing c) m d U Z rule))
@@ -78,10 +78,10 @@ module _ (f : Found) (two : f.card_a.number ≢ f.card_b.number) (w : Carried) (
   }
 
 -- the strings and the sessions of the cards do not ask of the unit
-pub go-unit : (f : Found) (w : Carried) (owes : Card → List Entry) (cards : Cards) (U V X Y : State) → AllGo f w owes cards (devices U X Y) → AllGo f w owes cards (devices V X Y)
+pub go-unit : (f : Found) (w : RunLedger) (owes : Card → List Entry) (cards : Cards) (U V X Y : State) → AllGo f w owes cards (devices U X Y) → AllGo f w owes cards (devices V X Y)
 go-unit f w owes cards U V X Y go = record { held = held; goes = goes }
   where
-    held : (c : Card) → IsOwnValid (found_of f c).image → IsHeld (found_of f c) c w.book (w.standing c) (card_of (devices V X Y) c)
+    held : (c : Card) → IsOwnValid (found_of f c).image → CardHoldsString (found_of f c) c w.book (w.standing c) (card_of (devices V X Y) c)
     held A = go.held A
     held B = go.held B
 
@@ -89,7 +89,7 @@ go-unit f w owes cards U V X Y go = record { held = held; goes = goes }
     goes A = go.goes A
     goes B = go.goes B
 
-module _ (f : Found) (w : Carried) (cards : Cards) (U V X Y : State) (found : AreFoundCards f cards) (whole : IsCoherent U) (p : IsPowered f w cards (devices U X Y)) (run : LeavesOnly U V LeavesJournal) where
+module _ (f : Found) (w : RunLedger) (cards : Cards) (U V X Y : State) (found : AreFoundCards f cards) (whole : IsCoherent U) (p : DevicesPowered f w cards (devices U X Y)) (run : LeavesOnly U V LeavesJournal) where
   abbrev before : AreParts f w cards A U X Y
   before = parts-of f w cards A U X Y p
 
@@ -109,7 +109,7 @@ module _ (f : Found) (w : Carried) (cards : Cards) (U V X Y : State) (found : Ar
   unit-on works = record { tells = run.tells ∙ p.lit.tells; works = works; unit = noted-holds (once_mended f.unit) w.due w.book w.marks whole run p.lit.unit; none = p.lit.none }
 
   -- NOTED
-  pub noted-powered : V.works ≡ true → IsPowered f w cards (devices V X Y)
+  pub noted-powered : V.works ≡ true → DevicesPowered f w cards (devices V X Y)
   noted-powered works = powered-of f w cards A V X Y found (record {
     unit = unit-on works;
     mine = λ valid. lit-card A (session_of cards A) X (before.mine valid);
@@ -119,7 +119,7 @@ module _ (f : Found) (w : Carried) (cards : Cards) (U V X Y : State) (found : Ar
   })
 
   -- or the unit failed
-  pub noted-powerless : IsPowerless f w (devices V X Y)
+  pub noted-powerless : DevicesUnpowered f w (devices V X Y)
   noted-powerless = powerless-of f w cards A V X Y found (record {
     tells = run.tells ∙ p.lit.tells;
     unit = holds-dark f.unit w.due w.book w.marks V (noted-holds (once_mended f.unit) w.due w.book w.marks whole run p.lit.unit);
@@ -131,9 +131,9 @@ module _ (f : Found) (w : Carried) (cards : Cards) (U V X Y : State) (found : Ar
   })
 
 -- ---- ON A CARD IN ITS SLOT, of these sizes, with this session
-module _ (f : Found) (w : Carried) (c : Card) (U X Y : State) (two : f.card_a.number ≢ f.card_b.number) (unit_whole : IsCoherent U) (whole : IsCoherent X) (after : IsCoherent Y) (unit : UnitLit f w U) (sound : IsApplication (own_sizes (found_of f c).image)) (a : Accepted) (value : IsValue a.session)
+module _ (f : Found) (w : RunLedger) (c : Card) (U X Y : State) (two : f.card_a.number ≢ f.card_b.number) (unit_whole : IsCoherent U) (whole : IsCoherent X) (after : IsCoherent Y) (unit : UnitLit f w U) (sound : IsApplication (own_sizes (found_of f c).image)) (a : Accepted) (value : IsValue a.session)
     (one : CardLit f w.book (w.standing c) (w.brought c) (Some a) c U X) (run : LeavesOnly X Y (IsNote (own_sizes (found_of f c).image))) where
-  abbrev on : IsOn (found_of f c) one.goes.has (w.standing c) a.session X
+  abbrev on : SessionIsOnCard (found_of f c) one.goes.has (w.standing c) a.session X
   on = one.goes.goes
 
   -- its image is valid, by its sizes
@@ -155,7 +155,7 @@ module _ (f : Found) (w : Carried) (c : Card) (U X Y : State) (two : f.card_a.nu
   views = rises-run (IsNote (own_sizes (found_of f c).image)) X Y whole run (λ x n is note. omega (arith, ap (λ (v : CardView). v.mark) (same-view x n is note)))
 
   -- the string, where a card that stands otherwise takes its entries no earlier
-  held : (z : Standing) → ((n : ℕ) → since (w.standing c) n ≤ since z n) → ((n : ℕ) → since z n ≤ since (w.standing c) n) → IsHeld (found_of f c) c w.book z Y
+  held : (z : Standing) → ((n : ℕ) → since (w.standing c) n ≤ since z n) → ((n : ℕ) → since z n ≤ since (w.standing c) n) → CardHoldsString (found_of f c) c w.book z Y
   held z le ge = held-on (found_of f c) c w.book sound (w.standing c) z (IsNote (own_sizes (found_of f c).image)) X Y one.rule.dark.later run
       (λ x there h. (h.0, subst (λ (n : ℕ). HoldsSince (own_sizes (found_of f c).image) (found_of f c).image (brought_by c (found_of f c).start w.book) (suc (max (found_of f c).start.word n)) x) (both (le (own_view x).newest) (ge (own_view x).newest)) h.1))
       (λ x n is note h. (
@@ -253,8 +253,8 @@ module _ (f : Found) (w : Carried) (c : Card) (U X Y : State) (two : f.card_a.nu
 
 -- ---- so all of it stands, where the card that the call is about is the one with the session
 
-module _ (f : Found) (w : Carried) (cards : Cards) (c : Card) (U X Y Z : State) (found : AreFoundCards f cards) (unit_whole : IsCoherent U) (whole : IsCoherent X) (after : IsCoherent Y) (a : Accepted) (value : IsValue a.session) (has : session_of cards c ≡ Some a)
-    (p : IsPowered f w cards (arranged c U X Z)) (run : LeavesOnly X Y (IsNote (own_sizes (found_of f c).image))) where
+module _ (f : Found) (w : RunLedger) (cards : Cards) (c : Card) (U X Y Z : State) (found : AreFoundCards f cards) (unit_whole : IsCoherent U) (whole : IsCoherent X) (after : IsCoherent Y) (a : Accepted) (value : IsValue a.session) (has : session_of cards c ≡ Some a)
+    (p : DevicesPowered f w cards (arranged c U X Z)) (run : LeavesOnly X Y (IsNote (own_sizes (found_of f c).image))) where
   parts : AreParts f w cards c U X Z
   parts = parts-of f w cards c U X Z p
 
@@ -269,7 +269,7 @@ module _ (f : Found) (w : Carried) (cards : Cards) (c : Card) (U X Y Z : State) 
       by (inl valid) = note-marks f w c U X Y found.two unit_whole whole after parts.unit (found.sizes c valid) a value (mine valid) run parts.marks_mine
       by (inr bad) = no-marks f c w.book w.marks X Y bad parts.marks_mine
 
-  pub noted-on : X.works ≡ true → Y.works ≡ true → image_size_of (own_sizes (found_of f c).image) ≤ X.size → IsPowered f w cards (arranged c U Y Z)
+  pub noted-on : X.works ≡ true → Y.works ≡ true → image_size_of (own_sizes (found_of f c).image) ≤ X.size → DevicesPowered f w cards (arranged c U Y Z)
   noted-on works well room = powered-of f w cards c U Y Z found (record {
     unit = parts.unit;
     mine = λ valid. subst (λ (o : Option Accepted). CardLit f w.book (w.standing c) (w.brought c) o c U Y) (sym has)
@@ -280,7 +280,7 @@ module _ (f : Found) (w : Carried) (cards : Cards) (c : Card) (U X Y Z : State) 
   })
 
   -- or the card failed: it is torn out, and has no session any more
-  pub noted-off : (time floor : ℕ) (left : Cards) → AreFoundCards f left → session_of left c ≡ None → session_of left (other c) ≡ session_of cards (other c) → ((valid : IsOwnValid (found_of f c).image) → w.standing c ≡ In time a.session.minute) → IsPowered f (with_standing c (Torn time a.session.minute floor) w) left (arranged c U Y Z)
+  pub noted-off : (time floor : ℕ) (left : Cards) → AreFoundCards f left → session_of left c ≡ None → session_of left (other c) ≡ session_of cards (other c) → ((valid : IsOwnValid (found_of f c).image) → w.standing c ≡ In time a.session.minute) → DevicesPowered f (with_standing c (Torn time a.session.minute floor) w) left (arranged c U Y Z)
   noted-off time floor left found_left none same stands = powered-of f (with_standing c (Torn time a.session.minute floor) w) left c U Y Z found_left (record {
     unit = record { tells = parts.unit.tells; works = parts.unit.works; unit = parts.unit.unit; none = parts.unit.none };
     mine = λ valid. subst (λ (o : Option Accepted). CardLit f w.book ((with_standing c (Torn time a.session.minute floor) w).standing c) (w.brought c) o c U Y) (sym none)
@@ -293,7 +293,7 @@ module _ (f : Found) (w : Carried) (cards : Cards) (c : Card) (U X Y Z : State) 
     where
       torn : (valid : IsOwnValid (found_of f c).image) → CardLit f w.book (Torn time a.session.minute floor) (w.brought c) None c U Y
       torn valid =
-          let on : IsOn (found_of f c) (mine valid).goes.has (w.standing c) a.session X = (mine valid).goes.goes in
+          let on : SessionIsOnCard (found_of f c) (mine valid).goes.has (w.standing c) a.session X = (mine valid).goes.goes in
           let one = time-of on.time time a.session.minute (sym on.stands ∙ stands valid) in
           subst (λ (t : ℕ). CardLit f w.book (Torn t a.session.minute floor) (w.brought c) None c U Y) one
           (note-torn f w c U X Y found.two unit_whole whole after parts.unit (found.sizes c valid) a value (mine valid) run floor)

@@ -23,10 +23,10 @@ use Rattle.device_rule.proofs.Staying.{marks-stay}
 use Rattle.device_rule.proofs.Viewed.{seen-run}
 use Rattle.unit_rule.specs.Unit.{marks_of}
 use Rattle.unit_rule.specs.Rule.{Started}
-use Rattle.unit_rule.specs.Marks.{Holds}
+use Rattle.unit_rule.specs.Marks.{UnitFollowsBook}
 use Rattle.run_promise.specs.Found.{CardFound, Found, found_of, unit_seen, AnyKept}
 use Rattle.run_promise.specs.Cards.{brought_by, IsCardHeld, CardMarksHold}
-use Rattle.run_devices.specs.Strung.{HasSameRest, IsHeld, HasSameHolder}
+use Rattle.run_devices.specs.Strung.{HasSameRest, CardHoldsString, HasSameHolder}
 use Rattle.run_promise.specs.Stays.{NoMarkFalls}
 use Rattle.run_promise.proofs.Stays.{stays, adds-none}
 use Rattle.run_devices.proofs.Parts.{left-one}
@@ -113,7 +113,7 @@ marks-on f c b marks X Y whole run h = record {
 }
 
 -- what was brought
-pub brought-card : (f : Found) (c : Card) (k : ℕ) (b : Book) (y z : Standing) (s : Started) (due : ℕ) (marks : List Mark) (U V X Y : State) → IsCoherent U → is_some U.image ≡ true → Holds s due b marks U → b.maybe ≡ None
+pub brought-card : (f : Found) (c : Card) (k : ℕ) (b : Book) (y z : Standing) (s : Started) (due : ℕ) (marks : List Mark) (U V X Y : State) → IsCoherent U → is_some U.image ≡ true → UnitFollowsBook s due b marks U → b.maybe ≡ None
     → CardDark c (found_of f c).start AnyKept (found_of f c).began b y (unit_seen f U) (of_card X) → CardDark c (found_of f c).start AnyKept (found_of f c).began b z (unit_seen f V) (of_card Y) → NoMarkFalls X Y
     → HasBrought f.card_a.number f.card_b.number c k U X → HasBrought f.card_a.number f.card_b.number c k V Y
 brought-card f c k b y z s due marks U V X Y whole tells h none before behind rises = stays f c k b b y z U X V Y (record {
@@ -137,7 +137,7 @@ module _ (f : CardFound) (c : Card) (b : Book) (sound : IsApplication (own_sizes
 
   pub held-on : (y z : Standing) (R : List ℕ → List ℕ → Type 0) (X Y : State) → f.began ≤ X.clock → LeavesOnly X Y R → ((x : List ℕ) → X.may_leave x → Holds_at y x → Holds_at z x) → ((x n : List ℕ) → X.image ≡ Some x → R x n → Holds_at y x → Holds_at z n)
       → ((x n : List ℕ) → X.image ≡ Some x → R x n → HasSameHolder x n)
-      → IsCoherent X → IsHeld f c b y X → IsHeld f c b z Y
+      → IsCoherent X → CardHoldsString f c b y X → CardHoldsString f c b z Y
   held-on y z R X Y began run still made same whole h = record {
     tells = run.tells ∙ h.tells;
     now = λ n there. ⊎_elim (λ was. still n was (h.now n was)) (λ one. made one.0 n one.1 one.2 (h.now one.0 (whole.is_left one.0 one.1))) (run.now n there);
@@ -148,7 +148,7 @@ module _ (f : CardFound) (c : Card) (b : Book) (sound : IsApplication (own_sizes
   }
 
 -- a card that was only read
-pub held-read : (f : CardFound) (c : Card) (b : Book) (z : Standing) (X Y : State) → f.began ≤ X.clock → LeavesOnly X Y Unchanged → IsHeld f c b z X → IsHeld f c b z Y
+pub held-read : (f : CardFound) (c : Card) (b : Book) (z : Standing) (X Y : State) → f.began ≤ X.clock → LeavesOnly X Y Unchanged → CardHoldsString f c b z X → CardHoldsString f c b z Y
 held-read f c b z X Y began run h = record {
   tells = run.tells ∙ h.tells;
   now = λ n there. ⊎_elim (h.now n) (λ one. absurd one.2) (run.now n there);

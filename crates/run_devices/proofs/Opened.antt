@@ -31,11 +31,11 @@ use Rattle.device_calls.proofs.OnCard.{own-is, session-is}
 use Rattle.device_calls.proofs.Inserted.{bound_of as bound_in, beyond_shut}
 use Rattle.run_promise.specs.Found.{Found, found_of}
 use Rattle.run_promise.specs.Cards.{brought_by}
-use Rattle.run_promise.specs.Between.{IsCarried}
+use Rattle.run_promise.specs.Between.{LedgerStands}
 use Rattle.run_promise.specs.Opening.{BeginsAs, IsLookedAt, carried_first}
 use Rattle.run_promise.proofs.OwedRises.{owed-rises}
-use Rattle.run_devices.specs.Strung.{IsHeld, HasSameHolder}
-use Rattle.run_devices.specs.Told.{IsHeldDark, IsPowerless}
+use Rattle.run_devices.specs.Strung.{CardHoldsString, HasSameHolder}
+use Rattle.run_devices.specs.Told.{CardHoldsStringUnpowered, DevicesUnpowered}
 use Rattle.run_devices.proofs.Parts.{held-dark}
 use Rattle.run_devices.proofs.OnCards.{own-valid, same-holder, bound_of}
 use Rattle.run_devices.proofs.Power.{follow-of}
@@ -106,7 +106,7 @@ module _ (f : Found) (c : Card) (u x : List ℕ) (card : State) (whole : IsCoher
   same-sizes : own_sizes x ≡ own_sizes (found_of f c).image
   same-sizes = ap own_sizes (sym looked.image)
 
-  pub opened-held : IsHeld (found_of f c) c not_begun Out card
+  pub opened-held : CardHoldsString (found_of f c) c not_begun Out card
   opened-held = record {
     tells = ap is_some begins.tells;
     now = λ y there. subst (λ (k : List ℕ). (own_sizes k ≡ own_sizes (found_of f c).image) × HoldsSince (own_sizes (found_of f c).image) (found_of f c).image (brought_by c (found_of f c).start not_begun) (bound_of (found_of f c) Out k) k) (sym (only-now y there))
@@ -117,9 +117,9 @@ module _ (f : Found) (c : Card) (u x : List ℕ) (card : State) (whole : IsCoher
     still = λ y left. subst (HasSameHolder (found_of f c).image) (looked.image ∙ sym (only y left)) (same-holder (found_of f c).image);
   }
 
-  pub opened-wait : IsHeldDark (found_of f c) c not_begun Out card
+  pub opened-wait : CardHoldsStringUnpowered (found_of f c) c not_begun Out card
   opened-wait = held-dark (found_of f c) c not_begun Out card refl opened-held
 
 -- so all that the opening found is carried, before there is power
-pub opened-powerless : (f : Found) (due : ℕ) (d : Devices) → IsCarried f (carried_first due) d → ((c : Card) → IsOwnValid (found_of f c).image → IsHeldDark (found_of f c) c not_begun Out (card_of d c)) → IsPowerless f (carried_first due) d
+pub opened-powerless : (f : Found) (due : ℕ) (d : Devices) → LedgerStands f (carried_first due) d → ((c : Card) → IsOwnValid (found_of f c).image → CardHoldsStringUnpowered (found_of f c) c not_begun Out (card_of d c)) → DevicesUnpowered f (carried_first due) d
 opened-powerless f due d carried wait = record { carried = carried; wait = wait }

@@ -20,7 +20,7 @@ use Rattle.device_rule.specs.Rules.{Standing, since, CardDark, CardRule}
 use Rattle.device_rule.specs.Marked.{of_card, HasBrought}
 use Rattle.unit_rule.specs.Safe.{Devices, card_of}
 use Rattle.unit_rule.specs.Rule.{Started, once_mended}
-use Rattle.unit_rule.specs.Marks.{Holds}
+use Rattle.unit_rule.specs.Marks.{UnitFollowsBook}
 use Rattle.device_calls.specs.Rule.{Both, CardHolds, CardRests}
 use Rattle.run_crew.specs.declared.cards.Accepted.{Accepted}
 use Rattle.run_crew.specs.declared.cards.Cards.{Cards}
@@ -28,11 +28,11 @@ use Rattle.run_crew.specs.Cards.{session_of}
 use Rattle.unit_rule.proofs.Marking.{holds-dark}
 use Rattle.run_promise.specs.Found.{CardFound, Found, found_of, unit_seen, AnyKept}
 use Rattle.run_promise.specs.Cards.{brought_by, CardMarksHold, IsStrung}
-use Rattle.run_promise.specs.Between.{Carried, IsLit, IsCarried, devices}
-use Rattle.run_devices.specs.Strung.{IsHeld, EachIsStrung}
+use Rattle.run_promise.specs.Between.{RunLedger, LedgerStandsPowered, LedgerStands, devices}
+use Rattle.run_devices.specs.Strung.{CardHoldsString, EachIsStrung}
 use Rattle.run_devices.proofs.Strung.{strung}
 use Rattle.run_promise.proofs.Stays.{stays, adds-none}
-use Rattle.run_devices.specs.Told.{AreFoundCards, sure_of, IsHeldDark, AllWait, GoesOwing, owes_nothing, AllGo, IsLitWith, IsLitOwing, IsPowered, IsPowerless, arranged, for_card}
+use Rattle.run_devices.specs.Told.{AreFoundCards, sure_of, CardHoldsStringUnpowered, AllWait, GoesOwing, owes_nothing, AllGo, IsLitWith, IsLitOwing, DevicesPowered, DevicesUnpowered, arranged, for_card}
 
 -- ---- the rules of the steps are those of a run
 
@@ -79,7 +79,7 @@ left-one s whole tells = let one = told-one s.image tells in (one.0, whole.is_le
 -- ---- THE STRING
 
 -- by the entries alone
-pub held-same : (f : CardFound) (c : Card) (b d : Book) (z : Standing) (X : State) → brought_by c f.start b ≡ brought_by c f.start d → IsHeld f c b z X → IsHeld f c d z X
+pub held-same : (f : CardFound) (c : Card) (b d : Book) (z : Standing) (X : State) → brought_by c f.start b ≡ brought_by c f.start d → CardHoldsString f c b z X → CardHoldsString f c d z X
 held-same f c b d z X same h = record {
   tells = h.tells;
   now = λ x there. subst (λ (es : List Entry). (own_sizes x ≡ own_sizes f.image) × HoldsSince (own_sizes f.image) f.image es (suc (max f.start.word (since z (own_view x).newest))) x) same (h.now x there);
@@ -95,23 +95,23 @@ sure-same c start b none = ap (λ (o : Option HistoryMinute). start.owed ++ card
 none-comes : (P : Entry → Type 0) (c : Card) (b : Book) → b.maybe ≡ None → All P (card_history c (option_to_list b.maybe))
 none-comes P c b none = subst (All P) (sym (ap (λ (o : Option HistoryMinute). card_history c (option_to_list o)) none ∙ history-none c)) (All-nil P)
 
-pub held-dark : (f : CardFound) (c : Card) (b : Book) (z : Standing) (X : State) → b.maybe ≡ None → IsHeld f c b z X → IsHeldDark f c b z X
+pub held-dark : (f : CardFound) (c : Card) (b : Book) (z : Standing) (X : State) → b.maybe ≡ None → CardHoldsString f c b z X → CardHoldsStringUnpowered f c b z X
 held-dark f c b z X none h = record {
   held = held-same f c b (sure_of b) z X (sure-same c f.start b none) h;
   comes = λ x there. none-comes (λ (e : Entry). suc (max f.start.word (since z (own_view x).newest)) ≤ e.minute) c b none;
 }
 
-pub held-lit : (f : CardFound) (c : Card) (b : Book) (z : Standing) (X : State) → b.maybe ≡ None → IsHeldDark f c b z X → IsHeld f c b z X
+pub held-lit : (f : CardFound) (c : Card) (b : Book) (z : Standing) (X : State) → b.maybe ≡ None → CardHoldsStringUnpowered f c b z X → CardHoldsString f c b z X
 held-lit f c b z X none h = held-same f c (sure_of b) b z X (sym (sure-same c f.start b none)) h.held
 
 -- ---- ALL THAT IS CARRIED, from its parts
 
-module _ (f : Found) (w : Carried) (cards : Cards) (d : Devices) (found : AreFoundCards f cards) where
-  sure-here : (s : Started) (due : ℕ) (b : Book) (marks : List Mark) (U : State) → Holds s due b marks U → (u : UnitView) → (unit_seen f U).may_leave u → All (λ (i : HistoryMinute). i.minute ≤ u.last) b.sure
+module _ (f : Found) (w : RunLedger) (cards : Cards) (d : Devices) (found : AreFoundCards f cards) where
+  sure-here : (s : Started) (due : ℕ) (b : Book) (marks : List Mark) (U : State) → UnitFollowsBook s due b marks U → (u : UnitView) → (unit_seen f U).may_leave u → All (λ (i : HistoryMinute). i.minute ≤ u.last) b.sure
   sure-here s due b marks U h u on = ((h.unit_holds f.card_a.number f.card_b.number).now u on).sure
 
-  module _ (none : w.book.maybe ≡ None) (unit : Holds f.unit w.due w.book w.marks d.unit) where
-    pub strung-of : (c : Card) (z : Standing) (X : State) → IsOwnValid (found_of f c).image → IsHeld (found_of f c) c w.book z X → ((x : List ℕ) → X.left_since (found_of f c).began x → IsOwnValid x) → Rise (brought_by c (found_of f c).start w.book)
+  module _ (none : w.book.maybe ≡ None) (unit : UnitFollowsBook f.unit w.due w.book w.marks d.unit) where
+    pub strung-of : (c : Card) (z : Standing) (X : State) → IsOwnValid (found_of f c).image → CardHoldsString (found_of f c) c w.book z X → ((x : List ℕ) → X.left_since (found_of f c).began x → IsOwnValid x) → Rise (brought_by c (found_of f c).start w.book)
         → CardDark c (found_of f c).start AnyKept (found_of f c).began w.book z (unit_seen f d.unit) (of_card X) → EachIsStrung f c w.book z d.unit X
     strung-of c z X valid held each rises rests = record {
       sizes = found.sizes c valid;
@@ -125,12 +125,12 @@ module _ (f : Found) (w : Carried) (cards : Cards) (d : Devices) (found : AreFou
     }
 
   -- whatever is put or owed
-  pub strung-with : (puts owes : Card → List Entry) → IsLitWith f w puts owes d → (c : Card) → IsOwnValid (found_of f c).image → IsHeld (found_of f c) c w.book (w.standing c) (card_of d c) → IsStrung f c w.book (w.standing c) d.unit (card_of d c)
+  pub strung-with : (puts owes : Card → List Entry) → IsLitWith f w puts owes d → (c : Card) → IsOwnValid (found_of f c).image → CardHoldsString (found_of f c) c w.book (w.standing c) (card_of d c) → IsStrung f c w.book (w.standing c) d.unit (card_of d c)
   strung-with puts owes lit c valid held =
       strung f c w.book (w.standing c) d.unit (card_of d c) (strung-of lit.none (holds-dark f.unit w.due w.book w.marks d.unit lit.unit) c (w.standing c) (card_of d c) valid held (lit.valid c valid) (lit.rises c valid) (lit.rules c valid).dark)
 
   -- while nothing is put and nothing owed
-  pub lit-of : IsLitOwing f w owes_nothing d → AllGo f w owes_nothing cards d → IsLit f w d
+  pub lit-of : IsLitOwing f w owes_nothing d → AllGo f w owes_nothing cards d → LedgerStandsPowered f w d
   lit-of lit go = record {
     tells = lit.tells;
     works = lit.works;
@@ -143,7 +143,7 @@ module _ (f : Found) (w : Carried) (cards : Cards) (d : Devices) (found : AreFou
   }
 
   -- whatever is put or owed
-  pub carried-of : (puts owes : Card → List Entry) → IsLitWith f w puts owes d → AllGo f w owes cards d → IsCarried f w d
+  pub carried-of : (puts owes : Card → List Entry) → IsLitWith f w puts owes d → AllGo f w owes cards d → LedgerStands f w d
   carried-of puts owes lit go = record {
     tells = lit.tells;
     unit = holds-dark f.unit w.due w.book w.marks d.unit lit.unit;
@@ -156,7 +156,7 @@ module _ (f : Found) (w : Carried) (cards : Cards) (d : Devices) (found : AreFou
   pub wait-of : (owes : Card → List Entry) → w.book.maybe ≡ None → AllGo f w owes cards d → AllWait f w d
   wait-of owes none go = λ c valid. held-dark (found_of f c) c w.book (w.standing c) (card_of d c) none (go.held c valid)
 
-pub owing-of : (f : Found) (w : Carried) (d : Devices) → IsLit f w d → IsLitOwing f w owes_nothing d
+pub owing-of : (f : Found) (w : RunLedger) (d : Devices) → LedgerStandsPowered f w d → IsLitOwing f w owes_nothing d
 owing-of f w d lit = record {
   tells = lit.tells;
   works = lit.works;
@@ -170,7 +170,7 @@ owing-of f w d lit = record {
 }
 
 -- POWER IS LOST: nothing of what is carried is
-pub power-lost : (f : Found) (w : Carried) (cards : Cards) (d : Devices) → AreFoundCards f cards → IsPowered f w cards d → IsPowerless f w d
+pub power-lost : (f : Found) (w : RunLedger) (cards : Cards) (d : Devices) → AreFoundCards f cards → DevicesPowered f w cards d → DevicesUnpowered f w d
 power-lost f w cards d found powered = record {
   carried = carried-of f w cards d found owes_nothing owes_nothing (owing-of f w d powered.lit) powered.go;
   wait = wait-of f w cards d found owes_nothing powered.lit.none powered.go;
@@ -179,10 +179,10 @@ power-lost f w cards d found powered = record {
 -- ---- ONE CARD AND THE OTHER
 
 -- of the unit
-pub record UnitLit (f : Found) (w : Carried) (U : State) : Type 0 where
+pub record UnitLit (f : Found) (w : RunLedger) (U : State) : Type 0 where
   pub tells : is_some U.image ≡ true
   pub works : U.works ≡ true
-  pub unit : Holds (once_mended f.unit) w.due w.book w.marks U
+  pub unit : UnitFollowsBook (once_mended f.unit) w.due w.book w.marks U
   pub none : w.book.maybe ≡ None
 
 -- of a card that was valid, as it stands and with what was brought, while the unit has power and nothing is owed
@@ -191,7 +191,7 @@ pub record CardLit (f : Found) (b : Book) (z : Standing) (ks : List ℕ) (sessio
   pub valid : (x : List ℕ) → X.left_since (found_of f c).began x → IsOwnValid x
   pub rises : Rise (brought_by c (found_of f c).start b)
   pub brought : (k : ℕ) → Contains ks k → HasBrought f.card_a.number f.card_b.number c k U X
-  pub held : IsHeld (found_of f c) c b z X
+  pub held : CardHoldsString (found_of f c) c b z X
   pub goes : GoesOwing (found_of f c) c b [] z session X
 
 -- and where it has none
@@ -200,32 +200,32 @@ pub record CardOff (f : Found) (b : Book) (z : Standing) (ks : List ℕ) (c : Ca
   pub valid : (x : List ℕ) → X.left_since (found_of f c).began x → IsOwnValid x
   pub rises : Rise (brought_by c (found_of f c).start b)
   pub brought : (k : ℕ) → Contains ks k → HasBrought f.card_a.number f.card_b.number c k U X
-  pub held : IsHeld (found_of f c) c b z X
+  pub held : CardHoldsString (found_of f c) c b z X
 
 pub off-of : (f : Found) (b : Book) (z : Standing) (ks : List ℕ) (session : Option Accepted) (c : Card) (U X : State) → CardLit f b z ks session c U X → CardOff f b z ks c U X
 off-of f b z ks session c U X one = record { rests = one.rule.dark; valid = one.valid; rises = one.rises; brought = one.brought; held = one.held }
 
-abbrev pub MarksLit : (f : Found) (w : Carried) (c : Card) (X : State) → Type 0
+abbrev pub MarksLit : (f : Found) (w : RunLedger) (c : Card) (X : State) → Type 0
 MarksLit f w c X = CardMarksHold (found_of f c) c w.book w.marks X
 
 -- all of it, by the card that a call is about
-pub record AreParts (f : Found) (w : Carried) (cards : Cards) (c : Card) (U X Y : State) : Type 0 where
+pub record AreParts (f : Found) (w : RunLedger) (cards : Cards) (c : Card) (U X Y : State) : Type 0 where
   pub unit : UnitLit f w U
   pub mine : IsOwnValid (found_of f c).image → CardLit f w.book (w.standing c) (w.brought c) (session_of cards c) c U X
   pub others : IsOwnValid (found_of f (other c)).image → CardLit f w.book (w.standing (other c)) (w.brought (other c)) (session_of cards (other c)) (other c) U Y
   pub marks_mine : MarksLit f w c X
   pub marks_others : MarksLit f w (other c) Y
 
-pub record AreOff (f : Found) (w : Carried) (c : Card) (U X Y : State) : Type 0 where
+pub record AreOff (f : Found) (w : RunLedger) (c : Card) (U X Y : State) : Type 0 where
   pub tells : is_some U.image ≡ true
-  pub unit : Holds f.unit w.due w.book w.marks U
+  pub unit : UnitFollowsBook f.unit w.due w.book w.marks U
   pub none : w.book.maybe ≡ None
   pub mine : IsOwnValid (found_of f c).image → CardOff f w.book (w.standing c) (w.brought c) c U X
   pub others : IsOwnValid (found_of f (other c)).image → CardOff f w.book (w.standing (other c)) (w.brought (other c)) (other c) U Y
   pub marks_mine : MarksLit f w c X
   pub marks_others : MarksLit f w (other c) Y
 
-one-lit : (f : Found) (w : Carried) (cards : Cards) (d : Devices) → IsPowered f w cards d → (c : Card) → IsOwnValid (found_of f c).image → CardLit f w.book (w.standing c) (w.brought c) (session_of cards c) c d.unit (card_of d c)
+one-lit : (f : Found) (w : RunLedger) (cards : Cards) (d : Devices) → DevicesPowered f w cards d → (c : Card) → IsOwnValid (found_of f c).image → CardLit f w.book (w.standing c) (w.brought c) (session_of cards c) c d.unit (card_of d c)
 one-lit f w cards d p c valid = record {
   rule = (p.lit.cards c valid).holds;
   valid = (p.lit.cards c valid).string.valid;
@@ -235,10 +235,10 @@ one-lit f w cards d p c valid = record {
   goes = p.go.goes c valid;
 }
 
-unit-lit : (f : Found) (w : Carried) (d : Devices) → IsLit f w d → UnitLit f w d.unit
+unit-lit : (f : Found) (w : RunLedger) (d : Devices) → LedgerStandsPowered f w d → UnitLit f w d.unit
 unit-lit f w d lit = record { tells = lit.tells; works = lit.works; unit = lit.unit; none = lit.none }
 
-pub parts-of : (f : Found) (w : Carried) (cards : Cards) (c : Card) (U X Y : State) → IsPowered f w cards (arranged c U X Y) → AreParts f w cards c U X Y
+pub parts-of : (f : Found) (w : RunLedger) (cards : Cards) (c : Card) (U X Y : State) → DevicesPowered f w cards (arranged c U X Y) → AreParts f w cards c U X Y
 parts-of f w cards A U X Y p = record {
   unit = unit-lit f w (devices U X Y) p.lit;
   mine = one-lit f w cards (devices U X Y) p A;
@@ -254,7 +254,7 @@ parts-of f w cards B U X Y p = record {
   marks_others = p.lit.marks A;
 }
 
-whole-lit : (f : Found) (w : Carried) (cards : Cards) (d : Devices) → AreFoundCards f cards → UnitLit f w d.unit → ((c : Card) → IsOwnValid (found_of f c).image → CardLit f w.book (w.standing c) (w.brought c) (session_of cards c) c d.unit (card_of d c)) → ((c : Card) → MarksLit f w c (card_of d c)) → IsPowered f w cards d
+whole-lit : (f : Found) (w : RunLedger) (cards : Cards) (d : Devices) → AreFoundCards f cards → UnitLit f w d.unit → ((c : Card) → IsOwnValid (found_of f c).image → CardLit f w.book (w.standing c) (w.brought c) (session_of cards c) c d.unit (card_of d c)) → ((c : Card) → MarksLit f w c (card_of d c)) → DevicesPowered f w cards d
 whole-lit f w cards d found unit one marks =
     let go : AllGo f w owes_nothing cards d = record { held = λ c valid. (one c valid).held; goes = λ c valid. (one c valid).goes } in
     record {
@@ -272,7 +272,7 @@ whole-lit f w cards d found unit one marks =
       go = go;
     }
 
-pub powered-of : (f : Found) (w : Carried) (cards : Cards) (c : Card) (U X Y : State) → AreFoundCards f cards → AreParts f w cards c U X Y → IsPowered f w cards (arranged c U X Y)
+pub powered-of : (f : Found) (w : RunLedger) (cards : Cards) (c : Card) (U X Y : State) → AreFoundCards f cards → AreParts f w cards c U X Y → DevicesPowered f w cards (arranged c U X Y)
 powered-of f w cards A U X Y found p = whole-lit f w cards (devices U X Y) found p.unit one marks
   where
     one : (c : Card) → IsOwnValid (found_of f c).image → CardLit f w.book (w.standing c) (w.brought c) (session_of cards c) c U (card_of (devices U X Y) c)
@@ -292,8 +292,8 @@ powered-of f w cards B U X Y found p = whole-lit f w cards (devices U Y X) found
     marks A = p.marks_others
     marks B = p.marks_mine
 
-whole-off : (f : Found) (w : Carried) (cards : Cards) (d : Devices) → AreFoundCards f cards → is_some d.unit.image ≡ true → Holds f.unit w.due w.book w.marks d.unit → w.book.maybe ≡ None → ((c : Card) → IsOwnValid (found_of f c).image → CardOff f w.book (w.standing c) (w.brought c) c d.unit (card_of d c))
-    → ((c : Card) → MarksLit f w c (card_of d c)) → IsPowerless f w d
+whole-off : (f : Found) (w : RunLedger) (cards : Cards) (d : Devices) → AreFoundCards f cards → is_some d.unit.image ≡ true → UnitFollowsBook f.unit w.due w.book w.marks d.unit → w.book.maybe ≡ None → ((c : Card) → IsOwnValid (found_of f c).image → CardOff f w.book (w.standing c) (w.brought c) c d.unit (card_of d c))
+    → ((c : Card) → MarksLit f w c (card_of d c)) → DevicesUnpowered f w d
 whole-off f w cards d found tells unit none one marks = record {
   carried = record {
     tells = tells;
@@ -307,7 +307,7 @@ whole-off f w cards d found tells unit none one marks = record {
   wait = λ c valid. held-dark (found_of f c) c w.book (w.standing c) (card_of d c) none (one c valid).held;
 }
 
-pub powerless-of : (f : Found) (w : Carried) (cards : Cards) (c : Card) (U X Y : State) → AreFoundCards f cards → AreOff f w c U X Y → IsPowerless f w (arranged c U X Y)
+pub powerless-of : (f : Found) (w : RunLedger) (cards : Cards) (c : Card) (U X Y : State) → AreFoundCards f cards → AreOff f w c U X Y → DevicesUnpowered f w (arranged c U X Y)
 powerless-of f w cards A U X Y found p = whole-off f w cards (devices U X Y) found p.tells p.unit p.none one marks
   where
     one : (c : Card) → IsOwnValid (found_of f c).image → CardOff f w.book (w.standing c) (w.brought c) c U (card_of (devices U X Y) c)
@@ -329,7 +329,7 @@ powerless-of f w cards B U X Y found p = whole-off f w cards (devices U Y X) fou
 
 -- ---- WHAT WAS BROUGHT stays where the rules hold again, over a step on the unit
 
-pub brought-on : (f : Found) (c : Card) (k : ℕ) (b : Book) (y z : Standing) (s : Started) (due : ℕ) (marks : List Mark) (U V X : State) → IsCoherent U → is_some U.image ≡ true → Holds s due b marks U → b.maybe ≡ None
+pub brought-on : (f : Found) (c : Card) (k : ℕ) (b : Book) (y z : Standing) (s : Started) (due : ℕ) (marks : List Mark) (U V X : State) → IsCoherent U → is_some U.image ≡ true → UnitFollowsBook s due b marks U → b.maybe ≡ None
     → CardDark c (found_of f c).start AnyKept (found_of f c).began b y (unit_seen f U) (of_card X) → CardDark c (found_of f c).start AnyKept (found_of f c).began b z (unit_seen f V) (of_card X)
     → HasBrought f.card_a.number f.card_b.number c k U X → HasBrought f.card_a.number f.card_b.number c k V X
 brought-on f c k b y z s due marks U V X whole tells h none before behind = stays f c k b b y z U X V X (record {

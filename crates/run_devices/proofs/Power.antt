@@ -31,7 +31,7 @@ use Rattle.device_rule.proofs.Viewed.{seen-run}
 use Rattle.unit_rule.specs.Safe.{Devices, card_of}
 use Rattle.unit_rule.specs.Unit.{marks_of}
 use Rattle.unit_rule.specs.Rule.{Started, seen_unit}
-use Rattle.unit_rule.specs.Marks.{Holds}
+use Rattle.unit_rule.specs.Marks.{UnitFollowsBook}
 use Rattle.unit_rule.proofs.Found.{one-image}
 use Rattle.unit_rule.proofs.Marking.{holds-found, holds-read}
 use Rattle.unit_rule.proofs.Moves.{shown-last}
@@ -42,11 +42,11 @@ use Rattle.run_crew.specs.declared.cards.Cards.{Cards}
 use Rattle.run_crew.specs.Cards.{session_of}
 use Rattle.run_promise.specs.Found.{CardFound, Found, found_of, unit_seen, AnyKept}
 use Rattle.run_promise.specs.Cards.{brought_by, CardWaits, IsCardHeld, CardMarksHold}
-use Rattle.run_promise.specs.Between.{Carried, devices}
+use Rattle.run_promise.specs.Between.{RunLedger, devices}
 use Rattle.run_promise.proofs.Waiting.{comes-beside, strung-found}
-use Rattle.run_devices.specs.Strung.{IsHeld}
+use Rattle.run_devices.specs.Strung.{CardHoldsString}
 use Rattle.run_devices.proofs.Strung.{held-out}
-use Rattle.run_devices.specs.Told.{carried_found, all_out, AreFoundCards, sure_of, IsHeldDark, AllWait, IsPowered, IsPowerless}
+use Rattle.run_devices.specs.Told.{carried_found, all_out, AreFoundCards, sure_of, CardHoldsStringUnpowered, AllWait, DevicesPowered, DevicesUnpowered}
 use Rattle.run_devices.proofs.Parts.{both_of, as-rests, of-rests, of-steps, left-one, held-same, held-dark, held-lit, CardLit, CardOff, powered-of, powerless-of, brought-on}
 use Rattle.run_devices.proofs.OnCards.{bound_of}
 use Rattle.run_devices.proofs.StringMore.{rise-follow, held-more}
@@ -62,7 +62,7 @@ first-late n [] each = omega arith
 first-late n (e ∷ es) each = All-head (λ (d : Entry). n ≤ d.minute) e es each
 
 module _ (f : CardFound) (c : Card) (b : Book) (k : ℕ) (z : Standing) (X : State) (whole : IsCoherent X) (sure : All (λ i. i.minute ≤ k) b.sure) (began : f.began ≤ X.clock) (rises : Rise (brought_by c f.start b)) (lacks : (x : List ℕ) → X.left_since f.began x → All (λ e. (own_view x).mark < e.minute) (card_history c (option_to_list b.maybe)))
-    (dark : IsHeldDark f c b z X) where
+    (dark : CardHoldsStringUnpowered f c b z X) where
   with-more : brought_by c f.start b ≡ brought_by c f.start (sure_of b) ++ card_history c (option_to_list b.maybe)
   with-more =
       ap (λ (es : List Entry). f.start.owed ++ es) (history-append c b.sure (option_to_list b.maybe) ∙ ap (λ (is : List HistoryMinute). card_history c is ++ card_history c (option_to_list b.maybe)) (sym (append-nil b.sure)))
@@ -77,7 +77,7 @@ module _ (f : CardFound) (c : Card) (b : Book) (k : ℕ) (z : Standing) (X : Sta
   settled : brought_by c f.start (found k b) ≡ f.start.owed ++ card_history c (b.sure ++ up_to k (option_to_list b.maybe))
   settled = ap (λ (is : List HistoryMinute). f.start.owed ++ card_history c is) (all-found k b ∙ up_to-all b k sure)
 
-  pub held-found : IsHeld f c (found k b) z X
+  pub held-found : CardHoldsString f c (found k b) z X
   held-found = ⊎_elim
       (λ none. held-same f c (sure_of b) (found k b) z X (sym (settled ∙ ap (λ (is : List HistoryMinute). f.start.owed ++ card_history c (b.sure ++ is)) none)) dark.held)
       (λ same. held-more f c (sure_of b) (found k b) z X (card_history c (option_to_list b.maybe)) (settled ∙ ap (λ (is : List HistoryMinute). f.start.owed ++ card_history c (b.sure ++ is)) same ∙ with-more) rises-more
@@ -109,7 +109,7 @@ beside-nothing U V a b run = record {
   now = λ w on. ⊎_elim (λ was. inl was) (λ one. absurd one.2) (run.now w on);
 }
 
-module _ (f : Found) (w : Carried) (d : Devices) (V : State) (two : f.card_a.number ≢ f.card_b.number) (before : IsCoherent d.unit) (after : IsCoherent V) (wholes : (c : Card) → IsCoherent (card_of d c)) (p : IsPowerless f w d) (run : LeavesOnly d.unit V Unchanged) (works : V.works ≡ true) (x : List ℕ) (is : V.image ≡ Some x) where
+module _ (f : Found) (w : RunLedger) (d : Devices) (V : State) (two : f.card_a.number ≢ f.card_b.number) (before : IsCoherent d.unit) (after : IsCoherent V) (wholes : (c : Card) → IsCoherent (card_of d c)) (p : DevicesUnpowered f w d) (run : LeavesOnly d.unit V Unchanged) (works : V.works ≡ true) (x : List ℕ) (is : V.image ≡ Some x) where
   abbrev k : ℕ
   k = last_kept x
 
@@ -132,13 +132,13 @@ module _ (f : Found) (w : Carried) (d : Devices) (V : State) (two : f.card_a.num
         brought = λ n in_. note-stays c (unit_seen f d.unit) (unit_seen f V) (of_card (card_of d c)) (beside-nothing d.unit V f.card_a.number f.card_b.number (seen-same f.card_a.number f.card_b.number)) n (was.brought n in_);
       }
 
-  held-one : (c : Card) → IsOwnValid (found_of f c).image → IsHeld (found_of f c) c (found (last_kept x) w.book) (w.standing c) (card_of d c)
+  held-one : (c : Card) → IsOwnValid (found_of f c).image → CardHoldsString (found_of f c) c (found (last_kept x) w.book) (w.standing c) (card_of d c)
   held-one c valid =
       let was = p.carried.cards c valid in
       held-found (found_of f c) c w.book (last_kept x) (w.standing c) (card_of d c) (wholes c) sure was.rests.later was.string.rises
       (λ y left. let had = was.rests.since (own_view y) (y, left, refl) in all-back (λ (e : Entry). (own_view y).mark < e.minute) had.rest (card_history c (option_to_list w.book.maybe)) had.lacks) (p.wait c valid)
 
-  pub found-powerless : IsPowerless f (carried_found (last_kept x) w) (devices V d.card_a d.card_b)
+  pub found-powerless : DevicesUnpowered f (carried_found (last_kept x) w) (devices V d.card_a d.card_b)
   found-powerless = record {
     carried = record {
       tells = ap is_some is;
@@ -163,7 +163,7 @@ module _ (f : Found) (w : Carried) (d : Devices) (V : State) (two : f.card_a.num
 
 -- ---- THE UNIT IS READ, and that failed: nothing is found
 
-module _ (f : Found) (w : Carried) (d : Devices) (V : State) (two : f.card_a.number ≢ f.card_b.number) (before : IsCoherent d.unit) (p : IsPowerless f w d) (run : LeavesOnly d.unit V Unchanged) where
+module _ (f : Found) (w : RunLedger) (d : Devices) (V : State) (two : f.card_a.number ≢ f.card_b.number) (before : IsCoherent d.unit) (p : DevicesUnpowered f w d) (run : LeavesOnly d.unit V Unchanged) where
   unread : LeavesViews (unit_seen f d.unit) (unit_seen f V) Nothing
   unread = seen-run (unit_view f.card_a.number f.card_b.number) Unchanged Nothing d.unit V before run (λ y e never. absurd never)
 
@@ -177,7 +177,7 @@ module _ (f : Found) (w : Carried) (d : Devices) (V : State) (two : f.card_a.num
         brought = λ n in_. note-stays c (unit_seen f d.unit) (unit_seen f V) (of_card (card_of d c)) (beside-nothing d.unit V f.card_a.number f.card_b.number unread) n (was.brought n in_);
       }
 
-  pub unread-powerless : IsPowerless f w (devices V d.card_a d.card_b)
+  pub unread-powerless : DevicesUnpowered f w (devices V d.card_a d.card_b)
   unread-powerless = record {
     carried = record { tells = run.tells ∙ p.carried.tells; unit = holds-read f.unit w.due w.book w.marks p.carried.unit before run; cards = cards; marks = marks };
     wait = wait;
@@ -197,16 +197,16 @@ module _ (f : Found) (w : Carried) (d : Devices) (V : State) (two : f.card_a.num
 
 -- ---- THE UNIT IS MENDED, where the calls say this: no card is accepted any more
 
-module _ (f : Found) (w : Carried) (cards : Cards) (U V X Y : State) (found_cards : AreFoundCards f cards) (whole : IsCoherent U) (none : w.book.maybe ≡ None) (p : IsPowerless f w (devices U X Y)) (failed : Bool)
-    (holds : (s : Started) (due : ℕ) (b : Book) (marks : List Mark) → Holds s due b marks U → IsHeldMended s due b marks V)
+module _ (f : Found) (w : RunLedger) (cards : Cards) (U V X Y : State) (found_cards : AreFoundCards f cards) (whole : IsCoherent U) (none : w.book.maybe ≡ None) (p : DevicesUnpowered f w (devices U X Y)) (failed : Bool)
+    (holds : (s : Started) (due : ℕ) (b : Book) (marks : List Mark) → UnitFollowsBook s due b marks U → IsHeldMended s due b marks V)
     (first : (r : Both) (c : Card) (b : Book) (z : Standing) → CardRests r c b z U X → IsTakenUp r c b z failed V X)
     (second : (r : Both) (c : Card) (b : Book) (z : Standing) → CardRests r c b z U Y → IsTakenUp r c b z failed V Y) (tells : is_some V.image ≡ is_some U.image) where
   mended-unit : IsHeldMended f.unit w.due w.book w.marks V
   mended-unit = holds f.unit w.due w.book w.marks p.carried.unit
 
   -- a card behind it, as the call says of it
-  module _ (c : Card) (Z : State) (valid : IsOwnValid (found_of f c).image) (was : CardWaits f c w.book (w.standing c) (w.brought c) U Z) (wait : IsHeldDark (found_of f c) c w.book (w.standing c) Z) (taken : IsTakenUp (both_of f found_cards.two) c w.book (w.standing c) failed V Z) where
-    still : IsHeld (found_of f c) c w.book (w.standing c) Z
+  module _ (c : Card) (Z : State) (valid : IsOwnValid (found_of f c).image) (was : CardWaits f c w.book (w.standing c) (w.brought c) U Z) (wait : CardHoldsStringUnpowered (found_of f c) c w.book (w.standing c) Z) (taken : IsTakenUp (both_of f found_cards.two) c w.book (w.standing c) failed V Z) where
+    still : CardHoldsString (found_of f c) c w.book (w.standing c) Z
     still = held-lit (found_of f c) c w.book (w.standing c) Z none wait
 
     mended-off : CardOff f w.book (w.standing c) (w.brought c) c V Z
@@ -248,7 +248,7 @@ module _ (f : Found) (w : Carried) (cards : Cards) (U V X Y : State) (found_card
   taken_b : (valid : IsOwnValid f.card_b.image) → IsTakenUp (both_of f found_cards.two) B w.book (w.standing B) failed V Y
   taken_b valid = second (both_of f found_cards.two) B w.book (w.standing B) (as-rests f found_cards.two B w.book (w.standing B) U Y (p.carried.cards B valid).rests)
 
-  pub mended-powered : failed ≡ false → V.works ≡ true → ((c : Card) → session_of cards c ≡ None) → IsPowered f (all_out w) cards (devices V X Y)
+  pub mended-powered : failed ≡ false → V.works ≡ true → ((c : Card) → session_of cards c ≡ None) → DevicesPowered f (all_out w) cards (devices V X Y)
   mended-powered well works bare = powered-of f (all_out w) cards A V X Y found_cards (record {
     unit = record { tells = tells ∙ p.carried.tells; works = works; unit = mended-unit.lit works; none = none };
     mine = λ valid. subst (λ (o : Option Accepted). CardLit f w.book Out (w.brought A) o A V X) (sym (bare A)) (mended-lit A X valid (p.carried.cards A valid) (p.wait A valid) (taken_a valid) well);
@@ -258,7 +258,7 @@ module _ (f : Found) (w : Carried) (cards : Cards) (U V X Y : State) (found_card
   })
 
   -- or it failed, and the cards stand as they did
-  pub mended-powerless : IsPowerless f w (devices V X Y)
+  pub mended-powerless : DevicesUnpowered f w (devices V X Y)
   mended-powerless = powerless-of f w cards A V X Y found_cards (record {
     tells = tells ∙ p.carried.tells;
     unit = mended-unit.dark;

@@ -8,7 +8,7 @@ use Rattle.activity_codec.specs.declared.values.Slot.{Slot}
 use Rattle.activity_codec.specs.declared.values.Slot.TheVariants.{Driver, CoDriver}
 use Rattle.trace_model.specs.declared.Card.{Card}
 use Rattle.log_model.specs.Slots.{Sitting, same_card, in_slot}
-use Rattle.log_model.specs.Course.{Told, Course}
+use Rattle.log_model.specs.Course.{ToldSecond, Course}
 use Rattle.history_model.specs.Minutes.{HistoryMinute, Seat as HistorySeat, is_crew, entry_in}
 use Rattle.history_model.specs.Presence.{Start, CardStart, card_start}
 use Rattle.device_rule.specs.Rules.{Standing, In, Torn, IsPresent}
@@ -114,7 +114,7 @@ lt-or_le a b = by (nat_lt a b) refl
 true-false : (b : Bool) → b ≡ true → b ≡ false → ⊥
 true-false b x y = let clash : true ≡ false = sym x ∙ y in absurd (cc)
 
-module _ (f : Found) (start : Start) (starts : (card : Card) → (found_of f card).start ≡ card_start start card) (standing : Card → Standing) (told : List Told) (c : Course) (past : List HistoryMinute) (from number : ℕ) (cabin : Cabin)
+module _ (f : Found) (start : Start) (starts : (card : Card) → (found_of f card).start ≡ card_start start card) (standing : Card → Standing) (told : List ToldSecond) (c : Course) (past : List HistoryMinute) (from number : ℕ) (cabin : Cabin)
     (seated : (slot : Slot) (card : Card) (u : ℕ) → in_slot c.slots slot ≡ sits card u → IsSeated f standing card u) (go : SessionsStand f standing cabin.cards) (late : from ≤ number / 60) where
   -- a card that is present at a minute's end
   here : (slot : Slot) (seat : Option Seat) (sitting : Option Sitting) (card : Card) (later : ℕ) → in_slot c.slots slot ≡ sitting → SitsAs start past from cabin.slots seat sitting → SeatAnswers from cabin.cards seat →
@@ -159,11 +159,11 @@ module _ (f : Found) (start : Start) (starts : (card : Card) → (found_of f car
       by None is h = absurd h
       by (Some x) is h = accepted x x.accepted refl is h.0 h.1
 
-broken-later : (told : List Told) (c : Course) (card : Card) (from number later : ℕ) → number ≤ later → BrokenSince told c card from number → BrokenSince told c card from later
+broken-later : (told : List ToldSecond) (c : Course) (card : Card) (from number later : ℕ) → number ≤ later → BrokenSince told c card from number → BrokenSince told c card from later
 broken-later told c card from number later le (inl h) = inl (h.0, h.1, h.2, (let low = h.3 in omega (arith, low, le)), h.4)
 broken-later told c card from number later le (inr h) = inr ((let low = h.0 in omega (arith, low, le)), h.1)
 
-stands-later : (f : Found) (standing : Card → Standing) (cards : Cards) (told : List Told) (c : Course) (number later m : ℕ) (card : Card) → number ≤ later → StandsIn f standing cards told c number m card → StandsIn f standing cards told c later m card
+stands-later : (f : Found) (standing : Card → Standing) (cards : Cards) (told : List ToldSecond) (c : Course) (number later m : ℕ) (card : Card) → number ≤ later → StandsIn f standing cards told c number m card → StandsIn f standing cards told c later m card
 stands-later f standing cards told c number later m card le h =
     record { valid = h.valid; present = h.present; session = ⊎_elim (λ s. inl s) (λ b. inr (broken-later told c card (60 * (m + 1)) number later le b)) h.session }
 
@@ -203,7 +203,7 @@ present-more s t n k m lt h = (h.0, lt, h.2)
 present-torn : (s : CardStart) (t n k floor m : ℕ) → k < m → floor ≤ m → m < floor + 4 → IsPresent s (In t n) m → IsPresent s (Torn t k floor) m
 present-torn s t n k floor m lt low high h = (h.0, lt, h.2, low, high)
 
-broken-on : (told : List Told) (c d : Course) (card : Card) (from number : ℕ) → StaysOut c d → BrokenSince told c card from number → BrokenSince told d card from number
+broken-on : (told : List ToldSecond) (c d : Course) (card : Card) (from number : ℕ) → StaysOut c d → BrokenSince told c card from number → BrokenSince told d card from number
 broken-on told c d card from number out (inl before) = inl before
 broken-on told c d card from number out (inr now) = inr (now.0, (now.1.0, now.1.1, ⊎_elim (λ torn. inl (out.torn now.1.0 torn)) (λ pulled. inr (out.pulled now.1.0 pulled)) now.1.2))
 

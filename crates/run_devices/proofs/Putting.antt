@@ -18,31 +18,31 @@ use Rattle.run_crew.specs.declared.cards.Cards.{Cards}
 use Rattle.run_crew.specs.Cards.{session_of}
 use Rattle.run_promise.specs.Found.{Found, found_of}
 use Rattle.run_promise.specs.Cards.{IsUntouched}
-use Rattle.run_promise.specs.Between.{Carried}
-use Rattle.run_devices.specs.Told.{AreFoundCards, IsPutIn, IsPowered, IsPowerless, HasFoundSo, arranged, with_standing, card_marks, with_marks}
+use Rattle.run_promise.specs.Between.{RunLedger}
+use Rattle.run_devices.specs.Told.{AreFoundCards, IsPutIn, DevicesPowered, DevicesUnpowered, HasFoundSo, arranged, with_standing, card_marks, with_marks}
 use Rattle.run_devices.proofs.Parts.{told-one, at-card}
 use Rattle.run_devices.proofs.OnCards.{valid-own}
 use Rattle.run_devices.proofs.Begun.{out-powered}
 use Rattle.run_devices.proofs.Entered.{entered-powered-by, entered-powerless-by, accepted-put-by, accepted-marked-by, accepted-found-by, measured-own}
 
 -- it is not accepted then
-pub out-now : (c : Card) (w : Carried) → (with_standing c Out w).standing c ≡ Out
+pub out-now : (c : Card) (w : RunLedger) → (with_standing c Out w).standing c ≡ Out
 out-now c w = at-card c Out w.standing (λ (z : Standing). z ≡ Out) refl
 
-module _ (f : Found) (w : Carried) (cards : Cards) (c : Card) (U V X Y Z : State) (found : AreFoundCards f cards) (unit_whole : IsCoherent U) (unit_after : IsCoherent V) (whole : IsCoherent X) (after : IsCoherent Y) (registration : Registration) (long : length registration.0 ≡ 15) (odometer now : ℕ) (few : now < 2 ^ 32) (answer : Result Entered NotEntered)
-    (bare : session_of cards c ≡ None) (p : IsPowered f w cards (arranged c U X Z)) (late : w.due ≤ now / 60) (app : Application) (told : IfSome X.image (λ x. own_sizes x ≡ app)) (size : image_size_of app ≤ X.size) (enters : IsEntering app registration odometer now U V X Y answer) where
-  was-out : IsPowered f (with_standing c Out w) cards (arranged c U X Z)
+module _ (f : Found) (w : RunLedger) (cards : Cards) (c : Card) (U V X Y Z : State) (found : AreFoundCards f cards) (unit_whole : IsCoherent U) (unit_after : IsCoherent V) (whole : IsCoherent X) (after : IsCoherent Y) (registration : Registration) (long : length registration.0 ≡ 15) (odometer now : ℕ) (few : now < 2 ^ 32) (answer : Result Entered NotEntered)
+    (bare : session_of cards c ≡ None) (p : DevicesPowered f w cards (arranged c U X Z)) (late : w.due ≤ now / 60) (app : Application) (told : IfSome X.image (λ x. own_sizes x ≡ app)) (size : image_size_of app ≤ X.size) (enters : IsEntering app registration odometer now U V X Y answer) where
+  was-out : DevicesPowered f (with_standing c Out w) cards (arranged c U X Z)
   was-out = out-powered f w cards cards c U X Z found bare refl p found unit_whole
 
   measured : IsOwnValid (found_of f c).image → app ≡ own_sizes (found_of f c).image
   measured = measured-own f w cards c U X Z p whole app told
 
   -- turned away, or failed, or accepted: where the unit works
-  pub put-powered : V.works ≡ true → IsPowered f (with_standing c Out w) cards (arranged c V Y Z)
+  pub put-powered : V.works ≡ true → DevicesPowered f (with_standing c Out w) cards (arranged c V Y Z)
   put-powered = entered-powered-by f (with_standing c Out w) cards c U V X Y Z found unit_whole unit_after whole after registration long odometer now few answer (out-now c w) bare was-out late app measured size enters
 
   -- the unit failed
-  pub put-powerless : IsPowerless f (with_standing c Out w) (arranged c V Y Z)
+  pub put-powerless : DevicesUnpowered f (with_standing c Out w) (arranged c V Y Z)
   put-powerless = entered-powerless-by f (with_standing c Out w) cards c U V X Y Z found unit_whole unit_after whole after registration long odometer now few answer (out-now c w) bare was-out late app measured size enters
 
   -- a card that is accepted was valid at the start, if none but valid cards were written
@@ -61,7 +61,7 @@ module _ (f : Found) (w : Carried) (cards : Cards) (c : Card) (U V X Y Z : State
     pub put-in : IsPutIn (found_of f c) c w.book now e.session Y
     put-in = accepted-put-by f (with_standing c Out w) cards c U V X Y Z found unit_whole unit_after whole after registration long odometer now few answer (out-now c w) bare was-out late app measured size enters valid e ok
 
-    pub put-marked : V.works ≡ true → IsSettled Y → IsPowered f (with_marks (card_marks c Y.clock e.owed.items) (with_standing c Out w)) cards (arranged c V Y Z)
+    pub put-marked : V.works ≡ true → IsSettled Y → DevicesPowered f (with_marks (card_marks c Y.clock e.owed.items) (with_standing c Out w)) cards (arranged c V Y Z)
     put-marked = accepted-marked-by f (with_standing c Out w) cards c U V X Y Z found unit_whole unit_after whole after registration long odometer now few answer (out-now c w) bare was-out late app measured size enters valid e ok
 
     pub put-found : HasFoundSo f c U X now e.owed.items e.replayed

@@ -21,7 +21,7 @@ use Rattle.device_rule.proofs.Holding.{rise-back}
 use Rattle.run_promise.specs.Found.{CardFound}
 use Rattle.run_promise.specs.Cards.{brought_by}
 use Rattle.run_promise.proofs.Waiting.{counted-more}
-use Rattle.run_devices.specs.Strung.{IsHeld}
+use Rattle.run_devices.specs.Strung.{CardHoldsString}
 
 -- the end mark of a card that goes by these sizes
 pub mark-own : (app : Application) (x : List ℕ) → own_sizes x ≡ app → (own_view x).mark ≡ end_mark app x
@@ -76,7 +76,7 @@ more-holds app image brought es n x rise after late h =
 -- THE STRING, with entries more that each image lacks
 pub held-more : (f : CardFound) (c : Card) (b d : Book) (z : Standing) (X : State) (es : List Entry) → brought_by c f.start d ≡ brought_by c f.start b ++ es → Rise (brought_by c f.start b ++ es)
     → ((x : List ℕ) → X.left_since f.began x → Follow (own_view x).mark es)
-    → ((x : List ℕ) → X.may_leave x → Follow (own_view x).mark es × (suc (max f.start.word (since z (own_view x).newest)) ≤ first_minute (suc (max f.start.word (since z (own_view x).newest))) es)) → IsHeld f c b z X → IsHeld f c d z X
+    → ((x : List ℕ) → X.may_leave x → Follow (own_view x).mark es × (suc (max f.start.word (since z (own_view x).newest)) ≤ first_minute (suc (max f.start.word (since z (own_view x).newest))) es)) → CardHoldsString f c b z X → CardHoldsString f c d z X
 held-more f c b d z X es same rise late comes h = record {
   tells = h.tells;
   now = λ x there.

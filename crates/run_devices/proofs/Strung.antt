@@ -23,7 +23,7 @@ use Rattle.device_rule.proofs.Pairs.{owed-above}
 use Rattle.run_promise.specs.Found.{CardFound, Found, found_of, AnyKept}
 use Rattle.run_promise.specs.Cards.{brought_by, counted_to, StringGoesOn, IsStrung}
 use Rattle.run_promise.proofs.Entries.{counted-front, keeps-later}
-use Rattle.run_devices.specs.Strung.{EachIsStrung, IsHeld}
+use Rattle.run_devices.specs.Strung.{EachIsStrung, CardHoldsString}
 
 -- where the first that is owed comes, or the bound
 first-low : (start : CardStart) (z : Standing) (n : ℕ) (due : List Entry) (x : CardView) → n ≤ suc (max start.word (since z x.newest)) → first_minute n due ≤ comes_from start z due x
@@ -111,5 +111,5 @@ module _ (f : Found) (c : Card) (b : Book) (z : Standing) (unit card : State) (s
         later_holds (own_sizes g.image) g.image lies (n u x on there) (out x) x (omega (arith, low)) (held u x on there)
     out-image x there (e ∷ rest) some = out-lacking e rest x (held u x on there) some
 
-    pub held-out : IsHeld g c b Out card
+    pub held-out : CardHoldsString g c b Out card
     held-out = record { tells = s.held.tells; now = λ x there. ((s.held.now x there).0, out-image x there (held u x on there).rest refl); since = s.held.since; number = s.held.number; still = s.held.still }

@@ -9,7 +9,7 @@ use Rattle.card_layout.specs.declared.files.Application.{Application}
 use Rattle.card_image.specs.Own.{own_sizes, IsOwnValid}
 use Rattle.device_rule.specs.Views.{other}
 use Rattle.device_rule.specs.Rules.{Standing, Out}
-use Rattle.unit_rule.specs.Marks.{Holds}
+use Rattle.unit_rule.specs.Marks.{UnitFollowsBook}
 use Rattle.unit_rule.proofs.Marking.{holds-read, holds-dark}
 use Rattle.device_calls.specs.declared.entering.Entered.{Entered}
 use Rattle.device_calls.specs.declared.entering.NotEntered.{NotEntered}
@@ -22,14 +22,14 @@ use Rattle.run_crew.specs.Cards.{session_of}
 use Rattle.unit_rule.specs.Rule.{once_mended}
 use Rattle.run_promise.specs.Found.{CardFound, Found, found_of}
 use Rattle.run_promise.specs.Cards.{brought_by, IsUntouched}
-use Rattle.run_promise.specs.Between.{Carried}
-use Rattle.run_devices.specs.Told.{AreFoundCards, IsPowered, IsPowerless, arranged}
+use Rattle.run_promise.specs.Between.{RunLedger}
+use Rattle.run_devices.specs.Told.{AreFoundCards, DevicesPowered, DevicesUnpowered, arranged}
 use Rattle.run_devices.proofs.Parts.{both_of, as-steps, of-steps, told-one, CardLit, off-of, AreParts, MarksLit, parts-of, powered-of, powerless-of, brought-on}
 use Rattle.run_devices.proofs.OnCards.{valid-own, rises-run, none-falls, marks-on, brought-card, held-read, valid-on}
 
 -- ---- A CARD THAT IS NOT ACCEPTED was only read, or revived
 
-module _ (f : Found) (w : Carried) (cards : Cards) (c : Card) (U X Y Z : State) (found : AreFoundCards f cards) (unit_whole : IsCoherent U) (whole : IsCoherent X) (out : w.standing c ≡ Out) (bare : session_of cards c ≡ None) (p : IsPowered f w cards (arranged c U X Z)) (run : LeavesOnly X Y Unchanged) where
+module _ (f : Found) (w : RunLedger) (cards : Cards) (c : Card) (U X Y Z : State) (found : AreFoundCards f cards) (unit_whole : IsCoherent U) (whole : IsCoherent X) (out : w.standing c ≡ Out) (bare : session_of cards c ≡ None) (p : DevicesPowered f w cards (arranged c U X Z)) (run : LeavesOnly X Y Unchanged) where
   parts : AreParts f w cards c U X Z
   parts = parts-of f w cards c U X Z p
 
@@ -50,7 +50,7 @@ module _ (f : Found) (w : Carried) (cards : Cards) (c : Card) (U X Y Z : State) 
   marks : MarksLit f w c Y
   marks = marks-on (found_of f c) c w.book w.marks X Y whole (rises-run Unchanged X Y whole run (λ a b t never. absurd never)) parts.marks_mine
 
-  pub read-powered : IsPowered f w cards (arranged c U Y Z)
+  pub read-powered : DevicesPowered f w cards (arranged c U Y Z)
   read-powered = powered-of f w cards c U Y Z found (record {
     unit = parts.unit;
     mine = λ valid. subst (λ (z : Standing). CardLit f w.book z (w.brought c) (session_of cards c) c U Y) (sym out) (subst (λ (o : Option Accepted). CardLit f w.book Out (w.brought c) o c U Y) (sym bare) (lit valid));
@@ -61,7 +61,7 @@ module _ (f : Found) (w : Carried) (cards : Cards) (c : Card) (U X Y Z : State) 
 
 -- ---- THE UNIT was only read
 
-module _ (f : Found) (w : Carried) (cards : Cards) (c : Card) (U V X Z : State) (found : AreFoundCards f cards) (unit_whole : IsCoherent U) (p : IsPowered f w cards (arranged c U X Z)) (run : LeavesOnly U V Unchanged) where
+module _ (f : Found) (w : RunLedger) (cards : Cards) (c : Card) (U V X Z : State) (found : AreFoundCards f cards) (unit_whole : IsCoherent U) (p : DevicesPowered f w cards (arranged c U X Z)) (run : LeavesOnly U V Unchanged) where
   before : AreParts f w cards c U X Z
   before = parts-of f w cards c U X Z p
 
@@ -77,10 +77,10 @@ module _ (f : Found) (w : Carried) (cards : Cards) (c : Card) (U V X Z : State) 
         goes = one.goes;
       }
 
-  unit-after : Holds (once_mended f.unit) w.due w.book w.marks V
+  unit-after : UnitFollowsBook (once_mended f.unit) w.due w.book w.marks V
   unit-after = holds-read (once_mended f.unit) w.due w.book w.marks before.unit.unit unit_whole run
 
-  pub unit-read-powered : V.works ≡ true → IsPowered f w cards (arranged c V X Z)
+  pub unit-read-powered : V.works ≡ true → DevicesPowered f w cards (arranged c V X Z)
   unit-read-powered works = powered-of f w cards c V X Z found (record {
     unit = record { tells = run.tells ∙ before.unit.tells; works = works; unit = unit-after; none = before.unit.none };
     mine = λ valid. card-lit c (session_of cards c) X (before.mine valid);
@@ -89,7 +89,7 @@ module _ (f : Found) (w : Carried) (cards : Cards) (c : Card) (U V X Z : State) 
     marks_others = before.marks_others;
   })
 
-  pub unit-read-powerless : IsPowerless f w (arranged c V X Z)
+  pub unit-read-powerless : DevicesUnpowered f w (arranged c V X Z)
   unit-read-powerless = powerless-of f w cards c V X Z found (record {
     tells = run.tells ∙ before.unit.tells;
     unit = holds-dark f.unit w.due w.book w.marks V unit-after;

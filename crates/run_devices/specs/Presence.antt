@@ -3,7 +3,7 @@ use Rattle.std.specs.Prelude.{◌≡◌, ◌⊎◌, ℕ, ◌+◌, ◌*◌, ◌/�
 use Rattle.activity_codec.specs.declared.values.Slot.{Slot}
 use Rattle.trace_model.specs.declared.Card.{Card}
 use Rattle.log_model.specs.Slots.{Sitting, in_slot}
-use Rattle.log_model.specs.Course.{Told, Course, Visit, fresh}
+use Rattle.log_model.specs.Course.{ToldSecond, Course, Visit, fresh}
 use Rattle.history_model.specs.Minutes.{HistoryMinute, on_card}
 use Rattle.history_model.specs.Presence.{Start, card_start}
 use Rattle.card_image.specs.Own.{IsOwnValid}
@@ -15,7 +15,7 @@ use Rattle.run_crew.specs.declared.cabin.Cabin.{Cabin}
 use Rattle.run_crew.specs.declared.cards.Accepted.{Accepted}
 use Rattle.run_crew.specs.declared.cards.Cards.{Cards}
 use Rattle.run_crew.specs.Cards.{session_of}
-use Rattle.run_crew.specs.Cabin.{Stands, with_minute_ended}
+use Rattle.run_crew.specs.Cabin.{CabinIsSound, with_minute_ended}
 use Rattle.run_promise.specs.Found.{Found, found_of}
 use Rattle.run_course.specs.Presence.{SlotsTell}
 use Rattle.run_course.specs.Kept.{BrokenSince, StaysOut}
@@ -26,7 +26,7 @@ IsIn present card = (present.driver ≡ Some card) ⊎ (present.codriver ≡ Som
 
 -- A CARD THAT WAS PRESENT in a minute: it was valid, it stands so that the minute may come, and it has its session, or was torn out or
 -- pulled out since the minute's end.
-pub record StandsIn (f : Found) (standing : Card → Standing) (cards : Cards) (told : List Told) (c : Course) (number m : ℕ) (card : Card) : Type 0 where
+pub record StandsIn (f : Found) (standing : Card → Standing) (cards : Cards) (told : List ToldSecond) (c : Course) (number m : ℕ) (card : Card) : Type 0 where
   pub valid : IsOwnValid (found_of f card).image
   pub present : IsPresent (found_of f card).start (standing card) m
   pub session : (is_some (session_of cards card) ≡ true) ⊎ BrokenSince told c card (60 * (m + 1)) number
@@ -40,13 +40,13 @@ sits card u = Some (record { card = card; accepted = Some u })
 
 -- AT A MOMENT of a second of this number, behind these seconds and with this course: the accepted cards sit so, and so stand all that were
 -- present in the minutes that have ended, from one on.
-pub record PresentStand (f : Found) (standing : Card → Standing) (told : List Told) (c : Course) (number from : ℕ) (cabin : Cabin) : Type 0 where
+pub record PresentStand (f : Found) (standing : Card → Standing) (told : List ToldSecond) (c : Course) (number from : ℕ) (cabin : Cabin) : Type 0 where
   pub seated : (slot : Slot) (card : Card) (u : ℕ) → in_slot c.slots slot ≡ sits card u → IsSeated f standing card u
   pub ended : (m : ℕ) (present : Present) (card : Card) → from ≤ m → present_in cabin.slots.past m ≡ Some present → IsIn present card → StandsIn f standing cabin.cards told c number m card
 
 -- NO MINUTE that has ended is to be kept, as behind a settling and at a power-on.
 abbrev pub NoneIsToBeKept : Type 0
-NoneIsToBeKept = (f : Found) (standing : Card → Standing) (told : List Told) (c : Course) (number : ℕ) (cabin : Cabin) → KnowsNewest cabin.slots → cabin.slots.minute ≤ number / 60 →
+NoneIsToBeKept = (f : Found) (standing : Card → Standing) (told : List ToldSecond) (c : Course) (number : ℕ) (cabin : Cabin) → KnowsNewest cabin.slots → cabin.slots.minute ≤ number / 60 →
     ((slot : Slot) (card : Card) (u : ℕ) → in_slot c.slots slot ≡ sits card u → IsSeated f standing card u) → PresentStand f standing told c number (number / 60) cabin
 
 -- A MINUTE ENDS: who is present in it stands so. The sessions go with the standings.
@@ -55,8 +55,8 @@ SessionsStand f standing cards = (card : Card) (a : Accepted) → IsOwnValid (fo
 
 abbrev pub AMinuteEndsSo : Type 0
 AMinuteEndsSo = (f : Found) (start : Start) → ((card : Card) → (found_of f card).start ≡ card_start start card) →
-    (standing : Card → Standing) (told : List Told) (c : Course) (past : List HistoryMinute) (left : List Card) (number later from : ℕ) (cabin : Cabin) →
-    PresentStand f standing told c number from cabin → SlotsTell start told past left number from c.slots cabin.slots → Stands from None cabin → SessionsStand f standing cabin.cards →
+    (standing : Card → Standing) (told : List ToldSecond) (c : Course) (past : List HistoryMinute) (left : List Card) (number later from : ℕ) (cabin : Cabin) →
+    PresentStand f standing told c number from cabin → SlotsTell start told past left number from c.slots cabin.slots → CabinIsSound from None cabin → SessionsStand f standing cabin.cards →
     from ≤ number / 60 → number ≤ later → PresentStand f standing told c later from (with_minute_ended (number / 60) cabin)
 
 -- what becomes of a card in a step: it stands as it did, and has its session still if it had one;
@@ -90,7 +90,7 @@ pub record IsTornOut (number from : ℕ) (old new : Card → Standing) (c : Cour
 
 -- A STEP within a second: minutes are kept, cards are torn out, or taken out.
 abbrev pub AStepLeavesSo : Type 0
-AStepLeavesSo = (f : Found) (old new : Card → Standing) (told : List Told) (c d : Course) (number from next : ℕ) (cabin after : Cabin) → PresentStand f old told c number from cabin →
+AStepLeavesSo = (f : Found) (old new : Card → Standing) (told : List ToldSecond) (c d : Course) (number from next : ℕ) (cabin after : Cabin) → PresentStand f old told c number from cabin →
     KnowsNewest cabin.slots → cabin.slots.minute ≤ number / 60 → from ≤ next → after.slots.past ≡ cabin.slots.past → StaysOut c d →
     ((card : Card) → StaysSo old new cabin.cards after.cards card ⊎ (HasMore next old new after.cards card ⊎ IsTornOut number next old new d card)) →
     ((slot : Slot) (card : Card) (u : ℕ) → in_slot d.slots slot ≡ sits card u → (in_slot c.slots slot ≡ sits card u) × (StaysSo old new cabin.cards after.cards card ⊎ HasMore next old new after.cards card)) →
@@ -98,11 +98,11 @@ AStepLeavesSo = (f : Found) (old new : Card → Standing) (told : List Told) (c 
 
 -- THE NEXT SECOND begins, behind this one.
 abbrev pub TheNextBeginsSo : Type 0
-TheNextBeginsSo = (f : Found) (standing : Card → Standing) (told : List Told) (t : Told) (number later from : ℕ) (cabin : Cabin) → t.second.number ≡ number → number ≤ later →
+TheNextBeginsSo = (f : Found) (standing : Card → Standing) (told : List ToldSecond) (t : ToldSecond) (number later from : ℕ) (cabin : Cabin) → t.second.number ≡ number → number ≤ later →
     PresentStand f standing told t.course number from cabin → PresentStand f standing (told ++ t ∷ []) (fresh false t.course.slots) later from cabin
 
 -- WHAT A MINUTE SAYS on a card: nothing, or that stands so.
 abbrev pub WhatAMinuteSays : Type 0
-WhatAMinuteSays = (f : Found) (standing : Card → Standing) (told : List Told) (c : Course) (number from : ℕ) (cabin : Cabin) → PresentStand f standing told c number from cabin →
+WhatAMinuteSays = (f : Found) (standing : Card → Standing) (told : List ToldSecond) (c : Course) (number from : ℕ) (cabin : Cabin) → PresentStand f standing told c number from cabin →
     (i : HistoryMinute) (present : Present) → from ≤ i.minute → present_in cabin.slots.past i.minute ≡ Some present → i.driver.card ≡ present.driver → i.codriver.card ≡ present.codriver → (card : Card) →
     (on_card card i ≡ []) ⊎ StandsIn f standing cabin.cards told c number i.minute card

@@ -38,7 +38,7 @@ pub record HasSameHolder (start x : List ℕ) : Type 0 where
 
 -- THE STRING OF A CARD, which tells its images: each that a stop may leave now holds it, and an entry may come behind its newest minute as
 -- the card stands; and each since the start keeps it. The card has its number and its holder still.
-pub record IsHeld (f : CardFound) (c : Card) (b : Book) (z : Standing) (card : State) : Type 0 where
+pub record CardHoldsString (f : CardFound) (c : Card) (b : Book) (z : Standing) (card : State) : Type 0 where
   pub tells : is_some card.image ≡ true
   pub now : (x : List ℕ) → card.may_leave x →
       (own_sizes x ≡ own_sizes f.image) × HoldsSince (own_sizes f.image) f.image (brought_by c f.start b) (suc (max f.start.word (since z (own_view x).newest))) x
@@ -51,7 +51,7 @@ pub record IsHeld (f : CardFound) (c : Card) (b : Book) (z : Standing) (card : S
 pub record EachIsStrung (f : Found) (c : Card) (b : Book) (z : Standing) (unit card : State) : Type 0 where
   pub sizes : IsApplication (own_sizes (found_of f c).image)
   pub entries : (found_of f c).start.entries ≡ (own_view (found_of f c).image).held.entries
-  pub held : IsHeld (found_of f c) c b z card
+  pub held : CardHoldsString (found_of f c) c b z card
   pub valid : (x : List ℕ) → card.left_since (found_of f c).began x → IsOwnValid x
   pub rises : Rise (brought_by c (found_of f c).start b)
   pub none : b.maybe ≡ None

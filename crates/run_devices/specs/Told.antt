@@ -21,15 +21,15 @@ use Rattle.device_rule.specs.Rules.{Standing, In, Out, since, CardRule, IsEntere
 use Rattle.device_rule.specs.Marked.{of_card, HasBrought}
 use Rattle.unit_rule.specs.Safe.{Devices, card_of}
 use Rattle.unit_rule.specs.Rule.{once_mended, IsCards}
-use Rattle.unit_rule.specs.Marks.{Holds}
+use Rattle.unit_rule.specs.Marks.{UnitFollowsBook}
 use Rattle.device_calls.specs.Minute.{IsNotIn}
 use Rattle.run_crew.specs.declared.cards.Accepted.{Accepted}
 use Rattle.run_crew.specs.declared.cards.Cards.{Cards}
 use Rattle.run_crew.specs.Cards.{known_of, session_of}
 use Rattle.run_promise.specs.Found.{CardFound, Found, found_of, unit_seen, AnyKept}
 use Rattle.run_promise.specs.Cards.{brought_by, CardMarksHold}
-use Rattle.run_promise.specs.Between.{Carried, IsLit, IsCarried, devices}
-use Rattle.run_devices.specs.Strung.{IsHeld}
+use Rattle.run_promise.specs.Between.{RunLedger, LedgerStandsPowered, LedgerStands, devices}
+use Rattle.run_devices.specs.Strung.{CardHoldsString}
 
 -- ---- what was found
 
@@ -51,20 +51,20 @@ sure_of b = record b { maybe = None }
 
 -- WITHOUT POWER, or behind a failure of the unit: a card holds the string of the sure minutes, and what the minute says that may be there may
 -- come next.
-pub record IsHeldDark (f : CardFound) (c : Card) (b : Book) (z : Standing) (card : State) : Type 0 where
-  pub held : IsHeld f c (sure_of b) z card
+pub record CardHoldsStringUnpowered (f : CardFound) (c : Card) (b : Book) (z : Standing) (card : State) : Type 0 where
+  pub held : CardHoldsString f c (sure_of b) z card
   pub comes : (x : List ℕ) → card.may_leave x → All (λ e. suc (max f.start.word (since z (own_view x).newest)) ≤ e.minute) (card_history c (option_to_list b.maybe))
 
 -- so does each card that was valid
-abbrev pub AllWait : Found → Carried → Devices → Type 0
-AllWait f w d = (c : Card) → IsOwnValid (found_of f c).image → IsHeldDark (found_of f c) c w.book (w.standing c) (card_of d c)
+abbrev pub AllWait : Found → RunLedger → Devices → Type 0
+AllWait f w d = (c : Card) → IsOwnValid (found_of f c).image → CardHoldsStringUnpowered (found_of f c) c w.book (w.standing c) (card_of d c)
 
 -- ---- the sessions
 
 -- A CARD IN ITS SLOT, with this session, and with these entries since the start: it stands with the session's newest minute, its image is
 -- what the session knows, and would be valid, were the session ended, and its string goes on with each minute later than that one and than
 -- the words at the start.
-pub record IsOn (f : CardFound) (has : List Entry) (z : Standing) (s : Session) (card : State) : Type 0 where
+pub record SessionIsOnCard (f : CardFound) (has : List Entry) (z : Standing) (s : Session) (card : State) : Type 0 where
   pub time : ℕ
   pub stands : z ≡ In time s.minute
   pub sizes : s.application ≡ own_sizes f.image
@@ -75,7 +75,7 @@ pub record IsOn (f : CardFound) (has : List Entry) (z : Standing) (s : Session) 
 -- a card goes with its session, and is in its slot, accepted, exactly where it has one
 abbrev pub GoesWith : CardFound → (has : List Entry) → Standing → Option Accepted → State → Type 0
 GoesWith f has z None card = IsNotIn z
-GoesWith f has z (Some accepted) card = IsOn f has z accepted.session card
+GoesWith f has z (Some accepted) card = SessionIsOnCard f has z accepted.session card
 
 -- while these entries are owed to it: it has all others that it is to have
 pub record GoesOwing (f : CardFound) (c : Card) (b : Book) (owes : List Entry) (z : Standing) (session : Option Accepted) (card : State) : Type 0 where
@@ -88,8 +88,8 @@ abbrev pub owes_nothing : Card → List Entry
 owes_nothing c = []
 
 -- so do all that were valid
-pub record AllGo (f : Found) (w : Carried) (owes : Card → List Entry) (cards : Cards) (d : Devices) : Type 0 where
-  pub held : (c : Card) → IsOwnValid (found_of f c).image → IsHeld (found_of f c) c w.book (w.standing c) (card_of d c)
+pub record AllGo (f : Found) (w : RunLedger) (owes : Card → List Entry) (cards : Cards) (d : Devices) : Type 0 where
+  pub held : (c : Card) → IsOwnValid (found_of f c).image → CardHoldsString (found_of f c) c w.book (w.standing c) (card_of d c)
   pub goes : (c : Card) → IsOwnValid (found_of f c).image → GoesOwing (found_of f c) c w.book (owes c) (w.standing c) (session_of cards c) (card_of d c)
 
 -- A card that was put in and whose row is not begun yet: so is its image, and so its string goes on.
@@ -104,10 +104,10 @@ pub record IsPutIn (f : CardFound) (c : Card) (b : Book) (now : ℕ) (s : Sessio
 
 -- All that is carried while the unit has power, but that these entries are put for the minute that comes, or these are still owed to the
 -- cards. The string of a card is carried apart (`AllGo`).
-pub record IsLitWith (f : Found) (w : Carried) (puts owes : Card → List Entry) (d : Devices) : Type 0 where
+pub record IsLitWith (f : Found) (w : RunLedger) (puts owes : Card → List Entry) (d : Devices) : Type 0 where
   pub tells : is_some d.unit.image ≡ true
   pub works : d.unit.works ≡ true
-  pub unit : Holds (once_mended f.unit) w.due w.book w.marks d.unit
+  pub unit : UnitFollowsBook (once_mended f.unit) w.due w.book w.marks d.unit
   pub none : w.book.maybe ≡ None
   pub rules : (c : Card) → IsOwnValid (found_of f c).image →
       CardRule c (found_of f c).start AnyKept (found_of f c).began w.book (w.standing c) (puts c) (owes c) (unit_seen f d.unit) (of_card (card_of d c))
@@ -117,21 +117,21 @@ pub record IsLitWith (f : Found) (w : Carried) (puts owes : Card → List Entry)
   pub marks : (c : Card) → CardMarksHold (found_of f c) c w.book w.marks (card_of d c)
 
 -- nothing is put any more
-abbrev pub IsLitOwing : Found → Carried → (owes : Card → List Entry) → Devices → Type 0
+abbrev pub IsLitOwing : Found → RunLedger → (owes : Card → List Entry) → Devices → Type 0
 IsLitOwing f w owes d = IsLitWith f w owes_nothing owes d
 
 -- WHILE THE UNIT HAS POWER, between two calls: all that is carried, and the cards go with their sessions
-pub record IsPowered (f : Found) (w : Carried) (cards : Cards) (d : Devices) : Type 0 where
-  pub lit : IsLit f w d
+pub record DevicesPowered (f : Found) (w : RunLedger) (cards : Cards) (d : Devices) : Type 0 where
+  pub lit : LedgerStandsPowered f w d
   pub go : AllGo f w owes_nothing cards d
 
 -- WITHOUT POWER, or behind a failure of the unit
-pub record IsPowerless (f : Found) (w : Carried) (d : Devices) : Type 0 where
-  pub carried : IsCarried f w d
+pub record DevicesUnpowered (f : Found) (w : RunLedger) (d : Devices) : Type 0 where
+  pub carried : LedgerStands f w d
   pub wait : AllWait f w d
 
 -- what acceptances brought is of minutes that the unit had kept by then
-abbrev pub AreEarly : Carried → Type 0
+abbrev pub AreEarly : RunLedger → Type 0
 AreEarly w = (c : Card) (k : ℕ) → Contains (w.brought c) k → k < w.due
 
 -- ---- one card and the other
@@ -151,11 +151,11 @@ arranged B unit mine others = devices unit others mine
 -- ---- what a step changes of what is carried
 
 -- a card stands so
-abbrev pub with_standing : Card → Standing → Carried → Carried
+abbrev pub with_standing : Card → Standing → RunLedger → RunLedger
 with_standing c z w = record w { standing = for_card c z w.standing }
 
 -- it is accepted in a second, with a newest minute, when the unit had kept this minute last
-abbrev pub with_acceptance : Card → (now newest kept : ℕ) → Carried → Carried
+abbrev pub with_acceptance : Card → (now newest kept : ℕ) → RunLedger → RunLedger
 with_acceptance c now newest kept w = record w { standing = for_card c (In now newest) w.standing; brought = for_card c (kept ∷ w.brought c) w.brought }
 
 -- the marks of entries that a card has, all at this clock
@@ -163,15 +163,15 @@ abbrev pub card_marks : Card → (clock : ℕ) → List Entry → List Mark
 card_marks c clock es = map (λ e. record { device = device_of c; minute = e.minute; clock = clock }) es
 
 -- marks more
-abbrev pub with_marks : List Mark → Carried → Carried
+abbrev pub with_marks : List Mark → RunLedger → RunLedger
 with_marks marks w = record w { marks = w.marks ++ marks }
 
 -- this minute is found to be the last-kept one
-abbrev pub carried_found : (k : ℕ) → Carried → Carried
+abbrev pub carried_found : (k : ℕ) → RunLedger → RunLedger
 carried_found k w = record w { book = found k w.book }
 
 -- no card is accepted
-abbrev pub all_out : Carried → Carried
+abbrev pub all_out : RunLedger → RunLedger
 all_out w = record w { standing = λ c. Out }
 
 -- WHAT THE FIND OF AN ACCEPTANCE IS TO TELL: by an image of unit and of card that a stop might have left then these entries were owed, so many,

@@ -4,7 +4,7 @@ ghost use Rattle.history_model.specs.Book.{Book};
 ghost use Rattle.device_rule.specs.Rules.{Standing, Out};
 ghost use Rattle.run_promise.specs.Found.{Found, found_of};
 ghost use Rattle.run_promise.specs.Cards.{IsStrung};
-ghost use Rattle.run_devices.specs.Strung.{EachIsStrung, IsHeld};
+ghost use Rattle.run_devices.specs.Strung.{EachIsStrung, CardHoldsString};
 
 use tach_media::{Chip, Medium};
 
@@ -12,5 +12,5 @@ use tach_media::{Chip, Medium};
 /// next, since it is what the string lacks. And so is its string held where the card is not accepted any more.
 pub fn a_string_that_each_image_holds_is_strung<M: Medium, C: Chip>(unit: &M, card: &C)
     ensures strung { (f : Found) (c : Card) (b : Book) (z : Standing) → EachIsStrung f c b z (M.state unit.now) (C.state card.now) → IsStrung f c b z (M.state unit.now) (C.state card.now) }
-    ensures out { (f : Found) (c : Card) (b : Book) (z : Standing) (u : List ℕ) → (M.state unit.now).may_leave u → EachIsStrung f c b z (M.state unit.now) (C.state card.now) → IsHeld (found_of f c) c b Out (C.state card.now) }
+    ensures out { (f : Found) (c : Card) (b : Book) (z : Standing) (u : List ℕ) → (M.state unit.now).may_leave u → EachIsStrung f c b z (M.state unit.now) (C.state card.now) → CardHoldsString (found_of f c) c b Out (C.state card.now) }
 {}

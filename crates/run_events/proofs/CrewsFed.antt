@@ -9,7 +9,7 @@ use Rattle.trace_model.specs.Trace.{TraceSecond, driven}
 use Rattle.tacho_types.specs.declared.card_number.FullCardNumber.{FullCardNumber}
 use Rattle.log_model.specs.Log.{RunLog, Phase, In, Keeping}
 use Rattle.log_model.specs.Slots.{Slots}
-use Rattle.log_model.specs.Course.{Course, Told, Before, both_told, unmoved, all_acted, fresh, cut_told, lit_course, has_power, second_told, before_next, went, not_begun}
+use Rattle.log_model.specs.Course.{Course, ToldSecond, Before, both_told, unmoved, all_acted, fresh, cut_told, lit_course, has_power, second_told, before_next, went, not_begun}
 use Rattle.event_model.specs.Events.{Watched, crew_of, watched_on, course_by, moved_by_action, within_by, seen_by, seen_of}
 use Rattle.run_course.specs.Quiet.{quiet_second}
 use Rattle.run_course.proofs.Moments.{both-still}
@@ -21,7 +21,7 @@ use Rattle.run_events.specs.Watched.{watched, named}
 use Rattle.run_events.specs.Fed.{IsSilentFrom, going_with, still_second, still_seconds}
 
 -- ONE SECOND, with the cards of its slots
-told-speed-by : (b : Bool) (x y : Told) (n : ℕ) → x.second.speed ≡ n → y.second.speed ≡ n → (cond b x y).second.speed ≡ n
+told-speed-by : (b : Bool) (x y : ToldSecond) (n : ℕ) → x.second.speed ≡ n → y.second.speed ≡ n → (cond b x y).second.speed ≡ n
 told-speed-by true x y n one two = one
 told-speed-by false x y n one two = two
 

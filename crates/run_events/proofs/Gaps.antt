@@ -13,14 +13,14 @@ use Rattle.event_model.specs.Spans.{gap_of}
 use Rattle.event_model.specs.Events.{Event, Seen, Tearing, number_of, last_number, seen_of, seen_on, seen_with, seen_spans, noted_with, standing, gap_event, gaps_between, gap_events}
 use Rattle.note_model.specs.Done.{has_failed_in}
 use Rattle.note_model.specs.Events.{noting_second}
-use Rattle.log_model.specs.Course.{Told}
+use Rattle.log_model.specs.Course.{ToldSecond}
 use Rattle.run_unit_course.specs.Lines.{log_of, tells_cut, found_from}
 use Rattle.run_unit_course.specs.Turn.{begins_with}
-use Rattle.run_unit_course.specs.Followed.{Supply, Lit, Due, Lost, IsDark}
+use Rattle.run_unit_course.specs.Followed.{UnitPower, Lit, Due, Lost, IsDark}
 use Rattle.run_unit_course.proofs.Lines.{kept-known, tells-append, tells-front, tells-found}
 use Rattle.unit_events.specs.Noted.{are_sure, Leads, StayFailed}
 use Rattle.unit_events.proofs.Failing.{sure-before, sure-parts, failed-append, and-both}
-use Rattle.run_events.specs.Gaps.{first_number, IsTold, IsUntold, IsKnownGap, AreKnownGaps, OfLast, IsKnownLast, HasGaps, TellsMore}
+use Rattle.run_events.specs.Gaps.{first_number, CutIsTold, IsUntold, IsKnownGap, AreKnownGaps, OfLast, IsKnownLast, HasGaps, TellsMore}
 use Rattle.run_events.specs.Seconds.{seen_next}
 use Rattle.run_events.proofs.Growing.{AreSome, some-spans, seen-more, spans-more}
 use Rattle.run_events.proofs.Later.{seen-same}
@@ -71,7 +71,7 @@ module _ (t : Tearing) (log later : RunLog) (found : List Break) (stay : StayFai
             ∙ sym (append-nil (gap_event t log span next ++ gaps_between t log (next ∷ spans))),
       )
 
-pub events-lead : (t : Tearing) (log later : RunLog) (unfound : ℕ) (supply : Supply) (done : List TraceSecond) → HasGaps log unfound supply done → TellsMore log (take unfound log.breaks) later done →
+pub events-lead : (t : Tearing) (log later : RunLog) (unfound : ℕ) (supply : UnitPower) (done : List TraceSecond) → HasGaps log unfound supply done → TellsMore log (take unfound log.breaks) later done →
     Leads log (gap_events t log done) [] later (gap_events t later done)
 events-lead t log later unfound supply done g m =
     subst (λ (xs : List Seen). Leads log (gap_events t log done) [] later (gaps_between t later (seen_spans xs))) (sym (seen-same log later done m.same))
@@ -148,7 +148,7 @@ ends-untold log found x h span =
       kept = ap (kept_after log) is ∙ h.kept;
     }
 
-lit-any : (log : RunLog) (found : List Break) (spans : List (List Seen)) (more : List Told) (t : Told) → IsKnownLast (Lit (more ++ t ∷ [])) log found spans
+lit-any : (log : RunLog) (found : List Break) (spans : List (List Seen)) (more : List ToldSecond) (t : ToldSecond) → IsKnownLast (Lit (more ++ t ∷ [])) log found spans
 lit-any log found spans [] t = tt
 lit-any log found spans (u ∷ more) t = tt
 
@@ -177,7 +177,7 @@ module _ (log later : RunLog) (unfound : ℕ) (done : List TraceSecond) (s : Tra
   staying-dark lit = rw lit refl
 
   -- how the spans are now, with what is known of them
-  gaps-of : (supply : Supply) (spans : List (List Seen)) → seen_with old x ≡ spans → AreKnownGaps later found spans → IsKnownLast supply later found spans → HasGaps later unfound supply (done ++ s ∷ [])
+  gaps-of : (supply : UnitPower) (spans : List (List Seen)) → seen_with old x ≡ spans → AreKnownGaps later found spans → IsKnownLast supply later found spans → HasGaps later unfound supply (done ++ s ∷ [])
   gaps-of supply spans are known last =
       let now : spans ≡ seen_spans (seen_of later (done ++ s ∷ [])) = sym are ∙ sym spans-now in record {
         known = subst (λ (fs : List Break). AreKnownGaps later fs (seen_spans (seen_of later (done ++ s ∷ [])))) (sym front) (subst (AreKnownGaps later found) now known);
@@ -188,39 +188,39 @@ module _ (log later : RunLog) (unfound : ℕ) (done : List TraceSecond) (s : Tra
   known-old known = gaps-later log later found rest breaks old known
 
   -- with power, in a span that goes on, or with which a span begins once it was found what was kept
-  pub lit-known : (supply : Supply) → (span : List Told) → supply ≡ Lit span → HasGaps log unfound supply done → x.told.lit ≡ true → x.told.starts ≡ begins_with span →
+  pub lit-known : (supply : UnitPower) → (span : List ToldSecond) → supply ≡ Lit span → HasGaps log unfound supply done → x.told.lit ≡ true → x.told.starts ≡ begins_with span →
       (spans : List (List Seen)) × (seen_with old x ≡ spans) × AreKnownGaps later found spans × ((P : List Seen → Type 0) → ((part : List Seen) → P (part ++ x ∷ [])) → OfLast P spans)
   lit-known supply [] is g lit starts =
-      let h : HasGaps log unfound (Lit []) done = subst (λ (p : Supply). HasGaps log unfound p done) is g in (
+      let h : HasGaps log unfound (Lit []) done = subst (λ (p : UnitPower). HasGaps log unfound p done) is g in (
         old ++ (x ∷ []) ∷ [],
         beginning lit starts,
-        known-push later found old (x ∷ []) (known-old h.known) (last-map (IsTold found) (λ (part : List Seen). IsKnownGap later found part (x ∷ [])) (λ part told. inl told) old h.last),
+        known-push later found old (x ∷ []) (known-old h.known) (last-map (CutIsTold found) (λ (part : List Seen). IsKnownGap later found part (x ∷ [])) (λ part told. inl told) old h.last),
         λ P each. last-one P old (x ∷ []) (each []),
       )
   lit-known supply (t ∷ span) is g lit starts =
       (seen_on old x, going-on lit starts, known-on later found old x (some-spans (seen_of log done)) (known-old g.known), λ P each. last-on P old x each)
 
   -- A SECOND WITH POWER, to its end
-  pub goes-on : (supply now : Supply) (span more : List Told) (t : Told) → supply ≡ Lit span → now ≡ Lit (more ++ t ∷ []) → HasGaps log unfound supply done → x.told.lit ≡ true → x.told.starts ≡ begins_with span →
+  pub goes-on : (supply now : UnitPower) (span more : List ToldSecond) (t : ToldSecond) → supply ≡ Lit span → now ≡ Lit (more ++ t ∷ []) → HasGaps log unfound supply done → x.told.lit ≡ true → x.told.starts ≡ begins_with span →
       HasGaps later unfound now (done ++ s ∷ [])
   goes-on supply now span more t is on g lit starts =
       let h = lit-known supply span is g lit starts in
-      gaps-of now h.0 h.1 h.2 (subst (λ (p : Supply). IsKnownLast p later found h.0) (sym on) (lit-any later found h.0 more t))
+      gaps-of now h.0 h.1 h.2 (subst (λ (p : UnitPower). IsKnownLast p later found h.0) (sym on) (lit-any later found h.0 more t))
 
   -- A CUT'S
-  pub breaks-off : (supply : Supply) (span : List Told) → supply ≡ Lit span → HasGaps log unfound supply done → x.told.lit ≡ true → x.told.starts ≡ begins_with span →
+  pub breaks-off : (supply : UnitPower) (span : List ToldSecond) → supply ≡ Lit span → HasGaps log unfound supply done → x.told.lit ≡ true → x.told.starts ≡ begins_with span →
       IsUntold later found (x ∷ []) → HasGaps later unfound Lost (done ++ s ∷ [])
   breaks-off supply span is g lit starts cut =
       let h = lit-known supply span is g lit starts in
       gaps-of Lost h.0 h.1 h.2 (h.3 (IsUntold later found) (ends-untold later found x cut))
 
   -- A POWER-ON THAT FAILS
-  untold-known : (supply : Supply) → IsDark supply → (spans : List (List Seen)) → IsKnownLast supply log found spans → OfLast (IsUntold log found) spans
+  untold-known : (supply : UnitPower) → IsDark supply → (spans : List (List Seen)) → IsKnownLast supply log found spans → OfLast (IsUntold log found) spans
   untold-known (Lit span) dark spans last = absurd dark
   untold-known Due dark spans last = last
   untold-known Lost dark spans last = last
 
-  pub fails : (supply : Supply) → IsDark supply → HasGaps log unfound supply done → x.told.lit ≡ true → x.told.starts ≡ true → has_failed_in later (number_of x) ≡ true →
+  pub fails : (supply : UnitPower) → IsDark supply → HasGaps log unfound supply done → x.told.lit ≡ true → x.told.starts ≡ true → has_failed_in later (number_of x) ≡ true →
       IsUntold later found (x ∷ []) → HasGaps later unfound Lost (done ++ s ∷ [])
   fails supply dark g lit starts failed cut =
       gaps-of Lost (old ++ (x ∷ []) ∷ []) (beginning lit starts)
@@ -234,12 +234,12 @@ module _ (log later : RunLog) (unfound : ℕ) (done : List TraceSecond) (s : Tra
       (last-one (IsUntold later found) old (x ∷ []) cut)
 
   -- A SECOND WITHOUT POWER
-  pub stays-dark : (supply now : Supply) → IsDark supply → IsDark now → HasGaps log unfound supply done → x.told.lit ≡ false → HasGaps later unfound now (done ++ s ∷ [])
+  pub stays-dark : (supply now : UnitPower) → IsDark supply → IsDark now → HasGaps log unfound supply done → x.told.lit ≡ false → HasGaps later unfound now (done ++ s ∷ [])
   stays-dark supply now dark still g lit =
       gaps-of now old (staying-dark lit) (known-old g.known)
       (by now still (last-map (IsUntold log found) (IsUntold later found) (λ part h. untold-later log later found rest breaks part h) old (untold-known supply dark old g.last)))
     where
-      by : (now : Supply) → IsDark now → OfLast (IsUntold later found) old → IsKnownLast now later found old
+      by : (now : UnitPower) → IsDark now → OfLast (IsUntold later found) old → IsKnownLast now later found old
       by (Lit span) still h = absurd still
       by Due still h = h
       by Lost still h = h
@@ -249,31 +249,31 @@ whole : (bs : List Break) → take (length bs) bs ≡ bs
 whole [] = refl
 whole (b ∷ bs) = ap (λ (l : List Break). b ∷ l) (whole bs)
 
-pub is-found : (log later : RunLog) (unfound k : ℕ) (supply : Supply) (done : List TraceSecond) → IsDark supply → HasGaps log unfound supply done → All (λ s. SameAt log later s.number) done → later.breaks ≡ found_from unfound k log.breaks →
+pub is-found : (log later : RunLog) (unfound k : ℕ) (supply : UnitPower) (done : List TraceSecond) → IsDark supply → HasGaps log unfound supply done → All (λ s. SameAt log later s.number) done → later.breaks ≡ found_from unfound k log.breaks →
     HasGaps later (length later.breaks) (Lit []) done
 is-found log later unfound k supply done dark g same are =
     let spans : seen_spans (seen_of log done) ≡ seen_spans (seen_of later done) = ap seen_spans (sym (seen-same log later done same)) in
     let all : take (length later.breaks) later.breaks ≡ later.breaks = whole later.breaks in
-    let told : (span : List Seen) → tells_cut (last_number span) log.breaks ≡ true → IsTold later.breaks span = λ span is. ap (tells_cut (last_number span)) are ∙ tells-found (last_number span) unfound k log.breaks ∙ is in
+    let told : (span : List Seen) → tells_cut (last_number span) log.breaks ≡ true → CutIsTold later.breaks span = λ span is. ap (tells_cut (last_number span)) are ∙ tells-found (last_number span) unfound k log.breaks ∙ is in
     record {
       known = subst (λ (fs : List Break). AreKnownGaps later fs (seen_spans (seen_of later done))) (sym all) (subst (AreKnownGaps later later.breaks) spans (each told (seen_spans (seen_of log done)) g.known));
-      last = subst (λ (fs : List Break). OfLast (IsTold fs) (seen_spans (seen_of later done))) (sym all)
-          (subst (OfLast (IsTold later.breaks)) spans (by told supply dark (seen_spans (seen_of log done)) g.last));
+      last = subst (λ (fs : List Break). OfLast (CutIsTold fs) (seen_spans (seen_of later done))) (sym all)
+          (subst (OfLast (CutIsTold later.breaks)) spans (by told supply dark (seen_spans (seen_of log done)) g.last));
     }
   where
-    one : ((span : List Seen) → tells_cut (last_number span) log.breaks ≡ true → IsTold later.breaks span) → (span next : List Seen) → IsKnownGap log (take unfound log.breaks) span next → IsKnownGap later later.breaks span next
+    one : ((span : List Seen) → tells_cut (last_number span) log.breaks ≡ true → CutIsTold later.breaks span) → (span next : List Seen) → IsKnownGap log (take unfound log.breaks) span next → IsKnownGap later later.breaks span next
     one told span next (inl is) = inl (told span (tells-front (last_number span) unfound log.breaks is))
     one told span next (inr failed) = inl (told span failed.told)
 
-    each : ((span : List Seen) → tells_cut (last_number span) log.breaks ≡ true → IsTold later.breaks span) → (spans : List (List Seen)) → AreKnownGaps log (take unfound log.breaks) spans → AreKnownGaps later later.breaks spans
+    each : ((span : List Seen) → tells_cut (last_number span) log.breaks ≡ true → CutIsTold later.breaks span) → (spans : List (List Seen)) → AreKnownGaps log (take unfound log.breaks) spans → AreKnownGaps later later.breaks spans
     each told [] all = tt
     each told (span ∷ []) all = tt
     each told (span ∷ next ∷ spans) all = (one told span next all.0, each told (next ∷ spans) all.1)
 
-    by : ((span : List Seen) → tells_cut (last_number span) log.breaks ≡ true → IsTold later.breaks span) → (supply : Supply) → IsDark supply → (spans : List (List Seen)) → IsKnownLast supply log (take unfound log.breaks) spans → OfLast (IsTold later.breaks) spans
+    by : ((span : List Seen) → tells_cut (last_number span) log.breaks ≡ true → CutIsTold later.breaks span) → (supply : UnitPower) → IsDark supply → (spans : List (List Seen)) → IsKnownLast supply log (take unfound log.breaks) spans → OfLast (CutIsTold later.breaks) spans
     by told (Lit span) dark spans last = absurd dark
-    by told Due dark spans last = last-map (IsUntold log (take unfound log.breaks)) (IsTold later.breaks) (λ span h. told span h.told) spans last
-    by told Lost dark spans last = last-map (IsUntold log (take unfound log.breaks)) (IsTold later.breaks) (λ span h. told span h.told) spans last
+    by told Due dark spans last = last-map (IsUntold log (take unfound log.breaks)) (CutIsTold later.breaks) (λ span h. told span h.told) spans last
+    by told Lost dark spans last = last-map (IsUntold log (take unfound log.breaks)) (CutIsTold later.breaks) (λ span h. told span h.told) spans last
 
 pub gaps-begin : HasGaps (record { breaks = []; refused = []; finds = [] }) 0 Due []
 unfolding seen_of

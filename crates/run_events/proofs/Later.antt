@@ -11,14 +11,14 @@ use Rattle.trace_model.specs.Trace.{TraceSecond}
 use Rattle.log_model.specs.Log.{RunLog, Phase, In, Keeping, cut_in, is_torn_in}
 use Rattle.log_model.specs.Slots.{Slots, refusal, other_slot}
 use Rattle.log_model.specs.Same.{SameAt}
-use Rattle.log_model.specs.Course.{Course, Visit, Told, Before, Moved, slot_told, both_told, acted, all_acted, moved_by, unmoved, answered, fresh, cut_told, lit_course, has_power, second_told, before_next, not_begun}
+use Rattle.log_model.specs.Course.{Course, Visit, ToldSecond, Before, Moved, slot_told, both_told, acted, all_acted, moved_by, unmoved, answered, fresh, cut_told, lit_course, has_power, second_told, before_next, not_begun}
 use Rattle.event_model.specs.declared.kinds.TheConstants.{CARD_FAULT, DRIVING_WITHOUT_CARD, OVER_SPEEDING, POWER_INTERRUPTION}
 use Rattle.event_model.specs.Runs.{ended_runs}
 use Rattle.event_model.specs.Events.{Event, Seen, seen_spans, is_bare, bare_event, over_event, Watched, Tearing, watched_on, course_by, moved_by_action, within_by, seen_by, seen_of, number_of, accepted_card, with_card, noted_with, beside_torn, fault_of, torn_in_turn, bare_events, over_events, gap_events, fault_events, judged_events, events_of}
 use Rattle.run_events.specs.Seconds.{is_fast, faults_by, found_by}
 
 -- the number of a second
-pick : (b : Bool) (x y : Told) (n : ℕ) → x.second.number ≡ n → y.second.number ≡ n → (cond b x y).second.number ≡ n
+pick : (b : Bool) (x y : ToldSecond) (n : ℕ) → x.second.number ≡ n → y.second.number ≡ n → (cond b x y).second.number ≡ n
 pick true x y n one two = one
 pick false x y n one two = two
 

@@ -3,14 +3,14 @@ use Rattle.std.proofs.Common.{ℕ, List}
 use Rattle.run_crew.specs.declared.cards.Crew.{Crew}
 use Rattle.run_events.specs.declared.watch.Ended.{Ended}
 use Rattle.run_events.specs.declared.watch.Watch.{Watch}
-use Rattle.run_events.specs.Watching.{CrewSecond, StandsFor, WatchesEvents}
+use Rattle.run_events.specs.Watching.{CrewSecond, WatchesSpan, WatchesEvents}
 use Rattle.run_events.specs.Noting.{IsFed}
 
 module _ (w : Watch) (speeds : List ℕ) where
   abbrev with_speeds : Watch
   with_speeds = record w { speeds = speeds }
 
-  pub stands-with : (seconds : List CrewSecond) → StandsFor w seconds → StandsFor with_speeds seconds
+  pub stands-with : (seconds : List CrewSecond) → WatchesSpan w seconds → WatchesSpan with_speeds seconds
   stands-with seconds h = record { bare = h.bare; over = h.over; bare_begin = h.bare_begin; over_begin = h.over_begin; last = h.last }
 
   pub watches-with : (next : ℕ) → WatchesEvents w next → WatchesEvents with_speeds next

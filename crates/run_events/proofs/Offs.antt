@@ -15,10 +15,10 @@ use Rattle.log_model.specs.declared.lines.Verdict.TheVariants.{Accepted, NotVali
 use Rattle.log_model.specs.Log.{RunLog, Phase, In, Keeping, same_phase, cut_in, is_torn_in, kept_after}
 use Rattle.log_model.specs.Slots.{refusal, other_slot}
 use Rattle.log_model.specs.Same.{SameAt}
-use Rattle.log_model.specs.Course.{Course, Visit, Told, Went, Before, Moved, slot_told, both_told, acted, all_acted, begins, moved_by, unmoved, answered, fresh, cut_told, lit_course, has_power, second_told, went}
+use Rattle.log_model.specs.Course.{Course, Visit, ToldSecond, Went, Before, Moved, slot_told, both_told, acted, all_acted, begins, moved_by, unmoved, answered, fresh, cut_told, lit_course, has_power, second_told, went}
 use Rattle.log_model.proofs.Growth.{went-same}
 use Rattle.run_unit_course.specs.Lines.{tells_cut}
-use Rattle.run_unit_course.specs.Followed.{Supply, Lost}
+use Rattle.run_unit_course.specs.Followed.{UnitPower, Lost}
 use Rattle.event_model.specs.declared.kinds.TheConstants.{CARD_NOT_VALID, TIME_OVERLAP, DRIVING_WITHOUT_CARD, INSERTION_WHILE_DRIVING, SESSION_NOT_CLOSED, OVER_SPEEDING, POWER_INTERRUPTION, CARD_FAULT}
 use Rattle.event_model.specs.Events.{Event, Crew, Seen, Tearing, AreTorn, noted_with, with_card, beside_judged, crew_judged, found_events, beside_torn, fault_of, is_codriver_first, torn_in_turn, number_of, course_by, moved_by_action, within_by, seen_by, seen_of, seen_on, seen_with, seen_spans, gaps_between, gap_events, events_of}
 use Rattle.note_model.specs.Done.{has_failed_in}
@@ -95,7 +95,7 @@ module _ (log later : RunLog) (s : TraceSecond) (off : IsCutOff log later s) whe
     lit-off : lit_course later s (not before.running) before.slots ≡ cut_told true (lit_course log s (not before.running) before.slots)
     lit-off = ap (λ (o : Option ℕ). cut_told (is_some o) (kept_by_log later)) off.cut ∙ ap (cut_told true) (kept-off ∙ sym lit-log)
 
-    abbrev lit_told : (cut : Bool) → Course → Told
+    abbrev lit_told : (cut : Bool) → Course → ToldSecond
     lit_told cut c = record {
       second = record { number = s.number; speed = s.speed; picks = c.picks };
       given = s.has_power;
@@ -112,7 +112,7 @@ module _ (log later : RunLog) (s : TraceSecond) (off : IsCutOff log later s) whe
     told-off power =
         told-as later power
         ∙ (λ i. lit_told (is_some (off.cut i)) (lit-off i))
-        ∙ sym (ap (λ (t : Told). record t { cut = true; course = cut_told true t.course }) (told-as log power))
+        ∙ sym (ap (λ (t : ToldSecond). record t { cut = true; course = cut_told true t.course }) (told-as log power))
 
     pub seen-off : has_power before s ≡ true → seen_by later before s ≡ cut_seen (seen_by log before s)
     seen-off power = λ i. record {
@@ -279,7 +279,7 @@ module _ (log later : RunLog) (front : List TraceSecond) (s : TraceSecond) (same
       ap (gaps_between t later) spans-now ∙ gaps-with t later old (cut_seen x) (some-spans (seen_of log front))
       ∙ ap (λ (es : List Event). gaps_between t later old ++ es) (gap-off log later t old x tear-off) ∙ sym (gaps-with t later old x (some-spans (seen_of log front))) ∙ sym (ap (gaps_between t later) spans-were)
 
-  module _ (unfound : ℕ) (supply : Supply) (g : HasGaps log unfound supply (front ++ s ∷ [])) (stay : StayFailed log later) (known : (u : ℕ) → tells_cut u (take unfound log.breaks) ≡ true → kept_after later u ≡ kept_after log u) where
+  module _ (unfound : ℕ) (supply : UnitPower) (g : HasGaps log unfound supply (front ++ s ∷ [])) (stay : StayFailed log later) (known : (u : ℕ) → tells_cut u (take unfound log.breaks) ≡ true → kept_after later u ≡ kept_after log u) where
     pub off-leads : (kind limit : ℕ) (sessions : ℕ → Visit → ℕ) (t : Tearing) → Leads log (events_of kind limit sessions t log (front ++ s ∷ [])) [] later (events_of kind limit sessions t later (front ++ s ∷ []))
     off-leads kind limit sessions t = by (kind == POWER_INTERRUPTION) refl
       where
@@ -301,7 +301,7 @@ module _ (log later : RunLog) (front : List TraceSecond) (s : TraceSecond) (same
     }
 
   -- and what is known of the cuts, which this one is among
-  pub off-gaps : (unfound : ℕ) (supply : Supply) (rest : List Break) → later.breaks ≡ log.breaks ++ rest → take unfound later.breaks ≡ take unfound log.breaks → HasGaps log unfound supply (front ++ s ∷ []) → x.told.lit ≡ true →
+  pub off-gaps : (unfound : ℕ) (supply : UnitPower) (rest : List Break) → later.breaks ≡ log.breaks ++ rest → take unfound later.breaks ≡ take unfound log.breaks → HasGaps log unfound supply (front ++ s ∷ []) → x.told.lit ≡ true →
       IsUntold later (take unfound log.breaks) (x ∷ []) → HasGaps later unfound Lost (front ++ s ∷ [])
   off-gaps unfound supply rest breaks same_front g lit cut =
       let found : List Break = take unfound log.breaks in

@@ -3,7 +3,7 @@ use Rattle.std.proofs.Common.{◌≡◌, ◌⊎◌, inl, inr, ℕ, ◌+◌, Bool
 use Rattle.trace_model.specs.Trace.{TraceSecond}
 use Rattle.log_model.specs.Log.{RunLog}
 use Rattle.log_model.specs.Spans.{AreInOrder}
-use Rattle.log_model.specs.Course.{Told, Before, Went, has_power, second_told, before_next, went}
+use Rattle.log_model.specs.Course.{ToldSecond, Before, Went, has_power, second_told, before_next, went}
 use Rattle.log_model.proofs.Growth.{went-more}
 use Rattle.event_model.specs.Events.{Seen, number_of, last_number, seen_of, seen_on, seen_with, seen_spans}
 use Rattle.run_events.specs.Seconds.{last_of, IsBehind, seen_next}
@@ -25,7 +25,7 @@ snoc (s ∷ ss) = by (snoc ss)
     by (inr (front, r, is)) = inr (s ∷ front, r, ap (λ (l : List TraceSecond). s ∷ l) is)
 
 -- how a second with power begins
-picked : (b : Bool) (x y : Told) → y.lit ≡ false → (cond b x y).lit ≡ true → (cond b x y).starts ≡ x.starts
+picked : (b : Bool) (x y : ToldSecond) → y.lit ≡ false → (cond b x y).lit ≡ true → (cond b x y).starts ≡ x.starts
 picked true x y dark lit = refl
 picked false x y dark lit = absurd (let wrong : false ≡ true = sym dark ∙ lit in cc)
 

@@ -6,7 +6,7 @@ use Rattle.trace_model.specs.Trace.{TraceSecond}
 use Rattle.tach_media.specs.Medium.{State}
 use Rattle.log_model.specs.Log.{RunLog}
 use Rattle.log_model.specs.Course.{Visit, went}
-use Rattle.run_unit_course.specs.Followed.{Supply}
+use Rattle.run_unit_course.specs.Followed.{UnitPower}
 use Rattle.unit_model.specs.declared.layout.TheConstants.{FIRST_OVER, OVER_COUNT}
 use Rattle.unit_model.specs.Image as image
 use Rattle.note_model.specs.Done.{has_failed_in}
@@ -69,7 +69,7 @@ second-choice t u sessions others x agree kind limit log spans =
 
 module _ (number : Card → List ℕ) (start : List ℕ) (limit : ℕ) where
   -- LINES ALONE, as what was kept is found
-  pub lines-shown : (log later : RunLog) (unfound : ℕ) (supply : Supply) (done : List TraceSecond) (t : Tearing) (sessions : ℕ → Visit → ℕ) {U V : State} → HasEvents number start limit log done U t sessions →
+  pub lines-shown : (log later : RunLog) (unfound : ℕ) (supply : UnitPower) (done : List TraceSecond) (t : Tearing) (sessions : ℕ → Visit → ℕ) {U V : State} → HasEvents number start limit log done U t sessions →
       HasGaps log unfound supply done → TellsMore log (take unfound log.breaks) later done → ((c : List ℕ) → V.may_leave c → (x : List ℕ) × U.may_leave x × SaysNothing x c) → HasEvents number start limit later done V t sessions
   lines-shown log later unfound supply done t sessions {U} {V} h g m each = record {
     torn = subst (AreTorn t) (sym (seen-same log later done m.same)) h.torn;
@@ -79,7 +79,7 @@ module _ (number : Card → List ℕ) (start : List ℕ) (limit : ℕ) where
   }
 
   -- ONE SECOND MORE
-  module _ (log later : RunLog) (unfound : ℕ) (supply : Supply) (done : List TraceSecond) (s : TraceSecond) (t here : Tearing) (sessions own : ℕ → Visit → ℕ) {U : State} (h : HasEvents number start limit log done U t sessions)
+  module _ (log later : RunLog) (unfound : ℕ) (supply : UnitPower) (done : List TraceSecond) (s : TraceSecond) (t here : Tearing) (sessions own : ℕ → Visit → ℕ) {U : State} (h : HasEvents number start limit log done U t sessions)
       (g : HasGaps log unfound supply done) (m : TellsMore log (take unfound log.breaks) later done) (early : AreEarlier s.number (seen_of log done)) (fits : IsTornIn here (seen_next later done s)) where
     abbrev x : Seen
     x = seen_next later done s

@@ -29,7 +29,7 @@ use Rattle.run_events.proofs.Frames.{all-apart, event-more, over-more, event-but
 use Rattle.run_crew.specs.declared.cards.Crew.{Crew}
 use Rattle.run_events.specs.declared.watch.Ended.{Ended}
 use Rattle.run_events.specs.declared.watch.Watch.{Watch}
-use Rattle.run_events.specs.Watching.{BareWith, OverWith, CrewSecond, StandsFor, seconds_with, bares_with, overs_with, bare_ended, over_ended}
+use Rattle.run_events.specs.Watching.{BareWith, OverWith, CrewSecond, WatchesSpan, seconds_with, bares_with, overs_with, bare_ended, over_ended}
 use Rattle.run_events.specs.Entries.{number_or_no_card, entry_of}
 use Rattle.run_events.specs.Noting.{IsBareNoted, IsNotingBare, IsFastNoted, IsNotingFast, AreNoted, AreBeingNoted, IsFed}
 use Rattle.run_events.specs.Watched.{watched, number_bytes, ArePairs, IsBareOf, IsFastOf}
@@ -51,7 +51,7 @@ module _ (number : Card → FullCardNumber) where
   over-parts limit span new =
       ap (filter_map over_event) (ended_runs-append (is_fast limit) span new) ∙ filter_map-append over_event (ended_runs (is_fast limit) span) (runs_behind (is_fast limit) (last_run (is_fast limit) span) new)
 
-  module _ (w v : Watch) (span new : List Seen) (first n speed : ℕ) (crew : Crew) (ended : Ended) (fed : IsFed w v first n speed crew ended) (stands : StandsFor w (map (watched number) span)) (are : map (watched number) new ≡ seconds_with first n speed crew) where
+  module _ (w v : Watch) (span new : List Seen) (first n speed : ℕ) (crew : Crew) (ended : Ended) (fed : IsFed w v first n speed crew ended) (stands : WatchesSpan w (map (watched number) span)) (are : map (watched number) new ≡ seconds_with first n speed crew) where
     together : map (watched number) (span ++ new) ≡ map (watched number) span ++ seconds_with first n speed crew
     together = map-append (watched number) span new ∙ ap (λ (l : List CrewSecond). map (watched number) span ++ l) are
 
@@ -67,8 +67,8 @@ module _ (number : Card → FullCardNumber) where
           (subst (λ (es : List Event). ArePairs (IsFastOf number) es (overs_with w.over.limit (map (watched number) (span ++ new)))) (over-parts w.over.limit span new) (fasts-are number w.over.limit (span ++ new))));
     }
 
-    pub turn-stands : StandsFor v (map (watched number) (span ++ new))
-    turn-stands = subst (StandsFor v) (sym together) (fed.stands (map (watched number) span) stands)
+    pub turn-stands : WatchesSpan v (map (watched number) (span ++ new))
+    turn-stands = subst (WatchesSpan v) (sym together) (fed.stands (map (watched number) span) stands)
 
 -- EVENTS OF LOW SECONDS
 record IsLowEvent (e : Event) : Type 0 where

@@ -14,7 +14,7 @@ use Rattle.event_rules.specs.Speeding as over_feed
 use Rattle.unit_events.proofs.Watching.{each-append}
 use Rattle.run_crew.specs.declared.cards.Crew.{Crew}
 use Rattle.run_events.specs.declared.watch.Watch.{Watch}
-use Rattle.run_events.specs.Watching.{CrewSecond, seconds_with, is_bare, is_bare_at, is_fast, driver_second, speed_second, first_crew, BareWith, OverWith, bare_with, over_with, bares_with, overs_with, StandsFor}
+use Rattle.run_events.specs.Watching.{CrewSecond, seconds_with, is_bare, is_bare_at, is_fast, driver_second, speed_second, first_crew, BareWith, OverWith, bare_with, over_with, bares_with, overs_with, WatchesSpan}
 use Rattle.run_events.proofs.Crews.{last_turned, bare_turned, row_turned, each_turned, last_with, first_with, last_of_run, bare_is, over_is}
 
 one_option : {T : Type 0} (a b : Option T) → option_to_list a ≡ option_to_list b → a ≡ b
@@ -35,7 +35,7 @@ one speed crew k = record { number = k; speed = speed; crew = crew }
 begin_is : (o : Option Crew) (run : List CrewSecond) (crew : Crew) → o ≡ first_crew run → (c : Crew) → first_crew run ≡ Some c → unwrap_or o crew ≡ c
 begin_is o run crew is c first = ap (λ (p : Option Crew). unwrap_or p crew) (is ∙ first)
 
-module _ (w : Watch) (ss : List CrewSecond) (stands : StandsFor w ss) (first n speed : ℕ) (crew : Crew) (some : 0 < n) where
+module _ (w : Watch) (ss : List CrewSecond) (stands : WatchesSpan w ss) (first n speed : ℕ) (crew : Crew) (some : 0 < n) where
   drivers : map driver_second (ss ++ seconds_with first n speed crew) ≡ map driver_second ss ++ all_bare first n (is_bare_at speed crew)
   drivers = map-append driver_second ss (seconds_with first n speed crew) ∙ ap (λ (l : List DriverSecond). map driver_second ss ++ l) (row_turned driver_second (one speed crew) first n)
 
@@ -146,12 +146,12 @@ module _ (w : Watch) (ss : List CrewSecond) (stands : StandsFor w ss) (first n s
           ∙ ap first_crew (last_run-append p ss (seconds_with first (suc m) speed crew) ∙ row-off p (one speed crew) each (last_run p ss) first m))
 
   -- WHAT IS KEPT
-  pub stands-on : (now : Watch) → bare_feed.StandsFor now.bare (map driver_second ss ++ all_bare first n (is_bare_at speed crew)) → over_feed.StandsFor now.over (map speed_second ss ++ at_speed first n speed)
+  pub stands-on : (now : Watch) → bare_feed.CountsDriverSeconds now.bare (map driver_second ss ++ all_bare first n (is_bare_at speed crew)) → over_feed.CountsSpeedSeconds now.over (map speed_second ss ++ at_speed first n speed)
       → now.over.limit ≡ w.over.limit → now.bare_begin ≡ cond (is_bare_at speed crew) (Some (unwrap_or w.bare_begin crew)) None
-      → now.over_begin ≡ cond (nat_lt w.over.limit speed) (Some (unwrap_or w.over_begin crew)) None → now.last ≡ crew → StandsFor now (ss ++ seconds_with first n speed crew)
+      → now.over_begin ≡ cond (nat_lt w.over.limit speed) (Some (unwrap_or w.over_begin crew)) None → now.last ≡ crew → WatchesSpan now (ss ++ seconds_with first n speed crew)
   stands-on now bare over limit bare_begin over_begin last = record {
-    bare = subst (bare_feed.StandsFor now.bare) (sym drivers) bare;
-    over = subst (over_feed.StandsFor now.over) (sym speeds) over;
+    bare = subst (bare_feed.CountsDriverSeconds now.bare) (sym drivers) bare;
+    over = subst (over_feed.CountsSpeedSeconds now.over) (sym speeds) over;
     bare_begin = bare_begin ∙ goes-from is_bare (is_bare_at speed crew) (λ k. refl) w.bare_begin stands.bare_begin;
     over_begin = over_begin ∙ goes-from (is_fast w.over.limit) (nat_lt w.over.limit speed) (λ k. refl) w.over_begin stands.over_begin
         ∙ ap (λ (l : ℕ). first_crew (last_run (is_fast l) (ss ++ seconds_with first n speed crew))) (sym limit);

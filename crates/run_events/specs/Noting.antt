@@ -8,7 +8,7 @@ use Rattle.run_crew.specs.declared.cards.Crew.{Crew}
 use Rattle.run_events.specs.declared.watch.Ended.{Ended}
 use Rattle.run_events.specs.declared.watch.Watch.{Watch}
 use Rattle.run_events.specs.Entries.{number_or_no_card, entry_of}
-use Rattle.run_events.specs.Watching.{BareWith, OverWith, CrewSecond, seconds_with, bares_with, overs_with, bare_ended, over_ended, StandsFor}
+use Rattle.run_events.specs.Watching.{BareWith, OverWith, CrewSecond, seconds_with, bares_with, overs_with, bare_ended, over_ended, WatchesSpan}
 
 -- driving without a card that has ended is noted; nothing is, where none has
 abbrev pub IsBareNoted : Option BareWith → List ℕ → List ℕ → Type 0
@@ -46,10 +46,10 @@ AreBeingNoted ended x c = IsNotingBare (bare_ended ended) x c ⊎ AreNotedAfter 
 
 -- n seconds at a speed with these cards were fed, from one on: what ended with the second before them
 pub record IsFed (old new : Watch) (first n speed : ℕ) (crew : Crew) (ended : Ended) : Type 0 where
-  pub bares : (seconds : List CrewSecond) → StandsFor old seconds → bares_with (seconds ++ seconds_with first n speed crew) ≡ bares_with seconds ++ option_to_list (bare_ended ended)
-  pub overs : (seconds : List CrewSecond) → StandsFor old seconds →
+  pub bares : (seconds : List CrewSecond) → WatchesSpan old seconds → bares_with (seconds ++ seconds_with first n speed crew) ≡ bares_with seconds ++ option_to_list (bare_ended ended)
+  pub overs : (seconds : List CrewSecond) → WatchesSpan old seconds →
       overs_with old.over.limit (seconds ++ seconds_with first n speed crew) ≡ overs_with old.over.limit seconds ++ option_to_list (over_ended ended)
-  pub stands : (seconds : List CrewSecond) → StandsFor old seconds → StandsFor new (seconds ++ seconds_with first n speed crew)
+  pub stands : (seconds : List CrewSecond) → WatchesSpan old seconds → WatchesSpan new (seconds ++ seconds_with first n speed crew)
   pub limit : new.over.limit ≡ old.over.limit
 
 -- and that was noted on the unit

@@ -78,9 +78,9 @@ unfoldable pub overs_with : (limit : ℕ) → List CrewSecond → List OverWith
 overs_with limit seconds = filter_map over_with (ended_runs (is_fast limit) seconds)
 
 -- what is kept stands for these seconds
-pub record StandsFor (w : Watch) (seconds : List CrewSecond) : Type 0 where
-  pub bare : bare_feed.StandsFor w.bare (map driver_second seconds)
-  pub over : over_feed.StandsFor w.over (map speed_second seconds)
+pub record WatchesSpan (w : Watch) (seconds : List CrewSecond) : Type 0 where
+  pub bare : bare_feed.CountsDriverSeconds w.bare (map driver_second seconds)
+  pub over : over_feed.CountsSpeedSeconds w.over (map speed_second seconds)
   pub bare_begin : w.bare_begin ≡ first_crew (last_run is_bare seconds)
   pub over_begin : w.over_begin ≡ first_crew (last_run (is_fast w.over.limit) seconds)
   pub last : w.last ≡ last_crew seconds
@@ -88,7 +88,7 @@ pub record StandsFor (w : Watch) (seconds : List CrewSecond) : Type 0 where
 -- its events are watched for some seconds, none of them at 0, up to a next one
 pub record WatchesEvents (w : Watch) (next : ℕ) : Type 0 where
   pub seconds : List CrewSecond
-  pub stands : StandsFor w seconds
+  pub stands : WatchesSpan w seconds
   pub bare_next : bare_feed.IsNext w.bare next
   pub over_next : over_feed.IsNext w.over.run next
   pub late : AllByRecursion (λ (s : CrewSecond). 0 < s.number) seconds

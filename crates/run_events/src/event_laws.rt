@@ -8,10 +8,10 @@ ghost use Rattle.log_model.specs.declared.lines.Break.{Break};
 ghost use Rattle.log_model.specs.Log.{RunLog, kept_after};
 ghost use Rattle.log_model.specs.Same.{SameAt};
 ghost use Rattle.log_model.specs.Spans.{AreInOrder};
-ghost use Rattle.log_model.specs.Course.{Told, Visit, has_power, went};
+ghost use Rattle.log_model.specs.Course.{ToldSecond, Visit, has_power, went};
 ghost use Rattle.run_unit_course.specs.Lines.{tells_cut, found_from};
 ghost use Rattle.run_unit_course.specs.Turn.{begins_with};
-ghost use Rattle.run_unit_course.specs.Followed.{Supply, Lit, Due, Lost, IsDark};
+ghost use Rattle.run_unit_course.specs.Followed.{UnitPower, Lit, Due, Lost, IsDark};
 ghost use Rattle.note_model.specs.Done.{has_failed_in};
 ghost use Rattle.note_model.specs.Events.{noting_second};
 ghost use Rattle.unit_model.specs.declared.layout.TheConstants.{IMAGE_SIZE, SPARE_COUNTS, EVENTS};
@@ -99,7 +99,7 @@ pub fn each_event_is_noted_in_its_second()
 /// was noted in a second in which a call failed.
 pub fn later_lines_change_no_event()
     ensures seen { (log later : RunLog) (done : List TraceSecond) → All (λ s. SameAt log later s.number) done → seen_of later done ≡ seen_of log done }
-    ensures events { (log later : RunLog) (unfound : ℕ) (supply : Supply) (done : List TraceSecond) → HasGaps log unfound supply done → TellsMore log (take unfound log.breaks) later done →
+    ensures events { (log later : RunLog) (unfound : ℕ) (supply : UnitPower) (done : List TraceSecond) → HasGaps log unfound supply done → TellsMore log (take unfound log.breaks) later done →
         (kind limit : ℕ) (sessions : ℕ → Visit → ℕ) (t : Tearing) → Leads log (events_of kind limit sessions t log done) [] later (events_of kind limit sessions t later done) }
 {}
 
@@ -114,19 +114,19 @@ pub fn a_choice_of_one_second_changes_no_other()
 /// goes on or breaks off, a power-on fails, a second is without power.
 pub fn it_is_known_what_was_kept()
     ensures begins { HasGaps (record { breaks = []; refused = []; finds = [] }) 0 Due [] }
-    ensures found { (log later : RunLog) (unfound k : ℕ) (supply : Supply) (done : List TraceSecond) → IsDark supply → HasGaps log unfound supply done → All (λ s. SameAt log later s.number) done →
+    ensures found { (log later : RunLog) (unfound k : ℕ) (supply : UnitPower) (done : List TraceSecond) → IsDark supply → HasGaps log unfound supply done → All (λ s. SameAt log later s.number) done →
         later.breaks ≡ found_from unfound k log.breaks → HasGaps later (length later.breaks) (Lit []) done }
     ensures goes_on { (log later : RunLog) (unfound : ℕ) (done : List TraceSecond) (s : TraceSecond) → All (λ s. SameAt log later s.number) done → (rest : List Break) → later.breaks ≡ log.breaks ++ rest →
-        take unfound later.breaks ≡ take unfound log.breaks → (supply now : Supply) (span more : List Told) (t : Told) → supply ≡ Lit span → now ≡ Lit (more ++ t ∷ []) → HasGaps log unfound supply done →
+        take unfound later.breaks ≡ take unfound log.breaks → (supply now : UnitPower) (span more : List ToldSecond) (t : ToldSecond) → supply ≡ Lit span → now ≡ Lit (more ++ t ∷ []) → HasGaps log unfound supply done →
         (seen_next later done s).told.lit ≡ true → (seen_next later done s).told.starts ≡ begins_with span → HasGaps later unfound now (done ++ s ∷ []) }
     ensures breaks_off { (log later : RunLog) (unfound : ℕ) (done : List TraceSecond) (s : TraceSecond) → All (λ s. SameAt log later s.number) done → (rest : List Break) → later.breaks ≡ log.breaks ++ rest →
-        take unfound later.breaks ≡ take unfound log.breaks → (supply : Supply) (span : List Told) → supply ≡ Lit span → HasGaps log unfound supply done → (seen_next later done s).told.lit ≡ true →
+        take unfound later.breaks ≡ take unfound log.breaks → (supply : UnitPower) (span : List ToldSecond) → supply ≡ Lit span → HasGaps log unfound supply done → (seen_next later done s).told.lit ≡ true →
         (seen_next later done s).told.starts ≡ begins_with span → IsUntold later (take unfound log.breaks) (seen_next later done s ∷ []) → HasGaps later unfound Lost (done ++ s ∷ []) }
     ensures fails { (log later : RunLog) (unfound : ℕ) (done : List TraceSecond) (s : TraceSecond) → All (λ s. SameAt log later s.number) done → (rest : List Break) → later.breaks ≡ log.breaks ++ rest →
-        take unfound later.breaks ≡ take unfound log.breaks → (supply : Supply) → IsDark supply → HasGaps log unfound supply done → (seen_next later done s).told.lit ≡ true → (seen_next later done s).told.starts ≡ true →
+        take unfound later.breaks ≡ take unfound log.breaks → (supply : UnitPower) → IsDark supply → HasGaps log unfound supply done → (seen_next later done s).told.lit ≡ true → (seen_next later done s).told.starts ≡ true →
         has_failed_in later (number_of (seen_next later done s)) ≡ true → IsUntold later (take unfound log.breaks) (seen_next later done s ∷ []) → HasGaps later unfound Lost (done ++ s ∷ []) }
     ensures dark { (log later : RunLog) (unfound : ℕ) (done : List TraceSecond) (s : TraceSecond) → All (λ s. SameAt log later s.number) done → (rest : List Break) → later.breaks ≡ log.breaks ++ rest →
-        take unfound later.breaks ≡ take unfound log.breaks → (supply now : Supply) → IsDark supply → IsDark now → HasGaps log unfound supply done → (seen_next later done s).told.lit ≡ false → HasGaps later unfound now (done ++ s ∷ []) }
+        take unfound later.breaks ≡ take unfound log.breaks → (supply now : UnitPower) → IsDark supply → IsDark now → HasGaps log unfound supply done → (seen_next later done s).told.lit ≡ false → HasGaps later unfound now (done ++ s ∷ []) }
 {}
 
 /// Seconds in which no card was judged or torn out, and none entered: with power they bring what they end, and without it nothing; and a
@@ -143,12 +143,12 @@ pub fn quiet_seconds_bring_what_they_end()
 
 /// Where the last second with power turns out to be a cut's, behind all of its actions, its events are the same.
 pub fn a_cut_behind_a_second_leaves_its_events()
-    ensures events { (log later : RunLog) (front : List TraceSecond) (s : TraceSecond) → All (λ s. SameAt log later s.number) front → IsCutOff log later s → has_power (went log front).before s ≡ true → (unfound : ℕ) (supply : Supply) →
+    ensures events { (log later : RunLog) (front : List TraceSecond) (s : TraceSecond) → All (λ s. SameAt log later s.number) front → IsCutOff log later s → has_power (went log front).before s ≡ true → (unfound : ℕ) (supply : UnitPower) →
         HasGaps log unfound supply (front ++ s ∷ []) → StayFailed log later → ((u : ℕ) → tells_cut u (take unfound log.breaks) ≡ true → kept_after later u ≡ kept_after log u) →
         (kind limit : ℕ) (sessions : ℕ → Visit → ℕ) (t : Tearing) → Leads log (events_of kind limit sessions t log (front ++ s ∷ [])) [] later (events_of kind limit sessions t later (front ++ s ∷ [])) }
     ensures fits { (log later : RunLog) (front : List TraceSecond) (s : TraceSecond) → All (λ s. SameAt log later s.number) front → IsCutOff log later s → has_power (went log front).before s ≡ true →
         (t : Tearing) → AreTorn t (seen_of log (front ++ s ∷ [])) → AreTorn t (seen_of later (front ++ s ∷ [])) }
-    ensures gaps { (log later : RunLog) (front : List TraceSecond) (s : TraceSecond) → All (λ s. SameAt log later s.number) front → IsCutOff log later s → has_power (went log front).before s ≡ true → (unfound : ℕ) (supply : Supply) (rest : List Break) →
+    ensures gaps { (log later : RunLog) (front : List TraceSecond) (s : TraceSecond) → All (λ s. SameAt log later s.number) front → IsCutOff log later s → has_power (went log front).before s ≡ true → (unfound : ℕ) (supply : UnitPower) (rest : List Break) →
         later.breaks ≡ log.breaks ++ rest → take unfound later.breaks ≡ take unfound log.breaks → HasGaps log unfound supply (front ++ s ∷ []) → (seen_next log front s).told.lit ≡ true →
         IsUntold later (take unfound log.breaks) (seen_next log front s ∷ []) → HasGaps later unfound Lost (front ++ s ∷ []) }
 {}

@@ -7,7 +7,7 @@ ghost use Rattle.speed_store.specs.Feeding as minute;
 ghost use Rattle.run_events.specs.Blocks.{IsBlockPut, IsPuttingBlock, IsWatchedOn};
 ghost use Rattle.run_crew.specs.declared.cards.Crew.{Crew};
 ghost use Rattle.run_events.specs.Entries.{number_or_no_card};
-ghost use Rattle.run_events.specs.Watching.{StandsFor, Watches, WatchesEvents, is_bare_at, bare_ended, over_ended};
+ghost use Rattle.run_events.specs.Watching.{WatchesSpan, Watches, WatchesEvents, is_bare_at, bare_ended, over_ended};
 ghost use Rattle.run_events.specs.Noting.{IsBareNoted, IsNotingBare, IsFastNoted, IsNotingFast, AreNoted, AreBeingNoted, IsFed};
 
 use crate::entries::{card_bare, number_or_zeros};
@@ -49,9 +49,9 @@ pub struct Ended {
 impl Watch {
     /// A span with no second yet, of a vehicle with this limit in km/h.
     pub fn new(limit: u8) -> Watch
-        ensures stands { StandsFor result [] }
+        ensures stands { WatchesSpan result [] }
         ensures limit { (result.over.limit ≡ limit) × (result.limit ≡ limit) }
-        ensures speeds { (next : ℕ) → minute.StandsFor result.speeds [] next }
+        ensures speeds { (next : ℕ) → minute.KeepsSpeedsOf result.speeds [] next }
     {
         Watch {
             bare: NoCardRun::new(),

@@ -17,7 +17,7 @@ ghost use Rattle.run_events.specs.Seconds.{bares_by, overs_by, IsQuiet, seen_nex
 ghost use Rattle.run_crew.specs.declared.cards.Crew.{Crew};
 ghost use Rattle.run_events.specs.declared.watch.Ended.{Ended};
 ghost use Rattle.run_events.specs.declared.watch.Watch.{Watch};
-ghost use Rattle.run_events.specs.Watching.{StandsFor, seconds_with, bares_with, overs_with};
+ghost use Rattle.run_events.specs.Watching.{WatchesSpan, seconds_with, bares_with, overs_with};
 ghost use Rattle.run_events.specs.Noting.{IsFed, AreNoted, AreBeingNoted};
 ghost use Rattle.run_events.specs.Watched.{watched, named, number_bytes, ArePairs, IsBareOf, IsFastOf};
 ghost use Rattle.run_events.specs.Turned.{AreEnded, AreLow};
@@ -43,10 +43,10 @@ pub fn what_is_watched_are_the_events_of_a_run()
 /// What a turn of seconds with the same cards ends, behind the seconds of its span, is what these seconds bring; and what is watched then
 /// stands for all of them.
 pub fn what_a_turn_ends_is_what_it_brings()
-    ensures ended { (number : Card → FullCardNumber) (w v : Watch) (span new : List Seen) (first n speed : ℕ) (crew : Crew) (ended : Ended) → IsFed w v first n speed crew ended → StandsFor w (map (watched number) span) →
+    ensures ended { (number : Card → FullCardNumber) (w v : Watch) (span new : List Seen) (first n speed : ℕ) (crew : Crew) (ended : Ended) → IsFed w v first n speed crew ended → WatchesSpan w (map (watched number) span) →
         map (watched number) new ≡ seconds_with first n speed crew → AreEnded number w.over.limit span new ended }
-    ensures stands { (number : Card → FullCardNumber) (w v : Watch) (span new : List Seen) (first n speed : ℕ) (crew : Crew) (ended : Ended) → IsFed w v first n speed crew ended → StandsFor w (map (watched number) span) →
-        map (watched number) new ≡ seconds_with first n speed crew → StandsFor v (map (watched number) (span ++ new)) }
+    ensures stands { (number : Card → FullCardNumber) (w v : Watch) (span new : List Seen) (first n speed : ℕ) (crew : Crew) (ended : Ended) → IsFed w v first n speed crew ended → WatchesSpan w (map (watched number) span) →
+        map (watched number) new ≡ seconds_with first n speed crew → WatchesSpan v (map (watched number) (span ++ new)) }
 {}
 
 /// Once that was noted, it is shown more: driving without a card and then the over speeding. Where the noting was cut short, nothing is,

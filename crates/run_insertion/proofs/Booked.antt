@@ -39,8 +39,8 @@ use Rattle.run_crew.specs.Cards.{session_of, with_session, with_sizes}
 use Rattle.run_crew.specs.Cabin.{with_sizes_of}
 use Rattle.run_promise.specs.Found.{Found, found_of, unit_seen, AnyKept}
 use Rattle.run_promise.specs.Cards.{IsUntouched, brought_by}
-use Rattle.run_promise.specs.Between.{Carried}
-use Rattle.run_devices.specs.Told.{AreFoundCards, IsPowered, IsPowerless, arranged, with_standing, card_marks, with_marks}
+use Rattle.run_promise.specs.Between.{RunLedger}
+use Rattle.run_devices.specs.Told.{AreFoundCards, DevicesPowered, DevicesUnpowered, arranged, with_standing, card_marks, with_marks}
 use Rattle.run_devices.proofs.Parts.{told-one, UnitLit, CardLit, AreParts, parts-of, powered-of}
 use Rattle.run_devices.proofs.Known.{session-sized, found-sizes, found-session}
 use Rattle.run_devices.proofs.Begun.{out-powered}
@@ -57,7 +57,7 @@ use Rattle.run_insertion.proofs.Opening.{does-read, read-alone, opens-as, opens-
 use Rattle.run_insertion.proofs.Carried.{noted-carried, found-fallen}
 
 -- the cards have the sessions that they had
-pub powered-as : (f : Found) (w : Carried) (cards after : Cards) (c : Card) (U X Y : State) → AreFoundCards f after → session_of after c ≡ session_of cards c → session_of after (other c) ≡ session_of cards (other c) → IsPowered f w cards (arranged c U X Y) → IsPowered f w after (arranged c U X Y)
+pub powered-as : (f : Found) (w : RunLedger) (cards after : Cards) (c : Card) (U X Y : State) → AreFoundCards f after → session_of after c ≡ session_of cards c → session_of after (other c) ≡ session_of cards (other c) → DevicesPowered f w cards (arranged c U X Y) → DevicesPowered f w after (arranged c U X Y)
 powered-as f w cards after c U X Y found mine others p =
     let parts : AreParts f w cards c U X Y = parts-of f w cards c U X Y p in
     powered-of f w after c U X Y found (record {
@@ -77,22 +77,22 @@ others-still A cards = refl
 others-still B cards = refl
 
 -- a card without a session is torn out, and the fault is noted
-pub torn-carried : (f : Found) (w : Carried) (e : Entering) (k v : Keeper) (V W X Z : State) (failed : Bool) → session_of k.cabin.cards e.which ≡ None → AreFoundCards f k.cabin.cards → IsCoherent V → IsPowered f w k.cabin.cards (arranged e.which V X Z) → v ≡ fallen true e k → LeavesOnly V W LeavesJournal → HasCause V W failed
+pub torn-carried : (f : Found) (w : RunLedger) (e : Entering) (k v : Keeper) (V W X Z : State) (failed : Bool) → session_of k.cabin.cards e.which ≡ None → AreFoundCards f k.cabin.cards → IsCoherent V → DevicesPowered f w k.cabin.cards (arranged e.which V X Z) → v ≡ fallen true e k → LeavesOnly V W LeavesJournal → HasCause V W failed
     → IsCarriedOn failed f w v.cabin.cards (arranged e.which W X Z)
 torn-carried f w e k v V W X Z failed bare found whole p torn run cause =
     let left : Cards = with_session e.which None k.cabin.cards in
     let found_left : AreFoundCards f left = found-session f e.which None k.cabin.cards found in
-    let stood : IsPowered f w left (arranged e.which V X Z) = powered-as f w k.cabin.cards left e.which V X Z found_left (none-still e.which k.cabin.cards bare) (others-still e.which k.cabin.cards) p in
+    let stood : DevicesPowered f w left (arranged e.which V X Z) = powered-as f w k.cabin.cards left e.which V X Z found_left (none-still e.which k.cabin.cards bare) (others-still e.which k.cabin.cards) p in
     let booked : IsCarriedOn failed f w left (arranged e.which W X Z) = noted-carried e.which f w left V W X Z failed found_left whole stood run cause in
     subst (λ (q : Keeper). IsCarriedOn failed f w q.cabin.cards (arranged e.which W X Z)) (sym torn) booked
 
-judged-as : (fell : Bool) (entered : Entered) (clock : ℕ) (entry : Option ℕ) (e : Entering) (w : Carried) → carried_judged (taken_as fell entered clock entry) e w ≡ with_marks (card_marks e.which clock entered.owed.items) w
+judged-as : (fell : Bool) (entered : Entered) (clock : ℕ) (entry : Option ℕ) (e : Entering) (w : RunLedger) → carried_judged (taken_as fell entered clock entry) e w ≡ with_marks (card_marks e.which clock entered.owed.items) w
 judged-as true entered clock None e w = refl
 judged-as false entered clock None e w = refl
 judged-as true entered clock (Some entry) e w = refl
 judged-as false entered clock (Some entry) e w = refl
 
-told-as : (fell : Bool) (entered : Entered) (clock : ℕ) (entry : Option ℕ) (f : Found) (w : Carried) (e : Entering) (U X : State) → IsToldSo f w e entered U X → IsToldOf (taken_as fell entered clock entry) f w e U X
+told-as : (fell : Bool) (entered : Entered) (clock : ℕ) (entry : Option ℕ) (f : Found) (w : RunLedger) (e : Entering) (U X : State) → IsToldSo f w e entered U X → IsToldOf (taken_as fell entered clock entry) f w e U X
 told-as true entered clock None f w e U X told = told
 told-as false entered clock None f w e U X told = told
 told-as true entered clock (Some entry) f w e U X told = told
@@ -108,14 +108,14 @@ written-as false entered clock (Some entry) = tt
 
 module _ (app : Application) (e : Entering) (k : Keeper) (U V X M Z : State) (unit_whole : IsCoherent U) (unit_after : IsCoherent V) (whole : IsCoherent X) (after : IsCoherent M) (bare : session_of k.cabin.cards e.which ≡ None) (told : IfSome X.image (λ x. own_sizes x ≡ app)) (size : image_size_of app ≤ X.size)
     (registration : Registration) (long : length registration.0 ≡ 15) (odometer : ℕ) (few : e.at.second < 2 ^ 32) (answer : Result Entered NotEntered) (enters : IsEntering app registration odometer e.at.second U V X M answer)
-    (f : Found) (w : Carried) (m : MayEnter f w k.cabin.cards e U X Z) (out : w.standing e.which ≡ Out) where
+    (f : Found) (w : RunLedger) (m : MayEnter f w k.cabin.cards e U X Z) (out : w.standing e.which ≡ Out) where
   own : IsOwnValid (found_of f e.which).image → app ≡ own_sizes (found_of f e.which).image
   own = measured-own f w k.cabin.cards e.which U X Z m.powered whole app told
 
-  pub judged-powered : V.works ≡ true → IsPowered f w k.cabin.cards (arranged e.which V M Z)
+  pub judged-powered : V.works ≡ true → DevicesPowered f w k.cabin.cards (arranged e.which V M Z)
   judged-powered = entered-powered-by f w k.cabin.cards e.which U V X M Z m.found unit_whole unit_after whole after registration long odometer e.at.second few answer out bare m.powered m.late app own size enters
 
-  pub judged-powerless : IsPowerless f w (arranged e.which V M Z)
+  pub judged-powerless : DevicesUnpowered f w (arranged e.which V M Z)
   judged-powerless = entered-powerless-by f w k.cabin.cards e.which U V X M Z m.found unit_whole unit_after whole after registration long odometer e.at.second few answer out bare m.powered m.late app own size enters
 
   -- a card that no call wrote is so still, or was valid
@@ -286,7 +286,7 @@ module _ (app : Application) (e : Entering) (k : Keeper) (U V X M Z : State) (un
     taken-known fell entry failed v W Y vehicle reading some X_works works low most books =
         let behind = books f (with_marks (card_marks e.which M.clock entered.owed.items) w) (may-seat works low) in
         record {
-          taken = subst (λ (x : Carried). IsTakenOn (taken_as fell entered M.clock entry) failed e k.journal.kept f x v.cabin.cards (arranged e.which W Y Z)) (sym (judged-as fell entered M.clock entry e w)) behind.0;
+          taken = subst (λ (x : RunLedger). IsTakenOn (taken_as fell entered M.clock entry) failed e k.journal.kept f x v.cabin.cards (arranged e.which W Y Z)) (sym (judged-as fell entered M.clock entry e w)) behind.0;
           found = behind.1;
           timed = λ valid timed. behind.2.0 (put-timed valid timed);
           told = told-as fell entered M.clock entry f w e U X (told-so X_works works low most);
@@ -302,7 +302,7 @@ module _ (e : Entering) (k : Keeper) (sizes : Result Application ℕ) (U X M Z :
   pub still-bare : session_of (with_sizes e.which sizes k.cabin.cards) e.which ≡ None
   still-bare = session-sized e.which e.which sizes k.cabin.cards ∙ bare
 
-  pub woken-may : (f : Found) (w : Carried) → MayEnter f w k.cabin.cards e U X Z → MayEnter f (with_standing e.which Out w) (with_sizes e.which sizes k.cabin.cards) e U M Z
+  pub woken-may : (f : Found) (w : RunLedger) → MayEnter f w k.cabin.cards e U X Z → MayEnter f (with_standing e.which Out w) (with_sizes e.which sizes k.cabin.cards) e U M Z
   woken-may f w m =
       let found : AreFoundCards f (with_sizes e.which sizes k.cabin.cards) = found-sizes f e.which sizes k.cabin.cards m.found in
       record {
@@ -316,13 +316,13 @@ module _ (e : Entering) (k : Keeper) (sizes : Result Application ℕ) (U X M Z :
       }
 
   -- a card that was only revived is as it was
-  pub woken-untouched : (f : Found) (w : Carried) → MayEnter f w k.cabin.cards e U X Z → IsUntouched (found_of f e.which) X → IsUntouched (found_of f e.which) M
+  pub woken-untouched : (f : Found) (w : RunLedger) → MayEnter f w k.cabin.cards e U X Z → IsUntouched (found_of f e.which) X → IsUntouched (found_of f e.which) M
   woken-untouched f w m same = untouched-read (found_of f e.which) X M m.began run same
 
-  pub woken-timed : (f : Found) (w : Carried) → MayEnter f w k.cabin.cards e U X Z → TimesOn f e.which X M
+  pub woken-timed : (f : Found) (w : RunLedger) → MayEnter f w k.cabin.cards e U X Z → TimesOn f e.which X M
   woken-timed f w m timed c left = ⊎_elim (λ was. timed c was) (λ never. absurd never.2) (run.since (found_of f e.which).began c m.began left)
 
-  told-before : (f : Found) (w : Carried) (entered : Entered) → IsToldSo f w e entered U M → IsToldSo f w e entered U X
+  told-before : (f : Found) (w : RunLedger) (entered : Entered) → IsToldSo f w e entered U M → IsToldSo f w e entered U X
   told-before f w entered t = record {
     valid = t.valid;
     named = t.named;
@@ -342,7 +342,7 @@ module _ (e : Entering) (k : Keeper) (sizes : Result Application ℕ) (U X M Z :
     answers = record { least = t.answers.least; most = t.answers.most; words = t.answers.words };
   }
 
-  told-woken : (ending : Ending) (f : Found) (w : Carried) → IsToldOf ending f w e U M → IsToldOf ending f w e U X
+  told-woken : (ending : Ending) (f : Found) (w : RunLedger) → IsToldOf ending f w e U M → IsToldOf ending f w e U X
   told-woken (Unfit fid place) f w t = tt
   told-woken (Ahead stored) f w t = tt
   told-woken Fell f w t = tt
@@ -352,6 +352,6 @@ module _ (e : Entering) (k : Keeper) (sizes : Result Application ℕ) (U X M Z :
   told-woken (Lost entered clock entry) f w t = told-before f w entered t
 
   -- and what was known of it behind that is so behind all
-  pub woken-known : (ending : Ending) (failed : Bool) (v : Keeper) (W Y : State) (f : Found) (w : Carried) → MayEnter f w k.cabin.cards e U X Z
+  pub woken-known : (ending : Ending) (failed : Bool) (v : Keeper) (W Y : State) (f : Found) (w : RunLedger) → MayEnter f w k.cabin.cards e U X Z
       → IsEnteredOn ending e failed (record k { cabin = with_sizes_of e.which sizes k.cabin }) v U W M Y Z f (with_standing e.which Out w) → IsEnteredOn ending e failed k v U W X Y Z f (with_standing e.which Out w)
   woken-known ending failed v W Y f w m r = record { taken = r.taken; found = r.found; told = told-woken ending f (with_standing e.which Out w) r.told; timed = λ valid timed. r.timed valid (woken-timed f w m timed); untouched = λ same. r.untouched (woken-untouched f w m same); opens = λ valid. opens-woken ending k.memory.registration e (found_of f e.which) X M Y run (r.opens valid) }

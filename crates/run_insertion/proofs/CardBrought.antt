@@ -19,7 +19,7 @@ use Rattle.card_layout.specs.declared.command.CardState.{CardState}
 use Rattle.run_crew.specs.Cards.{known_of}
 use Rattle.run_crew.specs.Cabin.{with_accepted}
 use Rattle.run_minutes.specs.declared.keeper.Keeper.{Keeper}
-use Rattle.run_minutes.specs.Keeping.{CardReady}
+use Rattle.run_minutes.specs.Keeping.{CardMayBeCalled}
 use Rattle.run_minutes.specs.CardEvents.{LeavesEvents}
 use Rattle.run_insertion.specs.Entering.{Ending, Unfit, Ahead, Fell, Unasked, Unnoted, Seated, Lost, cabin_by, and_one}
 use Rattle.run_insertion.specs.Noted.{HasNoted, IsOnCard, IsComingOnCard, CardNote, PutIn, Shows, AreDone, AreBeingDone, moving_event, moving_on_card, card_notes_by, is_cut}
@@ -175,16 +175,16 @@ pub only-left : {X M : State} → LeavesOnly X M Unchanged → (c : List ℕ) �
 only-left leaves c left = ⊎_elim (λ before. before) (λ one. absurd one.2) (leaves.now c left)
 
 -- a card that was accepted works
-pub sits-works : (e : Entering) (k v : Keeper) (noted : ℕ) (ending : Ending) (chip : CardState) (Y : State) → v ≡ record k { cabin = cabin_by ending e noted k.cabin } → CardReady (known_of v.cabin.cards e.which) chip Y → IsSitting ending → Y.works ≡ true
+pub sits-works : (e : Entering) (k v : Keeper) (noted : ℕ) (ending : Ending) (chip : CardState) (Y : State) → v ≡ record k { cabin = cabin_by ending e noted k.cabin } → CardMayBeCalled (known_of v.cabin.cards e.which) chip Y → IsSitting ending → Y.works ≡ true
 sits-works e k v noted (Unfit fid place) chip Y is ready sitting = absurd sitting
 sits-works e k v noted (Ahead stored) chip Y is ready sitting = absurd sitting
 sits-works e k v noted Fell chip Y is ready sitting = absurd sitting
 sits-works e k v noted Unasked chip Y is ready sitting = absurd sitting
 sits-works e k v noted (Unnoted entered clock) chip Y is ready sitting = absurd sitting
 sits-works e k v noted (Seated entered clock entry) chip Y is ready sitting =
-    at e.which (subst (λ (w : Keeper). CardReady (known_of w.cabin.cards e.which) chip Y) is ready)
+    at e.which (subst (λ (w : Keeper). CardMayBeCalled (known_of w.cabin.cards e.which) chip Y) is ready)
   where
-    at : (card : Card) → CardReady (known_of (with_accepted e.slot card entered.look.number entered.row (record { session = entered.session; entry = entry; noted = and_one noted }) k.cabin).cards card) chip Y → Y.works ≡ true
+    at : (card : Card) → CardMayBeCalled (known_of (with_accepted e.slot card entered.look.number entered.row (record { session = entered.session; entry = entry; noted = and_one noted }) k.cabin).cards card) chip Y → Y.works ≡ true
     at A now = now.works
     at B now = now.works
 sits-works e k v noted (Lost entered clock entry) chip Y is ready sitting = absurd sitting

@@ -26,7 +26,7 @@ use Rattle.device_rule.specs.Marked.{of_card, HasBrought}
 use Rattle.device_rule.proofs.Owing.{owed-new}
 use Rattle.device_rule.specs.Rules.{Standing, Out, In, IsEntered}
 use Rattle.unit_rule.specs.Rule.{Started, IsCards}
-use Rattle.unit_rule.specs.Marks.{Holds}
+use Rattle.unit_rule.specs.Marks.{UnitFollowsBook}
 use Rattle.unit_notes.specs.Journal.{LeavesJournal}
 use Rattle.device_calls.specs.Rule.{Both, opened, number_of, card_seen, CardHolds, IsKeptUp, IsRowTaken}
 use Rattle.run_crew.specs.declared.cards.Accepted.{Accepted}
@@ -36,10 +36,10 @@ use Rattle.device_calls.specs.CardNotes.{IsNote}
 use Rattle.run_crew.specs.Cards.{known_of, session_of, with_session}
 use Rattle.run_crew.specs.Cabin.{with_accepted}
 use Rattle.run_promise.specs.Found.{Found, found_of}
-use Rattle.run_promise.specs.Between.{Carried}
+use Rattle.run_promise.specs.Between.{RunLedger}
 use Rattle.safety_model.specs.Safe.{Devices}
 use Rattle.device_calls.specs.declared.entering.Entered.{Entered}
-use Rattle.run_devices.specs.Told.{AreFoundCards, GoesOwing, IsPowered, IsPowerless, arranged, for_card}
+use Rattle.run_devices.specs.Told.{AreFoundCards, GoesOwing, DevicesPowered, DevicesUnpowered, arranged, for_card}
 use Rattle.run_devices.proofs.Parts.{CardLit, AreParts, parts-of, powered-of, at-card, at-other}
 use Rattle.device_calls.proofs.TimedCalls.{noting-timed}
 use Rattle.run_devices.proofs.OnCards.{own-valid}
@@ -55,7 +55,7 @@ use Rattle.run_insertion.specs.Told.{IsCarriedOn, IsTakenOn, MaySeat, MayNote, B
 
 -- ---- a note on the unit
 
-pub noted-carried : (c : Card) (f : Found) (w : Carried) (cards : Cards) (U V X Z : State) (failed : Bool) → AreFoundCards f cards → IsCoherent U → IsPowered f w cards (arranged c U X Z) → LeavesOnly U V LeavesJournal → HasCause U V failed → IsCarriedOn failed f w cards (arranged c V X Z)
+pub noted-carried : (c : Card) (f : Found) (w : RunLedger) (cards : Cards) (U V X Z : State) (failed : Bool) → AreFoundCards f cards → IsCoherent U → DevicesPowered f w cards (arranged c U X Z) → LeavesOnly U V LeavesJournal → HasCause U V failed → IsCarriedOn failed f w cards (arranged c V X Z)
 noted-carried A f w cards U V X Z false found whole p run cause = noted-powered f w cards U V X Z found whole p run cause.works
 noted-carried A f w cards U V X Z true found whole p run cause = noted-powerless f w cards U V X Z found whole p run
 noted-carried B f w cards U V X Z false found whole p run cause = noted-powered f w cards U V Z X found whole p run cause.works
@@ -113,7 +113,7 @@ spared-number f cards c found valid = by (known_of cards c).number (found.told c
 
 -- ---- nothing is owed to a card that was put in
 
-module _ (f : Found) (w : Carried) (cards : Cards) (c : Card) (U X Z : State) (found : AreFoundCards f cards) (second newest : ℕ) (entered : IsEntered (found_of f c).start (found_of f c).began second newest (of_card X)) (late : w.due ≤ second / 60) (p : IsPowered f w cards (arranged c U X Z)) where
+module _ (f : Found) (w : RunLedger) (cards : Cards) (c : Card) (U X Z : State) (found : AreFoundCards f cards) (second newest : ℕ) (entered : IsEntered (found_of f c).start (found_of f c).began second newest (of_card X)) (late : w.due ≤ second / 60) (p : DevicesPowered f w cards (arranged c U X Z)) where
   put-parts : AreParts f w cards c U X Z
   put-parts = parts-of f w cards c U X Z p
 
@@ -125,7 +125,7 @@ module _ (f : Found) (w : Carried) (cards : Cards) (c : Card) (U X Z : State) (f
       subst (All (λ (e : Entry). k < e.minute)) (sym (ap (λ (s : ℕ). owed_in (row c u) u.last s x.mark) (entered.session x there) ∙ owed-new (row c u) u.last second x.mark (omega (arith, last, late)))) (All-nil (λ (e : Entry). k < e.minute))
 
   -- so an acceptance has brought all
-  pub brought-powered : (kept : ℕ) → IsPowered f (with_brought c kept w) cards (arranged c U X Z)
+  pub brought-powered : (kept : ℕ) → DevicesPowered f (with_brought c kept w) cards (arranged c U X Z)
   brought-powered kept = powered-of f (with_brought c kept w) cards c U X Z found (record {
     unit = record { tells = put-parts.unit.tells; works = put-parts.unit.works; unit = put-parts.unit.unit; none = put-parts.unit.none };
     mine = λ valid.
@@ -139,16 +139,16 @@ module _ (f : Found) (w : Carried) (cards : Cards) (c : Card) (U X Z : State) (f
 
 -- ---- A CARD IS SEATED: its insertion was noted, and its row is begun
 
-module _ (f : Found) (w : Carried) (k : Keeper) (e : Entering) (look : CardLook) (session : Session) (row entry noted : ℕ) (U V W X Z : State) (m : MaySeat f w k e look session U X Z) (whole : IsCoherent U) (middle : IsCoherent V) (run : LeavesOnly U V LeavesJournal) (cause : HasCause U V false)
+module _ (f : Found) (w : RunLedger) (k : Keeper) (e : Entering) (look : CardLook) (session : Session) (row entry noted : ℕ) (U V W X Z : State) (m : MaySeat f w k e look session U X Z) (whole : IsCoherent U) (middle : IsCoherent V) (run : LeavesOnly U V LeavesJournal) (cause : HasCause U V false)
     (spared : Option (List ℕ)) (same : spared ≡ option_map (λ (s : FullCardNumber). card_number_bytes s) (known_of k.cabin.cards (other e.which)).number) (failed : Bool) (began : HasCause V W failed) (tells : is_some W.image ≡ is_some V.image)
-    (holds : (s : Started) (due : ℕ) (b : Book) (marks : List Mark) → IsCards s (card_number_bytes look.number) → Holds s due b marks V → Holds s due b marks W)
-    (mine : (r : Both) (s : Started) (due : ℕ) (b : Book) (marks : List Mark) (newest : ℕ) → card_number_bytes look.number ≡ number_of r e.which → Holds s due b marks V → due ≤ e.at.second / 60 → CardHolds r e.which b Out [] [] V X → IsEntered (opened r e.which).start (opened r e.which).began e.at.second newest (card_seen X)
+    (holds : (s : Started) (due : ℕ) (b : Book) (marks : List Mark) → IsCards s (card_number_bytes look.number) → UnitFollowsBook s due b marks V → UnitFollowsBook s due b marks W)
+    (mine : (r : Both) (s : Started) (due : ℕ) (b : Book) (marks : List Mark) (newest : ℕ) → card_number_bytes look.number ≡ number_of r e.which → UnitFollowsBook s due b marks V → due ≤ e.at.second / 60 → CardHolds r e.which b Out [] [] V X → IsEntered (opened r e.which).start (opened r e.which).began e.at.second newest (card_seen X)
     → IsRowTaken r e.which b e.at.second newest failed W X)
     (others : (r : Both) (s : Started) (due : ℕ) (b : Book) (marks : List Mark) (z : Standing) (n d : List Entry) → card_number_bytes look.number ≡ number_of r e.which → spared ≡ Some (number_of r (other e.which)) → CardHolds r (other e.which) b z n d V Z → IsKeptUp r (other e.which) b z n d failed W Z) where
   abbrev accepted : Accepted
   accepted = record { session = session; entry = entry; noted = and_one noted }
 
-  noted-so : IsPowered f w k.cabin.cards (arranged e.which V X Z)
+  noted-so : DevicesPowered f w k.cabin.cards (arranged e.which V X Z)
   noted-so = noted-carried e.which f w k.cabin.cards U V X Z false m.found whole m.powered run cause
 
   spares : IsOwnValid (found_of f (other e.which)).image → spared ≡ Some (found_of f (other e.which)).number
@@ -180,9 +180,9 @@ number-still A session cards B = refl
 number-still B session cards A = refl
 number-still B session cards B = refl
 
-module _ (f : Found) (w : Carried) (app : Application) (a : Accepted) (e : Entering) (k : Keeper) (U V X Z : State) (m : MayNote f w k.cabin.cards e app a (arranged e.which U X Z)) (whole : IsCoherent U) (run : LeavesOnly U V LeavesJournal) where
+module _ (f : Found) (w : RunLedger) (app : Application) (a : Accepted) (e : Entering) (k : Keeper) (U V X Z : State) (m : MayNote f w k.cabin.cards e app a (arranged e.which U X Z)) (whole : IsCoherent U) (run : LeavesOnly U V LeavesJournal) where
   -- the unit failed
-  pub moved-cut : HasCause U V true → IsPowerless f w (arranged e.which V X Z)
+  pub moved-cut : HasCause U V true → DevicesUnpowered f w (arranged e.which V X Z)
   moved-cut cause = noted-carried e.which f w k.cabin.cards U V X Z true m.found whole m.powered run cause
 
   on-sizes : app ≡ own_sizes (found_of f e.which).image
@@ -192,14 +192,14 @@ module _ (f : Found) (w : Carried) (app : Application) (a : Accepted) (e : Enter
       sym m.sizes ∙ on.goes.sizes
 
   module _ (cause : HasCause U V false) (after : IsCoherent V) (before : IsCoherent X) (Y : State) (behind : IsCoherent Y) (event : CardEvent) (noting : LeavesOnly X Y (IsNotingEvent app event)) where
-    on-card : IsPowered f w k.cabin.cards (arranged e.which V X Z)
+    on-card : DevicesPowered f w k.cabin.cards (arranged e.which V X Z)
     on-card = noted-carried e.which f w k.cabin.cards U V X Z false m.found whole m.powered run cause
 
     is-note : LeavesOnly X Y (IsNote (own_sizes (found_of f e.which).image))
     is-note = weaken noting (λ x c was is. inl (event, subst (λ (p : Application). IsNotingEvent p event x c) on-sizes is))
 
     -- both have it
-    pub moved-kept : X.works ≡ true → HasCause X Y false → image_size_of app ≤ X.size → IsPowered f w k.cabin.cards (arranged e.which V Y Z)
+    pub moved-kept : X.works ≡ true → HasCause X Y false → image_size_of app ≤ X.size → DevicesPowered f w k.cabin.cards (arranged e.which V Y Z)
     moved-kept works well room = noted-on f w k.cabin.cards e.which V X Y Z m.found after before behind a m.value m.has on-card is-note works well.works (subst (λ (p : Application). image_size_of p ≤ X.size) on-sizes room)
 
     -- it was last used as before
@@ -226,7 +226,7 @@ module _ (f : Found) (w : Carried) (app : Application) (a : Accepted) (e : Enter
     moved-torn failed v W torn tearing fault =
         let left : Cards = with_session e.which None k.cabin.cards in
         let found : AreFoundCards f left = found-same f k.cabin.cards left (number-still e.which None k.cabin.cards) m.found in
-        let off : IsPowered f (fallen_carried true e a.session.minute w) left (arranged e.which V Y Z) =
+        let off : DevicesPowered f (fallen_carried true e a.session.minute w) left (arranged e.which V Y Z) =
         noted-off f w k.cabin.cards e.which V X Y Z m.found after before behind a m.value m.has on-card is-note e.at.second (e.at.second / 60) left found (session-none e.which k.cabin.cards) (session-others e.which k.cabin.cards) (λ valid. m.stands) in
         let booked : IsCarriedOn failed f (fallen_carried true e a.session.minute w) left (arranged e.which W Y Z) = noted-carried e.which f (fallen_carried true e a.session.minute w) left V W Y Z failed found after off tearing fault in
         subst (λ (q : Keeper). IsCarriedOn failed f (fallen_carried true e a.session.minute w) q.cabin.cards (arranged e.which W Y Z)) (sym torn) booked
@@ -252,7 +252,7 @@ seat-found look session row e failed k v noted noted_after unit (Some entry) s f
 -- ---- A CARD IS TAKEN IN
 
 -- the unit failed as it was seated
-pub taken-row : (entered : Entered) (clock : ℕ) (e : Entering) (kept : ℕ) (f : Found) (w : Carried) (cards : Cards) (d : Devices) (entry : Option ℕ) → IsPowerless f (with_brought e.which kept w) d → IsTakenOn (taken_as false entered clock entry) true e kept f w cards d
+pub taken-row : (entered : Entered) (clock : ℕ) (e : Entering) (kept : ℕ) (f : Found) (w : RunLedger) (cards : Cards) (d : Devices) (entry : Option ℕ) → DevicesUnpowered f (with_brought e.which kept w) d → IsTakenOn (taken_as false entered clock entry) true e kept f w cards d
 taken-row entered clock e kept f w cards d None p = p
 taken-row entered clock e kept f w cards d (Some entry) p = inl p
 
@@ -260,7 +260,7 @@ stands-at : (c : Card) (t : Standing) (had : Card → Standing) → for_card c t
 stands-at A t had = refl
 stands-at B t had = refl
 
-lost-or-seated : (fell failed : Bool) (entered : Entered) (clock entry : ℕ) (e : Entering) (kept : ℕ) (f : Found) (w : Carried) (cards : Cards) (d : Devices) → IsCarriedOn failed f (fallen_carried fell e entered.session.minute (carried_seated entered.session e kept w)) cards d
+lost-or-seated : (fell failed : Bool) (entered : Entered) (clock entry : ℕ) (e : Entering) (kept : ℕ) (f : Found) (w : RunLedger) (cards : Cards) (d : Devices) → IsCarriedOn failed f (fallen_carried fell e entered.session.minute (carried_seated entered.session e kept w)) cards d
     → IsTakenOn (taken_as fell entered clock (Some entry)) failed e kept f w cards d
 lost-or-seated false false entered clock entry e kept f w cards d p = p
 lost-or-seated false true entered clock entry e kept f w cards d p = inr p

@@ -31,7 +31,7 @@ use Rattle.run_minutes.proofs.Fates.{no-lines}
 use Rattle.run_insertion.specs.declared.lines.Entering.{Entering}
 use Rattle.run_insertion.specs.Entering.{Ending, Unfit, Ahead, Fell, Unasked, Unnoted, Seated, Lost, Unread, Unsized, Judged, ending_of, measured, taken_as, falls_of, cabin_by, outcome_by}
 use Rattle.run_insertion.specs.Noted.{HasNoted, IsOnUnit, IsComing, IsOnCard, IsComingOnCard, PutIn, AreOnCard, fault_of, notes_by, card_notes_by, card_notes_behind, is_cut}
-use Rattle.run_insertion.specs.Entered.{IsEnding, FitsInsertion, IsNew, IsClock, IsPlace, IsTold, IsFound, IsEntry, IsTaken, IsJudgedSo, HasEntered}
+use Rattle.run_insertion.specs.Entered.{IsEnding, FitsInsertion, IsNew, IsClock, IsPlace, AcceptanceIsTold, IsFound, IsEntry, IsTaken, IsJudgedSo, HasEntered}
 use Rattle.run_insertion.proofs.Notes.{not_cut, one-note, notes-read, notes-then, notes-after, notes-as}
 use Rattle.run_insertion.proofs.Accepted.{kept-broken, fell-broken}
 use Rattle.run_insertion.proofs.CardBrought.{IsSitting, only-left, brought-by}
@@ -72,7 +72,7 @@ module _ (app : Application) (e : Entering) (k : Keeper) (noted : ℕ) (o : Outc
             at-card : LeavesOnly X M (λ x c. IsCardInserting app vehicle e.odometer.0 (owed_on app u x) e.at.second x c)
             at-card = at_image (λ (w : List ℕ). LeavesOnly X M (λ x c. IsCardInserting app vehicle e.odometer.0 (owed_on app w x) e.at.second x c)) told enters.moments
 
-    told-so : (x : List ℕ) → X.image ≡ Some x → IsTold app e.at.second U.image entered x
+    told-so : (x : List ℕ) → X.image ≡ Some x → AcceptanceIsTold app e.at.second U.image entered x
     told-so x is = record {
       looked = at_image (λ (l : List ℕ). IsLook app l entered.look) is enters.accepted.looked;
       in_time = (at_image (λ (l : List ℕ). IsValid app l × ((card_view app l).stored ≤ e.at.second)) is enters.accepted.valid).1;

@@ -5,11 +5,11 @@ use Rattle.trace_model.specs.declared.Card.{Card}
 use Rattle.unit_notes.specs.Journal.{LeavesJournal}
 use Rattle.run_crew.specs.declared.cards.Cards.{Cards}
 use Rattle.run_minutes.specs.declared.keeper.Keeper.{Keeper}
-use Rattle.run_minutes.specs.Keeping.{UnitReady, HasItsRow}
+use Rattle.run_minutes.specs.Keeping.{UnitMayBeCalled, HasItsRow}
 use Rattle.run_minutes.proofs.Units.{unit-stays, agrees-noted, has-row, row-noted}
 
-module _ {U V : State} (before : IsCoherent U) (after : IsCoherent V) (run : LeavesOnly U V LeavesJournal) (k : Keeper) (ready : UnitReady k U) where
-  pub noted-ready : V.works ≡ true → UnitReady k V
+module _ {U V : State} (before : IsCoherent U) (after : IsCoherent V) (run : LeavesOnly U V LeavesJournal) (k : Keeper) (ready : UnitMayBeCalled k U) where
+  pub noted-ready : V.works ≡ true → UnitMayBeCalled k V
   noted-ready works = record { is_unit = unit-stays run ready.is_unit; works = works; agrees = agrees-noted before after ready.works run k.journal ready.agrees }
 
   pub noted-row : (cards : Cards) (card : Card) → HasItsRow cards U card → HasItsRow cards V card

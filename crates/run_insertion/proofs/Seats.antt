@@ -22,7 +22,7 @@ use Rattle.card_image.specs.Own.{own_sizes}
 use Rattle.card_validity.specs.declared.looking.CardLook.{CardLook}
 use Rattle.card_session.specs.Sessions.{Session}
 use Rattle.run_minutes.specs.declared.keeper.Keeper.{Keeper}
-use Rattle.run_minutes.specs.Keeping.{HasItsRow, CardReady}
+use Rattle.run_minutes.specs.Keeping.{HasItsRow, CardMayBeCalled}
 use Rattle.run_insertion.specs.declared.lines.Entering.{Entering}
 use Rattle.run_insertion.specs.Entered.{IsSeatedBy}
 
@@ -58,7 +58,7 @@ ready-by known app chip card sizes port told is = subst (λ (a : Application). I
     one : (a b : Application) → as-told a ≡ as-told b → a ≡ b
     one a b same = cc
 
-bare-known : (known : Known) (app : Application) (chip : CardState) (card : State) → known.accepted ≡ None → known.sizes ≡ Ok app → IsPort app None chip card → CardReady known chip card
+bare-known : (known : Known) (app : Application) (chip : CardState) (card : State) → known.accepted ≡ None → known.sizes ≡ Ok app → IsPort app None chip card → CardMayBeCalled known chip card
 bare-known known app chip card none sizes port = record {
   is_known = record {
     sized = subst (λ (o : Option Accepted). IfSome o (λ a. known.sizes ≡ Ok a.session.application)) (sym none) tt;
@@ -68,12 +68,12 @@ bare-known known app chip card none sizes port = record {
   works = subst (λ (o : Option Accepted). IfSome o (λ a. card.works ≡ true)) (sym none) tt;
 }
 
-bare-ready : (which : Card) (cabin : Cabin) (app : Application) (chip : CardState) (card : State) → session_of cabin.cards which ≡ None → (known_of cabin.cards which).sizes ≡ Ok app → IsPort app None chip card → CardReady (known_of cabin.cards which) chip card
+bare-ready : (which : Card) (cabin : Cabin) (app : Application) (chip : CardState) (card : State) → session_of cabin.cards which ≡ None → (known_of cabin.cards which).sizes ≡ Ok app → IsPort app None chip card → CardMayBeCalled (known_of cabin.cards which) chip card
 bare-ready A cabin app chip card none sizes port = bare-known cabin.cards.a app chip card none sizes port
 bare-ready B cabin app chip card none sizes port = bare-known cabin.cards.b app chip card none sizes port
 
 card-seated : (slot : Slot) (which : Card) (number : FullCardNumber) (row : ℕ) (accepted : Accepted) (cabin : Cabin) (app : Application) (chip : CardState) (card : State) → (known_of cabin.cards which).sizes ≡ Ok app → accepted.session.application ≡ app → IsPort app None chip card → card.works ≡ true
-    → CardReady (known_of (with_accepted slot which number row accepted cabin).cards which) chip card
+    → CardMayBeCalled (known_of (with_accepted slot which number row accepted cabin).cards which) chip card
 card-seated slot A number row accepted cabin app chip card sizes session port works = record {
   is_known = record { sized = sizes ∙ ap (λ (a : Application). Ok a) (sym session); numbered = refl };
   port = ready-by (record cabin.cards.a { number = Some number; row = row; accepted = Some accepted }) app chip card sizes port;
@@ -87,9 +87,9 @@ card-seated slot B number row accepted cabin app chip card sizes session port wo
 
 module _ (look : CardLook) (session : Session) (row : ℕ) (e : Entering) (failed : Bool) (k v : Keeper) (noted noted_after : ℕ) (unit : Option (List ℕ)) where
   pub seated-ready : (entry : Option ℕ) (app : Application) (chip : CardState) (card : State) → IsSeatedBy look session row e failed k v noted noted_after unit entry → session_of k.cabin.cards e.which ≡ None → (known_of k.cabin.cards e.which).sizes ≡ Ok app → session.application ≡ app
-      → IsPort app None chip card → card.works ≡ true → CardReady (known_of v.cabin.cards e.which) chip card
-  seated-ready None app chip card s none sizes by port works = subst (λ (q : Keeper). CardReady (known_of q.cabin.cards e.which) chip card) (sym s.1) (bare-ready e.which k.cabin app chip card none sizes port)
-  seated-ready (Some entry) app chip card s none sizes by port works = subst (λ (q : Keeper). CardReady (known_of q.cabin.cards e.which) chip card) (sym s.1) (card-seated e.slot e.which look.number row _ k.cabin app chip card sizes by port works)
+      → IsPort app None chip card → card.works ≡ true → CardMayBeCalled (known_of v.cabin.cards e.which) chip card
+  seated-ready None app chip card s none sizes by port works = subst (λ (q : Keeper). CardMayBeCalled (known_of q.cabin.cards e.which) chip card) (sym s.1) (bare-ready e.which k.cabin app chip card none sizes port)
+  seated-ready (Some entry) app chip card s none sizes by port works = subst (λ (q : Keeper). CardMayBeCalled (known_of q.cabin.cards e.which) chip card) (sym s.1) (card-seated e.slot e.which look.number row _ k.cabin app chip card sizes by port works)
 
   pub seated-minute : (entry : Option ℕ) → IsSeatedBy look session row e failed k v noted noted_after unit entry → v.cabin.slots.minute ≡ k.cabin.slots.minute
   seated-minute None s = ap (λ (q : Keeper). q.cabin.slots.minute) s.1
@@ -99,7 +99,7 @@ module _ (look : CardLook) (session : Session) (row : ℕ) (e : Entering) (faile
 not-told : (field : ℕ) (app : Application) → as-bad field ≡ Ok app → ⊥
 not-told field app is = cc
 
-pub unsized-ready : (which : Card) (cabin : Cabin) (field : ℕ) (chip : CardState) (card : State) → session_of cabin.cards which ≡ None → CardReady (known_of (with_sizes_of which (Err field) cabin).cards which) chip card
+pub unsized-ready : (which : Card) (cabin : Cabin) (field : ℕ) (chip : CardState) (card : State) → session_of cabin.cards which ≡ None → CardMayBeCalled (known_of (with_sizes_of which (Err field) cabin).cards which) chip card
 unsized-ready A cabin field chip card none = record {
   is_known = record {
     sized = subst (λ (o : Option Accepted). IfSome o (λ a. as-bad field ≡ Ok a.session.application)) (sym none) tt;

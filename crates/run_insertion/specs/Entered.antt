@@ -84,7 +84,7 @@ IsEnding (Lost entered clock entry) app registration e failed unit card card_aft
 -- ---- what the image of a card was
 
 -- only a valid card of no later time gets a session: it has told so, the entries are those that the unit owes to it, and so many it lacked
-pub record IsTold (app : Application) (second : ℕ) (unit : Option (List ℕ)) (entered : Entered) (x : List ℕ) : Type 0 where
+pub record AcceptanceIsTold (app : Application) (second : ℕ) (unit : Option (List ℕ)) (entered : Entered) (x : List ℕ) : Type 0 where
   pub looked : IsLook app x entered.look
   pub in_time : (card_view app x).stored ≤ second
   pub owes : IfSome unit (λ u. entered.owed.items ≡ owed_on app u x)
@@ -96,9 +96,9 @@ IsFound app second unit (Unfit fid place) x = first_bad_file app x ≡ Some (fid
 IsFound app second unit (Ahead stored) x = IsValid app x × (stored ≡ (card_view app x).stored) × (second < stored)
 IsFound app second unit Fell x = Unit {0}
 IsFound app second unit Unasked x = Unit {0}
-IsFound app second unit (Unnoted entered clock) x = IsTold app second unit entered x
-IsFound app second unit (Seated entered clock entry) x = IsTold app second unit entered x
-IsFound app second unit (Lost entered clock entry) x = IsTold app second unit entered x
+IsFound app second unit (Unnoted entered clock) x = AcceptanceIsTold app second unit entered x
+IsFound app second unit (Seated entered clock entry) x = AcceptanceIsTold app second unit entered x
+IsFound app second unit (Lost entered clock entry) x = AcceptanceIsTold app second unit entered x
 
 -- ---- parts of it
 

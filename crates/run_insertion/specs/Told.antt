@@ -18,8 +18,8 @@ use Rattle.card_validity.specs.declared.looking.CardLook.{CardLook}
 use Rattle.run_crew.specs.declared.cards.Cards.{Cards}
 use Rattle.run_promise.specs.Found.{CardFound, Found, found_of}
 use Rattle.run_promise.specs.Cards.{IsUntouched, brought_by}
-use Rattle.run_promise.specs.Between.{Carried}
-use Rattle.run_devices.specs.Told.{AreFoundCards, IsPutIn, IsPowered, IsPowerless, HasFoundSo, for_card, arranged, with_standing, with_acceptance, card_marks, with_marks}
+use Rattle.run_promise.specs.Between.{RunLedger}
+use Rattle.run_devices.specs.Told.{AreFoundCards, IsPutIn, DevicesPowered, DevicesUnpowered, HasFoundSo, for_card, arranged, with_standing, with_acceptance, card_marks, with_marks}
 use Rattle.run_minutes.specs.declared.keeper.Keeper.{Keeper}
 use Rattle.run_minutes.specs.CardDeeds.{DoesOn, OpensOn}
 use Rattle.device_calls.specs.declared.entering.Entered.{Entered}
@@ -27,15 +27,15 @@ use Rattle.run_insertion.specs.declared.lines.Entering.{Entering}
 use Rattle.run_insertion.specs.Entering.{Ending, Unfit, Ahead, Fell, Unasked, Unnoted, Seated, Lost, Way, ending_of, most_owed}
 
 -- all that is carried, while the unit works; or behind its failure
-abbrev pub IsCarriedOn : (failed : Bool) → Found → Carried → Cards → Devices → Type 0
-IsCarriedOn false f w cards d = IsPowered f w cards d
-IsCarriedOn true f w cards d = IsPowerless f w d
+abbrev pub IsCarriedOn : (failed : Bool) → Found → RunLedger → Cards → Devices → Type 0
+IsCarriedOn false f w cards d = DevicesPowered f w cards d
+IsCarriedOn true f w cards d = DevicesUnpowered f w d
 
 -- WHAT IS ASKED of a card that is seated: it was valid as it was found at the start, is not accepted yet, and was put in as this session
 -- knows it; and all that is carried stands.
-pub record MaySeat (f : Found) (w : Carried) (k : Keeper) (e : Entering) (look : CardLook) (session : Session) (unit card others : State) : Type 0 where
+pub record MaySeat (f : Found) (w : RunLedger) (k : Keeper) (e : Entering) (look : CardLook) (session : Session) (unit card others : State) : Type 0 where
   pub found : AreFoundCards f k.cabin.cards
-  pub powered : IsPowered f w k.cabin.cards (arranged e.which unit card others)
+  pub powered : DevicesPowered f w k.cabin.cards (arranged e.which unit card others)
   pub valid : IsOwnValid (found_of f e.which).image
   pub out : w.standing e.which ≡ Out
   pub put : IsPutIn (found_of f e.which) e.which w.book e.at.second session card
@@ -43,26 +43,26 @@ pub record MaySeat (f : Found) (w : Carried) (k : Keeper) (e : Entering) (look :
   pub named : card_number_bytes look.number ≡ (found_of f e.which).number
 
 -- by an acceptance nothing is owed to a card any more up to this minute, which the unit had kept last
-abbrev pub with_brought : Card → (kept : ℕ) → Carried → Carried
+abbrev pub with_brought : Card → (kept : ℕ) → RunLedger → RunLedger
 with_brought c kept w = record w { brought = for_card c (kept ∷ w.brought c) w.brought }
 
 -- the card is accepted, when the unit had kept this minute last
-abbrev pub carried_seated : Session → Entering → (kept : ℕ) → Carried → Carried
+abbrev pub carried_seated : Session → Entering → (kept : ℕ) → RunLedger → RunLedger
 carried_seated session e kept w = with_acceptance e.which e.at.second session.minute kept w
 
 -- and was torn out in the same second
-abbrev pub carried_lost : Session → Entering → (kept : ℕ) → Carried → Carried
+abbrev pub carried_lost : Session → Entering → (kept : ℕ) → RunLedger → RunLedger
 carried_lost session e kept w = with_standing e.which (Torn e.at.second session.minute (e.at.second / 60)) (carried_seated session e kept w)
 
 -- what is carried behind the notes that come with an accepted card, which was torn out meanwhile, or was not
-abbrev pub fallen_carried : (fell : Bool) → Entering → (newest : ℕ) → Carried → Carried
+abbrev pub fallen_carried : (fell : Bool) → Entering → (newest : ℕ) → RunLedger → RunLedger
 fallen_carried false e newest w = w
 fallen_carried true e newest w = with_standing e.which (Torn e.at.second newest (e.at.second / 60)) w
 
 -- WHAT IS ASKED of a card that is noted on: it is accepted in this second, with this session, by these sizes
-pub record MayNote (f : Found) (w : Carried) (cards : Cards) (e : Entering) (app : Application) (a : Accepted) (d : Devices) : Type 0 where
+pub record MayNote (f : Found) (w : RunLedger) (cards : Cards) (e : Entering) (app : Application) (a : Accepted) (d : Devices) : Type 0 where
   pub found : AreFoundCards f cards
-  pub powered : IsPowered f w cards d
+  pub powered : DevicesPowered f w cards d
   pub valid : IsOwnValid (found_of f e.which).image
   pub has : session_of cards e.which ≡ Some a
   pub value : IsValue a.session
@@ -72,7 +72,7 @@ pub record MayNote (f : Found) (w : Carried) (cards : Cards) (e : Entering) (app
 -- these notes leave what is carried
 abbrev pub BooksNotes : Application → Entering → (failed : Bool) → (k v : Keeper) → (fell : Bool) → (before after : Devices) → Type 0
 BooksNotes app e failed k v fell before after =
-    (f : Found) (w : Carried) (a : Accepted) → MayNote f w k.cabin.cards e app a before → IsCarriedOn failed f (fallen_carried fell e a.session.minute w) v.cabin.cards after
+    (f : Found) (w : RunLedger) (a : Accepted) → MayNote f w k.cabin.cards e app a before → IsCarriedOn failed f (fallen_carried fell e a.session.minute w) v.cabin.cards after
 
 -- the last use of each image of the card is that of the start still, or a whole minute
 abbrev pub TimesOn : Found → Card → (card card_after : State) → Type 0
@@ -84,40 +84,40 @@ IsNotedBeside f c card card_after = TimesOn f c card card_after × DoesOn (own_s
 
 abbrev pub TimesNotes : Application → Entering → Keeper → (before : Devices) → (card card_after : State) → Type 0
 TimesNotes app e k before card card_after =
-    (f : Found) (w : Carried) (a : Accepted) → MayNote f w k.cabin.cards e app a before → IsNotedBeside f e.which card card_after
+    (f : Found) (w : RunLedger) (a : Accepted) → MayNote f w k.cabin.cards e app a before → IsNotedBeside f e.which card card_after
 
 -- where the unit failed as the row was begun, it is not accepted yet; but nothing is owed to it any more
-abbrev pub carried_row : (failed : Bool) → Session → Entering → (kept : ℕ) → Carried → Carried
+abbrev pub carried_row : (failed : Bool) → Session → Entering → (kept : ℕ) → RunLedger → RunLedger
 carried_row failed session e kept w = if failed then with_brought e.which kept w else carried_seated session e kept w
 
 -- THE CARD IS SEATED: what is carried behind it
 abbrev pub BooksSeat : CardLook → Session → Entering → (failed : Bool) → (k v : Keeper) → (unit unit_after card others : State) → Type 0
 BooksSeat look session e failed k v unit unit_after card others =
-    (f : Found) (w : Carried) → MaySeat f w k e look session unit card others
+    (f : Found) (w : RunLedger) → MaySeat f w k e look session unit card others
     → IsCarriedOn failed f (carried_row failed session e k.journal.kept w) v.cabin.cards (arranged e.which unit_after card others)
 
 -- what is carried behind an ending, by what was carried as it was judged
-abbrev pub IsTakenOn : Ending → (failed : Bool) → Entering → (kept : ℕ) → Found → Carried → Cards → Devices → Type 0
+abbrev pub IsTakenOn : Ending → (failed : Bool) → Entering → (kept : ℕ) → Found → RunLedger → Cards → Devices → Type 0
 IsTakenOn (Unfit fid place) failed e kept f w cards d = IsCarriedOn failed f w cards d
 IsTakenOn (Ahead stored) failed e kept f w cards d = IsCarriedOn failed f w cards d
 IsTakenOn Fell failed e kept f w cards d = IsCarriedOn failed f w cards d
-IsTakenOn Unasked failed e kept f w cards d = IsPowerless f w d
-IsTakenOn (Unnoted entered clock) failed e kept f w cards d = IsPowerless f (with_brought e.which kept w) d
-IsTakenOn (Seated entered clock entry) false e kept f w cards d = IsPowered f (carried_seated entered.session e kept w) cards d
+IsTakenOn Unasked failed e kept f w cards d = DevicesUnpowered f w d
+IsTakenOn (Unnoted entered clock) failed e kept f w cards d = DevicesUnpowered f (with_brought e.which kept w) d
+IsTakenOn (Seated entered clock entry) false e kept f w cards d = DevicesPowered f (carried_seated entered.session e kept w) cards d
 IsTakenOn (Seated entered clock entry) true e kept f w cards d =
-    IsPowerless f (with_brought e.which kept w) d ⊎ IsPowerless f (carried_seated entered.session e kept w) d
+    DevicesUnpowered f (with_brought e.which kept w) d ⊎ DevicesUnpowered f (carried_seated entered.session e kept w) d
 IsTakenOn (Lost entered clock entry) failed e kept f w cards d = IsCarriedOn failed f (carried_lost entered.session e kept w) cards d
 
 -- a card that is found to be accepted
 abbrev pub BooksTaken : Entered → Ending → Entering → (failed : Bool) → (k v : Keeper) → (unit unit_after card card_after others : State) → Type 0
 BooksTaken entered ending e failed k v unit unit_after card card_after others =
-    (f : Found) (w : Carried) → MaySeat f w k e entered.look entered.session unit card others
+    (f : Found) (w : RunLedger) → MaySeat f w k e entered.look entered.session unit card others
     → IsTakenOn ending failed e k.journal.kept f w v.cabin.cards (arranged e.which unit_after card_after others) × AreFoundCards f v.cabin.cards × IsNotedBeside f e.which card card_after
 
 -- ---- a card that is judged
 
 -- what was carried, and the marks of the entries that were owed, of a card that is found to be accepted
-abbrev pub carried_judged : Ending → Entering → Carried → Carried
+abbrev pub carried_judged : Ending → Entering → RunLedger → RunLedger
 carried_judged (Unfit fid place) e w = w
 carried_judged (Ahead stored) e w = w
 carried_judged Fell e w = w
@@ -127,9 +127,9 @@ carried_judged (Seated entered clock entry) e w = with_marks (card_marks e.which
 carried_judged (Lost entered clock entry) e w = with_marks (card_marks e.which clock entered.owed.items) w
 
 -- WHAT IS ASKED of a card that enters: all that is carried stands, and it was valid at the start, or no call has written it
-pub record MayEnter (f : Found) (w : Carried) (cards : Cards) (e : Entering) (unit card others : State) : Type 0 where
+pub record MayEnter (f : Found) (w : RunLedger) (cards : Cards) (e : Entering) (unit card others : State) : Type 0 where
   pub found : AreFoundCards f cards
-  pub powered : IsPowered f w cards (arranged e.which unit card others)
+  pub powered : DevicesPowered f w cards (arranged e.which unit card others)
   pub late : w.due ≤ e.at.second / 60
   pub tells : is_some card.image ≡ true
   pub began : (found_of f e.which).began ≤ card.clock
@@ -144,7 +144,7 @@ pub record Answers (f : CardFound) (c : Card) (b : Book) (x : List ℕ) (minute 
 
 -- what the find of an acceptance tells: so many entries were owed by images that a stop might have left then, and these, which are few, are put
 -- on it; the card was valid at the start, and told the number that it has; and it answered its newest minute
-pub record IsToldSo (f : Found) (w : Carried) (e : Entering) (entered : Entered) (unit card : State) : Type 0 where
+pub record IsToldSo (f : Found) (w : RunLedger) (e : Entering) (entered : Entered) (unit card : State) : Type 0 where
   pub valid : IsOwnValid (found_of f e.which).image
   pub named : card_number_bytes entered.look.number ≡ (found_of f e.which).number
   pub found : HasFoundSo f e.which unit card e.at.second entered.owed.items entered.replayed
@@ -152,7 +152,7 @@ pub record IsToldSo (f : Found) (w : Carried) (e : Entering) (entered : Entered)
   pub most : length entered.owed.items ≤ most_owed
   pub answers : Answers (found_of f e.which) e.which w.book found.card_image entered.session.minute
 
-abbrev pub IsToldOf : Ending → Found → Carried → Entering → (unit card : State) → Type 0
+abbrev pub IsToldOf : Ending → Found → RunLedger → Entering → (unit card : State) → Type 0
 IsToldOf (Unfit fid place) f w e unit card = Unit {0}
 IsToldOf (Ahead stored) f w e unit card = Unit {0}
 IsToldOf Fell f w e unit card = Unit {0}
@@ -192,7 +192,7 @@ OpensSo (Lost entered clock entry) vehicle e f card card_after = Unit {0}
 
 -- WHAT IS KNOWN BEHIND AN ENDING, of what was carried as the card was judged: what is carried, what was found of the cards, what a find tells;
 -- that the card is as it was, or was valid and may have been written; and of a valid one when it was last used, and what was made of it.
-pub record IsEnteredOn (ending : Ending) (e : Entering) (failed : Bool) (k v : Keeper) (unit unit_after card card_after others : State) (f : Found) (w : Carried) : Type 0 where
+pub record IsEnteredOn (ending : Ending) (e : Entering) (failed : Bool) (k v : Keeper) (unit unit_after card card_after others : State) (f : Found) (w : RunLedger) : Type 0 where
   pub taken : IsTakenOn ending failed e k.journal.kept f (carried_judged ending e w) v.cabin.cards (arranged e.which unit_after card_after others)
   pub found : AreFoundCards f v.cabin.cards
   pub told : IsToldOf ending f w e unit card
@@ -204,11 +204,11 @@ pub record IsEnteredOn (ending : Ending) (e : Entering) (failed : Bool) (k v : K
 -- A CARD WAS JUDGED, which stands as one that is not accepted: what is known behind it. No clock is at its last value.
 abbrev pub BooksJudged : Ending → Entering → (failed : Bool) → (k v : Keeper) → (unit unit_after card card_after others : State) → Type 0
 BooksJudged ending e failed k v unit unit_after card card_after others =
-    (f : Found) (w : Carried) → MayEnter f w k.cabin.cards e unit card others → w.standing e.which ≡ Out → card_after.clock < last_count
+    (f : Found) (w : RunLedger) → MayEnter f w k.cabin.cards e unit card others → w.standing e.which ≡ Out → card_after.clock < last_count
     → IsEnteredOn ending e failed k v unit unit_after card card_after others f w
 
 -- A CARD ENTERED, however it stood before
 abbrev pub BooksEntered : Way → Entering → (failed : Bool) → (k v : Keeper) → (unit unit_after card card_after others : State) → Type 0
 BooksEntered way e failed k v unit unit_after card card_after others =
-    (f : Found) (w : Carried) → MayEnter f w k.cabin.cards e unit card others → card_after.clock < last_count
+    (f : Found) (w : RunLedger) → MayEnter f w k.cabin.cards e unit card others → card_after.clock < last_count
     → IsEnteredOn (ending_of way) e failed k v unit unit_after card card_after others f (with_standing e.which Out w)

@@ -7,8 +7,8 @@ ghost use Rattle.card_commands.specs.Ports.{IsPort};
 ghost use Rattle.card_slots.specs.Calls.{seat_in, is_card};
 ghost use Rattle.log_model.specs.Slots.{other_slot};
 ghost use Rattle.run_crew.specs.Cards.{known_of, session_of};
-ghost use Rattle.run_crew.specs.Cabin.{Stands};
-ghost use Rattle.run_minutes.specs.Keeping.{UnitReady, CardReady, HasItsRow};
+ghost use Rattle.run_crew.specs.Cabin.{CabinIsSound};
+ghost use Rattle.run_minutes.specs.Keeping.{UnitMayBeCalled, CardMayBeCalled, HasItsRow};
 ghost use Rattle.run_minutes.specs.Later.{IsLater, IsCalm};
 ghost use Rattle.card_layout.specs.declared.files.TheConstants.{LARGEST_IMAGE};
 ghost use Rattle.card_image.specs.Own.{own_sizes};
@@ -40,13 +40,13 @@ fn refuse<M: Medium>(
     unit: &mut M,
     outcome: &mut Outcome,
 ) -> Result<(), Failed>
-    requires ready { UnitReady keeper.now (M.state unit.old) }
+    requires ready { UnitMayBeCalled keeper.now (M.state unit.old) }
     requires second { entering.at.second ≢ 0 }
     requires room { length outcome.old.finds.items < outcome.old.finds.room }
     ensures told { outcome.new ≡ outcome_by (Unfit fid place) entering outcome.old }
     ensures journal { LeavesOnly (M.state unit.old) (M.state unit.new) LeavesJournal }
     ensures notes { HasNoted IsOnUnit IsComing (notes_by (Unfit fid place) entering 0 keeper.now.cabin) (is_err result) (M.state unit.old) (M.state unit.new) }
-    ensures ready { OnOk result (UnitReady keeper.now (M.state unit.new)) }
+    ensures ready { OnOk result (UnitMayBeCalled keeper.now (M.state unit.new)) }
     ensures rows { (card : Card) → HasItsRow keeper.now.cabin.cards (M.state unit.old) card → OnOk result (HasItsRow keeper.now.cabin.cards (M.state unit.new) card) }
     ensures cause { HasCause (M.state unit.old) (M.state unit.new) (is_err result) }
 {
@@ -66,14 +66,14 @@ fn defer<M: Medium>(
     unit: &mut M,
     outcome: &mut Outcome,
 ) -> Result<(), Failed>
-    requires ready { UnitReady keeper.now (M.state unit.old) }
+    requires ready { UnitMayBeCalled keeper.now (M.state unit.old) }
     requires second { entering.at.second ≢ 0 }
     requires room { length outcome.old.finds.items < outcome.old.finds.room }
     ensures told { outcome.new ≡ outcome_by (Ahead stored) entering outcome.old }
     ensures low { stored < 2 ^ 32 }
     ensures journal { LeavesOnly (M.state unit.old) (M.state unit.new) LeavesJournal }
     ensures notes { HasNoted IsOnUnit IsComing (notes_by (Ahead stored) entering 0 keeper.now.cabin) (is_err result) (M.state unit.old) (M.state unit.new) }
-    ensures ready { OnOk result (UnitReady keeper.now (M.state unit.new)) }
+    ensures ready { OnOk result (UnitMayBeCalled keeper.now (M.state unit.new)) }
     ensures rows { (card : Card) → HasItsRow keeper.now.cabin.cards (M.state unit.old) card → OnOk result (HasItsRow keeper.now.cabin.cards (M.state unit.new) card) }
     ensures cause { HasCause (M.state unit.old) (M.state unit.new) (is_err result) }
 {
@@ -97,7 +97,7 @@ fn accept_by<M: Medium, C: Chip, D: Chip>(
     others: &D,
     outcome: &mut Outcome,
 ) -> Result<(), Failed>
-    requires ready { UnitReady keeper.old (M.state unit.old) }
+    requires ready { UnitMayBeCalled keeper.old (M.state unit.old) }
     requires seat { seat_in keeper.old.cabin.slots.seats entering.slot ≡ Some (record { card = entering.which; newest = None }) }
     requires elsewhere { is_card (seat_in keeper.old.cabin.slots.seats (other_slot entering.slot)) entering.which ≡ false }
     requires minute { keeper.old.cabin.slots.minute ≤ entering.at.second / 60 }
@@ -116,12 +116,12 @@ fn accept_by<M: Medium, C: Chip, D: Chip>(
     ensures marks { (outcome.new.marks.room ≡ outcome.old.marks.room) × (length outcome.new.marks.items ≤ length outcome.old.marks.items + most_owed) }
     ensures ended { (ending : Ending) × IsJudgedSo app entering (is_err result) keeper.old keeper.new noted.old noted.new outcome.old outcome.new (M.state unit.old) (M.state unit.new) (C.state card.old) (C.state card.new) ending
         × BooksJudged ending entering (is_err result) keeper.old keeper.new (M.state unit.old) (M.state unit.new) (C.state card.old) (C.state card.new) (D.state others.now) }
-    ensures ready { OnOk result (UnitReady keeper.new (M.state unit.new)) }
+    ensures ready { OnOk result (UnitMayBeCalled keeper.new (M.state unit.new)) }
     ensures rows { (card : Card) → HasItsRow keeper.old.cabin.cards (M.state unit.old) card → OnOk result (HasItsRow keeper.new.cabin.cards (M.state unit.new) card) }
     ensures row { IfSome (session_of keeper.new.cabin.cards entering.which) (λ a. OnOk result (HasItsRow keeper.new.cabin.cards (M.state unit.new) entering.which)) }
-    ensures stands { (from : ℕ) → keeper.old.cabin.slots.minute ≤ from → Stands from None keeper.old.cabin → Stands from None keeper.new.cabin }
+    ensures stands { (from : ℕ) → keeper.old.cabin.slots.minute ≤ from → CabinIsSound from None keeper.old.cabin → CabinIsSound from None keeper.new.cabin }
     ensures cause { HasCause (M.state unit.old) (M.state unit.new) (is_err result) }
-    ensures card { CardReady (known_of keeper.new.cabin.cards entering.which) (C.card card.new) (C.state card.new) }
+    ensures card { CardMayBeCalled (known_of keeper.new.cabin.cards entering.which) (C.card card.new) (C.state card.new) }
     ensures size { (C.state card.new).size ≡ (C.state card.old).size }
     ensures clock { (M.state unit.old).clock ≤ (M.state unit.new).clock }
     ensures clock_card { (C.state card.old).clock ≤ (C.state card.new).clock }
@@ -180,7 +180,7 @@ pub fn accept<M: Medium, C: Chip, D: Chip>(
     others: &D,
     outcome: &mut Outcome,
 ) -> Result<(), Failed>
-    requires ready { UnitReady keeper.old (M.state unit.old) }
+    requires ready { UnitMayBeCalled keeper.old (M.state unit.old) }
     requires seat { seat_in keeper.old.cabin.slots.seats entering.slot ≡ Some (record { card = entering.which; newest = None }) }
     requires elsewhere { is_card (seat_in keeper.old.cabin.slots.seats (other_slot entering.slot)) entering.which ≡ false }
     requires minute { keeper.old.cabin.slots.minute ≤ entering.at.second / 60 }
@@ -195,12 +195,12 @@ pub fn accept<M: Medium, C: Chip, D: Chip>(
     ensures marks { (outcome.new.marks.room ≡ outcome.old.marks.room) × (length outcome.new.marks.items ≤ length outcome.old.marks.items + most_owed) }
     ensures entered { (way : Way) × HasEntered entering (is_err result) keeper.old keeper.new noted.old noted.new outcome.old outcome.new (M.state unit.old) (M.state unit.new) (C.state card.old) (C.state card.new) way
         × BooksEntered way entering (is_err result) keeper.old keeper.new (M.state unit.old) (M.state unit.new) (C.state card.old) (C.state card.new) (D.state others.now) }
-    ensures ready { OnOk result (UnitReady keeper.new (M.state unit.new)) }
+    ensures ready { OnOk result (UnitMayBeCalled keeper.new (M.state unit.new)) }
     ensures rows { (card : Card) → HasItsRow keeper.old.cabin.cards (M.state unit.old) card → OnOk result (HasItsRow keeper.new.cabin.cards (M.state unit.new) card) }
     ensures row { IfSome (session_of keeper.new.cabin.cards entering.which) (λ a. OnOk result (HasItsRow keeper.new.cabin.cards (M.state unit.new) entering.which)) }
-    ensures stands { (from : ℕ) → keeper.old.cabin.slots.minute ≤ from → Stands from None keeper.old.cabin → Stands from None keeper.new.cabin }
+    ensures stands { (from : ℕ) → keeper.old.cabin.slots.minute ≤ from → CabinIsSound from None keeper.old.cabin → CabinIsSound from None keeper.new.cabin }
     ensures cause { HasCause (M.state unit.old) (M.state unit.new) (is_err result) }
-    ensures card { CardReady (known_of keeper.new.cabin.cards entering.which) (C.card card.new) (C.state card.new) }
+    ensures card { CardMayBeCalled (known_of keeper.new.cabin.cards entering.which) (C.card card.new) (C.state card.new) }
     ensures size { (C.state card.new).size ≡ (C.state card.old).size }
     ensures clock { (M.state unit.old).clock ≤ (M.state unit.new).clock }
     ensures clock_card { (C.state card.old).clock ≤ (C.state card.new).clock }

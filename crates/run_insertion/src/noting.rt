@@ -8,7 +8,7 @@ ghost use Rattle.unit_notes.specs.Journal.{LeavesJournal};
 ghost use Rattle.unit_notes.specs.Noting.{IsNotingEvent, IsEventNoted};
 ghost use Rattle.run_events.specs.Entries.{entry_of};
 ghost use Rattle.run_crew.specs.Cabin.{crew_of};
-ghost use Rattle.run_minutes.specs.Keeping.{UnitReady, HasItsRow};
+ghost use Rattle.run_minutes.specs.Keeping.{UnitMayBeCalled, HasItsRow};
 
 use run_crew::Crew;
 use run_events::{card_driving, card_not_valid, card_overlap, card_unclosed};
@@ -22,12 +22,12 @@ pub(crate) fn note_not_valid<M: Medium>(
     second: u32,
     unit: &mut M,
 ) -> Result<(), Failed>
-    requires ready { UnitReady keeper.now (M.state unit.old) }
+    requires ready { UnitMayBeCalled keeper.now (M.state unit.old) }
     requires begin { second ≢ 0 }
     ensures noted { OnOk result (IfSome (M.state unit.old).image (λ x. IfSome (M.state unit.new).image (IsEventNoted CARD_NOT_VALID (fault_bytes (entry_of CARD_NOT_VALID second second (crew_of keeper.now.cabin) (crew_of keeper.now.cabin))) x))) }
     ensures moments { LeavesOnly (M.state unit.old) (M.state unit.new) (IsNotingEvent CARD_NOT_VALID (fault_bytes (entry_of CARD_NOT_VALID second second (crew_of keeper.now.cabin) (crew_of keeper.now.cabin)))) }
     ensures journal { LeavesOnly (M.state unit.old) (M.state unit.new) LeavesJournal }
-    ensures ready { OnOk result (UnitReady keeper.now (M.state unit.new)) }
+    ensures ready { OnOk result (UnitMayBeCalled keeper.now (M.state unit.new)) }
     ensures rows { (card : Card) → HasItsRow keeper.now.cabin.cards (M.state unit.old) card → OnOk result (HasItsRow keeper.now.cabin.cards (M.state unit.new) card) }
     ensures cause { HasCause (M.state unit.old) (M.state unit.new) (is_err result) }
 {
@@ -44,12 +44,12 @@ pub(crate) fn note_overlap<M: Medium>(
     stored: u32,
     unit: &mut M,
 ) -> Result<(), Failed>
-    requires ready { UnitReady keeper.now (M.state unit.old) }
+    requires ready { UnitMayBeCalled keeper.now (M.state unit.old) }
     requires begin { second ≢ 0 }
     ensures noted { OnOk result (IfSome (M.state unit.old).image (λ x. IfSome (M.state unit.new).image (IsEventNoted TIME_OVERLAP (fault_bytes (entry_of TIME_OVERLAP second stored (crew_of keeper.now.cabin) (crew_of keeper.now.cabin))) x))) }
     ensures moments { LeavesOnly (M.state unit.old) (M.state unit.new) (IsNotingEvent TIME_OVERLAP (fault_bytes (entry_of TIME_OVERLAP second stored (crew_of keeper.now.cabin) (crew_of keeper.now.cabin)))) }
     ensures journal { LeavesOnly (M.state unit.old) (M.state unit.new) LeavesJournal }
-    ensures ready { OnOk result (UnitReady keeper.now (M.state unit.new)) }
+    ensures ready { OnOk result (UnitMayBeCalled keeper.now (M.state unit.new)) }
     ensures rows { (card : Card) → HasItsRow keeper.now.cabin.cards (M.state unit.old) card → OnOk result (HasItsRow keeper.now.cabin.cards (M.state unit.new) card) }
     ensures cause { HasCause (M.state unit.old) (M.state unit.new) (is_err result) }
 {
@@ -65,12 +65,12 @@ pub(crate) fn note_driving<M: Medium>(
     second: u32,
     unit: &mut M,
 ) -> Result<(), Failed>
-    requires ready { UnitReady keeper.now (M.state unit.old) }
+    requires ready { UnitMayBeCalled keeper.now (M.state unit.old) }
     requires begin { second ≢ 0 }
     ensures noted { OnOk result (IfSome (M.state unit.old).image (λ x. IfSome (M.state unit.new).image (IsEventNoted INSERTION_WHILE_DRIVING (fault_bytes (entry_of INSERTION_WHILE_DRIVING second second (crew_of keeper.now.cabin) (crew_of keeper.now.cabin))) x))) }
     ensures moments { LeavesOnly (M.state unit.old) (M.state unit.new) (IsNotingEvent INSERTION_WHILE_DRIVING (fault_bytes (entry_of INSERTION_WHILE_DRIVING second second (crew_of keeper.now.cabin) (crew_of keeper.now.cabin)))) }
     ensures journal { LeavesOnly (M.state unit.old) (M.state unit.new) LeavesJournal }
-    ensures ready { OnOk result (UnitReady keeper.now (M.state unit.new)) }
+    ensures ready { OnOk result (UnitMayBeCalled keeper.now (M.state unit.new)) }
     ensures rows { (card : Card) → HasItsRow keeper.now.cabin.cards (M.state unit.old) card → OnOk result (HasItsRow keeper.now.cabin.cards (M.state unit.new) card) }
     ensures cause { HasCause (M.state unit.old) (M.state unit.new) (is_err result) }
 {
@@ -86,12 +86,12 @@ pub(crate) fn note_unclosed<M: Medium>(
     session: u32,
     unit: &mut M,
 ) -> Result<(), Failed>
-    requires ready { UnitReady keeper.now (M.state unit.old) }
+    requires ready { UnitMayBeCalled keeper.now (M.state unit.old) }
     requires begin { session ≢ 0 }
     ensures noted { OnOk result (IfSome (M.state unit.old).image (λ x. IfSome (M.state unit.new).image (IsEventNoted SESSION_NOT_CLOSED (fault_bytes (entry_of SESSION_NOT_CLOSED session second crew crew)) x))) }
     ensures moments { LeavesOnly (M.state unit.old) (M.state unit.new) (IsNotingEvent SESSION_NOT_CLOSED (fault_bytes (entry_of SESSION_NOT_CLOSED session second crew crew))) }
     ensures journal { LeavesOnly (M.state unit.old) (M.state unit.new) LeavesJournal }
-    ensures ready { OnOk result (UnitReady keeper.now (M.state unit.new)) }
+    ensures ready { OnOk result (UnitMayBeCalled keeper.now (M.state unit.new)) }
     ensures rows { (card : Card) → HasItsRow keeper.now.cabin.cards (M.state unit.old) card → OnOk result (HasItsRow keeper.now.cabin.cards (M.state unit.new) card) }
     ensures cause { HasCause (M.state unit.old) (M.state unit.new) (is_err result) }
 {

@@ -9,8 +9,8 @@ ghost use Rattle.card_commands.specs.Ports.{IsPort};
 ghost use Rattle.card_slots.specs.Calls.{seat_in, is_card};
 ghost use Rattle.log_model.specs.Slots.{other_slot};
 ghost use Rattle.run_crew.specs.Cards.{known_of, session_of};
-ghost use Rattle.run_crew.specs.Cabin.{Stands};
-ghost use Rattle.run_minutes.specs.Keeping.{UnitReady, CardReady, HasItsRow};
+ghost use Rattle.run_crew.specs.Cabin.{CabinIsSound};
+ghost use Rattle.run_minutes.specs.Keeping.{UnitMayBeCalled, CardMayBeCalled, HasItsRow};
 ghost use Rattle.run_minutes.specs.Later.{IsLater, IsCalm};
 ghost use Rattle.run_insertion.specs.Entering.{taken_as, most_owed};
 ghost use Rattle.card_session.specs.Sessions.{IsValue};
@@ -44,7 +44,7 @@ fn seat<M: Medium, C: Chip, D: Chip>(
     card: &C,
     others: &D,
 ) -> Result<(), Failed>
-    requires ready { UnitReady keeper.old (M.state unit.old) }
+    requires ready { UnitMayBeCalled keeper.old (M.state unit.old) }
     requires seat { seat_in keeper.old.cabin.slots.seats entering.slot ≡ Some (record { card = entering.which; newest = None }) }
     requires elsewhere { is_card (seat_in keeper.old.cabin.slots.seats (other_slot entering.slot)) entering.which ≡ false }
     requires sizes { (known_of keeper.old.cabin.cards entering.which).sizes ≡ Ok session.application }
@@ -55,10 +55,10 @@ fn seat<M: Medium, C: Chip, D: Chip>(
     ensures seated { (entry : Option ℕ) × IsSeated look.now session row entering (is_err result) keeper.old keeper.new noted.old noted.new (M.state unit.old) (M.state unit.new) entry }
     ensures value { IsValue session }
     ensures booked { BooksSeat look.now session entering (is_err result) keeper.old keeper.new (M.state unit.old) (M.state unit.new) (C.state card.now) (D.state others.now) }
-    ensures ready { OnOk result (UnitReady keeper.new (M.state unit.new)) }
+    ensures ready { OnOk result (UnitMayBeCalled keeper.new (M.state unit.new)) }
     ensures rows { (card : Card) → HasItsRow keeper.old.cabin.cards (M.state unit.old) card → OnOk result (HasItsRow keeper.new.cabin.cards (M.state unit.new) card) }
     ensures row { OnOk result (HasItsRow keeper.new.cabin.cards (M.state unit.new) entering.which) }
-    ensures stands { (from : ℕ) → keeper.old.cabin.slots.minute ≤ from → Stands from None keeper.old.cabin → Stands from None keeper.new.cabin }
+    ensures stands { (from : ℕ) → keeper.old.cabin.slots.minute ≤ from → CabinIsSound from None keeper.old.cabin → CabinIsSound from None keeper.new.cabin }
     ensures cause { HasCause (M.state unit.old) (M.state unit.new) (is_err result) }
 {
     let begin_second = entering.at.second;
@@ -98,21 +98,21 @@ fn note_moving<M: Medium, C: Chip, D: Chip>(
     others: &D,
     breaks: &mut Lines<Break>,
 ) -> Result<(), Failed>
-    requires ready { UnitReady keeper.old (M.state unit.old) }
+    requires ready { UnitMayBeCalled keeper.old (M.state unit.old) }
     requires minute { keeper.old.cabin.slots.minute ≤ entering.at.second / 60 }
     requires second { entering.at.second ≢ 0 }
-    requires card { CardReady (known_of keeper.old.cabin.cards entering.which) (C.card card.old) (C.state card.old) }
+    requires card { CardMayBeCalled (known_of keeper.old.cabin.cards entering.which) (C.card card.old) (C.state card.old) }
     requires works { (C.state card.old).works ≡ true }
     requires sizes { (known_of keeper.old.cabin.cards entering.which).sizes ≡ Ok app }
     requires room { length breaks.old.items < breaks.old.room }
     ensures noted { (fell : Bool) × IsMoved app entering (is_err result) keeper.old keeper.new breaks.old breaks.new (M.state unit.old) (M.state unit.new) (C.state card.old) (C.state card.new) fell
         × BooksNotes app entering (is_err result) keeper.old keeper.new fell (arranged entering.which (M.state unit.old) (C.state card.old) (D.state others.now)) (arranged entering.which (M.state unit.new) (C.state card.new) (D.state others.now)) }
     ensures timed { TimesNotes app entering keeper.old (arranged entering.which (M.state unit.old) (C.state card.old) (D.state others.now)) (C.state card.old) (C.state card.new) }
-    ensures ready { OnOk result (UnitReady keeper.new (M.state unit.new)) }
+    ensures ready { OnOk result (UnitMayBeCalled keeper.new (M.state unit.new)) }
     ensures rows { (card : Card) → HasItsRow keeper.old.cabin.cards (M.state unit.old) card → OnOk result (HasItsRow keeper.new.cabin.cards (M.state unit.new) card) }
-    ensures stands { (from : ℕ) → keeper.old.cabin.slots.minute ≤ from → Stands from None keeper.old.cabin → Stands from None keeper.new.cabin }
+    ensures stands { (from : ℕ) → keeper.old.cabin.slots.minute ≤ from → CabinIsSound from None keeper.old.cabin → CabinIsSound from None keeper.new.cabin }
     ensures cause { HasCause (M.state unit.old) (M.state unit.new) (is_err result) }
-    ensures card { CardReady (known_of keeper.new.cabin.cards entering.which) (C.card card.new) (C.state card.new) }
+    ensures card { CardMayBeCalled (known_of keeper.new.cabin.cards entering.which) (C.card card.new) (C.state card.new) }
     ensures size { (C.state card.new).size ≡ (C.state card.old).size }
     ensures more { (C.state card.old).breakdowns ≤ (C.state card.new).breakdowns }
     ensures later { IsLater (C.state card.old) (C.state card.new) }
@@ -141,21 +141,21 @@ fn note_entered<M: Medium, C: Chip, D: Chip>(
     others: &D,
     breaks: &mut Lines<Break>,
 ) -> Result<(), Failed>
-    requires ready { UnitReady keeper.old (M.state unit.old) }
+    requires ready { UnitMayBeCalled keeper.old (M.state unit.old) }
     requires minute { keeper.old.cabin.slots.minute ≤ entering.at.second / 60 }
     requires second { entering.at.second ≢ 0 }
-    requires card { CardReady (known_of keeper.old.cabin.cards entering.which) (C.card card.old) (C.state card.old) }
+    requires card { CardMayBeCalled (known_of keeper.old.cabin.cards entering.which) (C.card card.old) (C.state card.old) }
     requires works { (C.state card.old).works ≡ true }
     requires sizes { (known_of keeper.old.cabin.cards entering.which).sizes ≡ Ok app }
     requires room { length breaks.old.items < breaks.old.room }
     ensures noted { (fell : Bool) × IsNotedOn app session entering (is_err result) keeper.old keeper.new breaks.old breaks.new (M.state unit.old) (M.state unit.new) (C.state card.old) (C.state card.new) fell
         × BooksNotes app entering (is_err result) keeper.old keeper.new fell (arranged entering.which (M.state unit.old) (C.state card.old) (D.state others.now)) (arranged entering.which (M.state unit.new) (C.state card.new) (D.state others.now)) }
     ensures timed { TimesNotes app entering keeper.old (arranged entering.which (M.state unit.old) (C.state card.old) (D.state others.now)) (C.state card.old) (C.state card.new) }
-    ensures ready { OnOk result (UnitReady keeper.new (M.state unit.new)) }
+    ensures ready { OnOk result (UnitMayBeCalled keeper.new (M.state unit.new)) }
     ensures rows { (card : Card) → HasItsRow keeper.old.cabin.cards (M.state unit.old) card → OnOk result (HasItsRow keeper.new.cabin.cards (M.state unit.new) card) }
-    ensures stands { (from : ℕ) → keeper.old.cabin.slots.minute ≤ from → Stands from None keeper.old.cabin → Stands from None keeper.new.cabin }
+    ensures stands { (from : ℕ) → keeper.old.cabin.slots.minute ≤ from → CabinIsSound from None keeper.old.cabin → CabinIsSound from None keeper.new.cabin }
     ensures cause { HasCause (M.state unit.old) (M.state unit.new) (is_err result) }
-    ensures card { CardReady (known_of keeper.new.cabin.cards entering.which) (C.card card.new) (C.state card.new) }
+    ensures card { CardMayBeCalled (known_of keeper.new.cabin.cards entering.which) (C.card card.new) (C.state card.new) }
     ensures size { (C.state card.new).size ≡ (C.state card.old).size }
     ensures more { (C.state card.old).breakdowns ≤ (C.state card.new).breakdowns }
     ensures later { IsLater (C.state card.old) (C.state card.new) }
@@ -190,7 +190,7 @@ pub(crate) fn take_in<M: Medium, C: Chip, D: Chip>(
     others: &D,
     outcome: &mut Outcome,
 ) -> Result<(), Failed>
-    requires ready { UnitReady keeper.old (M.state unit.old) }
+    requires ready { UnitMayBeCalled keeper.old (M.state unit.old) }
     requires seat { seat_in keeper.old.cabin.slots.seats entering.slot ≡ Some (record { card = entering.which; newest = None }) }
     requires elsewhere { is_card (seat_in keeper.old.cabin.slots.seats (other_slot entering.slot)) entering.which ≡ false }
     requires minute { keeper.old.cabin.slots.minute ≤ entering.at.second / 60 }
@@ -209,12 +209,12 @@ pub(crate) fn take_in<M: Medium, C: Chip, D: Chip>(
     ensures ended { (fell : Bool) × (entry : Option ℕ) × IsEntry entry (is_err result) (M.state unit.old).image
         × IsTaken app entering (is_err result) keeper.old keeper.new noted.old noted.new outcome.old outcome.new (M.state unit.old) (M.state unit.new) (C.state card.old) (C.state card.new) (taken_as fell entered (C.state card.old).clock entry)
         × BooksTaken entered (taken_as fell entered (C.state card.old).clock entry) entering (is_err result) keeper.old keeper.new (M.state unit.old) (M.state unit.new) (C.state card.old) (C.state card.new) (D.state others.now) }
-    ensures ready { OnOk result (UnitReady keeper.new (M.state unit.new)) }
+    ensures ready { OnOk result (UnitMayBeCalled keeper.new (M.state unit.new)) }
     ensures rows { (card : Card) → HasItsRow keeper.old.cabin.cards (M.state unit.old) card → OnOk result (HasItsRow keeper.new.cabin.cards (M.state unit.new) card) }
     ensures row { IfSome (session_of keeper.new.cabin.cards entering.which) (λ a. OnOk result (HasItsRow keeper.new.cabin.cards (M.state unit.new) entering.which)) }
-    ensures stands { (from : ℕ) → keeper.old.cabin.slots.minute ≤ from → Stands from None keeper.old.cabin → Stands from None keeper.new.cabin }
+    ensures stands { (from : ℕ) → keeper.old.cabin.slots.minute ≤ from → CabinIsSound from None keeper.old.cabin → CabinIsSound from None keeper.new.cabin }
     ensures cause { HasCause (M.state unit.old) (M.state unit.new) (is_err result) }
-    ensures card { CardReady (known_of keeper.new.cabin.cards entering.which) (C.card card.new) (C.state card.new) }
+    ensures card { CardMayBeCalled (known_of keeper.new.cabin.cards entering.which) (C.card card.new) (C.state card.new) }
     ensures size { (C.state card.new).size ≡ (C.state card.old).size }
     ensures more { (C.state card.old).breakdowns ≤ (C.state card.new).breakdowns }
     ensures most { length entered.owed.items ≤ most_owed }

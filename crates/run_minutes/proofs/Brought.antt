@@ -14,7 +14,7 @@ use Rattle.device_rule.specs.Rules.{CardDark, CardRule}
 use Rattle.device_rule.specs.Marked.{of_card, HasBrought}
 use Rattle.safety_model.specs.Safe.{Devices, card_of}
 use Rattle.unit_rule.specs.Rule.{once_mended}
-use Rattle.unit_rule.specs.Marks.{Holds}
+use Rattle.unit_rule.specs.Marks.{UnitFollowsBook}
 use Rattle.unit_rule.proofs.Marking.{holds-beside, holds-dark}
 use Rattle.device_calls.proofs.Noted.{noted-holds, noted-rests}
 use Rattle.run_crew.specs.declared.cards.Accepted.{Accepted}
@@ -23,9 +23,9 @@ use Rattle.run_crew.specs.declared.cabin.Cabin.{Cabin}
 use Rattle.run_crew.specs.Cards.{known_of, session_of, with_session}
 use Rattle.run_promise.specs.Found.{Found, found_of, unit_seen, AnyKept}
 use Rattle.run_promise.specs.Cards.{CardMarksHold}
-use Rattle.run_promise.specs.Between.{Carried, devices}
-use Rattle.run_devices.specs.Strung.{IsHeld}
-use Rattle.run_devices.specs.Told.{AreFoundCards, GoesOwing, AllGo, IsLitOwing, IsPowerless, arranged, owes_nothing}
+use Rattle.run_promise.specs.Between.{RunLedger, devices}
+use Rattle.run_devices.specs.Strung.{CardHoldsString}
+use Rattle.run_devices.specs.Told.{AreFoundCards, GoesOwing, AllGo, IsLitOwing, DevicesUnpowered, arranged, owes_nothing}
 use Rattle.run_devices.proofs.Parts.{both_of, as-rests, of-rests, brought-on, CardOff, powerless-of}
 use Rattle.run_devices.proofs.Noted.{noted-with, go-unit}
 use Rattle.run_minutes.specs.Keeping.{Fate, Still, Has, Fell, cabin_by, marks_by}
@@ -39,7 +39,7 @@ use Rattle.run_minutes.proofs.CardBooked.{session-set}
 
 -- ---- the card's part
 
-of-card : (f : Found) (w : Carried) (owes : Card → List Entry) (cards : Cards) (d : Devices) (c : Card) → IsLitOwing f w owes d → AllGo f w owes cards d → IsOwnValid (found_of f c).image
+of-card : (f : Found) (w : RunLedger) (owes : Card → List Entry) (cards : Cards) (d : Devices) (c : Card) → IsLitOwing f w owes d → AllGo f w owes cards d → IsOwnValid (found_of f c).image
     → CardOwing f c w.book (w.standing c) (w.brought c) w.marks (owes c) (session_of cards c) d.unit (card_of d c)
 of-card f w owes cards d c lit go valid = record {
   rule = lit.rules c valid;
@@ -50,7 +50,7 @@ of-card f w owes cards d c lit go valid = record {
   hold = lit.marks c;
 }
 
-brought-lit : (f : Found) (w : Carried) (owes : Card → List Entry) (cards : Cards) (c : Card) (fate : Fate) (m : ℕ) (session : Option Accepted) (U X Y Z : State) → IsLitOwing f w owes (arranged c U X Z)
+brought-lit : (f : Found) (w : RunLedger) (owes : Card → List Entry) (cards : Cards) (c : Card) (fate : Fate) (m : ℕ) (session : Option Accepted) (U X Y Z : State) → IsLitOwing f w owes (arranged c U X Z)
     → CardOwing f c w.book (standing_by fate m (w.standing c)) (w.brought c) (w.marks ++ marks_by fate (Some c) m) [] session U Y → IsLitOwing f (carried_brought fate (Some c) m w) (but_to (Some c) owes) (arranged c U Y Z)
 brought-lit f w owes cards A fate m session U X Y Z lit one = record {
   tells = lit.tells;
@@ -107,12 +107,12 @@ brought-lit f w owes cards B fate m session U X Y Z lit one = record {
     marks A = others-hold f.card_a w.book w.marks fate B m Z (lit.marks A)
     marks B = one.hold
 
-brought-go : (f : Found) (w : Carried) (owes : Card → List Entry) (cards : Cards) (c : Card) (fate : Fate) (m : ℕ) (session : Option Accepted) (U X Y Z : State) → AllGo f w owes cards (arranged c U X Z)
+brought-go : (f : Found) (w : RunLedger) (owes : Card → List Entry) (cards : Cards) (c : Card) (fate : Fate) (m : ℕ) (session : Option Accepted) (U X Y Z : State) → AllGo f w owes cards (arranged c U X Z)
     → CardOwing f c w.book (standing_by fate m (w.standing c)) (w.brought c) (w.marks ++ marks_by fate (Some c) m) [] session U Y
     → AllGo f (carried_brought fate (Some c) m w) (but_to (Some c) owes) (with_session c session cards) (arranged c U Y Z)
 brought-go f w owes cards A fate m session U X Y Z go one = record { held = held; goes = goes }
   where
-    held : (c : Card) → IsOwnValid (found_of f c).image → IsHeld (found_of f c) c w.book ((carried_brought fate (Some A) m w).standing c) (card_of (devices U Y Z) c)
+    held : (c : Card) → IsOwnValid (found_of f c).image → CardHoldsString (found_of f c) c w.book ((carried_brought fate (Some A) m w).standing c) (card_of (devices U Y Z) c)
     held A v = one.held
     held B v = go.held B v
 
@@ -122,7 +122,7 @@ brought-go f w owes cards A fate m session U X Y Z go one = record { held = held
     goes B v = go.goes B v
 brought-go f w owes cards B fate m session U X Y Z go one = record { held = held; goes = goes }
   where
-    held : (c : Card) → IsOwnValid (found_of f c).image → IsHeld (found_of f c) c w.book ((carried_brought fate (Some B) m w).standing c) (card_of (devices U Z Y) c)
+    held : (c : Card) → IsOwnValid (found_of f c).image → CardHoldsString (found_of f c) c w.book ((carried_brought fate (Some B) m w).standing c) (card_of (devices U Z Y) c)
     held A v = go.held A v
     held B v = one.held
 
@@ -134,7 +134,7 @@ brought-go f w owes cards B fate m session U X Y Z go one = record { held = held
 -- ---- the note of its fault, or none
 
 -- the unit failed in it
-module _ (f : Found) (w : Carried) (owes : Card → List Entry) (cards : Cards) (U V X Y : State) (found : AreFoundCards f cards) (whole : IsCoherent U) (lit : IsLitOwing f w owes (devices U X Y)) (go : AllGo f w owes cards (devices U X Y)) (run : LeavesOnly U V LeavesJournal) where
+module _ (f : Found) (w : RunLedger) (owes : Card → List Entry) (cards : Cards) (U V X Y : State) (found : AreFoundCards f cards) (whole : IsCoherent U) (lit : IsLitOwing f w owes (devices U X Y)) (go : AllGo f w owes cards (devices U X Y)) (run : LeavesOnly U V LeavesJournal) where
   rests-on : (c : Card) (Z : State) (due : List Entry) → CardRule c (found_of f c).start AnyKept (found_of f c).began w.book (w.standing c) [] due (unit_seen f U) (of_card Z) → CardDark c (found_of f c).start AnyKept (found_of f c).began w.book (w.standing c) (unit_seen f V) (of_card Z)
   rests-on c Z due rule =
       of-rests f found.two c w.book (w.standing c) V Z (noted-rests (both_of f found.two) c (once_mended f.unit) w.due w.book w.marks (w.standing c) Z whole lit.unit run (as-rests f found.two c w.book (w.standing c) U Z rule.dark))
@@ -148,7 +148,7 @@ module _ (f : Found) (w : Carried) (owes : Card → List Entry) (cards : Cards) 
     held = one.held;
   }
 
-  pub noted-off : IsPowerless f w (devices V X Y)
+  pub noted-off : DevicesUnpowered f w (devices V X Y)
   noted-off = powerless-of f w cards A V X Y found (record {
     tells = run.tells ∙ lit.tells;
     unit = holds-dark f.unit w.due w.book w.marks V (noted-holds (once_mended f.unit) w.due w.book w.marks whole run lit.unit);
@@ -159,12 +159,12 @@ module _ (f : Found) (w : Carried) (owes : Card → List Entry) (cards : Cards) 
     marks_others = lit.marks B;
   })
 
-behind-note : (f : Found) (w : Carried) (owes : Card → List Entry) (cards : Cards) (U V X Y : State) → AreFoundCards f cards → IsCoherent U → IsLitOwing f w owes (devices U X Y) → AllGo f w owes cards (devices U X Y) → LeavesOnly U V LeavesJournal
+behind-note : (f : Found) (w : RunLedger) (owes : Card → List Entry) (cards : Cards) (U V X Y : State) → AreFoundCards f cards → IsCoherent U → IsLitOwing f w owes (devices U X Y) → AllGo f w owes cards (devices U X Y) → LeavesOnly U V LeavesJournal
     → (failed : Bool) → V.works ≡ not failed → IsBroughtOrCut failed f w owes cards (devices V X Y)
 behind-note f w owes cards U V X Y found whole lit go run false works = (noted-with f found.two w owes_nothing owes U V X Y whole lit run works, go-unit f w owes cards U V X Y go)
 behind-note f w owes cards U V X Y found whole lit go run true works = noted-off f w owes cards U V X Y found whole lit go run
 
-behind-note-of : (c : Card) (f : Found) (w : Carried) (owes : Card → List Entry) (cards : Cards) (U V X Y : State) → AreFoundCards f cards → IsCoherent U → IsLitOwing f w owes (arranged c U X Y) → AllGo f w owes cards (arranged c U X Y) → LeavesOnly U V LeavesJournal
+behind-note-of : (c : Card) (f : Found) (w : RunLedger) (owes : Card → List Entry) (cards : Cards) (U V X Y : State) → AreFoundCards f cards → IsCoherent U → IsLitOwing f w owes (arranged c U X Y) → AllGo f w owes cards (arranged c U X Y) → LeavesOnly U V LeavesJournal
     → (failed : Bool) → V.works ≡ not failed → IsBroughtOrCut failed f w owes cards (arranged c V X Y)
 behind-note-of A f w owes cards U V X Y = behind-note f w owes cards U V X Y
 behind-note-of B f w owes cards U V X Y = behind-note f w owes cards U V Y X
@@ -216,20 +216,20 @@ time-of : (c : Card) (V Y Z : State) → HasTime (Some c) (arranged c V Y Z) →
 time-of A V Y Z time = time
 time-of B V Y Z time = time
 
-card-before : (f : Found) (w : Carried) (owes : Card → List Entry) (cards : Cards) (c : Card) (U X Z : State) → IsLitOwing f w owes (arranged c U X Z) → AllGo f w owes cards (arranged c U X Z) → IsOwnValid (found_of f c).image
+card-before : (f : Found) (w : RunLedger) (owes : Card → List Entry) (cards : Cards) (c : Card) (U X Z : State) → IsLitOwing f w owes (arranged c U X Z) → AllGo f w owes cards (arranged c U X Z) → IsOwnValid (found_of f c).image
     → CardOwing f c w.book (w.standing c) (w.brought c) w.marks (owes c) (session_of cards c) U X
 card-before f w owes cards A U X Z lit go valid = of-card f w owes cards (devices U X Z) A lit go valid
 card-before f w owes cards B U X Z lit go valid = of-card f w owes cards (devices U Z X) B lit go valid
 
-unit-tells : (f : Found) (w : Carried) (owes : Card → List Entry) (c : Card) (U X Z : State) → IsLitOwing f w owes (arranged c U X Z) → is_some U.image ≡ true
+unit-tells : (f : Found) (w : RunLedger) (owes : Card → List Entry) (c : Card) (U X Z : State) → IsLitOwing f w owes (arranged c U X Z) → is_some U.image ≡ true
 unit-tells f w owes A U X Z lit = lit.tells
 unit-tells f w owes B U X Z lit = lit.tells
 
-unit-holds : (f : Found) (w : Carried) (owes : Card → List Entry) (c : Card) (U X Z : State) → IsLitOwing f w owes (arranged c U X Z) → Holds (once_mended f.unit) w.due w.book w.marks U
+unit-holds : (f : Found) (w : RunLedger) (owes : Card → List Entry) (c : Card) (U X Z : State) → IsLitOwing f w owes (arranged c U X Z) → UnitFollowsBook (once_mended f.unit) w.due w.book w.marks U
 unit-holds f w owes A U X Z lit = lit.unit
 unit-holds f w owes B U X Z lit = lit.unit
 
-unit-shut : (f : Found) (w : Carried) (owes : Card → List Entry) (c : Card) (U X Z : State) → IsLitOwing f w owes (arranged c U X Z) → w.book.maybe ≡ None
+unit-shut : (f : Found) (w : RunLedger) (owes : Card → List Entry) (c : Card) (U X Z : State) → IsLitOwing f w owes (arranged c U X Z) → w.book.maybe ≡ None
 unit-shut f w owes A U X Z lit = lit.none
 unit-shut f w owes B U X Z lit = lit.none
 

@@ -24,7 +24,7 @@ use Rattle.run_crew.specs.declared.cards.Cards.{Cards}
 use Rattle.run_crew.specs.Cards.{known_of, session_of, with_session}
 use Rattle.run_crew.specs.Cabin.{IsBehind}
 use Rattle.run_promise.specs.Found.{Found, found_of}
-use Rattle.run_minutes.specs.Keeping.{Still, Has, Fell, CardReady, marks_by}
+use Rattle.run_minutes.specs.Keeping.{Still, Has, Fell, CardMayBeCalled, marks_by}
 use Rattle.run_minutes.specs.Books.{StaysOn, standing_by}
 use Rattle.run_minutes.specs.Owing.{CardOwing, BooksCard}
 use Rattle.run_minutes.proofs.CardEvents.{events-keeping, stays-self}
@@ -38,12 +38,12 @@ session-set A s cards = refl
 session-set B s cards = refl
 
 -- the port of a card that has a session
-port-of : (c : Card) (cards : Cards) (a : Accepted) (chip : CardState) (X : State) → session_of cards c ≡ Some a → CardReady (known_of cards c) chip X → IsPort a.session.application None chip X
+port-of : (c : Card) (cards : Cards) (a : Accepted) (chip : CardState) (X : State) → session_of cards c ≡ Some a → CardMayBeCalled (known_of cards c) chip X → IsPort a.session.application None chip X
 port-of A cards a chip X some ready = ready.port a.session.application (subst (λ (o : Option Accepted). IfSome o (λ a. cards.a.sizes ≡ Ok a.session.application)) some ready.is_known.sized)
 port-of B cards a chip X some ready = ready.port a.session.application (subst (λ (o : Option Accepted). IfSome o (λ a. cards.b.sizes ≡ Ok a.session.application)) some ready.is_known.sized)
 
 -- a card with bad sizes has none
-pub no-session : (c : Card) (cards : Cards) (chip : CardState) (X : State) → CardReady (known_of cards c) chip X → ((app : Application) → (known_of cards c).sizes ≡ Ok app → ⊥) → session_of cards c ≡ None
+pub no-session : (c : Card) (cards : Cards) (chip : CardState) (X : State) → CardMayBeCalled (known_of cards c) chip X → ((app : Application) → (known_of cards c).sizes ≡ Ok app → ⊥) → session_of cards c ≡ None
 no-session A cards chip X ready bad = by cards.a.accepted refl
   where
     by : (o : Option Accepted) → cards.a.accepted ≡ o → cards.a.accepted ≡ None
@@ -85,7 +85,7 @@ module _ (c : Card) (said : Kept) (cards : Cards) (U X : State) where
     subst (λ (o : Option Accepted). KeepsOn (found_of f c) (said ∷ []) o o X X) (sym gone) (does-none (own_sizes (found_of f c).image) X),
   )
 
-  module _ (behind : Cards) (Y : State) (chip : CardState) (a : Accepted) (unit : IsCoherent U) (whole : IsCoherent X) (after : IsCoherent Y) (some : session_of cards c ≡ Some a) (ready : CardReady (known_of cards c) chip X) (may : IsBehind cards said.entry.minute (Some c))
+  module _ (behind : Cards) (Y : State) (chip : CardState) (a : Accepted) (unit : IsCoherent U) (whole : IsCoherent X) (after : IsCoherent Y) (some : session_of cards c ≡ Some a) (ready : CardMayBeCalled (known_of cards c) chip X) (may : IsBehind cards said.entry.minute (Some c))
       (run : LeavesOnly X Y (λ x y. IsSession a.session x → IsCardKeeping a.session said.entry said.odometer.0 x y)) where
     fits : (x : List ℕ) → X.image ≡ Some x → image_size_of a.session.application ≤ length x
     fits x told =

@@ -36,17 +36,17 @@ use Rattle.device_rule.specs.Marked.{of_card, AnyAdded, HasBrought}
 use Rattle.device_rule.proofs.Staying.{keep-stays}
 use Rattle.device_rule.proofs.Viewed.{seen-run}
 use Rattle.unit_rule.specs.Rule.{once_mended}
-use Rattle.unit_rule.specs.Marks.{Holds}
+use Rattle.unit_rule.specs.Marks.{UnitFollowsBook}
 use Rattle.device_calls.specs.Rule.{opened, CardHolds}
-use Rattle.device_calls.specs.OnCard.{IsReady, IsOnItsCard}
+use Rattle.device_calls.specs.OnCard.{CardMayTake, IsOnItsCard}
 use Rattle.device_calls.specs.Minute.{IsNotIn}
 use Rattle.device_calls.proofs.OnCard.{own-is, session-is, sizes-same, on-card, kept-torn, ends-on_card}
 use Rattle.run_crew.specs.declared.cards.Accepted.{Accepted}
 use Rattle.run_crew.specs.declared.cards.Cards.{Cards}
 use Rattle.run_promise.specs.Found.{CardFound, Found, found_of, unit_seen, AnyKept}
 use Rattle.run_promise.specs.Cards.{brought_by, CardMarksHold}
-use Rattle.run_devices.specs.Strung.{IsHeld, HasSameHolder}
-use Rattle.run_devices.specs.Told.{AreFoundCards, IsOn}
+use Rattle.run_devices.specs.Strung.{CardHoldsString, HasSameHolder}
+use Rattle.run_devices.specs.Told.{AreFoundCards, SessionIsOnCard}
 use Rattle.run_devices.proofs.Parts.{both_of, as-steps, of-steps, left-one, told-one}
 use Rattle.run_devices.proofs.Holders.{card-rest}
 use Rattle.run_devices.proofs.OnCards.{own-valid, valid-own, valid-on, own-holder-still, then-holder}
@@ -92,7 +92,7 @@ present-in : (f : CardFound) (z : Standing) (time newest m : ℕ) → z ≡ In t
 present-in f z time newest m is present = (subst (λ (s : Standing). IsPresent f.start s m) is present).0
 
 module _ (f : Found) (cards : Cards) (found : AreFoundCards f cards) (c : Card) (due : ℕ) (b : Book) (z : Standing) (ks : List ℕ) (marks : List Mark) (a : Accepted) (e : Entry) (odometer : ℕ) (U X Y : State) (unit : IsCoherent U) (whole : IsCoherent X) (after : IsCoherent Y)
-    (tells : is_some U.image ≡ true) (h : Holds (once_mended f.unit) due b marks U) (none : b.maybe ≡ None) (valid : IsOwnValid (found_of f c).image) (present : IsPresent (found_of f c).start z e.minute) (one : CardOwing f c b z ks marks (e ∷ []) (Some a) U X)
+    (tells : is_some U.image ≡ true) (h : UnitFollowsBook (once_mended f.unit) due b marks U) (none : b.maybe ≡ None) (valid : IsOwnValid (found_of f c).image) (present : IsPresent (found_of f c).start z e.minute) (one : CardOwing f c b z ks marks (e ∷ []) (Some a) U X)
     (fits : (x : List ℕ) → X.image ≡ Some x → image_size_of a.session.application ≤ length x) (late : a.session.minute < e.minute) (run : LeavesOnly X Y (λ x y. IsSession a.session x → IsCardKeeping a.session e odometer x y)) where
   abbrev g : CardFound
   g = found_of f c
@@ -100,7 +100,7 @@ module _ (f : Found) (cards : Cards) (found : AreFoundCards f cards) (c : Card) 
   abbrev s : Session
   s = a.session
 
-  on : IsOn g one.goes.has z s X
+  on : SessionIsOnCard g one.goes.has z s X
   on = one.goes.goes
 
   fresh : g.start.word < e.minute
@@ -109,8 +109,8 @@ module _ (f : Found) (cards : Cards) (found : AreFoundCards f cards) (c : Card) 
   rule : CardRule c g.start AnyKept g.began b (In on.time s.minute) [] (e ∷ []) (unit_seen f U) (of_card X)
   rule = subst (λ (y : Standing). CardRule c g.start AnyKept g.began b y [] (e ∷ []) (unit_seen f U) (of_card X)) on.stands one.rule
 
-  held : IsHeld g c b (In on.time s.minute) X
-  held = subst (λ (y : Standing). IsHeld g c b y X) on.stands one.held
+  held : CardHoldsString g c b (In on.time s.minute) X
+  held = subst (λ (y : Standing). CardHoldsString g c b y X) on.stands one.held
 
   sound : IsApplication s.application
   sound = subst IsApplication (sym on.sizes) (found.sizes c valid)
@@ -131,7 +131,7 @@ module _ (f : Found) (cards : Cards) (found : AreFoundCards f cards) (c : Card) 
   low : (x : CardView) → (of_card X).may_leave x → x.mark < e.minute
   low x there = let sits = (rule.stands.2 some-unit.0 x some-unit.1 there).open_ in omega (arith, sits.mark, late)
 
-  ready : (from : ℕ) × IfSome X.image (λ x. IsReady s (bound_since g.image one.goes.has) (own_covered g.image) from (counted_since g.image one.goes.has) (all_since g.image one.goes.has) e x)
+  ready : (from : ℕ) × IfSome X.image (λ x. CardMayTake s (bound_since g.image one.goes.has) (own_covered g.image) from (counted_since g.image one.goes.has) (all_since g.image one.goes.has) e x)
   ready = ready-here g.image one.goes.has s e odometer g.start.word late fresh X whole sound on.sizes on.session on.goes is
 
   each-before : EachHolds (own_sizes g.image) g.image (brought_by c g.start b) (suc (max g.start.word s.minute)) g.began X
@@ -149,7 +149,7 @@ module _ (f : Found) (cards : Cards) (found : AreFoundCards f cards) (c : Card) 
   views : LeavesViews (of_card X) (of_card Y) (IsOnCard AnyAdded e)
   views = seen-run own_view (λ x y. IsOnCard AnyAdded e (own_view x) (own_view y)) (IsOnCard AnyAdded e) X Y whole
       (weaken run (λ x y told k. on-card s (bound_since g.image one.goes.has) (own_covered g.image) ready.0 (counted_since g.image one.goes.has) (all_since g.image one.goes.has) e odometer late x y
-      (at_image (IsReady s (bound_since g.image one.goes.has) (own_covered g.image) ready.0 (counted_since g.image one.goes.has) (all_since g.image one.goes.has) e) told ready.1) (k (at_image (IsSession s) told on.session)))) (λ x y k. k)
+      (at_image (CardMayTake s (bound_since g.image one.goes.has) (own_covered g.image) ready.0 (counted_since g.image one.goes.has) (all_since g.image one.goes.has) e) told ready.1) (k (at_image (IsSession s) told on.session)))) (λ x y k. k)
 
   valid-now : (x : List ℕ) → Y.left_since g.began x → IsOwnValid x
   valid-now = valid-on g.began (IsCardKeeping s e odometer) X Y rule.dark.later keeping

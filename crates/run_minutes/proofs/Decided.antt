@@ -12,7 +12,7 @@ use Rattle.card_slots.specs.declared.seats.Present.{Present}
 use Rattle.run_crew.specs.declared.cards.Cards.{Cards}
 use Rattle.run_minutes.specs.declared.keeper.Moment.{Moment}
 use Rattle.run_minutes.specs.Keeping.{HasItsRow, HaveRows}
-use Rattle.run_minutes.specs.Minutes.{Round, Told, IsRound, IsMinute, IsCutShort, AreKept, more, told_after, kept_of, minute_of, present_at, AreDue, kept_after}
+use Rattle.run_minutes.specs.Minutes.{Round, KeepingState, IsRound, IsMinute, IsCutShort, AreKept, more, told_after, kept_of, minute_of, present_at, AreDue, kept_after}
 use Rattle.run_minutes.proofs.Sessions.{some-goes}
 
 -- ---- the minute that is kept after so many
@@ -43,7 +43,7 @@ module _ (ds : List Minute) (i : ℕ) (low : i < length ds) where
   all-here P h = All-get_or P ds i no_minute low h
 
   -- it was to be kept, and these cards were present in it
-  module _ (at : Moment) (t u v : Told) (p : Present) (k : KeptMinute) (A B C D : State) (cards : p ≡ present_at u.keeper.cabin this.minute) (is : k ≡ kept_of u.keeper.odometer this p) (so : AreKept at (take i ds) t u) where
+  module _ (at : Moment) (t u v : KeepingState) (p : Present) (k : KeptMinute) (A B C D : State) (cards : p ≡ present_at u.keeper.cabin this.minute) (is : k ≡ kept_of u.keeper.odometer this p) (so : AreKept at (take i ds) t u) where
     round-here : (failed : Bool) (r : Round) → IsRound p k at failed u.keeper r → IsRound (present_at u.keeper.cabin this.minute) (minute_of this u.keeper) at failed u.keeper r
     round-here failed r h =
         subst (λ (q : Present). IsRound q (kept_of u.keeper.odometer this q) at failed u.keeper r) cards (subst (λ (m : KeptMinute). IsRound p m at failed u.keeper r) is h)
@@ -55,7 +55,7 @@ module _ (ds : List Minute) (i : ℕ) (low : i < length ds) where
     kept-on None h = let no = h.0 in absurd (cc)
     kept-on (Some r) h =
         subst (λ (xs : List Minute). AreKept at xs t v) (sym front)
-        (subst (λ (w : Told). AreKept at (take i ds ++ this ∷ []) t w) (sym (told-here r h.2)) (more this (take i ds) r t u so (round-here false r h.0)))
+        (subst (λ (w : KeepingState). AreKept at (take i ds ++ this ∷ []) t w) (sym (told-here r h.2)) (more this (take i ds) r t u so (round-here false r h.0)))
 
     pub cut-on : (round : Option Round) → IsMinute p k at true u v A B C D round → IsCutShort ds at t v
     cut-on None h = record { front = take i ds; here = this; rest = drop (i + 1) ds; are = whole; between = u; kept = so; last = inl h.1 }

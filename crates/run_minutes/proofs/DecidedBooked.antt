@@ -18,12 +18,12 @@ use Rattle.unit_rule.specs.Odometer.{HasTravelled, odometer_by, odometer_after}
 use Rattle.card_slots.specs.declared.seats.Present.{Present}
 use Rattle.run_crew.specs.declared.cabin.Cabin.{Cabin}
 use Rattle.run_promise.specs.Found.{Found, found_of}
-use Rattle.run_promise.specs.Between.{Carried}
+use Rattle.run_promise.specs.Between.{RunLedger}
 use Rattle.run_devices.specs.Told.{AreFoundCards}
 use Rattle.run_minutes.specs.declared.keeper.Keeper.{Keeper}
 use Rattle.run_minutes.specs.declared.keeper.Moment.{Moment}
 use Rattle.run_minutes.specs.Keeping.{Fate, Still, Has, Fell, TellsPresent, cabin_by}
-use Rattle.run_minutes.specs.Minutes.{Round, Told, Done, Reach, Whole, Short, IsRound, IsMinute, IsReach, IsLast, AreRounds, AreDue, told_after, told_by, cabin_after, marks_after, kept_of, minute_of, present_at}
+use Rattle.run_minutes.specs.Minutes.{Round, KeepingState, Done, Reach, Whole, Short, IsRound, IsMinute, IsReach, IsLast, AreRounds, AreDue, told_after, told_by, cabin_after, marks_after, kept_of, minute_of, present_at}
 use Rattle.run_minutes.specs.Deeds.{AllKeep, kept_on, kepts_on}
 use Rattle.run_minutes.proofs.Deeds.{keep-none, keep-then, kepts-snoc}
 use Rattle.run_minutes.specs.Books.{AreBooked, AreTimedOn, HaveTime, MayBook, MayCome, BooksMinute, carried_after, fate_of, standing_by}
@@ -38,11 +38,11 @@ use Rattle.run_minutes.proofs.Decided.{no_minute, this, front, whole, all-here}
 
 -- ---- one more behind some
 
-told-snoc : (k : Keeper) (at : Moment) (xs : List Done) (x : Done) (t : Told) → told_by k at (xs ++ x ∷ []) t ≡ told_after (present_at k.cabin x.minute.minute) x.minute.minute at x.round (told_by k at xs t)
+told-snoc : (k : Keeper) (at : Moment) (xs : List Done) (x : Done) (t : KeepingState) → told_by k at (xs ++ x ∷ []) t ≡ told_after (present_at k.cabin x.minute.minute) x.minute.minute at x.round (told_by k at xs t)
 told-snoc k at [] x t = refl
 told-snoc k at (y ∷ ys) x t = told-snoc k at ys x (told_after (present_at k.cabin y.minute.minute) y.minute.minute at y.round t)
 
-carried-snoc : (k : Keeper) (xs : List Done) (x : Done) (w : Carried) → carried_by k (xs ++ x ∷ []) w ≡ carried_after (present_at k.cabin x.minute.minute) (decided_minute k x.minute) x.round (carried_by k xs w)
+carried-snoc : (k : Keeper) (xs : List Done) (x : Done) (w : RunLedger) → carried_by k (xs ++ x ∷ []) w ≡ carried_after (present_at k.cabin x.minute.minute) (decided_minute k x.minute) x.round (carried_by k xs w)
 carried-snoc k [] x w = refl
 carried-snoc k (y ∷ ys) x w = carried-snoc k ys x (carried_after (present_at k.cabin y.minute.minute) (decided_minute k y.minute) y.round w)
 
@@ -55,7 +55,7 @@ legs-before : (xs : List Done) (g : Travel) → (all_travelled (map (λ (y : Don
 legs-before [] g = refl
 legs-before (y ∷ ys) g = legs-before ys (travelled y.minute.minute y.minute.travelled g)
 
-rounds-snoc : (k : Keeper) (at : Moment) (xs : List Done) (x : Done) (t : Told) → AreRounds k at xs t → IsRound (present_at k.cabin x.minute.minute) (minute_of x.minute k) at false (told_by k at xs t).keeper x.round → AreRounds k at (xs ++ x ∷ []) t
+rounds-snoc : (k : Keeper) (at : Moment) (xs : List Done) (x : Done) (t : KeepingState) → AreRounds k at xs t → IsRound (present_at k.cabin x.minute.minute) (minute_of x.minute k) at false (told_by k at xs t).keeper x.round → AreRounds k at (xs ++ x ∷ []) t
 rounds-snoc k at [] x t all is = (is, tt)
 rounds-snoc k at (y ∷ ys) x t all is = (all.0, rounds-snoc k at ys x (told_after (present_at k.cabin y.minute.minute) y.minute.minute at y.round t) all.1 is)
 
@@ -89,13 +89,13 @@ present-step start Fell x m Out lt few h = h
 present-step start Fell x m (In time newest) lt few h = (h.0, lt, h.2, omega (arith, lt), few)
 present-step start Fell x m (Torn time newest floor) lt few h = h
 
-stands-after : (k : Keeper) (c : Card) (start : CardStart) (m : ℕ) (xs : List Done) (w : Carried) → All (λ x. x.minute.minute < m) xs → All (λ x. m < x.minute.minute + 4) xs → IsPresent start (w.standing c) m → IsPresent start ((carried_by k xs w).standing c) m
+stands-after : (k : Keeper) (c : Card) (start : CardStart) (m : ℕ) (xs : List Done) (w : RunLedger) → All (λ x. x.minute.minute < m) xs → All (λ x. m < x.minute.minute + 4) xs → IsPresent start (w.standing c) m → IsPresent start ((carried_by k xs w).standing c) m
 stands-after k c start m [] w before few h = h
 stands-after k c start m (x ∷ xs) w before few h =
     stands-after k c start m xs (carried_after (present_at k.cabin x.minute.minute) (decided_minute k x.minute) x.round w) (All-tail (λ (y : Done). y.minute.minute < m) x xs before) (All-tail (λ (y : Done). m < y.minute.minute + 4) x xs few)
     (present-step start (fate_of (present_at k.cabin x.minute.minute) x.round c) x.minute.minute m (w.standing c) (All-head (λ (y : Done). y.minute.minute < m) x xs before) (All-head (λ (y : Done). m < y.minute.minute + 4) x xs few) h)
 
-due-after : (k : Keeper) (m : ℕ) (xs : List Done) (w : Carried) → w.due ≤ m → All (λ x. x.minute.minute < m) xs → (carried_by k xs w).due ≤ m
+due-after : (k : Keeper) (m : ℕ) (xs : List Done) (w : RunLedger) → w.due ≤ m → All (λ x. x.minute.minute < m) xs → (carried_by k xs w).due ≤ m
 due-after k m [] w late before = late
 due-after k m (x ∷ xs) w late before =
     let here = All-head (λ (y : Done). y.minute.minute < m) x xs before in
@@ -119,21 +119,21 @@ time-before d e unit a b time = record { unit = omega (arith, unit, time.unit); 
 -- ---- SO FAR
 
 -- The first so many are kept and booked: by these rounds unit and cards are as the book says.
-pub record Booked (ds : List Minute) (i : ℕ) (at : Moment) (t u : Told) (d e : Devices) : Type 0 where
+pub record Booked (ds : List Minute) (i : ℕ) (at : Moment) (t u : KeepingState) (d e : Devices) : Type 0 where
   pub done : List Done
   pub are : take i ds ≡ map (λ (x : Done). x.minute) done
   pub rounds : AreRounds t.keeper at done t
   pub told : u ≡ told_by t.keeper at done t
-  pub books : (f : Found) (w : Carried) (start : ℕ) (g : Travel) → MayBookAll f w ds t d → HasTravelled start w.book g d.unit → t.keeper.odometer ≡ odometer_after start g.before → HaveTime e
+  pub books : (f : Found) (w : RunLedger) (start : ℕ) (g : Travel) → MayBookAll f w ds t d → HasTravelled start w.book g d.unit → t.keeper.odometer ≡ odometer_after start g.before → HaveTime e
       → (AreBooked f (carried_by t.keeper done w) u.keeper.cabin.cards u.marks.items e × HasTravelled start (carried_by t.keeper done w).book (all_travelled (map (λ (x : Done). x.minute) done) g) e.unit) × AreTimedOn f d e
       × AllKeep f (kepts_on t.keeper (map (λ (x : Done). x.minute) done)) t.keeper.cabin.cards u.keeper.cabin.cards d e
   pub noted : NotesFaults false (faults_of t.keeper at done t) d.unit e.unit
 
-pub none-booked : (ds : List Minute) (at : Moment) (t : Told) (d : Devices) → Booked ds 0 at t t d d
+pub none-booked : (ds : List Minute) (at : Moment) (t : KeepingState) (d : Devices) → Booked ds 0 at t t d d
 none-booked ds at t d = record { done = []; are = refl; rounds = tt; told = refl; books = λ f w start g may gone stored time. ((may.booked, gone), (λ c valid. stays-self (found_of f c) (card_of d c)), keep-none f t.keeper.cabin.cards d); noted = notes-none false d.unit }
 
 -- all of them
-pub all-booked : (ds : List Minute) (i : ℕ) → length ds ≤ i → (at : Moment) (t u : Told) (d e : Devices) → Booked ds i at t u d e → (reach : Reach) × IsReach ds at false t u reach × BooksAll ds false reach t u d e × NotesFaults false (faults_to t.keeper at reach t) d.unit e.unit
+pub all-booked : (ds : List Minute) (i : ℕ) → length ds ≤ i → (at : Moment) (t u : KeepingState) (d e : Devices) → Booked ds i at t u d e → (reach : Reach) × IsReach ds at false t u reach × BooksAll ds false reach t u d e × NotesFaults false (faults_to t.keeper at reach t) d.unit e.unit
 all-booked ds i over at t u d e so =
     let are : ds ≡ map (λ (x : Done). x.minute) so.done = sym (take_all i ds over) ∙ so.are in (
       Whole so.done,
@@ -144,7 +144,7 @@ all-booked ds i over at t u d e so =
       so.noted,
     )
 
-module _ (ds : List Minute) (i : ℕ) (low : i < length ds) (at : Moment) (t u v : Told) (d e g : Devices) (kept : ℕ) (due : AreDue kept ds) (day : 1440 ≤ (this ds i low).minute) (p : Present) (km : KeptMinute) (cards : p ≡ present_at t.keeper.cabin (this ds i low).minute)
+module _ (ds : List Minute) (i : ℕ) (low : i < length ds) (at : Moment) (t u v : KeepingState) (d e g : Devices) (kept : ℕ) (due : AreDue kept ds) (day : 1440 ≤ (this ds i low).minute) (p : Present) (km : KeptMinute) (cards : p ≡ present_at t.keeper.cabin (this ds i low).minute)
     (is : km ≡ kept_of t.keeper.odometer (this ds i low) p) (A B C D : State) (earlier : HaveTime g → HaveTime e) (so : Booked ds i at t u d e) where
   abbrev k : Keeper
   k = t.keeper
@@ -159,7 +159,7 @@ module _ (ds : List Minute) (i : ℕ) (low : i < length ds) (at : Moment) (t u v
   before : All (λ (x : Done). x.minute.minute < m.minute) so.done
   before = unmap (λ (q : Minute). q.minute < m.minute) (λ (x : Done). x.minute) so.done (subst (All (λ (q : Minute). q.minute < m.minute)) so.are (due-before kept ds i low due))
 
-  comes : (f : Found) (w : Carried) → MayBookAll f w ds t d → MayCome f (carried_by k so.done w) (decided_minute k m)
+  comes : (f : Found) (w : RunLedger) → MayBookAll f w ds t d → MayCome f (carried_by k so.done w) (decided_minute k m)
   comes f w may =
       let first = may.comes.first in
       let late = all-here ds i low (λ (q : Minute). w.due ≤ q.minute) (unmap (λ (j : HistoryMinute). w.due ≤ j.minute) (decided_minute k) ds may.comes.late) in
@@ -176,7 +176,7 @@ module _ (ds : List Minute) (i : ℕ) (low : i < length ds) (at : Moment) (t u v
       }
 
   -- behind those before
-  module _ (f : Found) (w : Carried) (start : ℕ) (travel : Travel) (may : MayBookAll f w ds t d) (gone : HasTravelled start w.book travel d.unit) (stored : t.keeper.odometer ≡ odometer_after start travel.before) (time : HaveTime g) where
+  module _ (f : Found) (w : RunLedger) (start : ℕ) (travel : Travel) (may : MayBookAll f w ds t d) (gone : HasTravelled start w.book travel d.unit) (stored : t.keeper.odometer ≡ odometer_after start travel.before) (time : HaveTime g) where
     abbrev so_far : Travel
     so_far = all_travelled (map (λ (x : Done). x.minute) so.done) travel
 
@@ -209,10 +209,10 @@ module _ (ds : List Minute) (i : ℕ) (low : i < length ds) (at : Moment) (t u v
     abbrev x : Done
     x = record { minute = m; round = r }
 
-    abbrev carried_next : Carried → Carried
+    abbrev carried_next : RunLedger → RunLedger
     carried_next w = carried_after here (decided_minute k m) r (carried_by k so.done w)
 
-    next : (f : Found) (w : Carried) (start : ℕ) (travel : Travel) → MayBookAll f w ds t d → HasTravelled start w.book travel d.unit → t.keeper.odometer ≡ odometer_after start travel.before → HaveTime g
+    next : (f : Found) (w : RunLedger) (start : ℕ) (travel : Travel) → MayBookAll f w ds t d → HasTravelled start w.book travel d.unit → t.keeper.odometer ≡ odometer_after start travel.before → HaveTime g
         → (AreBooked f (carried_next w) v.keeper.cabin.cards v.marks.items g × HasTravelled start (carried_next w).book (travelled m.minute m.travelled (all_travelled (map (λ (x : Done). x.minute) so.done) travel)) g.unit) × AreTimedOn f d g
         × AllKeep f (kepts_on k (map (λ (x : Done). x.minute) (so.done ++ x ∷ []))) k.cabin.cards v.keeper.cabin.cards d g
     next f w start travel may gone stored time =
@@ -223,9 +223,9 @@ module _ (ds : List Minute) (i : ℕ) (low : i < length ds) (at : Moment) (t u v
         let behind = all.0 in
         let booked : AreBooked f (carried_next w) v.keeper.cabin.cards v.marks.items g =
         record {
-          found = subst (λ (q : Told). AreFoundCards f q.keeper.cabin.cards) (sym minute.2) (found-after f here at.second r u.keeper.cabin before.0.found);
+          found = subst (λ (q : KeepingState). AreFoundCards f q.keeper.cabin.cards) (sym minute.2) (found-after f here at.second r u.keeper.cabin before.0.found);
           powered = behind.0;
-          told = ap (λ (ms : List Mark). (marks_after here m.minute r (record { items = ms; room = 0 })).items) before.0.told ∙ sym (ap (λ (q : Told). q.marks.items) minute.2);
+          told = ap (λ (ms : List Mark). (marks_after here m.minute r (record { items = ms; room = 0 })).items) before.0.told ∙ sym (ap (λ (q : KeepingState). q.marks.items) minute.2);
           early = λ c n at. let lt = before.0.early c n at in omega (arith, lt, late);
         } in (
           (booked, behind.1),
@@ -238,15 +238,15 @@ module _ (ds : List Minute) (i : ℕ) (low : i < length ds) (at : Moment) (t u v
     more-booked = record {
       done = so.done ++ x ∷ [];
       are = front ds i low ∙ ap (λ (zs : List Minute). zs ++ m ∷ []) so.are ∙ sym (map-append (λ (y : Done). y.minute) so.done (x ∷ []));
-      rounds = rounds-snoc k at so.done x t so.rounds (subst (λ (q : Told). IsRound here (minute_of m k) at false q.keeper r) so.told minute.0);
+      rounds = rounds-snoc k at so.done x t so.rounds (subst (λ (q : KeepingState). IsRound here (minute_of m k) at false q.keeper r) so.told minute.0);
       told = minute.2 ∙ ap (told_after here m.minute at r) so.told ∙ sym (told-snoc k at so.done x t);
       books = λ f w start travel may gone stored time.
           let all = next f w start travel may gone stored time in
           let behind = all.0 in
           let carried = sym (carried-snoc k so.done x w) in
-          let booked : AreBooked f (carried_by k (so.done ++ x ∷ []) w) v.keeper.cabin.cards v.marks.items g = subst (λ (q : Carried). AreBooked f q v.keeper.cabin.cards v.marks.items g) carried behind.0 in
+          let booked : AreBooked f (carried_by k (so.done ++ x ∷ []) w) v.keeper.cabin.cards v.marks.items g = subst (λ (q : RunLedger). AreBooked f q v.keeper.cabin.cards v.marks.items g) carried behind.0 in
           let far : HasTravelled start (carried_by k (so.done ++ x ∷ []) w).book (all_travelled (map (λ (y : Done). y.minute) (so.done ++ x ∷ [])) travel) g.unit = subst (λ (legs : Travel). HasTravelled start (carried_by k (so.done ++ x ∷ []) w).book legs g.unit) (sym (travel-snoc so.done x travel))
-          (subst (λ (q : Carried). HasTravelled start q.book (travelled m.minute m.travelled (all_travelled (map (λ (y : Done). y.minute) so.done) travel)) g.unit) carried behind.1) in
+          (subst (λ (q : RunLedger). HasTravelled start q.book (travelled m.minute m.travelled (all_travelled (map (λ (y : Done). y.minute) so.done) travel)) g.unit) carried behind.1) in
           ((booked, far), all.1, all.2);
       noted = more-noted k at so.done x t u p d.unit e.unit g.unit cards so.told so.noted noted;
     }
@@ -258,7 +258,7 @@ module _ (ds : List Minute) (i : ℕ) (low : i < length ds) (at : Moment) (t u v
   -- OR THE UNIT FAILED in it
   last-here : (round : Option Round) → IsMinute here (minute_of m k) at true u v A B C D round → IsLast k m at (told_by k at so.done t) v round
   last-here None h = h.1 ∙ so.told
-  last-here (Some r) h = (subst (λ (q : Told). IsRound here (minute_of m k) at true q.keeper r) so.told h.0, h.2 ∙ ap (told_after here m.minute at r) so.told)
+  last-here (Some r) h = (subst (λ (q : KeepingState). IsRound here (minute_of m k) at true q.keeper r) so.told h.0, h.2 ∙ ap (told_after here m.minute at r) so.told)
 
   pub cut-booked : (round : Option Round) → IsMinute p km at true u v A B C D round → (TellsPresent km p → BooksMinute p km true round u v e g) → NotesFaults true (last_faults p at round u.keeper.cabin) e.unit g.unit → (reach : Reach) × IsReach ds at true t v reach × BooksAll ds true reach t v d g × NotesFaults true (faults_to k at reach t) d.unit g.unit
   cut-booked round h books noted = (

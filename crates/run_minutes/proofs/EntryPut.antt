@@ -16,7 +16,7 @@ use Rattle.device_rule.specs.Rules.{Standing, IsPresent, CardDark, CardRule}
 use Rattle.device_rule.specs.Marked.{of_card, HasBrought}
 use Rattle.safety_model.specs.Safe.{card_of}
 use Rattle.unit_rule.specs.Rule.{Started, once_mended, IsCards}
-use Rattle.unit_rule.specs.Marks.{Holds}
+use Rattle.unit_rule.specs.Marks.{UnitFollowsBook}
 use Rattle.unit_rule.proofs.Marking.{holds-dark}
 use Rattle.device_calls.specs.Rule.{Both, opened, number_of, CardHolds, IsKeptUp}
 use Rattle.device_calls.proofs.EntryOwed.{worked}
@@ -25,8 +25,8 @@ use Rattle.run_crew.specs.declared.cards.Cards.{Cards}
 use Rattle.run_crew.specs.declared.cards.Known.{Known}
 use Rattle.run_crew.specs.Cards.{known_of}
 use Rattle.run_promise.specs.Found.{Found, found_of, unit_seen, AnyKept}
-use Rattle.run_promise.specs.Between.{Carried, devices}
-use Rattle.run_devices.specs.Told.{AreFoundCards, owes_nothing, AllGo, IsLitWith, IsPowerless}
+use Rattle.run_promise.specs.Between.{RunLedger, devices}
+use Rattle.run_devices.specs.Told.{AreFoundCards, owes_nothing, AllGo, IsLitWith, DevicesUnpowered}
 use Rattle.run_devices.proofs.Parts.{both_of, as-steps, of-steps, of-rests, brought-on, CardOff, powerless-of}
 use Rattle.run_minutes.specs.Keeping.{HasItsRow}
 use Rattle.run_minutes.specs.Owing.{and_put, MayPut, IsPutOrCut, BooksPut}
@@ -74,16 +74,16 @@ put-there B e puts = refl
 
 -- what putting an entry says of the card, and of the other one
 abbrev pub OwesMine : (number : List ℕ) (e : Entry) (failed : Bool) (c : Card) (U V X : State) → Type 0
-OwesMine number e failed c U V X = (r : Both) (s : Started) (due : ℕ) (b : Book) (marks : List Mark) (z : Standing) → number ≡ number_of r c → Holds s due b marks U → due ≤ e.minute → 1440 ≤ e.minute → IsPresent (opened r c).start z e.minute
+OwesMine number e failed c U V X = (r : Both) (s : Started) (due : ℕ) (b : Book) (marks : List Mark) (z : Standing) → number ≡ number_of r c → UnitFollowsBook s due b marks U → due ≤ e.minute → 1440 ≤ e.minute → IsPresent (opened r c).start z e.minute
     → CardHolds r c b z [] [] U X → IsKeptUp r c b z (e ∷ []) [] failed V X
 
 abbrev pub OwesOther : (number : List ℕ) (e : Entry) (failed : Bool) (c : Card) (U V X Y : State) → Type 0
-OwesOther number e failed c U V X Y = (r : Both) (s : Started) (due : ℕ) (b : Book) (marks : List Mark) (y z : Standing) (m d : List Entry) → number ≡ number_of r c → Holds s due b marks U → due ≤ e.minute → 1440 ≤ e.minute
+OwesOther number e failed c U V X Y = (r : Both) (s : Started) (due : ℕ) (b : Book) (marks : List Mark) (y z : Standing) (m d : List Entry) → number ≡ number_of r c → UnitFollowsBook s due b marks U → due ≤ e.minute → 1440 ≤ e.minute
     → CardHolds r c b y [] [] U X → CardHolds r (other c) b z m d U Y → IsKeptUp r (other c) b z m d failed V Y
 
-module _ (f : Found) (cards : Cards) (found : AreFoundCards f cards) (w : Carried) (puts : Card → List Entry) (c : Card) (e : Entry) (number : List ℕ) (named : number ≡ (found_of f c).number) (failed : Bool) (U V X Y : State) (whole : IsCoherent U)
+module _ (f : Found) (cards : Cards) (found : AreFoundCards f cards) (w : RunLedger) (puts : Card → List Entry) (c : Card) (e : Entry) (number : List ℕ) (named : number ≡ (found_of f c).number) (failed : Bool) (U V X Y : State) (whole : IsCoherent U)
     (h : IsLitWith f w puts owes_nothing (devices U X Y)) (go : AllGo f w owes_nothing cards (devices U X Y)) (may : MayPut f (Some c) e w puts) (tells : is_some V.image ≡ is_some U.image) (cause : HasCause U V failed)
-    (holds : (s : Started) (due : ℕ) (b : Book) (marks : List Mark) → IsCards s number → Holds s due b marks U → Holds s due b marks V)
+    (holds : (s : Started) (due : ℕ) (b : Book) (marks : List Mark) → IsCards s number → UnitFollowsBook s due b marks U → UnitFollowsBook s due b marks V)
     (mine : OwesMine number e failed c U V (card_of (devices U X Y) c)) (others : OwesOther number e failed c U V (card_of (devices U X Y) c) (card_of (devices U X Y) (other c))) where
   abbrev r : Both
   r = both_of f found.two
@@ -94,7 +94,7 @@ module _ (f : Found) (cards : Cards) (found : AreFoundCards f cards) (w : Carrie
   is : number ≡ number_of r c
   is = named ∙ number-same f found.two c
 
-  unit-after : Holds (once_mended f.unit) w.due w.book w.marks V
+  unit-after : UnitFollowsBook (once_mended f.unit) w.due w.book w.marks V
   unit-after = holds (once_mended f.unit) w.due w.book w.marks (subst (IsCards f.unit) (sym named) (found.own c may.0)) h.unit
 
   here : CardHolds r c w.book (w.standing c) [] [] U (card c)
@@ -139,7 +139,7 @@ module _ (f : Found) (cards : Cards) (found : AreFoundCards f cards) (w : Carrie
   off : (k : Card) → IsOwnValid (found_of f k).image → CardOff f w.book (w.standing k) (w.brought k) k V (card k)
   off k valid = record { rests = dark k valid; valid = h.valid k valid; rises = h.rises k valid; brought = brought k valid; held = go.held k valid }
 
-  cut : IsPowerless f w (devices V X Y)
+  cut : DevicesUnpowered f w (devices V X Y)
   cut = powerless-of f w cards A V X Y found (record {
     tells = tells ∙ h.tells;
     unit = holds-dark f.unit w.due w.book w.marks V unit-after;
@@ -158,7 +158,7 @@ module _ (f : Found) (cards : Cards) (found : AreFoundCards f cards) (w : Carrie
       by true bad = cut
 
 module _ (present : Option Card) (cards : Cards) (e : Entry) (number : List ℕ) (failed : Bool) (U V X Y : State) (whole : IsCoherent U) (row : IfSome present (HasItsRow cards U)) (tells : is_some V.image ≡ is_some U.image) (cause : HasCause U V failed)
-    (holds : (s : Started) (due : ℕ) (b : Book) (marks : List Mark) → IsCards s number → Holds s due b marks U → Holds s due b marks V) where
+    (holds : (s : Started) (due : ℕ) (b : Book) (marks : List Mark) → IsCards s number → UnitFollowsBook s due b marks U → UnitFollowsBook s due b marks V) where
   books : (c : Card) → present ≡ Some c → number ≡ card_number_bytes (number_or_no_card (known_of cards c).number) → OwesMine number e failed c U V (card_of (devices U X Y) c)
       → OwesOther number e failed c U V (card_of (devices U X Y) c) (card_of (devices U X Y) (other c)) → BooksPut present e failed cards (devices U X Y) (devices V X Y)
   books c is told mine others = subst (λ (o : Option Card). BooksPut o e failed cards (devices U X Y) (devices V X Y)) (sym is) (λ f w puts found may lit go.

@@ -29,7 +29,7 @@ use Rattle.run_rings.proofs.Same.{same-rings, then-same, outside-both, table-out
 use Rattle.run_minutes.specs.declared.keeper.Keeper.{Keeper}
 use Rattle.run_minutes.specs.declared.keeper.Moment.{Moment}
 use Rattle.run_minutes.specs.Keeping.{Fate, Still, Has, Fell, has_fallen, cabin_by, IsBrought, IsNotingFault, IsFaultNoted}
-use Rattle.run_minutes.specs.Minutes.{Round, Told, Done, told_after, told_by, present_at}
+use Rattle.run_minutes.specs.Minutes.{Round, KeepingState, Done, told_after, told_by, present_at}
 use Rattle.run_minutes.specs.Faults.{SaysTheSame, faults_by, round_faults, last_faults, faults_of, TellsFaults, TellsTo, NotesFaults}
 
 -- ---- nothing is said
@@ -187,28 +187,28 @@ round-whole p at failed round cabin U V W Z a b d =
     notes-then [] (first ++ second) failed U V Z a (notes-then first second failed V W Z b d)
 
 -- ---- some rounds, and one more
-pub faults-snoc : (k : Keeper) (at : Moment) (xs : List Done) (x : Done) (t : Told) →
+pub faults-snoc : (k : Keeper) (at : Moment) (xs : List Done) (x : Done) (t : KeepingState) →
     faults_of k at (xs ++ x ∷ []) t ≡ faults_of k at xs t ++ round_faults (present_at k.cabin x.minute.minute) at x.round (told_by k at xs t).keeper.cabin
 faults-snoc k at [] x t = append-nil (round_faults (present_at k.cabin x.minute.minute) at x.round t.keeper.cabin)
 faults-snoc k at (y ∷ xs) x t =
     let here : List UnitEvent = round_faults (present_at k.cabin y.minute.minute) at y.round t.keeper.cabin in
-    let next : Told = told_after (present_at k.cabin y.minute.minute) y.minute.minute at y.round t in
+    let next : KeepingState = told_after (present_at k.cabin y.minute.minute) y.minute.minute at y.round t in
     ap (λ (vs : List UnitEvent). here ++ vs) (faults-snoc k at xs x next) ∙ sym (append_assoc here (faults_of k at xs next) (round_faults (present_at k.cabin x.minute.minute) at x.round (told_by k at xs next).keeper.cabin))
 
-pub more-noted : (k : Keeper) (at : Moment) (xs : List Done) (x : Done) (t u : Told) (p : Present) (U V W : State) → p ≡ present_at k.cabin x.minute.minute → u ≡ told_by k at xs t →
+pub more-noted : (k : Keeper) (at : Moment) (xs : List Done) (x : Done) (t u : KeepingState) (p : Present) (U V W : State) → p ≡ present_at k.cabin x.minute.minute → u ≡ told_by k at xs t →
     NotesFaults false (faults_of k at xs t) U V → NotesFaults false (round_faults p at x.round u.keeper.cabin) V W → NotesFaults false (faults_of k at (xs ++ x ∷ []) t) U W
 more-noted k at xs x t u p U V W cards told a b =
     let here : Present = present_at k.cabin x.minute.minute in
     let next : NotesFaults false (round_faults here at x.round (told_by k at xs t).keeper.cabin) V W =
-    subst (λ (q : Told). NotesFaults false (round_faults here at x.round q.keeper.cabin) V W) told (subst (λ (q : Present). NotesFaults false (round_faults q at x.round u.keeper.cabin) V W) cards b) in
+    subst (λ (q : KeepingState). NotesFaults false (round_faults here at x.round q.keeper.cabin) V W) told (subst (λ (q : Present). NotesFaults false (round_faults q at x.round u.keeper.cabin) V W) cards b) in
     subst (λ (vs : List UnitEvent). NotesFaults false vs U W) (sym (faults-snoc k at xs x t)) (notes-then (faults_of k at xs t) (round_faults here at x.round (told_by k at xs t).keeper.cabin) false U V W a next)
 
-pub last-noted : (k : Keeper) (at : Moment) (xs : List Done) (minute : ℕ) (round : Option Round) (t u : Told) (p : Present) (U V W : State) → p ≡ present_at k.cabin minute → u ≡ told_by k at xs t →
+pub last-noted : (k : Keeper) (at : Moment) (xs : List Done) (minute : ℕ) (round : Option Round) (t u : KeepingState) (p : Present) (U V W : State) → p ≡ present_at k.cabin minute → u ≡ told_by k at xs t →
     NotesFaults false (faults_of k at xs t) U V → NotesFaults true (last_faults p at round u.keeper.cabin) V W → NotesFaults true (faults_of k at xs t ++ last_faults (present_at k.cabin minute) at round (told_by k at xs t).keeper.cabin) U W
 last-noted k at xs minute round t u p U V W cards told a b =
     let here : Present = present_at k.cabin minute in
     notes-then (faults_of k at xs t) (last_faults here at round (told_by k at xs t).keeper.cabin) true U V W a
-    (subst (λ (q : Told). NotesFaults true (last_faults here at round q.keeper.cabin) V W) told (subst (λ (q : Present). NotesFaults true (last_faults q at round u.keeper.cabin) V W) cards b))
+    (subst (λ (q : KeepingState). NotesFaults true (last_faults here at round q.keeper.cabin) V W) told (subst (λ (q : Present). NotesFaults true (last_faults q at round u.keeper.cabin) V W) cards b))
 
 -- ---- the rings
 

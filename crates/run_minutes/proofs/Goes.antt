@@ -19,7 +19,7 @@ use Rattle.run_speeds.specs.Speeds.{LeavesSpeeds}
 use Rattle.run_speeds.proofs.Leaving.{leaves-none, leaves-then}
 use Rattle.run_minutes.specs.declared.keeper.Keeper.{Keeper}
 use Rattle.run_minutes.specs.declared.keeper.Moment.{Moment}
-use Rattle.run_minutes.specs.Keeping.{Fate, Still, Has, Fell, IsBrought, UnitReady, CardReady, HasItsRow, HasLeftMore, AreEmptied, SessionsGoOn, cabin_by, tears_of, most_tears}
+use Rattle.run_minutes.specs.Keeping.{Fate, Still, Has, Fell, IsBrought, UnitMayBeCalled, CardMayBeCalled, HasItsRow, HasLeftMore, AreEmptied, SessionsGoOn, cabin_by, tears_of, most_tears}
 use Rattle.run_minutes.specs.Later.{IsLater, AreLater, AreCalm, RestBy}
 use Rattle.run_minutes.specs.Stand.{Stand, StandsAfter, CardGoes, Goes, KeepingGoes, IsReadyFor, AreBare, standing, cards_of}
 use Rattle.run_minutes.proofs.Units.{left-then}
@@ -221,23 +221,23 @@ pub stands_by : {f g : Bool} {at : Moment} {s t : Stand} → f ≡ g → StandsA
 stands_by {at = at} {s = s} {t = t} is h = subst (λ (failed : Bool). StandsAfter at failed s t) is h
 
 -- the other card may be called still
-ready-beside-a : (fate : Fate) (second : ℕ) (cabin : Cabin) (chip : CardState) (Z : State) → CardReady cabin.cards.b chip Z → CardReady (cabin_by fate (Some A) second cabin).cards.b chip Z
+ready-beside-a : (fate : Fate) (second : ℕ) (cabin : Cabin) (chip : CardState) (Z : State) → CardMayBeCalled cabin.cards.b chip Z → CardMayBeCalled (cabin_by fate (Some A) second cabin).cards.b chip Z
 ready-beside-a Still second cabin chip Z h = h
 ready-beside-a (Has accepted clock) second cabin chip Z h = h
 ready-beside-a Fell second cabin chip Z h = h
 
-ready-beside-b : (fate : Fate) (second : ℕ) (cabin : Cabin) (chip : CardState) (Z : State) → CardReady cabin.cards.a chip Z → CardReady (cabin_by fate (Some B) second cabin).cards.a chip Z
+ready-beside-b : (fate : Fate) (second : ℕ) (cabin : Cabin) (chip : CardState) (Z : State) → CardMayBeCalled cabin.cards.a chip Z → CardMayBeCalled (cabin_by fate (Some B) second cabin).cards.a chip Z
 ready-beside-b Still second cabin chip Z h = h
 ready-beside-b (Has accepted clock) second cabin chip Z h = h
 ready-beside-b Fell second cabin chip Z h = h
 
 -- so it stands behind an entry
 module _ (kept : Kept) (at : Moment) (failed : Bool) (k v : Keeper) (ms ns : Listed Mark) (bs cs : Listed Break) (fate : Fate) (U V X Y Z : State) (chip chip_after beside : CardState) (unit : IsUnit V) (cause : HasCause U V failed)
-    (ready : failed ≡ false → UnitReady v V) (rows : failed ≡ false → (card : Card) → HasItsRow k.cabin.cards U card → HasItsRow v.cabin.cards V card) where
-  pub stands_of_a : IsBrought (Some A) kept at failed k v ms ns bs cs fate U V X Y → k.cabin.slots.minute ≤ at.second / 60 → CardReady v.cabin.cards.a chip_after Y → CardReady k.cabin.cards.b beside Z
+    (ready : failed ≡ false → UnitMayBeCalled v V) (rows : failed ≡ false → (card : Card) → HasItsRow k.cabin.cards U card → HasItsRow v.cabin.cards V card) where
+  pub stands_of_a : IsBrought (Some A) kept at failed k v ms ns bs cs fate U V X Y → k.cabin.slots.minute ≤ at.second / 60 → CardMayBeCalled v.cabin.cards.a chip_after Y → CardMayBeCalled k.cabin.cards.b beside Z
       → StandsAfter at failed (standing k ms bs U X Z chip beside) (standing v ns cs V Y Z chip_after beside)
   stands_of_a b minute card other =
-      let still : CardReady v.cabin.cards.b beside Z = subst (λ (q : Keeper). CardReady q.cabin.cards.b beside Z) (sym b.keeper) (ready-beside-a fate at.second k.cabin beside Z other) in
+      let still : CardMayBeCalled v.cabin.cards.b beside Z = subst (λ (q : Keeper). CardMayBeCalled q.cabin.cards.b beside Z) (sym b.keeper) (ready-beside-a fate at.second k.cabin beside Z other) in
       record {
         unit = unit;
         card_a = card;
@@ -248,10 +248,10 @@ module _ (kept : Kept) (at : Moment) (failed : Bool) (k v : Keeper) (ms ns : Lis
         rows = rows;
       }
 
-  pub stands_of_b : IsBrought (Some B) kept at failed k v ms ns bs cs fate U V X Y → k.cabin.slots.minute ≤ at.second / 60 → CardReady v.cabin.cards.b chip_after Y → CardReady k.cabin.cards.a beside Z
+  pub stands_of_b : IsBrought (Some B) kept at failed k v ms ns bs cs fate U V X Y → k.cabin.slots.minute ≤ at.second / 60 → CardMayBeCalled v.cabin.cards.b chip_after Y → CardMayBeCalled k.cabin.cards.a beside Z
       → StandsAfter at failed (standing k ms bs U Z X beside chip) (standing v ns cs V Z Y beside chip_after)
   stands_of_b b minute card other =
-      let still : CardReady v.cabin.cards.a beside Z = subst (λ (q : Keeper). CardReady q.cabin.cards.a beside Z) (sym b.keeper) (ready-beside-b fate at.second k.cabin beside Z other) in
+      let still : CardMayBeCalled v.cabin.cards.a beside Z = subst (λ (q : Keeper). CardMayBeCalled q.cabin.cards.a beside Z) (sym b.keeper) (ready-beside-b fate at.second k.cabin beside Z other) in
       record {
         unit = unit;
         card_b = card;

@@ -22,7 +22,7 @@ use Rattle.device_rule.specs.Steps.{IsKeeping}
 use Rattle.device_rule.specs.Rules.{Standing, Fits, IsPresent, CardRule}
 use Rattle.safety_model.specs.Safe.{card_of}
 use Rattle.unit_rule.specs.Rule.{Started, once_mended}
-use Rattle.unit_rule.specs.Marks.{Holds}
+use Rattle.unit_rule.specs.Marks.{UnitFollowsBook}
 use Rattle.run_unit_course.specs.Legs.{Travel}
 use Rattle.unit_rule.specs.Odometer.{HasTravelled, odometer_by, odometer_after}
 use Rattle.device_calls.specs.Rule.{Both, opened, CardHolds, IsCommitted, IsHeldUp}
@@ -31,13 +31,13 @@ use Rattle.card_slots.specs.declared.seats.Present.{Present}
 use Rattle.run_crew.specs.declared.cards.Cards.{Cards}
 use Rattle.run_crew.specs.Cabin.{AreTwo}
 use Rattle.run_promise.specs.Found.{Found, found_of, unit_seen, AnyKept}
-use Rattle.run_promise.specs.Between.{Carried, devices}
+use Rattle.run_promise.specs.Between.{RunLedger, devices}
 use Rattle.run_devices.specs.Told.{owes_nothing, AllGo, IsLitWith}
 use Rattle.run_devices.proofs.Parts.{both_of, as-steps, owing-of}
 use Rattle.run_outcome.specs.Lines.{Listed}
 use Rattle.run_minutes.specs.declared.keeper.Keeper.{Keeper}
 use Rattle.run_minutes.specs.Keeping.{TellsPresent, act_in, entry_in, is_this}
-use Rattle.run_minutes.specs.Minutes.{Told}
+use Rattle.run_minutes.specs.Minutes.{KeepingState}
 use Rattle.run_minutes.specs.Books.{history_minute, MayCome}
 use Rattle.run_minutes.specs.Owing.{and_put, MayPut, BooksPut, TravelsOn, owes_minute, IsOwedOrCut, BooksOwed}
 use Rattle.run_minutes.proofs.Counts.{apart-turned}
@@ -108,7 +108,7 @@ some-put false false e d (inl here) is = cc
 some-put false false e d (inr here) is = cc
 
 -- an entry may be put
-may-put : (f : Found) (w : Carried) (i : HistoryMinute) (o : Option Card) (e : Entry) (puts : Card → List Entry) → e.minute ≡ i.minute → MayCome f w i → ((c : Card) → o ≡ Some c → puts c ≡ []) → ((c : Card) → o ≡ Some c → on_card c i ≡ [] → ⊥) → MayPut f o e w puts
+may-put : (f : Found) (w : RunLedger) (i : HistoryMinute) (o : Option Card) (e : Entry) (puts : Card → List Entry) → e.minute ≡ i.minute → MayCome f w i → ((c : Card) → o ≡ Some c → puts c ≡ []) → ((c : Card) → o ≡ Some c → on_card c i ≡ [] → ⊥) → MayPut f o e w puts
 may-put f w i None e puts at comes free says = tt
 may-put f w i (Some c) e puts at comes free says = ⊎_elim
     (λ none. absurd (says c refl none))
@@ -121,7 +121,7 @@ may-put f w i (Some c) e puts at comes free says = ⊎_elim
     )) (comes.fits c)
 
 -- by what is put for each card
-lit-puts : (f : Found) (w : Carried) (p q : Card → List Entry) (U X Y : State) → ((c : Card) → p c ≡ q c) → IsLitWith f w p owes_nothing (devices U X Y) → IsLitWith f w q owes_nothing (devices U X Y)
+lit-puts : (f : Found) (w : RunLedger) (p q : Card → List Entry) (U X Y : State) → ((c : Card) → p c ≡ q c) → IsLitWith f w p owes_nothing (devices U X Y) → IsLitWith f w q owes_nothing (devices U X Y)
 lit-puts f w p q U X Y same h = record {
   tells = h.tells;
   works = h.works;
@@ -136,11 +136,11 @@ lit-puts f w p q U X Y same h = record {
 
 -- what keeping a minute says of a card
 abbrev pub Commits : (m : KeptMinute) (failed : Bool) (U V X : State) → Type 0
-Commits m failed U V X = (r : Both) (c : Card) (s : Started) (due : ℕ) (b : Book) (marks : List Mark) (i : HistoryMinute) (z : Standing) → kept_minute m ≡ seen_by_unit i → Holds s due b marks U → b.maybe ≡ None → due ≤ i.minute
+Commits m failed U V X = (r : Both) (c : Card) (s : Started) (due : ℕ) (b : Book) (marks : List Mark) (i : HistoryMinute) (z : Standing) → kept_minute m ≡ seen_by_unit i → UnitFollowsBook s due b marks U → b.maybe ≡ None → due ≤ i.minute
     → CardHolds r c b z (on_card c i) [] U X → Fits c (opened r c).start z i → IsCommitted r c b i z failed V X
 
 -- the cards are as they were
-go-on : (f : Found) (w : Carried) (cards : Cards) (U V X Y : State) → AllGo f w owes_nothing cards (devices U X Y) → AllGo f w owes_nothing cards (devices V X Y)
+go-on : (f : Found) (w : RunLedger) (cards : Cards) (U V X Y : State) → AllGo f w owes_nothing cards (devices U X Y) → AllGo f w owes_nothing cards (devices V X Y)
 go-on f w cards U V X Y go = record { held = go.held; goes = go.goes }
 
 -- by the entry and the cards
@@ -148,7 +148,7 @@ pub put-at : (o : Option Card) (e d : Entry) (failed : Bool) (cards known : Card
 put-at o e d failed cards known U V X Y same are puts =
     subst (λ (c : Cards). BooksPut o d failed c (devices U X Y) (devices V X Y)) are (subst (λ (x : Entry). BooksPut o x failed cards (devices U X Y) (devices V X Y)) same puts)
 
-abbrev pub told_with : Keeper → Listed Mark → Told
+abbrev pub told_with : Keeper → Listed Mark → KeepingState
 told_with k marks = record { keeper = k; marks = marks; breaks = record { items = []; room = 0 } }
 
 module _ (m : KeptMinute) (present : Present) (says : TellsPresent m present) (two : AreTwo present.driver present.codriver) where
@@ -171,15 +171,15 @@ module _ (m : KeptMinute) (present : Present) (says : TellsPresent m present) (t
   pub says-some : (c : Card) → (is_this present.driver c ≡ true) ⊎ (is_this present.codriver c ≡ true) → on_card c i ≡ [] → ⊥
   says-some c here none = some-put (is_this present.driver c) (is_this present.codriver c) e d here (all-said c ∙ none)
 
-  may-driver : (f : Found) (w : Carried) → MayCome f w i → MayPut f present.driver e w owes_nothing
+  may-driver : (f : Found) (w : RunLedger) → MayCome f w i → MayPut f present.driver e w owes_nothing
   may-driver f w comes = may-put f w i present.driver e owes_nothing refl comes (λ c is. refl) (λ c is. says-some c (inl (ap (λ (o : Option Card). is_this o c) is ∙ this-card c)))
 
-  may-codriver : (f : Found) (w : Carried) → MayCome f w i → MayPut f present.codriver d w (and_put present.driver e owes_nothing)
+  may-codriver : (f : Found) (w : RunLedger) → MayCome f w i → MayPut f present.codriver d w (and_put present.driver e owes_nothing)
   may-codriver f w comes = may-put f w i present.codriver d (and_put present.driver e owes_nothing) refl comes
       (λ c is. ap (λ (b : Bool). if b then e ∷ [] else []) (apart-turned present.driver present.codriver c is two))
       (λ c is. says-some c (inr (ap (λ (o : Option Card). is_this o c) is ∙ this-card c)))
 
-  module _ (t u : Told) (U U1 X Y : State) where
+  module _ (t u : KeepingState) (U U1 X Y : State) where
     -- the unit failed in the first
     pub cut-first : BooksPut present.driver e true t.keeper.cabin.cards (devices U X Y) (devices U1 X Y) → TravelsOn U U1 → BooksOwed present m true t u (devices U X Y) (devices U1 X Y)
     cut-first puts on = λ f w start g leg may gone odometer time.
@@ -198,13 +198,13 @@ module _ (m : KeptMinute) (present : Present) (says : TellsPresent m present) (t
 
       module _ (second : BooksPut present.codriver d false t.keeper.cabin.cards (devices U1 X Y) (devices U2 X Y)) (next : TravelsOn U1 U2) (V : State) (failed : Bool) (whole : IsCoherent U2) (whole_a : IsCoherent X) (whole_b : IsCoherent Y)
           (tells : is_some V.image ≡ is_some U2.image) (cause : HasCause U2 V failed)
-          (holds : (s : Started) (due : ℕ) (b : Book) (marks : List Mark) (i : HistoryMinute) → kept_minute m ≡ seen_by_unit i → Holds (once_mended s) due b marks U2 → b.maybe ≡ None → due ≤ i.minute → IsHeldUp s b marks i failed V)
+          (holds : (s : Started) (due : ℕ) (b : Book) (marks : List Mark) (i : HistoryMinute) → kept_minute m ≡ seen_by_unit i → UnitFollowsBook (once_mended s) due b marks U2 → b.maybe ≡ None → due ≤ i.minute → IsHeldUp s b marks i failed V)
           (on_a : Commits m failed U2 V X) (on_b : Commits m failed U2 V Y)
           (views : (a b : List ℕ) (i : HistoryMinute) → kept_minute m ≡ seen_by_unit i → LeavesViews (of_unit a b U2) (of_unit a b V) (IsKeeping KeepsMinute GivesUpDay i))
-          (goes : (start : ℕ) (g : Travel) (leg : ℕ) (s : Started) (due : ℕ) (b : Book) (marks : List Mark) (i : HistoryMinute) → kept_minute m ≡ seen_by_unit i → Holds s due b marks U2 → b.maybe ≡ None → due ≤ i.minute
+          (goes : (start : ℕ) (g : Travel) (leg : ℕ) (s : Started) (due : ℕ) (b : Book) (marks : List Mark) (i : HistoryMinute) → kept_minute m ≡ seen_by_unit i → UnitFollowsBook s due b marks U2 → b.maybe ≡ None → due ≤ i.minute
           → HasTravelled start b g U2 → m.odometer.0 ≡ odometer_by (odometer_after start g.before) leg → HasGone start b g i leg failed V)
           (same : u.keeper.cabin.cards ≡ t.keeper.cabin.cards) where
-        committed : (f : Found) (w : Carried) (two : f.card_a.number ≢ f.card_b.number) → MayCome f w i → IsLitWith f w (owes_minute i) owes_nothing (devices U2 X Y) → (c : Card) → IsOwnValid (found_of f c).image
+        committed : (f : Found) (w : RunLedger) (two : f.card_a.number ≢ f.card_b.number) → MayCome f w i → IsLitWith f w (owes_minute i) owes_nothing (devices U2 X Y) → (c : Card) → IsOwnValid (found_of f c).image
             → IsCommitted (both_of f two) c w.book i (w.standing c) failed V (card_of (devices U2 X Y) c)
         committed f w two comes h A valid = on_a (both_of f two) A (once_mended f.unit) w.due w.book w.marks i (w.standing A) (kept-seen m present says) h.unit h.none comes.late (as-steps f two A w.book (w.standing A) (on_card A i) [] U2 X (h.rules A valid))
             (⊎_elim (λ none. inl none) (λ here. inr here.1) (comes.fits A))

@@ -25,13 +25,13 @@ use Rattle.run_crew.specs.Cards.{session_of}
 use Rattle.run_crew.specs.Cabin.{AreTwo}
 use Rattle.run_outcome.specs.Lines.{Listed}
 use Rattle.run_promise.specs.Found.{Found, found_of, unit_seen, AnyKept}
-use Rattle.run_promise.specs.Between.{Carried, devices}
-use Rattle.run_devices.specs.Told.{AreFoundCards, owes_nothing, GoesOwing, AllGo, IsLitOwing, IsPowered, IsPowerless}
+use Rattle.run_promise.specs.Between.{RunLedger, devices}
+use Rattle.run_devices.specs.Told.{AreFoundCards, owes_nothing, GoesOwing, AllGo, IsLitOwing, DevicesPowered, DevicesUnpowered}
 use Rattle.run_devices.proofs.Parts.{lit-of}
 use Rattle.run_devices.proofs.Travelled.{travelled-noted}
 use Rattle.run_minutes.specs.declared.keeper.Keeper.{Keeper}
 use Rattle.run_minutes.specs.Keeping.{Fate, Still, TellsPresent, entry_in, kept_in, cabin_by, is_this}
-use Rattle.run_minutes.specs.Minutes.{Round, Told}
+use Rattle.run_minutes.specs.Minutes.{Round, KeepingState}
 use Rattle.run_minutes.proofs.CardEvents.{stays-then}
 use Rattle.run_minutes.specs.Deeds.{AllKeep, kept_for, kept_on}
 use Rattle.run_minutes.proofs.Deeds.{kept-both, keep-at, keep-then}
@@ -64,7 +64,7 @@ stands-by true false e d m z two = refl
 stands-by false true e d m z two = refl
 stands-by false false e d m z two = refl
 
-carried-both : (present : Present) (i : HistoryMinute) (round : Round) (w : Carried) → AreTwo present.driver present.codriver
+carried-both : (present : Present) (i : HistoryMinute) (round : Round) (w : RunLedger) → AreTwo present.driver present.codriver
     → carried_brought round.codriver present.codriver i.minute (carried_brought round.driver present.driver i.minute (carried_kept i round.clock w)) ≡ carried_after present i round w
 carried-both present i round w two = ap (λ (s : Card → Standing). record (carried_after present i round w) { standing = s })
     (ext (carried_brought round.codriver present.codriver i.minute (carried_brought round.driver present.driver i.minute (carried_kept i round.clock w))).standing (carried_after present i round w).standing
@@ -75,7 +75,7 @@ same-both true t = refl
 same-both false t = refl
 
 -- of an entry that was not asked for nothing changes
-carried-still : (o : Option Card) (m : ℕ) (w : Carried) → carried_brought Still o m w ≡ w
+carried-still : (o : Option Card) (m : ℕ) (w : RunLedger) → carried_brought Still o m w ≡ w
 carried-still None m w = ap (λ (ms : List Mark). record w { marks = ms }) (append-nil w.marks)
 carried-still (Some k) m w =
     ap (λ (s : Card → Standing). record w { marks = w.marks ++ []; standing = s }) (ext (carried_brought Still (Some k) m w).standing w.standing (λ c. same-both (is_this (Some k) c) (w.standing c)))
@@ -95,7 +95,7 @@ clock-rests {C} state a b same = ap (λ (c : C). (state c).clock) same
 
 -- ---- what is asked of an entry that is brought
 
-may-bring : (f : Found) (w : Carried) (i : HistoryMinute) (o : Option Card) (said : Kept) (v : Carried) (owes : Card → List Entry) → said.entry.minute ≡ i.minute → MayCome f w i → ((c : Card) → o ≡ Some c → owes c ≡ said.entry ∷ [])
+may-bring : (f : Found) (w : RunLedger) (i : HistoryMinute) (o : Option Card) (said : Kept) (v : RunLedger) (owes : Card → List Entry) → said.entry.minute ≡ i.minute → MayCome f w i → ((c : Card) → o ≡ Some c → owes c ≡ said.entry ∷ [])
     → ((c : Card) → o ≡ Some c → on_card c i ≡ [] → ⊥) → ((c : Card) → o ≡ Some c → v.standing c ≡ w.standing c) → MayBring f o said v owes
 may-bring f w i None said v owes at comes owed says stands = tt
 may-bring f w i (Some c) said v owes at comes owed says stands = ⊎_elim
@@ -118,7 +118,7 @@ found-by f fate (Some c) second k v is found = subst (λ (q : Keeper). AreFoundC
     cards fate = subst (AreFoundCards f) (sym (cards-by fate c second k.cabin)) (found-session f c _ k.cabin.cards found)
 
 -- by what is owed to each card
-lit-owes : (f : Found) (w : Carried) (p q : Card → List Entry) (U X Y : State) → ((c : Card) → p c ≡ q c) → IsLitOwing f w p (devices U X Y) → IsLitOwing f w q (devices U X Y)
+lit-owes : (f : Found) (w : RunLedger) (p q : Card → List Entry) (U X Y : State) → ((c : Card) → p c ≡ q c) → IsLitOwing f w p (devices U X Y) → IsLitOwing f w q (devices U X Y)
 lit-owes f w p q U X Y same h = record {
   tells = h.tells;
   works = h.works;
@@ -131,7 +131,7 @@ lit-owes f w p q U X Y same h = record {
   marks = h.marks;
 }
 
-go-owes : (f : Found) (w : Carried) (p q : Card → List Entry) (cards : Cards) (U X Y : State) → ((c : Card) → p c ≡ q c) → AllGo f w p cards (devices U X Y) → AllGo f w q cards (devices U X Y)
+go-owes : (f : Found) (w : RunLedger) (p q : Card → List Entry) (cards : Cards) (U X Y : State) → ((c : Card) → p c ≡ q c) → AllGo f w p cards (devices U X Y) → AllGo f w q cards (devices U X Y)
 go-owes f w p q cards U X Y same go = record {
   held = go.held;
   goes = λ c valid. subst (λ (es : List Entry). GoesOwing (found_of f c) c w.book es (w.standing c) (session_of cards c) (card_of (devices U X Y) c)) (same c) (go.goes c valid);
@@ -154,10 +154,10 @@ module _ (m : KeptMinute) (present : Present) (says : TellsPresent m present) (t
   abbrev d : Entry
   d = entry_in m CoDriver
 
-  abbrev w1 : Carried → Carried
+  abbrev w1 : RunLedger → RunLedger
   w1 w = carried_kept i V.clock w
 
-  abbrev w2 : Carried → Carried
+  abbrev w2 : RunLedger → RunLedger
   w2 w = carried_brought fe present.driver i.minute (w1 w)
 
   this-driver : (c : Card) → present.driver ≡ Some c → is_this present.driver c ≡ true
@@ -177,7 +177,7 @@ module _ (m : KeptMinute) (present : Present) (says : TellsPresent m present) (t
   owes-codriver c is = ap (λ (a : Bool). if a then [] else on_card c i) (not-driver c is) ∙ sym (all-said m present says two c)
       ∙ ap (λ (b : Bool). if b then d ∷ [] else (if is_this present.driver c then e ∷ [] else [])) (this-codriver c is)
 
-  module _ (f : Found) (w : Carried) (start : ℕ) (g : Travel) (leg : ℕ) (may : MayBook f w present m (told-of k ms bs) (devices U X Y)) (gone : HasTravelled start w.book g U) (odometer : m.odometer.0 ≡ odometer_by (odometer_after start g.before) leg) (time : V.clock < last_count) where
+  module _ (f : Found) (w : RunLedger) (start : ℕ) (g : Travel) (leg : ℕ) (may : MayBook f w present m (told-of k ms bs) (devices U X Y)) (gone : HasTravelled start w.book g U) (odometer : m.odometer.0 ≡ odometer_by (odometer_after start g.before) leg) (time : V.clock < last_count) where
     found1 : AreFoundCards f k1.cabin.cards
     found1 = subst (AreFoundCards f) (sym same) may.booked.found
 
@@ -193,20 +193,20 @@ module _ (m : KeptMinute) (present : Present) (says : TellsPresent m present) (t
         (may-bring f w i present.driver (kept_in m Driver) (w1 w) (owes_minute i) refl may.comes owes-driver (λ c is. says-some m present says two c (inl (this-driver c is))) (λ c is. refl)) has.0 has.1 card
 
   -- the unit failed as it noted the fault of the driver's card
-  pub booked-cut : failed1 ≡ true → IsCoherent V → LeavesOnly V V1 LeavesJournal → (u : Told) (round : Round) → round.clock ≡ V.clock → round.driver ≡ fe → round.codriver ≡ Still → BooksMinute present m true (Some round) (told-of k ms bs) u (devices U X Y) (devices V1 X1 Y1)
+  pub booked-cut : failed1 ≡ true → IsCoherent V → LeavesOnly V V1 LeavesJournal → (u : KeepingState) (round : Round) → round.clock ≡ V.clock → round.driver ≡ fe → round.codriver ≡ Still → BooksMinute present m true (Some round) (told-of k ms bs) u (devices U X Y) (devices V1 X1 Y1)
   booked-cut bad whole run u round at fate still = λ f w start g leg may gone odometer time.
       let card = has-time present.driver (devices V1 X1 Y1) time in
       let low = time.unit in
       let later = run.later in
       let short : V.clock < last_count = omega (arith, low, later) in
       let here = first f w start g leg may gone odometer short card in
-      let cut : IsPowerless f (w2 w) (devices V1 X1 Y1) = subst (λ (b : Bool). IsBroughtOrCut b f (w2 w) (but_to present.driver (owes_minute i)) k2.cabin.cards (devices V1 X1 Y1)) bad here.0 in
+      let cut : DevicesUnpowered f (w2 w) (devices V1 X1 Y1) = subst (λ (b : Bool). IsBroughtOrCut b f (w2 w) (but_to present.driver (owes_minute i)) k2.cabin.cards (devices V1 X1 Y1)) bad here.0 in
       let is : w2 w ≡ carried_after present i round w = sym (carried-still present.codriver i.minute (w2 w))
       ∙ ap (λ (x : Fate). carried_brought Still present.codriver i.minute (carried_brought x present.driver i.minute (w1 w))) (sym fate)
       ∙ ap (λ (n : ℕ). carried_brought Still present.codriver i.minute (carried_brought round.driver present.driver i.minute (carried_kept i n w))) (sym at)
       ∙ ap (λ (x : Fate). carried_brought x present.codriver i.minute (carried_brought round.driver present.driver i.minute (carried_kept i round.clock w))) (sym still)
       ∙ carried-both present i round w two in (
-        (subst (λ (v : Carried). IsPowerless f v (devices V1 X1 Y1)) is cut, travelled-noted start (kept i w.book) (travelled i.minute leg g) (has f w start g leg may gone odometer short).2 whole run),
+        (subst (λ (v : RunLedger). DevicesUnpowered f v (devices V1 X1 Y1)) is cut, travelled-noted start (kept i w.book) (travelled i.minute leg g) (has f w start g leg may gone odometer short).2 whole run),
         timed-at f U V X Y (devices V1 X1 Y1) here.1,
         λ well. clash well,
       )
@@ -215,7 +215,7 @@ module _ (m : KeptMinute) (present : Present) (says : TellsPresent m present) (t
       (other : BooksBrought present.codriver (kept_in m CoDriver) failed fd k2.cabin.cards k3.cabin.cards (devices V1 X1 Y1) (devices V2 X2 Y2))
       (rests_a : is_this present.codriver A ≡ false → X2.clock ≡ X1.clock) (rests_b : is_this present.codriver B ≡ false → Y2.clock ≡ Y1.clock)
       (whole1 : IsCoherent V) (run1 : LeavesOnly V V1 LeavesJournal) (whole2 : IsCoherent V1) (run2 : LeavesOnly V1 V2 LeavesJournal) where
-    abbrev w3 : Carried → Carried
+    abbrev w3 : RunLedger → RunLedger
     w3 w = carried_brought fd present.codriver i.minute (w2 w)
 
     -- the clock of the driver's card is what it is at the end
@@ -240,7 +240,7 @@ module _ (m : KeptMinute) (present : Present) (says : TellsPresent m present) (t
         let there = run2.later in
         omega (arith, low, here, there)
 
-    behind : (f : Found) (w : Carried) (start : ℕ) (g : Travel) (leg : ℕ) → MayBook f w present m (told-of k ms bs) (devices U X Y) → HasTravelled start w.book g U → m.odometer.0 ≡ odometer_by (odometer_after start g.before) leg → HaveTime (devices V2 X2 Y2)
+    behind : (f : Found) (w : RunLedger) (start : ℕ) (g : Travel) (leg : ℕ) → MayBook f w present m (told-of k ms bs) (devices U X Y) → HasTravelled start w.book g U → m.odometer.0 ≡ odometer_by (odometer_after start g.before) leg → HaveTime (devices V2 X2 Y2)
         → IsBroughtOrCut failed f (w3 w) (but_to present.codriver (but_to present.driver (owes_minute i))) k3.cabin.cards (devices V2 X2 Y2) × AreTimedOn f (devices U X Y) (devices V2 X2 Y2)
         × AllKeep f (kept_on present m) k.cabin.cards k3.cabin.cards (devices U X Y) (devices V2 X2 Y2)
     behind f w start g leg may gone odometer time =
@@ -269,14 +269,14 @@ module _ (m : KeptMinute) (present : Present) (says : TellsPresent m present) (t
         let all = behind f w start g leg may gone odometer time in
         (by f w start g leg found3 round is failed all.0 (travelled-noted start (kept i w.book) (travelled i.minute leg g) first_gone whole2 run2), all.1, λ well. all.2)
       where
-        by : (f : Found) (w : Carried) (start : ℕ) (g : Travel) (leg : ℕ) → AreFoundCards f k3.cabin.cards → (round : Round) → w3 w ≡ carried_after present i round w → (b : Bool)
+        by : (f : Found) (w : RunLedger) (start : ℕ) (g : Travel) (leg : ℕ) → AreFoundCards f k3.cabin.cards → (round : Round) → w3 w ≡ carried_after present i round w → (b : Bool)
             → IsBroughtOrCut b f (w3 w) (but_to present.codriver (but_to present.driver (owes_minute i))) k3.cabin.cards (devices V2 X2 Y2) → HasTravelled start (kept i w.book) (travelled i.minute leg g) V2
             → IsBooked f start w present i g leg b (Some round) k3.cabin.cards (devices V2 X2 Y2)
         by f w start g leg found round is false lit gone =
             let go = go-owes f (w3 w) (but_to present.codriver (but_to present.driver (owes_minute i))) owes_nothing k3.cabin.cards V2 X2 Y2 none-left lit.1 in
-            let powered : IsPowered f (w3 w) k3.cabin.cards (devices V2 X2 Y2) = record {
+            let powered : DevicesPowered f (w3 w) k3.cabin.cards (devices V2 X2 Y2) = record {
               lit = lit-of f (w3 w) k3.cabin.cards (devices V2 X2 Y2) found (lit-owes f (w3 w) (but_to present.codriver (but_to present.driver (owes_minute i))) owes_nothing V2 X2 Y2 none-left lit.0) go;
               go = go;
             } in
-            (subst (λ (v : Carried). IsPowered f v k3.cabin.cards (devices V2 X2 Y2)) is powered, gone)
-        by f w start g leg found round is true cut gone = (subst (λ (v : Carried). IsPowerless f v (devices V2 X2 Y2)) is cut, gone)
+            (subst (λ (v : RunLedger). DevicesPowered f v k3.cabin.cards (devices V2 X2 Y2)) is powered, gone)
+        by f w start g leg found round is true cut gone = (subst (λ (v : RunLedger). DevicesUnpowered f v (devices V2 X2 Y2)) is cut, gone)

@@ -22,7 +22,7 @@ use Rattle.device_rule.specs.Views.{UnitView, unit_view, owed}
 use Rattle.device_rule.specs.Device.{Seen, LeavesViews}
 use Rattle.device_rule.specs.Filling.{KeepsMinute, GivesUpDay}
 use Rattle.device_rule.specs.Steps.{IsKeeping}
-use Rattle.device_rule.specs.Rules.{Standing, Out, In, Torn, since, IsPresent, Stands, Fits, CardRule, Meets}
+use Rattle.device_rule.specs.Rules.{Standing, Out, In, Torn, since, IsPresent, MeetsStanding, Fits, CardRule, Meets}
 use Rattle.device_rule.specs.Marked.{of_card, HasBrought}
 use Rattle.device_rule.proofs.Staying.{commit-stays}
 use Rattle.card_image.specs.View.{CardView}
@@ -35,11 +35,11 @@ use Rattle.device_calls.proofs.EntryOwed.{worked}
 use Rattle.run_crew.specs.declared.cards.Cards.{Cards}
 use Rattle.run_promise.specs.Found.{CardFound, Found, found_of, unit_seen, AnyKept}
 use Rattle.run_promise.specs.Cards.{brought_by, counted_to, StringHolds, IsStrung, IsCardHeld, CardMarksHold}
-use Rattle.run_promise.specs.Between.{Carried, devices}
+use Rattle.run_promise.specs.Between.{RunLedger, devices}
 use Rattle.run_promise.proofs.Behind.{owed-until}
 use Rattle.run_promise.proofs.Waiting.{string-broken, comes-broken, strung-kept}
-use Rattle.run_devices.specs.Strung.{IsHeld}
-use Rattle.run_devices.specs.Told.{AreFoundCards, sure_of, IsHeldDark, owes_nothing, AllGo, IsLitWith, IsLitOwing, IsPowerless, AreEarly}
+use Rattle.run_devices.specs.Strung.{CardHoldsString}
+use Rattle.run_devices.specs.Told.{AreFoundCards, sure_of, CardHoldsStringUnpowered, owes_nothing, AllGo, IsLitWith, IsLitOwing, DevicesUnpowered, AreEarly}
 use Rattle.run_devices.proofs.Parts.{both_of, of-steps, of-rests, told-one, held-same, sure-same, strung-with}
 use Rattle.run_minutes.specs.Minutes.{unit_mark}
 use Rattle.run_minutes.specs.Books.{MayCome, carried_broken}
@@ -73,7 +73,7 @@ present-late start (In session newest) m n present = omega (arith, present.0, pr
 present-late start (Torn session newest floor) m n present = omega (arith, present.0, present.1)
 
 -- and than the end mark of each image
-present-ahead : (c : Card) (start : CardStart) (began : ℕ) (z : Standing) (due : List Entry) (m : ℕ) (U : Seen UnitView) (X : Seen CardView) → Stands c start began z due U X → IsPresent start z m → (x : CardView) → X.left_since began x → x.mark < m
+present-ahead : (c : Card) (start : CardStart) (began : ℕ) (z : Standing) (due : List Entry) (m : ℕ) (U : Seen UnitView) (X : Seen CardView) → MeetsStanding c start began z due U X → IsPresent start z m → (x : CardView) → X.left_since began x → x.mark < m
 present-ahead c start began Out due m U X stands present x left = absurd present
 present-ahead c start began (In session newest) due m U X stands present x left = omega (arith, stands.1 x left, present.1)
 present-ahead c start began (Torn session newest floor) due m U X stands present x left = omega (arith, stands.0 x left, present.1)
@@ -117,7 +117,7 @@ marks-kept f c b i clock marks X h =
 
 -- ---- all of it
 
-module _ (f : Found) (cards : Cards) (found : AreFoundCards f cards) (w : Carried) (i : HistoryMinute) (U V X Y : State) (whole : IsCoherent U) (wholes : (c : Card) → IsCoherent (card_of (devices U X Y) c))
+module _ (f : Found) (cards : Cards) (found : AreFoundCards f cards) (w : RunLedger) (i : HistoryMinute) (U V X Y : State) (whole : IsCoherent U) (wholes : (c : Card) → IsCoherent (card_of (devices U X Y) c))
     (h : IsLitWith f w (owes_minute i) owes_nothing (devices U X Y)) (go : AllGo f w owes_nothing cards (devices U X Y)) (comes : MayCome f w i) (one : (c : Card) → (o : Option Entry) × (on_card c i ≡ option_to_list o)) (early : AreEarly w) (failed : Bool)
     (tells : is_some V.image ≡ is_some U.image) (cause : HasCause U V failed) (unit : IsHeldUp f.unit w.book w.marks i failed V)
     (committed : (c : Card) → IsOwnValid (found_of f c).image → IsCommitted (both_of f found.two) c w.book i (w.standing c) failed V (card_of (devices U X Y) c))
@@ -190,7 +190,7 @@ module _ (f : Found) (cards : Cards) (found : AreFoundCards f cards) (w : Carrie
         (λ none. subst (All (λ (e : Entry). suc (max g.start.word (since z n)) ≤ e.minute)) (sym none) (All-nil (λ (e : Entry). suc (max g.start.word (since z n)) ≤ e.minute)))
         (λ present. All-weaker (λ (e : Entry). e.minute ≡ i.minute) (λ e. suc (max g.start.word (since z n)) ≤ e.minute) (λ e is. omega (arith, is, present-late g.start z i.minute n present)) (on_card c i) (on_card-minute c i)) fits
 
-    wait : IsHeldDark g c (broken i w.book) z card
+    wait : CardHoldsStringUnpowered g c (broken i w.book) z card
     wait = record {
       held = held-same g c w.book (sure_of (broken i w.book)) z card (sure-same c g.start w.book h.none) (go.held c valid);
       comes = λ x there. subst (All (λ (e : Entry). suc (max g.start.word (since z (own_view x).newest)) ≤ e.minute)) (sym (history-one c i)) (behind (own_view x).newest);
@@ -211,7 +211,7 @@ module _ (f : Found) (cards : Cards) (found : AreFoundCards f cards) (w : Carrie
     first-behind n [] each = omega arith
     first-behind n (e ∷ es) each = All-head (λ (d : Entry). n ≤ d.minute) e es each
 
-    held : IsHeld g c (kept i w.book) z card
+    held : CardHoldsString g c (kept i w.book) z card
     held = held-more g c w.book (kept i w.book) z card (on_card c i) (brought-kept c g.start w.book i h.none) (subst Rise (brought-kept c g.start w.book i h.none) done.string.rises)
         (λ x left. follow-one (own_view x).mark (one c).0 (one c).1 (ahead x left))
         (λ x there. (follow-one (own_view x).mark (one c).0 (one c).1 (ahead x (since-now x there)), first-behind (suc (max g.start.word (since z (own_view x).newest))) (on_card c i) (behind (own_view x).newest)))
@@ -242,7 +242,7 @@ module _ (f : Found) (cards : Cards) (found : AreFoundCards f cards) (w : Carrie
 
   -- ---- or failed
 
-  cut : IsPowerless f (carried_broken i w) (devices V X Y)
+  cut : DevicesUnpowered f (carried_broken i w) (devices V X Y)
   cut = record {
     carried = record {
       tells = tells ∙ h.tells;

@@ -21,7 +21,7 @@ use Rattle.card_string.specs.Each.{EachHolds}
 use Rattle.card_string.proofs.Since.{may_come, later_holds}
 use Rattle.card_string.proofs.OfCards.{card_kept}
 use Rattle.card_string.proofs.Images.{each_keeping}
-use Rattle.device_calls.specs.OnCard.{IsReady}
+use Rattle.device_calls.specs.OnCard.{CardMayTake}
 
 -- a later bound
 each-later : (app : Application) (image : List ℕ) (all : List Entry) (n next began : ℕ) (X : State) → n ≤ next → EachHolds app image all n began X → EachHolds app image all next began X
@@ -33,10 +33,10 @@ each-later app image all n next began X le each = record {
 module _ (image : List ℕ) (has : List Entry) (s : Session) (e : Entry) (odometer word : ℕ) (late : s.minute < e.minute) (fresh : word < e.minute) (X : State) (whole : IsCoherent X) (sound : IsApplication s.application) (sizes : s.application ≡ own_sizes image)
     (session : IfSome X.image (IsSession s)) (goes : IfSome X.image (GoesSince s.application image has (suc (max word s.minute)))) (is : (x : List ℕ) → X.may_leave x → own_sizes x ≡ own_sizes image) where
   abbrev Ready : (from : ℕ) → List ℕ → Type 0
-  Ready from x = IsReady s (bound_since image has) (own_covered image) from (counted_since image has) (all_since image has) e x
+  Ready from x = CardMayTake s (bound_since image has) (own_covered image) from (counted_since image has) (all_since image has) e x
 
   -- the entry may come
-  pub ready-here : (from : ℕ) × IfSome X.image (λ x. IsReady s (bound_since image has) (own_covered image) from (counted_since image has) (all_since image has) e x)
+  pub ready-here : (from : ℕ) × IfSome X.image (λ x. CardMayTake s (bound_since image has) (own_covered image) from (counted_since image has) (all_since image has) e x)
   ready-here = by X.image refl
     where
       by : (o : Option (List ℕ)) → X.image ≡ o → (from : ℕ) × IfSome X.image (Ready from)

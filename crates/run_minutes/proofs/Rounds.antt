@@ -14,7 +14,7 @@ use Rattle.run_outcome.specs.Lines.{Listed}
 use Rattle.run_minutes.specs.declared.keeper.Keeper.{Keeper}
 use Rattle.run_minutes.specs.declared.keeper.Moment.{Moment}
 use Rattle.run_minutes.specs.Keeping.{Fate, Still, IsBrought, IsFateOf, cabin_by, marks_by, breaks_by, session_at, most_tears, with_lines, kept_in}
-use Rattle.run_minutes.specs.Minutes.{Told, IsRound, told_after, unit_mark}
+use Rattle.run_minutes.specs.Minutes.{KeepingState, IsRound, told_after, unit_mark}
 use Rattle.run_minutes.proofs.Fates.{no-lines}
 use Rattle.run_minutes.proofs.Counts.{past-by, minute-by, tears-by, few-marks, lines-length}
 
@@ -54,7 +54,7 @@ module _ (present : Option Card) (kept : Kept) (at : Moment) (failed : Bool) (k 
 
 -- ---- a round
 
-abbrev pub told-of : Keeper → Listed Mark → Listed Break → Told
+abbrev pub told-of : Keeper → Listed Mark → Listed Break → KeepingState
 told-of k ms bs = record { keeper = k; marks = ms; breaks = bs }
 
 pub told-same : (k v : Keeper) (ms ns : Listed Mark) (bs cs : Listed Break) → k ≡ v → ms ≡ ns → bs ≡ cs → told-of k ms bs ≡ told-of v ns cs

@@ -12,7 +12,7 @@ use Rattle.run_crew.specs.declared.cards.Accepted.{Accepted}
 use Rattle.run_crew.specs.declared.cards.Cards.{Cards}
 use Rattle.run_crew.specs.declared.cabin.Cabin.{Cabin}
 use Rattle.run_crew.specs.Cards.{known_of, session_of, with_session}
-use Rattle.run_crew.specs.Cabin.{Stands, AnswersTo, SeatAnswers, EndedStands, torn_out, left_from, slot_with}
+use Rattle.run_crew.specs.Cabin.{CabinIsSound, AnswersTo, SeatAnswers, EndedStands, torn_out, left_from, slot_with}
 use Rattle.run_crew.proofs.Moves.{tear-stands}
 
 -- a session behind another
@@ -54,7 +54,7 @@ module _ (from n : ℕ) (le : from ≤ n) where
     apart = was.apart;
   }
 
-  pub stands-later : (leaving : Option Card) (cabin : Cabin) → Stands from leaving cabin → Stands n leaving cabin
+  pub stands-later : (leaving : Option Card) (cabin : Cabin) → CabinIsSound from leaving cabin → CabinIsSound n leaving cabin
   stands-later leaving cabin h = record {
     a = h.a;
     b = h.b;
@@ -75,7 +75,7 @@ torn-knows : (o : Option Slot) (second : ℕ) (slots : Slots) → slots.minute �
 torn-knows None second slots low knows = knows
 torn-knows (Some slot) second slots low knows = take-knows slots slot second low knows
 
-pub torn-stands : (cabin : Cabin) (card : Card) (second from : ℕ) (leaving : Option Card) → cabin.slots.minute ≤ second / 60 → Stands from leaving cabin → Stands from leaving (torn_out card second cabin)
+pub torn-stands : (cabin : Cabin) (card : Card) (second from : ℕ) (leaving : Option Card) → cabin.slots.minute ≤ second / 60 → CabinIsSound from leaving cabin → CabinIsSound from leaving (torn_out card second cabin)
 torn-stands cabin card second from leaving low h = tear-stands cabin card second from leaving low h (torn-knows (slot_with cabin.slots.seats card) second cabin.slots low h.newest)
 
 -- what holds of a card holds of one that was present

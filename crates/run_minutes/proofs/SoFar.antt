@@ -7,7 +7,7 @@ use Rattle.unit_minutes.specs.declared.kept.KeptMinute.{KeptMinute}
 use Rattle.card_slots.specs.declared.seats.Ended.{Ended}
 use Rattle.card_slots.specs.declared.seats.Present.{Present}
 use Rattle.card_slots.specs.Calls.{present_in}
-use Rattle.run_crew.specs.Cabin.{Stands, MayBeKept}
+use Rattle.run_crew.specs.Cabin.{CabinIsSound, MayBeKept}
 use Rattle.run_minutes.specs.declared.keeper.Moment.{Moment}
 use Rattle.run_minutes.specs.Keeping.{HaveRows}
 use Rattle.run_minutes.specs.Minutes.{AreDue, AreKept, kept_after, kept_of, none, or_nobody}
@@ -26,7 +26,7 @@ pub record SoFar (ds : List Minute) (i : ℕ) (at : Moment) (s t : Stand) : Type
   pub due : AreDue t.keeper.journal.kept (drop i ds)
   pub last : kept_after t.keeper.journal.kept (drop i ds) ≡ kept_after s.keeper.journal.kept ds
   pub few : length t.marks.items ≤ length s.marks.items + 3 * i
-  pub stands : (from : ℕ) (leaving : Option Card) → All (λ m. from ≤ m.minute) ds → Stands from leaving s.keeper.cabin → (next : ℕ) → from ≤ next → t.keeper.journal.kept < next → Stands next leaving t.keeper.cabin
+  pub stands : (from : ℕ) (leaving : Option Card) → All (λ m. from ≤ m.minute) ds → CabinIsSound from leaving s.keeper.cabin → (next : ℕ) → from ≤ next → t.keeper.journal.kept < next → CabinIsSound next leaving t.keeper.cabin
   pub kept : AreKept at (take i ds) (told s) (told t)
   pub booked : Booked ds i at (told s) (told t) s.devices t.devices
 
@@ -72,7 +72,7 @@ module _ (ds : List Minute) (at : Moment) {s : Stand} (may : MayKeepAll ds at s)
       past-here = ap (λ (es : List Ended). present_in es m.minute) so.goes.past
 
       -- before it they stand as they did
-      pub stands-next : Stands m.minute may.leaving t.keeper.cabin
+      pub stands-next : CabinIsSound m.minute may.leaving t.keeper.cabin
       stands-next = so.stands may.from may.leaving may.late may.stands m.minute (all-here ds i low (λ (d : Minute). may.from ≤ d.minute) may.late) (due-here ds i low t.keeper.journal.kept so.due).0
 
       pub ended-next : is_some (present_in t.keeper.cabin.slots.past m.minute) ≡ true
@@ -116,7 +116,7 @@ module _ (ds : List Minute) (at : Moment) {s : Stand} (may : MayKeepAll ds at s)
 
         -- it was to be kept
         module _ {u : Stand} {failed : Bool} (keeps : Keeps next_minute p at failed t u) where
-          cabin-then : (from : ℕ) (leaving : Option Card) → All (λ d. from ≤ d.minute) ds → Stands from leaving s.keeper.cabin → (next : ℕ) → m.minute < next → Stands next leaving u.keeper.cabin
+          cabin-then : (from : ℕ) (leaving : Option Card) → All (λ d. from ≤ d.minute) ds → CabinIsSound from leaving s.keeper.cabin → (next : ℕ) → m.minute < next → CabinIsSound next leaving u.keeper.cabin
           cabin-then from leaving all h next late =
               let here : from ≤ m.minute = all-here ds i low (λ (d : Minute). from ≤ d.minute) all in
               stands-later (m.minute + 1) next (omega (arith, late)) leaving u.keeper.cabin

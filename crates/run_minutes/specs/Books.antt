@@ -15,12 +15,12 @@ use Rattle.unit_rule.specs.Odometer.{HasTravelled, odometer_by, odometer_after}
 use Rattle.card_slots.specs.declared.seats.Present.{Present}
 use Rattle.run_crew.specs.declared.cards.Cards.{Cards}
 use Rattle.run_promise.specs.Found.{CardFound, Found, found_of}
-use Rattle.run_promise.specs.Between.{Carried}
-use Rattle.run_devices.specs.Told.{AreFoundCards, IsPowered, IsPowerless, AreEarly}
+use Rattle.run_promise.specs.Between.{RunLedger}
+use Rattle.run_devices.specs.Told.{AreFoundCards, DevicesPowered, DevicesUnpowered, AreEarly}
 use Rattle.run_minutes.specs.CardEvents.{LeavesEvents}
 use Rattle.run_minutes.specs.Deeds.{AllKeep, kept_on}
 use Rattle.run_minutes.specs.Keeping.{Fate, Still, Has, Fell, is_this}
-use Rattle.run_minutes.specs.Minutes.{Round, Told, marks_after}
+use Rattle.run_minutes.specs.Minutes.{Round, KeepingState, marks_after}
 
 -- ---- before
 
@@ -34,14 +34,14 @@ history_minute present m = record {
 
 -- UNIT AND CARDS ARE AS THE BOOK SAYS, between two calls while the unit has power: all that is carried stands, with the marks that are told,
 -- and the cards go with their sessions.
-pub record AreBooked (f : Found) (w : Carried) (cards : Cards) (marks : List Mark) (d : Devices) : Type 0 where
+pub record AreBooked (f : Found) (w : RunLedger) (cards : Cards) (marks : List Mark) (d : Devices) : Type 0 where
   pub found : AreFoundCards f cards
-  pub powered : IsPowered f w cards d
+  pub powered : DevicesPowered f w cards d
   pub told : w.marks ≡ marks
   pub early : AreEarly w
 
 -- A minute may come: it is not earlier than it may, and says something on a card only where that is valid and present.
-pub record MayCome (f : Found) (w : Carried) (i : HistoryMinute) : Type 0 where
+pub record MayCome (f : Found) (w : RunLedger) (i : HistoryMinute) : Type 0 where
   pub day : 1440 ≤ i.minute
   pub late : w.due ≤ i.minute
   pub fits : (c : Card) → (on_card c i ≡ []) ⊎ (IsOwnValid (found_of f c).image × IsPresent (found_of f c).start (w.standing c) i.minute)
@@ -63,7 +63,7 @@ abbrev pub fate_of : Present → Round → Card → Fate
 fate_of present round c = if is_this present.driver c then round.driver else (if is_this present.codriver c then round.codriver else Still)
 
 -- what is carried behind a minute that is kept
-abbrev pub carried_after : Present → HistoryMinute → Round → Carried → Carried
+abbrev pub carried_after : Present → HistoryMinute → Round → RunLedger → RunLedger
 carried_after present i round w = record {
   due = suc i.minute;
   book = kept i w.book;
@@ -73,27 +73,27 @@ carried_after present i round w = record {
 }
 
 -- and behind one that was begun
-abbrev pub carried_broken : HistoryMinute → Carried → Carried
+abbrev pub carried_broken : HistoryMinute → RunLedger → RunLedger
 carried_broken i w = record w { due = suc i.minute; book = broken i w.book }
 
 -- the unit failed before it had a minute, up to which this was travelled: that was not begun, or was
-abbrev pub IsLeftOff : Found → (start : ℕ) → Carried → HistoryMinute → Travel → (leg : ℕ) → Devices → Type 0
-IsLeftOff f start w i g leg d = (IsPowerless f w d × HasTravelled start w.book g d.unit) ⊎ (IsPowerless f (carried_broken i w) d × HasTravelled start (broken i w.book) (stranded i.minute leg g) d.unit)
+abbrev pub IsLeftOff : Found → (start : ℕ) → RunLedger → HistoryMinute → Travel → (leg : ℕ) → Devices → Type 0
+IsLeftOff f start w i g leg d = (DevicesUnpowered f w d × HasTravelled start w.book g d.unit) ⊎ (DevicesUnpowered f (carried_broken i w) d × HasTravelled start (broken i w.book) (stranded i.minute leg g) d.unit)
 
 -- HOW IT FAILED in a minute: before it had it; or it has it, and a card was torn out
-abbrev pub IsCutIn : Found → (start : ℕ) → Carried → Present → HistoryMinute → Travel → (leg : ℕ) → Option Round → Devices → Type 0
+abbrev pub IsCutIn : Found → (start : ℕ) → RunLedger → Present → HistoryMinute → Travel → (leg : ℕ) → Option Round → Devices → Type 0
 IsCutIn f start w present i g leg None d = IsLeftOff f start w i g leg d
-IsCutIn f start w present i g leg (Some round) d = IsPowerless f (carried_after present i round w) d × HasTravelled start (kept i w.book) (travelled i.minute leg g) d.unit
+IsCutIn f start w present i g leg (Some round) d = DevicesUnpowered f (carried_after present i round w) d × HasTravelled start (kept i w.book) (travelled i.minute leg g) d.unit
 
 -- THE BOOK BEHIND A MINUTE that was to be kept: it is kept, all that is carried stands, and the cards go with their sessions; or the unit
 -- failed in it.
-abbrev pub IsBooked : Found → (start : ℕ) → Carried → Present → HistoryMinute → Travel → (leg : ℕ) → (failed : Bool) → Option Round → Cards → Devices → Type 0
+abbrev pub IsBooked : Found → (start : ℕ) → RunLedger → Present → HistoryMinute → Travel → (leg : ℕ) → (failed : Bool) → Option Round → Cards → Devices → Type 0
 IsBooked f start w present i g leg true round cards d = IsCutIn f start w present i g leg round d
 IsBooked f start w present i g leg false None cards d = ⊥
-IsBooked f start w present i g leg false (Some round) cards d = IsPowered f (carried_after present i round w) cards d × HasTravelled start (kept i w.book) (travelled i.minute leg g) d.unit
+IsBooked f start w present i g leg false (Some round) cards d = DevicesPowered f (carried_after present i round w) cards d × HasTravelled start (kept i w.book) (travelled i.minute leg g) d.unit
 
 -- WHAT IS ASKED: unit and cards are as the book says, and the minute may come.
-pub record MayBook (f : Found) (w : Carried) (present : Present) (m : KeptMinute) (t : Told) (d : Devices) : Type 0 where
+pub record MayBook (f : Found) (w : RunLedger) (present : Present) (m : KeptMinute) (t : KeepingState) (d : Devices) : Type 0 where
   pub booked : AreBooked f w t.keeper.cabin.cards t.marks.items d
   pub comes : MayCome f w (history_minute present m)
 
@@ -118,6 +118,6 @@ AreTimedOn f d e = (c : Card) → IsOwnValid (found_of f c).image → StaysOn (f
 
 -- A MINUTE WAS TO BE KEPT, whose odometer is that of the start and of what was travelled up to it, and this came of it: so it is booked, and
 -- the cards keep it.
-abbrev pub BooksMinute : Present → KeptMinute → (failed : Bool) → Option Round → (t u : Told) → (d e : Devices) → Type 0
-BooksMinute present m failed round t u d e = (f : Found) (w : Carried) (start : ℕ) (g : Travel) (leg : ℕ) → MayBook f w present m t d → HasTravelled start w.book g d.unit → m.odometer.0 ≡ odometer_by (odometer_after start g.before) leg → HaveTime e
+abbrev pub BooksMinute : Present → KeptMinute → (failed : Bool) → Option Round → (t u : KeepingState) → (d e : Devices) → Type 0
+BooksMinute present m failed round t u d e = (f : Found) (w : RunLedger) (start : ℕ) (g : Travel) (leg : ℕ) → MayBook f w present m t d → HasTravelled start w.book g d.unit → m.odometer.0 ≡ odometer_by (odometer_after start g.before) leg → HaveTime e
     → IsBooked f start w present (history_minute present m) g leg failed round u.keeper.cabin.cards e × AreTimedOn f d e × (failed ≡ false → AllKeep f (kept_on present m) t.keeper.cabin.cards u.keeper.cabin.cards d e)

@@ -15,7 +15,7 @@ use Rattle.card_slots.specs.declared.seats.Present.{Present}
 use Rattle.run_minutes.specs.declared.keeper.Keeper.{Keeper}
 use Rattle.run_minutes.specs.declared.keeper.Moment.{Moment}
 use Rattle.run_minutes.specs.Keeping.{Fate, Still, Has, Fell, cabin_by}
-use Rattle.run_minutes.specs.Minutes.{Round, Told, Done, Reach, Whole, Short, cabin_after, told_after, told_by, present_at}
+use Rattle.run_minutes.specs.Minutes.{Round, KeepingState, Done, Reach, Whole, Short, cabin_after, told_after, told_by, present_at}
 
 -- the entry of a card's fault in a second, with the cards that sit there then
 abbrev pub fault_entry : (second : ℕ) → Crew → UnitEvent
@@ -36,12 +36,12 @@ last_faults present at None cabin = []
 last_faults present at (Some round) cabin = round_faults present at round cabin
 
 -- in some rounds, where this was the keeper before all
-abbrev pub faults_of : Keeper → Moment → List Done → Told → List UnitEvent
+abbrev pub faults_of : Keeper → Moment → List Done → KeepingState → List UnitEvent
 faults_of k at [] t = []
 faults_of k at (x ∷ xs) t = round_faults (present_at k.cabin x.minute.minute) at x.round t.keeper.cabin ++ faults_of k at xs (told_after (present_at k.cabin x.minute.minute) x.minute.minute at x.round t)
 
 -- as far as a keeping came
-abbrev pub faults_to : Keeper → Moment → Reach → Told → List UnitEvent
+abbrev pub faults_to : Keeper → Moment → Reach → KeepingState → List UnitEvent
 faults_to k at (Whole xs) t = faults_of k at xs t
 faults_to k at (Short xs m round) t = faults_of k at xs t ++ last_faults (present_at k.cabin m.minute) at round (told_by k at xs t).keeper.cabin
 

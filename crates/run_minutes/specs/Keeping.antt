@@ -47,7 +47,7 @@ HasLeftMore old new = (t : ℕ) (x : List ℕ) → t ≤ old.clock → old.left_
 -- ---- what is known before a call, whatever the devices tell
 
 -- A card: it is known by what it told, a port may be made over it by its sizes, and it works while it has a session.
-pub record CardReady (known : Known) (chip : CardState) (card : State) : Type 0 where
+pub record CardMayBeCalled (known : Known) (chip : CardState) (card : State) : Type 0 where
   pub is_known : IsKnown known
   pub port : (app : Application) → known.sizes ≡ Ok app → IsPort app None chip card
   pub works : IfSome known.accepted (λ accepted. card.works ≡ true)
@@ -65,16 +65,16 @@ pub record HaveRows (cards : Cards) (unit : State) (present : Present) : Type 0 
   pub codriver : IfSome present.codriver (HasItsRow cards unit)
 
 -- the unit works, and the journal agrees with it
-pub record UnitReady (k : Keeper) (unit : State) : Type 0 where
+pub record UnitMayBeCalled (k : Keeper) (unit : State) : Type 0 where
   pub is_unit : IsUnit unit
   pub works : unit.works ≡ true
   pub agrees : IfSome unit.image (Agrees k.journal)
 
 -- BETWEEN TWO CALLS, while the unit has power: unit and cards may be called
-pub record IsReady (k : Keeper) (unit : State) (chip_a chip_b : CardState) (a b : State) : Type 0 where
-  pub unit_ready : UnitReady k unit
-  pub card_a : CardReady k.cabin.cards.a chip_a a
-  pub card_b : CardReady k.cabin.cards.b chip_b b
+pub record DevicesMayBeCalled (k : Keeper) (unit : State) (chip_a chip_b : CardState) (a b : State) : Type 0 where
+  pub unit_ready : UnitMayBeCalled k unit
+  pub card_a : CardMayBeCalled k.cabin.cards.a chip_a a
+  pub card_b : CardMayBeCalled k.cabin.cards.b chip_b b
 
 -- each session may be torn out once
 abbrev pub tears_of : Option Accepted → ℕ

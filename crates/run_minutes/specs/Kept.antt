@@ -7,7 +7,7 @@ use Rattle.unit_model.specs.declared.layout.TheConstants.{HIGHEST_ODOMETER}
 use Rattle.unit_minutes.specs.declared.kept.KeptMinute.{KeptMinute}
 use Rattle.card_slots.specs.declared.seats.Present.{Present}
 use Rattle.card_slots.specs.Calls.{present_in}
-use Rattle.run_crew.specs.Cabin.{Stands, MayBeKept}
+use Rattle.run_crew.specs.Cabin.{CabinIsSound, MayBeKept}
 use Rattle.run_minutes.specs.declared.keeper.Moment.{Moment}
 use Rattle.run_minutes.specs.Keeping.{HaveRows, TellsPresent, is_this, most_tears}
 use Rattle.run_minutes.specs.Minutes.{Round, Reach, IsMinute, IsReach, AreDue, AreKeptUpTo, kept_after}
@@ -45,7 +45,7 @@ pub record Keeps (minute : KeptMinute) (present : Present) (at : Moment) (failed
   pub noted : NotesFaults failed (last_faults present at round s.keeper.cabin) s.devices.unit t.devices.unit
   pub last : failed ≡ false → t.keeper.journal.kept ≡ minute.minute
   pub marks : length t.marks.items ≤ length s.marks.items + 3
-  pub stands : (from : ℕ) (leaving : Option Card) → from ≤ minute.minute + 1 → Stands from leaving s.keeper.cabin → Stands (minute.minute + 1) leaving t.keeper.cabin
+  pub stands : (from : ℕ) (leaving : Option Card) → from ≤ minute.minute + 1 → CabinIsSound from leaving s.keeper.cabin → CabinIsSound (minute.minute + 1) leaving t.keeper.cabin
 
 -- DECIDED MINUTES MAY BE KEPT, one after another
 pub record MayKeepAll (decided : List Minute) (at : Moment) (s : Stand) : Type 0 where
@@ -55,7 +55,7 @@ pub record MayKeepAll (decided : List Minute) (at : Moment) (s : Stand) : Type 0
   pub from : ℕ
   pub leaving : Option Card
   pub late : All (λ m. from ≤ m.minute) decided
-  pub stands : Stands from leaving s.keeper.cabin
+  pub stands : CabinIsSound from leaving s.keeper.cabin
   pub odometer : s.keeper.odometer ≤ HIGHEST_ODOMETER
   pub minute : s.keeper.cabin.slots.minute ≤ at.second / 60
   pub second : at.second ≢ 0
@@ -71,5 +71,5 @@ pub record KeepsAll (decided : List Minute) (at : Moment) (failed : Bool) (s t :
   pub noted : NotesFaults failed (faults_to s.keeper at reach (told s)) s.devices.unit t.devices.unit
   pub last : failed ≡ false → t.keeper.journal.kept ≡ kept_after s.keeper.journal.kept decided
   pub marks : length t.marks.items ≤ length s.marks.items + 3 * length decided
-  pub stands : (from : ℕ) (leaving : Option Card) → All (λ m. from ≤ m.minute) decided → Stands from leaving s.keeper.cabin
-      → (next : ℕ) → from ≤ next → kept_after s.keeper.journal.kept decided < next → Stands next leaving t.keeper.cabin
+  pub stands : (from : ℕ) (leaving : Option Card) → All (λ m. from ≤ m.minute) decided → CabinIsSound from leaving s.keeper.cabin
+      → (next : ℕ) → from ≤ next → kept_after s.keeper.journal.kept decided < next → CabinIsSound next leaving t.keeper.cabin

@@ -71,13 +71,13 @@ pub record AreOnCards (present : Present) (round : Round) (a a_new b b_new : Sta
   pub codriver : IsOnCard round.codriver (state_at present.codriver a b) (state_at present.codriver a_new b_new)
 
 -- keeper, marks and breaks
-pub record Told : Type 0 where
+pub record KeepingState : Type 0 where
   pub keeper : Keeper
   pub marks : Listed Mark
   pub breaks : Listed Break
 
 -- what they are behind a round
-abbrev pub told_after : Present → (minute : ℕ) → Moment → Round → Told → Told
+abbrev pub told_after : Present → (minute : ℕ) → Moment → Round → KeepingState → KeepingState
 told_after present minute at round t = record {
   keeper = keeper_after present at.second round t.keeper;
   marks = marks_after present minute round t.marks;
@@ -85,7 +85,7 @@ told_after present minute at round t = record {
 }
 
 -- A minute was to be kept: nothing has changed but the unit, which failed; or the minute is kept.
-abbrev pub IsMinute : Present → KeptMinute → Moment → (failed : Bool) → (t u : Told) → (a a_new b b_new : State) → Option Round → Type 0
+abbrev pub IsMinute : Present → KeptMinute → Moment → (failed : Bool) → (t u : KeepingState) → (a a_new b b_new : State) → Option Round → Type 0
 IsMinute present minute at failed t u a a_new b b_new None = (failed ≡ true) × (u ≡ t)
 IsMinute present minute at failed t u a a_new b b_new (Some round) =
     IsRound present minute at failed t.keeper round × AreOnCards present round a a_new b b_new × (u ≡ told_after present minute.minute at round t)
@@ -124,24 +124,24 @@ abbrev pub minute_of : Minute → Keeper → KeptMinute
 minute_of m k = kept_of k.odometer m (present_at k.cabin m.minute)
 
 -- THESE MINUTES ARE KEPT, one after another
-pub data AreKept (at : Moment) : List Minute → Told → Told → Type 0 where
-  none : (t : Told) → AreKept at [] t t
-  more : (m : Minute) (ms : List Minute) (round : Round) (t u : Told) → AreKept at ms t u → IsRound (present_at u.keeper.cabin m.minute) (minute_of m u.keeper) at false u.keeper round
+pub data AreKept (at : Moment) : List Minute → KeepingState → KeepingState → Type 0 where
+  none : (t : KeepingState) → AreKept at [] t t
+  more : (m : Minute) (ms : List Minute) (round : Round) (t u : KeepingState) → AreKept at ms t u → IsRound (present_at u.keeper.cabin m.minute) (minute_of m u.keeper) at false u.keeper round
       → AreKept at (ms ++ m ∷ []) t (told_after (present_at u.keeper.cabin m.minute) m.minute at round u)
 
 -- Minutes were to be kept, the first that failed the last of them: those before it are kept; of it nothing has changed, or it is kept.
-pub record IsCutShort (decided : List Minute) (at : Moment) (t u : Told) : Type 0 where
+pub record IsCutShort (decided : List Minute) (at : Moment) (t u : KeepingState) : Type 0 where
   pub front : List Minute
   pub here : Minute
   pub rest : List Minute
   pub are : decided ≡ front ++ here ∷ rest
-  pub between : Told
+  pub between : KeepingState
   pub kept : AreKept at front t between
   pub last : (u ≡ between) ⊎ ((round : Round) × IsRound (present_at between.keeper.cabin here.minute) (minute_of here between.keeper) at true between.keeper round
       × (u ≡ told_after (present_at between.keeper.cabin here.minute) here.minute at round between))
 
 -- all of them are kept, or it was cut short
-abbrev pub AreKeptUpTo : List Minute → Moment → (failed : Bool) → (t u : Told) → Type 0
+abbrev pub AreKeptUpTo : List Minute → Moment → (failed : Bool) → (t u : KeepingState) → Type 0
 AreKeptUpTo decided at false t u = AreKept at decided t u
 AreKeptUpTo decided at true t u = IsCutShort decided at t u
 
@@ -151,12 +151,12 @@ pub record Done : Type 0 where
   pub round : Round
 
 -- keeper, marks and breaks behind some, where this was the keeper before all
-abbrev pub told_by : Keeper → Moment → List Done → Told → Told
+abbrev pub told_by : Keeper → Moment → List Done → KeepingState → KeepingState
 told_by k at [] t = t
 told_by k at (x ∷ xs) t = told_by k at xs (told_after (present_at k.cabin x.minute.minute) x.minute.minute at x.round t)
 
 -- each has the round of a minute that the unit kept without failing
-abbrev pub AreRounds : Keeper → Moment → List Done → Told → Type 0
+abbrev pub AreRounds : Keeper → Moment → List Done → KeepingState → Type 0
 AreRounds k at [] t = Unit {0}
 AreRounds k at (x ∷ xs) t = IsRound (present_at k.cabin x.minute.minute) (minute_of x.minute k) at false t.keeper x.round
     × AreRounds k at xs (told_after (present_at k.cabin x.minute.minute) x.minute.minute at x.round t)
@@ -167,12 +167,12 @@ pub data Reach : Type 0 where
   Short : List Done → Minute → Option Round → Reach
 
 -- the last one, in which the unit failed: nothing has changed, or it is kept
-abbrev pub IsLast : Keeper → Minute → Moment → (t u : Told) → Option Round → Type 0
+abbrev pub IsLast : Keeper → Minute → Moment → (t u : KeepingState) → Option Round → Type 0
 IsLast k m at t u None = u ≡ t
 IsLast k m at t u (Some round) = IsRound (present_at k.cabin m.minute) (minute_of m k) at true t.keeper round × (u ≡ told_after (present_at k.cabin m.minute) m.minute at round t)
 
 -- DECIDED MINUTES WERE TO BE KEPT, and it came so far: all are kept; or those before the first one in which the unit failed.
-abbrev pub IsReach : List Minute → Moment → (failed : Bool) → (t u : Told) → Reach → Type 0
+abbrev pub IsReach : List Minute → Moment → (failed : Bool) → (t u : KeepingState) → Reach → Type 0
 IsReach decided at false t u (Whole xs) = (decided ≡ map (λ x. x.minute) xs) × AreRounds t.keeper at xs t × (u ≡ told_by t.keeper at xs t)
 IsReach decided at false t u (Short xs m round) = ⊥
 IsReach decided at true t u (Whole xs) = ⊥

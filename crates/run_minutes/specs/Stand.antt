@@ -14,8 +14,8 @@ use Rattle.run_outcome.specs.Lines.{Listed}
 use Rattle.run_speeds.specs.Speeds.{LeavesSpeeds}
 use Rattle.run_minutes.specs.declared.keeper.Keeper.{Keeper}
 use Rattle.run_minutes.specs.declared.keeper.Moment.{Moment}
-use Rattle.run_minutes.specs.Keeping.{IsReady, CardReady, HasItsRow, HasLeftMore, AreEmptied, SessionsGoOn, tears_of, most_tears}
-use Rattle.run_minutes.specs.Minutes.{Told}
+use Rattle.run_minutes.specs.Keeping.{DevicesMayBeCalled, CardMayBeCalled, HasItsRow, HasLeftMore, AreEmptied, SessionsGoOn, tears_of, most_tears}
+use Rattle.run_minutes.specs.Minutes.{KeepingState}
 use Rattle.run_minutes.specs.Later.{AreAfter, AreCalm, RestBy}
 
 -- HOW A RECORDER STANDS: keeper, lines, devices, and by which state each card answers
@@ -37,7 +37,7 @@ standing keeper marks breaks unit card_a card_b chip_a chip_b = record {
   chip_b = chip_b;
 }
 
-abbrev pub told : Stand → Told
+abbrev pub told : Stand → KeepingState
 told s = record { keeper = s.keeper; marks = s.marks; breaks = s.breaks }
 
 abbrev pub cards_of : Stand → Cards
@@ -45,14 +45,14 @@ cards_of s = s.keeper.cabin.cards
 
 -- BETWEEN TWO CALLS, with power
 abbrev pub IsReadyFor : Stand → Type 0
-IsReadyFor s = IsReady s.keeper s.devices.unit s.chip_a s.chip_b s.devices.card_a s.devices.card_b
+IsReadyFor s = DevicesMayBeCalled s.keeper s.devices.unit s.chip_a s.chip_b s.devices.card_a s.devices.card_b
 
 -- BEHIND A CALL, as it answered: the unit is a unit still, each card may be called, and the unit failed exactly where that was answered;
 -- else all is ready again, and each card that had its row has it
 pub record StandsAfter (at : Moment) (failed : Bool) (s t : Stand) : Type 0 where
   pub unit : IsUnit t.devices.unit
-  pub card_a : CardReady (cards_of t).a t.chip_a t.devices.card_a
-  pub card_b : CardReady (cards_of t).b t.chip_b t.devices.card_b
+  pub card_a : CardMayBeCalled (cards_of t).a t.chip_a t.devices.card_a
+  pub card_b : CardMayBeCalled (cards_of t).b t.chip_b t.devices.card_b
   pub minute : t.keeper.cabin.slots.minute ≤ at.second / 60
   pub cause : HasCause s.devices.unit t.devices.unit failed
   pub ready : failed ≡ false → IsReadyFor t

@@ -5,13 +5,13 @@ ghost use Rattle.tach_media.specs.Medium.{LeavesOnly, HasCause, HasBroken};
 ghost use Rattle.card_session.specs.declared.words.TheConstants.{LATEST_MINUTE};
 ghost use Rattle.unit_notes.specs.Journal.{LeavesJournal};
 ghost use Rattle.run_crew.specs.Cards.{known_of, session_of};
-ghost use Rattle.run_crew.specs.Cabin.{Stands, IsBehind, crew_of};
+ghost use Rattle.run_crew.specs.Cabin.{CabinIsSound, IsBehind, crew_of};
 ghost use Rattle.run_minutes.specs.Owing.{BooksCard, BooksBrought};
 ghost use Rattle.run_minutes.specs.Kept.{IsAnother};
 ghost use Rattle.run_minutes.specs.Later.{IsLater};
 ghost use Rattle.run_minutes.specs.Stand.{StandsAfter, KeepingGoes, CallsOnly, standing};
 ghost use Rattle.run_promise.specs.Between.{devices};
-ghost use Rattle.run_minutes.specs.Keeping.{UnitReady, CardReady, HasItsRow, HasLeftMore, IsReady, Fate, IsBrought, IsNotingFault, tears_of, session_at, state_at};
+ghost use Rattle.run_minutes.specs.Keeping.{UnitMayBeCalled, CardMayBeCalled, HasItsRow, HasLeftMore, DevicesMayBeCalled, Fate, IsBrought, IsNotingFault, tears_of, session_at, state_at};
 
 use crate::keeper::{Keeper, Moment};
 use card_session::Kept;
@@ -33,8 +33,8 @@ impl Keeper {
         marks: &mut Lines<Mark>,
         breaks: &mut Lines<Break>,
     ) -> Result<(), Failed>
-        requires ready { UnitReady self.old (M.state unit.old) }
-        requires card { CardReady (known_of self.old.cabin.cards which) (C.card card.old) (C.state card.old) }
+        requires ready { UnitMayBeCalled self.old (M.state unit.old) }
+        requires card { CardMayBeCalled (known_of self.old.cabin.cards which) (C.card card.old) (C.state card.old) }
         requires behind { IsBehind self.old.cabin.cards kept.now.entry.minute (Some which) }
         requires first { 1440 ≤ kept.now.entry.minute }
         requires last { kept.now.entry.minute ≤ LATEST_MINUTE }
@@ -48,15 +48,15 @@ impl Keeper {
             × BooksCard which kept.now fate self.old.cabin.cards self.new.cabin.cards (M.state unit.old) (C.state card.old) (C.state card.new) }
         ensures journal { LeavesOnly (M.state unit.old) (M.state unit.new) LeavesJournal }
         ensures cause { HasCause (M.state unit.old) (M.state unit.new) (is_err result) }
-        ensures ready { OnOk result (UnitReady self.new (M.state unit.new)) }
+        ensures ready { OnOk result (UnitMayBeCalled self.new (M.state unit.new)) }
         ensures rows { (card : Card) → HasItsRow self.old.cabin.cards (M.state unit.old) card → OnOk result (HasItsRow self.new.cabin.cards (M.state unit.new) card) }
-        ensures card { CardReady (known_of self.new.cabin.cards which) (C.card card.new) (C.state card.new) }
+        ensures card { CardMayBeCalled (known_of self.new.cabin.cards which) (C.card card.new) (C.state card.new) }
         ensures size { (C.state card.new).size ≡ (C.state card.old).size }
         ensures card_keeps { HasLeftMore (C.state card.old) (C.state card.new) }
         ensures tells { is_some (C.state card.new).image ≡ is_some (C.state card.old).image }
         ensures bare { session_of self.old.cabin.cards which ≡ None → card.new ≡ card.old }
         ensures broken { HasBroken (C.state card.old) (C.state card.new) (tears_of (session_of self.old.cabin.cards which) - tears_of (session_of self.new.cabin.cards which)) }
-        ensures stands { (from : ℕ) (leaving : Option Card) → from ≤ kept.now.entry.minute + 1 → Stands from leaving self.old.cabin → Stands (kept.now.entry.minute + 1) leaving self.new.cabin }
+        ensures stands { (from : ℕ) (leaving : Option Card) → from ≤ kept.now.entry.minute + 1 → CabinIsSound from leaving self.old.cabin → CabinIsSound (kept.now.entry.minute + 1) leaving self.new.cabin }
         ensures later { IsLater (C.state card.old) (C.state card.new) }
     {
         let Ok(app) = self.cabin.cards.of(which).sizes else {
@@ -94,7 +94,7 @@ impl Keeper {
         marks: &mut Lines<Mark>,
         breaks: &mut Lines<Break>,
     ) -> Result<(), Failed>
-        requires ready { IsReady self.old (M.state unit.old) (C.card card_a.old) (D.card card_b.old) (C.state card_a.old) (D.state card_b.old) }
+        requires ready { DevicesMayBeCalled self.old (M.state unit.old) (C.card card_a.old) (D.card card_b.old) (C.state card_a.old) (D.state card_b.old) }
         requires behind { IsBehind self.old.cabin.cards kept.now.entry.minute present }
         requires first { 1440 ≤ kept.now.entry.minute }
         requires last { kept.now.entry.minute ≤ LATEST_MINUTE }
@@ -118,7 +118,7 @@ impl Keeper {
             (C.card card_a.new) (D.card card_b.new)) }
         ensures calls { CallsOnly (IsAnother present) self.old.cabin.cards card_a.old card_a.new card_b.old card_b.new }
         ensures journal { LeavesOnly (M.state unit.old) (M.state unit.new) LeavesJournal }
-        ensures cabin { (from : ℕ) (leaving : Option Card) → from ≤ kept.now.entry.minute + 1 → Stands from leaving self.old.cabin → Stands (kept.now.entry.minute + 1) leaving self.new.cabin }
+        ensures cabin { (from : ℕ) (leaving : Option Card) → from ≤ kept.now.entry.minute + 1 → CabinIsSound from leaving self.old.cabin → CabinIsSound (kept.now.entry.minute + 1) leaving self.new.cabin }
     {
         match present {
             None => Ok(()),

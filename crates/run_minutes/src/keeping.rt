@@ -7,7 +7,7 @@ ghost use Rattle.unit_model.specs.declared.layout.TheConstants.{HIGHEST_ODOMETER
 ghost use Rattle.unit_model.specs.Image.{IsUnit};
 ghost use Rattle.run_crew.specs.Cabin.{AreTwo};
 ghost use Rattle.trace_model.specs.declared.Card.{Card};
-ghost use Rattle.run_minutes.specs.Keeping.{UnitReady, IsReady, HasItsRow, HasLeftMore, HaveRows, kept_in, with_lines, TellsPresent};
+ghost use Rattle.run_minutes.specs.Keeping.{UnitMayBeCalled, DevicesMayBeCalled, HasItsRow, HasLeftMore, HaveRows, kept_in, with_lines, TellsPresent};
 ghost use Rattle.run_minutes.specs.Minutes.{unit_mark};
 ghost use Rattle.run_minutes.specs.Owing.{BooksPut, BooksOwed, TravelsOn};
 ghost use Rattle.run_minutes.specs.Kept.{IsAbsent, MayKeep, Keeps};
@@ -57,11 +57,11 @@ impl Keeper {
         card_a: &C,
         card_b: &D,
     ) -> Result<(), Failed>
-        requires ready { UnitReady self.old (M.state unit.old) }
+        requires ready { UnitMayBeCalled self.old (M.state unit.old) }
         requires row { IfSome present (HasItsRow self.old.cabin.cards (M.state unit.old)) }
         ensures unit { IsUnit (M.state unit.new) }
         ensures same { self.new ≡ self.old }
-        ensures ready { OnOk result (UnitReady self.new (M.state unit.new)) }
+        ensures ready { OnOk result (UnitMayBeCalled self.new (M.state unit.new)) }
         ensures rows { (card : Card) → HasItsRow self.old.cabin.cards (M.state unit.old) card → OnOk result (HasItsRow self.new.cabin.cards (M.state unit.new) card) }
         ensures travelled { TravelsOn (M.state unit.old) (M.state unit.new) }
         ensures unit_keeps { HasLeftMore (M.state unit.old) (M.state unit.new) }
@@ -112,7 +112,7 @@ impl Keeper {
         card_b: &D,
         marks: &mut Lines<Mark>,
     ) -> Result<(), Failed>
-        requires ready { UnitReady self.old (M.state unit.old) }
+        requires ready { UnitMayBeCalled self.old (M.state unit.old) }
         requires rows { HaveRows self.old.cabin.cards (M.state unit.old) present }
         requires low { 1440 ≤ minute.now.minute }
         requires later { self.old.journal.kept < minute.now.minute }
@@ -125,7 +125,7 @@ impl Keeper {
         ensures notes { OnOk result ((self.new.journal.kept ≡ minute.now.minute) × (self.new.journal.odometer ≡ minute.now.odometer.0)) }
         ensures same { OnErr result ((self.new.journal ≡ self.old.journal) × (marks.new ≡ marks.old)) }
         ensures marked { OnOk result (marks.new ≡ with_lines (unit_mark minute.now.minute (M.state unit.new).clock ∷ []) marks.old) }
-        ensures ready { OnOk result (UnitReady self.new (M.state unit.new)) }
+        ensures ready { OnOk result (UnitMayBeCalled self.new (M.state unit.new)) }
         ensures rows { (card : Card) → HasItsRow self.old.cabin.cards (M.state unit.old) card → OnOk result (HasItsRow self.new.cabin.cards (M.state unit.new) card) }
         ensures unit_keeps { HasLeftMore (M.state unit.old) (M.state unit.new) }
         ensures quiet { NotesFaults (is_err result) [] (M.state unit.old) (M.state unit.new) }
@@ -165,7 +165,7 @@ impl Keeper {
         marks: &mut Lines<Mark>,
         breaks: &mut Lines<Break>,
     ) -> Result<(), Failed>
-        requires ready { IsReady self.old (M.state unit.old) (C.card card_a.old) (D.card card_b.old)
+        requires ready { DevicesMayBeCalled self.old (M.state unit.old) (C.card card_a.old) (D.card card_b.old)
             (C.state card_a.old) (D.state card_b.old) }
         requires may { MayKeep minute.now present at
             (standing self.old marks.old breaks.old (M.state unit.old) (C.state card_a.old) (D.state card_b.old)

@@ -6,8 +6,8 @@ ghost use Rattle.trace_model.specs.declared.Card.{Card};
 ghost use Rattle.card_slots.specs.Calls.{present_in};
 ghost use Rattle.unit_model.specs.declared.layout.TheConstants.{HIGHEST_ODOMETER};
 ghost use Rattle.unit_model.specs.Image.{IsUnit};
-ghost use Rattle.run_crew.specs.Cabin.{Stands};
-ghost use Rattle.run_minutes.specs.Keeping.{IsReady, CardReady, HasItsRow, HasLeftMore, HaveRows, AreEmptied, SessionsGoOn, tears_of, most_tears};
+ghost use Rattle.run_crew.specs.Cabin.{CabinIsSound};
+ghost use Rattle.run_minutes.specs.Keeping.{DevicesMayBeCalled, CardMayBeCalled, HasItsRow, HasLeftMore, HaveRows, AreEmptied, SessionsGoOn, tears_of, most_tears};
 ghost use Rattle.run_minutes.specs.Minutes.{odometer_by, kept_of, AreDue, kept_after, AreKeptUpTo, Reach, IsReach};
 ghost use Rattle.run_minutes.specs.Decided.{BooksAll};
 ghost use Rattle.run_minutes.specs.Kept.{MayKeepAll, KeepsAll};
@@ -71,7 +71,7 @@ impl Keeper {
         marks: &mut Lines<Mark>,
         breaks: &mut Lines<Break>,
     ) -> Result<(), Failed>
-        requires ready { IsReady self.old (M.state unit.old) (C.card card_a.old) (D.card card_b.old)
+        requires ready { DevicesMayBeCalled self.old (M.state unit.old) (C.card card_a.old) (D.card card_b.old)
             (C.state card_a.old) (D.state card_b.old) }
         requires may { MayKeepAll decided.now at
             (standing self.old marks.old breaks.old (M.state unit.old) (C.state card_a.old) (D.state card_b.old)
@@ -117,11 +117,11 @@ impl Keeper {
         marks: &mut Lines<Mark>,
         breaks: &mut Lines<Break>,
     ) -> Result<(), Failed>
-        requires ready { IsReady self.old (M.state unit.old) (C.card card_a.old) (D.card card_b.old) (C.state card_a.old) (D.state card_b.old) }
+        requires ready { DevicesMayBeCalled self.old (M.state unit.old) (C.card card_a.old) (D.card card_b.old) (C.state card_a.old) (D.state card_b.old) }
         requires due { AreDue self.old.journal.kept decided.now }
         requires ended { All (λ m. is_some (present_in self.old.cabin.slots.past m.minute) ≡ true) decided.now }
         requires rows { All (λ m. IfSome (present_in self.old.cabin.slots.past m.minute) (HaveRows self.old.cabin.cards (M.state unit.old))) decided.now }
-        requires stands { (from : ℕ) × (leaving : Option Card) × All (λ m. from ≤ m.minute) decided.now × Stands from leaving self.old.cabin }
+        requires stands { (from : ℕ) × (leaving : Option Card) × All (λ m. from ≤ m.minute) decided.now × CabinIsSound from leaving self.old.cabin }
         requires odometer { self.old.odometer ≤ HIGHEST_ODOMETER }
         requires minute { self.old.cabin.slots.minute ≤ at.second / 60 }
         requires second { at.second ≢ 0 }
@@ -133,16 +133,16 @@ impl Keeper {
             × NotesFaults (is_err result) (faults_to self.old at reach (record { keeper = self.old; marks = marks.old; breaks = breaks.old })) (M.state unit.old) (M.state unit.new) }
         ensures unit { IsUnit (M.state unit.new) }
         ensures more { length breaks.old.items ≤ length breaks.new.items }
-        ensures ready { OnOk result (IsReady self.new (M.state unit.new) (C.card card_a.new) (D.card card_b.new) (C.state card_a.new) (D.state card_b.new)) }
+        ensures ready { OnOk result (DevicesMayBeCalled self.new (M.state unit.new) (C.card card_a.new) (D.card card_b.new) (C.state card_a.new) (D.state card_b.new)) }
         ensures rows { (card : Card) → HasItsRow self.old.cabin.cards (M.state unit.old) card → OnOk result (HasItsRow self.new.cabin.cards (M.state unit.new) card) }
         ensures same { (self.new.memory ≡ self.old.memory) × (self.new.odometer ≡ self.old.odometer) × (self.new.cabin.slots.past ≡ self.old.cabin.slots.past) }
         ensures minute { self.new.cabin.slots.minute ≤ at.second / 60 }
         ensures last { OnOk result (self.new.journal.kept ≡ kept_after self.old.journal.kept decided.now) }
-        ensures stands { (from : ℕ) (leaving : Option Card) → All (λ m. from ≤ m.minute) decided.now → Stands from leaving self.old.cabin → (next : ℕ) → from ≤ next → kept_after self.old.journal.kept decided.now < next → Stands next leaving self.new.cabin }
+        ensures stands { (from : ℕ) (leaving : Option Card) → All (λ m. from ≤ m.minute) decided.now → CabinIsSound from leaving self.old.cabin → (next : ℕ) → from ≤ next → kept_after self.old.journal.kept decided.now < next → CabinIsSound next leaving self.new.cabin }
         ensures seats { AreEmptied self.old.cabin.slots.seats self.new.cabin.slots.seats }
         ensures sessions { SessionsGoOn self.old.cabin.cards self.new.cabin.cards }
-        ensures card_a { CardReady self.new.cabin.cards.a (C.card card_a.new) (C.state card_a.new) }
-        ensures card_b { CardReady self.new.cabin.cards.b (D.card card_b.new) (D.state card_b.new) }
+        ensures card_a { CardMayBeCalled self.new.cabin.cards.a (C.card card_a.new) (C.state card_a.new) }
+        ensures card_b { CardMayBeCalled self.new.cabin.cards.b (D.card card_b.new) (D.state card_b.new) }
         ensures size_a { (C.state card_a.new).size ≡ (C.state card_a.old).size }
         ensures size_b { (D.state card_b.new).size ≡ (D.state card_b.old).size }
         ensures clock_a { (C.state card_a.old).clock ≤ (C.state card_a.new).clock }

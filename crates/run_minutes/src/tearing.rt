@@ -5,8 +5,8 @@ ghost use Rattle.tach_media.specs.Medium.{LeavesOnly, HasCause};
 ghost use Rattle.event_model.specs.declared.kinds.TheConstants.{CARD_FAULT};
 ghost use Rattle.unit_notes.specs.Journal.{LeavesJournal};
 ghost use Rattle.unit_notes.specs.Noting.{IsNotingEvent, IsEventNoted};
-ghost use Rattle.run_crew.specs.Cabin.{Stands, torn_out, crew_of};
-ghost use Rattle.run_minutes.specs.Keeping.{UnitReady, HasItsRow, tear_of, fault_of, with_lines};
+ghost use Rattle.run_crew.specs.Cabin.{CabinIsSound, torn_out, crew_of};
+ghost use Rattle.run_minutes.specs.Keeping.{UnitMayBeCalled, HasItsRow, tear_of, fault_of, with_lines};
 
 use crate::keeper::{Keeper, Moment};
 use activity_codec::Slot;
@@ -31,15 +31,15 @@ impl Keeper {
         unit: &mut M,
         breaks: &mut Lines<Break>,
     ) -> Result<(), Failed>
-        requires ready { UnitReady self.old (M.state unit.old) }
+        requires ready { UnitMayBeCalled self.old (M.state unit.old) }
         requires minute { self.old.cabin.slots.minute ≤ at.second / 60 }
         requires second { at.second ≢ 0 }
         requires room { length breaks.old.items < breaks.old.room }
         ensures keeper { self.new ≡ record self.old { cabin = torn_out card at.second self.old.cabin } }
         ensures told { breaks.new ≡ with_lines (tear_of slot at ∷ []) breaks.old }
-        ensures ready { OnOk result (UnitReady self.new (M.state unit.new)) }
+        ensures ready { OnOk result (UnitMayBeCalled self.new (M.state unit.new)) }
         ensures rows { (card : Card) → HasItsRow self.old.cabin.cards (M.state unit.old) card → OnOk result (HasItsRow self.new.cabin.cards (M.state unit.new) card) }
-        ensures stands { (from : ℕ) (leaving : Option Card) → Stands from leaving self.old.cabin → Stands from leaving self.new.cabin }
+        ensures stands { (from : ℕ) (leaving : Option Card) → CabinIsSound from leaving self.old.cabin → CabinIsSound from leaving self.new.cabin }
         ensures noted { OnOk result (IfSome (M.state unit.old).image (λ x. IfSome (M.state unit.new).image (IsEventNoted CARD_FAULT (fault_of at.second (crew_of self.new.cabin)) x))) }
         ensures moments { LeavesOnly (M.state unit.old) (M.state unit.new) (IsNotingEvent CARD_FAULT (fault_of at.second (crew_of self.new.cabin))) }
         ensures journal { LeavesOnly (M.state unit.old) (M.state unit.new) LeavesJournal }

@@ -8,7 +8,7 @@ use Rattle.trace_model.specs.Trace.{TraceSecond}
 use Rattle.card_image.specs.Own.{IsOwnValid}
 use Rattle.log_model.specs.declared.lines.Verdict.{Verdict}
 use Rattle.log_model.specs.Log.{RunLog, In, same_phase, is_accepting}
-use Rattle.log_model.specs.Course.{Told, Visit, Before, Course, has_power, second_told, went, Went}
+use Rattle.log_model.specs.Course.{ToldSecond, Visit, Before, Course, has_power, second_told, went, Went}
 use Rattle.event_model.specs.Events.{Event, Seen, Tearing, seen_by, seen_of, seen_spans, events_of}
 use Rattle.run_unit_course.specs.Followed.{Lit}
 use Rattle.run_unit_course.specs.Turn.{begins_with}
@@ -124,7 +124,7 @@ evented-in o done s p stage log d v = record {
 }
 
 -- ---- BY A LOG of the second
-module _ (o : Origin) (done : List TraceSecond) (p : Progress) (span : List Told) (s : TraceSecond) (b : BeginsNow o done p span s) where
+module _ (o : Origin) (done : List TraceSecond) (p : Progress) (span : List ToldSecond) (s : TraceSecond) (b : BeginsNow o done p span s) where
   abbrev pub before_it : Before
   before_it = (went p.log done).before
 

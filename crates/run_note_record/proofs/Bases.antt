@@ -11,7 +11,7 @@ use Rattle.unit_model.specs.Image.{last_kept, odometer_at}
 use Rattle.log_model.specs.declared.lines.Break.{Break}
 use Rattle.log_model.specs.declared.lines.Break.TheVariants.{Cut, Tear}
 use Rattle.log_model.specs.Causes.{is_cut, has_failed, second_of}
-use Rattle.log_model.specs.Course.{Told}
+use Rattle.log_model.specs.Course.{ToldSecond}
 use Rattle.log_model.specs.Log.{RunLog, kept_after}
 use Rattle.log_model.specs.Spans.{first_in}
 use Rattle.history_model.specs.History.{decided_of, cut_second, limit_by}
@@ -47,12 +47,12 @@ last-of [] s = refl
 last-of (x ∷ []) s = refl
 last-of (x ∷ y ∷ pre) s = last-of (y ∷ pre) s
 
-pub record CutTold (o : Option Told) (u : ℕ) : Type 0 where
-  pub t : Told
+pub record CutTold (o : Option ToldSecond) (u : ℕ) : Type 0 where
+  pub t : ToldSecond
   pub is : o ≡ Some t
   pub number : t.second.number ≡ u
 
-cut-told : (o : Option Told) (u : ℕ) → cut_second o ≡ Some u → CutTold o u
+cut-told : (o : Option ToldSecond) (u : ℕ) → cut_second o ≡ Some u → CutTold o u
 cut-told None u is = absurd (cc)
 cut-told (Some t) u is = by t.cut is
   where
@@ -213,27 +213,27 @@ pub stored-later : (o : Origin) (log later : RunLog) (unfound base : ℕ) (spans
 stored-later o log later unfound base spans le more h = record { earlier = h.earlier; span = h.span; are = h.are; stands = stands-on log unfound later unfound (more-breaks log later unfound le more) o h.earlier base h.stands }
 
 -- a second more, in the span that goes on
-pub goes-on : (earlier : List SpanFrom) (s : SpanFrom) (base : ℕ) (t : Told) → go_on_from (earlier ++ s ∷ []) base t ≡ earlier ++ record { base = s.base; span = s.span ++ t ∷ [] } ∷ []
+pub goes-on : (earlier : List SpanFrom) (s : SpanFrom) (base : ℕ) (t : ToldSecond) → go_on_from (earlier ++ s ∷ []) base t ≡ earlier ++ record { base = s.base; span = s.span ++ t ∷ [] } ∷ []
 goes-on [] s base t = refl
 goes-on (x ∷ []) s base t = refl
 goes-on (x ∷ y ∷ earlier) s base t = ap (λ (l : List SpanFrom). x ∷ l) (goes-on (y ∷ earlier) s base t)
 
-pub with-next : (spans : List SpanFrom) (base : ℕ) (t : Told) → t.lit ≡ true → t.starts ≡ false → with_second spans base t ≡ go_on_from spans base t
+pub with-next : (spans : List SpanFrom) (base : ℕ) (t : ToldSecond) → t.lit ≡ true → t.starts ≡ false → with_second spans base t ≡ go_on_from spans base t
 with-next spans base t lit off = λ i. cond (lit i) (cond (off i) (spans ++ record { base = base; span = t ∷ [] } ∷ []) (go_on_from spans base t)) spans
 
-pub with-first : (spans : List SpanFrom) (base : ℕ) (t : Told) → t.lit ≡ true → t.starts ≡ true → with_second spans base t ≡ spans ++ record { base = base; span = t ∷ [] } ∷ []
+pub with-first : (spans : List SpanFrom) (base : ℕ) (t : ToldSecond) → t.lit ≡ true → t.starts ≡ true → with_second spans base t ≡ spans ++ record { base = base; span = t ∷ [] } ∷ []
 with-first spans base t lit on = λ i. cond (lit i) (cond (on i) (spans ++ record { base = base; span = t ∷ [] } ∷ []) (go_on_from spans base t)) spans
 
-pub next-are : (earlier : List SpanFrom) (base : ℕ) (span : List Told) (spans : List SpanFrom) (other : ℕ) (t : Told) → spans ≡ earlier ++ record { base = base; span = span } ∷ [] → t.lit ≡ true → t.starts ≡ false →
+pub next-are : (earlier : List SpanFrom) (base : ℕ) (span : List ToldSecond) (spans : List SpanFrom) (other : ℕ) (t : ToldSecond) → spans ≡ earlier ++ record { base = base; span = span } ∷ [] → t.lit ≡ true → t.starts ≡ false →
     with_second spans other t ≡ earlier ++ record { base = base; span = span ++ t ∷ [] } ∷ []
 next-are earlier base span spans other t are lit off =
     with-next spans other t lit off ∙ ap (λ (l : List SpanFrom). go_on_from l other t) are ∙ goes-on earlier (record { base = base; span = span }) other t
 
-pub stored-next : (o : Origin) (log : RunLog) (unfound base other : ℕ) (spans : List SpanFrom) (t : Told) → t.lit ≡ true → t.starts ≡ false → StoresOn o log unfound base spans → StoresOn o log unfound base (with_second spans other t)
+pub stored-next : (o : Origin) (log : RunLog) (unfound base other : ℕ) (spans : List SpanFrom) (t : ToldSecond) → t.lit ≡ true → t.starts ≡ false → StoresOn o log unfound base spans → StoresOn o log unfound base (with_second spans other t)
 stored-next o log unfound base other spans t lit off h = record { earlier = h.earlier; span = h.span ++ t ∷ []; are = next-are h.earlier base h.span spans other t h.are lit off; stands = h.stands }
 
 -- whatever is told of that second, and with which odometer it goes on
-pub stored-alike : (o : Origin) (log : RunLog) (unfound base : ℕ) (spans : List SpanFrom) (t x : Told) → t.lit ≡ true → x.lit ≡ true → x.starts ≡ t.starts → StoresOn o log unfound base (with_second spans base t) → StoresOn o log unfound base (with_second spans base x)
+pub stored-alike : (o : Origin) (log : RunLog) (unfound base : ℕ) (spans : List SpanFrom) (t x : ToldSecond) → t.lit ≡ true → x.lit ≡ true → x.starts ≡ t.starts → StoresOn o log unfound base (with_second spans base t) → StoresOn o log unfound base (with_second spans base x)
 stored-alike o log unfound base spans t x lit also same h = by t.starts refl
   where
     by : (b : Bool) → t.starts ≡ b → StoresOn o log unfound base (with_second spans base x)
@@ -257,7 +257,7 @@ stored-alike o log unfound base spans t x lit also same h = by t.starts refl
             }
 
 -- or with which a span begins
-pub stored-first : (o : Origin) (log : RunLog) (unfound base : ℕ) (spans : List SpanFrom) (t : Told) → t.lit ≡ true → t.starts ≡ true → StandsOn o log unfound spans base → StoresOn o log unfound base (with_second spans base t)
+pub stored-first : (o : Origin) (log : RunLog) (unfound base : ℕ) (spans : List SpanFrom) (t : ToldSecond) → t.lit ≡ true → t.starts ≡ true → StandsOn o log unfound spans base → StoresOn o log unfound base (with_second spans base t)
 stored-first o log unfound base spans t lit on h = record { earlier = spans; span = t ∷ []; are = with-first spans base t lit on; stands = h }
 
 -- THE BASES of all of them
@@ -269,7 +269,7 @@ stored-bases o log unfound base spans h =
 -- ---- POWER IS LOST
 
 -- the span that went on ends with a cut, and each image has stored so
-pub stored-ends : (o : Origin) (log later : RunLog) (unfound : ℕ) (earlier : List SpanFrom) (base : ℕ) (span : List Told) (u : ℕ) (d : Devices) → unfound ≤ length log.breaks → HasMoreBreaks log later → StandsOn o log unfound earlier base →
+pub stored-ends : (o : Origin) (log later : RunLog) (unfound : ℕ) (earlier : List SpanFrom) (base : ℕ) (span : List ToldSecond) (u : ℕ) (d : Devices) → unfound ≤ length log.breaks → HasMoreBreaks log later → StandsOn o log unfound earlier base →
     cut_second (last span) ≡ Some u → tells_cut u later.breaks ≡ true → tells_cut u (take unfound log.breaks) ≡ false →
     ((x : List ℕ) → d.unit.may_leave x → MayStore (rule_of o) (odometer_at o.recording.unit) (first_of o) (earlier ++ record { base = base; span = span } ∷ []) (last_kept x) (odometer_at x)) →
     StoresOff o later unfound (earlier ++ record { base = base; span = span } ∷ []) d
@@ -350,7 +350,7 @@ failed-here log u begun =
     ap (list_any (λ (b : Break). nat_eq (second_of b) u)) (filter-append (λ (b : Break). is_cut b && has_failed b) log.breaks (cut_at u true begun ∷ []))
     ∙ any-last (λ (b : Break). nat_eq (second_of b) u) (filter (λ (b : Break). is_cut b && has_failed b) log.breaks) (cut_at u true begun) (same-itself u)
 
-module _ (o : Origin) (log later : RunLog) (unfound : ℕ) (spans : List SpanFrom) (d : Devices) (t : Told) (u : ℕ) (x : List ℕ) (le : unfound ≤ length log.breaks) (more : HasMoreBreaks log later) (number : t.second.number ≡ u) (ends : t.cut ≡ true)
+module _ (o : Origin) (log later : RunLog) (unfound : ℕ) (spans : List SpanFrom) (d : Devices) (t : ToldSecond) (u : ℕ) (x : List ℕ) (le : unfound ≤ length log.breaks) (more : HasMoreBreaks log later) (number : t.second.number ≡ u) (ends : t.cut ≡ true)
     (failed : has_failed_in later u ≡ true) (tells : tells_cut u later.breaks ≡ true) (absent : tells_cut u (take unfound log.breaks) ≡ false) (on : d.unit.may_leave x) (h : StoresOff o log unfound spans d) where
   abbrev new : SpanFrom
   new = record { base = odometer_at x; span = t ∷ [] }

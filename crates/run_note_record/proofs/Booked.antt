@@ -10,7 +10,7 @@ use Rattle.minute_model.specs.declared.Rule.{Rule}
 use Rattle.minute_model.specs.Minute.{minutes_ahead}
 use Rattle.minute_model.specs.Span.{AreNumbered, count_from, end_of, latest, ungiven_of}
 use Rattle.minute_model.proofs.Counted.{decided-minutes}
-use Rattle.log_model.specs.Course.{Told, went}
+use Rattle.log_model.specs.Course.{ToldSecond, went}
 use Rattle.log_model.specs.Log.{RunLog}
 use Rattle.log_model.specs.Spans.{seconds_in, first_in, spans_of}
 use Rattle.history_model.specs.Minutes.{HistoryMinute, up_to}
@@ -21,10 +21,10 @@ use Rattle.history_model.specs.Growth.{as_span, closed_limit, closed_history}
 use Rattle.history_model.specs.Book.{Book, all, found, IsMark}
 use Rattle.history_model.proofs.Books.{up_to-within, contains-up_to}
 use Rattle.history_model.proofs.Deciding.{counted, span-settled}
-use Rattle.run_unit_course.specs.Followed.{Supply, Lit, going_on, as_spans}
+use Rattle.run_unit_course.specs.Followed.{UnitPower, Lit, going_on, as_spans}
 use Rattle.run_unit_course.specs.Turn.{span_at}
 use Rattle.note_model.specs.Odometer.{SpanFrom}
-use Rattle.run_course.specs.Followed.{Progress, Followed, IsShut, IsTied}
+use Rattle.run_course.specs.Followed.{Progress, BookFollowsRun, IsShut, IsTied}
 use Rattle.run_course.proofs.Deciding.{added, decides-now}
 use Rattle.run_course.proofs.Steps.{lit-parts, span-end}
 use Rattle.run_note_record.specs.Origin.{Origin}
@@ -44,11 +44,11 @@ limited-numbers (Some k) (i ∷ past) = by (nat_le i.minute k) (limited-numbers 
     by true rest = ap (λ (ms : List ℕ). i.minute ∷ ms) rest
     by false rest = rest
 
-pub after-numbers : (start : Start) (told : List Told) (past : List HistoryMinute) (ds : List Minute) → numbers (minutes_after start told past ds) ≡ map (λ (d : Minute). d.minute) ds
+pub after-numbers : (start : Start) (told : List ToldSecond) (past : List HistoryMinute) (ds : List Minute) → numbers (minutes_after start told past ds) ≡ map (λ (d : Minute). d.minute) ds
 after-numbers start told past [] = refl
 after-numbers start told past (d ∷ ds) = ap (λ (ms : List ℕ). d.minute ∷ ms) (after-numbers start told (past ++ seated start told past d ∷ []) ds)
 
-closed-numbers : (rule : Rule) (start : Start) (log : RunLog) (told : List Told) (past : List HistoryMinute) (spans : List SpanFrom) → numbers (history_by rule start (closed_limit log) told past (map (λ (s : SpanFrom). s.span) spans)) ≡ minutes_kept rule log spans
+closed-numbers : (rule : Rule) (start : Start) (log : RunLog) (told : List ToldSecond) (past : List HistoryMinute) (spans : List SpanFrom) → numbers (history_by rule start (closed_limit log) told past (map (λ (s : SpanFrom). s.span) spans)) ≡ minutes_kept rule log spans
 closed-numbers rule start log told past [] = refl
 closed-numbers rule start log told past (s ∷ spans) =
     let l : Option ℕ = limit_by log (cut_second (last s.span)) in
@@ -58,16 +58,16 @@ closed-numbers rule start log told past (s ∷ spans) =
     ∙ ap (λ (ms : List ℕ). limited l (map (λ (d : Minute). d.minute) (decided_of rule s.span)) ++ ms) (closed-numbers rule start log told (past ++ more) spans)
 
 -- THE BOOK OF A RUN WITH POWER has the minutes that were kept of the spans before, and all of the one that goes on.
-module _ (rule : Rule) (start : Start) (from first : ℕ) (done : List TraceSecond) (p : Progress) (f : Followed rule start from first done p) (span : List Told) (lit : p.supply ≡ Lit span) (waiting : p.waiting ≡ []) (earlier : List SpanFrom)
+module _ (rule : Rule) (start : Start) (from first : ℕ) (done : List TraceSecond) (p : Progress) (f : BookFollowsRun rule start from first done p) (span : List ToldSecond) (lit : p.supply ≡ Lit span) (waiting : p.waiting ≡ []) (earlier : List SpanFrom)
     (are : spans_of (went p.log done).told ≡ map (λ (s : SpanFrom). s.span) earlier ++ as_spans span) where
-  abbrev told : List Told
+  abbrev told : List ToldSecond
   told = (went p.log done).told
 
   shut : IsShut rule start p.log (take p.unfound p.log.breaks) told f.ended span p.book p.waiting
-  shut = subst (λ (s : Supply). IsTied rule start p.log (take p.unfound p.log.breaks) told f.ended s p.book p.waiting) lit f.tied
+  shut = subst (λ (s : UnitPower). IsTied rule start p.log (take p.unfound p.log.breaks) told f.ended s p.book p.waiting) lit f.tied
 
   ended-are : f.ended ≡ map (λ (s : SpanFrom). s.span) earlier
-  ended-are = append_cancel_right f.ended (map (λ (s : SpanFrom). s.span) earlier) (as_spans span) (sym (f.spans ∙ ap (λ (s : Supply). f.ended ++ as_spans (going_on s)) lit) ∙ are)
+  ended-are = append_cancel_right f.ended (map (λ (s : SpanFrom). s.span) earlier) (as_spans span) (sym (f.spans ∙ ap (λ (s : UnitPower). f.ended ++ as_spans (going_on s)) lit) ∙ are)
 
   pub book-numbers : numbers p.book.sure ≡ minutes_kept rule p.log earlier ++ map (λ (d : Minute). d.minute) (decided_of rule span)
   book-numbers =
@@ -75,7 +75,7 @@ module _ (rule : Rule) (start : Start) (from first : ℕ) (done : List TraceSeco
       ∙ map-append (λ (i : HistoryMinute). i.minute) (closed_history rule start p.log told f.ended) (span_minutes rule start told (closed_history rule start p.log told f.ended) span)
       ∙ ap (λ (ms : List ℕ). numbers (closed_history rule start p.log told f.ended) ++ ms) (after-numbers start told (closed_history rule start p.log told f.ended) (decided_of rule span))
       ∙ ap (λ (ms : List ℕ). ms ++ map (λ (d : Minute). d.minute) (decided_of rule span))
-      (ap (λ (ss : List (List Told)). numbers (closed_history rule start p.log told ss)) ended-are ∙ closed-numbers rule start p.log told [] earlier)
+      (ap (λ (ss : List (List ToldSecond)). numbers (closed_history rule start p.log told ss)) ended-are ∙ closed-numbers rule start p.log told [] earlier)
 
   pub book-none : p.book.maybe ≡ None
   book-none = shut.none
@@ -83,7 +83,7 @@ module _ (rule : Rule) (start : Start) (from first : ℕ) (done : List TraceSeco
   pub span-ends : end_of (span_at rule p.next span) ≡ p.next
   span-ends = by span lit
     where
-      by : (sp : List Told) → p.supply ≡ Lit sp → end_of (span_at rule p.next sp) ≡ p.next
+      by : (sp : List ToldSecond) → p.supply ≡ Lit sp → end_of (span_at rule p.next sp) ≡ p.next
       by [] is = omega arith
       by (t ∷ sp) is =
           let g = lit-parts rule start from first done p f (t ∷ sp) is waiting in
@@ -105,13 +105,13 @@ found-newest first k b mark = record {
 
 -- ---- the second that decides
 
-settlings-push : (span : List Told) (t : Told) (n : ℕ) → t.second.number ≡ n → settlings_of (span ++ t ∷ []) ≡ added t.course.settled n (settlings_of span)
+settlings-push : (span : List ToldSecond) (t : ToldSecond) (n : ℕ) → t.second.number ≡ n → settlings_of (span ++ t ∷ []) ≡ added t.course.settled n (settlings_of span)
 settlings-push span t n is =
-    ap (map (λ (x : Told). x.second.number)) (filter-append (λ (x : Told). x.course.settled) span (t ∷ []))
-    ∙ map-append (λ (x : Told). x.second.number) (filter (λ (x : Told). x.course.settled) span) (filter (λ (x : Told). x.course.settled) (t ∷ []))
+    ap (map (λ (x : ToldSecond). x.second.number)) (filter-append (λ (x : ToldSecond). x.course.settled) span (t ∷ []))
+    ∙ map-append (λ (x : ToldSecond). x.second.number) (filter (λ (x : ToldSecond). x.course.settled) span) (filter (λ (x : ToldSecond). x.course.settled) (t ∷ []))
     ∙ by t.course.settled
   where
-    by : (b : Bool) → settlings_of span ++ map (λ (x : Told). x.second.number) (cond b (t ∷ []) []) ≡ added b n (settlings_of span)
+    by : (b : Bool) → settlings_of span ++ map (λ (x : ToldSecond). x.second.number) (cond b (t ∷ []) []) ≡ added b n (settlings_of span)
     by true = ap (λ (k : ℕ). settlings_of span ++ k ∷ []) is
     by false = refl
 
@@ -123,7 +123,7 @@ in-count a (suc n) m at = ⊎_elim
     (Contains-append_cases (a ∷ []) (count_from (a + 1) n) m at)
 
 -- a minute that was not decided before, and is behind this second, was decided by it
-pub deciding-now : (rule : Rule) (next : ℕ) (span : List Told) (t : Told) (d : Minute) → t.second.number ≡ next → end_of (span_at rule next span) ≡ next → AreNumbered (first_in (span ++ t ∷ [])) (seconds_in (span ++ t ∷ [])) →
+pub deciding-now : (rule : Rule) (next : ℕ) (span : List ToldSecond) (t : ToldSecond) (d : Minute) → t.second.number ≡ next → end_of (span_at rule next span) ≡ next → AreNumbered (first_in (span ++ t ∷ [])) (seconds_in (span ++ t ∷ [])) →
     Contains (decided_of rule (span ++ t ∷ [])) d → ungiven_of (span_at rule next span) ≤ d.minute → deciding_of rule (settlings_of (span ++ t ∷ [])) d.minute ≡ next
 deciding-now rule next span t d is ends numbered at from =
     ap (λ (us : List ℕ). deciding_of rule us d.minute) (settlings-push span t next is)
@@ -133,15 +133,15 @@ deciding-now rule next span t d is ends numbered at from =
     within = in-count (first_in (span ++ t ∷ []) / 60) (ungiven_of (as_span rule (span ++ t ∷ [])) - first_in (span ++ t ∷ []) / 60) d.minute
         (subst (λ (ms : List ℕ). Contains ms d.minute) (decided-minutes (as_span rule (span ++ t ∷ [])) numbered (span-settled rule (span ++ t ∷ []) numbered)) (mapped (λ (x : Minute). x.minute) (decided_of rule (span ++ t ∷ [])) d at))
 
-    late : (sp : List Told) → end_of (span_at rule next sp) ≡ next → ungiven_of (span_at rule next sp) ≤ d.minute → latest (settlings_of sp) / 60 ≤ d.minute
+    late : (sp : List ToldSecond) → end_of (span_at rule next sp) ≡ next → ungiven_of (span_at rule next sp) ≤ d.minute → latest (settlings_of sp) / 60 ≤ d.minute
     late [] e low = omega arith
     late (x ∷ xs) e low = omega (arith, low)
 
-    ahead : (sp : List Told) → end_of (span_at rule next sp) ≡ next → ungiven_of (span_at rule next sp) ≤ d.minute → next / 60 - minutes_ahead rule ≤ d.minute
+    ahead : (sp : List ToldSecond) → end_of (span_at rule next sp) ≡ next → ungiven_of (span_at rule next sp) ≤ d.minute → next / 60 - minutes_ahead rule ≤ d.minute
     ahead [] e low = omega (arith, low)
     ahead (x ∷ xs) e low = omega (arith, low, e)
 
-    below : (sp : List Told) → t.second.number ≡ next → end_of (span_at rule next sp) ≡ next → ungiven_of (span_at rule next sp) ≤ d.minute → latest (settlings_of (sp ++ t ∷ [])) ≡ latest (added t.course.settled next (settlings_of sp)) →
+    below : (sp : List ToldSecond) → t.second.number ≡ next → end_of (span_at rule next sp) ≡ next → ungiven_of (span_at rule next sp) ≤ d.minute → latest (settlings_of (sp ++ t ∷ [])) ≡ latest (added t.course.settled next (settlings_of sp)) →
         d.minute < first_in (sp ++ t ∷ []) / 60 + (ungiven_of (as_span rule (sp ++ t ∷ [])) - first_in (sp ++ t ∷ []) / 60) → d.minute < max ((next + 1) / 60 - minutes_ahead rule) (latest (added t.course.settled next (settlings_of sp)) / 60)
     below [] here e low same lt = let n = counted (t ∷ []) in omega (arith, here, low, same, lt, n)
     below (x ∷ xs) here e low same lt = let n = counted ((x ∷ xs) ++ t ∷ []) in let c = counted (x ∷ xs) in let l = length-append (x ∷ xs) (t ∷ []) in omega (arith, e, low, same, lt, n, c, l)
@@ -149,7 +149,7 @@ deciding-now rule next span t d is ends numbered at from =
 -- ---- within a second
 
 -- of the spans with a second more the last one goes on with it, or begins
-pub in-second : (o : Origin) (log : RunLog) (unfound base : ℕ) (spans : List SpanFrom) (t : Told) → t.lit ≡ true → StoresOn o log unfound base (with_second spans base t) →
+pub in-second : (o : Origin) (log : RunLog) (unfound base : ℕ) (spans : List SpanFrom) (t : ToldSecond) → t.lit ≡ true → StoresOn o log unfound base (with_second spans base t) →
     ((t.starts ≡ true) × StandsOn o log unfound spans base) ⊎ ((t.starts ≡ false) × ((spans ≡ []) ⊎ StoresOn o log unfound base spans))
 in-second o log unfound base spans t lit h = by t.starts refl
   where

@@ -18,14 +18,14 @@ use Rattle.log_model.specs.declared.lines.SlotFault.{SlotFault}
 use Rattle.log_model.specs.declared.lines.Verdict.{Verdict}
 use Rattle.log_model.specs.Log.{RunLog, Phase, In, Keeping, same_phase, kept_by, kept_after, tears_here, is_torn_in, found_in}
 use Rattle.log_model.specs.Slots.{Slots, Sitting, in_slot, other_slot, refusal}
-use Rattle.log_model.specs.Course.{Told, Visit, Course, Before, Moved, card_in, visits, has_power, answered, moved_by, both_told, went}
+use Rattle.log_model.specs.Course.{ToldSecond, Visit, Course, Before, Moved, card_in, visits, has_power, answered, moved_by, both_told, went}
 use Rattle.event_model.specs.declared.kinds.TheConstants.{DRIVING_WITHOUT_CARD, OVER_SPEEDING, POWER_INTERRUPTION, CARD_FAULT}
 use Rattle.event_model.specs.declared.entries.Span.{Span}
 use Rattle.event_model.specs.Spans.{gap_of}
 use Rattle.event_model.specs.Events.{Event, Seen, Tearing, number_of, last_number, noted_with, with_card, accepted_card, crew_of, course_by, moved_by_action, within_by, seen_by, seen_of, seen_spans, torn_at, accepted_at, standing, gap_event, beside_judged, crew_judged, found_events, is_first, beside_torn, fault_of, torn_in_turn}
 use Rattle.run_unit_course.specs.Followed.{Lit}
 use Rattle.run_course.specs.Moments.{and_break}
-use Rattle.run_course.specs.Followed.{Progress, Followed}
+use Rattle.run_course.specs.Followed.{Progress, BookFollowsRun}
 use Rattle.run_course.specs.Seconds.{GoesOnBy}
 use Rattle.run_course.proofs.Lookups.{break-more}
 use Rattle.run_course.proofs.Steps.{with-supply, went-same_}
@@ -540,14 +540,14 @@ module _ (log : RunLog) (before : Before) (s : TraceSecond) (at : Phase) (power 
         (λ no_gap no_fault. found-more kind own ∙ ap (λ (es : List Event). found_by kind own t x ++ es) (sym (none-of e kind refl no_fault)))
 
 -- THE LAW
-pub brought-as : (o : Origin) (done : List TraceSecond) (p : Progress) (f : Followed (rule_of o) (start_at o) o.from (first_of o) done p) (s : TraceSecond) (l : RunLog) (g : GoesOnBy p l s) (h : Tearing) (own : ℕ → Visit → ℕ) (kind : ℕ) →
+pub brought-as : (o : Origin) (done : List TraceSecond) (p : Progress) (f : BookFollowsRun (rule_of o) (start_at o) o.from (first_of o) done p) (s : TraceSecond) (l : RunLog) (g : GoesOnBy p l s) (h : Tearing) (own : ℕ → Visit → ℕ) (kind : ℕ) →
     brought_now o l done s h own kind ≡ second_events kind (limit_in o) own h l (seen_spans (seen_of p.log done)) (seen_by l (went p.log done).before s)
 brought-as o done p f s l g h own kind = λ i.
     second_events kind (limit_in o) own h l (seen_spans (seen-same p.log l done (same-before o done p f s l g) i))
     (seen_by l (went-same_ (rule_of o) (start_at o) o.from (first_of o) done p f.order f.next f.unfound s l g i).before s)
 
 -- by what is reached
-pub tear-brings : (o : Origin) (done : List TraceSecond) (p : Progress) (f : Followed (rule_of o) (start_at o) o.from (first_of o) done p) (span : List Told) → p.supply ≡ Lit span → (s : TraceSecond) (at : Phase) (log : RunLog) → Reaches p s at log →
+pub tear-brings : (o : Origin) (done : List TraceSecond) (p : Progress) (f : BookFollowsRun (rule_of o) (start_at o) o.from (first_of o) done p) (span : List ToldSecond) → p.supply ≡ Lit span → (s : TraceSecond) (at : Phase) (log : RunLog) → Reaches p s at log →
     (slot : Slot) (card : Card) (b : Break) → IsTearAt s at slot true b → is_torn_in log s.number at slot ≡ false →
     IsOneOut at slot card ((moved_at log (went p.log done).before s at).leaving slot ++ visits at slot (course_at log (went p.log done).before s at).slots) →
     (here here_then : Tearing) (own : ℕ → Visit → ℕ) → ChoiceBefore here here_then s.number at → TornSecond at slot log s.number here_then → NotFound at (other_slot slot) log s.number →

@@ -15,14 +15,14 @@ use Rattle.log_model.specs.declared.lines.Verdict.TheVariants.{Accepted, NotVali
 use Rattle.log_model.specs.Log.{RunLog, Phase, In, Keeping, same_phase, cut_in, kept_after, is_torn_in, is_accepting}
 use Rattle.log_model.specs.Slots.{is_accepted}
 use Rattle.log_model.specs.Causes.{RoseBy}
-use Rattle.log_model.specs.Course.{Told, Visit, Course, Before, has_power, second_told, went, Went}
+use Rattle.log_model.specs.Course.{ToldSecond, Visit, Course, Before, has_power, second_told, went, Went}
 use Rattle.event_model.specs.declared.kinds.TheConstants.{CARD_NOT_VALID, TIME_OVERLAP, DRIVING_WITHOUT_CARD, INSERTION_WHILE_DRIVING, SESSION_NOT_CLOSED, OVER_SPEEDING, POWER_INTERRUPTION, CARD_FAULT}
 use Rattle.event_model.specs.declared.entries.Span.{Span}
 use Rattle.event_model.specs.Spans.{gap_of}
 use Rattle.event_model.specs.Runs.{last_run}
 use Rattle.event_model.specs.Events.{Event, Seen, Tearing, number_of, last_number, noted_with, seen_by, seen_of, seen_spans, is_bare, bare_event, over_event, first_card, standing, crew_judged, found_events, fault_of, torn_in_turn, is_codriver_first}
 use Rattle.run_unit_course.specs.Lines.{cut_at, tells_cut}
-use Rattle.run_unit_course.specs.Followed.{Supply, Lit}
+use Rattle.run_unit_course.specs.Followed.{UnitPower, Lit}
 use Rattle.run_unit_course.specs.Turn.{begins_with}
 use Rattle.safety_model.specs.Safe.{Devices}
 use Rattle.unit_events.specs.Noted.{are_sure}
@@ -38,7 +38,7 @@ use Rattle.run_course.specs.Telling.{IsMore, begun_by, IsLeft}
 use Rattle.run_course.proofs.Telling.{cut-ends_told}
 use Rattle.run_events.specs.Shown.{by_kind, none}
 use Rattle.run_events.specs.Seconds.{last_of, span_before, bares_by, overs_by, is_fast, gap_before, gap_by, faults_by, found_by, second_events}
-use Rattle.run_events.specs.Gaps.{IsTold, OfLast, IsKnownLast, HasGaps}
+use Rattle.run_events.specs.Gaps.{CutIsTold, OfLast, IsKnownLast, HasGaps}
 use Rattle.run_events.specs.Choice.{IsTornIn}
 use Rattle.run_events.proofs.Later.{told-number}
 use Rattle.run_promise.specs.Origin.{Origin, rule_of, start_at, first_of}
@@ -114,7 +114,7 @@ option-none f g a b same gone = ap (λ (o : Option Span). option_to_list (option
     by None gone = refl
     by (Some gap) gone = absurd (cc)
 
-gap-none : (t : Tearing) (log later : RunLog) (x z : Seen) (found : List Break) → number_of z ≡ number_of x → ((u : ℕ) → tells_cut u found ≡ true → kept_after later u ≡ kept_after log u) → (spans : List (List Seen)) → OfLast (IsTold found) spans →
+gap-none : (t : Tearing) (log later : RunLog) (x z : Seen) (found : List Break) → number_of z ≡ number_of x → ((u : ℕ) → tells_cut u found ≡ true → kept_after later u ≡ kept_after log u) → (spans : List (List Seen)) → OfLast (CutIsTold found) spans →
     gap_before t later spans z ≡ [] → gap_before t log spans x ≡ []
 gap-none t log later x z found number kept [] known gone = refl
 gap-none t log later x z found number kept (span ∷ []) known gone =
@@ -132,7 +132,7 @@ kinds-none false false false true p q r v w p' q' r' v' w' hp hq hr hv hw gone =
 kinds-none false false false false p q r v w p' q' r' v' w' hp hq hr hv hw gone = hw gone
 
 -- ---- a cut's line tells nothing else
-module _ (o : Origin) (done : List TraceSecond) (p : Progress) (span : List Told) (s : TraceSecond) (b : BeginsNow o done p span s) (at : Phase) (log : RunLog) (waits : List Visit) (mid now after : Device → ℕ) (m : Moment p (went p.log done).before s at log waits mid now)
+module _ (o : Origin) (done : List TraceSecond) (p : Progress) (span : List ToldSecond) (s : TraceSecond) (b : BeginsNow o done p span s) (at : Phase) (log : RunLog) (waits : List Visit) (mid now after : Device → ℕ) (m : Moment p (went p.log done).before s at log waits mid now)
     (rose : IsMore now after) (broke : RoseBy 1 (mid Recorder) (after Recorder)) (rest : List Action) (left : IsLeft s at rest) where
   abbrev k : ℕ
   k = begun_by s at
@@ -170,13 +170,13 @@ module _ (o : Origin) (done : List TraceSecond) (p : Progress) (span : List Told
   torn-z : z.told.course.torn ≡ x.told.course.torn
   torn-z =
       let told_cut = (cut-ends_told (rule_of o) (start_at o) o.from (first_of o) done p b.followed span b.lit s at log waits mid now after m rose broke rest left).0 in
-      ap (λ (w : Before). (second_told cut w s).course.torn) (sym went-cut) ∙ ap (λ (t : Told). t.course.torn) told_cut
+      ap (λ (w : Before). (second_told cut w s).course.torn) (sym went-cut) ∙ ap (λ (t : ToldSecond). t.course.torn) told_cut
       ∙ sym (ap (λ (c : Course). c.torn) (lit-course log before s has) ∙ (whole-told log before s at m.up_to m.is).torn)
 
   pub found-z : z.told.course.found ≡ x.told.course.found
   found-z =
       let told_cut = (cut-ends_told (rule_of o) (start_at o) o.from (first_of o) done p b.followed span b.lit s at log waits mid now after m rose broke rest left).0 in
-      ap (λ (w : Before). (second_told cut w s).course.found) (sym went-cut) ∙ ap (λ (t : Told). t.course.found) told_cut
+      ap (λ (w : Before). (second_told cut w s).course.found) (sym went-cut) ∙ ap (λ (t : ToldSecond). t.course.found) told_cut
       ∙ sym (ap (λ (c : Course). c.found) (lit-course log before s has) ∙ (whole-told log before s at m.up_to m.is).found)
 
   lit-z : z.told.lit ≡ x.told.lit
@@ -238,11 +238,11 @@ module _ (o : Origin) (done : List TraceSecond) (p : Progress) (span : List Told
     starts-x : x.told.starts ≡ begins_with span
     starts-x = (lit-told log before s has).starts ∙ starts-now o done p span s b
 
-    gaps-by : (span : List Told) → p.supply ≡ Lit span → x.told.starts ≡ begins_with span → gap_by t cut spans z ≡ [] → gap_by t log spans x ≡ []
+    gaps-by : (span : List ToldSecond) → p.supply ≡ Lit span → x.told.starts ≡ begins_with span → gap_by t cut spans z ≡ [] → gap_by t log spans x ≡ []
     gaps-by [] is starts gone =
         ap (λ (c : Bool). cond c (cond x.told.starts (gap_before t log spans x) []) []) (lit-told log before s has).lit
         ∙ ap (λ (c : Bool). cond c (gap_before t log spans x) []) starts
-        ∙ gap-none t log cut x z (take p.unfound p.log.breaks) number-z known-cut spans (subst (λ (u : Supply). IsKnownLast u p.log (take p.unfound p.log.breaks) spans) is gaps.last)
+        ∙ gap-none t log cut x z (take p.unfound p.log.breaks) number-z known-cut spans (subst (λ (u : UnitPower). IsKnownLast u p.log (take p.unfound p.log.breaks) spans) is gaps.last)
         (sym (ap (λ (c : Bool). cond c (cond z.told.starts (gap_before t cut spans z) []) []) (lit-z ∙ (lit-told log before s has).lit)
         ∙ ap (λ (c : Bool). cond c (gap_before t cut spans z) []) (starts-z ∙ starts)) ∙ gone)
     gaps-by (u ∷ more) is starts gone = ap (λ (c : Bool). cond x.told.lit (cond c (gap_before t log spans x) []) []) starts ∙ same-if x.told.lit

@@ -14,13 +14,13 @@ use Rattle.log_model.specs.declared.lines.Break.{Break}
 use Rattle.log_model.specs.Log.{RunLog, In, same_phase, kept_after}
 use Rattle.log_model.specs.Same.{SameAt}
 use Rattle.log_model.specs.Slots.{Slots, Sitting}
-use Rattle.log_model.specs.Course.{Told, Visit, Went, Before, visits, card_in, fresh, has_power, second_told, went}
+use Rattle.log_model.specs.Course.{ToldSecond, Visit, Went, Before, visits, card_in, fresh, has_power, second_told, went}
 use Rattle.event_model.specs.Events.{Seen, number_of, torn_at, entered_at}
 use Rattle.note_model.specs.Done.{has_failed_in}
 use Rattle.unit_events.specs.Noted.{StayFailed}
 use Rattle.unit_events.proofs.Failing.{failed-here}
 use Rattle.run_unit_course.specs.Lines.{log_of, cut_at}
-use Rattle.run_unit_course.specs.Followed.{Supply, Lit, Due, Lost, MayPower, MayFail, IsDark, cuts_from}
+use Rattle.run_unit_course.specs.Followed.{UnitPower, Lit, Due, Lost, MayPower, MayFail, IsDark, cuts_from}
 use Rattle.safety_model.specs.Safe.{Devices}
 use Rattle.run_course.specs.Moments.{and_break}
 use Rattle.run_course.specs.Seconds.{GoesOnBy, next_told}
@@ -93,7 +93,7 @@ dark-brings d o done log later unfound next supply now order count v dark s numb
                 (first-more (card_image o.recording) (went log done).told (next_told later done s ∷ []) done (s ∷ []) f.0.card t.second.number (v.sessions t.second.number f.0) was.3)),
           ))
           (λ (one : next_told later done s ≡ t).
-          nothing-in f (subst (λ (fs : List (Visit × Verdict)). Contains fs f) dull.0 (subst (λ (y : Told). Contains y.course.found f) (sym one) there)))
+          nothing-in f (subst (λ (fs : List (Visit × Verdict)). Contains fs f) dull.0 (subst (λ (y : ToldSecond). Contains y.course.found f) (sym one) there)))
           (Contains-push_cases (went log done).told (next_told later done s) t
           (subst (λ (w : Went). Contains (w.told ++ next_told later done s ∷ []) t) (went-refused log later breaks finds done) (subst (λ (w : Went). Contains w.told t) (went-more later done s) among)));
       exact = exact-dark o log later done s v.sessions breaks finds same lit dull.0 v.exact;
@@ -124,12 +124,12 @@ plain-fits x slots torn entered_ = record {
   put_in = λ n slot in_. true-not (entered_at x (In (suc n)) slot) in_ (ap (list_any (λ (v : Visit). same_phase v.phase (In (suc n)) && same_slot v.slot slot)) entered_ ∙ none-enters n slot slots);
 }
 
-dark-by : (supply : Supply) (next : ℕ) → MayPower supply next → IsDark supply
+dark-by : (supply : UnitPower) (next : ℕ) → MayPower supply next → IsDark supply
 dark-by (Lit span) next may = absurd may
 dark-by Due next may = tt
 dark-by Lost next may = tt
 
-fail-by : (supply : Supply) (next : ℕ) → MayPower supply next → MayFail supply next
+fail-by : (supply : UnitPower) (next : ℕ) → MayPower supply next → MayFail supply next
 fail-by (Lit span) next may = absurd may
 fail-by Due next may = tt
 fail-by Lost next may = may
@@ -140,16 +140,16 @@ power-on_broken d e o done p f v may s number given mid later more broke says le
     let g : GoesOnBy p cut s = record { number = number; given = given; breaks = (cut_at s.number true 0 ∷ [], refl, (number, tt)); finds = ([], sym (append-nil p.log.finds), tt) } in
     let x : Seen = seen_next cut done s in
     let told = (power-on_cut (rule_of o) (start_at o) o.from (first_of o) done p f (fail-by p.supply p.next may) s number given mid later more broke).0 in
-    let found : x.told.course.found ≡ [] = ap (λ (t : Told). t.course.found) told in
+    let found : x.told.course.found ≡ [] = ap (λ (t : ToldSecond). t.course.found) told in
     let own : ℕ → Visit → ℕ = λ u visit. 0 in
     let choice : IsChosen o cut done s plain own e = record {
-      fits = plain-fits x (went p.log done).before.slots (ap (λ (t : Told). t.course.torn) told) (ap (λ (t : Told). t.course.entered) told);
+      fits = plain-fits x (went p.log done).before.slots (ap (λ (t : ToldSecond). t.course.torn) told) (ap (λ (t : ToldSecond). t.course.entered) told);
       found_open = λ y there accepts. nothing-in y (subst (λ (fs : List (Visit × Verdict)). Contains fs y) found there);
       exact = λ none_failed c valid. no-cut p.log s.number 0 none_failed;
     } in
     let failed : has_failed_in cut s.number ≡ true = failed-here p.log.breaks s.number 0 in
     broken-on o done p f d e v s cut g plain own choice left failed
-    (fails p.log cut p.unfound done s (same-before o done p f s cut g) g.breaks.0 g.breaks.1 (front-same o done p f s cut g) p.supply (dark-by p.supply p.next may) v.gaps (ap (λ (t : Told). t.lit) told) (ap (λ (t : Told). t.starts) told)
+    (fails p.log cut p.unfound done s (same-before o done p f s cut g) g.breaks.0 g.breaks.1 (front-same o done p f s cut g) p.supply (dark-by p.supply p.next may) v.gaps (ap (λ (t : ToldSecond). t.lit) told) (ap (λ (t : ToldSecond). t.starts) told)
     (ap (has_failed_in cut) (number-next o done p f s cut g) ∙ failed)
     (untold-now p.log (cuts_from p.supply p.next) p.next p.unfound f.lines [] tt s.number (low-cuts o done p f s cut g) true 0 cut x refl (number-next o done p f s cut g)))
     (λ c there. let at = says c there in (at.0, at.1, nothing-more (number_in o) cut (events_now o cut done s plain own v.tearing v.sessions) at.0 c at.2))

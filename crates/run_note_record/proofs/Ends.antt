@@ -14,12 +14,12 @@ use Rattle.log_model.specs.Log.{RunLog, In, cut_in, is_torn_in, kept_after}
 use Rattle.log_model.specs.Causes.{second_of}
 use Rattle.log_model.specs.Same.{SameAt}
 use Rattle.log_model.specs.Spans.{AreInOrder}
-use Rattle.log_model.specs.Course.{Told, Visit, Went, begins, has_power, second_told, went}
+use Rattle.log_model.specs.Course.{ToldSecond, Visit, Went, begins, has_power, second_told, went}
 use Rattle.log_model.proofs.Growth.{went-more}
 use Rattle.event_model.specs.declared.kinds.TheConstants.{DRIVING_WITHOUT_CARD, OVER_SPEEDING, POWER_INTERRUPTION, CARD_FAULT}
 use Rattle.event_model.specs.Events.{Event, Seen, Tearing, AreTorn, number_of, seen_of, events_of}
 use Rattle.run_unit_course.specs.Lines.{log_of, cut_at, tells_cut}
-use Rattle.run_unit_course.specs.Followed.{Supply, Lit, Lost}
+use Rattle.run_unit_course.specs.Followed.{UnitPower, Lit, Lost}
 use Rattle.unit_model.specs.declared.layout.TheConstants.{SPEED_LIMIT}
 use Rattle.unit_model.specs.Image as image
 use Rattle.unit_events.specs.Noted.{StayFailed}
@@ -28,7 +28,7 @@ use Rattle.note_model.specs.Noted.{Note, notes_of}
 use Rattle.safety_model.specs.Recording.{card_image, told_of}
 use Rattle.safety_model.specs.Safe.{Devices, card_of}
 use Rattle.run_course.specs.Moments.{and_break}
-use Rattle.run_course.specs.Followed.{Progress, Followed, IsBreakBefore, HadActions}
+use Rattle.run_course.specs.Followed.{Progress, BookFollowsRun, IsBreakBefore, HadActions}
 use Rattle.run_course.specs.Seconds.{next_told}
 use Rattle.run_course.proofs.Lookups.{cut-by, cut-first, cut-nothing, break-more}
 use Rattle.run_course.proofs.Logs.{other-number, all-before, same-at, kept-later, front-later, went-later}
@@ -85,7 +85,7 @@ same-here u = grind (arith, nat_tests)
 below : (k n : ℕ) → k < n → nat_lt k n ≡ true
 below k n lt = grind (arith, nat_tests)
 
-module _ (o : Origin) (front : List TraceSecond) (r : TraceSecond) (p : Progress) (t : Told) (span : List Told) (f : Followed (rule_of o) (start_at o) o.from (first_of o) (front ++ r ∷ []) (record p { supply = Lit (t ∷ span) })) (count : length r.actions ≡ p.begun) (d : Devices)
+module _ (o : Origin) (front : List TraceSecond) (r : TraceSecond) (p : Progress) (t : ToldSecond) (span : List ToldSecond) (f : BookFollowsRun (rule_of o) (start_at o) o.from (first_of o) (front ++ r ∷ []) (record p { supply = Lit (t ∷ span) })) (count : length r.actions ≡ p.begun) (d : Devices)
     (v : Evented o (front ++ r ∷ []) p.log p.unfound p.next (Lit (t ∷ span)) d) where
   abbrev later : RunLog
   later = and_break p.log (cut_at (p.next - 1) false p.begun)
@@ -193,19 +193,19 @@ module _ (o : Origin) (front : List TraceSecond) (r : TraceSecond) (p : Progress
         (front-later p.log later r.number (cut_at (p.next - 1) false p.begun ∷ []) refl (second-is, tt) [] (sym (append-nil p.log.finds)) tt p.unfound f.unfound) v.gaps lit untold;
     found_open = λ y x among there accepts. ⊎_elim
         (λ old.
-        let was = v.found_open y x (subst (λ (ts : List Told). Contains ts y) (sym (told-as p.log)) (Contains-append_left (went p.log front).told (next_told p.log front r ∷ []) y (subst (λ (w : Went). Contains w.told y) front-same old))) there accepts in
+        let was = v.found_open y x (subst (λ (ts : List ToldSecond). Contains ts y) (sym (told-as p.log)) (Contains-append_left (went p.log front).told (next_told p.log front r ∷ []) y (subst (λ (w : Went). Contains w.told y) front-same old))) there accepts in
         (was.0, was.1, was.2, first-off x.0.card y.second.number (v.sessions y.second.number x.0) was.3))
         (λ (one : next_told later front r ≡ y).
-        let here : Contains (next_told p.log front r).course.found x = subst (λ (fs : List (Visit × Verdict)). Contains fs x) found-same (subst (λ (z : Told). Contains z.course.found x) (sym one) there) in
-        let was = v.found_open (next_told p.log front r) x (subst (λ (ts : List Told). Contains ts (next_told p.log front r)) (sym (told-as p.log)) (Contains-push (went p.log front).told (next_told p.log front r))) here accepts in
-        let number_y : (next_told p.log front r).second.number ≡ y.second.number = number-is ∙ sym (told-number later (went later front).before r) ∙ ap (λ (z : Told). z.second.number) one in (
+        let here : Contains (next_told p.log front r).course.found x = subst (λ (fs : List (Visit × Verdict)). Contains fs x) found-same (subst (λ (z : ToldSecond). Contains z.course.found x) (sym one) there) in
+        let was = v.found_open (next_told p.log front r) x (subst (λ (ts : List ToldSecond). Contains ts (next_told p.log front r)) (sym (told-as p.log)) (Contains-push (went p.log front).told (next_told p.log front r))) here accepts in
+        let number_y : (next_told p.log front r).second.number ≡ y.second.number = number-is ∙ sym (told-number later (went later front).before r) ∙ ap (λ (z : ToldSecond). z.second.number) one in (
           was.0,
           was.1,
           was.2 ∙ ap (λ (n : ℕ). v.sessions n x.0) number_y,
           subst (λ (n : ℕ). IsFirst (card_image o.recording) (went later (front ++ r ∷ [])).told (front ++ r ∷ []) x.0.card n (v.sessions n x.0)) number_y
               (first-off x.0.card (next_told p.log front r).second.number (v.sessions (next_told p.log front r).second.number x.0) was.3),
         ))
-        (Contains-push_cases (went later front).told (next_told later front r) y (subst (λ (ts : List Told). Contains ts y) (told-as later) among));
+        (Contains-push_cases (went later front).told (next_told later front r) y (subst (λ (ts : List ToldSecond). Contains ts y) (told-as later) among));
     exact = λ none_failed c valid.
         opened-same_ c ∙ v.exact (fewer-none p.log later (cut_at (p.next - 1) false p.begun ∷ []) refl none_failed) c valid ∙ ap (λ (l : List Note). times_of (uses_in o c l)) (sym notes-same);
   }
@@ -215,12 +215,12 @@ module _ (o : Origin) (front : List TraceSecond) (r : TraceSecond) (p : Progress
 
 pub off-cut_brings : (d : Devices) → AnOffCutBringsNothing d
 off-cut_brings d o done p f v t span is =
-    let g = subst (λ (s : Supply). Followed (rule_of o) (start_at o) o.from (first_of o) done (record p { supply = s })) is f in
-    let w = subst (λ (s : Supply). Evented o done p.log p.unfound p.next s d) is v in
+    let g = subst (λ (s : UnitPower). BookFollowsRun (rule_of o) (start_at o) o.from (first_of o) done (record p { supply = s })) is f in
+    let w = subst (λ (s : UnitPower). Evented o done p.log p.unfound p.next s d) is v in
     let had : HadActions done p.begun = g.last in
     subst (λ (ss : List TraceSecond). Evented o ss (and_break p.log (cut_at (p.next - 1) false p.begun)) p.unfound p.next Lost d) (sym had.are)
     (off-evented o had.before (record { number = had.number; has_power = true; speed = had.speed; actions = had.actions }) p t span
-    (subst (λ (ss : List TraceSecond). Followed (rule_of o) (start_at o) o.from (first_of o) ss (record p { supply = Lit (t ∷ span) })) had.are g) had.count d
+    (subst (λ (ss : List TraceSecond). BookFollowsRun (rule_of o) (start_at o) o.from (first_of o) ss (record p { supply = Lit (t ∷ span) })) had.are g) had.count d
     (subst (λ (ss : List TraceSecond). Evented o ss p.log p.unfound p.next (Lit (t ∷ span)) d) had.are w))
 
 -- ---- the start
@@ -264,7 +264,7 @@ nothing-noted d o only few =
             (λ c left. (c, left, nothing-more (number_in o) log (λ kind. events_of kind (limit_in o) own plain log []) c c (says-same c)));
       };
       gaps = gaps-begin;
-      found_open = λ t f among there accepts. nothing-in t (subst (λ (ts : List Told). Contains ts t) (told-none log) among);
+      found_open = λ t f among there accepts. nothing-in t (subst (λ (ts : List ToldSecond). Contains ts t) (told-none log) among);
       exact = λ none_failed c valid. ap (opened_on c own) (told-none log) ∙ ap (λ (l : List Note). times_of (uses_in o c l)) (sym (notes-none log));
     }
 

@@ -18,14 +18,14 @@ use Rattle.log_model.specs.Log.{RunLog, Phase, In, same_phase, is_torn_in, is_ac
 use Rattle.log_model.specs.Causes.{is_cut, has_failed}
 use Rattle.log_model.specs.Same.{SameAt}
 use Rattle.log_model.specs.Slots.{same_card, in_slot}
-use Rattle.log_model.specs.Course.{Told, Visit, Before, Went, has_power, second_told, went}
+use Rattle.log_model.specs.Course.{ToldSecond, Visit, Before, Went, has_power, second_told, went}
 use Rattle.log_model.proofs.Growth.{went-more}
 use Rattle.note_model.specs.Done.{CarriedOut, Done, carried_from, course_powered, done_by}
 use Rattle.note_model.specs.Noted.{Note, Accepts, Withdraws, Enters, accepted_at, accepted_card, noted_by, noted_in}
 use Rattle.safety_model.specs.Recording.{card_image}
 use Rattle.run_unit_course.specs.Lines.{cut_at, with_kept, found_from}
 use Rattle.run_course.specs.Moments.{and_break}
-use Rattle.run_course.specs.Followed.{Progress, Followed}
+use Rattle.run_course.specs.Followed.{Progress, BookFollowsRun}
 use Rattle.run_course.specs.Seconds.{GoesOnBy, next_told}
 use Rattle.run_course.proofs.Logs.{went-refused}
 use Rattle.run_course.proofs.Steps.{now-told}
@@ -172,17 +172,17 @@ dark-notes log before s off = rw off refl
 
 -- ---- the session times
 
-pub opened-append : (c : Card) (sessions : ℕ → Visit → ℕ) (xs ys : List Told) → opened_on c sessions (xs ++ ys) ≡ opened_on c sessions xs ++ opened_on c sessions ys
+pub opened-append : (c : Card) (sessions : ℕ → Visit → ℕ) (xs ys : List ToldSecond) → opened_on c sessions (xs ++ ys) ≡ opened_on c sessions xs ++ opened_on c sessions ys
 opened-append c sessions xs ys = flat_map-append (opened_in c sessions) xs ys
 
 -- of a second, by its number and what was found in it
-pub opened-same : (c : Card) (sessions : ℕ → Visit → ℕ) (t u : Told) → t.second.number ≡ u.second.number → t.course.found ≡ u.course.found → opened_in c sessions t ≡ opened_in c sessions u
+pub opened-same : (c : Card) (sessions : ℕ → Visit → ℕ) (t u : ToldSecond) → t.second.number ≡ u.second.number → t.course.found ≡ u.course.found → opened_in c sessions t ≡ opened_in c sessions u
 opened-same c sessions t u number found = λ i. flat_map (λ (f : Visit × Verdict). cond (same_card c f.0.card && is_accepting f.1) (sessions (number i) f.0 ∷ []) []) (found i)
 
-pub opened-none : (c : Card) (sessions : ℕ → Visit → ℕ) (t : Told) → t.course.found ≡ [] → opened_in c sessions t ≡ []
+pub opened-none : (c : Card) (sessions : ℕ → Visit → ℕ) (t : ToldSecond) → t.course.found ≡ [] → opened_in c sessions t ≡ []
 opened-none c sessions t none = ap (flat_map (λ (f : Visit × Verdict). cond (same_card c f.0.card && is_accepting f.1) (sessions t.second.number f.0 ∷ []) [])) none
 
-pub all-none : (c : Card) (sessions : ℕ → Visit → ℕ) (ts : List Told) → ((t : Told) → Contains ts t → t.course.found ≡ []) → opened_on c sessions ts ≡ []
+pub all-none : (c : Card) (sessions : ℕ → Visit → ℕ) (ts : List ToldSecond) → ((t : ToldSecond) → Contains ts t → t.course.found ≡ []) → opened_on c sessions ts ≡ []
 all-none c sessions [] each = refl
 all-none c sessions (t ∷ ts) each = λ i.
     opened-none c sessions t (each t (Contains-append_left (t ∷ []) ts t (Contains-push [] t))) i ++ all-none c sessions ts (λ u there. each u (Contains-append_right (t ∷ []) ts u there)) i
@@ -194,18 +194,18 @@ same-number n = grind (arith, nat_tests)
 
 module _ (c : Card) (s : TraceSecond) (own sessions : ℕ → Visit → ℕ) where
   -- those of this second, and of others
-  now-is : (t : Told) → t.second.number ≡ s.number → opened_in c (sessions_now s own sessions) t ≡ opened_in c own t
+  now-is : (t : ToldSecond) → t.second.number ≡ s.number → opened_in c (sessions_now s own sessions) t ≡ opened_in c own t
   now-is t number =
       let here : nat_eq t.second.number s.number ≡ true = ap (λ (n : ℕ). nat_eq n s.number) number ∙ same-number s.number in
       ap (λ (b : Bool). flat_map (λ (f : Visit × Verdict). cond (same_card c f.0.card && is_accepting f.1) (cond b (own t.second.number f.0) (sessions t.second.number f.0) ∷ []) []) t.course.found) here
 
-  before-is : (ts : List Told) → ((t : Told) → Contains ts t → nat_eq t.second.number s.number ≡ false) → opened_on c (sessions_now s own sessions) ts ≡ opened_on c sessions ts
+  before-is : (ts : List ToldSecond) → ((t : ToldSecond) → Contains ts t → nat_eq t.second.number s.number ≡ false) → opened_on c (sessions_now s own sessions) ts ≡ opened_on c sessions ts
   before-is [] other = refl
   before-is (t ∷ ts) other = λ i.
       ap (λ (b : Bool). flat_map (λ (f : Visit × Verdict). cond (same_card c f.0.card && is_accepting f.1) (cond b (own t.second.number f.0) (sessions t.second.number f.0) ∷ []) []) t.course.found) (other t (Contains-append_left (t ∷ []) ts t (Contains-push [] t))) i
       ++ before-is ts (λ u there. other u (Contains-append_right (t ∷ []) ts u there)) i
 
-module _ (o : Origin) (done : List TraceSecond) (p : Progress) (f : Followed (rule_of o) (start_at o) o.from (first_of o) done p) (s : TraceSecond) (log : RunLog) (g : GoesOnBy p log s) where
+module _ (o : Origin) (done : List TraceSecond) (p : Progress) (f : BookFollowsRun (rule_of o) (start_at o) o.from (first_of o) done p) (s : TraceSecond) (log : RunLog) (g : GoesOnBy p log s) where
   pub notes-before : notes_in log done ≡ notes_in p.log done
   notes-before = notes-alike p.log log done (same-before o done p f s log g)
 
@@ -217,7 +217,7 @@ module _ (o : Origin) (done : List TraceSecond) (p : Progress) (f : Followed (ru
       ∙ here none c valid
       ∙ ap (λ (l : List Note). times_of (uses_in o c l)) (sym (next-notes log done s))
     where
-      others : (t : Told) → Contains (went p.log done).told t → nat_eq t.second.number s.number ≡ false
+      others : (t : ToldSecond) → Contains (went p.log done).told t → nat_eq t.second.number s.number ≡ false
       others t there =
           let lt = (second-tells o done p f s log g (number-next o done p f s log g ∙ g.number)).before t there in
           let number = g.number in

@@ -10,13 +10,13 @@ use Rattle.event_model.specs.declared.entries.Span.{Span}
 use Rattle.event_model.specs.Spans.{gap_of}
 use Rattle.event_model.specs.Events.{Event, Seen, noted_with, last_number, seen_of, seen_spans}
 use Rattle.run_unit_course.specs.Lines.{tells_cut}
-use Rattle.run_unit_course.specs.Followed.{Supply, Lit, Due, Lost, IsDark}
+use Rattle.run_unit_course.specs.Followed.{UnitPower, Lit, Due, Lost, IsDark}
 use Rattle.run_unit_course.proofs.Lines.{kept-now}
 use Rattle.run_course.specs.Followed.{Progress}
 use Rattle.run_course.proofs.Logs.{all-before, same-found}
 use Rattle.run_course.proofs.Lookups.{kept-by}
 use Rattle.run_events.specs.Seconds.{last_of}
-use Rattle.run_events.specs.Gaps.{IsTold, IsUntold, OfLast, IsKnownLast}
+use Rattle.run_events.specs.Gaps.{CutIsTold, IsUntold, OfLast, IsKnownLast}
 use Rattle.run_events.proofs.Gaps.{is-found}
 use Rattle.run_events.proofs.Later.{seen-same}
 use Rattle.log_model.specs.Same.{SameAt}
@@ -38,7 +38,7 @@ later-told n bs u told off =
     tells-both : (u : ℕ) (xs ys : List Break) → tells_cut u (xs ++ ys) ≡ (tells_cut u xs || tells_cut u ys)
     tells-both u xs ys = list_any-append (λ (b : Break). is_some (cut_of u b)) xs ys
 
-last-dark : (supply : Supply) (log : RunLog) (found : List Break) (spans : List (List Seen)) → IsDark supply → IsKnownLast supply log found spans → OfLast (IsUntold log found) spans
+last-dark : (supply : UnitPower) (log : RunLog) (found : List Break) (spans : List (List Seen)) → IsDark supply → IsKnownLast supply log found spans → OfLast (IsUntold log found) spans
 last-dark (Lit span) log found spans dark last = absurd dark
 last-dark Due log found spans dark last = last
 last-dark Lost log found spans dark last = last
@@ -53,16 +53,16 @@ interruption-found o done p f dark gaps k f_again s log g u crew =
     let same : All (λ (r : TraceSecond). SameAt p.log again.log r.number) done = all-before (λ (n : ℕ). SameAt p.log again.log n) o.from done f.order (λ n lt. same-found p.log p.unfound k n) in
     let seen : seen_of again.log done ≡ seen_of p.log done = seen-same p.log again.log done same in
     let known = is-found p.log again.log p.unfound k p.supply done dark gaps same refl in
-    let told_all : OfLast (IsTold (take again.unfound again.log.breaks)) (seen_spans (seen_of p.log done)) = subst (λ (l : List Seen). OfLast (IsTold (take again.unfound again.log.breaks)) (seen_spans l)) seen known.last in
+    let told_all : OfLast (CutIsTold (take again.unfound again.log.breaks)) (seen_spans (seen_of p.log done)) = subst (λ (l : List Seen). OfLast (CutIsTold (take again.unfound again.log.breaks)) (seen_spans l)) seen known.last in
     ap (λ (l : List Seen). interruption log (seen_spans l) u crew) seen
     ∙ by (seen_spans (seen_of p.log done)) (last-dark p.supply p.log (take p.unfound p.log.breaks) (seen_spans (seen_of p.log done)) dark gaps.last) told_all
   where
-    by : (spans : List (List Seen)) → OfLast (IsUntold p.log (take p.unfound p.log.breaks)) spans → OfLast (IsTold (take (found_again k p).unfound (found_again k p).log.breaks)) spans → interruption log spans u crew ≡ interruption_of k spans u crew
+    by : (spans : List (List Seen)) → OfLast (IsUntold p.log (take p.unfound p.log.breaks)) spans → OfLast (CutIsTold (take (found_again k p).unfound (found_again k p).log.breaks)) spans → interruption log spans u crew ≡ interruption_of k spans u crew
     by [] untold told = refl
     by (span ∷ spans) untold told =
         let n : ℕ = last_number (last_of (span ∷ spans)) in
         let was = of-last (IsUntold p.log (take p.unfound p.log.breaks)) span spans untold in
-        let now = of-last (IsTold (take (found_again k p).unfound (found_again k p).log.breaks)) span spans told in
+        let now = of-last (CutIsTold (take (found_again k p).unfound (found_again k p).log.breaks)) span spans told in
         let kept : kept_after log n ≡ k =
         (tells-so o done (found_again k p) f_again s log g).known n now
         ∙ kept-by (found_again k p).log n

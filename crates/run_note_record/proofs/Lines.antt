@@ -13,7 +13,7 @@ use Rattle.log_model.specs.Log.{RunLog, cut_of, kept_by, kept_after, is_acceptin
 use Rattle.log_model.specs.Causes.{is_cut}
 use Rattle.log_model.specs.Same.{SameAt}
 use Rattle.log_model.specs.Spans.{AreInOrder}
-use Rattle.log_model.specs.Course.{Told, Visit, Went, not_begun, went}
+use Rattle.log_model.specs.Course.{ToldSecond, Visit, Went, not_begun, went}
 use Rattle.log_model.proofs.Growth.{went-more}
 use Rattle.event_model.specs.Events.{Seen, Watched, number_of, seen_by, watched_on, seen_of}
 use Rattle.run_unit_course.specs.Lines.{log_of, cut_at, tells_cut}
@@ -22,7 +22,7 @@ use Rattle.unit_events.specs.Noted.{StayFailed}
 use Rattle.unit_events.proofs.Failing.{kept-added}
 use Rattle.safety_model.specs.Recording.{card_image}
 use Rattle.safety_model.specs.Safe.{Devices}
-use Rattle.run_course.specs.Followed.{Progress, Followed, IsBreakBefore, AreBefore}
+use Rattle.run_course.specs.Followed.{Progress, BookFollowsRun, IsBreakBefore, AreBefore}
 use Rattle.run_course.specs.Seconds.{GoesOnBy, next_told}
 use Rattle.run_course.proofs.Logs.{other-number, all-before, same-at, kept-later, front-later, tells-none, breaks-front}
 use Rattle.run_course.proofs.Steps.{cuts-bound, now-told}
@@ -121,7 +121,7 @@ module _ (log : RunLog) (cuts next unfound : ℕ) (lines : AreBefore cuts next l
 
 -- ---- a second more
 
-module _ (o : Origin) (done : List TraceSecond) (p : Progress) (f : Followed (rule_of o) (start_at o) o.from (first_of o) done p) (s : TraceSecond) (log : RunLog) (g : GoesOnBy p log s) where
+module _ (o : Origin) (done : List TraceSecond) (p : Progress) (f : BookFollowsRun (rule_of o) (start_at o) o.from (first_of o) done p) (s : TraceSecond) (log : RunLog) (g : GoesOnBy p log s) where
   pub same-before : All (λ (r : TraceSecond). SameAt p.log log r.number) done
   same-before = all-before (λ (u : ℕ). SameAt p.log log u) o.from done f.order
       (λ u lt. same-at p.log log p.next g.breaks.0 g.breaks.1 g.breaks.2 g.finds.0 g.finds.1 g.finds.2 u (other-number p.next u (let next = f.next in omega (arith, lt, next))))
@@ -157,7 +157,7 @@ module _ (o : Origin) (done : List TraceSecond) (p : Progress) (f : Followed (ru
       let other : nat_eq t.second.number s.number ≡ false = (let ne : t.second.number < s.number = omega (arith, lt, number) in grind (arith, nat_tests)) in
       let same : sessions t.second.number x.0 ≡ sessions_now s own sessions t.second.number x.0 = sym (ap (λ (b : Bool). cond b (own t.second.number x.0) (sessions t.second.number x.0)) other) in
       let first : IsFirst (card_image o.recording) (went log (done ++ s ∷ [])).told (done ++ s ∷ []) x.0.card t.second.number (sessions t.second.number x.0) =
-      subst (λ (ts : List Told). IsFirst (card_image o.recording) ts (done ++ s ∷ []) x.0.card t.second.number (sessions t.second.number x.0))
+      subst (λ (ts : List ToldSecond). IsFirst (card_image o.recording) ts (done ++ s ∷ []) x.0.card t.second.number (sessions t.second.number x.0))
       (sym (now-told (rule_of o) (start_at o) o.from (first_of o) done p f.order f.next f.unfound s log g))
       (first-more (card_image o.recording) (went p.log done).told (next_told log done s ∷ []) done (s ∷ []) x.0.card t.second.number (sessions t.second.number x.0) was.3) in (
         was.0,
@@ -166,8 +166,8 @@ module _ (o : Origin) (done : List TraceSecond) (p : Progress) (f : Followed (ru
         subst (λ (n : ℕ). IsFirst (card_image o.recording) (went log (done ++ s ∷ [])).told (done ++ s ∷ []) x.0.card t.second.number n) same first,
       ))
       (λ (is : next_told log done s ≡ t).
-      let one : t.second.number ≡ s.number = ap (λ (y : Told). y.second.number) (sym is) ∙ number-next in
-      let here = now x (subst (λ (y : Told). Contains y.course.found x) (sym is) found) accepts in
+      let one : t.second.number ≡ s.number = ap (λ (y : ToldSecond). y.second.number) (sym is) ∙ number-next in
+      let here = now x (subst (λ (y : ToldSecond). Contains y.course.found x) (sym is) found) accepts in
       let same : own s.number x.0 ≡ sessions_now s own sessions t.second.number x.0 =
       sym (ap (λ (n : ℕ). cond (nat_eq n s.number) (own n x.0) (sessions n x.0)) one ∙ ap (λ (b : Bool). cond b (own s.number x.0) (sessions s.number x.0)) (same-here s.number)) in
       let first : IsFirst (card_image o.recording) (went log (done ++ s ∷ [])).told (done ++ s ∷ []) x.0.card s.number (own s.number x.0) =
@@ -179,7 +179,7 @@ module _ (o : Origin) (done : List TraceSecond) (p : Progress) (f : Followed (ru
         subst (λ (u : ℕ). IsFirst (card_image o.recording) (went log (done ++ s ∷ [])).told (done ++ s ∷ []) x.0.card u (sessions_now s own sessions t.second.number x.0)) (sym one)
             (subst (λ (n : ℕ). IsFirst (card_image o.recording) (went log (done ++ s ∷ [])).told (done ++ s ∷ []) x.0.card s.number n) same first),
       ))
-      (Contains-push_cases (went p.log done).told (next_told log done s) t (subst (λ (ts : List Told). Contains ts t) (now-told (rule_of o) (start_at o) o.from (first_of o) done p f.order f.next f.unfound s log g) among))
+      (Contains-push_cases (went p.log done).told (next_told log done s) t (subst (λ (ts : List ToldSecond). Contains ts t) (now-told (rule_of o) (start_at o) o.from (first_of o) done p f.order f.next f.unfound s log g) among))
 
   pub low-cuts : cuts_from p.supply p.next ≤ s.number
   low-cuts = let le = cuts-bound p.supply p.next in let number = g.number in omega (arith, le, number)

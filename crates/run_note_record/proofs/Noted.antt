@@ -11,7 +11,7 @@ use Rattle.trace_model.specs.Trace.{TraceSecond}
 use Rattle.log_model.specs.Log.{RunLog, Phase, In}
 use Rattle.log_model.specs.Slots.{refusal}
 use Rattle.log_model.specs.Same.{SameAt}
-use Rattle.log_model.specs.Course.{Course, Told, Before, Moved, Went, slot_told, both_told, acted, all_acted, moved_by, unmoved, answered, fresh, begins, has_power, second_told, before_next, not_begun, went, went_on}
+use Rattle.log_model.specs.Course.{Course, ToldSecond, Before, Moved, Went, slot_told, both_told, acted, all_acted, moved_by, unmoved, answered, fresh, begins, has_power, second_told, before_next, not_begun, went, went_on}
 use Rattle.event_model.specs.Events.{Seen}
 use Rattle.note_model.specs.Done.{CarriedOut, Done, carried_from, course_powered, done_by, done_from, done_of}
 use Rattle.note_model.specs.Noted.{Note, accepted_at, noted_by, noted_in, notes_of}
@@ -97,7 +97,7 @@ module _ (log later : RunLog) where
       let here : noted_in later (done_by later before s) ≡ noted_in log (done_by log before s) = second-alike before s same in
       let rest : flat_map (noted_in later) (done_from later (before_next before (second_told later before s)) ss) ≡ flat_map (noted_in log) (done_from log (before_next before (second_told log before s)) ss) =
       notes-going (before_next before (second_told later before s)) ss (All-tail (λ (s : TraceSecond). SameAt log later s.number) s ss all)
-      ∙ ap (λ (t : Told). flat_map (noted_in log) (done_from log (before_next before t) ss)) (second-same before s same) in
+      ∙ ap (λ (t : ToldSecond). flat_map (noted_in log) (done_from log (before_next before t) ss)) (second-same before s same) in
       λ i. here i ++ rest i
 
   -- SECONDS THAT BOTH TELL ALIKE note the same

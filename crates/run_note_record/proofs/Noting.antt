@@ -6,7 +6,7 @@ use Rattle.trace_model.specs.Trace.{TraceSecond}
 use Rattle.tach_media.specs.Medium.{State}
 use Rattle.log_model.specs.declared.lines.Verdict.{Verdict}
 use Rattle.log_model.specs.Log.{RunLog, In, Phase}
-use Rattle.log_model.specs.Course.{Told, Visit, Before, Course, lit_course, has_power, second_told, went}
+use Rattle.log_model.specs.Course.{ToldSecond, Visit, Before, Course, lit_course, has_power, second_told, went}
 use Rattle.event_model.specs.declared.kinds.TheConstants.{DRIVING_WITHOUT_CARD, OVER_SPEEDING, POWER_INTERRUPTION, CARD_FAULT}
 use Rattle.event_model.specs.Events.{Event, Seen, Tearing, fault_of, torn_in_turn, found_events, number_of, seen_of, seen_spans, events_of}
 use Rattle.run_unit_course.specs.Lines.{cut_at}
@@ -16,7 +16,7 @@ use Rattle.safety_model.specs.Safe.{Devices}
 use Rattle.unit_events.specs.Shown.{all_kinds}
 use Rattle.unit_events.specs.Noted.{are_sure}
 use Rattle.run_course.specs.Moments.{and_break}
-use Rattle.run_course.specs.Followed.{Progress, Followed}
+use Rattle.run_course.specs.Followed.{Progress, BookFollowsRun}
 use Rattle.run_course.specs.Seconds.{GoesOnBy, next_told}
 use Rattle.run_course.proofs.Steps.{with-supply}
 use Rattle.run_course.proofs.Told.{lit-power, lit-starts, lit-told}
@@ -205,7 +205,7 @@ second-is_noted d o done p f span is s log mid now m v fits =
           (all-told o done s p log d v)
           (λ c left. let at = v.noted c left in (at.0, at.1, at.2 log (events_now o log done s v.here v.own v.tearing v.sessions)));
       gaps = goes-on p.log log p.unfound done s (same-before o done p f s log g) g.breaks.0 g.breaks.1 (front-same o done p f s log g) p.supply (Lit (span ++ next_told log done s ∷ [])) span span (next_told log done s) is refl v.gaps
-          (ap (λ (t : Told). t.lit) told) (ap (λ (t : Told). t.starts) told);
+          (ap (λ (t : ToldSecond). t.lit) told) (ap (λ (t : ToldSecond). t.starts) told);
       found_open = sessions-on o done p f s log g d d v.sessions v.own v.open_before (same-left o d) v.open_now;
       exact = exact-on o done p f s log g v.sessions v.own v.exact_before v.exact_now;
     }
@@ -215,7 +215,7 @@ empty-or [] = inl refl
 empty-or (e ∷ es) = inr (λ is. absurd (cc))
 
 -- OR THE UNIT FAILS: of what was noted before, by any log of it, nothing is sure
-pub cut-by : (d e : Devices) (o : Origin) (done : List TraceSecond) (p : Progress) (f : Followed (rule_of o) (start_at o) o.from (first_of o) done p) (span : List Told) → p.supply ≡ Lit span → (s : TraceSecond) (at : Phase) (log : RunLog) (waits : List Visit) (mid now later : Device → ℕ) →
+pub cut-by : (d e : Devices) (o : Origin) (done : List TraceSecond) (p : Progress) (f : BookFollowsRun (rule_of o) (start_at o) o.from (first_of o) done p) (span : List ToldSecond) → p.supply ≡ Lit span → (s : TraceSecond) (at : Phase) (log : RunLog) (waits : List Visit) (mid now later : Device → ℕ) →
     Moment p (went p.log done).before s at log waits mid now → IsMore now later → RoseBy 1 (mid Recorder) (later Recorder) → (rest : List Action) → IsLeft s at rest → let cut : RunLog = and_break log (cut_at s.number true (begun_by s at)) in
     (stage : Stage) (old : RunLog) (v : EventedIn o done s p stage old d) (here : Tearing) (own : ℕ → Visit → ℕ) → IsTornIn here (seen_next cut done s) → AreOpen o cut done s own e → HaveLeftMore o d e →
     ((kind : ℕ) → Contains all_kinds kind → (brought_now o cut done s here own kind ≡ []) → by_kind v.more kind ≡ []) →
@@ -245,7 +245,7 @@ cut-by d e o done p f span is s at log waits mid now later m more broke rest is_
           let x = each c may in
           let y = v.noted x.0 x.1 in
           (y.0, y.1, more-then (number_in o) cut now_events [] [] y.0 x.0 c (shown-unsure (number_in o) cut now_events v.more y.0 x.0 (y.2 cut now_events) unsure) x.2));
-      gaps = breaks-off p.log cut p.unfound done s (same-before o done p f s cut g) g.breaks.0 g.breaks.1 (front-same o done p f s cut g) p.supply span is v.gaps (ap (λ (t : Told). t.lit) told) (ap (λ (t : Told). t.starts) told)
+      gaps = breaks-off p.log cut p.unfound done s (same-before o done p f s cut g) g.breaks.0 g.breaks.1 (front-same o done p f s cut g) p.supply span is v.gaps (ap (λ (t : ToldSecond). t.lit) told) (ap (λ (t : ToldSecond). t.starts) told)
           (cut-untold o done p f s at log waits mid now m k);
       found_open = sessions-on o done p f s cut g d e v.sessions own v.open_before left open_now;
       exact = λ none_failed c valid. no-cut log s.number k none_failed;

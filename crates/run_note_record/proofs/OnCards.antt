@@ -16,7 +16,7 @@ use Rattle.note_model.specs.Noted.{PlaceNote, Note, Enters, place_in, places_of}
 use Rattle.note_model.specs.Rings.{AreNoFewer}
 use Rattle.safety_model.specs.Recording.{card_image}
 use Rattle.safety_model.specs.Safe.{Devices, card_of}
-use Rattle.run_rings.specs.Carried.{Carries}
+use Rattle.run_rings.specs.Carried.{RingKeeps}
 use Rattle.run_rings.proofs.Carried.{carries-none, carries-same, carries-more, carries-maybe}
 use Rattle.run_rings.proofs.Standing.{stand-one, stand-unsure}
 use Rattle.run_rings.proofs.Few.{as-many, added-long, adding-long, few-start, few-go, few-as, few-more, few-unsure}
@@ -38,7 +38,7 @@ pub maybe : {N : Type 0} (r : Shape) (start x y head : List ℕ) (sure : N → B
     ShowsNotes r sure Is (notes ++ n ∷ []) start y
 maybe r start x y head sure Is notes n was full is unsure (inl same) = record {
   more = was.more;
-  carries = subst (λ (z : List ℕ). Carries r start z was.more) (sym same) was.carries;
+  carries = subst (λ (z : List ℕ). RingKeeps r start z was.more) (sym same) was.carries;
   stand = stand-unsure sure Is notes was.more n was.stand unsure;
   few = few-unsure r sure notes n start x y unsure (adding-long r head x y was.carries.points was.carries.dense (inl same)) was.few;
 }
@@ -46,7 +46,7 @@ maybe r start x y head sure Is notes n was full is unsure (inr moment) = ⊎_eli
     (λ carries. record { more = was.more; carries = carries; stand = stand-unsure sure Is notes was.more n was.stand unsure; few = few })
     (λ carries. record {
       more = was.more ++ head ∷ [];
-      carries = subst (λ (l : List ℕ). Carries r start y (was.more ++ l ∷ [])) (whole-head r x (taken r x) head full) carries;
+      carries = subst (λ (l : List ℕ). RingKeeps r start y (was.more ++ l ∷ [])) (whole-head r x (taken r x) head full) carries;
       stand = stand-one sure Is notes was.more n head was.stand is;
       few = few;
     })
@@ -120,7 +120,7 @@ place-on-as log later spans now fell p same = (
 pub places-none : (o : Origin) (log : RunLog) (spans : List SpanFrom) (d : Devices) → ((c : Card) (x : List ℕ) → (card_of d c).may_leave x → x ≡ card_image o.recording c) → PlacesOnCards o log spans [] d
 places-none o log spans d start c has x left = record {
   more = [];
-  carries = subst (λ (y : List ℕ). Carries (places_in (card_image o.recording c)) (card_image o.recording c) y []) (sym (start c x left)) (carries-none (places_in (card_image o.recording c)) (card_image o.recording c) has.ring.points has.ring.dense);
+  carries = subst (λ (y : List ℕ). RingKeeps (places_in (card_image o.recording c)) (card_image o.recording c) y []) (sym (start c x left)) (carries-none (places_in (card_image o.recording c)) (card_image o.recording c) has.ring.points has.ring.dense);
   stand = refl;
   few = few-start (places_in (card_image o.recording c)) (is_sure_on log) (card_image o.recording c) x (start c x left);
 }
@@ -188,7 +188,7 @@ module _ (o : Origin) (log : RunLog) (spans : List SpanFrom) (notes : List Note)
   by-image : (c : Card) (x y : List ℕ) → Shows c (front c) x → TakesPlace log p own (image c) x y → Shows c (front c ++ p ∷ []) y
   by-image c x y was (inl added) = record {
     more = was.more ++ own ∷ [];
-    carries = subst (λ (l : List ℕ). Carries (places_in (image c)) (image c) y (was.more ++ l ∷ [])) (whole-head (places_in (image c)) x (taken (places_in (image c)) x) own full) (carries-more (places_in (image c)) (image c) x was.more was.carries own y added);
+    carries = subst (λ (l : List ℕ). RingKeeps (places_in (image c)) (image c) y (was.more ++ l ∷ [])) (whole-head (places_in (image c)) x (taken (places_in (image c)) x) own full) (carries-more (places_in (image c)) (image c) x was.more was.carries own y added);
     stand = stand-one (is_sure_on log) (IsPlaceOn spans) (front c) was.more p own was.stand is;
     few = few-more (places_in (image c)) (is_sure_on log) (front c) p (image c) x y (added-long (places_in (image c)) own x y was.carries.points was.carries.dense added) was.few;
   }

@@ -6,7 +6,7 @@ use Rattle.trace_model.specs.declared.Card.{Card}
 use Rattle.trace_model.specs.Trace.{TraceSecond}
 use Rattle.log_model.specs.Log.{RunLog}
 use Rattle.log_model.specs.Slots.{same_card}
-use Rattle.log_model.specs.Course.{Told, Visit, Went, second_told, went}
+use Rattle.log_model.specs.Course.{ToldSecond, Visit, Went, second_told, went}
 use Rattle.log_model.proofs.Growth.{went-more}
 use Rattle.safety_model.specs.Safe.{Devices}
 use Rattle.run_events.proofs.Later.{told-number}
@@ -15,10 +15,10 @@ use Rattle.run_promise.specs.Beside.{HaveLeftMore}
 use Rattle.run_note_record.specs.Opened.{came_in, HasComeBefore, IsFirst, IsOpenSo, AreOpenSo}
 
 -- WHO HAS COME BEFORE has come before behind more seconds that are told, and of a longer trace
-pub come-told : (told more : List Told) (trace : List TraceSecond) (c : Card) (u : ℕ) → HasComeBefore told trace c u → HasComeBefore (told ++ more) trace c u
+pub come-told : (told more : List ToldSecond) (trace : List TraceSecond) (c : Card) (u : ℕ) → HasComeBefore told trace c u → HasComeBefore (told ++ more) trace c u
 come-told told more trace c u h = ⊎_elim (λ t. inl (t.0, Contains-append_left told more t.0 t.1, t.2, t.3)) (λ s. inr s) h
 
-pub come-trace : (told : List Told) (trace later : List TraceSecond) (c : Card) (u : ℕ) → HasComeBefore told trace c u → HasComeBefore told (trace ++ later) c u
+pub come-trace : (told : List ToldSecond) (trace later : List TraceSecond) (c : Card) (u : ℕ) → HasComeBefore told trace c u → HasComeBefore told (trace ++ later) c u
 come-trace told trace later c u h = ⊎_elim (λ t. inl t) (λ s. inr (s.0, Contains-append_left trace later s.0 s.1, s.2, s.3)) h
 
 -- WHO HAS COME BEFORE by seconds the last of which was told otherwise, but for who entered in it, has come before
@@ -36,32 +36,32 @@ come-as log later front r same entered trace c u h = ⊎_elim
     told-as : (l : RunLog) → (went l (front ++ r ∷ [])).told ≡ (went l front).told ++ second_told l (went l front).before r ∷ []
     told-as l = ap (λ (w : Went). w.told) (went-more l front r)
 
-    by : (z : Told) → Contains (went log (front ++ r ∷ [])).told z → came_in c z ≡ true → (w : Told) × Contains (went later (front ++ r ∷ [])).told w × (w.second.number ≡ z.second.number) × (came_in c w ≡ true)
+    by : (z : ToldSecond) → Contains (went log (front ++ r ∷ [])).told z → came_in c z ≡ true → (w : ToldSecond) × Contains (went later (front ++ r ∷ [])).told w × (w.second.number ≡ z.second.number) × (came_in c w ≡ true)
     by z among came = ⊎_elim
         (λ old. (
           z,
-          subst (λ (ts : List Told). Contains ts z) (sym (told-as later))
+          subst (λ (ts : List ToldSecond). Contains ts z) (sym (told-as later))
               (Contains-append_left (went later front).told (second_told later (went later front).before r ∷ []) z (subst (λ (w : Went). Contains w.told z) (sym same) old)),
           refl,
           came,
         ))
         (λ (one : second_told log (went log front).before r ≡ z). (
           second_told later (went later front).before r,
-          subst (λ (ts : List Told). Contains ts (second_told later (went later front).before r)) (sym (told-as later)) (Contains-push (went later front).told (second_told later (went later front).before r)),
-          told-number later (went later front).before r ∙ sym (told-number log (went log front).before r) ∙ ap (λ (w : Told). w.second.number) one,
+          subst (λ (ts : List ToldSecond). Contains ts (second_told later (went later front).before r)) (sym (told-as later)) (Contains-push (went later front).told (second_told later (went later front).before r)),
+          told-number later (went later front).before r ∙ sym (told-number log (went log front).before r) ∙ ap (λ (w : ToldSecond). w.second.number) one,
           ap (list_any (λ (q : Visit). same_card c q.card)) entered ∙ ap (came_in c) one ∙ came,
         ))
-        (Contains-push_cases (went log front).told (second_told log (went log front).before r) z (subst (λ (ts : List Told). Contains ts z) (told-as log) among))
+        (Contains-push_cases (went log front).told (second_told log (went log front).before r) z (subst (λ (ts : List ToldSecond). Contains ts z) (told-as log) among))
 
-pub first-told : (start : Card → List ℕ) (told more : List Told) (trace : List TraceSecond) (c : Card) (u session : ℕ) → IsFirst start told trace c u session → IsFirst start (told ++ more) trace c u session
+pub first-told : (start : Card → List ℕ) (told more : List ToldSecond) (trace : List TraceSecond) (c : Card) (u session : ℕ) → IsFirst start told trace c u session → IsFirst start (told ++ more) trace c u session
 first-told start told more trace c u session h = ⊎_elim (λ is. inl is) (λ come. inr (come-told told more trace c u come)) h
 
-pub first-more : (start : Card → List ℕ) (told more : List Told) (trace later : List TraceSecond) (c : Card) (u session : ℕ) → IsFirst start told trace c u session → IsFirst start (told ++ more) (trace ++ later) c u session
+pub first-more : (start : Card → List ℕ) (told more : List ToldSecond) (trace later : List TraceSecond) (c : Card) (u session : ℕ) → IsFirst start told trace c u session → IsFirst start (told ++ more) (trace ++ later) c u session
 first-more start told more trace later c u session h = ⊎_elim (λ is. inl is) (λ come. inr (come-trace (told ++ more) trace later c u (come-told told more trace c u come))) h
 
 -- an image that might have been left might have been left since
-pub open-left : (o : Origin) (told : List Told) (trace : List TraceSecond) (d e : Devices) (c : Card) (u session : ℕ) → HaveLeftMore o d e → IsOpenSo o told trace d c u session → IsOpenSo o told trace e c u session
+pub open-left : (o : Origin) (told : List ToldSecond) (trace : List TraceSecond) (d e : Devices) (c : Card) (u session : ℕ) → HaveLeftMore o d e → IsOpenSo o told trace d c u session → IsOpenSo o told trace e c u session
 open-left o told trace d e c u session left h = (h.0, left.card c h.0 h.1, h.2, h.3)
 
-pub all-left : (o : Origin) (told : List Told) (trace : List TraceSecond) (d e : Devices) (sessions : ℕ → Visit → ℕ) → HaveLeftMore o d e → AreOpenSo o told trace d sessions → AreOpenSo o told trace e sessions
+pub all-left : (o : Origin) (told : List ToldSecond) (trace : List TraceSecond) (d e : Devices) (sessions : ℕ → Visit → ℕ) → HaveLeftMore o d e → AreOpenSo o told trace d sessions → AreOpenSo o told trace e sessions
 all-left o told trace d e sessions left h t f among found accepts = open-left o told trace d e f.0.card t.second.number (sessions t.second.number f.0) left (h t f among found accepts)

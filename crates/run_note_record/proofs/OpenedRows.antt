@@ -12,7 +12,7 @@ use Rattle.log_model.specs.declared.lines.Break.TheVariants.{Tear as Torn}
 use Rattle.log_model.specs.declared.lines.Find.{Find}
 use Rattle.log_model.specs.declared.lines.Verdict.TheVariants.{Accepted}
 use Rattle.log_model.specs.Log.{RunLog, In, cut_in, is_torn_in, found_in}
-use Rattle.log_model.specs.Course.{Told, Visit, second_told, not_begun, went}
+use Rattle.log_model.specs.Course.{ToldSecond, Visit, second_told, not_begun, went}
 use Rattle.note_model.specs.Done.{done_of}
 use Rattle.note_model.specs.Noted.{notes_of}
 use Rattle.run_note_record.specs.Opened.{session_in, times_put, HasComeBefore, AreFirst}
@@ -33,7 +33,7 @@ found second = record { second = second; slot = Driver; verdict = Accepted 0; be
 abbrev accepted : RunLog
 accepted = record { breaks = []; refused = []; finds = found 1267401600 ∷ found 1267401602 ∷ [] }
 
-abbrev first_told : Told
+abbrev first_told : ToldSecond
 first_told = second_told accepted not_begun.before (second 1267401600 0 (Insert Driver A ∷ []))
 
 abbrev visit : Visit
@@ -45,7 +45,7 @@ unfolding went cut_in is_torn_in found_in
 comes_first come = ⊎_elim
     (λ past.
     let before = past.2 in
-    let late = each-of (λ (t : Told). 1267401600 ≤ t.second.number) (went accepted visits_twice).told past.0 (omega arith, (omega arith, (omega arith, tt))) past.1 in
+    let late = each-of (λ (t : ToldSecond). 1267401600 ≤ t.second.number) (went accepted visits_twice).told past.0 (omega arith, (omega arith, (omega arith, tt))) past.1 in
     absurd (omega (arith, before, late)))
     (λ twice.
     let often = twice.3 in

@@ -9,14 +9,14 @@ use Rattle.log_model.specs.declared.lines.Verdict.{Verdict}
 use Rattle.log_model.specs.Log.{RunLog}
 use Rattle.log_model.specs.Same.{SameAt}
 use Rattle.log_model.specs.Slots.{Slots}
-use Rattle.log_model.specs.Course.{Told, Visit, Went, second_told, went}
+use Rattle.log_model.specs.Course.{ToldSecond, Visit, Went, second_told, went}
 use Rattle.log_model.proofs.Growth.{went-more}
 use Rattle.event_model.specs.Runs.{run_with, last_run, runs_behind}
 use Rattle.event_model.specs.Events.{Event, Seen, number_of, seen_of, seen_spans, is_bare, bare_event, over_event}
 use Rattle.note_model.specs.Noted.{Note}
-use Rattle.run_unit_course.specs.Followed.{Supply, Lit}
+use Rattle.run_unit_course.specs.Followed.{UnitPower, Lit}
 use Rattle.safety_model.specs.Safe.{Devices}
-use Rattle.run_course.specs.Followed.{Progress, Followed}
+use Rattle.run_course.specs.Followed.{Progress, BookFollowsRun}
 use Rattle.run_course.specs.Quiet.{quiet_second, quiet_seconds}
 use Rattle.run_course.proofs.Quiet.{quiet-are-told}
 use Rattle.run_course.proofs.Reached.{push-each}
@@ -42,13 +42,13 @@ use Rattle.run_note_record.proofs.Unlit.{plain-last, behind-more}
 quiet-last : (n number speed : ℕ) (slots : Slots) → quiet_seconds (suc n) number speed slots ≡ quiet_seconds n number speed slots ++ quiet_second (number + n) speed slots ∷ []
 quiet-last zero number speed slots = ap (λ (k : ℕ). quiet_second k speed slots ∷ []) (let e : number ≡ number + 0 = omega arith in e)
 quiet-last (suc n) number speed slots =
-    ap (λ (ts : List Told). quiet_second number speed slots ∷ ts)
+    ap (λ (ts : List ToldSecond). quiet_second number speed slots ∷ ts)
     (quiet-last n (number + 1) speed slots ∙ ap (λ (k : ℕ). quiet_seconds n (number + 1) speed slots ++ quiet_second k speed slots ∷ []) (let e : number + 1 + n ≡ number + suc n = omega arith in e))
 
-quiet-found : (n number speed : ℕ) (slots : Slots) (t : Told) → Contains (quiet_seconds n number speed slots) t → t.course.found ≡ []
+quiet-found : (n number speed : ℕ) (slots : Slots) (t : ToldSecond) → Contains (quiet_seconds n number speed slots) t → t.course.found ≡ []
 quiet-found zero number speed slots t there = absurd (omega (arith, there.1))
 quiet-found (suc n) number speed slots t there = ⊎_elim
-    (λ here. ⊎_elim (λ nowhere. absurd (omega (arith, nowhere.1))) (λ (is : quiet_second number speed slots ≡ t). ap (λ (y : Told). y.course.found) (sym is)) (Contains-push_cases [] (quiet_second number speed slots) t here))
+    (λ here. ⊎_elim (λ nowhere. absurd (omega (arith, nowhere.1))) (λ (is : quiet_second number speed slots ≡ t). ap (λ (y : ToldSecond). y.course.found) (sym is)) (Contains-push_cases [] (quiet_second number speed slots) t here))
     (λ behind. quiet-found n (number + 1) speed slots t behind)
     (Contains-append_cases (quiet_second number speed slots ∷ []) (quiet_seconds n (number + 1) speed slots) t there)
 
@@ -56,7 +56,7 @@ all-same : (log : RunLog) (ss : List TraceSecond) → All (λ (s : TraceSecond).
 all-same log [] = All-nil (λ (s : TraceSecond). SameAt log log s.number)
 all-same log (s ∷ ss) = All-cons (λ (s : TraceSecond). SameAt log log s.number) s ss (record { cut = refl; torn = λ p slot. refl; found = λ p slot. refl }) (all-same log ss)
 
-module _ (o : Origin) (done : List TraceSecond) (p : Progress) (f : Followed (rule_of o) (start_at o) o.from (first_of o) done p) (t : Told) (span : List Told) (is : p.supply ≡ Lit (t ∷ span)) (speed : ℕ) where
+module _ (o : Origin) (done : List TraceSecond) (p : Progress) (f : BookFollowsRun (rule_of o) (start_at o) o.from (first_of o) done p) (t : ToldSecond) (span : List ToldSecond) (is : p.supply ≡ Lit (t ∷ span)) (speed : ℕ) where
   abbrev log : RunLog
   log = p.log
 
@@ -75,12 +75,12 @@ module _ (o : Origin) (done : List TraceSecond) (p : Progress) (f : Followed (ru
   -- each is a quiet one
   told-is : (n : ℕ) → second_told log (went log (done ++ driven n p.next speed [])).before (plain_second n) ≡ quiet_second (p.next + n) speed slots
   told-is n =
-      let y : Told = second_told log (went log (done ++ driven n p.next speed [])).before (plain_second n) in
+      let y : ToldSecond = second_told log (went log (done ++ driven n p.next speed [])).before (plain_second n) in
       (same_from_push ((went log (done ++ driven n p.next speed [])).told) ((went log done).told ++ quiet_seconds n p.next speed slots) y (quiet_second (p.next + n) speed slots)
       (sym (ap (λ (w : Went). w.told) (went-more log (done ++ driven n p.next speed []) (plain_second n)))
       ∙ ap (λ (ss : List TraceSecond). (went log ss).told) (more-is n)
       ∙ ap (λ (w : Went). w.told) (told-all (suc n))
-      ∙ ap (λ (ts : List Told). (went log done).told ++ ts) (quiet-last n p.next speed slots)
+      ∙ ap (λ (ts : List ToldSecond). (went log done).told ++ ts) (quiet-last n p.next speed slots)
       ∙ sym (append_assoc (went log done).told (quiet_seconds n p.next speed slots) (quiet_second (p.next + n) speed slots ∷ [])))).1
 
   -- and notes nothing
@@ -89,7 +89,7 @@ module _ (o : Origin) (done : List TraceSecond) (p : Progress) (f : Followed (ru
   notes-on (suc n) =
       let front : List TraceSecond = done ++ driven n p.next speed [] in
       ap (notes_in log) (sym (more-is n)) ∙ next-notes log front (plain_second n)
-      ∙ (λ i. notes-on n i ++ idle-notes log (went log front).before (plain_second n) refl (ap (λ (y : Told). y.course.found) (told-is n)) i)
+      ∙ (λ i. notes-on n i ++ idle-notes log (went log front).before (plain_second n) refl (ap (λ (y : ToldSecond). y.course.found) (told-is n)) i)
       ∙ append-nil (notes_in log done)
 
   record UpTo (n : ℕ) : Type 0 where
@@ -106,7 +106,7 @@ module _ (o : Origin) (done : List TraceSecond) (p : Progress) (f : Followed (ru
     quiet = tt;
     from = tt;
     gaps = subst (λ (ss : List TraceSecond). HasGaps log p.unfound (Lit ((t ∷ span) ++ [])) ss) (sym (append-nil done))
-        (subst (λ (ts : List Told). HasGaps log p.unfound (Lit ts) done) (sym (append-nil (t ∷ span))) (subst (λ (s : Supply). HasGaps log p.unfound s done) is g));
+        (subst (λ (ts : List ToldSecond). HasGaps log p.unfound (Lit ts) done) (sym (append-nil (t ∷ span))) (subst (λ (s : UnitPower). HasGaps log p.unfound s done) is g));
   }
   up-to g (suc n) =
       let u = up-to g n in
@@ -120,16 +120,16 @@ module _ (o : Origin) (done : List TraceSecond) (p : Progress) (f : Followed (ru
         are = ap (seen_of log) (sym (more-is n)) ∙ seen-more log front s ∙ ap (λ (ys : List Seen). ys ++ x ∷ []) u.are ∙ append_assoc (seen_of log done) u.seen (x ∷ []);
         quiet = push-each IsQuiet u.seen x u.quiet
             (record {
-              idle = record { found = ap (λ (y : Told). y.course.found) told; torn = ap (λ (y : Told). y.course.torn) told; entered = ap (λ (y : Told). y.course.entered) told };
-              lit = ap (λ (y : Told). y.lit) told;
-              goes_on = ap (λ (y : Told). y.starts) told;
+              idle = record { found = ap (λ (y : ToldSecond). y.course.found) told; torn = ap (λ (y : ToldSecond). y.course.torn) told; entered = ap (λ (y : ToldSecond). y.course.entered) told };
+              lit = ap (λ (y : ToldSecond). y.lit) told;
+              goes_on = ap (λ (y : ToldSecond). y.starts) told;
             });
         from = push-each (λ (y : Seen). p.next ≤ number_of y) u.seen x u.from (omega (arith, number));
         gaps = subst (λ (ss : List TraceSecond). HasGaps log p.unfound (Lit ((t ∷ span) ++ quiet_seconds (suc n) p.next speed slots)) ss) (more-is n)
             (goes-on log log p.unfound front s (all-same log front) [] (sym (append-nil log.breaks)) refl (Lit ((t ∷ span) ++ quiet_seconds n p.next speed slots)) (Lit ((t ∷ span) ++ quiet_seconds (suc n) p.next speed slots))
             (t ∷ (span ++ quiet_seconds n p.next speed slots)) ((t ∷ span) ++ quiet_seconds n p.next speed slots) (quiet_second (p.next + n) speed slots) refl
-            (ap (λ (ts : List Told). Lit ((t ∷ span) ++ ts)) (quiet-last n p.next speed slots) ∙ ap (λ (ts : List Told). Lit ts) (sym (append_assoc (t ∷ span) (quiet_seconds n p.next speed slots) (quiet_second (p.next + n) speed slots ∷ []))))
-            u.gaps (ap (λ (y : Told). y.lit) told) (ap (λ (y : Told). y.starts) told));
+            (ap (λ (ts : List ToldSecond). Lit ((t ∷ span) ++ ts)) (quiet-last n p.next speed slots) ∙ ap (λ (ts : List ToldSecond). Lit ts) (sym (append_assoc (t ∷ span) (quiet_seconds n p.next speed slots) (quiet_second (p.next + n) speed slots ∷ []))))
+            u.gaps (ap (λ (y : ToldSecond). y.lit) told) (ap (λ (y : ToldSecond). y.starts) told));
       }
 
 pub quiet-brings_nothing : (d : Devices) → QuietSecondsBringNothing d

@@ -7,7 +7,7 @@ use Rattle.trace_model.specs.declared.Card.{Card}
 use Rattle.trace_model.specs.Trace.{TraceSecond}
 use Rattle.log_model.specs.declared.lines.Verdict.{Verdict}
 use Rattle.log_model.specs.Log.{RunLog, In, cut_in, found_in, is_accepting}
-use Rattle.log_model.specs.Course.{Told, went}
+use Rattle.log_model.specs.Course.{ToldSecond, went}
 use Rattle.note_model.specs.Odometer.{SpanFrom}
 use Rattle.note_model.specs.Noted.{Acceptance, Withdrawal, PlaceNote, Note, Accepts, Withdraws, Enters}
 use Rattle.safety_model.specs.Safe.{Devices}
@@ -25,7 +25,7 @@ use Rattle.run_note_record.proofs.Around.{insertion-around, place-around, withdr
 use Rattle.run_note_record.proofs.SoFar.{left-itself, go-on-in, notes-nothing, action-noted, cut-ends}
 
 -- the lines alone, before any call
-lines-in : (d : Devices) (o : Origin) (done : List TraceSecond) (s : TraceSecond) (began log later : RunLog) (front : List Action) (spans : List SpanFrom) (base : ℕ) (t : Told) (seats : Card → Option Seating) →
+lines-in : (d : Devices) (o : Origin) (done : List TraceSecond) (s : TraceSecond) (began log later : RunLog) (front : List Action) (spans : List SpanFrom) (base : ℕ) (t : ToldSecond) (seats : Card → Option Seating) →
     RingedIn o done s began front log spans base t seats d → GoesOnTo log later s front → RingedIn o done s began front later spans base t seats d
 lines-in d o done s began log later front spans base t seats v g = go-on-in d d o done s began front log later spans base t seats seats v g.lines g.same (rings-left d.unit) (left-itself o d) (places-itself o d) (λ c. inl refl)
 
@@ -35,7 +35,7 @@ passes d e o done s began log later front a spans base t seats fewer v g none st
     notes-nothing e o done s began front a later spans base t fewer (go-on-in d e o done s began front log later spans base t seats fewer v g.lines g.same stays left cards few) none
 
 -- power is cut behind an action
-module _ (d e : Devices) (o : Origin) (done : List TraceSecond) (s : TraceSecond) (began log cut : RunLog) (front : List Action) (a : Action) (rest : List Action) (spans : List SpanFrom) (base : ℕ) (t : Told) where
+module _ (d e : Devices) (o : Origin) (done : List TraceSecond) (s : TraceSecond) (began log cut : RunLog) (front : List Action) (a : Action) (rest : List Action) (spans : List SpanFrom) (base : ℕ) (t : ToldSecond) where
   behind-it : (seats : Card → Option Seating) → IsCutIn began log cut done s front a rest → RingedIn o done s began (front ++ a ∷ []) cut spans base t seats e → RingedBehind o (done ++ s ∷ []) cut (suc s.number) (spans_cut spans base cut done s) nobody e
   behind-it seats c v =
       let are : s.actions ≡ (front ++ a ∷ []) ++ rest = c.are ∙ sym (append_assoc front (a ∷ []) rest) in

@@ -17,8 +17,8 @@ use Rattle.note_model.specs.Rings.{Stand, AreNoFewer}
 use Rattle.safety_model.specs.Safe.{Devices}
 use Rattle.run_note_record.specs.Opened.{HasComeBefore}
 use Rattle.trace_model.specs.Trace.{TraceSecond}
-use Rattle.log_model.specs.Course.{Told}
-use Rattle.run_rings.specs.Carried.{Carries}
+use Rattle.log_model.specs.Course.{ToldSecond}
+use Rattle.run_rings.specs.Carried.{RingKeeps}
 use Rattle.run_rings.proofs.Carried.{carries-none, carries-same, carries-more}
 use Rattle.run_rings.proofs.Indices.{index-stays}
 use Rattle.run_rings.proofs.Standing.{stand-one}
@@ -44,10 +44,10 @@ Writes R d e = (y : List ℕ) → e.unit.may_leave y → (x : List ℕ) × d.uni
 pub none-noted : (d : Devices) → NoRingIsWritten d
 none-noted d o log spans start cards = record {
   insertions = λ ring x left. record {
-    shows = record { more = []; carries = subst (λ (y : List ℕ). Carries insertion_ring o.origin.recording.unit y []) (sym (start x left)) (carries-none insertion_ring o.origin.recording.unit ring.points ring.dense); stand = refl; few = few-start insertion_ring (sure_insertion o.origin log spans) o.origin.recording.unit x (start x left) };
+    shows = record { more = []; carries = subst (λ (y : List ℕ). RingKeeps insertion_ring o.origin.recording.unit y []) (sym (start x left)) (carries-none insertion_ring o.origin.recording.unit ring.points ring.dense); stand = refl; few = few-start insertion_ring (sure_insertion o.origin log spans) o.origin.recording.unit x (start x left) };
     seated = λ c. tt;
   };
-  places = λ ring x left. record { more = []; carries = subst (λ (y : List ℕ). Carries unit_place_ring o.origin.recording.unit y []) (sym (start x left)) (carries-none unit_place_ring o.origin.recording.unit ring.points ring.dense); stand = refl; few = few-start unit_place_ring (sure_place o.origin log spans) o.origin.recording.unit x (start x left) };
+  places = λ ring x left. record { more = []; carries = subst (λ (y : List ℕ). RingKeeps unit_place_ring o.origin.recording.unit y []) (sym (start x left)) (carries-none unit_place_ring o.origin.recording.unit ring.points ring.dense); stand = refl; few = few-start unit_place_ring (sure_place o.origin log spans) o.origin.recording.unit x (start x left) };
   on_cards = places-none o.origin log spans d cards;
 }
 
@@ -66,7 +66,7 @@ fewer-sit d o log spans notes seats fewer v each = record {
 
 -- ---- as a log goes on, over devices
 
-module _ (origin : Origin) (told told_now : List Told) (trace trace_now : List TraceSecond) (come : (c : Card) (u : ℕ) → HasComeBefore told trace c u → HasComeBefore told_now trace_now c u)
+module _ (origin : Origin) (told told_now : List ToldSecond) (trace trace_now : List TraceSecond) (come : (c : Card) (u : ℕ) → HasComeBefore told trace c u → HasComeBefore told_now trace_now c u)
     (log later : RunLog) (spans now : List SpanFrom) (notes : List Note) (d e : Devices) (more : HaveLeftMore origin d e) (on : GoOn log later spans now notes) where
   abbrev since_was : Since
   since_was = record { origin = origin; told = told; trace = trace }
@@ -146,7 +146,7 @@ go-on log spans notes = record {
 
 -- MORE SECONDS are told, and more of the trace: who has come before has come before.
 abbrev pub MoreComeBefore : Devices → Type 0
-MoreComeBefore d = (o : Origin) (told later : List Told) (trace now : List TraceSecond) → ((c : Card) (u : ℕ) → HasComeBefore told trace c u → HasComeBefore later now c u) → (log : RunLog) (spans : List SpanFrom) (notes : List Note) (seats : Card → Option Seating) →
+MoreComeBefore d = (o : Origin) (told later : List ToldSecond) (trace now : List TraceSecond) → ((c : Card) (u : ℕ) → HasComeBefore told trace c u → HasComeBefore later now c u) → (log : RunLog) (spans : List SpanFrom) (notes : List Note) (seats : Card → Option Seating) →
     Ringed (record { origin = o; told = told; trace = trace }) log spans notes seats d → Ringed (record { origin = o; told = later; trace = now }) log spans notes seats d
 
 pub come-before : (d : Devices) → MoreComeBefore d
@@ -239,7 +239,7 @@ place-noted d e o log spans notes seats v more p head added full is own long on 
       let w = added y left in
       let was = v.places ring w.0 w.1 in record {
         more = was.more ++ head ∷ [];
-        carries = subst (λ (l : List ℕ). Carries unit_place_ring o.origin.recording.unit y (was.more ++ l ∷ [])) (whole-head unit_place_ring w.0 (taken unit_place_ring w.0) head full) (carries-more unit_place_ring o.origin.recording.unit w.0 was.more was.carries head y w.2);
+        carries = subst (λ (l : List ℕ). RingKeeps unit_place_ring o.origin.recording.unit y (was.more ++ l ∷ [])) (whole-head unit_place_ring w.0 (taken unit_place_ring w.0) head full) (carries-more unit_place_ring o.origin.recording.unit w.0 was.more was.carries head y w.2);
         stand = subst (λ (l : List PlaceNote). Stand (sure_place o.origin log spans) (IsPlaceIn o.origin log spans) l (was.more ++ head ∷ [])) (sym (places-more notes (Enters p)))
             (stand-one (sure_place o.origin log spans) (IsPlaceIn o.origin log spans) (places_of notes) was.more p head was.stand is);
         few = subst (λ (l : List PlaceNote). AreNoFewer unit_place_ring (sure_place o.origin log spans) l o.origin.recording.unit y) (sym (places-more notes (Enters p)))
@@ -332,7 +332,7 @@ insertion-noted d e o log spans notes seats now v more cards a head index added 
       let stands = stand-as (sure_insertion o.origin log spans) (sure_insertion o.origin log spans) (IsInsertionIn o log spans d) (IsInsertionIn o log spans e) (insertions_of notes) was.shows.more (insertions-weaker o log log spans spans notes d e more (go-on log spans notes)) was.shows.stand in record {
         shows = record {
           more = was.shows.more ++ head ∷ [];
-          carries = subst (λ (l : List ℕ). Carries insertion_ring o.origin.recording.unit y (was.shows.more ++ l ∷ [])) (whole-head insertion_ring w.0 (taken insertion_ring w.0) head full) (carries-more insertion_ring o.origin.recording.unit w.0 was.shows.more was.shows.carries head y w.2.0);
+          carries = subst (λ (l : List ℕ). RingKeeps insertion_ring o.origin.recording.unit y (was.shows.more ++ l ∷ [])) (whole-head insertion_ring w.0 (taken insertion_ring w.0) head full) (carries-more insertion_ring o.origin.recording.unit w.0 was.shows.more was.shows.carries head y w.2.0);
           stand = subst (λ (l : List InsertionNote). Stand (sure_insertion o.origin log spans) (IsInsertionIn o log spans e) l (was.shows.more ++ head ∷ [])) (sym are)
               (stand-one (sure_insertion o.origin log spans) (IsInsertionIn o log spans e) (insertions_of notes) was.shows.more (record { accepted = a; withdrawn = None }) head stands is);
           few = subst (λ (l : List InsertionNote). AreNoFewer insertion_ring (sure_insertion o.origin log spans) l o.origin.recording.unit y) (sym are)

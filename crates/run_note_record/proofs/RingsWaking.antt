@@ -12,7 +12,7 @@ use Rattle.log_model.specs.declared.lines.Verdict.{Verdict}
 use Rattle.log_model.specs.Causes.{is_cut, has_failed, second_of}
 use Rattle.log_model.specs.Log.{RunLog, In, found_in, is_accepting}
 use Rattle.log_model.specs.Slots.{Sitting, in_slot}
-use Rattle.log_model.specs.Course.{Told, Before, Went, went}
+use Rattle.log_model.specs.Course.{ToldSecond, Before, Went, went}
 use Rattle.log_model.specs.Spans.{spans_of}
 use Rattle.run_unit_course.specs.Lines.{found_from}
 use Rattle.note_model.specs.Done.{has_failed_in}
@@ -95,7 +95,7 @@ power-begins d o done s began spans base t seats fewer v off none second few =
       ringed = subst (λ (l : List Note). Ringed (since_in o began done s) began now l fewer d) (sym are) (fewer-sit d (since_in o began done s) began now notes seats fewer ringed few);
     }
 
-module _ (d e : Devices) (o : Origin) (done : List TraceSecond) (s : TraceSecond) (began log later : RunLog) (spans : List SpanFrom) (base : ℕ) (t : Told) (seats : Card → Option Seating) (v : RingedIn o done s began [] log spans base t seats d) (more : HasMoreBreaks log later) where
+module _ (d e : Devices) (o : Origin) (done : List TraceSecond) (s : TraceSecond) (began log later : RunLog) (spans : List SpanFrom) (base : ℕ) (t : ToldSecond) (seats : Card → Option Seating) (v : RingedIn o done s began [] log spans base t seats d) (more : HasMoreBreaks log later) where
   -- the lines alone, before any call
   lines-anew : Ringed (since_in o began done s) later (with_second spans base t) (notes_so_far began done log s []) seats d
   lines-anew =

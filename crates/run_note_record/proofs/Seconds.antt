@@ -7,17 +7,17 @@ use Rattle.log_model.specs.declared.lines.Break.{Break}
 use Rattle.log_model.specs.Log.{RunLog, Phase}
 use Rattle.log_model.specs.Causes.{second_of}
 use Rattle.log_model.specs.Same.{SameAt}
-use Rattle.log_model.specs.Course.{Told, Visit, Went, went}
+use Rattle.log_model.specs.Course.{ToldSecond, Visit, Went, went}
 use Rattle.event_model.specs.Events.{Event, Seen, Tearing, seen_of, seen_spans}
 use Rattle.note_model.specs.Done.{has_failed_in}
 use Rattle.note_model.specs.Noted.{Note}
 use Rattle.run_unit_course.specs.Lines.{cut_at}
-use Rattle.run_unit_course.specs.Followed.{Supply, Lit, Due, Lost, MayPower, IsDark, cuts_from}
+use Rattle.run_unit_course.specs.Followed.{UnitPower, Lit, Due, Lost, MayPower, IsDark, cuts_from}
 use Rattle.unit_events.specs.Shown.{all_kinds}
 use Rattle.unit_events.proofs.Failing.{failed-found, failed-here}
 use Rattle.safety_model.specs.Safe.{Devices}
 use Rattle.run_course.specs.Moments.{and_break}
-use Rattle.run_course.specs.Followed.{Progress, Followed}
+use Rattle.run_course.specs.Followed.{Progress, BookFollowsRun}
 use Rattle.run_course.specs.Seconds.{GoesOnBy, next_told}
 use Rattle.run_course.proofs.Logs.{all-before, same-found, went-found, kept-found}
 use Rattle.run_course.specs.Moment.{Moment, goes_on}
@@ -63,7 +63,7 @@ events-stay d e o done log unfound next supply v says left = record {
 }
 
 -- POWER IS BACK
-dark-by : (supply : Supply) (next : ℕ) → MayPower supply next → IsDark supply
+dark-by : (supply : UnitPower) (next : ℕ) → MayPower supply next → IsDark supply
 dark-by (Lit span) next may = absurd may
 dark-by Due next may = tt
 dark-by Lost next may = tt
@@ -83,7 +83,7 @@ events-found d e o done p f v may k says left =
       plain = v.plain;
       events = lines-shown (number_in o) o.recording.unit (limit_in o) p.log later p.unfound p.supply done v.tearing v.sessions {U = d.unit} {V = e.unit} v.events v.gaps tells says;
       gaps = is-found p.log later p.unfound k p.supply done (dark-by p.supply p.next may) v.gaps same refl;
-      found_open = subst (λ (ts : List Told). AreOpenSo o ts done e v.sessions) (sym (ap (λ (w : Went). w.told) (went-found p.log p.unfound k o.from done f.order))) (all-left o (went p.log done).told done d e v.sessions left v.found_open);
+      found_open = subst (λ (ts : List ToldSecond). AreOpenSo o ts done e v.sessions) (sym (ap (λ (w : Went). w.told) (went-found p.log p.unfound k o.from done f.order))) (all-left o (went p.log done).told done d e v.sessions left v.found_open);
       exact = λ none_failed c valid.
           ap (λ (w : Went). opened_on c v.sessions w.told) (went-found p.log p.unfound k o.from done f.order)
           ∙ v.exact (found-none p.unfound k p.log none_failed) c valid
@@ -91,7 +91,7 @@ events-found d e o done p f v may k says left =
     }
 
 -- ONE SECOND MORE
-module _ (o : Origin) (done : List TraceSecond) (p : Progress) (f : Followed (rule_of o) (start_at o) o.from (first_of o) done p) (d e : Devices) (v : EventedBy o done p d) (s : TraceSecond) (log : RunLog) (g : GoesOnBy p log s)
+module _ (o : Origin) (done : List TraceSecond) (p : Progress) (f : BookFollowsRun (rule_of o) (start_at o) o.from (first_of o) done p) (d e : Devices) (v : EventedBy o done p d) (s : TraceSecond) (log : RunLog) (g : GoesOnBy p log s)
     (here : Tearing) (own : ℕ → Visit → ℕ) (choice : IsChosen o log done s here own e) (left : HaveLeftMore o d e) where
   abbrev x : Seen
   x = seen_next log done s
@@ -103,7 +103,7 @@ module _ (o : Origin) (done : List TraceSecond) (p : Progress) (f : Followed (ru
   open-now = sessions-on o done p f s log g d e v.sessions own v.found_open left choice.found_open
 
   -- all that it brings was noted
-  pub noted-on : (supply : Supply) → HasGaps log p.unfound supply (done ++ s ∷ []) → (more : List Event) → ((kind : ℕ) → Contains all_kinds kind → by_kind more kind ≡ brought_now o log done s here own kind) →
+  pub noted-on : (supply : UnitPower) → HasGaps log p.unfound supply (done ++ s ∷ []) → (more : List Event) → ((kind : ℕ) → Contains all_kinds kind → by_kind more kind ≡ brought_now o log done s here own kind) →
       NotesMore o log (events_now o log done s here own v.tearing v.sessions) (by_kind more) d e → Evented o (done ++ s ∷ []) log p.unfound (suc p.next) supply e
   noted-on supply gaps more are each = record {
     tearing = tearing_now s here v.tearing;
@@ -136,11 +136,11 @@ second-noted d e o done p f v span is s log mid now m here own choice left more 
     let told = (second-ends_told (rule_of o) (start_at o) o.from (first_of o) done p f span is s log mid now m).0 in
     noted-on o done p f d e v s log g here own choice left (Lit (span ++ next_told log done s ∷ []))
     (goes-on p.log log p.unfound done s (same-before o done p f s log g) g.breaks.0 g.breaks.1 (front-same o done p f s log g) p.supply (Lit (span ++ next_told log done s ∷ [])) span span (next_told log done s) is refl v.gaps
-    (ap (λ (t : Told). t.lit) told) (ap (λ (t : Told). t.starts) told))
+    (ap (λ (t : ToldSecond). t.lit) told) (ap (λ (t : ToldSecond). t.starts) told))
     more are each
 
 -- A CUT'S
-module _ (o : Origin) (done : List TraceSecond) (p : Progress) (f : Followed (rule_of o) (start_at o) o.from (first_of o) done p) (s : TraceSecond) (at : Phase) (log : RunLog) (waits : List Visit) (mid now : Device → ℕ)
+module _ (o : Origin) (done : List TraceSecond) (p : Progress) (f : BookFollowsRun (rule_of o) (start_at o) o.from (first_of o) done p) (s : TraceSecond) (at : Phase) (log : RunLog) (waits : List Visit) (mid now : Device → ℕ)
     (m : Moment p (went p.log done).before s at log waits mid now) (k : ℕ) where
   abbrev cut : RunLog
   cut = and_break log (cut_at s.number true k)
@@ -169,6 +169,6 @@ second-broken d e o done p f v span is s at log waits mid now later m more broke
     let g : GoesOnBy p cut s = cut-goes o done p f s at log waits mid now m k in
     let told = (cut-ends_told (rule_of o) (start_at o) o.from (first_of o) done p f span is s at log waits mid now later m more broke rest is_left).0 in
     broken-on o done p f d e v s cut g here own choice left (cut-failed o done p f s at log waits mid now m k)
-    (breaks-off p.log cut p.unfound done s (same-before o done p f s cut g) g.breaks.0 g.breaks.1 (front-same o done p f s cut g) p.supply span is v.gaps (ap (λ (t : Told). t.lit) told) (ap (λ (t : Told). t.starts) told)
+    (breaks-off p.log cut p.unfound done s (same-before o done p f s cut g) g.breaks.0 g.breaks.1 (front-same o done p f s cut g) p.supply span is v.gaps (ap (λ (t : ToldSecond). t.lit) told) (ap (λ (t : ToldSecond). t.starts) told)
     (cut-untold o done p f s at log waits mid now m k))
     each

@@ -11,7 +11,7 @@ use Rattle.note_model.specs.Rings.{Holder, RingShows, IsInsertion, IsPlace, is_s
 use Rattle.safety_model.specs.Safe.{Devices, card_of}
 use Rattle.safety_model.specs.Side.{identification_widths, holder_of, IsPrevious, TellsVehicle}
 use Rattle.trace_model.specs.Trace.{TraceSecond}
-use Rattle.log_model.specs.Course.{Told}
+use Rattle.log_model.specs.Course.{ToldSecond}
 use Rattle.note_model.specs.Odometer.{SpanFrom}
 use Rattle.run_note_record.specs.Opened.{HasComeBefore}
 use Rattle.run_rings.proofs.Standing.{ring-shows}
@@ -30,7 +30,7 @@ holder-by x = record {
 }
 
 -- the recording as it is, in place of what it began with and how far it has gone
-abbrev ShownBy : Recording → (holder : Card → Holder) (start : Card → List ℕ) (began : Card → ℕ) (told : List Told) (trace : List TraceSecond) (log : RunLog) (spans : List SpanFrom) (now : Devices) (notes : List InsertionNote) (unit x : List ℕ) → Type 0
+abbrev ShownBy : Recording → (holder : Card → Holder) (start : Card → List ℕ) (began : Card → ℕ) (told : List ToldSecond) (trace : List TraceSecond) (log : RunLog) (spans : List SpanFrom) (now : Devices) (notes : List InsertionNote) (unit x : List ℕ) → Type 0
 ShownBy r holder start began told trace log spans now notes unit x =
     RingShows insertion_ring (is_sure_insertion log spans holder)
     (λ n e. IsInsertion log spans holder
@@ -44,7 +44,7 @@ rings-shown began now o log spans notes seats v r unit cards logs traces tells t
       subst (λ (l : RunLog). ShownBy r (holder_of r) (card_image r) (λ c. (card_of began c).clock) (told_of r) r.trace l spans now (insertions_of (notes_in r.log r.trace)) r.unit x) (sym logs)
       (subst (λ (n : List Note). ShownBy r (holder_of r) (card_image r) (λ c. (card_of began c).clock) (told_of r) r.trace log spans now (insertions_of n) r.unit x) trace
       (subst (λ (u : List ℕ). ShownBy r (holder_of r) (card_image r) (λ c. (card_of began c).clock) (told_of r) r.trace log spans now (insertions_of notes) u x) (sym unit)
-      (subst (λ (ts : List Told). ShownBy r (holder_of r) (card_image r) (λ c. (card_of began c).clock) ts r.trace log spans now (insertions_of notes) o.origin.recording.unit x) (sym tells)
+      (subst (λ (ts : List ToldSecond). ShownBy r (holder_of r) (card_image r) (λ c. (card_of began c).clock) ts r.trace log spans now (insertions_of notes) o.origin.recording.unit x) (sym tells)
       (subst (λ (ss : List TraceSecond). ShownBy r (holder_of r) (card_image r) (λ c. (card_of began c).clock) o.told ss log spans now (insertions_of notes) o.origin.recording.unit x) (sym traces)
       (subst (λ (h : Card → Holder). ShownBy r h (card_image r) (λ c. (card_of began c).clock) o.told o.trace log spans now (insertions_of notes) o.origin.recording.unit x) holders
       (subst (λ (images : Card → List ℕ). ShownBy r (holder_in o.origin) images (λ c. (card_of began c).clock) o.told o.trace log spans now (insertions_of notes) o.origin.recording.unit x) starting

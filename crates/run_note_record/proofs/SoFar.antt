@@ -13,7 +13,7 @@ use Rattle.log_model.specs.Log.{RunLog, Phase, In, cut_in, is_torn_in}
 use Rattle.log_model.specs.Causes.{is_cut, has_failed, second_of}
 use Rattle.log_model.specs.Slots.{same_card, in_slot, refusal}
 use Rattle.log_model.specs.Spans.{go_on, spans_with, spans_of, seconds_in}
-use Rattle.log_model.specs.Course.{Course, Told, Before, Went, begins, acted, has_power, went, went_on, not_begun, second_told}
+use Rattle.log_model.specs.Course.{Course, ToldSecond, Before, Went, begins, acted, has_power, went, went_on, not_begun, second_told}
 use Rattle.note_model.specs.Done.{CarriedOut, course_powered, done_by, has_failed_in}
 use Rattle.note_model.specs.Odometer.{SpanFrom, odometer_at}
 use Rattle.note_model.specs.Noted.{Withdrawal, InsertionNote, PlaceNote, Note, Accepts, Withdraws, Enters, accepted_card, noted_by, noted_in, with_withdrawal, with_note, insertions_of, places_of}
@@ -184,19 +184,19 @@ went-more log done s = by done not_begun
 -- who has come before has come before behind a second more
 come-told_now : (began later : RunLog) (done trace : List TraceSecond) (s : TraceSecond) → went later done ≡ went began done → (c : Card) (u : ℕ) → HasComeBefore (went began done).told trace c u → HasComeBefore (went later (done ++ s ∷ [])).told trace c u
 come-told_now began later done trace s same c u h =
-    subst (λ (ts : List Told). HasComeBefore ts trace c u) (sym (went-more later done s))
+    subst (λ (ts : List ToldSecond). HasComeBefore ts trace c u) (sym (went-more later done s))
     (come-told (went later done).told (second_told later (went later done).before s ∷ []) trace c u (subst (λ (w : Went). HasComeBefore w.told trace c u) (sym same) h))
 
-spans-more : (told : List Told) (t : Told) → spans_of (told ++ t ∷ []) ≡ spans_with (spans_of told) t
+spans-more : (told : List ToldSecond) (t : ToldSecond) → spans_of (told ++ t ∷ []) ≡ spans_with (spans_of told) t
 unfolding spans_of
 spans-more told t = by told []
   where
-    by : (ts : List Told) (spans : List (List Told)) → fold spans_with spans (ts ++ t ∷ []) ≡ spans_with (fold spans_with spans ts) t
+    by : (ts : List ToldSecond) (spans : List (List ToldSecond)) → fold spans_with spans (ts ++ t ∷ []) ≡ spans_with (fold spans_with spans ts) t
     by [] spans = refl
     by (x ∷ ts) spans = by ts (spans_with spans x)
 
 -- a second with power, as its log tells it
-told-alike : (log : RunLog) (before : Before) (s : TraceSecond) (t : Told) → has_power before s ≡ true → IsSecond s before t → AreAlike t (second_told log before s)
+told-alike : (log : RunLog) (before : Before) (s : TraceSecond) (t : ToldSecond) → has_power before s ≡ true → IsSecond s before t → AreAlike t (second_told log before s)
 told-alike log before s t power is = record {
   number = told-number log before s ∙ sym is.number;
   speed = speed_ ∙ sym is.speed;
@@ -223,16 +223,16 @@ all-before-later : (u v : ℕ) (spans : List SpanFrom) → u ≤ v → AreAllBef
 all-before-later u v [] le all = tt
 all-before-later u v (x ∷ spans) le all = (before-later u v (seconds_in x.span) le all.0, all-before-later u v spans le all.1)
 
-before-push : (v : ℕ) (span : List Told) (t : Told) → AreBefore v (seconds_in span) → t.second.number < v → AreBefore v (seconds_in (span ++ t ∷ []))
+before-push : (v : ℕ) (span : List ToldSecond) (t : ToldSecond) → AreBefore v (seconds_in span) → t.second.number < v → AreBefore v (seconds_in (span ++ t ∷ []))
 before-push v [] t all lt = (lt, tt)
 before-push v (x ∷ span) t all lt = (all.0, before-push v span t all.1 lt)
 
-before-go_on : (v : ℕ) (spans : List SpanFrom) (base : ℕ) (t : Told) → AreAllBefore v spans → t.second.number < v → AreAllBefore v (go_on_from spans base t)
+before-go_on : (v : ℕ) (spans : List SpanFrom) (base : ℕ) (t : ToldSecond) → AreAllBefore v spans → t.second.number < v → AreAllBefore v (go_on_from spans base t)
 before-go_on v [] base t all lt = ((lt, tt), tt)
 before-go_on v (x ∷ []) base t all lt = (before-push v x.span t all.0 lt, tt)
 before-go_on v (x ∷ y ∷ spans) base t all lt = (all.0, before-go_on v (y ∷ spans) base t all.1 lt)
 
-before-with : (v : ℕ) (spans : List SpanFrom) (base : ℕ) (t : Told) → AreAllBefore v spans → t.second.number < v → AreAllBefore v (with_second spans base t)
+before-with : (v : ℕ) (spans : List SpanFrom) (base : ℕ) (t : ToldSecond) → AreAllBefore v spans → t.second.number < v → AreAllBefore v (with_second spans base t)
 before-with v spans base t all lt = by t.lit t.starts
   where
     by : (lit starts : Bool) → AreAllBefore v (cond lit (cond starts (spans ++ record { base = base; span = t ∷ [] } ∷ []) (go_on_from spans base t)) spans)
@@ -304,7 +304,7 @@ earlier-later u (x ∷ xs) early = ((let lt = early.0 in omega (arith, lt)), ear
 
 -- ---- THE SECOND ENDS
 
-module _ (d : Devices) (o : Origin) (done : List TraceSecond) (s : TraceSecond) (began later : RunLog) (front : List Action) (spans : List SpanFrom) (base : ℕ) (t : Told) (seats : Card → Option Seating) (v : RingedIn o done s began front later spans base t seats d)
+module _ (d : Devices) (o : Origin) (done : List TraceSecond) (s : TraceSecond) (began later : RunLog) (front : List Action) (spans : List SpanFrom) (base : ℕ) (t : ToldSecond) (seats : Card → Option Seating) (v : RingedIn o done s began front later spans base t seats d)
     (behind : GoesBehind began later done) (power : has_power (went began done).before s ≡ true) (notes : notes_to later (went began done).before s s.actions ≡ notes_to later (went began done).before s front) where
   before-is : (went later done).before ≡ (went began done).before
   before-is = ap (λ (w : Went). w.before) behind.went_is
@@ -320,15 +320,15 @@ module _ (d : Devices) (o : Origin) (done : List TraceSecond) (s : TraceSecond) 
 
   told-spans : map (λ (x : SpanFrom). x.span) (with_second spans base (second_told later (went later done).before s)) ≡ spans_of (went later (done ++ s ∷ [])).told
   told-spans =
-      let one : Told = second_told later (went later done).before s in
+      let one : ToldSecond = second_told later (went later done).before s in
       are-spans spans base one
-      ∙ ap (λ (l : List (List Told)). spans_with l one) (v.spans_are ∙ ap (λ (w : Went). spans_of w.told) (sym behind.went_is))
+      ∙ ap (λ (l : List (List ToldSecond)). spans_with l one) (v.spans_are ∙ ap (λ (w : Went). spans_of w.told) (sym behind.went_is))
       ∙ sym (spans-more (went later done).told one)
       ∙ ap spans_of (sym (went-more later done s))
 
   pub ends-in : (fewer : Card → Option Seating) → AreFewer seats fewer → RingedBehind o (done ++ s ∷ []) later (suc s.number) (with_second spans base (second_told later (went later done).before s)) fewer d
   ends-in fewer fewer_sit =
-      let one : Told = second_told later (went later done).before s in
+      let one : ToldSecond = second_told later (went later done).before s in
       let second : IsSecond s (went later done).before t = record { number = v.second.number; speed = v.second.speed; lit = v.second.lit; starts = v.second.starts ∙ ap (λ (b : Before). not b.running) (sym before-is) } in
       let same : AreAlike t one = told-alike later (went later done).before s t there second in
       let number : one.second.number ≡ s.number = told-number later (went later done).before s in
@@ -365,7 +365,7 @@ pub dark-ends : (d : Devices) → DarkSecondsNoteNothing d
 dark-ends d o done s log later spans base seats fewer v behind more off fewer_sit =
     let before_is : (went later done).before ≡ (went log done).before = ap (λ (w : Went). w.before) behind.went_is in
     let there : has_power (went later done).before s ≡ false = ap (λ (b : Before). has_power b s) before_is ∙ off in
-    let one : Told = second_told later (went later done).before s in
+    let one : ToldSecond = second_told later (went later done).before s in
     let none : notes_in later (done ++ s ∷ []) ≡ notes_in log done =
     second-notes log later done s behind.same ∙ ap (λ (l : List Note). notes_in log done ++ l) (dark-notes later (went later done).before s there) ∙ append-nil (notes_in log done) in
     let unlit : one.lit ≡ false = dark-lit later (went later done).before s there in

@@ -13,7 +13,7 @@ use Rattle.minute_model.specs.Second.{Second, minute_of}
 use Rattle.minute_model.specs.Minute.{horizon_of, known_at, class_of, travelled_to, minutes_in, is_decided, decided}
 use Rattle.minute_model.proofs.Counted.{next_settling, horizon-open, horizon-settled}
 use Rattle.unit_model.specs.declared.layout.TheConstants.{HIGHEST_ODOMETER}
-use Rattle.log_model.specs.Course.{Told}
+use Rattle.log_model.specs.Course.{ToldSecond}
 use Rattle.log_model.specs.Spans.{seconds_in}
 use Rattle.history_model.specs.Minutes.{HistoryMinute}
 use Rattle.history_model.specs.History.{settlings_of, decided_of}
@@ -164,7 +164,7 @@ travelled-is rule seconds settlings d at =
     let from = mapped-from (λ (m : ℕ). class_of rule (known_at (horizon_of rule settlings m) seconds) m) (filter (is_decided rule seconds settlings) (minutes_in seconds)) d at in
     subst (λ (x : Minute). sum (map (λ (s : Second). s.speed) (filter (λ (s : Second). nat_lt s.number (60 * (x.minute + 1))) seconds)) ≡ x.travelled) from.2 (speeds-to rule seconds settlings from.0)
 
-pub odometer-of : (rule : Rule) (base : ℕ) (span : List Told) (d : Minute) → Contains (decided_of rule span) d → odometer_by base d.travelled ≡ odometer_at_end d.minute (record { base = base; span = span })
+pub odometer-of : (rule : Rule) (base : ℕ) (span : List ToldSecond) (d : Minute) → Contains (decided_of rule span) d → odometer_by base d.travelled ≡ odometer_at_end d.minute (record { base = base; span = span })
 odometer-of rule base span d at =
     let is = travelled-is rule (seconds_in span) (settlings_of span) d at in
     swap base d.travelled (sum (map (λ (s : Second). s.speed) (filter (λ (s : Second). nat_lt s.number (60 * (d.minute + 1))) (seconds_in span)))) is
@@ -181,7 +181,7 @@ may-more rule start first xs ys kept _ goes (OfKept s d at among is) = OfKept s 
 may-more rule start first xs ys kept _ goes (OfCut s d at among cut late) = OfCut s d (goes s at) among cut late
 
 -- WHAT AN IMAGE HAS STORED: `parts` are the minutes of the last span that are kept, `lost` the one of which the keeping was broken off.
-module _ (rule : Rule) (start first : ℕ) (earlier : List SpanFrom) (base : ℕ) (span : List Told) (low : base ≤ HIGHEST_ODOMETER) (parts : List Minute) (lost : Option Minute) (rest : List Minute)
+module _ (rule : Rule) (start first : ℕ) (earlier : List SpanFrom) (base : ℕ) (span : List ToldSecond) (low : base ≤ HIGHEST_ODOMETER) (parts : List Minute) (lost : Option Minute) (rest : List Minute)
     (are : decided_of rule span ≡ parts ++ (option_to_list lost ++ rest)) (cut : (d : Minute) → lost ≡ Some d → IsBeingKept rule span d.minute)
     (before : List ℕ) (newest : ℕ) (last_one : IsNewest first before newest) (begins : MayStore rule start first earlier newest base)
     (b : Book) (g : Travel) (sure : numbers b.sure ≡ before ++ map (λ (d : Minute). d.minute) parts) (rises : Rising first b.sure)

@@ -7,11 +7,11 @@ use Rattle.log_model.specs.Log.{RunLog}
 use Rattle.log_model.specs.Spans.{AreInOrder}
 use Rattle.log_model.specs.Course.{Went, Before, second_told, went}
 use Rattle.run_unit_course.specs.Lines.{cut_at}
-use Rattle.run_unit_course.specs.Followed.{Supply, Due, Lost, IsDark}
+use Rattle.run_unit_course.specs.Followed.{UnitPower, Due, Lost, IsDark}
 use Rattle.run_unit_course.proofs.Parts.{order-behind, driven-order, driven-length, dark-order, dark-length}
 use Rattle.safety_model.specs.Safe.{Devices}
 use Rattle.run_course.specs.Moments.{and_break}
-use Rattle.run_course.specs.Followed.{Progress, Followed, IsLost}
+use Rattle.run_course.specs.Followed.{Progress, BookFollowsRun, IsLost}
 use Rattle.run_course.proofs.Dark.{lost-are-told}
 use Rattle.run_course.proofs.Logs.{went-refused}
 use Rattle.run_course.proofs.Steps.{with-supply}
@@ -47,7 +47,7 @@ behind-more done front rest s is = append_assoc done front (s ∷ []) ∙ ap (λ
 
 -- ---- after a failed call
 
-module _ (o : Origin) (done : List TraceSecond) (p : Progress) (f : Followed (rule_of o) (start_at o) o.from (first_of o) done p) (d : Devices) (v : EventedBy o done p d) (is : p.supply ≡ Lost) (speed : ℕ) (actions : List Action) (refused : List Refused) (low : 0 < p.next % 60) where
+module _ (o : Origin) (done : List TraceSecond) (p : Progress) (f : BookFollowsRun (rule_of o) (start_at o) o.from (first_of o) done p) (d : Devices) (v : EventedBy o done p d) (is : p.supply ≡ Lost) (speed : ℕ) (actions : List Action) (refused : List Refused) (low : 0 < p.next % 60) where
   abbrev later : RunLog
   later = record p.log { refused = refused }
 
@@ -93,13 +93,13 @@ dark-seconds d o done p f v is n speed actions refused low within = lost-each o 
 -- ---- an `off` line
 
 module _ (o : Origin) (d : Devices) (log : RunLog) (unfound : ℕ) where
-  off-first : (done : List TraceSecond) (next : ℕ) (supply : Supply) → AreInOrder o.from done → next ≡ o.from + length done → Evented o done log unfound next supply d → IsDark supply →
+  off-first : (done : List TraceSecond) (next : ℕ) (supply : UnitPower) → AreInOrder o.from done → next ≡ o.from + length done → Evented o done log unfound next supply d → IsDark supply →
       Evented o (done ++ record { number = next; has_power = false; speed = 0; actions = [] } ∷ []) log unfound (suc next) Due d
   off-first done next supply order count v dark_ =
       let s : TraceSecond = record { number = next; has_power = false; speed = 0; actions = [] } in
       dark-brings d o done log log unfound next supply Due order count v dark_ s refl refl refl (told-lit log (went log done).before s) tt
 
-  off-each : (n : ℕ) (done : List TraceSecond) (next : ℕ) (supply : Supply) → AreInOrder o.from done → next ≡ o.from + length done → Evented o done log unfound next supply d → IsDark supply →
+  off-each : (n : ℕ) (done : List TraceSecond) (next : ℕ) (supply : UnitPower) → AreInOrder o.from done → next ≡ o.from + length done → Evented o done log unfound next supply d → IsDark supply →
       Evented o (done ++ dark (suc n) next) log unfound (next + suc n) Due d
   off-each zero done next supply order count v dark_ =
       subst (λ (k : ℕ). Evented o (done ++ dark 1 next) log unfound k Due d) (let e : suc next ≡ next + 1 = omega arith in e) (off-first done next supply order count v dark_)

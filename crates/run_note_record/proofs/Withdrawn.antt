@@ -25,7 +25,7 @@ use Rattle.note_model.specs.Odometer.{SpanFrom, odometer_at}
 use Rattle.note_model.specs.Noted.{Withdrawal, InsertionNote, PlaceNote, Note, Withdraws, with_withdrawal as note_withdrawal, insertions_of, places_of}
 use Rattle.note_model.specs.Rings.{Holder, Stand, AreNoFewer, TellsWithdrawal, IsInsertion}
 use Rattle.safety_model.specs.Safe.{Devices}
-use Rattle.run_rings.specs.Carried.{Carries}
+use Rattle.run_rings.specs.Carried.{RingKeeps}
 use Rattle.run_rings.proofs.Carried.{same-parts, carries-same, carries-changed, carries-gone, entry-was}
 use Rattle.run_rings.proofs.Indices.{index-alone, index-itself}
 use Rattle.run_rings.proofs.Standing.{stand-append, withdrawal-of-last}
@@ -247,16 +247,16 @@ withdrawn-few sure notes older own out newer are start x y same long few =
 
 -- ---- the ring
 
-carried : (start x y : List ℕ) (ms : List (List ℕ)) (h : Carries insertion_ring start x ms) (s : Seating) (olders : List (List ℕ)) (entry : List ℕ) (newers : List (List ℕ)) → ms ≡ olders ++ entry ∷ newers → length newers ≡ s.behind →
+carried : (start x y : List ℕ) (ms : List (List ℕ)) (h : RingKeeps insertion_ring start x ms) (s : Seating) (olders : List (List ℕ)) (entry : List ℕ) (newers : List (List ℕ)) → ms ≡ olders ++ entry ∷ newers → length newers ≡ s.behind →
     ((front : List ℕ) × (back : List ℕ) × (indices insertion_ring x ≡ front ++ s.index ∷ back) × (length back ≡ s.behind)) ⊎ (insertion_ring.count ≤ s.behind) → (time : TimeReal) (odometer : Odometer) →
     (IsWithdrawn s.index time odometer x y × (s.behind < insertion_ring.count)) ⊎ (HasSameRings x y × (insertion_ring.count ≤ s.behind)) →
-    (indices insertion_ring y ≡ indices insertion_ring x) × Carries insertion_ring start y (olders ++ with_withdrawal time odometer entry ∷ newers)
+    (indices insertion_ring y ≡ indices insertion_ring x) × RingKeeps insertion_ring start y (olders ++ with_withdrawal time odometer entry ∷ newers)
 carried start x y ms h s olders entry newers are behind there time odometer (inl (w, lt)) = ⊎_elim
     (λ at. (
       w.indices_are h.points,
       let was = entry-was insertion_ring start x ms h y s.index (with_withdrawal time odometer (entry_at insertion_ring x s.index)) at.0 at.1 w.pointer_is (w.indices_are h.points) at.2 (index-alone insertion_ring x at.0 s.index at.1 at.2) (w.list_is h.points)
           (index-itself s.index) olders entry newers are (behind ∙ sym at.3) in
-          subst (λ (l : List ℕ). Carries insertion_ring start y (olders ++ with_withdrawal time odometer l ∷ newers)) (sym was)
+          subst (λ (l : List ℕ). RingKeeps insertion_ring start y (olders ++ with_withdrawal time odometer l ∷ newers)) (sym was)
           (carries-changed insertion_ring start x ms h y s.index (with_withdrawal time odometer (entry_at insertion_ring x s.index)) at.0 at.1 w.pointer_is (w.indices_are h.points) at.2 (index-alone insertion_ring x at.0 s.index at.1 at.2) (w.list_is h.points)
           (index-itself s.index) olders entry newers are (behind ∙ sym at.3)),
     ))
@@ -319,14 +319,14 @@ withdrawal-noted d e o log spans notes seats now v more cards w s at below time 
 -- ---- or the unit failed in it
 
 -- the time alone was written
-timed-now : (start x y : List ℕ) (ms : List (List ℕ)) (h : Carries insertion_ring start x ms) (s : Seating) (olders : List (List ℕ)) (entry : List ℕ) (newers : List (List ℕ)) → ms ≡ olders ++ entry ∷ newers → length newers ≡ s.behind →
+timed-now : (start x y : List ℕ) (ms : List (List ℕ)) (h : RingKeeps insertion_ring start x ms) (s : Seating) (olders : List (List ℕ)) (entry : List ℕ) (newers : List (List ℕ)) → ms ≡ olders ++ entry ∷ newers → length newers ≡ s.behind →
     ((front : List ℕ) × (back : List ℕ) × (indices insertion_ring x ≡ front ++ s.index ∷ back) × (length back ≡ s.behind)) ⊎ (insertion_ring.count ≤ s.behind) → (time : TimeReal) → IsSet insertion_ring s.index out_place (time_bytes time) x y → s.behind < insertion_ring.count →
-    Carries insertion_ring start y (olders ++ put out_place (time_bytes time) entry ∷ newers)
+    RingKeeps insertion_ring start y (olders ++ put out_place (time_bytes time) entry ∷ newers)
 timed-now start x y ms h s olders entry newers are behind there time w lt = ⊎_elim
     (λ at.
     let was = entry-was insertion_ring start x ms h y s.index (put out_place (time_bytes time) (entry_at insertion_ring x s.index)) at.0 at.1 w.pointer_is (w.indices_are h.points) at.2 (index-alone insertion_ring x at.0 s.index at.1 at.2) (w.list_is h.points)
     (index-itself s.index) olders entry newers are (behind ∙ sym at.3) in
-    subst (λ (l : List ℕ). Carries insertion_ring start y (olders ++ put out_place (time_bytes time) l ∷ newers)) (sym was)
+    subst (λ (l : List ℕ). RingKeeps insertion_ring start y (olders ++ put out_place (time_bytes time) l ∷ newers)) (sym was)
     (carries-changed insertion_ring start x ms h y s.index (put out_place (time_bytes time) (entry_at insertion_ring x s.index)) at.0 at.1 w.pointer_is (w.indices_are h.points) at.2 (index-alone insertion_ring x at.0 s.index at.1 at.2) (w.list_is h.points)
     (index-itself s.index) olders entry newers are (behind ∙ sym at.3)))
     (λ gone. absurd (omega (arith, lt, gone)))
@@ -365,11 +365,11 @@ withdrawal-broken d e o log spans notes seats v more cards w s at below time odo
     places-same x y (inl (inr (inr whole), lt)) = ring_outside unit_place_ring (place_of insertion_ring s.index) insertion_ring.width x y (inl (omega (arith, below))) whole.outside
     places-same x y (inr (same, many)) = same.places
 
-    by : (x y : List ℕ) (ms : List (List ℕ)) → Carries insertion_ring o.origin.recording.unit x ms → AreNoFewer insertion_ring (sure_insertion o.origin log spans) (insertions_of notes) o.origin.recording.unit x → (sits : IsSeated (sure_insertion o.origin log spans) (IsInsertionIn o log spans e) w.card s (insertions_of notes) ms x) → MayBeWithdrawn s time odometer x y →
+    by : (x y : List ℕ) (ms : List (List ℕ)) → RingKeeps insertion_ring o.origin.recording.unit x ms → AreNoFewer insertion_ring (sure_insertion o.origin log spans) (insertions_of notes) o.origin.recording.unit x → (sits : IsSeated (sure_insertion o.origin log spans) (IsInsertionIn o log spans e) w.card s (insertions_of notes) ms x) → MayBeWithdrawn s time odometer x y →
         ShowsNotes insertion_ring (sure_insertion o.origin log spans) (IsInsertionIn o log spans e) (sits.older ++ record sits.own { withdrawn = Some w.second } ∷ sits.newer) o.origin.recording.unit y
     by x y ms h few sits (inl (inl same, lt)) = record {
       more = sits.olders ++ sits.entry ∷ sits.newers;
-      carries = subst (λ (z : List ℕ). Carries insertion_ring o.origin.recording.unit z (sits.olders ++ sits.entry ∷ sits.newers)) (sym same) (subst (λ (l : List (List ℕ)). Carries insertion_ring o.origin.recording.unit x l) sits.more_are h);
+      carries = subst (λ (z : List ℕ). RingKeeps insertion_ring o.origin.recording.unit z (sits.olders ++ sits.entry ∷ sits.newers)) (sym same) (subst (λ (l : List (List ℕ)). RingKeeps insertion_ring o.origin.recording.unit x l) sits.more_are h);
       stand = stands-now (sure_insertion o.origin log spans) (IsInsertionIn o log spans e) w.card s (insertions_of notes) ms x x sits w.second sits.entry
           (insertion-unwritten log spans (holder_in o.origin) (TellsIn o e sits.own.accepted.second) sits.own sits.entry sits.is w.second time odometer second stood time_fits odometer_fits sits.stays has) refl;
       few = withdrawn-few (sure_insertion o.origin log spans) (insertions_of notes) sits.older sits.own (record sits.own { withdrawn = Some w.second }) sits.newer sits.notes_are o.origin.recording.unit x y refl (let is : length (ring_list insertion_ring y) ≡ length (ring_list insertion_ring x) = ap (λ (z : List ℕ). length (ring_list insertion_ring z)) same in omega (arith, is)) few;

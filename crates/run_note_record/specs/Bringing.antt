@@ -9,12 +9,12 @@ use Rattle.log_model.specs.declared.lines.Break.{Break}
 use Rattle.log_model.specs.declared.lines.Refused.{Refused}
 use Rattle.log_model.specs.Log.{RunLog, Phase, In, Keeping, same_phase, is_torn_in, found_in}
 use Rattle.log_model.specs.Slots.{other_slot}
-use Rattle.log_model.specs.Course.{Told, Visit, visits, went}
+use Rattle.log_model.specs.Course.{ToldSecond, Visit, visits, went}
 use Rattle.event_model.specs.Events.{Event, Tearing, is_first, fault_of}
 use Rattle.run_unit_course.specs.Followed.{Lit}
 use Rattle.unit_events.specs.Shown.{all_kinds}
 use Rattle.run_course.specs.Moments.{and_break, and_refused}
-use Rattle.run_course.specs.Followed.{Progress, Followed}
+use Rattle.run_course.specs.Followed.{Progress, BookFollowsRun}
 use Rattle.run_course.specs.Reached.{course_at, moved_at, IsTearAt}
 use Rattle.run_course.specs.Moment.{Moment}
 use Rattle.run_course.specs.Telling.{IsOneOut}
@@ -49,7 +49,7 @@ NotFound Keeping slot log u = Unit {0}
 
 -- A CARD IS TORN OUT in an action or in the keeping: its fault alone.
 abbrev pub ATearIsBrought : Type 0
-ATearIsBrought = (o : Origin) (done : List TraceSecond) (p : Progress) → Followed (rule_of o) (start_at o) o.from (first_of o) done p → (span : List Told) → p.supply ≡ Lit span →
+ATearIsBrought = (o : Origin) (done : List TraceSecond) (p : Progress) → BookFollowsRun (rule_of o) (start_at o) o.from (first_of o) done p → (span : List ToldSecond) → p.supply ≡ Lit span →
     (s : TraceSecond) (at : Phase) (log : RunLog) (waits : List Visit) (mid now : Device → ℕ) → Moment p (went p.log done).before s at log waits mid now →
     (slot : Slot) (card : Card) (b : Break) → IsTearAt s at slot true b → is_torn_in log s.number at slot ≡ false →
     IsOneOut at slot card ((moved_at log (went p.log done).before s at).leaving slot ++ visits at slot (course_at log (went p.log done).before s at).slots) →
@@ -59,5 +59,5 @@ ATearIsBrought = (o : Origin) (done : List TraceSecond) (p : Progress) → Follo
 
 -- A REFUSAL brings nothing.
 abbrev pub ARefusalBringsNothing : Type 0
-ARefusalBringsNothing = (o : Origin) (done : List TraceSecond) (p : Progress) → Followed (rule_of o) (start_at o) o.from (first_of o) done p → (s : TraceSecond) (at : Phase) (log : RunLog) (waits : List Visit) (mid now : Device → ℕ) →
+ARefusalBringsNothing = (o : Origin) (done : List TraceSecond) (p : Progress) → BookFollowsRun (rule_of o) (start_at o) o.from (first_of o) done p → (s : TraceSecond) (at : Phase) (log : RunLog) (waits : List Visit) (mid now : Device → ℕ) →
     Moment p (went p.log done).before s at log waits mid now → (r : Refused) (here : Tearing) (own : ℕ → Visit → ℕ) (kind : ℕ) → brought_now o (and_refused log r) done s here own kind ≡ brought_now o log done s here own kind

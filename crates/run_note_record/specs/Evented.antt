@@ -10,7 +10,7 @@ use Rattle.card_image.specs.Own.{own_number}
 use Rattle.log_model.specs.declared.lines.Verdict.{Verdict}
 use Rattle.log_model.specs.Log.{RunLog, Phase, Keeping, is_accepting}
 use Rattle.log_model.specs.Causes.{RoseBy}
-use Rattle.log_model.specs.Course.{Told, Visit, went}
+use Rattle.log_model.specs.Course.{ToldSecond, Visit, went}
 use Rattle.log_model.specs.Spans.{AreInOrder}
 use Rattle.event_model.specs.declared.kinds.TheConstants.{OVER_SPEEDING}
 use Rattle.event_model.specs.Events.{Event, Tearing, AreTorn, seen_of, seen_spans, events_of}
@@ -19,14 +19,14 @@ use Rattle.note_model.specs.Tables.{table_in, AreNoted}
 use Rattle.unit_model.specs.declared.layout.TheConstants.{SPEED_LIMIT, FIRST_OVER, OVER_COUNT}
 use Rattle.unit_model.specs.Image.{number_of}
 use Rattle.run_unit_course.specs.Lines.{cut_at}
-use Rattle.run_unit_course.specs.Followed.{Supply, Lit, Lost, MayPower, IsDark}
+use Rattle.run_unit_course.specs.Followed.{UnitPower, Lit, Lost, MayPower, IsDark}
 use Rattle.safety_model.specs.Recording.{Recording, card_image, told_of}
 use Rattle.safety_model.specs.Safe.{Devices, card_of}
 use Rattle.safety_model.specs.Side.{told_kinds, events_in, are_sure, first_begin}
 use Rattle.unit_events.specs.Shown.{all_kinds}
 use Rattle.run_promise.specs.Found.{found_of}
 use Rattle.run_course.specs.Moments.{and_break}
-use Rattle.run_course.specs.Followed.{Progress, Followed}
+use Rattle.run_course.specs.Followed.{Progress, BookFollowsRun}
 use Rattle.run_course.specs.Seconds.{next_told}
 use Rattle.run_course.specs.Moment.{Moment}
 use Rattle.run_course.specs.Telling.{IsMore, begun_by, IsLeft}
@@ -52,7 +52,7 @@ limit_in o = number_of o.recording.unit SPEED_LIMIT
 -- WHAT IS CARRIED OF THE EVENTS behind these seconds: what no log tells of them, of cards that were torn out and of sessions that were found
 -- open (exactly, where no call failed), of which nothing is chosen from the next second on; every image of the unit shows the events, by that; and it is known what was kept
 -- between the power spans, but where a power-on failed. `unfound` is the first break of which it is not known.
-pub record Evented (o : Origin) (done : List TraceSecond) (log : RunLog) (unfound next : ℕ) (supply : Supply) (d : Devices) : Type 0 where
+pub record Evented (o : Origin) (done : List TraceSecond) (log : RunLog) (unfound next : ℕ) (supply : UnitPower) (d : Devices) : Type 0 where
   pub tearing : Tearing
   pub sessions : ℕ → Visit → ℕ
   pub plain : IsPlainFrom next tearing
@@ -83,11 +83,11 @@ NothingIsNoted d = (o : Origin) → ((x : List ℕ) → d.unit.may_leave x → x
 
 -- CALLS of which no event is told leave it so.
 abbrev pub EventsStay : (d e : Devices) → Type 0
-EventsStay d e = (o : Origin) (done : List TraceSecond) (log : RunLog) (unfound next : ℕ) (supply : Supply) → Evented o done log unfound next supply d → NotesNothing d e → HaveLeftMore o d e → Evented o done log unfound next supply e
+EventsStay d e = (o : Origin) (done : List TraceSecond) (log : RunLog) (unfound next : ℕ) (supply : UnitPower) → Evented o done log unfound next supply d → NotesNothing d e → HaveLeftMore o d e → Evented o done log unfound next supply e
 
 -- POWER IS BACK: the unit is read, and of the cuts before it is known what was kept.
 abbrev pub EventsAreFound : (d e : Devices) → Type 0
-EventsAreFound d e = (o : Origin) (done : List TraceSecond) (p : Progress) → Followed (rule_of o) (start_at o) o.from (first_of o) done p → EventedBy o done p d → MayPower p.supply p.next → (k : ℕ) → NotesNothing d e → HaveLeftMore o d e →
+EventsAreFound d e = (o : Origin) (done : List TraceSecond) (p : Progress) → BookFollowsRun (rule_of o) (start_at o) o.from (first_of o) done p → EventedBy o done p d → MayPower p.supply p.next → (k : ℕ) → NotesNothing d e → HaveLeftMore o d e →
     EventedBy o done (found_again k p) e
 
 -- ---- over a second
@@ -117,14 +117,14 @@ pub record IsChosen (o : Origin) (log : RunLog) (done : List TraceSecond) (s : T
 
 -- A SECOND WITH POWER, to its end: all that it brings was noted.
 abbrev pub ASecondIsNoted : (d e : Devices) → Type 0
-ASecondIsNoted d e = (o : Origin) (done : List TraceSecond) (p : Progress) → Followed (rule_of o) (start_at o) o.from (first_of o) done p → (v : EventedBy o done p d) → (span : List Told) → p.supply ≡ Lit span →
+ASecondIsNoted d e = (o : Origin) (done : List TraceSecond) (p : Progress) → BookFollowsRun (rule_of o) (start_at o) o.from (first_of o) done p → (v : EventedBy o done p d) → (span : List ToldSecond) → p.supply ≡ Lit span →
     (s : TraceSecond) (log : RunLog) (mid now : Device → ℕ) → Moment p (went p.log done).before s Keeping log [] mid now → (here : Tearing) (own : ℕ → Visit → ℕ) → IsChosen o log done s here own e → HaveLeftMore o d e →
     (more : List Event) → ((kind : ℕ) → Contains all_kinds kind → by_kind more kind ≡ brought_now o log done s here own kind) → NotesMore o log (events_now o log done s here own v.tearing v.sessions) (by_kind more) d e →
     Evented o (done ++ s ∷ []) log p.unfound (suc p.next) (Lit (span ++ next_told log done s ∷ [])) e
 
 -- OR THE UNIT FAILED IN IT, and power is cut: of a type of which it brings events none are sure.
 abbrev pub ASecondIsBroken : (d e : Devices) → Type 0
-ASecondIsBroken d e = (o : Origin) (done : List TraceSecond) (p : Progress) → Followed (rule_of o) (start_at o) o.from (first_of o) done p → (v : EventedBy o done p d) → (span : List Told) → p.supply ≡ Lit span →
+ASecondIsBroken d e = (o : Origin) (done : List TraceSecond) (p : Progress) → BookFollowsRun (rule_of o) (start_at o) o.from (first_of o) done p → (v : EventedBy o done p d) → (span : List ToldSecond) → p.supply ≡ Lit span →
     (s : TraceSecond) (at : Phase) (log : RunLog) (waits : List Visit) (mid now later : Device → ℕ) → Moment p (went p.log done).before s at log waits mid now → IsMore now later → RoseBy 1 (mid Recorder) (later Recorder) →
     (rest : List Action) → IsLeft s at rest → let cut : RunLog = and_break log (cut_at s.number true (begun_by s at)) in
     (here : Tearing) (own : ℕ → Visit → ℕ) → IsChosen o cut done s here own e → HaveLeftMore o d e → NotesMore o cut (events_now o cut done s here own v.tearing v.sessions) none d e →
@@ -132,7 +132,7 @@ ASecondIsBroken d e = (o : Origin) (done : List TraceSecond) (p : Progress) → 
 
 -- A POWER-ON FAILED at once.
 abbrev pub APowerOnIsBroken : (d e : Devices) → Type 0
-APowerOnIsBroken d e = (o : Origin) (done : List TraceSecond) (p : Progress) → Followed (rule_of o) (start_at o) o.from (first_of o) done p → EventedBy o done p d → MayPower p.supply p.next →
+APowerOnIsBroken d e = (o : Origin) (done : List TraceSecond) (p : Progress) → BookFollowsRun (rule_of o) (start_at o) o.from (first_of o) done p → EventedBy o done p d → MayPower p.supply p.next →
     (s : TraceSecond) → s.number ≡ p.next → s.has_power ≡ true → (mid later : Device → ℕ) → IsMore mid later → RoseBy 1 (mid Recorder) (later Recorder) → NotesNothing d e → HaveLeftMore o d e →
     Evented o (done ++ s ∷ []) (and_break p.log (cut_at s.number true 0)) p.unfound (suc p.next) Lost e
 
@@ -140,12 +140,12 @@ APowerOnIsBroken d e = (o : Origin) (done : List TraceSecond) (p : Progress) →
 
 -- A SECOND WITHOUT POWER brings nothing: its actions are refused.
 abbrev pub ADarkSecondBringsNothing : Devices → Type 0
-ADarkSecondBringsNothing d = (o : Origin) (done : List TraceSecond) (log later : RunLog) (unfound next : ℕ) (supply now : Supply) → AreInOrder o.from done → next ≡ o.from + length done → Evented o done log unfound next supply d → IsDark supply →
+ADarkSecondBringsNothing d = (o : Origin) (done : List TraceSecond) (log later : RunLog) (unfound next : ℕ) (supply now : UnitPower) → AreInOrder o.from done → next ≡ o.from + length done → Evented o done log unfound next supply d → IsDark supply →
     (s : TraceSecond) → s.number ≡ next → later.breaks ≡ log.breaks → later.finds ≡ log.finds → (seen_next later done s).told.lit ≡ false → IsDark now → Evented o (done ++ s ∷ []) later unfound (suc next) now d
 
 -- THE LAST SECOND TURNS OUT TO BE A CUT'S, as an `off` line says: its events are the same.
 abbrev pub AnOffCutBringsNothing : Devices → Type 0
-AnOffCutBringsNothing d = (o : Origin) (done : List TraceSecond) (p : Progress) → Followed (rule_of o) (start_at o) o.from (first_of o) done p → EventedBy o done p d → (t : Told) (span : List Told) → p.supply ≡ Lit (t ∷ span) →
+AnOffCutBringsNothing d = (o : Origin) (done : List TraceSecond) (p : Progress) → BookFollowsRun (rule_of o) (start_at o) o.from (first_of o) done p → EventedBy o done p d → (t : ToldSecond) (span : List ToldSecond) → p.supply ≡ Lit (t ∷ span) →
     Evented o done (and_break p.log (cut_at (p.next - 1) false p.begun)) p.unfound p.next Lost d
 
 -- ---- at the end
@@ -165,5 +165,5 @@ pub record ShowsEventsOf (r : Recording) (began now : Devices) (x : List ℕ) : 
 
 -- AT THE END of a run every image of the unit shows them, where a recording has its images at the start, its trace and its log.
 abbrev pub EventsAreShown : (began now : Devices) → Type 0
-EventsAreShown began now = (o : Origin) (done : List TraceSecond) (log : RunLog) (unfound next : ℕ) (supply : Supply) → Evented o done log unfound next supply now → (r : Recording) → r.unit ≡ o.recording.unit → ((c : Card) → card_image r c ≡ card_image o.recording c) →
+EventsAreShown began now = (o : Origin) (done : List TraceSecond) (log : RunLog) (unfound next : ℕ) (supply : UnitPower) → Evented o done log unfound next supply now → (r : Recording) → r.unit ≡ o.recording.unit → ((c : Card) → card_image r c ≡ card_image o.recording c) →
     r.trace ≡ done → r.log ≡ log → ((c : Card) → (found_of o.found c).began ≡ (card_of began c).clock) → (x : List ℕ) → now.unit.may_leave x → ShowsEventsOf r began now x

@@ -19,7 +19,7 @@ use Rattle.log_model.specs.declared.lines.Verdict.TheVariants.{Accepted, NotVali
 use Rattle.log_model.specs.Log.{RunLog, Phase, In, Keeping, is_accepting, is_torn_in, found_in, kept_after}
 use Rattle.log_model.specs.Slots.{Slots, Sitting, in_slot, other_slot, is_accepted}
 use Rattle.log_model.specs.Causes.{RoseBy}
-use Rattle.log_model.specs.Course.{Told, Visit, visits, went}
+use Rattle.log_model.specs.Course.{ToldSecond, Visit, visits, went}
 use Rattle.event_model.specs.declared.kinds.TheConstants.{CARD_NOT_VALID, TIME_OVERLAP, INSERTION_WHILE_DRIVING, SESSION_NOT_CLOSED, POWER_INTERRUPTION, CARD_FAULT}
 use Rattle.event_model.specs.declared.entries.Span.{Span}
 use Rattle.event_model.specs.Spans.{gap_of}
@@ -31,7 +31,7 @@ use Rattle.safety_model.specs.Safe.{Devices}
 use Rattle.unit_events.specs.Noted.{are_sure}
 use Rattle.unit_events.specs.Shown.{all_kinds}
 use Rattle.run_course.specs.Moments.{and_break, and_find, and_refused}
-use Rattle.run_course.specs.Followed.{Progress, Followed}
+use Rattle.run_course.specs.Followed.{Progress, BookFollowsRun}
 use Rattle.run_course.specs.Seconds.{next_told}
 use Rattle.run_course.specs.Reached.{course_at, moved_at, Reaches, IsTearAt, IsFindAt}
 use Rattle.run_course.specs.Moment.{Moment}
@@ -107,15 +107,15 @@ pub record EventedNow (o : Origin) (done : List TraceSecond) (s : TraceSecond) (
   pub so_far : SoFar o done s stage log more d
 
 -- the run goes on with a second that has power
-pub record BeginsNow (o : Origin) (done : List TraceSecond) (p : Progress) (span : List Told) (s : TraceSecond) : Type 0 where
-  pub followed : Followed (rule_of o) (start_at o) o.from (first_of o) done p
+pub record BeginsNow (o : Origin) (done : List TraceSecond) (p : Progress) (span : List ToldSecond) (s : TraceSecond) : Type 0 where
+  pub followed : BookFollowsRun (rule_of o) (start_at o) o.from (first_of o) done p
   pub lit : p.supply ≡ Lit span
   pub number : s.number ≡ p.next
   pub given : s.has_power ≡ true
 
 -- A SECOND BEGINS: nothing is told of it yet.
 abbrev pub ASecondBegins : Devices → Type 0
-ASecondBegins d = (o : Origin) (done : List TraceSecond) (p : Progress) (span : List Told) (s : TraceSecond) → BeginsNow o done p span s → EventedBy o done p d → EventedNow o done s p (stage_of (begins_with span)) p.log d
+ASecondBegins d = (o : Origin) (done : List TraceSecond) (p : Progress) (span : List ToldSecond) (s : TraceSecond) → BeginsNow o done p span s → EventedBy o done p d → EventedNow o done s p (stage_of (begins_with span)) p.log d
 
 -- A CALL NOTES WHAT ITS LINES ADD.
 abbrev pub ACallNotes : (d e : Devices) → Type 0
@@ -124,7 +124,7 @@ ACallNotes d e = (o : Origin) (done : List TraceSecond) (s : TraceSecond) (p : P
 
 -- THE SECOND ENDS.
 abbrev pub ASecondEnds : Devices → Type 0
-ASecondEnds d = (o : Origin) (done : List TraceSecond) (p : Progress) (span : List Told) (s : TraceSecond) → BeginsNow o done p span s → (log : RunLog) (mid now : Device → ℕ) → Moment p (went p.log done).before s Keeping log [] mid now →
+ASecondEnds d = (o : Origin) (done : List TraceSecond) (p : Progress) (span : List ToldSecond) (s : TraceSecond) → BeginsNow o done p span s → (log : RunLog) (mid now : Device → ℕ) → Moment p (went p.log done).before s Keeping log [] mid now →
     EventedNow o done s p Ended log d → Evented o (done ++ s ∷ []) log p.unfound (suc p.next) (Lit (span ++ next_told log done s ∷ [])) d
 
 -- where of no one of these types any event is sure nothing more is shown
@@ -133,7 +133,7 @@ NotesUnsure o es d e = (log : RunLog) (now : ℕ → List Event) → AllByRecurs
 
 -- OR THE UNIT FAILS in a call, behind lines that add these events: the cut that is told ends the second.
 abbrev pub AFailureCuts : (d e : Devices) → Type 0
-AFailureCuts d e = (o : Origin) (done : List TraceSecond) (p : Progress) (span : List Told) (s : TraceSecond) → BeginsNow o done p span s → (stage next : Stage) (log later : RunLog) (es : List Event) → EventedNow o done s p stage log d →
+AFailureCuts d e = (o : Origin) (done : List TraceSecond) (p : Progress) (span : List ToldSecond) (s : TraceSecond) → BeginsNow o done p span s → (stage next : Stage) (log later : RunLog) (es : List Event) → EventedNow o done s p stage log d →
     Adds o done s stage log next later es e → NotesUnsure o es d e → HaveLeftMore o d e → (at : Phase) (waits : List Visit) (mid now after : Device → ℕ) → Moment p (went p.log done).before s at later waits mid now → IsMore now after → RoseBy 1 (mid Recorder) (after Recorder) →
     (rest : List Action) → IsLeft s at rest → (next ≡ Ended → at ≡ Keeping) → Evented o (done ++ s ∷ []) (and_break later (cut_at s.number true (begun_by s at))) p.unfound (suc p.next) Lost e
 
@@ -170,7 +170,7 @@ MayFollow Keeping CoDriver log s = Unit {0}
 
 -- A CARD IS TORN OUT in an action or in the keeping.
 abbrev pub ATearAdds : Devices → Type 0
-ATearAdds d = (o : Origin) (done : List TraceSecond) (p : Progress) (span : List Told) (s : TraceSecond) → BeginsNow o done p span s → (at : Phase) (log : RunLog) → Reaches p s at log →
+ATearAdds d = (o : Origin) (done : List TraceSecond) (p : Progress) (span : List ToldSecond) (s : TraceSecond) → BeginsNow o done p span s → (at : Phase) (log : RunLog) → Reaches p s at log →
     (slot : Slot) (card : Card) (b : Break) → IsTearAt s at slot true b → is_torn_in log s.number at slot ≡ false →
     IsOneOut at slot card ((moved_at log (went p.log done).before s at).leaving slot ++ visits at slot (course_at log (went p.log done).before s at).slots) →
     NotFound at (other_slot slot) log s.number → MayFollow at slot log s →
@@ -187,7 +187,7 @@ pub record AreBare (slots : Slots) : Type 0 where
   pub codriver : is_accepted slots.codriver ≡ false
 
 -- a card that is accepted in a second behind these was found with this session open: an image of it told that
-abbrev pub IsOpenWith : Origin → (told : List Told) → List TraceSecond → TraceSecond → Card → Verdict → (session : ℕ) → Devices → Type 0
+abbrev pub IsOpenWith : Origin → (told : List ToldSecond) → List TraceSecond → TraceSecond → Card → Verdict → (session : ℕ) → Devices → Type 0
 IsOpenWith o told done s card verdict session d = is_accepting verdict ≡ true → IsOpenSo o told (done ++ s ∷ []) d card s.number session
 
 -- at a power-on it comes before all of the co-driver slot's card
@@ -197,7 +197,7 @@ ComesInTurn CoDriver log u = Unit {0}
 
 -- A CARD IS JUDGED, in an action or at a power-on.
 abbrev pub AFindAdds : Devices → Type 0
-AFindAdds d = (o : Origin) (done : List TraceSecond) (p : Progress) (span : List Told) (s : TraceSecond) → BeginsNow o done p span s → (n : ℕ) (log : RunLog) → Reaches p s (In n) log →
+AFindAdds d = (o : Origin) (done : List TraceSecond) (p : Progress) (span : List ToldSecond) (s : TraceSecond) → BeginsNow o done p span s → (n : ℕ) (log : RunLog) → Reaches p s (In n) log →
     (f : Find) → IsFindAt s (In n) f → (n ≡ 0 → AreBare (went p.log done).before.slots × ComesInTurn f.slot log s.number) →
     (x : Sitting) → in_slot (course_at log (went p.log done).before s (In n)).slots f.slot ≡ Some x → found_in log s.number (In n) f.slot ≡ [] → (moved_at log (went p.log done).before s (In n)).enters f.slot ≡ true →
     (session : ℕ) → IsOpenWith o (went p.log done).told done s x.card f.verdict session d → FindsMore o p.log done s log (and_find log f) x.card (if is_accepting f.verdict then session ∷ [] else []) →
@@ -223,19 +223,19 @@ AnInterruptionAdds d = (o : Origin) (done : List TraceSecond) (p : Progress) (s 
 
 -- AN ACTION IS REFUSED, or a card is pulled out: that adds nothing. No line is told of a selection, an insertion or a withdrawal by itself.
 abbrev pub ARefusalAddsNothing : Devices → Type 0
-ARefusalAddsNothing d = (o : Origin) (done : List TraceSecond) (p : Progress) (span : List Told) (s : TraceSecond) → BeginsNow o done p span s → (at : Phase) (log : RunLog) → Reaches p s at log → (r : Refused) →
+ARefusalAddsNothing d = (o : Origin) (done : List TraceSecond) (p : Progress) (span : List ToldSecond) (s : TraceSecond) → BeginsNow o done p span s → (at : Phase) (log : RunLog) → Reaches p s at log → (r : Refused) →
     Adds o done s Acting log Acting (and_refused log r) [] d
 
 -- a card is pulled out of a slot in an action: nobody is left in it
 abbrev pub APullAddsNothing : Devices → Type 0
-APullAddsNothing d = (o : Origin) (done : List TraceSecond) (p : Progress) (span : List Told) (s : TraceSecond) → BeginsNow o done p span s → (n : ℕ) (log : RunLog) → Reaches p s (In (suc n)) log →
+APullAddsNothing d = (o : Origin) (done : List TraceSecond) (p : Progress) (span : List ToldSecond) (s : TraceSecond) → BeginsNow o done p span s → (n : ℕ) (log : RunLog) → Reaches p s (In (suc n)) log →
     (slot : Slot) (b : Break) → IsTearAt s (In (suc n)) slot false b → is_torn_in log s.number (In (suc n)) slot ≡ false → FindsNone o p.log done s log (and_break log b) →
     (moved_at log (went p.log done).before s (In (suc n))).leaving slot ++ visits (In (suc n)) slot (course_at log (went p.log done).before s (In (suc n))).slots ≡ [] → NotFound (In (suc n)) (other_slot slot) log s.number →
     Adds o done s Acting log Acting (and_break log b) [] d
 
 -- WHAT HAS ENDED with the second before is noted behind all else.
 abbrev pub WhatEndsIsAdded : Devices → Type 0
-WhatEndsIsAdded d = (o : Origin) (done : List TraceSecond) (p : Progress) (span : List Told) (s : TraceSecond) → BeginsNow o done p span s → (at : Phase) (log : RunLog) → Reaches p s at log →
+WhatEndsIsAdded d = (o : Origin) (done : List TraceSecond) (p : Progress) (span : List ToldSecond) (s : TraceSecond) → BeginsNow o done p span s → (at : Phase) (log : RunLog) → Reaches p s at log →
     let x : Seen = seen_next log done s in
     let front : List Seen = span_before (seen_spans (seen_of p.log done)) x in
     Adds o done s Acting log Ended log (bares_by front (x ∷ []) ++ overs_by (limit_in o) front (x ∷ [])) d

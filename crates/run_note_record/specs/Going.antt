@@ -5,13 +5,13 @@ use Rattle.trace_model.specs.declared.Action.{Action}
 use Rattle.trace_model.specs.Trace.{TraceSecond, driven, dark}
 use Rattle.log_model.specs.declared.lines.Refused.{Refused}
 use Rattle.log_model.specs.Log.{RunLog}
-use Rattle.log_model.specs.Course.{Told, went}
+use Rattle.log_model.specs.Course.{ToldSecond, went}
 use Rattle.event_model.specs.Events.{Seen, seen_of, seen_spans, is_bare}
 use Rattle.run_unit_course.specs.Lines.{cut_at}
 use Rattle.run_unit_course.specs.Followed.{Lit, Due, Lost, IsDark}
 use Rattle.safety_model.specs.Safe.{Devices}
 use Rattle.run_course.specs.Moments.{and_break}
-use Rattle.run_course.specs.Followed.{Progress, Followed}
+use Rattle.run_course.specs.Followed.{Progress, BookFollowsRun}
 use Rattle.run_course.specs.Quiet.{quiet_seconds}
 use Rattle.run_events.specs.Seconds.{last_of, bares_by, overs_by, is_fast}
 use Rattle.run_promise.specs.Origin.{Origin, rule_of, start_at, first_of}
@@ -21,16 +21,16 @@ use Rattle.run_note_record.specs.Evented.{limit_in, Evented, EventedBy}
 
 -- SECONDS AFTER A FAILED CALL, up to the minute's end: their actions are refused.
 abbrev pub DarkSecondsBringNothing : Devices → Type 0
-DarkSecondsBringNothing d = (o : Origin) (done : List TraceSecond) (p : Progress) → Followed (rule_of o) (start_at o) o.from (first_of o) done p → EventedBy o done p d → p.supply ≡ Lost → (n speed : ℕ) (actions : List Action) (refused : List Refused) →
+DarkSecondsBringNothing d = (o : Origin) (done : List TraceSecond) (p : Progress) → BookFollowsRun (rule_of o) (start_at o) o.from (first_of o) done p → EventedBy o done p d → p.supply ≡ Lost → (n speed : ℕ) (actions : List Action) (refused : List Refused) →
     0 < p.next % 60 → p.next % 60 + suc n ≤ 60 → Evented o (done ++ driven (suc n) p.next speed actions) (record p.log { refused = refused }) p.unfound (p.next + suc n) Lost d
 
 -- AN `off` LINE where there is no power, and where there is
 abbrev pub AnOffLineBringsNothing : Devices → Type 0
-AnOffLineBringsNothing d = (o : Origin) (done : List TraceSecond) (p : Progress) → Followed (rule_of o) (start_at o) o.from (first_of o) done p → EventedBy o done p d → IsDark p.supply → (n : ℕ) →
+AnOffLineBringsNothing d = (o : Origin) (done : List TraceSecond) (p : Progress) → BookFollowsRun (rule_of o) (start_at o) o.from (first_of o) done p → EventedBy o done p d → IsDark p.supply → (n : ℕ) →
     Evented o (done ++ dark (suc n) p.next) p.log p.unfound (p.next + suc n) Due d
 
 abbrev pub AnOffLineCutsAndBringsNothing : Devices → Type 0
-AnOffLineCutsAndBringsNothing d = (o : Origin) (done : List TraceSecond) (p : Progress) → Followed (rule_of o) (start_at o) o.from (first_of o) done p → EventedBy o done p d → (t : Told) (span : List Told) → p.supply ≡ Lit (t ∷ span) → (n : ℕ) →
+AnOffLineCutsAndBringsNothing d = (o : Origin) (done : List TraceSecond) (p : Progress) → BookFollowsRun (rule_of o) (start_at o) o.from (first_of o) done p → EventedBy o done p d → (t : ToldSecond) (span : List ToldSecond) → p.supply ≡ Lit (t ∷ span) → (n : ℕ) →
     Evented o (done ++ dark (suc n) p.next) (and_break p.log (cut_at (p.next - 1) false p.begun)) p.unfound (p.next + suc n) Due d
 
 -- ---- with power, where nothing happens
@@ -43,7 +43,7 @@ pub record AreQuiet (o : Origin) (log : RunLog) (done more : List TraceSecond) (
 
 -- QUIET SECONDS bring no event where nothing ends with them.
 abbrev pub QuietSecondsBringNothing : Devices → Type 0
-QuietSecondsBringNothing d = (o : Origin) (done : List TraceSecond) (p : Progress) → Followed (rule_of o) (start_at o) o.from (first_of o) done p → EventedBy o done p d → (t : Told) (span : List Told) → p.supply ≡ Lit (t ∷ span) →
+QuietSecondsBringNothing d = (o : Origin) (done : List TraceSecond) (p : Progress) → BookFollowsRun (rule_of o) (start_at o) o.from (first_of o) done p → EventedBy o done p d → (t : ToldSecond) (span : List ToldSecond) → p.supply ≡ Lit (t ∷ span) →
     (n speed : ℕ) (seen : List Seen) → AreQuiet o p.log done (driven (suc n) p.next speed []) seen →
     Evented o (done ++ driven (suc n) p.next speed []) p.log p.unfound (p.next + suc n) (Lit ((t ∷ span) ++ quiet_seconds (suc n) p.next speed (went p.log done).before.slots)) d
 

@@ -7,7 +7,7 @@ use Rattle.event_model.specs.declared.entries.Span.{Span}
 use Rattle.event_model.specs.Spans.{gap_of}
 use Rattle.event_model.specs.Events.{Event, Crew, Seen, noted_with, seen_of, seen_spans}
 use Rattle.run_unit_course.specs.Followed.{IsDark}
-use Rattle.run_course.specs.Followed.{Progress, Followed}
+use Rattle.run_course.specs.Followed.{Progress, BookFollowsRun}
 use Rattle.run_course.specs.Seconds.{GoesOnBy}
 use Rattle.run_events.specs.Gaps.{HasGaps}
 use Rattle.run_promise.specs.Origin.{Origin, rule_of, start_at, first_of}
@@ -21,8 +21,8 @@ interruption_of kept (span ∷ spans) u crew = option_to_list (option_map {T = S
 
 -- THE UNIT WAS READ as power came back, and showed this last-kept minute: the interruption is told by that.
 abbrev pub TheInterruptionIsFound : Type 0
-TheInterruptionIsFound = (o : Origin) (done : List TraceSecond) (p : Progress) → Followed (rule_of o) (start_at o) o.from (first_of o) done p → IsDark p.supply → HasGaps p.log p.unfound p.supply done → (k : ℕ) →
-    Followed (rule_of o) (start_at o) o.from (first_of o) done (found_again k p) → (s : TraceSecond) (log : RunLog) → GoesOnBy (found_again k p) log s → (u : ℕ) (crew : Crew) →
+TheInterruptionIsFound = (o : Origin) (done : List TraceSecond) (p : Progress) → BookFollowsRun (rule_of o) (start_at o) o.from (first_of o) done p → IsDark p.supply → HasGaps p.log p.unfound p.supply done → (k : ℕ) →
+    BookFollowsRun (rule_of o) (start_at o) o.from (first_of o) done (found_again k p) → (s : TraceSecond) (log : RunLog) → GoesOnBy (found_again k p) log s → (u : ℕ) (crew : Crew) →
     interruption log (seen_spans (seen_of (found_again k p).log done)) u crew ≡ interruption_of k (seen_spans (seen_of p.log done)) u crew
 
 -- where no break was told there was no power span before

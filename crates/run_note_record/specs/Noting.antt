@@ -7,7 +7,7 @@ use Rattle.run_model.specs.declared.Device.TheVariants.{Unit as Recorder}
 use Rattle.log_model.specs.declared.lines.Verdict.{Verdict}
 use Rattle.log_model.specs.Log.{RunLog, Phase, Keeping, is_accepting}
 use Rattle.log_model.specs.Causes.{RoseBy}
-use Rattle.log_model.specs.Course.{Told, Visit, went}
+use Rattle.log_model.specs.Course.{ToldSecond, Visit, went}
 use Rattle.event_model.specs.declared.kinds.TheConstants.{DRIVING_WITHOUT_CARD, OVER_SPEEDING, POWER_INTERRUPTION}
 use Rattle.event_model.specs.Events.{Event, Tearing, AreTorn, seen_of, events_of}
 use Rattle.run_unit_course.specs.Lines.{cut_at}
@@ -16,7 +16,7 @@ use Rattle.run_unit_course.specs.Turn.{begins_with}
 use Rattle.safety_model.specs.Safe.{Devices}
 use Rattle.unit_events.specs.Shown.{all_kinds}
 use Rattle.run_course.specs.Moments.{and_break}
-use Rattle.run_course.specs.Followed.{Progress, Followed}
+use Rattle.run_course.specs.Followed.{Progress, BookFollowsRun}
 use Rattle.run_course.specs.Seconds.{next_told}
 use Rattle.run_course.specs.Moment.{Moment}
 use Rattle.run_course.specs.Telling.{IsMore, begun_by, IsLeft}
@@ -100,19 +100,19 @@ stage_of true = Waking
 stage_of false = Acting
 
 abbrev pub TheSecondBegins : Devices → Type 0
-TheSecondBegins d = (o : Origin) (done : List TraceSecond) (p : Progress) → Followed (rule_of o) (start_at o) o.from (first_of o) done p → EventedBy o done p d → (span : List Told) → p.supply ≡ Lit span → (s : TraceSecond) → s.number ≡ p.next → s.has_power ≡ true →
+TheSecondBegins d = (o : Origin) (done : List TraceSecond) (p : Progress) → BookFollowsRun (rule_of o) (start_at o) o.from (first_of o) done p → EventedBy o done p d → (span : List ToldSecond) → p.supply ≡ Lit span → (s : TraceSecond) → s.number ≡ p.next → s.has_power ≡ true →
     EventedIn o done s p (stage_of (begins_with span)) p.log d
 
 -- THE SECOND ENDS with its keeping, and all that it brings is noted.
 abbrev pub TheSecondIsNoted : Devices → Type 0
-TheSecondIsNoted d = (o : Origin) (done : List TraceSecond) (p : Progress) → Followed (rule_of o) (start_at o) o.from (first_of o) done p → (span : List Told) → p.supply ≡ Lit span → (s : TraceSecond) (log : RunLog) (mid now : Device → ℕ) →
+TheSecondIsNoted d = (o : Origin) (done : List TraceSecond) (p : Progress) → BookFollowsRun (rule_of o) (start_at o) o.from (first_of o) done p → (span : List ToldSecond) → p.supply ≡ Lit span → (s : TraceSecond) (log : RunLog) (mid now : Device → ℕ) →
     Moment p (went p.log done).before s Keeping log [] mid now → (v : EventedIn o done s p Ended log d) → IsTornIn v.here (seen_next log done s) →
     Evented o (done ++ s ∷ []) log p.unfound (suc p.next) (Lit (span ++ next_told log done s ∷ [])) d
 
 -- OR THE UNIT FAILS IN IT, at any stage: of a type of which the second brings events none are sure then. The cut's line brings no other events of the
 -- types that were noted as they came.
 abbrev pub TheSecondIsCut : (d e : Devices) → Type 0
-TheSecondIsCut d e = (o : Origin) (done : List TraceSecond) (p : Progress) → Followed (rule_of o) (start_at o) o.from (first_of o) done p → (span : List Told) → p.supply ≡ Lit span → (s : TraceSecond) (at : Phase) (log : RunLog) (waits : List Visit) (mid now later : Device → ℕ) →
+TheSecondIsCut d e = (o : Origin) (done : List TraceSecond) (p : Progress) → BookFollowsRun (rule_of o) (start_at o) o.from (first_of o) done p → (span : List ToldSecond) → p.supply ≡ Lit span → (s : TraceSecond) (at : Phase) (log : RunLog) (waits : List Visit) (mid now later : Device → ℕ) →
     Moment p (went p.log done).before s at log waits mid now → IsMore now later → RoseBy 1 (mid Recorder) (later Recorder) → (rest : List Action) → IsLeft s at rest → let cut : RunLog = and_break log (cut_at s.number true (begun_by s at)) in
     (stage : Stage) → (v : EventedIn o done s p stage log d) → (here : Tearing) (own : ℕ → Visit → ℕ) → IsTornIn here (seen_next cut done s) → AreOpen o cut done s own e → HaveLeftMore o d e →
     ((kind : ℕ) → Contains all_kinds kind → is_told stage kind ≡ true → brought_now o cut done s here own kind ≡ [] → brought_now o log done s v.here v.own kind ≡ []) →

@@ -18,7 +18,7 @@ use Rattle.note_model.specs.Noted.{PlaceNote, Note, places_of}
 use Rattle.note_model.specs.Rings.{Stand, AreNoFewer, kind_of}
 use Rattle.safety_model.specs.Recording.{card_image}
 use Rattle.safety_model.specs.Safe.{Devices, card_of}
-use Rattle.run_rings.specs.Carried.{Carries}
+use Rattle.run_rings.specs.Carried.{RingKeeps}
 use Rattle.run_note_record.specs.Origin.{Origin}
 
 -- ---- rings
@@ -31,7 +31,7 @@ pub record HasRing (r : Shape) (start : List ℕ) : Type 0 where
 -- A RING of which entries stand for these notes, behind what it showed at the start
 pub record ShowsNotes {N : Type 0} (r : Shape) (is_sure : N → Bool) (Is : N → List ℕ → Type 0) (notes : List N) (start x : List ℕ) : Type 0 where
   pub more : List (List ℕ)
-  pub carries : Carries r start x more
+  pub carries : RingKeeps r start x more
   pub stand : Stand is_sure Is notes more
   pub few : AreNoFewer r is_sure notes start x
 

@@ -11,7 +11,7 @@ use Rattle.card_image.specs.Own.{own_sizes}
 use Rattle.log_model.specs.declared.lines.Verdict.{Verdict}
 use Rattle.log_model.specs.Log.{is_accepting}
 use Rattle.log_model.specs.Slots.{same_card}
-use Rattle.log_model.specs.Course.{Told, Visit}
+use Rattle.log_model.specs.Course.{ToldSecond, Visit}
 use Rattle.safety_model.specs.Recording.{card_image}
 use Rattle.safety_model.specs.Safe.{Devices, card_of}
 use Rattle.run_promise.specs.Found.{found_of}
@@ -26,7 +26,7 @@ abbrev pub images_in : Origin → Devices → Card → List ℕ → Type 0
 images_in o d c = (card_of d c).left_since (found_of o.found c).began
 
 -- a card entered a slot in a second
-abbrev pub came_in : Card → Told → Bool
+abbrev pub came_in : Card → ToldSecond → Bool
 came_in c t = list_any (λ v. same_card c v.card) t.course.entered
 
 -- an action puts it in, and how often a second does
@@ -38,27 +38,27 @@ abbrev pub times_put : Card → TraceSecond → ℕ
 times_put c s = length (filter (puts_in c) s.actions)
 
 -- A CARD HAS COME BEFORE: it entered a slot in an earlier second than this; or this one puts it in more than once.
-abbrev pub HasComeBefore : List Told → List TraceSecond → Card → (second : ℕ) → Type 0
+abbrev pub HasComeBefore : List ToldSecond → List TraceSecond → Card → (second : ℕ) → Type 0
 HasComeBefore told trace c u =
-    ((t : Told) × Contains told t × (t.second.number < u) × (came_in c t ≡ true))
+    ((t : ToldSecond) × Contains told t × (t.second.number < u) × (came_in c t ≡ true))
     ⊎ ((s : TraceSecond) × Contains trace s × (s.number ≡ u) × (1 < times_put c s))
 
 -- A SESSION TIME that was found on a card in a second is that of its image at the start, or it has come before.
-abbrev pub IsFirst : (start : Card → List ℕ) → List Told → List TraceSecond → Card → (second : ℕ) → (session : ℕ) → Type 0
+abbrev pub IsFirst : (start : Card → List ℕ) → List ToldSecond → List TraceSecond → Card → (second : ℕ) → (session : ℕ) → Type 0
 IsFirst start told trace c u session = (session_in (start c) ≡ session) ⊎ HasComeBefore told trace c u
 
 -- so is each that was found as a card was accepted in these seconds
-abbrev pub AreFirst : (start : Card → List ℕ) → List Told → List TraceSecond → (ℕ → Visit → ℕ) → Type 0
+abbrev pub AreFirst : (start : Card → List ℕ) → List ToldSecond → List TraceSecond → (ℕ → Visit → ℕ) → Type 0
 AreFirst start told trace sessions =
-    (t : Told) (f : Visit × Verdict) → Contains told t → Contains t.course.found f → is_accepting f.1 ≡ true →
+    (t : ToldSecond) (f : Visit × Verdict) → Contains told t → Contains t.course.found f → is_accepting f.1 ≡ true →
     IsFirst start told trace f.0.card t.second.number (sessions t.second.number f.0)
 
 -- IT WAS FOUND SO: an image of the card told it
-abbrev pub IsOpenSo : Origin → List Told → List TraceSecond → Devices → Card → (second : ℕ) → (session : ℕ) → Type 0
+abbrev pub IsOpenSo : Origin → List ToldSecond → List TraceSecond → Devices → Card → (second : ℕ) → (session : ℕ) → Type 0
 IsOpenSo o told trace d c u session = (x : List ℕ) × images_in o d c x × (session_in x ≡ session) × IsFirst (card_image o.recording) told trace c u session
 
 -- at each acceptance
-abbrev pub AreOpenSo : Origin → List Told → List TraceSecond → Devices → (ℕ → Visit → ℕ) → Type 0
+abbrev pub AreOpenSo : Origin → List ToldSecond → List TraceSecond → Devices → (ℕ → Visit → ℕ) → Type 0
 AreOpenSo o told trace d sessions =
-    (t : Told) (f : Visit × Verdict) → Contains told t → Contains t.course.found f → is_accepting f.1 ≡ true →
+    (t : ToldSecond) (f : Visit × Verdict) → Contains told t → Contains t.course.found f → is_accepting f.1 ≡ true →
     IsOpenSo o told trace d f.0.card t.second.number (sessions t.second.number f.0)

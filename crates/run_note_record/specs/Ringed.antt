@@ -12,7 +12,7 @@ use Rattle.message_model.specs.Records.{insertion_ring, unit_place_ring}
 use Rattle.unit_notes.specs.Noting.{IsWithdrawn, IsWithdrawing}
 use Rattle.log_model.specs.Log.{RunLog}
 use Rattle.log_model.specs.Slots.{same_card}
-use Rattle.log_model.specs.Course.{went, Told}
+use Rattle.log_model.specs.Course.{went, ToldSecond}
 use Rattle.note_model.specs.Done.{has_failed_in}
 use Rattle.note_model.specs.Odometer.{SpanFrom, odometer_at}
 use Rattle.note_model.specs.Noted.{Acceptance, Withdrawal, InsertionNote, PlaceNote, Note, Accepts, Withdraws, Enters, insertions_of, places_of}
@@ -36,7 +36,7 @@ use Rattle.run_note_record.specs.Beside.{HaveLeftMore}
 -- what a run began with, and how far it has gone, as far as it tells which cards have come before
 pub record Since : Type 0 where
   pub origin : Origin
-  pub told : List Told
+  pub told : List ToldSecond
   pub trace : List TraceSecond
 
 -- behind these seconds; and within one more, where the log was this as it began

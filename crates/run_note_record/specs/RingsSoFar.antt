@@ -6,7 +6,7 @@ use Rattle.trace_model.specs.declared.Card.{Card}
 use Rattle.trace_model.specs.Trace.{TraceSecond}
 use Rattle.log_model.specs.declared.lines.Break.{Break}
 use Rattle.log_model.specs.Log.{RunLog, cut_in}
-use Rattle.log_model.specs.Course.{Told, Before, has_power, went, second_told}
+use Rattle.log_model.specs.Course.{ToldSecond, Before, has_power, went, second_told}
 use Rattle.log_model.specs.Same.{SameAt}
 use Rattle.log_model.specs.Spans.{spans_of}
 use Rattle.note_model.specs.Odometer.{SpanFrom}
@@ -37,7 +37,7 @@ pub record RingedBehind (o : Origin) (done : List TraceSecond) (log : RunLog) (n
   pub ringed : Ringed (since_behind o log done) log spans (notes_in log done) seats d
 
 -- a second with power, as its spans have it: by its number and speed, and whether power began with it
-pub record IsSecond (s : TraceSecond) (before : Before) (t : Told) : Type 0 where
+pub record IsSecond (s : TraceSecond) (before : Before) (t : ToldSecond) : Type 0 where
   pub number : t.second.number ≡ s.number
   pub speed : t.second.speed ≡ s.speed
   pub lit : t.lit ≡ true
@@ -48,7 +48,7 @@ abbrev pub notes_so_far : (began : RunLog) → List TraceSecond → (log : RunLo
 notes_so_far began done log s front = notes_in began done ++ notes_to log (went began done).before s front
 
 -- WITHIN A SECOND, behind these of its actions
-pub record RingedIn (o : Origin) (done : List TraceSecond) (s : TraceSecond) (began : RunLog) (front : List Action) (log : RunLog) (spans : List SpanFrom) (base : ℕ) (t : Told) (seats : Card → Option Seating) (d : Devices) : Type 0 where
+pub record RingedIn (o : Origin) (done : List TraceSecond) (s : TraceSecond) (began : RunLog) (front : List Action) (log : RunLog) (spans : List SpanFrom) (base : ℕ) (t : ToldSecond) (seats : Card → Option Seating) (d : Devices) : Type 0 where
   pub spans_are : map (λ (s : SpanFrom). s.span) spans ≡ spans_of (went began done).told
   pub before : AreAllBefore s.number spans
   pub early : AreEarlier s.number (notes_in began done)
@@ -65,23 +65,23 @@ HasMoreBreaks log later = (more : List Break) × (later.breaks ≡ log.breaks ++
 
 -- A SECOND BEGINS in which power goes on: nothing is noted yet.
 abbrev pub ASecondBeginsInRings : Devices → Type 0
-ASecondBeginsInRings d = (o : Origin) (done : List TraceSecond) (s : TraceSecond) (log : RunLog) (spans : List SpanFrom) (base : ℕ) (t : Told) (seats : Card → Option Seating) →
+ASecondBeginsInRings d = (o : Origin) (done : List TraceSecond) (s : TraceSecond) (log : RunLog) (spans : List SpanFrom) (base : ℕ) (t : ToldSecond) (seats : Card → Option Seating) →
     RingedBehind o done log s.number spans seats d → (went log done).before.running ≡ true → IsSecond s (went log done).before t →
     RingedIn o done s log [] log spans base t seats d
 
 -- CALLS THAT WRITE NO RING, and lines of later moments, leave it; and an action more that notes nothing.
 abbrev pub RingsGoOn : (d e : Devices) → Type 0
-RingsGoOn d e = (o : Origin) (done : List TraceSecond) (s : TraceSecond) (began : RunLog) (front : List Action) (log later : RunLog) (spans : List SpanFrom) (base : ℕ) (t : Told) (seats fewer : Card → Option Seating) →
+RingsGoOn d e = (o : Origin) (done : List TraceSecond) (s : TraceSecond) (began : RunLog) (front : List Action) (log later : RunLog) (spans : List SpanFrom) (base : ℕ) (t : ToldSecond) (seats fewer : Card → Option Seating) →
     RingedIn o done s began front log spans base t seats d → HasMoreBreaks log later → TellSameTo log later s.number (length front) → StaysInRings d e → HaveLeftMore o d e → PlacesStay o d e → AreFewer seats fewer →
     RingedIn o done s began front later spans base t fewer e
 
 abbrev pub AnActionNotesNothing : Devices → Type 0
-AnActionNotesNothing d = (o : Origin) (done : List TraceSecond) (s : TraceSecond) (began : RunLog) (front : List Action) (a : Action) (log : RunLog) (spans : List SpanFrom) (base : ℕ) (t : Told) (seats : Card → Option Seating) →
+AnActionNotesNothing d = (o : Origin) (done : List TraceSecond) (s : TraceSecond) (began : RunLog) (front : List Action) (a : Action) (log : RunLog) (spans : List SpanFrom) (base : ℕ) (t : ToldSecond) (seats : Card → Option Seating) →
     RingedIn o done s began front log spans base t seats d → NotesMore log (went began done).before s front a [] → RingedIn o done s began (front ++ a ∷ []) log spans base t seats d
 
 -- AN ACTION MORE that notes this, which is carried behind the notes so far
 abbrev pub AnActionIsNoted : (d e : Devices) → Type 0
-AnActionIsNoted d e = (o : Origin) (done : List TraceSecond) (s : TraceSecond) (began : RunLog) (front : List Action) (a : Action) (log : RunLog) (spans : List SpanFrom) (base : ℕ) (t : Told) (seats now : Card → Option Seating) (n : Note) →
+AnActionIsNoted d e = (o : Origin) (done : List TraceSecond) (s : TraceSecond) (began : RunLog) (front : List Action) (a : Action) (log : RunLog) (spans : List SpanFrom) (base : ℕ) (t : ToldSecond) (seats now : Card → Option Seating) (n : Note) →
     RingedIn o done s began front log spans base t seats d → NotesMore log (went began done).before s front a (n ∷ []) → Ringed (since_in o began done s) log (with_second spans base t) (notes_so_far began done log s front ++ n ∷ []) now e →
     RingedIn o done s began (front ++ a ∷ []) log spans base t now e
 
@@ -92,12 +92,12 @@ pub record GoesBehind (began later : RunLog) (done : List TraceSecond) : Type 0 
 
 -- THE SECOND ENDS behind all of its actions, and so do its notes; or at a cut, behind these.
 abbrev pub TheSecondEndsInRings : Devices → Type 0
-TheSecondEndsInRings d = (o : Origin) (done : List TraceSecond) (s : TraceSecond) (began later : RunLog) (spans : List SpanFrom) (base : ℕ) (t : Told) (seats : Card → Option Seating) →
+TheSecondEndsInRings d = (o : Origin) (done : List TraceSecond) (s : TraceSecond) (began later : RunLog) (spans : List SpanFrom) (base : ℕ) (t : ToldSecond) (seats : Card → Option Seating) →
     RingedIn o done s began s.actions later spans base t seats d → GoesBehind began later done → has_power (went began done).before s ≡ true →
     RingedBehind o (done ++ s ∷ []) later (suc s.number) (with_second spans base (second_told later (went later done).before s)) seats d
 
 abbrev pub ACutEndsInRings : Devices → Type 0
-ACutEndsInRings d = (o : Origin) (done : List TraceSecond) (s : TraceSecond) (began cut : RunLog) (front rest : List Action) (spans : List SpanFrom) (base : ℕ) (t : Told) (seats fewer : Card → Option Seating) →
+ACutEndsInRings d = (o : Origin) (done : List TraceSecond) (s : TraceSecond) (began cut : RunLog) (front rest : List Action) (spans : List SpanFrom) (base : ℕ) (t : ToldSecond) (seats fewer : Card → Option Seating) →
     RingedIn o done s began front cut spans base t seats d → GoesBehind began cut done → has_power (went began done).before s ≡ true → s.actions ≡ front ++ rest → cut_in cut s.number ≡ Some (length front) → AreFewer seats fewer →
     RingedBehind o (done ++ s ∷ []) cut (suc s.number) (with_second spans base (second_told cut (went cut done).before s)) fewer d
 

@@ -12,7 +12,7 @@ use Rattle.message_model.specs.Records.{insertion_ring, unit_place_ring}
 use Rattle.log_model.specs.declared.lines.Verdict.{Verdict}
 use Rattle.log_model.specs.Log.{RunLog, In, cut_in, is_torn_in, found_in, is_accepting}
 use Rattle.log_model.specs.Slots.{Sitting, same_card, in_slot, refusal}
-use Rattle.log_model.specs.Course.{Told, begins, has_power, went, second_told}
+use Rattle.log_model.specs.Course.{ToldSecond, begins, has_power, went, second_told}
 use Rattle.note_model.specs.Done.{has_failed_in}
 use Rattle.note_model.specs.Odometer.{SpanFrom, odometer_at}
 use Rattle.safety_model.specs.Safe.{Devices}
@@ -49,18 +49,18 @@ nobody c = None
 
 -- AN ACTION NOTES NOTHING, and writes no ring;
 abbrev pub AnActionPasses : (d e : Devices) → Type 0
-AnActionPasses d e = (o : Origin) (done : List TraceSecond) (s : TraceSecond) (began log later : RunLog) (front : List Action) (a : Action) (spans : List SpanFrom) (base : ℕ) (t : Told) (seats fewer : Card → Option Seating) →
+AnActionPasses d e = (o : Origin) (done : List TraceSecond) (s : TraceSecond) (began log later : RunLog) (front : List Action) (a : Action) (spans : List SpanFrom) (base : ℕ) (t : ToldSecond) (seats fewer : Card → Option Seating) →
     RingedIn o done s began front log spans base t seats d → GoesOnTo log later s front → NotesMore later (went began done).before s front a [] → StaysInRings d e → HaveLeftMore o d e → PlacesStay o d e → AreFewer seats fewer →
     RingedIn o done s began (front ++ a ∷ []) later spans base t fewer e
 
 abbrev pub AnActionIsCut : (d e : Devices) → Type 0
-AnActionIsCut d e = (o : Origin) (done : List TraceSecond) (s : TraceSecond) (began log cut : RunLog) (front : List Action) (a : Action) (rest : List Action) (spans : List SpanFrom) (base : ℕ) (t : Told) (seats : Card → Option Seating) →
+AnActionIsCut d e = (o : Origin) (done : List TraceSecond) (s : TraceSecond) (began log cut : RunLog) (front : List Action) (a : Action) (rest : List Action) (spans : List SpanFrom) (base : ℕ) (t : ToldSecond) (seats : Card → Option Seating) →
     RingedIn o done s began front log spans base t seats d → IsCutIn began log cut done s front a rest → NotesMore cut (went began done).before s front a [] → StaysInRings d e → HaveLeftMore o d e → PlacesStay o d e →
     RingedBehind o (done ++ s ∷ []) cut (suc s.number) (spans_cut spans base cut done s) nobody e
 
 -- A PLACE IS ENTERED of the accepted card of a slot;
 abbrev pub APlaceIsEntered : (d e : Devices) → Type 0
-APlaceIsEntered d e = (o : Origin) (done : List TraceSecond) (s : TraceSecond) (began log later : RunLog) (front : List Action) (spans : List SpanFrom) (base : ℕ) (t : Told) (seats fewer : Card → Option Seating) →
+APlaceIsEntered d e = (o : Origin) (done : List TraceSecond) (s : TraceSecond) (began log later : RunLog) (front : List Action) (spans : List SpanFrom) (base : ℕ) (t : ToldSecond) (seats fewer : Card → Option Seating) →
     RingedIn o done s began front log spans base t seats d → GoesOnTo log later s front → (slot : Slot) (ending : Bool) (country region : ℕ) (x : Sitting) →
     in_slot (course_behind later (went began done).before s front).slots slot ≡ Some x → is_some x.accepted ≡ true →
     (head : List ℕ) → WritesRing (IsAdded unit_place_ring head) d e → length head ≡ unit_place_ring.width →
@@ -70,7 +70,7 @@ APlaceIsEntered d e = (o : Origin) (done : List TraceSecond) (s : TraceSecond) (
     RingedIn o done s began (front ++ Place slot ending country region ∷ []) later spans base t fewer e
 
 abbrev pub APlaceIsCut : (d e : Devices) → Type 0
-APlaceIsCut d e = (o : Origin) (done : List TraceSecond) (s : TraceSecond) (began log cut : RunLog) (front rest : List Action) (spans : List SpanFrom) (base : ℕ) (t : Told) (seats : Card → Option Seating) →
+APlaceIsCut d e = (o : Origin) (done : List TraceSecond) (s : TraceSecond) (began log cut : RunLog) (front rest : List Action) (spans : List SpanFrom) (base : ℕ) (t : ToldSecond) (seats : Card → Option Seating) →
     RingedIn o done s began front log spans base t seats d → (slot : Slot) (ending : Bool) (country region : ℕ) → IsCutIn began log cut done s front (Place slot ending country region) rest → (x : Sitting) →
     in_slot (course_behind cut (went began done).before s front).slots slot ≡ Some x → is_some x.accepted ≡ true →
     (head : List ℕ) → WritesRing (MayBeAdded unit_place_ring head) d e → length head ≡ unit_place_ring.width →
@@ -81,7 +81,7 @@ APlaceIsCut d e = (o : Origin) (done : List TraceSecond) (s : TraceSecond) (bega
 
 -- A CARD IS WITHDRAWN that was accepted, and is not torn out in that;
 abbrev pub ACardIsWithdrawn : (d e : Devices) → Type 0
-ACardIsWithdrawn d e = (o : Origin) (done : List TraceSecond) (s : TraceSecond) (began log later : RunLog) (front : List Action) (spans : List SpanFrom) (base : ℕ) (t : Told) (seats now fewer : Card → Option Seating) →
+ACardIsWithdrawn d e = (o : Origin) (done : List TraceSecond) (s : TraceSecond) (began log later : RunLog) (front : List Action) (spans : List SpanFrom) (base : ℕ) (t : ToldSecond) (seats now fewer : Card → Option Seating) →
     RingedIn o done s began front log spans base t seats d → GoesOnTo log later s front → (slot : Slot) (x : Sitting) → in_slot (course_behind later (went began done).before s front).slots slot ≡ Some x → nat_lt 0 s.speed ≡ false →
     is_torn_in later s.number (In (length front + 1)) slot ≡ false → is_some x.accepted ≡ true → (q : Seating) → seats x.card ≡ Some q → q.index < insertion_ring.count →
     (time : TimeReal) (odometer : Odometer) → time.0 ≡ s.number → odometer.0 ≡ odometer_at s.number (with_second spans base t) → time.0 < 256 ^ 4 → odometer.0 < 256 ^ 3 → WritesRing (IsWithdrawnAt q time odometer) d e →
@@ -89,7 +89,7 @@ ACardIsWithdrawn d e = (o : Origin) (done : List TraceSecond) (s : TraceSecond) 
     RingedIn o done s began (front ++ Withdraw slot ∷ []) later spans base t fewer e
 
 abbrev pub AWithdrawalIsCut : (d e : Devices) → Type 0
-AWithdrawalIsCut d e = (o : Origin) (done : List TraceSecond) (s : TraceSecond) (began log cut : RunLog) (front rest : List Action) (spans : List SpanFrom) (base : ℕ) (t : Told) (seats : Card → Option Seating) →
+AWithdrawalIsCut d e = (o : Origin) (done : List TraceSecond) (s : TraceSecond) (began log cut : RunLog) (front rest : List Action) (spans : List SpanFrom) (base : ℕ) (t : ToldSecond) (seats : Card → Option Seating) →
     RingedIn o done s began front log spans base t seats d → (slot : Slot) → IsCutIn began log cut done s front (Withdraw slot) rest → (x : Sitting) → in_slot (course_behind cut (went began done).before s front).slots slot ≡ Some x → nat_lt 0 s.speed ≡ false →
     is_torn_in cut s.number (In (length front + 1)) slot ≡ false → is_some x.accepted ≡ true → (q : Seating) → seats x.card ≡ Some q → q.index < insertion_ring.count →
     (time : TimeReal) (odometer : Odometer) → time.0 ≡ s.number → odometer.0 ≡ odometer_at s.number (with_second spans base t) → time.0 < 256 ^ 4 → odometer.0 < 256 ^ 3 → WritesRing (MayBeWithdrawn q time odometer) d e → HaveLeftMore o d e → PlacesStay o d e →
@@ -97,7 +97,7 @@ AWithdrawalIsCut d e = (o : Origin) (done : List TraceSecond) (s : TraceSecond) 
 
 -- A CARD IS PUT IN AND ACCEPTED.
 abbrev pub ACardIsAccepted : (d e : Devices) → Type 0
-ACardIsAccepted d e = (o : Origin) (done : List TraceSecond) (s : TraceSecond) (began log later : RunLog) (front : List Action) (spans : List SpanFrom) (base : ℕ) (t : Told) (seats now fewer : Card → Option Seating) →
+ACardIsAccepted d e = (o : Origin) (done : List TraceSecond) (s : TraceSecond) (began log later : RunLog) (front : List Action) (spans : List SpanFrom) (base : ℕ) (t : ToldSecond) (seats now fewer : Card → Option Seating) →
     RingedIn o done s began front log spans base t seats d → GoesOnTo log later s front → (slot : Slot) (card : Card) → refusal (course_behind later (went began done).before s front).slots s.speed (Insert slot card) ≡ None →
     (v : Verdict) → found_in later s.number (In (length front + 1)) slot ≡ v ∷ [] → is_accepting v ≡ true →
     (head : List ℕ) (index : ℕ) → WritesRing (IsAddedAt index head) d e → length head ≡ insertion_ring.width →
@@ -106,7 +106,7 @@ ACardIsAccepted d e = (o : Origin) (done : List TraceSecond) (s : TraceSecond) (
     RingedIn o done s began (front ++ Insert slot card ∷ []) later spans base t fewer e
 
 abbrev pub AnAcceptanceIsCut : (d e : Devices) → Type 0
-AnAcceptanceIsCut d e = (o : Origin) (done : List TraceSecond) (s : TraceSecond) (began log cut : RunLog) (front rest : List Action) (spans : List SpanFrom) (base : ℕ) (t : Told) (seats : Card → Option Seating) →
+AnAcceptanceIsCut d e = (o : Origin) (done : List TraceSecond) (s : TraceSecond) (began log cut : RunLog) (front rest : List Action) (spans : List SpanFrom) (base : ℕ) (t : ToldSecond) (seats : Card → Option Seating) →
     RingedIn o done s began front log spans base t seats d → (slot : Slot) (card : Card) → IsCutIn began log cut done s front (Insert slot card) rest → refusal (course_behind cut (went began done).before s front).slots s.speed (Insert slot card) ≡ None →
     (v : Verdict) → found_in cut s.number (In (length front + 1)) slot ≡ v ∷ [] → is_accepting v ≡ true →
     (head : List ℕ) → WritesRing (MayBeAdded insertion_ring head) d e → length head ≡ insertion_ring.width →

@@ -3,7 +3,7 @@ use Rattle.std.specs.Prelude.{◌≡◌, ◌⊎◌, ℕ, Bool, true, false, Some
 use Rattle.std.specs.List.{AllByRecursion}
 use Rattle.minute_model.specs.Activity.{last}
 use Rattle.unit_model.specs.Image.{last_kept, odometer_at}
-use Rattle.log_model.specs.Course.{Told}
+use Rattle.log_model.specs.Course.{ToldSecond}
 use Rattle.log_model.specs.Log.{RunLog}
 use Rattle.log_model.specs.Spans.{first_in}
 use Rattle.history_model.specs.History.{cut_second}
@@ -44,7 +44,7 @@ pub record StandsOn (o : Origin) (log : RunLog) (unfound : ℕ) (earlier : List 
 -- WHILE THERE IS POWER: of these spans the last one goes on.
 pub record StoresOn (o : Origin) (log : RunLog) (unfound base : ℕ) (spans : List SpanFrom) : Type 0 where
   pub earlier : List SpanFrom
-  pub span : List Told
+  pub span : List ToldSecond
   pub are : spans ≡ earlier ++ record { base = base; span = span } ∷ []
   pub stands : StandsOn o log unfound earlier base
 

@@ -12,7 +12,7 @@ use Rattle.card_image.specs.Own.{own_sizes, IsOwnValid}
 use Rattle.log_model.specs.declared.lines.Verdict.{Verdict}
 use Rattle.log_model.specs.Log.{RunLog, is_accepting}
 use Rattle.log_model.specs.Slots.{same_card}
-use Rattle.log_model.specs.Course.{Told, Visit, went}
+use Rattle.log_model.specs.Course.{ToldSecond, Visit, went}
 use Rattle.note_model.specs.Done.{done_by, done_of}
 use Rattle.note_model.specs.Noted.{InsertionNote, Note, noted_in, notes_of, insertions_of}
 use Rattle.unit_model.specs.declared.layout.TheConstants.{REGISTRATION}
@@ -75,10 +75,10 @@ abbrev pub times_of : List CurrentUse → List ℕ
 times_of uses = map (λ (held : CurrentUse). held.session.0) uses
 
 -- those that were found on a card, one for each acceptance: in a second, and in several
-abbrev pub opened_in : Card → (ℕ → Visit → ℕ) → Told → List ℕ
+abbrev pub opened_in : Card → (ℕ → Visit → ℕ) → ToldSecond → List ℕ
 opened_in c sessions t = flat_map (λ (f : Visit × Verdict). if same_card c f.0.card && is_accepting f.1 then sessions t.second.number f.0 ∷ [] else []) t.course.found
 
-abbrev pub opened_on : Card → (ℕ → Visit → ℕ) → List Told → List ℕ
+abbrev pub opened_on : Card → (ℕ → Visit → ℕ) → List ToldSecond → List ℕ
 opened_on c sessions told = flat_map (opened_in c sessions) told
 
 -- WHERE NO CALL FAILED the session times that a run told are those of the uses.

@@ -8,7 +8,7 @@ use Rattle.message_model.specs.Records.{insertion_ring}
 use Rattle.log_model.specs.declared.lines.Verdict.{Verdict}
 use Rattle.log_model.specs.Log.{RunLog, In, cut_in, found_in, is_accepting}
 use Rattle.log_model.specs.Slots.{Sitting, same_card, in_slot}
-use Rattle.log_model.specs.Course.{Told, has_power, went}
+use Rattle.log_model.specs.Course.{ToldSecond, has_power, went}
 use Rattle.note_model.specs.Done.{has_failed_in}
 use Rattle.note_model.specs.Odometer.{SpanFrom}
 use Rattle.safety_model.specs.Safe.{Devices}
@@ -26,7 +26,7 @@ NoneFound log u = (slot : Slot) → found_in log u (In 0) slot ≡ []
 
 -- POWER BEGINS in a second: nothing is noted yet.
 abbrev pub PowerBeginsInRings : Devices → Type 0
-PowerBeginsInRings d = (o : Origin) (done : List TraceSecond) (s : TraceSecond) (began : RunLog) (spans : List SpanFrom) (base : ℕ) (t : Told) (seats fewer : Card → Option Seating) →
+PowerBeginsInRings d = (o : Origin) (done : List TraceSecond) (s : TraceSecond) (began : RunLog) (spans : List SpanFrom) (base : ℕ) (t : ToldSecond) (seats fewer : Card → Option Seating) →
     RingedBehind o done began s.number spans seats d → (went began done).before.running ≡ false → NoneFound began s.number → IsSecond s (went began done).before t → AreFewer seats fewer →
     RingedIn o done s began [] began spans base t fewer d
 
@@ -37,14 +37,14 @@ IsFoundAnew log later u CoDriver found = (found_in later u (In 0) Driver ≡ fou
 
 -- A SLOT IS LEFT: no card is in it, or it is turned away, and no ring is written;
 abbrev pub ASlotIsPassedAnew : (d e : Devices) → Type 0
-ASlotIsPassedAnew d e = (o : Origin) (done : List TraceSecond) (s : TraceSecond) (began log later : RunLog) (spans : List SpanFrom) (base : ℕ) (t : Told) (seats fewer : Card → Option Seating) →
+ASlotIsPassedAnew d e = (o : Origin) (done : List TraceSecond) (s : TraceSecond) (began log later : RunLog) (spans : List SpanFrom) (base : ℕ) (t : ToldSecond) (seats fewer : Card → Option Seating) →
     RingedIn o done s began [] log spans base t seats d → (went began done).before.running ≡ false → HasMoreBreaks log later → (slot : Slot) (found : List Verdict) → IsFoundAnew log later s.number slot found →
     (in_slot (went began done).before.slots slot ≡ None) ⊎ (filter is_accepting found ≡ []) → StaysInRings d e → HaveLeftMore o d e → PlacesStay o d e → AreFewer seats fewer →
     RingedIn o done s began [] later spans base t fewer e
 
 -- or its card is accepted anew,
 abbrev pub ACardIsAcceptedAnew : (d e : Devices) → Type 0
-ACardIsAcceptedAnew d e = (o : Origin) (done : List TraceSecond) (s : TraceSecond) (began log later : RunLog) (spans : List SpanFrom) (base : ℕ) (t : Told) (seats now fewer : Card → Option Seating) →
+ACardIsAcceptedAnew d e = (o : Origin) (done : List TraceSecond) (s : TraceSecond) (began log later : RunLog) (spans : List SpanFrom) (base : ℕ) (t : ToldSecond) (seats now fewer : Card → Option Seating) →
     RingedIn o done s began [] log spans base t seats d → (went began done).before.running ≡ false → HasMoreBreaks log later → (slot : Slot) (x : Sitting) → in_slot (went began done).before.slots slot ≡ Some x →
     (v : Verdict) → IsFoundAnew log later s.number slot (v ∷ []) → is_accepting v ≡ true →
     (head : List ℕ) (index : ℕ) → WritesRing (IsAddedAt index head) d e → length head ≡ insertion_ring.width →
@@ -54,7 +54,7 @@ ACardIsAcceptedAnew d e = (o : Origin) (done : List TraceSecond) (s : TraceSecon
 
 -- or the unit failed in that, and power is cut before any action.
 abbrev pub AnAcceptanceIsCutAnew : (d e : Devices) → Type 0
-AnAcceptanceIsCutAnew d e = (o : Origin) (done : List TraceSecond) (s : TraceSecond) (began log cut : RunLog) (spans : List SpanFrom) (base : ℕ) (t : Told) (seats : Card → Option Seating) →
+AnAcceptanceIsCutAnew d e = (o : Origin) (done : List TraceSecond) (s : TraceSecond) (began log cut : RunLog) (spans : List SpanFrom) (base : ℕ) (t : ToldSecond) (seats : Card → Option Seating) →
     RingedIn o done s began [] log spans base t seats d → (went began done).before.running ≡ false → HasMoreBreaks log cut → (slot : Slot) (x : Sitting) → in_slot (went began done).before.slots slot ≡ Some x →
     (v : Verdict) → IsFoundAnew log cut s.number slot (v ∷ []) → is_accepting v ≡ true →
     GoesBehind began cut done → has_power (went began done).before s ≡ true → cut_in cut s.number ≡ Some 0 → has_failed_in cut s.number ≡ true →

@@ -23,16 +23,16 @@ use Rattle.safety_model.specs.Safe.{Devices, card_of}
 use Rattle.run_crew.specs.declared.cards.Known.{Known}
 use Rattle.unit_rule.specs.OtherRows.{valid_number}
 use Rattle.run_promise.specs.Found.{found_of}
-use Rattle.run_promise.specs.Between.{IsCarried, IsFound, devices}
+use Rattle.run_promise.specs.Between.{LedgerStands, IsFound, devices}
 use Rattle.run_promise.specs.Opening.{BeginsAs, as_found, IsLookedAt, carried_first}
 use Rattle.run_promise.proofs.Opening.{first-carried}
 use Rattle.run_opening.specs.declared.fault.RunFault.{RunFault}
 use Rattle.run_opening.specs.declared.fault.RunFault.TheVariants.{MediumFault, BadUnit, ClockBack, SameCard}
 use Rattle.run_opening.specs.declared.opening.Opened.{Opened}
 use Rattle.run_opening.specs.Units.{IsLoaded}
-use Rattle.run_opening.specs.Cards.{number_by, IsTold, IsFoundOn, AreTwo, HasNumber}
+use Rattle.run_opening.specs.Cards.{number_by, IsKnownOfCard, IsFoundOn, AreTwo, HasNumber}
 use Rattle.run_opening.specs.Opening.{IsAsItWas, MayGoOn, IsRefused}
-use Rattle.run_opening.specs.Begun.{Begin, no_number, named_by, name_of, found_in, known_of, IsReady, IsRefusedBy, IsBegun}
+use Rattle.run_opening.specs.Begun.{Begin, no_number, named_by, name_of, found_in, known_of, RunIsOpened, IsRefusedBy, IsBegun}
 use Rattle.run_opening.proofs.Told.{found-days}
 
 told-one : (o p : Option (List ℕ)) → is_some p ≡ is_some o → is_some o ≡ true → (x : List ℕ) × (p ≡ Some x)
@@ -60,16 +60,16 @@ module _ (x : List ℕ) (U V : State) (starts : BeginsAs x U) (before : IsCohere
 pub name-valid : (c : Card) (x : List ℕ) → IsOwnValid x → name_of c x ≡ own_number x
 name-valid c x valid = ap (λ (o : Option (Fid × ℕ)). named_by o (own_number x) (no_number c)) valid
 
-named : (c : Card) (x : List ℕ) (known : Known) → IsTold x known → (o : Option (Fid × ℕ)) → own_bad_file x ≡ o → IfSome known.number (λ n. card_number_bytes n ≡ name_of c x)
+named : (c : Card) (x : List ℕ) (known : Known) → IsKnownOfCard x known → (o : Option (Fid × ℕ)) → own_bad_file x ≡ o → IfSome known.number (λ n. card_number_bytes n ≡ name_of c x)
 named c x known told None valid = subst (λ (l : List ℕ). IfSome known.number (λ n. card_number_bytes n ≡ l)) (sym (name-valid c x valid)) told.bytes
 named c x known told (Some place) bad =
     subst (λ (o : Option FullCardNumber). IfSome o (λ n. card_number_bytes n ≡ name_of c x)) (sym (told.number ∙ ap (λ (o : Option (Fid × ℕ)). number_by o (card_number_of (own_number x))) bad)) tt
 
 -- a valid card has told its number
-number-told : (x : List ℕ) (known : Known) → IsTold x known → IsOwnValid x → known.number ≡ Some (card_number_of (own_number x))
+number-told : (x : List ℕ) (known : Known) → IsKnownOfCard x known → IsOwnValid x → known.number ≡ Some (card_number_of (own_number x))
 number-told x known told valid = told.number ∙ ap (λ (o : Option (Fid × ℕ)). number_by o (card_number_of (own_number x))) valid
 
-number-bytes : (x : List ℕ) (known : Known) → IsTold x known → IsOwnValid x → card_number_bytes (card_number_of (own_number x)) ≡ own_number x
+number-bytes : (x : List ℕ) (known : Known) → IsKnownOfCard x known → IsOwnValid x → card_number_bytes (card_number_of (own_number x)) ≡ own_number x
 number-bytes x known told valid = subst (λ (o : Option FullCardNumber). IfSome o (λ n. card_number_bytes n ≡ own_number x)) (number-told x known told valid) told.bytes
 
 never-empty : (n : FullCardNumber) → card_number_bytes n ≡ [] → ⊥
@@ -78,7 +78,7 @@ never-empty n is = cc
 never-short : (n : FullCardNumber) → card_number_bytes n ≡ 0 ∷ [] → ⊥
 never-short n is = cc
 
-module _ (a b : List ℕ) (first second : Known) (told_a : IsTold a first) (told_b : IsTold b second) (two : AreTwo first.number second.number) where
+module _ (a b : List ℕ) (first second : Known) (told_a : IsKnownOfCard a first) (told_b : IsKnownOfCard b second) (two : AreTwo first.number second.number) where
   two-names : (o p : Option (Fid × ℕ)) → own_bad_file a ≡ o → own_bad_file b ≡ p → name_of A a ≢ name_of B b
   two-names None None a_is b_is same =
       let one : own_number a ≡ own_number b = sym (name-valid A a a_is) ∙ same ∙ name-valid B b b_is in
@@ -144,8 +144,8 @@ module _ (r : Recording) (start : ℕ) (old new : Devices) (unit_before : IsCohe
     journal : IsFoundBy opened.unit.journal r.unit
     journal = at_image (IsFoundBy opened.unit.journal) unit-image loaded.found
 
-    told : (c : Card) → IsTold (card_image r c) (known_of opened c)
-    told c = at_image (λ x. IsTold x (known_of opened c)) (card-told c) (found c).told
+    told : (c : Card) → IsKnownOfCard (card_image r c) (known_of opened c)
+    told c = at_image (λ x. IsKnownOfCard x (known_of opened c)) (card-told c) (found c).told
 
     days : (c : Card) → IsOwnValid (card_image r c) → AreDays 0 (card_days (own_sizes (card_image r c)) (card_image r c))
     days c valid = found-days (card_image r c) (known_of opened c) (on c) (card_of new c) (found c) (cards_after c) (card-told c) (told c) valid
@@ -174,7 +174,7 @@ module _ (r : Recording) (start : ℕ) (old new : Devices) (unit_before : IsCohe
     looked : (c : Card) → IsOwnValid (card_image r c) → IsLookedAt (found_in r old) c r.unit (card_image r c) (card_of new c).clock
     looked c valid = record { image = image-found c; start = looked-start c valid; began = began-found c ∙ sym (cards_were c).clock; days = days c valid }
 
-    carried : (due : ℕ) → last_kept r.unit < due → IsCarried (found_in r old) (carried_first due) new
+    carried : (due : ℕ) → last_kept r.unit < due → LedgerStands (found_in r old) (carried_first due) new
     carried due late = first-carried (found_in r old) r.unit due (card_image r) new unit_after cards_after begin-still.unit begin-still.card decodes late (ap (started r.unit (valid_number r.card_a) (valid_number r.card_b)) (sym unit_was.clock)) image-found looked
 
     numbers : IsOwnValid r.card_a → IsOwnValid r.card_b → own_number r.card_a ≢ own_number r.card_b
@@ -183,7 +183,7 @@ module _ (r : Recording) (start : ℕ) (old new : Devices) (unit_before : IsCohe
     late-start : last_kept r.unit < start / 60
     late-start = let is = journal.kept in omega (arith, is, later)
 
-    pub ready : IsReady r start opened old new
+    pub ready : RunIsOpened r start opened old new
     ready = record {
       begins = begin-still;
       decodes = decodes;

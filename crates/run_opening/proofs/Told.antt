@@ -22,7 +22,7 @@ use Rattle.card_validity.specs.Judged.{TellsSizes, IsLook}
 use Rattle.device_calls.proofs.Passed.{valid-passes, valid-days}
 use Rattle.device_calls.proofs.PutIn.{number_told}
 use Rattle.run_crew.specs.declared.cards.Known.{Known}
-use Rattle.run_opening.specs.Cards.{sizes_by, number_by, told_sizes, told_number, IsTold, IsFoundOn}
+use Rattle.run_opening.specs.Cards.{sizes_by, number_by, told_sizes, told_number, IsKnownOfCard, IsFoundOn}
 
 -- Application_Identification lies at one place on every card
 application-at : (app : Application) (x : List ℕ) → file_bytes app 0x0501 x ≡ application_in x
@@ -59,7 +59,7 @@ valid-sizes x valid = by (first_bad_field (application_in x)) refl
         absurd (let no = sym pass ∙ bad in cc)
 
 -- a card with a bad field is not valid
-pub told-bad : (x : List ℕ) (field : ℕ) → first_bad_field (application_in x) ≡ Some field → IsTold x (record { sizes = Err field; number = None; row = 0; accepted = None })
+pub told-bad : (x : List ℕ) (field : ℕ) → first_bad_field (application_in x) ≡ Some field → IsKnownOfCard x (record { sizes = Err field; number = None; row = 0; accepted = None })
 told-bad x field bad = record {
   sizes = sym (ap (λ (o : Option ℕ). sizes_by o (own_sizes x)) bad);
   number = by (own_bad_file x) refl;
@@ -83,14 +83,14 @@ module _ (app : Application) (x : List ℕ) (judged : IsJudged (application_in x
   judged-own : first_bad_file app x ≡ own_bad_file x
   judged-own = ap (λ (a : Application). first_bad_file a x) own ∙ sym (own-judged x)
 
-  pub told-valid : (l : CardLook) → image_size_of app ≤ length x → IsLook app x l → IsTold x (record { sizes = Ok app; number = Some l.number; row = 0; accepted = None })
+  pub told-valid : (l : CardLook) → image_size_of app ≤ length x → IsLook app x l → IsKnownOfCard x (record { sizes = Ok app; number = Some l.number; row = 0; accepted = None })
   told-valid l fits look = record {
     sizes = told-ok;
     number = ap Some (look.number ∙ ap card_number_of number-own) ∙ sym (ap (λ (o : Option (Fid × ℕ)). number_by o (card_number_of (own_number x))) (sym judged-own ∙ look.valid));
     bytes = number_told app x l fits look ∙ number-own;
   }
 
-  pub told-invalid : (fid : Fid) (place : ℕ) → first_bad_file app x ≡ Some (fid, place) → IsTold x (record { sizes = Ok app; number = None; row = 0; accepted = None })
+  pub told-invalid : (fid : Fid) (place : ℕ) → first_bad_file app x ≡ Some (fid, place) → IsKnownOfCard x (record { sizes = Ok app; number = None; row = 0; accepted = None })
   told-invalid fid place bad = record {
     sizes = told-ok;
     number = sym (ap (λ (o : Option (Fid × ℕ)). number_by o (card_number_of (own_number x))) (sym judged-own ∙ bad));
@@ -98,11 +98,11 @@ module _ (app : Application) (x : List ℕ) (judged : IsJudged (application_in x
   }
 
 -- the sizes that the image of a valid card tells are those that it goes by
-pub valid-known : (x : List ℕ) (known : Known) → IsTold x known → IsOwnValid x → known.sizes ≡ Ok (own_sizes x)
+pub valid-known : (x : List ℕ) (known : Known) → IsKnownOfCard x known → IsOwnValid x → known.sizes ≡ Ok (own_sizes x)
 valid-known x known told valid = told.sizes ∙ ap (λ (o : Option ℕ). sizes_by o (own_sizes x)) (valid-sizes x valid)
 
 -- and it has days
-pub found-days : (x : List ℕ) (known : Known) (on : CardState) (card : State) → IsFoundOn known on card → IsCoherent card → card.image ≡ Some x → IsTold x known → IsOwnValid x → AreDays 0 (card_days (own_sizes x) x)
+pub found-days : (x : List ℕ) (known : Known) (on : CardState) (card : State) → IsFoundOn known on card → IsCoherent card → card.image ≡ Some x → IsKnownOfCard x known → IsOwnValid x → AreDays 0 (card_days (own_sizes x) x)
 found-days x known on card found whole image told valid =
     let port = found.port (own_sizes x) (valid-known x known told valid) in
     let sized = whole.sized x image in
@@ -111,12 +111,12 @@ found-days x known on card found whole image told valid =
 -- ---- a card as it is found
 
 -- by its sizes
-pub found-by : (known : Known) (app : Application) (on : CardState) (old new : State) → known.accepted ≡ None → known.sizes ≡ Ok app → IsPort app None on new → new.image ≡ old.image → IfSome old.image (λ x. IsTold x known) → IsFoundOn known on new
+pub found-by : (known : Known) (app : Application) (on : CardState) (old new : State) → known.accepted ≡ None → known.sizes ≡ Ok app → IsPort app None on new → new.image ≡ old.image → IfSome old.image (λ x. IsKnownOfCard x known) → IsFoundOn known on new
 found-by known app on old new none sizes port same told = record {
   none = none;
   port = λ a is. let one : app ≡ a = sized-one app a (sym sizes ∙ is) in subst (λ (b : Application). IsPort b None on new) one port;
   sized = λ some. ap (λ (s : Result Application ℕ). is_ok s) sizes;
-  told = subst (λ (o : Option (List ℕ)). IfSome o (λ x. IsTold x known)) (sym same) told;
+  told = subst (λ (o : Option (List ℕ)). IfSome o (λ x. IsKnownOfCard x known)) (sym same) told;
 }
   where
     sized-one : (a b : Application) → (let sizes : Result Application ℕ = Ok a in sizes) ≡ Ok b → a ≡ b
@@ -126,12 +126,12 @@ module _ (app : Application) (on : CardState) (old new : State) (whole : IsCoher
     (same : new.image ≡ old.image) (judged : IfSome old.image (λ x. IsJudged (application_in x) (Ok app))) where
   pub found-valid : (l : CardLook) → IfSome old.image (λ x. IsLook app x l) → IsFoundOn (record { sizes = Ok app; number = Some l.number; row = 0; accepted = None }) on new
   found-valid l look = found-by (record { sizes = Ok app; number = Some l.number; row = 0; accepted = None }) app on old new refl refl port same
-      (both_told old.image (λ x. IsTold x (record { sizes = Ok app; number = Some l.number; row = 0; accepted = None })) judged look
+      (both_told old.image (λ x. IsKnownOfCard x (record { sizes = Ok app; number = Some l.number; row = 0; accepted = None })) judged look
       (λ x is j at. told-valid app x j l (let sized = whole.sized x is in omega (arith, largest_image app good, size, sized)) at))
 
   pub found-invalid : (fid : Fid) (place : ℕ) → IfSome old.image (λ x. first_bad_file app x ≡ Some (fid, place)) → IsFoundOn (record { sizes = Ok app; number = None; row = 0; accepted = None }) on new
   found-invalid fid place bad = found-by (record { sizes = Ok app; number = None; row = 0; accepted = None }) app on old new refl refl port same
-      (both_told old.image (λ x. IsTold x (record { sizes = Ok app; number = None; row = 0; accepted = None })) judged bad (λ x is j at. told-invalid app x j fid place at))
+      (both_told old.image (λ x. IsKnownOfCard x (record { sizes = Ok app; number = None; row = 0; accepted = None })) judged bad (λ x is j at. told-invalid app x j fid place at))
 
 -- and one that has a bad field
 pub found-bad : (field : ℕ) (on : CardState) (old new : State) → new.image ≡ old.image → IfSome old.image (λ x. first_bad_field (application_in x) ≡ Some field) → IsFoundOn (record { sizes = Err field; number = None; row = 0; accepted = None }) on new
@@ -139,6 +139,6 @@ found-bad field on old new same bad = record {
   none = refl;
   port = λ app is. absurd (let no : (let sizes : Result Application ℕ = Err field in sizes) ≡ Ok app = is in cc);
   sized = λ some. absurd (cc);
-  told = subst (λ (o : Option (List ℕ)). IfSome o (λ x. IsTold x (record { sizes = Err field; number = None; row = 0; accepted = None }))) (sym same)
-      (from_told old.image (λ x. first_bad_field (application_in x) ≡ Some field) (λ x. IsTold x (record { sizes = Err field; number = None; row = 0; accepted = None })) bad (λ x is at. told-bad x field at));
+  told = subst (λ (o : Option (List ℕ)). IfSome o (λ x. IsKnownOfCard x (record { sizes = Err field; number = None; row = 0; accepted = None }))) (sym same)
+      (from_told old.image (λ x. first_bad_field (application_in x) ≡ Some field) (λ x. IsKnownOfCard x (record { sizes = Err field; number = None; row = 0; accepted = None })) bad (λ x is at. told-bad x field at));
 }

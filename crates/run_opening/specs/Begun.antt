@@ -17,12 +17,12 @@ use Rattle.unit_rule.specs.Rule.{started}
 use Rattle.run_crew.specs.declared.cards.Known.{Known}
 use Rattle.unit_rule.specs.OtherRows.{valid_number}
 use Rattle.run_promise.specs.Found.{CardFound, Found, found_of}
-use Rattle.run_promise.specs.Between.{IsCarried, IsFound}
+use Rattle.run_promise.specs.Between.{LedgerStands, IsFound}
 use Rattle.run_promise.specs.Opening.{BeginsAs, as_found, IsLookedAt, carried_first}
 use Rattle.run_opening.specs.declared.fault.RunFault.{RunFault}
 use Rattle.run_opening.specs.declared.fault.RunFault.TheVariants.{MediumFault, BadUnit, ClockBack, SameCard}
 use Rattle.run_opening.specs.declared.opening.Opened.{Opened}
-use Rattle.run_opening.specs.Cards.{IsTold}
+use Rattle.run_opening.specs.Cards.{IsKnownOfCard}
 use Rattle.run_opening.specs.Opening.{faults_of}
 
 -- each device begins with its image of the recording alone
@@ -71,18 +71,18 @@ StartsAt r start = (s : TraceSecond) → first_of r.trace ≡ Some s → s.numbe
 
 -- THE RUN BEGINS: the devices begin as they did; journal, memory and cards are those of the images; the cards have two names, and a number
 -- that was told is the card's name; and what was found is carried, from any minute on that is later than the last-kept one.
-pub record IsReady (r : Recording) (start : ℕ) (opened : Opened) (old new : Devices) : Type 0 where
+pub record RunIsOpened (r : Recording) (start : ℕ) (opened : Opened) (old new : Devices) : Type 0 where
   pub begins : Begin r new
   pub decodes : Decodes r.unit
   pub later : last_kept r.unit < start / 60
   pub journal : IsFoundBy opened.unit.journal r.unit
   pub memory : AreFacts opened.unit.memory r.unit
-  pub told : (c : Card) → IsTold (card_image r c) (known_of opened c)
+  pub told : (c : Card) → IsKnownOfCard (card_image r c) (known_of opened c)
   pub named : (c : Card) → IfSome (known_of opened c).number (λ n. card_number_bytes n ≡ (found_of (found_in r old) c).number)
   pub two : (found_in r old).card_a.number ≢ (found_in r old).card_b.number
   pub found : IsFound r (found_in r old) old
   pub looked : (c : Card) → IsOwnValid (card_image r c) → IsLookedAt (found_in r old) c r.unit (card_image r c) (card_of new c).clock
-  pub carried : (due : ℕ) → last_kept r.unit < due → IsCarried (found_in r old) (carried_first due) new
+  pub carried : (due : ℕ) → last_kept r.unit < due → LedgerStands (found_in r old) (carried_first due) new
   pub may : StartsAt r start → MayBegin r
 
 -- THE RUN IS REFUSED: a device failed; or exactly by the images of the recording
@@ -95,5 +95,5 @@ IsRefusedBy r start old new (SameCard number) =
     × ((c : Card) → IsOwnValid (card_image r c) × (own_number (card_image r c) ≡ card_number_bytes number))
 
 abbrev pub IsBegun : Recording → (start : ℕ) → (old new : Devices) → Result Opened RunFault → Type 0
-IsBegun r start old new (Ok opened) = IsReady r start opened old new
+IsBegun r start old new (Ok opened) = RunIsOpened r start opened old new
 IsBegun r start old new (Err fault) = IsRefusedBy r start old new fault

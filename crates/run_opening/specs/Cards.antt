@@ -33,7 +33,7 @@ abbrev pub told_number : List ℕ → Option FullCardNumber
 told_number x = number_by (own_bad_file x) (card_number_of (own_number x))
 
 -- this is known of a card with this image; a number is that image's in its bytes
-pub record IsTold (x : List ℕ) (known : Known) : Type 0 where
+pub record IsKnownOfCard (x : List ℕ) (known : Known) : Type 0 where
   pub sizes : known.sizes ≡ told_sizes x
   pub number : known.number ≡ told_number x
   pub bytes : IfSome known.number (λ n. card_number_bytes n ≡ own_number x)
@@ -44,7 +44,7 @@ pub record IsFoundOn (known : Known) (card : CardState) (s : State) : Type 0 whe
   pub none : known.accepted ≡ None
   pub port : (app : Application) → known.sizes ≡ Ok app → IsPort app None card s
   pub sized : is_some known.number ≡ true → is_ok known.sizes ≡ true
-  pub told : IfSome s.image (λ x. IsTold x known)
+  pub told : IfSome s.image (λ x. IsKnownOfCard x known)
 
 -- the device failed
 abbrev pub IsMediumFault : Device → RunFault → Type 0

@@ -18,7 +18,7 @@ use Rattle.log_model.specs.declared.lines.Verdict.{Verdict}
 use Rattle.log_model.specs.declared.lines.Verdict.TheVariants.{Accepted, NotValid, TimeOverlap}
 use Rattle.log_model.specs.Log.{RunLog}
 use Rattle.log_model.specs.Slots.{Slots, same_card}
-use Rattle.log_model.specs.Course.{Told, Went, Visit, went}
+use Rattle.log_model.specs.Course.{ToldSecond, Went, Visit, went}
 use Rattle.log_model.specs.Causes.{device_of, is_cut}
 use Rattle.log_model.specs.Spans.{seconds_in}
 use Rattle.log_model.proofs.Spanning.{spanned}
@@ -32,7 +32,7 @@ use Rattle.safety_model.specs.Safe.{Devices, card_of, WasFound, IsUnfound, enter
 use Rattle.run_promise.specs.Found.{found_of}
 use Rattle.run_promise.specs.Cards.{IsUntouched}
 use Rattle.run_course.specs.Moments.{and_break}
-use Rattle.run_course.specs.Followed.{Progress, Followed}
+use Rattle.run_course.specs.Followed.{Progress, BookFollowsRun}
 use Rattle.run_course.specs.Seconds.{next_told}
 use Rattle.run_course.specs.Quiet.{quiet_seconds}
 use Rattle.run_course.specs.Dark.{all_dark}
@@ -48,14 +48,14 @@ use Rattle.run_promise.specs.Ends.{recording_by, BringsAll, AreFound, AreVerdict
 use Rattle.run_promise.specs.Beside.{CardsTold, cards_of, TellsMore, HaveLeftMore, MayBeFound, entered_in, AreFewer, AreIdle, ASecondTellsMore, FoundTellsNoMore, QuietSecondsTellMore, DarkSecondsTellMore, AnOffLineTellsMore, AnOffCutTellsMore, FewerAreFound, FewAreFoundOn}
 
 -- NUMBERS of the seconds so far
-number-of : (n : ℕ) (told : List Told) (t : Told) → AreNumbered n (seconds_in told) → Contains told t → t.second.number < n + length told
+number-of : (n : ℕ) (told : List ToldSecond) (t : ToldSecond) → AreNumbered n (seconds_in told) → Contains told t → t.second.number < n + length told
 number-of n [] t h at = absurd (omega (arith, at.1))
 number-of n (x ∷ told) t h at = ⊎_elim
-    (λ here. ⊎_elim (λ none. absurd (omega (arith, none.1))) (λ (is : x ≡ t). let e : t.second.number ≡ n = ap (λ (y : Told). y.second.number) (sym is) ∙ h.0 in omega (arith, e)) (Contains-push_cases [] x t here))
+    (λ here. ⊎_elim (λ none. absurd (omega (arith, none.1))) (λ (is : x ≡ t). let e : t.second.number ≡ n = ap (λ (y : ToldSecond). y.second.number) (sym is) ∙ h.0 in omega (arith, e)) (Contains-push_cases [] x t here))
     (λ rest. let lt = number-of (n + 1) told t h.1 rest in omega (arith, lt))
     (Contains-append_cases (x ∷ []) told t at)
 
-pub before-next : (o : Origin) (done : List TraceSecond) (p : Progress) → Followed (rule_of o) (start_at o) o.from (first_of o) done p → (t : Told) → Contains (went p.log done).told t → t.second.number < p.next
+pub before-next : (o : Origin) (done : List TraceSecond) (p : Progress) → BookFollowsRun (rule_of o) (start_at o) o.from (first_of o) done p → (t : ToldSecond) → Contains (went p.log done).told t → t.second.number < p.next
 before-next o done p f t at =
     let whole = spanned p.log o.from done f.order in
     let lt = number-of o.from (went p.log done).told t whole.seconds at in
@@ -78,7 +78,7 @@ found-tells o done p f k = record {
   behind = tt;
 }
 
-quiet-behind : (low n number speed : ℕ) (slots : Slots) → low ≤ number → AllByRecursion (λ (t : Told). low ≤ t.second.number) (quiet_seconds n number speed slots)
+quiet-behind : (low n number speed : ℕ) (slots : Slots) → low ≤ number → AllByRecursion (λ (t : ToldSecond). low ≤ t.second.number) (quiet_seconds n number speed slots)
 quiet-behind low zero number speed slots le = tt
 quiet-behind low (suc n) number speed slots le = (le, quiet-behind low n (number + 1) speed slots (omega (arith, le)))
 
@@ -89,7 +89,7 @@ quiet-idle (suc n) number speed slots = ((refl, refl), quiet-idle n (number + 1)
 pub quiet-tells : QuietSecondsTellMore
 quiet-tells o done p f t span is n speed =
     let slots : Slots = (went p.log done).before.slots in
-    let more : List Told = quiet_seconds n p.next speed slots in (
+    let more : List ToldSecond = quiet_seconds n p.next speed slots in (
       more,
       record {
         same = ap (λ (w : Went). map cards_of w.told) (quiet-are-told (rule_of o) (start_at o) o.from (first_of o) done p f t span is n speed) ∙ map-append cards_of (went p.log done).told more;
@@ -99,7 +99,7 @@ quiet-tells o done p f t span is n speed =
       quiet-idle n p.next speed slots,
     )
 
-dark-behind : (low : ℕ) (ss : List TraceSecond) (slots : Slots) → AllByRecursion (λ (s : TraceSecond). low ≤ s.number) ss → AllByRecursion (λ (t : Told). low ≤ t.second.number) (all_dark ss slots)
+dark-behind : (low : ℕ) (ss : List TraceSecond) (slots : Slots) → AllByRecursion (λ (s : TraceSecond). low ≤ s.number) ss → AllByRecursion (λ (t : ToldSecond). low ≤ t.second.number) (all_dark ss slots)
 dark-behind low [] slots h = tt
 dark-behind low (s ∷ ss) slots h = (h.0, dark-behind low ss slots h.1)
 
@@ -118,7 +118,7 @@ off-from low (suc n) number le = (le, off-from low n (number + 1) (omega (arith,
 pub dark-tells : DarkSecondsTellMore
 dark-tells o done p f is n speed actions refused low high =
     let slots : Slots = (went p.log done).before.slots in
-    let more : List Told = all_dark (driven n p.next speed actions) slots in (
+    let more : List ToldSecond = all_dark (driven n p.next speed actions) slots in (
       more,
       record {
         same = ap (λ (w : Went). map cards_of w.told) (went-refused p.log (record p.log { refused = refused }) refl refl (done ++ driven n p.next speed actions))
@@ -132,7 +132,7 @@ dark-tells o done p f is n speed actions refused low high =
 pub off-tells : AnOffLineTellsMore
 off-tells o done p f n =
     let slots : Slots = (went p.log done).before.slots in
-    let more : List Told = all_dark (dark n p.next) slots in (
+    let more : List ToldSecond = all_dark (dark n p.next) slots in (
       more,
       record {
         same = ap (map cards_of) (off-are-told p.log done n p.next).0 ∙ map-append cards_of (went p.log done).told more;
@@ -148,7 +148,7 @@ off-cut-tells o done p g t span is none n =
     let log : RunLog = and_break p.log (cut_at (p.next - 1) false p.begun) in
     let parts = cut-parts (rule_of o) (start_at o) o.from (first_of o) done p t span f in
     let slots : Slots = (went log done).before.slots in
-    let more : List Told = all_dark (dark n p.next) slots in (
+    let more : List ToldSecond = all_dark (dark n p.next) slots in (
       more,
       record {
         same = ap (map cards_of) (off-are-told log done n p.next).0 ∙ map-append cards_of (went log done).told more
@@ -162,18 +162,18 @@ off-cut-tells o done p g t span is none n =
 
 -- WHAT WAS FOUND
 -- an element of a mapped list
-mapped : (told : List Told) (x : CardsTold) → Contains (map cards_of told) x → (t : Told) × Contains told t × (cards_of t ≡ x)
+mapped : (told : List ToldSecond) (x : CardsTold) → Contains (map cards_of told) x → (t : ToldSecond) × Contains told t × (cards_of t ≡ x)
 mapped [] x at = absurd (omega (arith, at.1))
 mapped (t ∷ told) x at = ⊎_elim
     (λ here. ⊎_elim (λ none. absurd (omega (arith, none.1))) (λ (is : cards_of t ≡ x). (t, Contains-append_left (t ∷ []) told t (Contains-push [] t), is)) (Contains-push_cases [] (cards_of t) x here))
     (λ rest. let m = mapped told x rest in (m.0, Contains-append_right (t ∷ []) told m.0 m.1, m.2))
     (Contains-append_cases (cards_of t ∷ []) (map cards_of told) x at)
 
-map-contains : (told : List Told) (t : Told) → Contains told t → Contains (map cards_of told) (cards_of t)
+map-contains : (told : List ToldSecond) (t : ToldSecond) → Contains told t → Contains (map cards_of told) (cards_of t)
 map-contains [] t at = absurd (omega (arith, at.1))
 map-contains (x ∷ told) t at = ⊎_elim
     (λ here. ⊎_elim (λ none. absurd (omega (arith, none.1)))
-    (λ (is : x ≡ t). subst (λ (y : Told). Contains (cards_of x ∷ map cards_of told) (cards_of y)) is (Contains-append_left (cards_of x ∷ []) (map cards_of told) (cards_of x) (Contains-push [] (cards_of x)))) (Contains-push_cases [] x t here))
+    (λ (is : x ≡ t). subst (λ (y : ToldSecond). Contains (cards_of x ∷ map cards_of told) (cards_of y)) is (Contains-append_left (cards_of x ∷ []) (map cards_of told) (cards_of x) (Contains-push [] (cards_of x)))) (Contains-push_cases [] x t here))
     (λ rest. Contains-append_right (cards_of x ∷ []) (map cards_of told) (cards_of t) (map-contains told t rest))
     (Contains-append_cases (x ∷ []) told t at)
 
@@ -181,7 +181,7 @@ map-contains (x ∷ told) t at = ⊎_elim
 entered_up : Card → ℕ → CardsTold → List Visit
 entered_up c u x = cond (nat_le x.number u && nat_eq (x.number / 60) (u / 60)) (filter (λ (e : Visit). same_card c e.card) x.entered) []
 
-through : {Y : Type 0} (g : CardsTold → List Y) (told : List Told) → flat_map (λ (t : Told). g (cards_of t)) told ≡ flat_map g (map cards_of told)
+through : {Y : Type 0} (g : CardsTold → List Y) (told : List ToldSecond) → flat_map (λ (t : ToldSecond). g (cards_of t)) told ≡ flat_map g (map cards_of told)
 through g [] = refl
 through g (t ∷ told) = ap (λ (ys : List _). g (cards_of t) ++ ys) (through g told)
 
@@ -189,7 +189,7 @@ counted-up : (o : Origin) (done : List TraceSecond) (log : RunLog) (c : Card) (u
 unfolding entered_up
 counted-up o done log c u = ap (λ (vs : List Visit). length vs) (through (entered_up c u) (went log done).told)
 
-none-up : (c : Card) (u from : ℕ) (more : List Told) → u < from → AllByRecursion (λ (t : Told). from ≤ t.second.number) more → flat_map (entered_up c u) (map cards_of more) ≡ []
+none-up : (c : Card) (u from : ℕ) (more : List ToldSecond) → u < from → AllByRecursion (λ (t : ToldSecond). from ≤ t.second.number) more → flat_map (entered_up c u) (map cards_of more) ≡ []
 unfolding entered_up
 none-up c u from [] lt h = refl
 none-up c u from (t ∷ more) lt h =
@@ -199,7 +199,7 @@ none-up c u from (t ∷ more) lt h =
     over : (n u : ℕ) → u < n → nat_le n u ≡ false
     over n u lt = grind (arith, nat_tests)
 
-pub entered-same : (o : Origin) (done now : List TraceSecond) (log later : RunLog) (more : List Told) (from : ℕ) → TellsMore (went log done).told (went later now).told more from → (c : Card) (u : ℕ) → u < from →
+pub entered-same : (o : Origin) (done now : List TraceSecond) (log later : RunLog) (more : List ToldSecond) (from : ℕ) → TellsMore (went log done).told (went later now).told more from → (c : Card) (u : ℕ) → u < from →
     entered_by (recording_by o now later) c u ≡ entered_by (recording_by o done log) c u
 entered-same o done now log later more from tells c u lt =
     counted-up o now later c u
@@ -240,9 +240,9 @@ brings-on o done now log later marks acknowledged c u (TimeOverlap stored at) st
 abbrev IsSeenOf : Origin → List TraceSecond → RunLog → List Mark → Devices → Visit → Verdict → ℕ → Type 0
 IsSeenOf o done log marks d x v n = IsVerdict (recording_by o done log) (d.unit.left_since o.found.unit.began) ((card_of d x.card).left_since (found_of o.found x.card).began) x.card n v × BringsAll (recording_by o done log) marks x.card n v
 
-pub verdicts-on : (o : Origin) (done now : List TraceSecond) (log later : RunLog) (unfound found : ℕ) (marks acknowledged : List Mark) (d e : Devices) (more : List Told) (from : ℕ) → AreVerdicts o done log unfound marks d → HaveLeftMore o d e →
+pub verdicts-on : (o : Origin) (done now : List TraceSecond) (log later : RunLog) (unfound found : ℕ) (marks acknowledged : List Mark) (d e : Devices) (more : List ToldSecond) (from : ℕ) → AreVerdicts o done log unfound marks d → HaveLeftMore o d e →
     ((mark : Mark) → Contains marks mark → Contains acknowledged mark) → TellsMore (went log done).told (went later now).told more from →
-    ((t : Told) (x : Visit) (v : Verdict) → Contains more t → Contains t.course.found (x, v) → MayBeFound o now later acknowledged e t x v) →
+    ((t : ToldSecond) (x : Visit) (v : Verdict) → Contains more t → Contains t.course.found (x, v) → MayBeFound o now later acknowledged e t x v) →
     AreFound (e.unit.left_since o.found.unit.began) found later.breaks → AreVerdicts o now later found acknowledged e
 verdicts-on o done now log later unfound found marks acknowledged d e more from old left stay tells fresh kept = record {
   kept = kept;
@@ -285,7 +285,7 @@ overlaps-as o done log r c = ap (λ (vs : List (Visit × Verdict)). length vs) (
 both-of : {Y : Type 0} (g : CardsTold → List Y) (xs ys : List CardsTold) → length (flat_map g (xs ++ ys)) ≡ length (flat_map g xs) + length (flat_map g ys)
 both-of g xs ys = ap length (flat_map-append g xs ys) ∙ length-append (flat_map g xs) (flat_map g ys)
 
-fewer-of : (r : Recording) (c : Card) (more : List Told) → AreFewer r more → length (flat_map (overlaps_of r c) (map cards_of more)) ≤ length (flat_map (entered_of c) (map cards_of more))
+fewer-of : (r : Recording) (c : Card) (more : List ToldSecond) → AreFewer r more → length (flat_map (overlaps_of r c) (map cards_of more)) ≤ length (flat_map (entered_of c) (map cards_of more))
 unfolding entered_of overlaps_of
 fewer-of r c [] h = omega arith
 fewer-of r c (t ∷ more) h =
@@ -295,7 +295,7 @@ fewer-of r c (t ∷ more) h =
     let b = length-append (entered_of c (cards_of t)) (flat_map (entered_of c) (map cards_of more)) in
     omega (arith, rest, here, a, b)
 
-pub written-on : (o : Origin) (done now : List TraceSecond) (log later : RunLog) (more : List Told) (from : ℕ) → TellsMore (went log done).told (went later now).told more from → AreFewer o.recording more → (c : Card) →
+pub written-on : (o : Origin) (done now : List TraceSecond) (log later : RunLog) (more : List ToldSecond) (from : ℕ) → TellsMore (went log done).told (went later now).told more from → AreFewer o.recording more → (c : Card) →
     MayBeWritten (recording_by o done log) c → MayBeWritten (recording_by o now later) c
 written-on o done now log later more from tells few c may =
     let r : Recording = o.recording in
@@ -319,7 +319,7 @@ few-on o done now log later more from old tells few c =
     let low = old c in
     omega (arith, old_o, old_e, new_o, new_e, le, low)
 
-pub spared-on : (o : Origin) (done now : List TraceSecond) (log later : RunLog) (d e : Devices) (more : List Told) (from : ℕ) → AreSpared o done log d → TellsMore (went log done).told (went later now).told more from → AreFewer o.recording more →
+pub spared-on : (o : Origin) (done now : List TraceSecond) (log later : RunLog) (d e : Devices) (more : List ToldSecond) (from : ℕ) → AreSpared o done log d → TellsMore (went log done).told (went later now).told more from → AreFewer o.recording more →
     ((c : Card) → IsUntouched (found_of o.found c) (card_of d c) → IsUntouched (found_of o.found c) (card_of e c) ⊎ MayBeWritten (recording_by o now later) c) → AreSpared o now later e
 spared-on o done now log later d e more from old tells few step c = ⊎_elim
     (λ whole. step c whole)
@@ -327,20 +327,20 @@ spared-on o done now log later d e more from old tells few step c = ⊎_elim
     (old c)
 
 -- where no card enters
-pub idle-few : (r : Recording) (more : List Told) → AreIdle more → AreFewer r more
+pub idle-few : (r : Recording) (more : List ToldSecond) → AreIdle more → AreFewer r more
 idle-few r [] h = tt
 idle-few r (t ∷ more) h = ((λ c. subst (λ (fs : List (Visit × Verdict)). length (filter (λ (f : Visit × Verdict). same_card c f.0.card && is_overlap r c f.1) fs) ≤ length (entered_in c t)) (sym h.0.1) (omega arith)), idle-few r more h.1)
 
-nothing-found : (more : List Told) → AreIdle more → (t : Told) (x : Visit) (v : Verdict) → Contains more t → Contains t.course.found (x, v) → ⊥
+nothing-found : (more : List ToldSecond) → AreIdle more → (t : ToldSecond) (x : Visit) (v : Verdict) → Contains more t → Contains t.course.found (x, v) → ⊥
 nothing-found more idle t x v at seen =
-    let none = (each-of (λ (t : Told). (t.course.entered ≡ []) × (t.course.found ≡ [])) more t idle at).1 in
+    let none = (each-of (λ (t : ToldSecond). (t.course.entered ≡ []) × (t.course.found ≡ [])) more t idle at).1 in
     let gone : Contains {X = Visit × Verdict} [] (x, v) = subst (λ (fs : List (Visit × Verdict)). Contains fs (x, v)) none seen in
     omega (arith, gone.1)
 
-pub idle-verdicts : (o : Origin) (done now : List TraceSecond) (log later : RunLog) (unfound found : ℕ) (marks : List Mark) (d e : Devices) (more : List Told) (from : ℕ) → AreVerdicts o done log unfound marks d → HaveLeftMore o d e → TellsMore (went log done).told (went later now).told more from → AreIdle more → AreFound (e.unit.left_since o.found.unit.began) found later.breaks → AreVerdicts o now later found marks e
+pub idle-verdicts : (o : Origin) (done now : List TraceSecond) (log later : RunLog) (unfound found : ℕ) (marks : List Mark) (d e : Devices) (more : List ToldSecond) (from : ℕ) → AreVerdicts o done log unfound marks d → HaveLeftMore o d e → TellsMore (went log done).told (went later now).told more from → AreIdle more → AreFound (e.unit.left_since o.found.unit.began) found later.breaks → AreVerdicts o now later found marks e
 idle-verdicts o done now log later unfound found marks d e more from old left tells idle kept = verdicts-on o done now log later unfound found marks marks d e more from old left (λ mark among. among) tells (λ t x v at seen. absurd (nothing-found more idle t x v at seen)) kept
 
-pub idle-spared : (o : Origin) (done now : List TraceSecond) (log later : RunLog) (d e : Devices) (more : List Told) (from : ℕ) → AreSpared o done log d → TellsMore (went log done).told (went later now).told more from → AreIdle more →
+pub idle-spared : (o : Origin) (done now : List TraceSecond) (log later : RunLog) (d e : Devices) (more : List ToldSecond) (from : ℕ) → AreSpared o done log d → TellsMore (went log done).told (went later now).told more from → AreIdle more →
     ((c : Card) → IsUntouched (found_of o.found c) (card_of d c) → IsUntouched (found_of o.found c) (card_of e c) ⊎ MayBeWritten (recording_by o now later) c) → AreSpared o now later e
 idle-spared o done now log later d e more from old tells idle step = spared-on o done now log later d e more from old tells (idle-few o.recording more idle) step
 

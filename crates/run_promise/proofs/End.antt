@@ -31,7 +31,7 @@ use Rattle.unit_rule.proofs.Marking.{holds-dark}
 use Rattle.unit_rule.proofs.Safety.{unit-safe}
 use Rattle.run_promise.specs.Found.{CardFound, Found, found_of, unit_seen, AnyKept}
 use Rattle.run_promise.specs.Cards.{StringHolds, StringGoesOn, CardWaits, IsCardHeld, counted_to, brought_by}
-use Rattle.run_promise.specs.Between.{Carried, IsLit, IsCarried, IsFound, IsFollowed, AreBrought, AreUntouched}
+use Rattle.run_promise.specs.Between.{RunLedger, LedgerStandsPowered, LedgerStands, IsFound, IsFollowed, AreBrought, AreUntouched}
 use Rattle.run_promise.proofs.CardEnd.{at_start, shows, marked, repaired, rest-agrees, started as started-start}
 use Rattle.run_promise.proofs.Beyond.{follows-later}
 use Rattle.run_promise.proofs.Present.{bound, history-later}
@@ -71,7 +71,7 @@ owed-b : (a b d u : List ℕ) (y : CardView) → owed B (unit_view a b u) y ≡ 
 unfolding unit_view
 owed-b a b d u y = refl
 
-module _ (r : Recording) (f : Found) (w : Carried) (began now : Devices) (found : IsFound r f began) (followed : IsFollowed r w.book now.unit) (carried : IsCarried f w now)
+module _ (r : Recording) (f : Found) (w : RunLedger) (began now : Devices) (found : IsFound r f began) (followed : IsFollowed r w.book now.unit) (carried : LedgerStands f w now)
     (unit_whole : IsCoherent now.unit) (card_whole : (c : Card) → IsCoherent (card_of now c)) where
   unit-part : UnitSafe (recorded r.unit) (history_of r) (lost_of r) w.marks began.unit.clock now.unit
   unit-part = subst (λ (s : Started). UnitSafe s.days (history_of r) (lost_of r) w.marks s.began now.unit) found.unit
@@ -235,8 +235,8 @@ module _ (r : Recording) (f : Found) (w : Carried) (began now : Devices) (found 
   }
 
 -- the book follows the history, and so what is beyond it is later
-pub safe-followed : (r : Recording) (f : Found) (w : Carried) (began now : Devices) → IsCoherent now.unit → ((c : Card) → IsCoherent (card_of now c)) → Decodes r.unit → (from : ℕ) → AreInOrder from r.trace → last_kept r.unit < from / 60 →
-    IsFound r f began → Follows (history_of r) (lost_of r) w.book → IsCarried f w now → ((c : Card) → IsOwnValid (card_image r c) → AreBrought r c w.book (w.brought c)) → AreUntouched r f now → IsSafe r w.marks began now
+pub safe-followed : (r : Recording) (f : Found) (w : RunLedger) (began now : Devices) → IsCoherent now.unit → ((c : Card) → IsCoherent (card_of now c)) → Decodes r.unit → (from : ℕ) → AreInOrder from r.trace → last_kept r.unit < from / 60 →
+    IsFound r f began → Follows (history_of r) (lost_of r) w.book → LedgerStands f w now → ((c : Card) → IsOwnValid (card_image r c) → AreBrought r c w.book (w.brought c)) → AreUntouched r f now → IsSafe r w.marks began now
 safe-followed r f w began now unit_whole card_whole decodes from order early found follows carried each untouched =
     safe-end r f w began now found
     (follows-later r w.book now.unit from (last_kept r.unit) order early follows
@@ -245,7 +245,7 @@ safe-followed r f w began now unit_whole card_whole decodes from order early fou
     carried unit_whole card_whole decodes each untouched
 
 -- while the unit has power the same is carried
-pub lit-carried : (f : Found) (w : Carried) (d : Devices) → IsLit f w d → IsCarried f w d
+pub lit-carried : (f : Found) (w : RunLedger) (d : Devices) → LedgerStandsPowered f w d → LedgerStands f w d
 lit-carried f w d lit = record {
   tells = lit.tells;
   unit = holds-dark f.unit w.due w.book w.marks d.unit lit.unit;

@@ -11,14 +11,14 @@ use Rattle.minute_model.specs.Span.{ungiven_of}
 use Rattle.log_model.specs.declared.lines.Break.{Break}
 use Rattle.log_model.specs.Log.{RunLog}
 use Rattle.log_model.specs.Causes.{is_cut}
-use Rattle.log_model.specs.Course.{Told, Went, has_power, went}
+use Rattle.log_model.specs.Course.{ToldSecond, Went, has_power, went}
 use Rattle.history_model.specs.Minutes.{HistoryMinute}
 use Rattle.history_model.specs.History.{unit_history}
 use Rattle.history_model.specs.Book.{Book, all, kept, IsMark}
 use Rattle.history_model.proofs.Books.{all-none, mark-more}
-use Rattle.run_unit_course.specs.Followed.{Supply, Lit, Due, Lost, going_on, cuts_from}
+use Rattle.run_unit_course.specs.Followed.{UnitPower, Lit, Due, Lost, going_on, cuts_from}
 use Rattle.run_unit_course.specs.Turn.{span_at}
-use Rattle.run_course.specs.Followed.{Progress, Followed, IsGoing, IsSupplied, IsBreakBefore}
+use Rattle.run_course.specs.Followed.{Progress, BookFollowsRun, PowerGoesOn, IsSupplied, IsBreakBefore}
 use Rattle.run_course.specs.Seconds.{GoesOnBy, next_told, DecidedBy, kept_all}
 use Rattle.run_course.proofs.Core.{Core, IsShort, waits}
 use Rattle.run_course.proofs.New.{are-new}
@@ -27,7 +27,7 @@ use Rattle.run_course.proofs.Told.{lit-power, solid-push}
 use Rattle.safety_model.specs.Recording.{Recording, start_of}
 use Rattle.safety_model.specs.Cards.{shows_lost, acceptances}
 use Rattle.run_promise.specs.Accounts.{so_far, IsAccount, IsShownLost}
-use Rattle.run_promise.specs.Going.{acceptances_in, IsCutFrom, StandsFor, AreAccounted, IsTakenAt, IsBehind, ASecondIsAccounted, KeptMinutesAreSure, NothingIsAccountedYet, TheEndIsAccounted}
+use Rattle.run_promise.specs.Going.{acceptances_in, IsCutFrom, AccountGoesOn, AreAccounted, IsTakenAt, IsBehind, ASecondIsAccounted, KeptMinutesAreSure, NothingIsAccountedYet, TheEndIsAccounted}
 use Rattle.run_promise.proofs.Accounts.{account-on, account-new}
 use Rattle.run_promise.proofs.Shown.{lost-is_shown}
 use Rattle.run_promise.proofs.Settled.{found-settled}
@@ -36,30 +36,30 @@ use Rattle.run_promise.proofs.Lines.{accepts-more, accepts-one, accepts-none, ac
 two : (k : ℕ) → nat_lt 1 (suc (suc k)) ≡ true
 two k = grind (arith, nat_tests)
 
-two-seconds : (x : Told) (xs : List Told) (t : Told) → nat_lt 1 (length ((x ∷ xs) ++ t ∷ [])) ≡ true
+two-seconds : (x : ToldSecond) (xs : List ToldSecond) (t : ToldSecond) → nat_lt 1 (length ((x ∷ xs) ++ t ∷ [])) ≡ true
 two-seconds x [] t = refl
 two-seconds x (y ∷ xs) t = two (length (xs ++ t ∷ []))
 
 -- the span of a supply
-lit-as : (sp : Supply) (xs ys : List Told) → sp ≡ Lit xs → sp ≡ Lit ys → xs ≡ ys
+lit-as : (sp : UnitPower) (xs ys : List ToldSecond) → sp ≡ Lit xs → sp ≡ Lit ys → xs ≡ ys
 lit-as sp xs ys a b = ap going_on (sym a ∙ b)
 
-cuts-low : (xs : List Told) (next : ℕ) → cuts_from (Lit xs) next ≤ next
+cuts-low : (xs : List ToldSecond) (next : ℕ) → cuts_from (Lit xs) next ≤ next
 cuts-low [] next = omega arith
 cuts-low (x ∷ xs) next = omega arith
 
-lost-lit : (sp : Supply) (xs : List Told) → sp ≡ Lost → sp ≡ Lit xs → ⊥
+lost-lit : (sp : UnitPower) (xs : List ToldSecond) → sp ≡ Lost → sp ≡ Lit xs → ⊥
 lost-lit sp xs a b = let e : Lost ≡ Lit xs = sym a ∙ b in absurd (cc)
 
-module _ (r : Recording) (c : Card) (from first : ℕ) (done : List TraceSecond) (p : Progress) (span : List Told) (f : Followed r.rule (start_of r) from first done (record p { supply = Lit span; waiting = [] }))
+module _ (r : Recording) (c : Card) (from first : ℕ) (done : List TraceSecond) (p : Progress) (span : List ToldSecond) (f : BookFollowsRun r.rule (start_of r) from first done (record p { supply = Lit span; waiting = [] }))
     (s : TraceSecond) (later : RunLog) (g : GoesOnBy p later s) (new : List HistoryMinute) (decides : DecidedBy r.rule (start_of r) later done s span p.book new) where
-  abbrev t : Told
+  abbrev t : ToldSecond
   t = next_told later done s
 
-  abbrev told : List Told
+  abbrev told : List ToldSecond
   told = (went p.log done).told
 
-  abbrev now : List Told
+  abbrev now : List ToldSecond
   now = (went later (done ++ s ∷ [])).told
 
   abbrev old_minutes : List HistoryMinute
@@ -97,13 +97,13 @@ module _ (r : Recording) (c : Card) (from first : ℕ) (done : List TraceSecond)
       power : has_power (went later done).before s ≡ true
       power = subst (λ (w : Went). has_power w.before s ≡ true) (sym same) (lit-power span (went p.log done).before s p.next f.power g.number g.given)
 
-      going : IsGoing (went p.log done).before → (went later done).before.running ≡ true
+      going : PowerGoesOn (went p.log done).before → (went later done).before.running ≡ true
       going h = ap (λ (w : Went). w.before.running) same ∙ h.running
 
-      by : (sp : List Told) → span ≡ sp → (t.course.found ≡ []) ⊎ ((t.course.settled ≡ true) ⊎ (span ≡ []))
+      by : (sp : List ToldSecond) → span ≡ sp → (t.course.found ≡ []) ⊎ ((t.course.settled ≡ true) ⊎ (span ≡ []))
       by [] e = inr (inr e)
       by (x ∷ xs) e = ⊎_elim (λ none. inl none) (λ is. inr (inl is))
-          (found-settled later (went later done).before s power (going (subst (λ (sp : List Told). IsSupplied (Lit sp) (went p.log done).before p.next) e f.power)))
+          (found-settled later (went later done).before s power (going (subst (λ (sp : List ToldSecond). IsSupplied (Lit sp) (went p.log done).before p.next) e f.power)))
 
   -- what is decided now is not earlier than the first minute that was not
   fresh : All (λ (i : HistoryMinute). ungiven ≤ i.minute) new
@@ -157,7 +157,7 @@ module _ (r : Recording) (c : Card) (from first : ℕ) (done : List TraceSecond)
     cuts-on u le h = subst (AllByRecursion (IsCutFrom u)) (sym unknown-on) (both-parts (IsCutFrom u) (drop p.unfound p.log.breaks) g.breaks.0 h (breaks-from u le))
 
     -- while there is power no cut waits
-    waits-on : AllByRecursion (λ (b : Break). is_cut b ≡ false) (drop p.unfound p.log.breaks) → (longer : List Told) → q.supply ≡ Lit longer → AllByRecursion (λ (b : Break). is_cut b ≡ false) (drop q.unfound q.log.breaks)
+    waits-on : AllByRecursion (λ (b : Break). is_cut b ≡ false) (drop p.unfound p.log.breaks) → (longer : List ToldSecond) → q.supply ≡ Lit longer → AllByRecursion (λ (b : Break). is_cut b ≡ false) (drop q.unfound q.log.breaks)
     waits-on h longer is = ⊎_elim
         (λ on. subst (AllByRecursion (λ (b : Break). is_cut b ≡ false)) (sym unknown-on)
         (both-parts (λ (b : Break). is_cut b ≡ false) (drop p.unfound p.log.breaks) g.breaks.0 h
@@ -168,14 +168,14 @@ module _ (r : Recording) (c : Card) (from first : ℕ) (done : List TraceSecond)
         (λ off. absurd (lost-lit q.supply longer off is))
         b.supply
 
-    due-on : (u : ℕ) → u / 60 ≤ ungiven_of (span_at r.rule (suc p.next) (span ++ t ∷ [])) → (longer : List Told) → q.supply ≡ Lit longer → u / 60 ≤ ungiven_of (span_at r.rule q.next longer)
+    due-on : (u : ℕ) → u / 60 ≤ ungiven_of (span_at r.rule (suc p.next) (span ++ t ∷ [])) → (longer : List ToldSecond) → q.supply ≡ Lit longer → u / 60 ≤ ungiven_of (span_at r.rule q.next longer)
     due-on u le longer is = ⊎_elim
         (λ on. subst (λ (n : ℕ). u / 60 ≤ ungiven_of (span_at r.rule n longer)) (sym b.next)
-        (subst (λ (xs : List Told). u / 60 ≤ ungiven_of (span_at r.rule (suc p.next) xs)) (lit-as q.supply (span ++ t ∷ []) longer on.0 is) le))
+        (subst (λ (xs : List ToldSecond). u / 60 ≤ ungiven_of (span_at r.rule (suc p.next) xs)) (lit-as q.supply (span ++ t ∷ []) longer on.0 is) le))
         (λ off. absurd (lost-lit q.supply longer off is))
         b.supply
 
-    old-stands : p.supply ≡ Lit span → (u k : ℕ) → StandsFor r c first done p u k → StandsFor r c first (done ++ s ∷ []) q u k
+    old-stands : p.supply ≡ Lit span → (u k : ℕ) → AccountGoesOn r c first done p u k → AccountGoesOn r c first (done ++ s ∷ []) q u k
     old-stands is u k a =
         let before = a.before in
         let due = a.due span is in
@@ -198,20 +198,20 @@ module _ (r : Recording) (c : Card) (from first : ℕ) (done : List TraceSecond)
         whole is = All-contains (λ (j : HistoryMinute). j.minute ≤ k) (p.book.sure ++ new) i newest
             (subst (λ (is : List HistoryMinute). Contains (is ++ new) i) (all-none p.book f.tied.none) (subst (λ (is : List HistoryMinute). Contains is i) is at))
 
-        by : (sp : List Told) → span ≡ sp → (i.minute ≤ k) ⊎ ((p.next / 60 ≤ i.minute) ⊎ (list_any (shows_lost p.next i.minute) later.breaks ≡ true))
-        by (x ∷ xs) e = inl (whole (long-minutes (ap (λ (sp : List Told). nat_lt 1 (length (sp ++ t ∷ []))) e ∙ two-seconds x xs t)))
+        by : (sp : List ToldSecond) → span ≡ sp → (i.minute ≤ k) ⊎ ((p.next / 60 ≤ i.minute) ⊎ (list_any (shows_lost p.next i.minute) later.breaks ≡ true))
+        by (x ∷ xs) e = inl (whole (long-minutes (ap (λ (sp : List ToldSecond). nat_lt 1 (length (sp ++ t ∷ []))) e ∙ two-seconds x xs t)))
         by [] e = ⊎_elim
             (λ long. inl (whole (long-minutes long)))
             (λ short. ⊎_elim
             (λ sure. inl (All-contains (λ (j : HistoryMinute). j.minute ≤ k) (p.book.sure ++ new) i newest (Contains-append_left p.book.sure new i sure)))
             (λ lost. inr (inr (lost-same p.next i.minute (omega arith) ∙ lost p.next (omega arith))))
             (All-contains (λ (j : HistoryMinute). Contains p.book.sure j ⊎ IsShownLost p.log p.next j) old_minutes i
-            (lost-is_shown r.rule (start_of r) from first done p (subst (λ (sp : List Told). Followed r.rule (start_of r) from first done (record p { supply = Lit sp; waiting = [] })) e f))
+            (lost-is_shown r.rule (start_of r) from first done p (subst (λ (sp : List ToldSecond). BookFollowsRun r.rule (start_of r) from first done (record p { supply = Lit sp; waiting = [] })) e f))
             (subst (λ (is : List HistoryMinute). Contains is i) (short-minutes short) at)))
             either
 
-    new-stands : (k : ℕ) → IsTakenAt first p.book q.book new k → (t.course.settled ≡ true) ⊎ (span ≡ []) → (u : ℕ) → u ≡ p.next → AllByRecursion (λ (b : Break). is_cut b ≡ false) (drop p.unfound p.log.breaks) → StandsFor r c first (done ++ s ∷ []) q u k
-    new-stands k taken settled u is uncut = subst (λ (n : ℕ). StandsFor r c first (done ++ s ∷ []) q n k) (sym is) (record {
+    new-stands : (k : ℕ) → IsTakenAt first p.book q.book new k → (t.course.settled ≡ true) ⊎ (span ≡ []) → (u : ℕ) → u ≡ p.next → AllByRecursion (λ (b : Break). is_cut b ≡ false) (drop p.unfound p.log.breaks) → AccountGoesOn r c first (done ++ s ∷ []) q u k
+    new-stands k taken settled u is uncut = subst (λ (n : ℕ). AccountGoesOn r c first (done ++ s ∷ []) q n k) (sym is) (record {
       account = subst (λ (l : RunLog). IsAccount (so_far r (done ++ s ∷ []) l) c first q.book p.next k) (sym b.log)
           (account-new (so_far r (done ++ s ∷ []) later) c first q.book p.next k taken.mark
           (All-weaker (Contains now_minutes) (λ i. (i.minute ≤ k) ⊎ ((p.next / 60 ≤ i.minute) ⊎ (list_any (shows_lost p.next i.minute) later.breaks ≡ true))) (newest-or_lost k taken.newest) now_minutes (All-contains_itself now_minutes)));
@@ -235,7 +235,7 @@ module _ (r : Recording) (c : Card) (from first : ℕ) (done : List TraceSecond)
           found-where)
           taken)
           (accepts-more c told (t ∷ []) u
-          (subst (λ (ts : List Told). Contains (flat_map (acceptances_in c) ts) u) seconds-now
+          (subst (λ (ts : List ToldSecond). Contains (flat_map (acceptances_in c) ts) u) seconds-now
           (subst (λ (l : RunLog). Contains (flat_map (acceptances_in c) (went l (done ++ s ∷ [])).told) u) b.log at)));
       waits = waits-on (a.waits span is);
     }

@@ -16,7 +16,7 @@ use Rattle.log_model.specs.declared.lines.Verdict.{Verdict}
 use Rattle.log_model.specs.Log.{is_accepting}
 use Rattle.log_model.specs.Slots.{same_card}
 use Rattle.log_model.specs.Causes.{is_cut, second_of}
-use Rattle.log_model.specs.Course.{Told, Visit}
+use Rattle.log_model.specs.Course.{ToldSecond, Visit}
 use Rattle.log_model.specs.Spans.{seconds_in}
 use Rattle.history_model.specs.Minutes.{HistoryMinute}
 use Rattle.history_model.specs.Presence.{Start}
@@ -30,28 +30,28 @@ use Rattle.run_promise.specs.Going.{acceptances_in, IsCutFrom}
 use Rattle.run_promise.proofs.Accounts.{none-lost, or-false}
 
 -- ACCEPTANCES of further seconds
-pub accepts-more : (c : Card) (xs ys : List Told) (u : ℕ) → Contains (flat_map (acceptances_in c) (xs ++ ys)) u → Contains (flat_map (acceptances_in c) xs) u ⊎ Contains (flat_map (acceptances_in c) ys) u
+pub accepts-more : (c : Card) (xs ys : List ToldSecond) (u : ℕ) → Contains (flat_map (acceptances_in c) (xs ++ ys)) u → Contains (flat_map (acceptances_in c) xs) u ⊎ Contains (flat_map (acceptances_in c) ys) u
 accepts-more c xs ys u at = Contains-append_cases (flat_map (acceptances_in c) xs) (flat_map (acceptances_in c) ys) u (subst (λ (zs : List ℕ). Contains zs u) (flat_map-append (acceptances_in c) xs ys) at)
 
-pub accepts-one : (c : Card) (t : Told) (u : ℕ) → Contains (flat_map (acceptances_in c) (t ∷ [])) u → Contains (acceptances_in c t) u
+pub accepts-one : (c : Card) (t : ToldSecond) (u : ℕ) → Contains (flat_map (acceptances_in c) (t ∷ [])) u → Contains (acceptances_in c t) u
 accepts-one c t u at = subst (λ (zs : List ℕ). Contains zs u) (append-nil (acceptances_in c t)) at
 
-pub accepts-number : (c : Card) (t : Told) (u : ℕ) → Contains (acceptances_in c t) u → t.second.number ≡ u
+pub accepts-number : (c : Card) (t : ToldSecond) (u : ℕ) → Contains (acceptances_in c t) u → t.second.number ≡ u
 accepts-number c t u at = All-contains (λ (n : ℕ). t.second.number ≡ n) (acceptances_in c t) u
     (All-map (λ (n : ℕ). t.second.number ≡ n) (λ (f : Visit × Verdict). t.second.number) (filter (λ (f : Visit × Verdict). same_card c f.0.card && is_accepting f.1) t.course.found) (λ k d lt. refl)) at
 
-pub accepts-none : (c : Card) (t : Told) → t.course.found ≡ [] → acceptances_in c t ≡ []
+pub accepts-none : (c : Card) (t : ToldSecond) → t.course.found ≡ [] → acceptances_in c t ≡ []
 accepts-none c t none = ap (λ (fs : List (Visit × Verdict)). map (λ f. t.second.number) (filter (λ f. same_card c f.0.card && is_accepting f.1) fs)) none
 
 -- a second that accepts nothing
-pub accepts-same : (c : Card) (xs : List Told) (t : Told) → acceptances_in c t ≡ [] → flat_map (acceptances_in c) (xs ++ t ∷ []) ≡ flat_map (acceptances_in c) xs
+pub accepts-same : (c : Card) (xs : List ToldSecond) (t : ToldSecond) → acceptances_in c t ≡ [] → flat_map (acceptances_in c) (xs ++ t ∷ []) ≡ flat_map (acceptances_in c) xs
 accepts-same c xs t none =
     flat_map-append (acceptances_in c) xs (t ∷ [])
     ∙ ap (λ (zs : List ℕ). flat_map (acceptances_in c) xs ++ (zs ++ [])) none
     ∙ append-nil (flat_map (acceptances_in c) xs)
 
 -- or what another one did
-pub accepts-instead : (c : Card) (xs : List Told) (t u : Told) → acceptances_in c u ≡ acceptances_in c t → flat_map (acceptances_in c) (xs ++ u ∷ []) ≡ flat_map (acceptances_in c) (xs ++ t ∷ [])
+pub accepts-instead : (c : Card) (xs : List ToldSecond) (t u : ToldSecond) → acceptances_in c u ≡ acceptances_in c t → flat_map (acceptances_in c) (xs ++ u ∷ []) ≡ flat_map (acceptances_in c) (xs ++ t ∷ [])
 accepts-instead c xs t u is =
     flat_map-append (acceptances_in c) xs (u ∷ [])
     ∙ ap (λ (zs : List ℕ). flat_map (acceptances_in c) xs ++ (zs ++ [])) is
@@ -112,10 +112,10 @@ drop-whole [] = refl
 drop-whole (b ∷ bs) = drop-whole bs
 
 -- THE FIRST MINUTE THAT IS NOT DECIDED YET does not go back
-settlings-two : (span : List Told) (t : Told) → settlings_of (span ++ t ∷ []) ≡ settlings_of span ++ settlings_of (t ∷ [])
+settlings-two : (span : List ToldSecond) (t : ToldSecond) → settlings_of (span ++ t ∷ []) ≡ settlings_of span ++ settlings_of (t ∷ [])
 settlings-two span t =
-    ap (map (λ (t : Told). t.second.number)) (filter-append (λ (t : Told). t.course.settled) span (t ∷ []))
-    ∙ map-append (λ (t : Told). t.second.number) (filter (λ (t : Told). t.course.settled) span) (filter (λ (t : Told). t.course.settled) (t ∷ []))
+    ap (map (λ (t : ToldSecond). t.second.number)) (filter-append (λ (t : ToldSecond). t.course.settled) span (t ∷ []))
+    ∙ map-append (λ (t : ToldSecond). t.second.number) (filter (λ (t : ToldSecond). t.course.settled) span) (filter (λ (t : ToldSecond). t.course.settled) (t ∷ []))
 
 latest-front : (xs ys : List ℕ) → latest xs ≤ latest (xs ++ ys)
 latest-front [] ys = omega arith
@@ -125,17 +125,17 @@ latest-back : (xs ys : List ℕ) → latest ys ≤ latest (xs ++ ys)
 latest-back [] ys = omega arith
 latest-back (x ∷ xs) ys = let rest = latest-back xs ys in omega (arith, rest)
 
-latest-one : (t : Told) → t.course.settled ≡ true → t.second.number ≤ latest (settlings_of (t ∷ []))
+latest-one : (t : ToldSecond) → t.course.settled ≡ true → t.second.number ≤ latest (settlings_of (t ∷ []))
 latest-one t is = go t.course.settled is
   where
-    go : (b : Bool) → b ≡ true → t.second.number ≤ latest (map (λ (t : Told). t.second.number) (cond b (t ∷ []) []))
+    go : (b : Bool) → b ≡ true → t.second.number ≤ latest (map (λ (t : ToldSecond). t.second.number) (cond b (t ∷ []) []))
     go true is = omega arith
     go false is = absurd (cc)
 
-count-more : (span : List Told) (t : Told) → length (seconds_in (span ++ t ∷ [])) ≡ length (seconds_in span) + 1
-count-more span t = ap length (map-append (λ (t : Told). t.second) span (t ∷ [])) ∙ length-append (seconds_in span) (t.second ∷ [])
+count-more : (span : List ToldSecond) (t : ToldSecond) → length (seconds_in (span ++ t ∷ [])) ≡ length (seconds_in span) + 1
+count-more span t = ap length (map-append (λ (t : ToldSecond). t.second) span (t ∷ [])) ∙ length-append (seconds_in span) (t.second ∷ [])
 
-pub ungiven-grows : (rule : Rule) (next : ℕ) (span : List Told) (t : Told) → t.second.number ≡ next → ungiven_of (span_at rule next span) ≤ ungiven_of (span_at rule (suc next) (span ++ t ∷ []))
+pub ungiven-grows : (rule : Rule) (next : ℕ) (span : List ToldSecond) (t : ToldSecond) → t.second.number ≡ next → ungiven_of (span_at rule next span) ≤ ungiven_of (span_at rule (suc next) (span ++ t ∷ []))
 ungiven-grows rule next [] t is = omega (arith, is)
 ungiven-grows rule next (x ∷ xs) t is =
     let same = ap latest (settlings-two (x ∷ xs) t) in
@@ -143,7 +143,7 @@ ungiven-grows rule next (x ∷ xs) t is =
     let n = count-more (x ∷ xs) t in
     omega (arith, same, front, n)
 
-pub ungiven-now : (rule : Rule) (next : ℕ) (span : List Told) (t : Told) → t.second.number ≡ next → (t.course.settled ≡ true) ⊎ (span ≡ []) → next / 60 ≤ ungiven_of (span_at rule (suc next) (span ++ t ∷ []))
+pub ungiven-now : (rule : Rule) (next : ℕ) (span : List ToldSecond) (t : ToldSecond) → t.second.number ≡ next → (t.course.settled ≡ true) ⊎ (span ≡ []) → next / 60 ≤ ungiven_of (span_at rule (suc next) (span ++ t ∷ []))
 ungiven-now rule next [] t is either = omega (arith, is)
 ungiven-now rule next (x ∷ xs) t is (inr none) = absurd (cc)
 ungiven-now rule next (x ∷ xs) t is (inl settled) =
@@ -161,6 +161,6 @@ counted-from low a (suc n) (d ∷ ds) le is =
     let rest : map (λ (d : Minute). d.minute) ds ≡ count_from (a + 1) n = cc in
     (omega (arith, first, le), counted-from low (a + 1) n ds (omega (arith, le)) rest)
 
-pub seated-from : (start : Start) (told : List Told) (low : ℕ) (past : List HistoryMinute) (ds : List Minute) → AllByRecursion (λ (d : Minute). low ≤ d.minute) ds → All (λ (i : HistoryMinute). low ≤ i.minute) (minutes_after start told past ds)
+pub seated-from : (start : Start) (told : List ToldSecond) (low : ℕ) (past : List HistoryMinute) (ds : List Minute) → AllByRecursion (λ (d : Minute). low ≤ d.minute) ds → All (λ (i : HistoryMinute). low ≤ i.minute) (minutes_after start told past ds)
 seated-from start told low past [] h = All-nil (λ (i : HistoryMinute). low ≤ i.minute)
 seated-from start told low past (d ∷ ds) h = All-cons (λ (i : HistoryMinute). low ≤ i.minute) (seated start told past d) (minutes_after start told (past ++ seated start told past d ∷ []) ds) h.0 (seated-from start told low (past ++ seated start told past d ∷ []) ds h.1)

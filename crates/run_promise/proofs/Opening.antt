@@ -28,11 +28,11 @@ use Rattle.unit_model.specs.Image.{last_kept}
 use Rattle.unit_model.specs.Decoding.{Decodes}
 use Rattle.unit_rule.specs.Safe.{Devices, card_of}
 use Rattle.unit_rule.specs.Rule.{Started, started}
-use Rattle.unit_rule.specs.Marks.{Holds}
+use Rattle.unit_rule.specs.Marks.{UnitFollowsBook}
 use Rattle.unit_rule.proofs.Marking.{holds-started}
 use Rattle.run_promise.specs.Found.{CardFound, Found, found_of, unit_seen, AnyKept}
 use Rattle.run_promise.specs.Cards.{brought_by, counted_to, StringHolds, StringGoesOn, CardWaits, IsCardHeld}
-use Rattle.run_promise.specs.Between.{IsCarried}
+use Rattle.run_promise.specs.Between.{LedgerStands}
 use Rattle.run_promise.specs.Opening.{BeginsAs, as_found, IsLookedAt, carried_first}
 use Rattle.run_promise.proofs.Entries.{keeps-later}
 use Rattle.run_promise.proofs.Behind.{own-marked}
@@ -187,11 +187,11 @@ module _ (f : Found) (c : Card) (u x : List ℕ) (unit card : State) (unit_whole
   }
 
 -- THE OPENING
-started-holds : (f : Found) (u : List ℕ) (due : ℕ) (unit : State) → IsCoherent unit → BeginsAs u unit → Decodes u → last_kept u < due → f.unit ≡ started u f.unit.number_a f.unit.number_b unit.clock → Holds f.unit due not_begun [] unit
-started-holds f u due unit whole begins decodes late is = subst (λ (s : Started). Holds s due not_begun [] unit) (sym is) (holds-started unit u f.unit.number_a f.unit.number_b due whole begins.only decodes late)
+started-holds : (f : Found) (u : List ℕ) (due : ℕ) (unit : State) → IsCoherent unit → BeginsAs u unit → Decodes u → last_kept u < due → f.unit ≡ started u f.unit.number_a f.unit.number_b unit.clock → UnitFollowsBook f.unit due not_begun [] unit
+started-holds f u due unit whole begins decodes late is = subst (λ (s : Started). UnitFollowsBook s due not_begun [] unit) (sym is) (holds-started unit u f.unit.number_a f.unit.number_b due whole begins.only decodes late)
 
 pub first-carried : (f : Found) (u : List ℕ) (due : ℕ) (image : Card → List ℕ) (d : Devices) → IsCoherent d.unit → ((c : Card) → IsCoherent (card_of d c)) → BeginsAs u d.unit → ((c : Card) → BeginsAs (image c) (card_of d c)) → Decodes u → last_kept u < due →
-    f.unit ≡ started u f.unit.number_a f.unit.number_b d.unit.clock → ((c : Card) → (found_of f c).image ≡ image c) → ((c : Card) → IsOwnValid (image c) → IsLookedAt f c u (image c) (card_of d c).clock) → IsCarried f (carried_first due) d
+    f.unit ≡ started u f.unit.number_a f.unit.number_b d.unit.clock → ((c : Card) → (found_of f c).image ≡ image c) → ((c : Card) → IsOwnValid (image c) → IsLookedAt f c u (image c) (card_of d c).clock) → LedgerStands f (carried_first due) d
 first-carried f u due image d unit_whole card_whole unit_begins card_begins decodes late unit_is image_is looked = record {
   tells = ap is_some unit_begins.tells;
   unit = started-holds f u due d.unit unit_whole unit_begins decodes late unit_is;

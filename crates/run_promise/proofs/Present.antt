@@ -14,7 +14,7 @@ use Rattle.minute_model.specs.declared.Minute.{Minute}
 use Rattle.minute_model.specs.Activity.{last}
 use Rattle.log_model.specs.Log.{RunLog}
 use Rattle.log_model.specs.Slots.{Sitting, same_card, in_slot}
-use Rattle.log_model.specs.Course.{Told}
+use Rattle.log_model.specs.Course.{ToldSecond}
 use Rattle.log_model.specs.Spans.{spans_of}
 use Rattle.history_model.specs.Minutes.{HistoryMinute, Seat, card_history, on_card, entry_in, is_crew}
 use Rattle.history_model.specs.Presence.{Start, CardStart, card_start, newest_minute, is_present, present_sitting, in_minute, present_in}
@@ -40,11 +40,11 @@ newest-bound : (start : Start) (past : List HistoryMinute) (c : Card) (u m : ℕ
 unfolding newest_minute
 newest-bound start past c u m h = omega (arith, h)
 
-present-bound : (start : Start) (past : List HistoryMinute) (m : ℕ) (ts : List Told) (c : Card) (at : Option ℕ) → is_present start past m ts c at ≡ true → bound (card_start start c) < m
+present-bound : (start : Start) (past : List HistoryMinute) (m : ℕ) (ts : List ToldSecond) (c : Card) (at : Option ℕ) → is_present start past m ts c at ≡ true → bound (card_start start c) < m
 present-bound start past m ts c None is = cc
 present-bound start past m ts c (Some u) is = newest-bound start past c u m (less (newest_minute start past c u) m (both (nat_lt (newest_minute start past c u) m) (not (list_any (λ t. list_any (same_card c) t.course.left) ts)) is))
 
-sitting-bound : (start : Start) (past : List HistoryMinute) (m : ℕ) (ts : List Told) (s : Option Sitting) (c : Card) → present_sitting start past m ts s ≡ Some c → bound (card_start start c) < m
+sitting-bound : (start : Start) (past : List HistoryMinute) (m : ℕ) (ts : List ToldSecond) (s : Option Sitting) (c : Card) → present_sitting start past m ts s ≡ Some c → bound (card_start start c) < m
 sitting-bound start past m ts None c is = cc
 sitting-bound start past m ts (Some sitting) c is = go (is_present start past m ts sitting.card sitting.accepted) refl is
   where
@@ -52,9 +52,9 @@ sitting-bound start past m ts (Some sitting) c is = go (is_present start past m 
     go true passes same = let card : sitting.card ≡ c = cc in subst (λ (d : Card). bound (card_start start d) < m) card (present-bound start past m ts sitting.card sitting.accepted passes)
     go false fails same = cc
 
-seat-bound : (start : Start) (told : List Told) (past : List HistoryMinute) (m : ℕ) (slot : Slot) (c : Card) → present_in start told past m slot ≡ Some c → bound (card_start start c) < m
+seat-bound : (start : Start) (told : List ToldSecond) (past : List HistoryMinute) (m : ℕ) (slot : Slot) (c : Card) → present_in start told past m slot ≡ Some c → bound (card_start start c) < m
 unfolding present_in
-seat-bound start told past m slot c is = sitting-bound start past m (in_minute m told) (unwrap_or (option_map {T = Told} (λ t. in_slot t.course.slots slot) (last (in_minute m told))) None) c is
+seat-bound start told past m slot c is = sitting-bound start past m (in_minute m told) (unwrap_or (option_map {T = ToldSecond} (λ t. in_slot t.course.slots slot) (last (in_minute m told))) None) c is
 
 same-is : (c d : Card) → same_card c d ≡ true → d ≡ c
 same-is A A is = refl
@@ -63,7 +63,7 @@ same-is B A is = cc
 same-is B B is = refl
 
 -- what a minute says on a card comes where the card may be present
-entry-bound : (start : Start) (told : List Told) (past : List HistoryMinute) (m : ℕ) (slot at : Slot) (c : Card) (i : HistoryMinute) (seat : Seat) → i.minute ≡ m → seat.card ≡ present_in start told past m at → All (λ e. bound (card_start start c) < e.minute) (entry_in c slot i seat)
+entry-bound : (start : Start) (told : List ToldSecond) (past : List HistoryMinute) (m : ℕ) (slot at : Slot) (c : Card) (i : HistoryMinute) (seat : Seat) → i.minute ≡ m → seat.card ≡ present_in start told past m at → All (λ e. bound (card_start start c) < e.minute) (entry_in c slot i seat)
 entry-bound start told past m slot at c i seat minute is =
     All-map (λ (e : Entry). bound (card_start start c) < e.minute) (λ (d : Card). record { minute = i.minute; slot = slot; crew = is_crew i; act = seat.act }) (filter (same_card c) (option_to_list seat.card))
     (go seat.card is)
@@ -80,13 +80,13 @@ entry-bound start told past m slot at c i seat minute is =
 abbrev Later : Start → Card → HistoryMinute → Type 0
 Later start c i = All (λ e. bound (card_start start c) < e.minute) (on_card c i)
 
-seated-later : (start : Start) (told : List Told) (past : List HistoryMinute) (d : Minute) (c : Card) → Later start c (seated start told past d)
+seated-later : (start : Start) (told : List ToldSecond) (past : List HistoryMinute) (d : Minute) (c : Card) → Later start c (seated start told past d)
 seated-later start told past d c =
     let i : HistoryMinute = seated start told past d in
     All-append (λ (e : Entry). bound (card_start start c) < e.minute) (entry_in c Driver i i.driver) (entry_in c CoDriver i i.codriver)
     (entry-bound start told past d.minute Driver Driver c i i.driver refl refl) (entry-bound start told past d.minute CoDriver CoDriver c i i.codriver refl refl)
 
-minutes-later : (start : Start) (told : List Told) (past : List HistoryMinute) (ds : List Minute) (c : Card) → All (Later start c) (minutes_after start told past ds)
+minutes-later : (start : Start) (told : List ToldSecond) (past : List HistoryMinute) (ds : List Minute) (c : Card) → All (Later start c) (minutes_after start told past ds)
 minutes-later start told past [] c = All-nil (Later start c)
 minutes-later start told past (d ∷ ds) c =
     All-cons (Later start c) (seated start told past d) (minutes_after start told (past ++ seated start told past d ∷ []) ds) (seated-later start told past d c) (minutes-later start told (past ++ seated start told past d ∷ []) ds c)
@@ -95,7 +95,7 @@ limited-later : (start : Start) (c : Card) (o : Option ℕ) (past : List History
 limited-later start c None past each = each
 limited-later start c (Some k) past each = All-filter (λ (i : HistoryMinute). nat_le i.minute k) (Later start c) past each
 
-spans-later : (rule : Rule) (start : Start) (limit : List Told → List (List Told) → Option ℕ) (told : List Told) (past : List HistoryMinute) (spans : List (List Told)) (c : Card) → All (Later start c) (history_by rule start limit told past spans)
+spans-later : (rule : Rule) (start : Start) (limit : List ToldSecond → List (List ToldSecond) → Option ℕ) (told : List ToldSecond) (past : List HistoryMinute) (spans : List (List ToldSecond)) (c : Card) → All (Later start c) (history_by rule start limit told past spans)
 spans-later rule start limit told past [] c = All-nil (Later start c)
 spans-later rule start limit told past (span ∷ later) c =
     let more : List HistoryMinute = limited_to (limit span later) (span_minutes rule start told past span) in
@@ -109,7 +109,7 @@ all-later start c (i ∷ past) each = subst (All (λ (e : Entry). bound (card_st
     (All-append (λ (e : Entry). bound (card_start start c) < e.minute) (on_card c i) (card_history c past) (All-head (Later start c) i past each) (all-later start c past (All-tail (Later start c) i past each)))
 
 -- THE HISTORY: all that it says on a card is later than the card's end mark and its words at the start
-pub history-later : (rule : Rule) (start : Start) (log : RunLog) (told : List Told) (c : Card) → All (λ e. bound (card_start start c) < e.minute) (card_history c (unit_history rule start log told))
+pub history-later : (rule : Rule) (start : Start) (log : RunLog) (told : List ToldSecond) (c : Card) → All (λ e. bound (card_start start c) < e.minute) (card_history c (unit_history rule start log told))
 unfolding unit_history
 history-later rule start log told c = all-later start c (history_by rule start (limit_of log) told [] (spans_of told)) (spans-later rule start (limit_of log) told [] (spans_of told) c)
 

@@ -13,7 +13,7 @@ use Rattle.minute_model.specs.Span.{ungiven_of}
 use Rattle.log_model.specs.declared.lines.Break.{Break}
 use Rattle.log_model.specs.Log.{RunLog, kept_after}
 use Rattle.log_model.specs.Causes.{is_cut}
-use Rattle.log_model.specs.Course.{Told, Went, Before, has_power, second_told, went}
+use Rattle.log_model.specs.Course.{ToldSecond, Went, Before, has_power, second_told, went}
 use Rattle.log_model.specs.Spans.{spans_of, AreInOrder}
 use Rattle.log_model.proofs.Growth.{went-more}
 use Rattle.history_model.specs.Minutes.{HistoryMinute, up_to}
@@ -25,11 +25,11 @@ use Rattle.history_model.proofs.BySeconds.{same-history}
 use Rattle.history_model.proofs.Growing.{dark-history}
 use Rattle.history_model.proofs.Told.{more-told, spanned-so_far, told-next}
 use Rattle.run_unit_course.specs.Lines.{log_of, cut_at, found_from}
-use Rattle.run_unit_course.specs.Followed.{Supply, Lit, Due, Lost, MayPower, MayFail}
+use Rattle.run_unit_course.specs.Followed.{UnitPower, Lit, Due, Lost, MayPower, MayFail}
 use Rattle.run_unit_course.specs.Turn.{cut_at_end, span_at}
 use Rattle.run_unit_course.proofs.Parts.{order-behind}
 use Rattle.run_course.specs.Moments.{and_break}
-use Rattle.run_course.specs.Followed.{Progress, Followed, Comes, IsLost}
+use Rattle.run_course.specs.Followed.{Progress, BookFollowsRun, Comes, IsLost}
 use Rattle.run_course.specs.Seconds.{next_told}
 use Rattle.run_course.proofs.Lookups.{kept-by}
 use Rattle.run_course.proofs.Logs.{went-refused, found_log}
@@ -59,7 +59,7 @@ record IsQuiet (r : Recording) (c : Card) (done now : List TraceSecond) (p q : P
   unfound : q.unfound ≡ p.unfound
   next : p.next ≤ q.next
   book : q.book ≡ p.book
-  dark_ : (span : List Told) → q.supply ≡ Lit span → ⊥
+  dark_ : (span : List ToldSecond) → q.supply ≡ Lit span → ⊥
 
 quiet : (r : Recording) (c : Card) (first : ℕ) (done now : List TraceSecond) (p q : Progress) (ks : List ℕ) → IsQuiet r c done now p q → AreAccounted r c first done p ks → AreAccounted r c first now q ks
 quiet r c first done now p q ks n a = record {
@@ -84,10 +84,10 @@ quiet r c first done now p q ks n a = record {
   waits = λ span is. absurd (n.dark_ span is);
 }
 
-due-lit : (span : List Told) → Due ≡ Lit span → ⊥
+due-lit : (span : List ToldSecond) → Due ≡ Lit span → ⊥
 due-lit span is = absurd (cc)
 
-lost-lit : (span : List Told) → Lost ≡ Lit span → ⊥
+lost-lit : (span : List ToldSecond) → Lost ≡ Lit span → ⊥
 lost-lit span is = absurd (cc)
 
 -- IT FAILS
@@ -110,7 +110,7 @@ failure-accounted r c from first done p g may none s later by begun nothing ks a
           dark_ = lost-lit;
         }) a
 
-    at_supply : (sp : Supply) → MayFail sp p.next → Followed r.rule (start_of r) from first done (record p { supply = sp; waiting = [] }) →
+    at_supply : (sp : UnitPower) → MayFail sp p.next → BookFollowsRun r.rule (start_of r) from first done (record p { supply = sp; waiting = [] }) →
         AreAccounted r c first (done ++ s ∷ []) (record { log = later; unfound = p.unfound; next = suc p.next; begun = begun; supply = Lost; book = p.book; waiting = [] }) ks
     at_supply (Lit []) may f =
         at f.order f.next f.unfound (lit-due r.rule (start_of r) from first done p.log p.unfound p.next p.book (core-of r.rule (start_of r) from first done (record p { supply = Lit []; waiting = [] }) f)) f.power
@@ -125,7 +125,7 @@ mark-found first k n b low mark = ⊎_elim
     (λ here. inr (here.0, contains-up_to n (all b) here.0 (All-contains (λ (i : HistoryMinute). i.minute ≤ n) b.sure here.0 low here.1) (Contains-append_left b.sure (option_to_list b.maybe) here.0 here.1), here.2))
     mark
 
-begun-due : (rule : Rule) (u next : ℕ) (span : List Told) → u < next → Lit [] ≡ Lit span → u / 60 ≤ ungiven_of (span_at rule next span)
+begun-due : (rule : Rule) (u next : ℕ) (span : List ToldSecond) → u < next → Lit [] ≡ Lit span → u / 60 ≤ ungiven_of (span_at rule next span)
 begun-due rule u next [] lt is = omega (arith, lt)
 begun-due rule u next (x ∷ xs) lt is = absurd (cc)
 
@@ -139,7 +139,7 @@ found-accounted r c from first done p g may n mark low ks a = by p.supply may g
         let minutes = found-minutes r.rule (start_of r) from first done p.log p.unfound p.next p.book p.waiting core n mark low in
         record {
           each = λ u at_.
-              let k = a.each u (subst (λ (ts : List Told). Contains (flat_map (acceptances_in c) ts) u) seconds at_) in
+              let k = a.each u (subst (λ (ts : List ToldSecond). Contains (flat_map (acceptances_in c) ts) u) seconds at_) in
               let before = k.2.before in (
                 k.0,
                 k.1,
@@ -156,7 +156,7 @@ found-accounted r c from first done p g may n mark low ks a = by p.supply may g
           waits = λ span is. subst (AllByRecursion (λ (b : Break). is_cut b ≡ false)) (sym (drop-whole (found_from p.unfound n p.log.breaks))) tt;
         }
 
-    by : (s : Supply) → MayPower s p.next → Followed r.rule (start_of r) from first done (record p { supply = s }) →
+    by : (s : UnitPower) → MayPower s p.next → BookFollowsRun r.rule (start_of r) from first done (record p { supply = s }) →
         AreAccounted r c first done (record p { log = found_log p.unfound n p.log; unfound = length (found_from p.unfound n p.log.breaks); supply = Lit []; book = found n p.book; waiting = [] }) ks
     by (Lit span) may f = absurd may
     by Due may f = at (due-core r.rule (start_of r) from first done p f)
@@ -170,11 +170,11 @@ limit-same : (log later : RunLog) → later.breaks ≡ log.breaks → (o : Optio
 limit-same log later is None = refl
 limit-same log later is (Some u) = ap (λ (k : ℕ). Some k) (kept-same log later u is)
 
-same-limits : (log later : RunLog) (spans : List (List Told)) → later.breaks ≡ log.breaks → SameLimits log later spans
+same-limits : (log later : RunLog) (spans : List (List ToldSecond)) → later.breaks ≡ log.breaks → SameLimits log later spans
 same-limits log later [] is = tt
 same-limits log later (span ∷ spans) is = (λ long. limit-same log later is (cut_second (last span)), same-limits log later spans is)
 
-refused-minutes : (r : Recording) (log later : RunLog) (told : List Told) → later.breaks ≡ log.breaks → unit_history r.rule (start_of r) later told ≡ unit_history r.rule (start_of r) log told
+refused-minutes : (r : Recording) (log later : RunLog) (told : List ToldSecond) → later.breaks ≡ log.breaks → unit_history r.rule (start_of r) later told ≡ unit_history r.rule (start_of r) log told
 refused-minutes r log later told is = same-history r.rule (start_of r) log later told (same-limits log later (spans_of told) is)
 
 -- SECONDS WITHOUT POWER
@@ -192,7 +192,7 @@ module _ (r : Recording) (c : Card) (from : ℕ) (log : RunLog) where
 
   still-one : (done : List TraceSecond) (s : TraceSecond) → AreInOrder from (done ++ s ∷ []) → has_power (went log done).before s ≡ false → AreStill done (done ++ s ∷ [])
   still-one done s order none =
-      let t : Told = second_told log (went log done).before s in
+      let t : ToldSecond = second_told log (went log done).before s in
       let is = more-told log done s in
       record {
         accepts = ap (flat_map (acceptances_in c)) is ∙ accepts-same c (went log done).told t (accepts-none c t (dark-found log (went log done).before s none));
@@ -237,7 +237,7 @@ module _ (r : Recording) (c : Card) (from : ℕ) (log : RunLog) where
 
 pub dark-accounted : ADarkMinuteStaysAccounted
 dark-accounted r c from first done p g is n speed actions refused begun some within ks a =
-    let f = subst (λ (sp : Supply). Followed r.rule (start_of r) from first done (record p { supply = sp })) is g in
+    let f = subst (λ (sp : UnitPower). BookFollowsRun r.rule (start_of r) from first done (record p { supply = sp })) is g in
     let later : RunLog = record p.log { refused = refused } in
     let same = went-refused p.log later refl refl done in
     let seconds = ap (λ (w : Went). w.told) same in

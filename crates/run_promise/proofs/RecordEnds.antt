@@ -32,7 +32,7 @@ use Rattle.card_image.specs.Own.{IsOwnValid}
 use Rattle.safety_model.specs.Recording.{Recording, card_image, told_of, history_of}
 use Rattle.safety_model.specs.Cards.{acceptances}
 use Rattle.safety_model.specs.Safe.{Devices, card_of, breakdowns_of, WasFound, IsUnfound, IsVerdict, IsSafe, IsCaused}
-use Rattle.run_promise.specs.Between.{Carried, IsCarried, IsFound, AreUntouched}
+use Rattle.run_promise.specs.Between.{RunLedger, LedgerStands, IsFound, AreUntouched}
 use Rattle.run_promise.proofs.End.{safe-followed}
 use Rattle.run_course.specs.Followed.{Progress}
 use Rattle.run_course.specs.Caused.{AreCaused}
@@ -42,7 +42,7 @@ use Rattle.run_promise.specs.Going.{IsCutFrom, AreAccounted}
 use Rattle.run_promise.proofs.Accounts.{last-of}
 use Rattle.run_promise.proofs.AccountsEnd.{ends-follow, ends-brought}
 use Rattle.run_course.proofs.Telling.{each-of}
-use Rattle.run_promise.specs.Origin.{Origin, rule_of, start_at, first_of, HasRecorded}
+use Rattle.run_promise.specs.Origin.{Origin, rule_of, start_at, first_of, HistoryIsRecorded}
 use Rattle.run_promise.specs.Days.{IsBegunIn}
 use Rattle.run_promise.proofs.Whole.{is-whole}
 use Rattle.run_promise.proofs.Beside.{found-or}
@@ -61,11 +61,11 @@ kilometres-push xs ys a b same is =
     sum_by-append (λ (n : ℕ). n / 3600) xs (a ∷ []) ∙ ap (λ (n : ℕ). n + kilometres_of (a ∷ [])) same ∙ ap (λ (n : ℕ). kilometres_of ys + kilometres_of (n ∷ [])) is
     ∙ sym (sum_by-append (λ (n : ℕ). n / 3600) ys (b ∷ []))
 
-module _ (o : Origin) (done : List TraceSecond) (p : Progress) (g : Travel) (marks : List Mark) (w : Carried) (began now : Devices) where
+module _ (o : Origin) (done : List TraceSecond) (p : Progress) (g : Travel) (marks : List Mark) (w : RunLedger) (began now : Devices) where
   abbrev r : Recording
   r = recording_by o done p.log
 
-  module _ (h : HasRecorded o done p g marks (breakdowns_of now) w.brought) (found : IsFound r o.found began) (carried : IsCarried o.found w now) (book : w.book ≡ p.book) (told : w.marks ≡ marks) (beside : IsBeside o done p g marks now) where
+  module _ (h : HistoryIsRecorded o done p g marks (breakdowns_of now) w.brought) (found : IsFound r o.found began) (carried : LedgerStands o.found w now) (book : w.book ≡ p.book) (told : w.marks ≡ marks) (beside : IsBeside o done p g marks now) where
     unit-began : o.found.unit.began ≡ began.unit.clock
     unit-began = ap (λ (s : Started). s.began) found.unit
 

@@ -13,7 +13,7 @@ use Rattle.log_model.specs.declared.lines.Refused.{Refused}
 use Rattle.log_model.specs.Log.{RunLog, Keeping, cut_in}
 use Rattle.log_model.specs.Slots.{Slots, same_card}
 use Rattle.log_model.specs.Causes.{device_of, second_of, cuts, cards_torn, RoseBy}
-use Rattle.log_model.specs.Course.{Told, Went, went}
+use Rattle.log_model.specs.Course.{ToldSecond, Went, went}
 use Rattle.history_model.specs.Minutes.{HistoryMinute}
 use Rattle.history_model.specs.History.{seated, minutes_after, decided_of}
 use Rattle.history_model.specs.Completeness.{FailedCutIn}
@@ -21,11 +21,11 @@ use Rattle.history_model.specs.Book.{found}
 use Rattle.history_model.proofs.Closing.{minutes-parts}
 use Rattle.run_unit_course.specs.Caused.{cuts_by}
 use Rattle.run_unit_course.specs.Lines.{cut_at}
-use Rattle.run_unit_course.specs.Followed.{Supply, Lit, IsDark}
+use Rattle.run_unit_course.specs.Followed.{UnitPower, Lit, IsDark}
 use Rattle.run_unit_course.specs.Legs.{Travel, stranded_at, all_travelled}
 use Rattle.run_unit_course.proofs.Offs.{by-same}
 use Rattle.run_course.specs.Moments.{and_break}
-use Rattle.run_course.specs.Followed.{Progress, Followed}
+use Rattle.run_course.specs.Followed.{Progress, BookFollowsRun}
 use Rattle.run_course.specs.Seconds.{GoesOnBy, next_told, DecidedBy, kept_all, broken_at}
 use Rattle.run_course.specs.Complete.{AllMarked, AreAcknowledged}
 use Rattle.run_course.specs.Caused.{AreNewCauses}
@@ -49,7 +49,7 @@ use Rattle.run_course.proofs.Reached.{nothing-told, goes-itself, push-each}
 use Rattle.run_course.proofs.Moment.{moment-begins}
 use Rattle.run_course.proofs.Telling.{keeping-comes, second-ends_told, cut-ends_told, cut-now}
 use Rattle.run_course.proofs.Failing.{power-on_cut}
-use Rattle.run_promise.specs.Origin.{Origin, rule_of, start_at, first_of, HasRecorded}
+use Rattle.run_promise.specs.Origin.{Origin, rule_of, start_at, first_of, HistoryIsRecorded}
 use Rattle.run_promise.specs.Seconds.{NothingIsRecorded, at_start, empty_log, found_again, WhatWasKeptIsFound, MoreIsRecorded, AreTaken, went_on, seated_now, ASecondIsRecorded, broke_off, seated_next, ASecondIsBroken, failed_on, AFailedPowerOnIsRecorded, QuietSecondsAreRecorded, passed_dark, DarkSecondsAreRecorded, gone_off, AnOffLineIsRecorded, cut_off, AnOffCutIsRecorded}
 
 -- AT THE START
@@ -115,25 +115,25 @@ more-recorded o done p g marks more now later brought h stay rise =
     }
 
 -- A SECOND MORE
-module _ (o : Origin) (done : List TraceSecond) (p : Progress) (g : Travel) (marks : List Mark) (mid : Device → ℕ) (brought : Card → List ℕ) (h : HasRecorded o done p g marks mid brought) where
+module _ (o : Origin) (done : List TraceSecond) (p : Progress) (g : Travel) (marks : List Mark) (mid : Device → ℕ) (brought : Card → List ℕ) (h : HistoryIsRecorded o done p g marks mid brought) where
   same-told : (s : TraceSecond) (log : RunLog) → GoesOnBy p log s → (went log done).told ≡ (went p.log done).told
   same-told s log by = ap (λ (w : Went). w.told) (went-same_ (rule_of o) (start_at o) o.from (first_of o) done p h.followed.order h.followed.next h.followed.unfound s log by)
 
   told-now : (s : TraceSecond) (log : RunLog) → GoesOnBy p log s → (went log (done ++ s ∷ [])).told ≡ (went p.log done).told ++ next_told log done s ∷ []
   told-now s log by = now-told (rule_of o) (start_at o) o.from (first_of o) done p h.followed.order h.followed.next h.followed.unfound s log by
 
-  decided-now : (s : TraceSecond) (log : RunLog) → GoesOnBy p log s → (span : List Told) (ds : List Minute) → decided_of (rule_of o) (span ++ next_told log done s ∷ []) ≡ decided_of (rule_of o) span ++ ds →
+  decided-now : (s : TraceSecond) (log : RunLog) → GoesOnBy p log s → (span : List ToldSecond) (ds : List Minute) → decided_of (rule_of o) (span ++ next_told log done s ∷ []) ≡ decided_of (rule_of o) span ++ ds →
       DecidedBy (rule_of o) (start_at o) log done s span p.book (seated_now o log done s p ds)
-  decided-now s log by span ds is = (ds, is, ap (λ (ts : List Told). minutes_after (start_at o) (ts ++ next_told log done s ∷ []) p.book.sure ds) (sym (same-told s log by)))
+  decided-now s log by span ds is = (ds, is, ap (λ (ts : List ToldSecond). minutes_after (start_at o) (ts ++ next_told log done s ∷ []) p.book.sure ds) (sym (same-told s log by)))
 
-  pub second-recorded : (more : List Mark) (now : Device → ℕ) (taken : Card → List ℕ) (span : List Told) → p.supply ≡ Lit span → (s : TraceSecond) (log : RunLog) → Moment p (went p.log done).before s Keeping log [] mid now →
+  pub second-recorded : (more : List Mark) (now : Device → ℕ) (taken : Card → List ℕ) (span : List ToldSecond) → p.supply ≡ Lit span → (s : TraceSecond) (log : RunLog) → Moment p (went p.log done).before s Keeping log [] mid now →
       (ds : List Minute) → decided_of (rule_of o) (span ++ next_told log done s ∷ []) ≡ decided_of (rule_of o) span ++ ds → AllMarked marks more →
       AreAcknowledged more ((went p.log done).told ++ next_told log done s ∷ []) p.next (next_told log done s) (seated_now o log done s p ds) →
       AreTaken o p.book (kept_all (seated_now o log done s p ds) p.book) (next_told log done s) (seated_now o log done s p ds) brought taken →
-      HasRecorded o (done ++ s ∷ []) (went_on log done s span (seated_now o log done s p ds) p) (all_travelled ds g) more now taken
+      HistoryIsRecorded o (done ++ s ∷ []) (went_on log done s span (seated_now o log done s p ds) p) (all_travelled ds g) more now taken
   second-recorded more now taken span is s log m ds decides stay acks takes =
       let by : GoesOnBy p log s = lines_of m in
-      let t : Told = next_told log done s in
+      let t : ToldSecond = next_told log done s in
       let new : List HistoryMinute = seated_now o log done s p ds in
       let q : Progress = went_on log done s span new p in
       let decided = decided-now s log by span ds decides in
@@ -141,11 +141,11 @@ module _ (o : Origin) (done : List TraceSecond) (p : Progress) (g : Travel) (mar
       record {
         followed = goes_on (rule_of o) (start_at o) o.from (first_of o) done p h.followed span is h.waiting s log by m.up_to.uncut new decided;
         waiting = refl;
-        legs = subst (λ (ts : List Told). HasLegs (rule_of o) (first_of o) (done ++ s ∷ []) (went_on log done s span (minutes_after (start_at o) (ts ++ t ∷ []) p.book.sure ds) p) (all_travelled ds g)) (same-told s log by)
+        legs = subst (λ (ts : List ToldSecond). HasLegs (rule_of o) (first_of o) (done ++ s ∷ []) (went_on log done s span (minutes_after (start_at o) (ts ++ t ∷ []) p.book.sure ds) p) (all_travelled ds g)) (same-told s log by)
             (legs.second-travelled (rule_of o) (start_at o) o.from (first_of o) done p h.followed g h.legs span is h.waiting s log by ds decides);
         complete = acknowledged (rule_of o) (start_at o) o.from (first_of o) done p h.followed span is h.waiting s log by new decided marks more stay h.complete
-            (subst (λ (ts : List Told). AreAcknowledged more ts p.next t new) (sym (told-now s log by)) acks)
-            (λ cut. absurd (let clash : false ≡ true = sym (ap (λ (x : Told). x.cut) ends.0) ∙ cut in cc));
+            (subst (λ (ts : List ToldSecond). AreAcknowledged more ts p.next t new) (sym (told-now s log by)) acks)
+            (λ cut. absurd (let clash : false ≡ true = sym (ap (λ (x : ToldSecond). x.cut) ends.0) ∙ cut in cc));
         caused = second-caused (rule_of o) (start_at o) o.from (first_of o) done p h.followed s log by m.refused m.refused_are o.breakdowns mid now ends.1 h.caused q refl (λ dark. absurd (lit-dark q.supply (span ++ t ∷ []) refl dark));
         image = travelled-image ds g ∙ h.image;
         accounts = λ c valid. second-accounted o.recording c o.from (first_of o) done p h.followed span is h.waiting s log by new decided q
@@ -153,15 +153,15 @@ module _ (o : Origin) (done : List TraceSecond) (p : Progress) (g : Travel) (mar
             (brought c) (taken c) (takes c valid).0 (takes c valid).1 (h.accounts c valid);
       }
     where
-      lit-dark : (sp : Supply) (span : List Told) → sp ≡ Lit span → IsDark sp → ⊥
+      lit-dark : (sp : UnitPower) (span : List ToldSecond) → sp ≡ Lit span → IsDark sp → ⊥
       lit-dark sp span is dark = subst IsDark is dark
 
   -- a cut's second
-  module _ (s : TraceSecond) (log : RunLog) (by : GoesOnBy p log s) (begun : ℕ) (cut : cut_in log s.number ≡ Some begun) (span : List Told) (is : p.supply ≡ Lit span) where
-    abbrev t : Told
+  module _ (s : TraceSecond) (log : RunLog) (by : GoesOnBy p log s) (begun : ℕ) (cut : cut_in log s.number ≡ Some begun) (span : List ToldSecond) (is : p.supply ≡ Lit span) where
+    abbrev t : ToldSecond
     t = next_told log done s
 
-    abbrev told : List Told
+    abbrev told : List ToldSecond
     told = (went p.log done).told ++ t ∷ []
 
     -- each minute of a cut's second is acknowledged, or the cut excuses it
@@ -180,7 +180,7 @@ module _ (o : Origin) (done : List TraceSecond) (p : Progress) (g : Travel) (mar
     pub broken-recorded : (more : List Mark) (later : Device → ℕ) (taken : Card → List ℕ) (refused : List Refused) → log.refused ≡ p.log.refused ++ refused → AreNewCauses mid later by.breaks.0 by.finds.0 refused log s t →
         t.cut ≡ true → FailedCutIn log p.next → (front : List Minute) (d : Option Minute) (ds : List Minute) → decided_of (rule_of o) (span ++ t ∷ []) ≡ decided_of (rule_of o) span ++ (front ++ (option_to_list d ++ ds)) → AllMarked marks more →
         AreTaken o p.book (broken_at (seated_next o log done s p front d) (kept_all (seated_now o log done s p front) p.book)) t (seated_now o log done s p (front ++ (option_to_list d ++ ds))) brought taken →
-        HasRecorded o (done ++ s ∷ []) (broke_off log s (seated_now o log done s p front) (seated_next o log done s p front d) p) (stranded_at d (all_travelled front g)) more later taken
+        HistoryIsRecorded o (done ++ s ∷ []) (broke_off log s (seated_now o log done s p front) (seated_next o log done s p front d) p) (stranded_at d (all_travelled front g)) more later taken
     broken-recorded more later taken refused refused_are causes cut_ fails front d ds decides stay takes =
         let all_ : List Minute = front ++ (option_to_list d ++ ds) in
         let kept : List HistoryMinute = seated_now o log done s p front in
@@ -193,13 +193,13 @@ module _ (o : Origin) (done : List TraceSecond) (p : Progress) (g : Travel) (mar
           followed = breaks_off (rule_of o) (start_at o) o.from (first_of o) done p h.followed span is h.waiting s log by begun cut new kept rest.0 i decided rest.1;
           waiting = refl;
           legs = subst
-              (λ (ts : List Told).
+              (λ (ts : List ToldSecond).
               let front_ : List HistoryMinute = minutes_after (start_at o) (ts ++ t ∷ []) p.book.sure front in
               HasLegs (rule_of o) (first_of o) (done ++ s ∷ []) (broke_off log s front_ (option_map {T = Minute} (seated (start_at o) (ts ++ t ∷ []) (p.book.sure ++ front_)) d) p) (stranded_at d (all_travelled front g)))
               (same-told s log by)
               (legs.broken-travelled (rule_of o) (start_at o) o.from (first_of o) done p h.followed g h.legs span is h.waiting s log by begun cut front d ds decides);
           complete = acknowledged (rule_of o) (start_at o) o.from (first_of o) done p h.followed span is h.waiting s log by new decided marks more stay h.complete
-              (subst (λ (ts : List Told). AreAcknowledged more ts p.next t new) (sym (told-now s log by)) (cut-acks more new cut_)) (λ cut. fails);
+              (subst (λ (ts : List ToldSecond). AreAcknowledged more ts p.next t new) (sym (told-now s log by)) (cut-acks more new cut_)) (λ cut. fails);
           caused = second-caused (rule_of o) (start_at o) o.from (first_of o) done p h.followed s log by refused refused_are o.breakdowns mid later causes h.caused q refl (λ dark. inr cut_);
           image = stranded-image d (all_travelled front g) ∙ travelled-image front g ∙ h.image;
           accounts = λ c valid. second-accounted o.recording c o.from (first_of o) done p h.followed span is h.waiting s log by new decided q
@@ -224,7 +224,7 @@ second-is_broken o done p g marks more mid now later brought taken h span is s a
       finds = (m.finds, m.finds_are, m.finds_here);
     } in
     broken-recorded o done p g marks mid brought h s (and_break log cut) by (begun_by s at) (cut-now log s (begun_by s at) m.up_to.uncut) span is more later taken m.refused m.refused_are ends.1
-    (ap (λ (t : Told). t.cut) ends.0) fails front d ds decides stay takes
+    (ap (λ (t : ToldSecond). t.cut) ends.0) fails front d ds decides stay takes
 
 -- A POWER-ON FAILS
 pub failed-recorded : AFailedPowerOnIsRecorded
@@ -240,10 +240,10 @@ failed-recorded o done p g marks mid later brought h may s number given more bro
       waiting = refl;
       legs = legs.failure-travelled (rule_of o) (start_at o) o.from (first_of o) done p h.followed g h.legs may h.waiting s log by;
       complete = failure-stays (rule_of o) (start_at o) o.from (first_of o) done p h.followed may h.waiting s log by marks h.complete;
-      caused = second-caused (rule_of o) (start_at o) o.from (first_of o) done p h.followed s log by [] (sym (append-nil p.log.refused)) o.breakdowns mid later ends.1 h.caused (failed_on s p) refl (λ dark. inr (ap (λ (t : Told). t.cut) ends.0));
+      caused = second-caused (rule_of o) (start_at o) o.from (first_of o) done p h.followed s log by [] (sym (append-nil p.log.refused)) o.breakdowns mid later ends.1 h.caused (failed_on s p) refl (λ dark. inr (ap (λ (t : ToldSecond). t.cut) ends.0));
       image = h.image;
       accounts = λ c valid. failure-accounted o.recording c o.from (first_of o) done p h.followed may h.waiting s log by (length s.actions)
-          (accepts-none c (next_told log done s) (ap (λ (t : Told). t.course.found) ends.0)) (brought c) (h.accounts c valid);
+          (accepts-none c (next_told log done s) (ap (λ (t : ToldSecond). t.course.found) ends.0)) (brought c) (h.accounts c valid);
     }
 
 -- QUIET SECONDS
@@ -253,7 +253,7 @@ begun-none (suc n) = refl
 
 module _ (o : Origin) (c : Card) (speed : ℕ) (ks : List ℕ) where
   -- one of them
-  quiet-one : (done : List TraceSecond) (p : Progress) (f : Followed (rule_of o) (start_at o) o.from (first_of o) done p) (t : Told) (span : List Told) → p.supply ≡ Lit (t ∷ span) → p.waiting ≡ [] → p.next % 60 + 1 < 60 →
+  quiet-one : (done : List TraceSecond) (p : Progress) (f : BookFollowsRun (rule_of o) (start_at o) o.from (first_of o) done p) (t : ToldSecond) (span : List ToldSecond) → p.supply ≡ Lit (t ∷ span) → p.waiting ≡ [] → p.next % 60 + 1 < 60 →
       AreAccounted o.recording c (first_of o) done p ks →
       AreAccounted o.recording c (first_of o) (done ++ driven 1 p.next speed []) (quiet_on 1 speed (t ∷ span) (went p.log done).before.slots p) ks
   quiet-one done p f t span is none within a =
@@ -266,27 +266,27 @@ module _ (o : Origin) (c : Card) (speed : ℕ) (ks : List ℕ) where
       (second-ends_told (rule_of o) (start_at o) o.from (first_of o) done p f (t ∷ span) is s p.log nobody nobody keeps.0).0 ∙ ap (told_with false false s) (keeps.1 ∙ begins.1) in
       let decides = (quiet-go-on (rule_of o) (start_at o) o.from (first_of o) done p f t span is none 1 speed within).0 in
       second-accounted o.recording c o.from (first_of o) done p f (t ∷ span) is none s p.log (goes-itself p s refl refl) []
-      ([], ap (λ (x : Told). decided_of (rule_of o) ((t ∷ span) ++ x ∷ [])) told ∙ decides ∙ sym (append-nil (decided_of (rule_of o) (t ∷ span))), refl)
+      ([], ap (λ (x : ToldSecond). decided_of (rule_of o) ((t ∷ span) ++ x ∷ [])) told ∙ decides ∙ sym (append-nil (decided_of (rule_of o) (t ∷ span))), refl)
       (quiet_on 1 speed (t ∷ span) slots p)
       (record {
         log = refl;
         unfound = refl;
         next = omega arith;
-        supply = inl (ap (λ (x : Told). Lit ((t ∷ span) ++ x ∷ [])) (sym told), keeps.0.up_to.uncut);
+        supply = inl (ap (λ (x : ToldSecond). Lit ((t ∷ span) ++ x ∷ [])) (sym told), keeps.0.up_to.uncut);
         sure = ([], sym (append-nil p.book.sure));
       })
-      ks ks (λ k at. at) (inl (accepts-none c (next_told p.log done s) (ap (λ (x : Told). x.course.found) told))) a
+      ks ks (λ k at. at) (inl (accepts-none c (next_told p.log done s) (ap (λ (x : ToldSecond). x.course.found) told))) a
 
-  quiet-accounts : (n : ℕ) (done : List TraceSecond) (p : Progress) → Followed (rule_of o) (start_at o) o.from (first_of o) done p → (t : Told) (span : List Told) → p.supply ≡ Lit (t ∷ span) → p.waiting ≡ [] → p.next % 60 + n < 60 →
+  quiet-accounts : (n : ℕ) (done : List TraceSecond) (p : Progress) → BookFollowsRun (rule_of o) (start_at o) o.from (first_of o) done p → (t : ToldSecond) (span : List ToldSecond) → p.supply ≡ Lit (t ∷ span) → p.waiting ≡ [] → p.next % 60 + n < 60 →
       AreAccounted o.recording c (first_of o) done p ks → AreAccounted o.recording c (first_of o) (done ++ driven n p.next speed []) (quiet_on n speed (t ∷ span) (went p.log done).before.slots p) ks
   quiet-accounts zero done p f t span is none within a =
       subst (λ (d : List TraceSecond). AreAccounted o.recording c (first_of o) d (quiet_on 0 speed (t ∷ span) (went p.log done).before.slots p) ks) (sym (append-nil done))
       (subst (λ (k : ℕ). AreAccounted o.recording c (first_of o) done (record p { next = k; supply = Lit ((t ∷ span) ++ []) }) ks) (let e : p.next ≡ p.next + 0 = omega arith in e)
-      (subst (λ (sp : Supply). AreAccounted o.recording c (first_of o) done (record p { supply = sp }) ks) (is ∙ ap (λ (ts : List Told). Lit ts) (sym (append-nil (t ∷ span)))) a))
+      (subst (λ (sp : UnitPower). AreAccounted o.recording c (first_of o) done (record p { supply = sp }) ks) (is ∙ ap (λ (ts : List ToldSecond). Lit ts) (sym (append-nil (t ∷ span)))) a))
   quiet-accounts (suc n) done p f t span is none within a =
       let P : List TraceSecond → Progress → Type 0 = λ (d : List TraceSecond) (r : Progress). AreAccounted o.recording c (first_of o) d r ks in
       let slots : Slots = (went p.log done).before.slots in
-      let q : Told = quiet_second p.next speed slots in
+      let q : ToldSecond = quiet_second p.next speed slots in
       let s : TraceSecond = record { number = p.next; has_power = true; speed = speed; actions = [] } in
       let later : List TraceSecond = done ++ s ∷ [] in
       let p1 : Progress = quiet_on 1 speed (t ∷ span) slots p in
@@ -296,7 +296,7 @@ module _ (o : Origin) (c : Card) (speed : ℕ) (ks : List ℕ) where
       let same : (went p.log later).before.slots ≡ slots = ap (λ (w : Went). w.before.slots) (quiet-are-told (rule_of o) (start_at o) o.from (first_of o) done p f t span is 1 speed) in
       let next : p.next + 1 + n ≡ p.next + suc n = omega arith in
       subst (λ (d : List TraceSecond). P d (record p { next = p.next + suc n; begun = 0; supply = Lit ((t ∷ span) ++ q ∷ quiet_seconds n (p.next + 1) speed slots) })) (append_assoc done (s ∷ []) (driven n (p.next + 1) speed []))
-      (subst (λ (ts : List Told). P (later ++ driven n (p.next + 1) speed []) (record p { next = p.next + suc n; begun = 0; supply = Lit ts })) (append_assoc (t ∷ span) (q ∷ []) (quiet_seconds n (p.next + 1) speed slots))
+      (subst (λ (ts : List ToldSecond). P (later ++ driven n (p.next + 1) speed []) (record p { next = p.next + suc n; begun = 0; supply = Lit ts })) (append_assoc (t ∷ span) (q ∷ []) (quiet_seconds n (p.next + 1) speed slots))
       (subst (λ (sl : Slots). P (later ++ driven n (p.next + 1) speed []) (record p { next = p.next + suc n; begun = 0; supply = Lit (((t ∷ span) ++ q ∷ []) ++ quiet_seconds n (p.next + 1) speed sl) })) same
       (subst (λ (b : ℕ). P (later ++ driven n (p.next + 1) speed []) (record p { next = p.next + suc n; begun = b; supply = Lit (((t ∷ span) ++ q ∷ []) ++ quiet_seconds n (p.next + 1) speed (went p.log later).before.slots) })) (begun-none n)
       (subst (λ (k : ℕ). P (later ++ driven n (p.next + 1) speed []) (record p { next = k; begun = begun_after n 0; supply = Lit (((t ∷ span) ++ q ∷ []) ++ quiet_seconds n (p.next + 1) speed (went p.log later).before.slots) })) next rest))))

@@ -14,7 +14,7 @@ use Rattle.minute_model.proofs.Ranges.{last-push}
 use Rattle.log_model.specs.declared.lines.Break.{Break}
 use Rattle.log_model.specs.declared.lines.Break.TheVariants.{Cut, Tear}
 use Rattle.log_model.specs.Log.{RunLog, kept_after, kept_by}
-use Rattle.log_model.specs.Course.{Told, went}
+use Rattle.log_model.specs.Course.{ToldSecond, went}
 use Rattle.log_model.specs.Spans.{spans_of, seconds_in, first_in, end_in, AreApart}
 use Rattle.log_model.proofs.Spanning.{spanned}
 use Rattle.trace_model.specs.Trace.{TraceSecond}
@@ -30,7 +30,7 @@ use Rattle.run_unit_course.specs.Followed.{Lit, IsKnown}
 use Rattle.run_unit_course.proofs.Lines.{tells-front}
 use Rattle.run_unit_course.proofs.Alike.{decided-empty}
 use Rattle.run_unit_course.proofs.Spans.{snoc}
-use Rattle.run_course.specs.Followed.{Progress, Followed, IsShut}
+use Rattle.run_course.specs.Followed.{Progress, BookFollowsRun, IsShut}
 use Rattle.run_course.proofs.Lookups.{kept-by}
 use Rattle.safety_model.specs.Cards.{shows_lost}
 use Rattle.run_promise.specs.Accounts.{IsShownLost}
@@ -80,7 +80,7 @@ lost-shown : (log : RunLog) (until : ℕ) (i : HistoryMinute) → IsLostBy log u
 lost-shown log until i l u le = shown-by log.breaks l.second i.minute u l.told (let same = kept-by log l.second in let late = l.later in omega (arith, same, late)) l.before (let lt = l.by in omega (arith, lt, le))
 
 -- the minutes of a span have ended
-seated-minutes : (start : Start) (told : List Told) (n : ℕ) (past : List HistoryMinute) (ds : List Minute) → AllByRecursion (λ (d : Minute). 60 * d.minute + 60 ≤ n) ds → All (λ (i : HistoryMinute). 60 * i.minute + 60 ≤ n) (minutes_after start told past ds)
+seated-minutes : (start : Start) (told : List ToldSecond) (n : ℕ) (past : List HistoryMinute) (ds : List Minute) → AllByRecursion (λ (d : Minute). 60 * d.minute + 60 ≤ n) ds → All (λ (i : HistoryMinute). 60 * i.minute + 60 ≤ n) (minutes_after start told past ds)
 seated-minutes start told n past [] h = All-nil (λ (i : HistoryMinute). 60 * i.minute + 60 ≤ n)
 seated-minutes start told n past (d ∷ ds) h = All-cons (λ (i : HistoryMinute). 60 * i.minute + 60 ≤ n) (seated start told past d) (minutes_after start told (past ++ seated start told past d ∷ []) ds) h.0 (seated-minutes start told n (past ++ seated start told past d ∷ []) ds h.1)
 
@@ -89,23 +89,23 @@ cut-of true n q is = cc
 cut-of false n q is = cc
 
 -- the number of the last second of a span that is a cut's
-cut-last : (span : List Told) (q : ℕ) → 0 < length span → AreNumbered (first_in span) (seconds_in span) → cut_second (last span) ≡ Some q → end_in span ≡ suc q
+cut-last : (span : List ToldSecond) (q : ℕ) → 0 < length span → AreNumbered (first_in span) (seconds_in span) → cut_second (last span) ≡ Some q → end_in span ≡ suc q
 cut-last [] q some numbered cut = absurd (omega (arith, some))
 cut-last (t ∷ ts) q some numbered cut =
     let s = snoc t ts in
     let n = length-append s.front (s.t ∷ []) in
-    let same = ap (λ (zs : List Told). length zs) s.are in
-    let each = subst (λ (zs : List Told). AreNumbered (first_in (t ∷ ts)) (seconds_in zs)) s.are numbered in
-    let parts = numbered-parts (first_in (t ∷ ts)) (seconds_in s.front) (seconds_in (s.t ∷ [])) (subst (AreNumbered (first_in (t ∷ ts))) (map-append (λ (t : Told). t.second) s.front (s.t ∷ [])) each) in
+    let same = ap (λ (zs : List ToldSecond). length zs) s.are in
+    let each = subst (λ (zs : List ToldSecond). AreNumbered (first_in (t ∷ ts)) (seconds_in zs)) s.are numbered in
+    let parts = numbered-parts (first_in (t ∷ ts)) (seconds_in s.front) (seconds_in (s.t ∷ [])) (subst (AreNumbered (first_in (t ∷ ts))) (map-append (λ (t : ToldSecond). t.second) s.front (s.t ∷ [])) each) in
     let c = counted s.front in
     let here : s.t.second.number ≡ first_in (t ∷ ts) + length (seconds_in s.front) = parts.1.0 in
-    let is : cut_second (Some s.t) ≡ Some q = ap cut_second (sym (last-push s.front s.t) ∙ ap (λ (zs : List Told). last zs) (sym s.are)) ∙ cut in
+    let is : cut_second (Some s.t) ≡ Some q = ap cut_second (sym (last-push s.front s.t) ∙ ap (λ (zs : List ToldSecond). last zs) (sym s.are)) ∙ cut in
     let number : s.t.second.number ≡ q = cut-of s.t.cut s.t.second.number q is in
     omega (arith, here, c, n, same, number)
 
-module _ (rule : Rule) (start : Start) (log : RunLog) (found : List Break) (told : List Told) (until : ℕ) (tells : (q : ℕ) → tells_cut q found ≡ true → tells_cut q log.breaks ≡ true) where
+module _ (rule : Rule) (start : Start) (log : RunLog) (found : List Break) (told : List ToldSecond) (until : ℕ) (tells : (q : ℕ) → tells_cut q found ≡ true → tells_cut q log.breaks ≡ true) where
   -- a minute of a span's is kept up to its limit, or lost
-  limited-or_lost : (past : List HistoryMinute) (span : List Told) → 0 < length span → AreNumbered (first_in span) (seconds_in span) → end_in span ≤ until → IsKnown rule found span →
+  limited-or_lost : (past : List HistoryMinute) (span : List ToldSecond) → 0 < length span → AreNumbered (first_in span) (seconds_in span) → end_in span ≤ until → IsKnown rule found span →
       All (λ i. Contains (limited_to (limit_by log (cut_second (last span))) (span_minutes rule start told past span)) i ⊎ IsLostBy log until i.minute) (span_minutes rule start told past span)
   limited-or_lost past span some numbered ends (inl nothing) =
       subst (λ (ds : List Minute). All (λ i. Contains (limited_to (limit_by log (cut_second (last span))) (minutes_after start told past ds)) i ⊎ IsLostBy log until i.minute) (minutes_after start told past ds)) (sym nothing)
@@ -132,7 +132,7 @@ module _ (rule : Rule) (start : Start) (log : RunLog) (found : List Break) (told
       both-of is each = All-weaker (Contains is) (λ i. Contains is i × (60 * i.minute + 60 ≤ end_in span)) (λ i at. (at, All-contains (λ (j : HistoryMinute). 60 * j.minute + 60 ≤ end_in span) is i each at)) is (All-contains_itself is)
 
   -- of all spans that have ended
-  ended-or_lost : (from : ℕ) (past : List HistoryMinute) (spans : List (List Told)) → AreApart from spans until → AllByRecursion (IsKnown rule found) spans →
+  ended-or_lost : (from : ℕ) (past : List HistoryMinute) (spans : List (List ToldSecond)) → AreApart from spans until → AllByRecursion (IsKnown rule found) spans →
       All (λ i. Contains (history_by rule start (closed_limit log) told past spans) i ⊎ IsLostBy log until i.minute) (history_by rule start (limit_of log) told past spans)
   ended-or_lost from past [] apart known = All-nil (λ (i : HistoryMinute). Contains (history_by rule start (closed_limit log) told past []) i ⊎ IsLostBy log until i.minute)
   ended-or_lost from past (span ∷ later) apart known = by (any_long later) refl (λ past. ended-or_lost (end_in span) past later apart.3 known.1)
@@ -163,18 +163,18 @@ module _ (rule : Rule) (start : Start) (log : RunLog) (found : List Break) (told
           (limited-or_lost past span apart.0 apart.2 (apart-until (end_in span) until later apart.3) known.0)))
 
 -- POWER IS BACK and nothing is decided yet: each minute of the history is a sure one, or shown to be lost
-pub lost-is_shown : (rule : Rule) (start : Start) (from first : ℕ) (done : List TraceSecond) (p : Progress) → Followed rule start from first done (record p { supply = Lit []; waiting = [] }) →
+pub lost-is_shown : (rule : Rule) (start : Start) (from first : ℕ) (done : List TraceSecond) (p : Progress) → BookFollowsRun rule start from first done (record p { supply = Lit []; waiting = [] }) →
     All (λ i. Contains p.book.sure i ⊎ IsShownLost p.log p.next i) (unit_history rule start p.log (went p.log done).told)
 unfolding unit_history
 lost-is_shown rule start from first done p f =
-    let told : List Told = (went p.log done).told in
+    let told : List ToldSecond = (went p.log done).told in
     let spans : spans_of told ≡ f.ended = f.spans ∙ append-nil f.ended in
     let shut : IsShut rule start p.log (take p.unfound p.log.breaks) told f.ended [] p.book [] = f.tied in
     let closed : closed_history rule start p.log told f.ended ≡ p.book.sure =
     sym (append-nil (closed_history rule start p.log told f.ended)) ∙ ap (λ (ds : List Minute). closed_history rule start p.log told f.ended ++ minutes_after start told (closed_history rule start p.log told f.ended) ds) (sym (decided-empty rule))
     ∙ shut.minutes ∙ append-nil p.book.sure in
-    let apart : AreApart from f.ended p.next = subst (λ (n : ℕ). AreApart from f.ended n) (sym f.next) (subst (λ (ss : List (List Told)). AreApart from ss (from + length done)) spans (spanned p.log from done f.order).apart) in
-    subst (λ (ss : List (List Told)). All (λ i. Contains p.book.sure i ⊎ IsShownLost p.log p.next i) (history_by rule start (limit_of p.log) told [] ss)) (sym spans)
+    let apart : AreApart from f.ended p.next = subst (λ (n : ℕ). AreApart from f.ended n) (sym f.next) (subst (λ (ss : List (List ToldSecond)). AreApart from ss (from + length done)) spans (spanned p.log from done f.order).apart) in
+    subst (λ (ss : List (List ToldSecond)). All (λ i. Contains p.book.sure i ⊎ IsShownLost p.log p.next i) (history_by rule start (limit_of p.log) told [] ss)) (sym spans)
     (All-weaker (λ (i : HistoryMinute). Contains (closed_history rule start p.log told f.ended) i ⊎ IsLostBy p.log p.next i.minute) (λ i. Contains p.book.sure i ⊎ IsShownLost p.log p.next i)
     (λ i is. ⊎_elim (λ at. inl (subst (λ (is : List HistoryMinute). Contains is i) closed at)) (λ lost. inr (lost-shown p.log p.next i lost)) is)
     (history_by rule start (limit_of p.log) told [] f.ended)

@@ -8,11 +8,11 @@ use Rattle.history_model.specs.Book.{Book, IsMark}
 use Rattle.history_model.proofs.Books.{all-none, mark-more}
 use Rattle.device_rule.specs.Views.{UnitView, unit_view}
 use Rattle.run_promise.specs.Rule.{Started}
-use Rattle.run_promise.specs.Marks.{Holds}
+use Rattle.run_promise.specs.Marks.{UnitFollowsBook}
 use Rattle.run_promise.specs.Going.{IsTakenAt}
 use Rattle.run_promise.proofs.Accounts.{last-of}
 
-pub taken-last : (s : Started) (due : ℕ) (p b q : Book) (marks : List Mark) (new more : List HistoryMinute) (unit : State) → b.sure ≡ p.sure ++ new → q.sure ≡ b.sure ++ more → b.maybe ≡ None → Holds s due b marks unit →
+pub taken-last : (s : Started) (due : ℕ) (p b q : Book) (marks : List Mark) (new more : List HistoryMinute) (unit : State) → b.sure ≡ p.sure ++ new → q.sure ≡ b.sure ++ more → b.maybe ≡ None → UnitFollowsBook s due b marks unit →
     (u : List ℕ) → unit.may_leave u → IsTakenAt s.first p q new (last_kept u)
 taken-last s due p b q marks new more unit kept later none h u on =
     let v : UnitView = unit_view [] [] u in

@@ -21,7 +21,7 @@ use Rattle.log_model.specs.declared.lines.SlotFault.{SlotFault}
 use Rattle.log_model.specs.declared.lines.Verdict.{Verdict}
 use Rattle.log_model.specs.Log.{RunLog, Phase, In, Keeping, cut_in, is_torn_in, found_in, is_accepting}
 use Rattle.log_model.specs.Slots.{Slots, Sitting, in_slot, same_card, holds, refusal}
-use Rattle.log_model.specs.Course.{Told, Before, Course, Moved, Visit, Went, visits, leaves, begins, is_settling, with_slot, slot_told, both_told, carried_out, answered, moved_by, acted, all_acted, cut_told, fresh, lit_course, dark_course, unmoved, has_power, second_told, went_on, not_begun, went}
+use Rattle.log_model.specs.Course.{ToldSecond, Before, Course, Moved, Visit, Went, visits, leaves, begins, is_settling, with_slot, slot_told, both_told, carried_out, answered, moved_by, acted, all_acted, cut_told, fresh, lit_course, dark_course, unmoved, has_power, second_told, went_on, not_begun, went}
 use Rattle.log_model.specs.Spans.{spans_of}
 use Rattle.history_model.specs.Minutes.{HistoryMinute, is_crew, entry_in, on_card, card_history, up_to}
 use Rattle.history_model.specs.Presence.{Start, present_sitting, present_in, is_present, in_minute}
@@ -141,10 +141,10 @@ module _ (c : Card) where
   -- ---- seconds
 
   -- none of the cards that entered in a second is this one
-  abbrev pub AreOthers : Told → Type 0
+  abbrev pub AreOthers : ToldSecond → Type 0
   AreOthers t = All IsOther t.course.entered
 
-  abbrev pub StaysOut : Told → Type 0
+  abbrev pub StaysOut : ToldSecond → Type 0
   StaysOut t = IsOut t.course.slots
 
   lit-out : (log : RunLog) (s : TraceSecond) (starts : Bool) (slots : Slots) → All IsOther (lit_course log s starts slots).entered → IsOut slots → IsOut (lit_course log s starts slots).slots
@@ -152,7 +152,7 @@ module _ (c : Card) where
       let g = lit-goes log s starts slots in
       g.out (all-back IsOther (fresh starts slots).entered g.more (subst (All IsOther) g.entered others)) o
 
-  abbrev lit-told : RunLog → Before → TraceSecond → Told
+  abbrev lit-told : RunLog → Before → TraceSecond → ToldSecond
   lit-told log before s = record {
     second = record { number = s.number; speed = s.speed; picks = (lit_course log s (not before.running) before.slots).picks };
     given = s.has_power;
@@ -162,7 +162,7 @@ module _ (c : Card) where
     course = lit_course log s (not before.running) before.slots;
   }
 
-  abbrev dark-told : Before → TraceSecond → Told
+  abbrev dark-told : Before → TraceSecond → ToldSecond
   dark-told before s = record {
     second = record { number = s.number; speed = s.speed; picks = [] };
     given = s.has_power;
@@ -181,14 +181,14 @@ module _ (c : Card) where
 
   -- the seconds so far, behind others
   record HaveGone (w v : Went) : Type 0 where
-    pub more : List Told
+    pub more : List ToldSecond
     pub told : v.told ≡ w.told ++ more
     pub out : All AreOthers more → IsOut w.before.slots → All StaysOut more × IsOut v.before.slots
 
   seconds-go : (log : RunLog) (ss : List TraceSecond) (w : Went) → HaveGone w (fold (went_on log) w ss)
   seconds-go log [] w = record { more = []; told = sym (append-nil w.told); out = λ others o. (All-nil StaysOut, o) }
   seconds-go log (s ∷ ss) w =
-      let t : Told = second_told log w.before s in
+      let t : ToldSecond = second_told log w.before s in
       let rest = seconds-go log ss (went_on log w s) in
       record {
         more = t ∷ rest.more;
@@ -216,12 +216,12 @@ module _ (c : Card) where
   bare-history (i ∷ past) bare =
       history-append c (i ∷ []) past ∙ ap (λ (es : List Entry). es ++ card_history c past) (history-one c i ∙ All-head IsBare i past bare) ∙ bare-history past (All-tail IsBare i past bare)
 
-  last-out : (ts : List Told) (slot : Slot) → All StaysOut ts → holds (unwrap_or (option_map {T = Told} (λ t. in_slot t.course.slots slot) (last ts)) None) c ≡ false
+  last-out : (ts : List ToldSecond) (slot : Slot) → All StaysOut ts → holds (unwrap_or (option_map {T = ToldSecond} (λ t. in_slot t.course.slots slot) (last ts)) None) c ≡ false
   last-out [] slot out = refl
   last-out (t ∷ []) slot out = out-in t.course.slots slot (All-head StaysOut t [] out)
   last-out (t ∷ u ∷ ts) slot out = last-out (u ∷ ts) slot (All-tail StaysOut t (u ∷ ts) out)
 
-  sitting-none : (start : Start) (past : List HistoryMinute) (m : ℕ) (ts : List Told) (s : Option Sitting) → holds s c ≡ false → filter (same_card c) (option_to_list (present_sitting start past m ts s)) ≡ []
+  sitting-none : (start : Start) (past : List HistoryMinute) (m : ℕ) (ts : List ToldSecond) (s : Option Sitting) → holds s c ≡ false → filter (same_card c) (option_to_list (present_sitting start past m ts s)) ≡ []
   sitting-none start past m ts None is = refl
   sitting-none start past m ts (Some sitting) is = by (is_present start past m ts sitting.card sitting.accepted)
     where
@@ -229,19 +229,19 @@ module _ (c : Card) where
       by true = ap (λ (b : Bool). cond b (sitting.card ∷ []) []) (swapped c sitting.card ∙ is)
       by false = refl
 
-  present-none : (start : Start) (told : List Told) (past : List HistoryMinute) (m : ℕ) (slot : Slot) → All StaysOut told → filter (same_card c) (option_to_list (present_in start told past m slot)) ≡ []
+  present-none : (start : Start) (told : List ToldSecond) (past : List HistoryMinute) (m : ℕ) (slot : Slot) → All StaysOut told → filter (same_card c) (option_to_list (present_in start told past m slot)) ≡ []
   unfolding present_in
   present-none start told past m slot out =
-      let ts : List Told = in_minute m told in
-      sitting-none start past m ts (unwrap_or (option_map {T = Told} (λ t. in_slot t.course.slots slot) (last ts)) None) (last-out ts slot (All-filter (λ (t : Told). nat_eq (minute_of t.second) m) StaysOut told out))
+      let ts : List ToldSecond = in_minute m told in
+      sitting-none start past m ts (unwrap_or (option_map {T = ToldSecond} (λ t. in_slot t.course.slots slot) (last ts)) None) (last-out ts slot (All-filter (λ (t : ToldSecond). nat_eq (minute_of t.second) m) StaysOut told out))
 
-  seated-bare : (start : Start) (told : List Told) (past : List HistoryMinute) (d : Minute) → All StaysOut told → IsBare (seated start told past d)
+  seated-bare : (start : Start) (told : List ToldSecond) (past : List HistoryMinute) (d : Minute) → All StaysOut told → IsBare (seated start told past d)
   seated-bare start told past d out =
       let i : HistoryMinute = seated start told past d in
       ap (λ (cs : List Card). map (λ (x : Card). record { minute = i.minute; slot = Driver; crew = is_crew i; act = i.driver.act }) cs ++ entry_in c CoDriver i i.codriver) (present-none start told past d.minute Driver out)
       ∙ ap (λ (cs : List Card). map (λ (x : Card). record { minute = i.minute; slot = CoDriver; crew = is_crew i; act = i.codriver.act }) cs) (present-none start told past d.minute CoDriver out)
 
-  pub minutes-bare : (start : Start) (told : List Told) (past : List HistoryMinute) (ds : List Minute) → All StaysOut told → All IsBare (minutes_after start told past ds)
+  pub minutes-bare : (start : Start) (told : List ToldSecond) (past : List HistoryMinute) (ds : List Minute) → All StaysOut told → All IsBare (minutes_after start told past ds)
   minutes-bare start told past [] out = All-nil IsBare
   minutes-bare start told past (d ∷ ds) out =
       let i : HistoryMinute = seated start told past d in
@@ -254,14 +254,14 @@ module _ (c : Card) where
   limited-bare None past bare = bare
   limited-bare (Some k) past bare = up-bare k past bare
 
-  spans-bare : (rule : Rule) (start : Start) (limit : List Told → List (List Told) → Option ℕ) (told : List Told) (past : List HistoryMinute) (spans : List (List Told)) → All StaysOut told → All IsBare (history_by rule start limit told past spans)
+  spans-bare : (rule : Rule) (start : Start) (limit : List ToldSecond → List (List ToldSecond) → Option ℕ) (told : List ToldSecond) (past : List HistoryMinute) (spans : List (List ToldSecond)) → All StaysOut told → All IsBare (history_by rule start limit told past spans)
   spans-bare rule start limit told past [] out = All-nil IsBare
   spans-bare rule start limit told past (span ∷ later) out =
       let more : List HistoryMinute = limited_to (limit span later) (span_minutes rule start told past span) in
       All-append IsBare more (history_by rule start limit told (past ++ more) later) (limited-bare (limit span later) (span_minutes rule start told past span) (minutes-bare start told past (decided_of rule span) out))
       (spans-bare rule start limit told (past ++ more) later out)
 
-  pub unit-bare : (rule : Rule) (start : Start) (log : RunLog) (told : List Told) → All StaysOut told → All IsBare (unit_history rule start log told)
+  pub unit-bare : (rule : Rule) (start : Start) (log : RunLog) (told : List ToldSecond) → All StaysOut told → All IsBare (unit_history rule start log told)
   unfolding unit_history
   unit-bare rule start log told out = spans-bare rule start (limit_of log) told [] (spans_of told) out
 
@@ -274,21 +274,21 @@ others-in c (v ∷ vs) none = by (same_card c v.card) refl none (others-in c vs)
     by true is h rest = absurd (omega (arith, h))
     by false is h rest = All-cons (IsOther c) v vs is (rest h)
 
-pub others-told : (c : Card) (told : List Told) → length (flat_map (λ (t : Told). filter (λ (e : Visit). same_card c e.card) t.course.entered) told) ≡ 0 → All (AreOthers c) told
+pub others-told : (c : Card) (told : List ToldSecond) → length (flat_map (λ (t : ToldSecond). filter (λ (e : Visit). same_card c e.card) t.course.entered) told) ≡ 0 → All (AreOthers c) told
 others-told c [] none = All-nil (AreOthers c)
 others-told c (t ∷ told) none =
     let here : List Visit = filter (λ (e : Visit). same_card c e.card) t.course.entered in
-    let rest : List Visit = flat_map (λ (t : Told). filter (λ (e : Visit). same_card c e.card) t.course.entered) told in
+    let rest : List Visit = flat_map (λ (t : ToldSecond). filter (λ (e : Visit). same_card c e.card) t.course.entered) told in
     let sum = length-append here rest in
     All-cons (AreOthers c) t told (others-in c t.course.entered (omega (arith, sum, none))) (others-told c told (omega (arith, sum, none)))
 
 -- and where it has, it did so in one of these seconds
-pub entered-then : (c : Card) (told : List Told) → 0 < length (flat_map (λ (t : Told). filter (λ (e : Visit). same_card c e.card) t.course.entered) told) →
-    (t : Told) × Contains told t × (0 < length (filter (λ (e : Visit). same_card c e.card) t.course.entered))
+pub entered-then : (c : Card) (told : List ToldSecond) → 0 < length (flat_map (λ (t : ToldSecond). filter (λ (e : Visit). same_card c e.card) t.course.entered) told) →
+    (t : ToldSecond) × Contains told t × (0 < length (filter (λ (e : Visit). same_card c e.card) t.course.entered))
 entered-then c [] some = absurd (omega (arith, some))
 entered-then c (t ∷ told) some =
     let here : List Visit = filter (λ (e : Visit). same_card c e.card) t.course.entered in
-    let rest : List Visit = flat_map (λ (t : Told). filter (λ (e : Visit). same_card c e.card) t.course.entered) told in
+    let rest : List Visit = flat_map (λ (t : ToldSecond). filter (λ (e : Visit). same_card c e.card) t.course.entered) told in
     let sum = length-append here rest in
     ⊎_elim
     (λ (yes : 0 < length here). (t, Contains-append_left (t ∷ []) told t (Contains-push [] t), yes))
@@ -296,11 +296,11 @@ entered-then c (t ∷ told) some =
     (cases_lt 0 (length here))
 
 -- what entered up to a second in its minute
-abbrev up_to_here : Card → Told → Told → List Visit
+abbrev up_to_here : Card → ToldSecond → ToldSecond → List Visit
 up_to_here c t x = cond (nat_le x.second.number t.second.number && nat_eq (x.second.number / 60) (t.second.number / 60)) (filter (λ (e : Visit). same_card c e.card) x.course.entered) []
 
-pub entered-at : (c : Card) (told : List Told) (t : Told) → Contains told t → 0 < length (filter (λ (e : Visit). same_card c e.card) t.course.entered) →
-    0 < length (flat_map (λ (x : Told). cond (nat_le x.second.number t.second.number && nat_eq (x.second.number / 60) (t.second.number / 60)) (filter (λ (e : Visit). same_card c e.card) x.course.entered) []) told)
+pub entered-at : (c : Card) (told : List ToldSecond) (t : ToldSecond) → Contains told t → 0 < length (filter (λ (e : Visit). same_card c e.card) t.course.entered) →
+    0 < length (flat_map (λ (x : ToldSecond). cond (nat_le x.second.number t.second.number && nat_eq (x.second.number / 60) (t.second.number / 60)) (filter (λ (e : Visit). same_card c e.card) x.course.entered) []) told)
 entered-at c told t at some = by told at
   where
     least : (n : ℕ) → nat_le n n ≡ true
@@ -315,11 +315,11 @@ entered-at c told t at some = by told at
     here : up_to_here c t t ≡ filter (λ (e : Visit). same_card c e.card) t.course.entered
     here = ap (λ (b : Bool). cond b (filter (λ (e : Visit). same_card c e.card) t.course.entered) []) (self t.second.number)
 
-    by : (told : List Told) → Contains told t → 0 < length (flat_map (up_to_here c t) told)
+    by : (told : List ToldSecond) → Contains told t → 0 < length (flat_map (up_to_here c t) told)
     by [] at = absurd (omega (arith, at.1))
     by (x ∷ told) at =
         let sum = length-append (up_to_here c t x) (flat_map (up_to_here c t) told) in
         ⊎_elim
-        (λ first. ⊎_elim (λ none. absurd (omega (arith, none.1))) (λ (is : x ≡ t). let long : length (up_to_here c t x) ≡ length (filter (λ (e : Visit). same_card c e.card) t.course.entered) = ap (λ (y : Told). length (up_to_here c t y)) is ∙ ap length here in omega (arith, sum, long, some)) (Contains-push_cases [] x t first))
+        (λ first. ⊎_elim (λ none. absurd (omega (arith, none.1))) (λ (is : x ≡ t). let long : length (up_to_here c t x) ≡ length (filter (λ (e : Visit). same_card c e.card) t.course.entered) = ap (λ (y : ToldSecond). length (up_to_here c t y)) is ∙ ap length here in omega (arith, sum, long, some)) (Contains-push_cases [] x t first))
         (λ later. let rest = by told later in omega (arith, sum, rest))
         (Contains-append_cases (x ∷ []) told t at)

@@ -20,7 +20,7 @@ use Rattle.device_rule.specs.Views.{UnitView, unit_view, row, owed, owed_in, new
 use Rattle.device_rule.specs.Device.{Seen, LeavesViews, Nothing}
 use Rattle.device_rule.specs.Filling.{KeepsMinute, GivesUpDay}
 use Rattle.device_rule.specs.Steps.{IsKeeping, IsKept, IsUnkept, IsPutting, IsMending, IsBeginning}
-use Rattle.device_rule.specs.Rules.{Standing, Out, In, Torn, since, comes_from, Stands, Fits, IsPresent, CardDark, CardRule, IsEntered, Had}
+use Rattle.device_rule.specs.Rules.{Standing, Out, In, Torn, since, comes_from, MeetsStanding, Fits, IsPresent, CardDark, CardRule, IsEntered, Had}
 use Rattle.device_rule.specs.Marked.{of_card}
 use Rattle.device_rule.proofs.Owing.{owed-put, owed-beside, owed-mend, owed-new, row-same}
 use Rattle.device_rule.proofs.KeepLaws.{near, owed-grown}
@@ -177,7 +177,7 @@ module _ (f : Found) (c : Card) where
       (λ here. subst (λ (es : List Entry). StringGoesOn g c b z es x) (sym (same here.0 w x here.1 there here.2)) (by-view b z U card comes here.0 x here.1 there)) (run.now w (u, on, refl))
 
   -- an entry is put for the card, or for the other one
-  pub comes-put : (b : Book) (z : Standing) (e : Entry) (U V card : State) → IsPresent g.start z e.minute → ((u : UnitView) → (unit_seen f U).may_leave u → u.last < e.minute) → Stands c g.start g.began z [] (unit_seen f U) (of_card card) → LeavesViews (unit_seen f U) (unit_seen f V) (IsPutting c e) →
+  pub comes-put : (b : Book) (z : Standing) (e : Entry) (U V card : State) → IsPresent g.start z e.minute → ((u : UnitView) → (unit_seen f U).may_leave u → u.last < e.minute) → MeetsStanding c g.start g.began z [] (unit_seen f U) (of_card card) → LeavesViews (unit_seen f U) (unit_seen f V) (IsPutting c e) →
       MayBeBrought f c b z U card → MayBeBrought f c b z V card
   comes-put b z e U V card present early stands run = comes-same (IsPutting c e) b z U V card
       (λ u v x on there p. owed-put c e u v (own_view x) p (early u on) (near c g.start g.began z e.minute (unit_seen f U) (of_card card) stands present u (own_view x) on (x, there, refl))) run
@@ -220,7 +220,7 @@ module _ (f : Found) (c : Card) where
   comes-torn b session newest floor unit card comes u x on there = comes u x on there
 
   -- ALL OF IT
-  ahead-by : (z : Standing) (i : HistoryMinute) (U : Seen UnitView) (X : Seen CardView) → Stands c g.start g.began z [] U X → Fits c g.start z i → (x : CardView) → X.left_since g.began x → (on_card c i ≡ []) ⊎ (x.mark < i.minute)
+  ahead-by : (z : Standing) (i : HistoryMinute) (U : Seen UnitView) (X : Seen CardView) → MeetsStanding c g.start g.began z [] U X → Fits c g.start z i → (x : CardView) → X.left_since g.began x → (on_card c i ≡ []) ⊎ (x.mark < i.minute)
   ahead-by z i U X stands (inl none) x left = inl none
   ahead-by Out i U X stands (inr present) x left = absurd present
   ahead-by (In session newest) i U X stands (inr present) x left = inr (omega (arith, stands.1 x left, present.1))

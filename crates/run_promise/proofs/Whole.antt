@@ -15,7 +15,7 @@ use Rattle.minute_model.specs.declared.Minute.{Minute}
 use Rattle.log_model.specs.declared.lines.Break.{Break}
 use Rattle.log_model.specs.declared.lines.Mark.{Mark}
 use Rattle.log_model.specs.Log.{Phase}
-use Rattle.log_model.specs.Course.{Told, Visit}
+use Rattle.log_model.specs.Course.{ToldSecond, Visit}
 use Rattle.log_model.specs.Spans.{spans_of, AreInOrder}
 use Rattle.log_model.specs.Causes.{device_of, places, visit_places, in_the_slot, torn_of}
 use Rattle.history_model.specs.Minutes.{HistoryMinute, card_history, on_card}
@@ -61,13 +61,13 @@ placed u (x ∷ vs) v at = ⊎_elim
     (λ there. Contains-append_right (visit_places u (x ∷ [])) (visit_places u vs) (u, v.phase, v.slot) (placed u vs v there))
     (Contains-append_cases (x ∷ []) vs v at)
 
-torn-told : (told : List Told) (t : Told) (v : Visit) → Contains told t → Contains t.course.torn v → Contains (torn_of told) (t.second.number, v.phase, v.slot)
+torn-told : (told : List ToldSecond) (t : ToldSecond) (v : Visit) → Contains told t → Contains t.course.torn v → Contains (torn_of told) (t.second.number, v.phase, v.slot)
 torn-told [] t v at torn = absurd (omega (arith, at.1))
 torn-told (x ∷ told) t v at torn = ⊎_elim
     (λ here. ⊎_elim
     (λ none. absurd (omega (arith, none.1)))
     (λ (is : x ≡ t). Contains-append_left (visit_places x.second.number x.course.torn) (torn_of told) (t.second.number, v.phase, v.slot)
-    (subst (λ (y : Told). Contains (visit_places y.second.number y.course.torn) (t.second.number, v.phase, v.slot)) (sym is) (placed t.second.number t.course.torn v torn)))
+    (subst (λ (y : ToldSecond). Contains (visit_places y.second.number y.course.torn) (t.second.number, v.phase, v.slot)) (sym is) (placed t.second.number t.course.torn v torn)))
     (Contains-push_cases [] x t here))
     (λ there. Contains-append_right (visit_places x.second.number x.course.torn) (torn_of told) (t.second.number, v.phase, v.slot) (torn-told told t v there torn))
     (Contains-append_cases (x ∷ []) told t at)
@@ -88,7 +88,7 @@ in-slot slot (x ∷ ps) p is at = ⊎_elim
     here same false e = absurd (let clash : false ≡ true = sym e ∙ ap (λ (y : ℕ × Phase × Slot). same_slot y.2 slot) same ∙ is in cc)
 
 module _ (r : Recording) (marks : List Mark) (began now : Devices) (nothing : NothingFailed r.log) (safe : IsSafe r marks began now) (caused : IsCaused r marks began now) where
-  none-torn : (t : Told) (v : Visit) → Contains (told_of r) t → Contains t.course.torn v → ⊥
+  none-torn : (t : ToldSecond) (v : Visit) → Contains (told_of r) t → Contains t.course.torn v → ⊥
   none-torn t v at torn =
       let there = in-slot v.slot (torn_of (told_of r)) (t.second.number, v.phase, v.slot) (slot-itself v.slot) (torn-told (told_of r) t v at torn) in
       let same = caused.causes.failed_tears v.slot in
@@ -155,5 +155,5 @@ is-whole r marks began now n order nothing safe caused coherent early =
       card = λ c u valid accepted x left. is-full r marks began now nothing safe caused c valid u accepted x left;
     }
   where
-    marked : (span : List Told) (d : Minute) → Contains (spans_of (told_of r)) span → Contains (decided_of r.rule span) d → IsMarked marks Recorder d.minute
+    marked : (span : List ToldSecond) (d : Minute) → Contains (spans_of (told_of r)) span → Contains (decided_of r.rule span) d → IsMarked marks Recorder d.minute
     marked span d at in_ = ⊎_elim (λ m. m) (λ failed. absurd (no-failure r.log nothing.0 (deciding_of r.rule (settlings_of span) d.minute) failed)) (caused.complete.unit span d at in_)

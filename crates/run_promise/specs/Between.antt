@@ -15,14 +15,14 @@ use Rattle.unit_rule.specs.Recording.{Recording, card_image, brought, history_of
 use Rattle.unit_rule.specs.Cards.{acceptances, was_kept, MayNotWrite}
 use Rattle.unit_rule.specs.Safe.{Devices, card_of}
 use Rattle.unit_rule.specs.Rule.{started, once_mended}
-use Rattle.unit_rule.specs.Marks.{Holds}
+use Rattle.unit_rule.specs.Marks.{UnitFollowsBook}
 use Rattle.unit_rule.specs.OtherRows.{valid_number}
 use Rattle.run_promise.specs.Found.{Found, found_of}
 use Rattle.run_promise.specs.Cards.{CardStands, CardWaits, CardMarksHold, IsUntouched}
 
 -- what is carried from step to step: from where on a minute may come, the book, the marks, how each card stands, and the minutes that the
 -- unit had kept last, each time that it was accepted
-pub record Carried : Type 0 where
+pub record RunLedger : Type 0 where
   pub due : ℕ
   pub book : Book
   pub marks : List Mark
@@ -30,18 +30,18 @@ pub record Carried : Type 0 where
   pub brought : Card → List ℕ
 
 -- WHILE THE UNIT HAS POWER: it was mended, no minute is begun that may not be there, and each card that was valid stands
-pub record IsLit (f : Found) (w : Carried) (d : Devices) : Type 0 where
+pub record LedgerStandsPowered (f : Found) (w : RunLedger) (d : Devices) : Type 0 where
   pub tells : is_some d.unit.image ≡ true
   pub works : d.unit.works ≡ true
-  pub unit : Holds (once_mended f.unit) w.due w.book w.marks d.unit
+  pub unit : UnitFollowsBook (once_mended f.unit) w.due w.book w.marks d.unit
   pub none : w.book.maybe ≡ None
   pub cards : (c : Card) → IsOwnValid (found_of f c).image → CardStands f c w.book (w.standing c) (w.brought c) d.unit (card_of d c)
   pub marks : (c : Card) → CardMarksHold (found_of f c) c w.book w.marks (card_of d c)
 
 -- WITH POWER OR WITHOUT: a minute may be begun
-pub record IsCarried (f : Found) (w : Carried) (d : Devices) : Type 0 where
+pub record LedgerStands (f : Found) (w : RunLedger) (d : Devices) : Type 0 where
   pub tells : is_some d.unit.image ≡ true
-  pub unit : Holds f.unit w.due w.book w.marks d.unit
+  pub unit : UnitFollowsBook f.unit w.due w.book w.marks d.unit
   pub cards : (c : Card) → IsOwnValid (found_of f c).image → CardWaits f c w.book (w.standing c) (w.brought c) d.unit (card_of d c)
   pub marks : (c : Card) → CardMarksHold (found_of f c) c w.book w.marks (card_of d c)
 

@@ -2,7 +2,7 @@
 use Rattle.std.specs.Prelude.{◌≡◌, ℕ, ◌+◌, ◌/◌, ◌≤◌, min, List, [], ◌∷◌, ◌++◌, All, Contains}
 use Rattle.std.specs.List.{AllByRecursion}
 use Rattle.minute_model.specs.declared.Minute.{Minute}
-use Rattle.log_model.specs.Course.{Told}
+use Rattle.log_model.specs.Course.{ToldSecond}
 use Rattle.log_model.specs.Spans.{spans_of}
 use Rattle.history_model.specs.Minutes.{HistoryMinute}
 use Rattle.history_model.specs.History.{decided_of}
@@ -24,9 +24,9 @@ pub record IsBegunIn (r : Recording) (x : List ℕ) (day odometer : ℕ) : Type 
   pub has : i.minute ≤ last_kept x
   pub day_is : i.minute / 1440 ≡ day
   pub first : All (λ j. j.minute / 1440 ≡ day → i.minute ≤ j.minute) (history_of r)
-  pub earlier : List (List Told)
-  pub span : List Told
-  pub later : List (List Told)
+  pub earlier : List (List ToldSecond)
+  pub span : List ToldSecond
+  pub later : List (List ToldSecond)
   pub are : spans_of (told_of r) ≡ earlier ++ span ∷ later
   pub minute : Minute
   pub decided : Contains (decided_of r.rule span) minute

@@ -10,7 +10,7 @@ use Rattle.log_model.specs.declared.lines.Verdict.TheVariants.{Accepted, NotVali
 use Rattle.log_model.specs.Causes.{device_of, cards_torn}
 use Rattle.log_model.specs.Log.{RunLog}
 use Rattle.log_model.specs.Slots.{same_card}
-use Rattle.log_model.specs.Course.{Told, Visit}
+use Rattle.log_model.specs.Course.{ToldSecond, Visit}
 use Rattle.history_model.specs.Completeness.{IsMarked}
 use Rattle.unit_model.specs.Image.{odometer_at}
 use Rattle.unit_minutes.specs.DayOdometers.{RecordsDay}
@@ -55,7 +55,7 @@ AreFound unit (suc n) (b ∷ breaks) = WasFound unit b × AreFound unit n breaks
 -- WHAT WAS FOUND OF CARDS so far may be found of them, and what was found kept after the first so many breaks was kept, by the images that the
 -- devices have left since the start; and so many entries were brought, and acknowledged.
 pub record AreVerdicts (o : Origin) (done : List TraceSecond) (log : RunLog) (unfound : ℕ) (marks : List Mark) (d : Devices) : Type 0 where
-  pub each : (t : Told) (e : Visit) (v : Verdict) → Contains (told_of (recording_by o done log)) t → Contains t.course.found (e, v) →
+  pub each : (t : ToldSecond) (e : Visit) (v : Verdict) → Contains (told_of (recording_by o done log)) t → Contains t.course.found (e, v) →
       IsVerdict (recording_by o done log) (d.unit.left_since o.found.unit.began) ((card_of d e.card).left_since (found_of o.found e.card).began) e.card t.second.number v
       × BringsAll (recording_by o done log) marks e.card t.second.number v
   pub kept : AreFound (d.unit.left_since o.found.unit.began) unfound log.breaks
@@ -86,7 +86,7 @@ pub record EndsRun (r : Recording) (marks : List Mark) (began now : Devices) : T
   pub still : (c : Card) → filter (same_card c) (cards_torn (told_of r)) ≡ [] → breakdowns_of now (device_of c) ≡ breakdowns_of began (device_of c)
   -- What an acceptance brings of a card that enters for the first time: so many entries as the unit owed to it at the start, and each of them is
   -- acknowledged.
-  pub brings : (t : Told) (e : Visit) (v : Verdict) → Contains (told_of r) t → Contains t.course.found (e, v) → BringsAll r marks e.card t.second.number v
+  pub brings : (t : ToldSecond) (e : Visit) (v : Verdict) → Contains (told_of r) t → Contains t.course.found (e, v) → BringsAll r marks e.card t.second.number v
   -- The odometer of each image that a stop may leave is the start's and the whole kilometres of each span, up to its last-kept minute or one
   -- of which the keeping was broken off.
   pub odometer : (x : List ℕ) → now.unit.may_leave x → OdometerSafe r.rule r.log (told_of r) (odometer_at r.unit) x

@@ -10,21 +10,21 @@ use Rattle.log_model.specs.declared.lines.Refused.{Refused}
 use Rattle.log_model.specs.Log.{RunLog, cut_in, is_accepting}
 use Rattle.log_model.specs.Slots.{same_card}
 use Rattle.log_model.specs.Causes.{is_cut, second_of}
-use Rattle.log_model.specs.Course.{Told}
+use Rattle.log_model.specs.Course.{ToldSecond}
 use Rattle.history_model.specs.Minutes.{HistoryMinute}
 use Rattle.history_model.specs.Book.{Book, all, found, IsMark}
 use Rattle.run_unit_course.specs.Lines.{cut_at, found_from}
 use Rattle.run_unit_course.specs.Followed.{Lit, Due, Lost, MayPower, MayFail, IsDark}
 use Rattle.run_unit_course.specs.Turn.{span_at}
 use Rattle.run_course.specs.Moments.{and_break}
-use Rattle.run_course.specs.Followed.{Progress, Followed}
+use Rattle.run_course.specs.Followed.{Progress, BookFollowsRun}
 use Rattle.run_course.specs.Seconds.{GoesOnBy, next_told, DecidedBy, kept_all, broken_at}
 use Rattle.safety_model.specs.Recording.{Recording, start_of}
 use Rattle.safety_model.specs.Cards.{acceptances}
 use Rattle.run_promise.specs.Accounts.{so_far, IsAccount, HasAccounts}
 
 -- the acceptances of a card in a second
-abbrev pub acceptances_in : Card → Told → List ℕ
+abbrev pub acceptances_in : Card → ToldSecond → List ℕ
 acceptances_in c t = map (λ f. t.second.number) (filter (λ f. same_card c f.0.card && is_accepting f.1) t.course.found)
 
 -- a break is no cut, or one that is not earlier than a second
@@ -33,16 +33,16 @@ IsCutFrom u b = is_cut b ≡ true → u ≤ second_of b
 
 -- AN ACCOUNT while the run goes on: it is of a second that has gone, no minute that is decided later is earlier than that second's, and no
 -- earlier cut waits for what is found.
-pub record StandsFor (r : Recording) (c : Card) (first : ℕ) (done : List TraceSecond) (p : Progress) (u k : ℕ) : Type 0 where
+pub record AccountGoesOn (r : Recording) (c : Card) (first : ℕ) (done : List TraceSecond) (p : Progress) (u k : ℕ) : Type 0 where
   pub account : IsAccount (so_far r done p.log) c first p.book u k
   pub before : u < p.next
-  pub due : (span : List Told) → p.supply ≡ Lit span → u / 60 ≤ ungiven_of (span_at r.rule p.next span)
+  pub due : (span : List ToldSecond) → p.supply ≡ Lit span → u / 60 ≤ ungiven_of (span_at r.rule p.next span)
   pub cuts : AllByRecursion (IsCutFrom u) (drop p.unfound p.log.breaks)
 
 -- each acceptance so far has one; and while there is power no cut waits for what is found
 pub record AreAccounted (r : Recording) (c : Card) (first : ℕ) (done : List TraceSecond) (p : Progress) (ks : List ℕ) : Type 0 where
-  pub each : (u : ℕ) → Contains (acceptances (so_far r done p.log) c) u → (k : ℕ) × Contains ks k × StandsFor r c first done p u k
-  pub waits : (span : List Told) → p.supply ≡ Lit span → AllByRecursion (λ (b : Break). is_cut b ≡ false) (drop p.unfound p.log.breaks)
+  pub each : (u : ℕ) → Contains (acceptances (so_far r done p.log) c) u → (k : ℕ) × Contains ks k × AccountGoesOn r c first done p u k
+  pub waits : (span : List ToldSecond) → p.supply ≡ Lit span → AllByRecursion (λ (b : Break). is_cut b ≡ false) (drop p.unfound p.log.breaks)
 
 -- AN ACCEPTANCE in a second: the unit had kept this minute last, and none of those before the second and of those that it decides is later.
 pub record IsTakenAt (first : ℕ) (old later : Book) (new : List HistoryMinute) (k : ℕ) : Type 0 where
@@ -50,7 +50,7 @@ pub record IsTakenAt (first : ℕ) (old later : Book) (new : List HistoryMinute)
   pub newest : All (λ i. i.minute ≤ k) (old.sure ++ new)
 
 -- behind a second with power: the span goes on with it, or it is a cut's; and some of what it decided is sure
-pub record IsBehind (p q : Progress) (later : RunLog) (span : List Told) (s : TraceSecond) (t : Told) : Type 0 where
+pub record IsBehind (p q : Progress) (later : RunLog) (span : List ToldSecond) (s : TraceSecond) (t : ToldSecond) : Type 0 where
   pub log : q.log ≡ later
   pub unfound : q.unfound ≡ p.unfound
   pub next : q.next ≡ suc p.next
@@ -59,8 +59,8 @@ pub record IsBehind (p q : Progress) (later : RunLog) (span : List Told) (s : Tr
 
 -- ONE SECOND MORE with power, whole or a cut's
 abbrev pub ASecondIsAccounted : Type 0
-ASecondIsAccounted = (r : Recording) (c : Card) (from first : ℕ) (done : List TraceSecond) (p : Progress) → Followed r.rule (start_of r) from first done p →
-    (span : List Told) → p.supply ≡ Lit span → p.waiting ≡ [] → (s : TraceSecond) (later : RunLog) → GoesOnBy p later s →
+ASecondIsAccounted = (r : Recording) (c : Card) (from first : ℕ) (done : List TraceSecond) (p : Progress) → BookFollowsRun r.rule (start_of r) from first done p →
+    (span : List ToldSecond) → p.supply ≡ Lit span → p.waiting ≡ [] → (s : TraceSecond) (later : RunLog) → GoesOnBy p later s →
     (new : List HistoryMinute) → DecidedBy r.rule (start_of r) later done s span p.book new →
     (q : Progress) → IsBehind p q later span s (next_told later done s) →
     (ks more : List ℕ) → ((k : ℕ) → Contains ks k → Contains more k) →
@@ -73,7 +73,7 @@ KeptMinutesAreSure = (front : List HistoryMinute) (i : Option HistoryMinute) (b 
 
 -- A POWER-ON finds what was kept,
 abbrev pub FoundStaysAccounted : Type 0
-FoundStaysAccounted = (r : Recording) (c : Card) (from first : ℕ) (done : List TraceSecond) (p : Progress) → Followed r.rule (start_of r) from first done p →
+FoundStaysAccounted = (r : Recording) (c : Card) (from first : ℕ) (done : List TraceSecond) (p : Progress) → BookFollowsRun r.rule (start_of r) from first done p →
     MayPower p.supply p.next → (k : ℕ) → IsMark first (all p.book) k → All (λ i. i.minute ≤ k) p.book.sure → (ks : List ℕ) → AreAccounted r c first done p ks →
     AreAccounted r c first done (record p {
       log = record p.log { breaks = found_from p.unfound k p.log.breaks };
@@ -85,27 +85,27 @@ FoundStaysAccounted = (r : Recording) (c : Card) (from first : ℕ) (done : List
 
 -- or fails, before a card is accepted.
 abbrev pub AFailureStaysAccounted : Type 0
-AFailureStaysAccounted = (r : Recording) (c : Card) (from first : ℕ) (done : List TraceSecond) (p : Progress) → Followed r.rule (start_of r) from first done p →
+AFailureStaysAccounted = (r : Recording) (c : Card) (from first : ℕ) (done : List TraceSecond) (p : Progress) → BookFollowsRun r.rule (start_of r) from first done p →
     MayFail p.supply p.next → p.waiting ≡ [] → (s : TraceSecond) (later : RunLog) → GoesOnBy p later s → (begun : ℕ) → acceptances_in c (next_told later done s) ≡ [] →
     (ks : List ℕ) → AreAccounted r c first done p ks →
     AreAccounted r c first (done ++ s ∷ []) (record { log = later; unfound = p.unfound; next = suc p.next; begun = begun; supply = Lost; book = p.book; waiting = [] }) ks
 
 -- DARK SECONDS up to a minute's end,
 abbrev pub ADarkMinuteStaysAccounted : Type 0
-ADarkMinuteStaysAccounted = (r : Recording) (c : Card) (from first : ℕ) (done : List TraceSecond) (p : Progress) → Followed r.rule (start_of r) from first done p →
+ADarkMinuteStaysAccounted = (r : Recording) (c : Card) (from first : ℕ) (done : List TraceSecond) (p : Progress) → BookFollowsRun r.rule (start_of r) from first done p →
     p.supply ≡ Lost → (n speed : ℕ) (actions : List Action) (refused : List Refused) (begun : ℕ) → 0 < p.next % 60 → p.next % 60 + n ≤ 60 → (ks : List ℕ) → AreAccounted r c first done p ks →
     AreAccounted r c first (done ++ driven n p.next speed actions) (record p { log = record p.log { refused = refused }; next = p.next + n; begun = begun }) ks
 
 -- of an `off` line while there is no power,
 abbrev pub AnOffLineStaysAccounted : Type 0
-AnOffLineStaysAccounted = (r : Recording) (c : Card) (from first : ℕ) (done : List TraceSecond) (p : Progress) → Followed r.rule (start_of r) from first done p →
+AnOffLineStaysAccounted = (r : Recording) (c : Card) (from first : ℕ) (done : List TraceSecond) (p : Progress) → BookFollowsRun r.rule (start_of r) from first done p →
     IsDark p.supply → (n : ℕ) (ks : List ℕ) → AreAccounted r c first done p ks →
     AreAccounted r c first (done ++ dark (suc n) p.next) (record p { next = p.next + suc n; begun = 0; supply = Due }) ks
 
 -- and while there is.
 abbrev pub AnOffCutStaysAccounted : Type 0
-AnOffCutStaysAccounted = (r : Recording) (c : Card) (from first : ℕ) (done : List TraceSecond) (p : Progress) → Followed r.rule (start_of r) from first done p →
-    (t : Told) (span : List Told) → p.supply ≡ Lit (t ∷ span) → p.waiting ≡ [] → (n : ℕ) (ks : List ℕ) → AreAccounted r c first done p ks →
+AnOffCutStaysAccounted = (r : Recording) (c : Card) (from first : ℕ) (done : List TraceSecond) (p : Progress) → BookFollowsRun r.rule (start_of r) from first done p →
+    (t : ToldSecond) (span : List ToldSecond) → p.supply ≡ Lit (t ∷ span) → p.waiting ≡ [] → (n : ℕ) (ks : List ℕ) → AreAccounted r c first done p ks →
     AreAccounted r c first (done ++ dark (suc n) p.next)
     (record p { log = and_break p.log (cut_at (p.next - 1) false p.begun); next = p.next + suc n; begun = 0; supply = Due }) ks
 

@@ -10,7 +10,7 @@ use Rattle.history_model.specs.Book.{not_begun}
 use Rattle.device_rule.specs.Views.{UnitView, unit_view, owed, beyond}
 use Rattle.device_rule.specs.Rules.{Out}
 use Rattle.run_promise.specs.Found.{Found, found_of}
-use Rattle.run_promise.specs.Between.{Carried}
+use Rattle.run_promise.specs.Between.{RunLedger}
 
 -- a device begins with this image alone: a read gives it, and since then a stop leaves no other
 pub record BeginsAs (x : List ℕ) (device : State) : Type 0 where
@@ -29,5 +29,5 @@ pub record IsLookedAt (f : Found) (c : Card) (u x : List ℕ) (clock : ℕ) : Ty
   pub days : AreDays 0 (card_days (own_sizes x) x)
 
 -- what is carried before the first second: nothing is kept, and no card is accepted
-abbrev pub carried_first : (due : ℕ) → Carried
+abbrev pub carried_first : (due : ℕ) → RunLedger
 carried_first due = record { due = due; book = not_begun; marks = []; standing = λ c. Out; brought = λ c. [] }

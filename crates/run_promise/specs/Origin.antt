@@ -10,7 +10,7 @@ use Rattle.history_model.specs.Presence.{Start}
 use Rattle.history_model.specs.Completeness.{IsComplete}
 use Rattle.unit_model.specs.Image.{last_kept}
 use Rattle.run_unit_course.specs.Legs.{Travel}
-use Rattle.run_course.specs.Followed.{Progress, Followed}
+use Rattle.run_course.specs.Followed.{Progress, BookFollowsRun}
 use Rattle.run_course.specs.Caused.{WellCaused}
 use Rattle.run_course.specs.Travelled.{HasLegs}
 use Rattle.card_image.specs.Own.{IsOwnValid}
@@ -39,8 +39,8 @@ first_of o = last_kept o.recording.unit
 -- unit's image at the start; each line of the log has its cause, and what happened has its line; each decided minute is acknowledged but where
 -- a call failed, and each entry of a card but there or where it was torn out; and each acceptance of a card that was valid is accounted for.
 -- No decided minute waits.
-pub record HasRecorded (o : Origin) (done : List TraceSecond) (p : Progress) (g : Travel) (marks : List Mark) (now : Device → ℕ) (brought : Card → List ℕ) : Type 0 where
-  pub followed : Followed (rule_of o) (start_at o) o.from (first_of o) done p
+pub record HistoryIsRecorded (o : Origin) (done : List TraceSecond) (p : Progress) (g : Travel) (marks : List Mark) (now : Device → ℕ) (brought : Card → List ℕ) : Type 0 where
+  pub followed : BookFollowsRun (rule_of o) (start_at o) o.from (first_of o) done p
   pub waiting : p.waiting ≡ []
   pub legs : HasLegs (rule_of o) (first_of o) done p g
   pub image : g.image ≡ o.recording.unit

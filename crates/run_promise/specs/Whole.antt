@@ -2,7 +2,7 @@
 use Rattle.std.specs.Prelude.{◌≡◌, ℕ, ◌+◌, ◌*◌, ◌≤◌, true, false, List, [], All, Contains}
 use Rattle.trace_model.specs.declared.Card.{Card}
 use Rattle.log_model.specs.Log.{RunLog}
-use Rattle.log_model.specs.Course.{Told, Visit}
+use Rattle.log_model.specs.Course.{ToldSecond, Visit}
 use Rattle.log_model.specs.Spans.{spans_of}
 use Rattle.log_model.specs.Causes.{cuts, tears}
 use Rattle.history_model.specs.History.{settlings_of}
@@ -20,9 +20,9 @@ NothingFailed log = (cuts true log ≡ []) × (tears true log ≡ [])
 
 -- a `tear` line pulled the card out behind a minute's end, and no later than in the second that decided the minute
 pub record IsPulledBehind (r : Recording) (c : Card) (m : ℕ) : Type 0 where
-  pub span : List Told
+  pub span : List ToldSecond
   pub among : Contains (spans_of (told_of r)) span
-  pub t : Told
+  pub t : ToldSecond
   pub there : Contains (told_of r) t
   pub behind : 60 * (m + 1) ≤ t.second.number
   pub before : t.second.number ≤ deciding_of r.rule (settlings_of span) m

@@ -16,7 +16,7 @@ ghost use Rattle.history_model.specs.History.{unit_history};
 ghost use Rattle.history_model.specs.Book.{Book, Follows, IsMark, kept, broken};
 ghost use Rattle.run_unit_course.specs.Lines.{found_from};
 ghost use Rattle.run_unit_course.specs.Followed.{Lit};
-ghost use Rattle.run_course.specs.Followed.{Progress, Followed};
+ghost use Rattle.run_course.specs.Followed.{Progress, BookFollowsRun};
 ghost use Rattle.card_image.specs.Own.{IsOwnValid};
 ghost use Rattle.safety_model.specs.Safe.{IsSafe};
 ghost use Rattle.safety_model.specs.Recording.{Recording, card_image, start_of, history_of, lost_of};
@@ -24,9 +24,9 @@ ghost use Rattle.safety_model.specs.Cards.{shows_lost};
 ghost use Rattle.device_rule.specs.Rules.{Standing};
 ghost use Rattle.device_rule.specs.Marked.{HasBrought};
 ghost use Rattle.run_promise.specs.Rule.{Started};
-ghost use Rattle.run_promise.specs.Marks.{Holds};
+ghost use Rattle.run_promise.specs.Marks.{UnitFollowsBook};
 ghost use Rattle.run_promise.specs.Found.{Found};
-ghost use Rattle.run_promise.specs.Between.{Carried, IsCarried, IsFound, AreBrought, AreUntouched, devices};
+ghost use Rattle.run_promise.specs.Between.{RunLedger, LedgerStands, IsFound, AreBrought, AreUntouched, devices};
 ghost use Rattle.run_promise.specs.Accounts.{IsAccount, HasAccounts, IsShownLost};
 ghost use Rattle.run_promise.specs.Stays.{AddsLater, IsStep};
 ghost use Rattle.run_promise.specs.Going.{AreAccounted, IsTakenAt, ASecondIsAccounted, KeptMinutesAreSure, FoundStaysAccounted, AFailureStaysAccounted, ADarkMinuteStaysAccounted, AnOffLineStaysAccounted, AnOffCutStaysAccounted, NothingIsAccountedYet, TheEndIsAccounted};
@@ -63,7 +63,7 @@ pub fn an_acceptance_is_accounted()
 
 /// While power has just come back, each minute of the history is a sure one, or shown to be lost.
 pub fn what_is_lost_is_shown()
-    ensures { (rule : Rule) (start : Start) (from first : ℕ) (done : List TraceSecond) (p : Progress) → Followed rule start from first done (record p { supply = Lit []; waiting = [] }) →
+    ensures { (rule : Rule) (start : Start) (from first : ℕ) (done : List TraceSecond) (p : Progress) → BookFollowsRun rule start from first done (record p { supply = Lit []; waiting = [] }) →
         All (λ i. Contains p.book.sure i ⊎ IsShownLost p.log p.next i) (unit_history rule start p.log (went p.log done).told) }
 {}
 
@@ -77,7 +77,7 @@ pub fn a_second_is_accounted()
 /// second decides, and nothing was half kept.
 pub fn an_acceptance_is_taken_at_the_last_kept_minute<M: Medium>(unit: &M)
     ensures { (s : Started) (due : ℕ) (p b q : Book) (marks : List Mark) (new more : List HistoryMinute) → b.sure ≡ p.sure ++ new → q.sure ≡ b.sure ++ more → b.maybe ≡ None →
-        Holds s due b marks (M.state unit.now) → (u : List ℕ) → (M.state unit.now).may_leave u → IsTakenAt s.first p q new (last_kept u) }
+        UnitFollowsBook s due b marks (M.state unit.now) → (u : List ℕ) → (M.state unit.now).may_leave u → IsTakenAt s.first p q new (last_kept u) }
 {}
 
 /// The minutes that a second kept are sure then.
@@ -133,10 +133,10 @@ pub fn what_is_followed_and_carried_is_safe<
     E: Chip,
     F: Chip,
 >(old_unit: &M, old_a: &C, old_b: &D, unit: &N, card_a: &E, card_b: &F)
-    ensures { (r : Recording) (f : Found) (w : Carried) (from : ℕ) (p : Progress) → Decodes r.unit →
+    ensures { (r : Recording) (f : Found) (w : RunLedger) (from : ℕ) (p : Progress) → Decodes r.unit →
         IsFound r f (devices (M.state old_unit.now) (C.state old_a.now) (D.state old_b.now)) →
-        Followed r.rule (start_of r) from (last_kept r.unit) r.trace p → p.log ≡ r.log → w.book ≡ p.book →
-        IsCarried f w (devices (N.state unit.now) (E.state card_a.now) (F.state card_b.now)) →
+        BookFollowsRun r.rule (start_of r) from (last_kept r.unit) r.trace p → p.log ≡ r.log → w.book ≡ p.book →
+        LedgerStands f w (devices (N.state unit.now) (E.state card_a.now) (F.state card_b.now)) →
         ((c : Card) → IsOwnValid (card_image r c) → AreAccounted r c (last_kept r.unit) r.trace p (w.brought c)) →
         AreUntouched r f (devices (N.state unit.now) (E.state card_a.now) (F.state card_b.now)) →
         IsSafe r w.marks (devices (M.state old_unit.now) (C.state old_a.now) (D.state old_b.now)) (devices (N.state unit.now) (E.state card_a.now) (F.state card_b.now)) }

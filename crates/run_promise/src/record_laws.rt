@@ -4,9 +4,9 @@ ghost use Rattle.log_model.specs.declared.lines.Mark.{Mark};
 ghost use Rattle.unit_model.specs.Decoding.{Decodes};
 ghost use Rattle.run_unit_course.specs.Legs.{Travel};
 ghost use Rattle.safety_model.specs.Safe.{breakdowns_of};
-ghost use Rattle.run_promise.specs.Between.{Carried, IsCarried, IsFound, devices};
+ghost use Rattle.run_promise.specs.Between.{RunLedger, LedgerStands, IsFound, devices};
 ghost use Rattle.run_course.specs.Followed.{Progress};
-ghost use Rattle.run_promise.specs.Origin.{Origin, HasRecorded};
+ghost use Rattle.run_promise.specs.Origin.{Origin, HistoryIsRecorded};
 ghost use Rattle.run_promise.specs.Beside.{FindsGoOn, NothingIsFound, CardsAreSpared, IdleCardsAreSpared, ASecondTellsMore, FoundTellsNoMore, QuietSecondsTellMore, DarkSecondsTellMore, AnOffLineTellsMore, AnOffCutTellsMore, FewerAreFound, FewAreFoundOn};
 ghost use Rattle.run_promise.specs.Ends.{recording_by, IsBeside, EndsRun};
 ghost use Rattle.run_promise.specs.Seconds.{NothingIsRecorded, WhatWasKeptIsFound, MoreIsRecorded, ASecondIsRecorded, ASecondIsBroken, AFailedPowerOnIsRecorded, QuietSecondsAreRecorded, DarkSecondsAreRecorded, AnOffLineIsRecorded, AnOffCutIsRecorded};
@@ -67,11 +67,11 @@ pub fn what_is_recorded_is_promised<M: Medium, C: Chip, D: Chip, N: Medium, E: C
     card_a: &E,
     card_b: &F,
 )
-    ensures { (o : Origin) (done : List TraceSecond) (p : Progress) (g : Travel) (marks : List Mark) (w : Carried) → Decodes o.recording.unit →
+    ensures { (o : Origin) (done : List TraceSecond) (p : Progress) (g : Travel) (marks : List Mark) (w : RunLedger) → Decodes o.recording.unit →
         IsFound (recording_by o done p.log) o.found (devices (M.state old_unit.now) (C.state old_a.now) (D.state old_b.now)) →
         o.breakdowns ≡ breakdowns_of (devices (M.state old_unit.now) (C.state old_a.now) (D.state old_b.now)) →
-        HasRecorded o done p g marks (breakdowns_of (devices (N.state unit.now) (E.state card_a.now) (F.state card_b.now))) w.brought →
-        IsCarried o.found w (devices (N.state unit.now) (E.state card_a.now) (F.state card_b.now)) → w.book ≡ p.book → w.marks ≡ marks →
+        HistoryIsRecorded o done p g marks (breakdowns_of (devices (N.state unit.now) (E.state card_a.now) (F.state card_b.now))) w.brought →
+        LedgerStands o.found w (devices (N.state unit.now) (E.state card_a.now) (F.state card_b.now)) → w.book ≡ p.book → w.marks ≡ marks →
         IsBeside o done p g marks (devices (N.state unit.now) (E.state card_a.now) (F.state card_b.now)) →
         EndsRun (recording_by o done p.log) marks (devices (M.state old_unit.now) (C.state old_a.now) (D.state old_b.now)) (devices (N.state unit.now) (E.state card_a.now) (F.state card_b.now)) }
 {}

@@ -14,7 +14,7 @@ ghost use Rattle.device_rule.specs.Views.{UnitView, other};
 ghost use Rattle.device_rule.specs.Device.{LeavesViews, Nothing};
 ghost use Rattle.device_rule.specs.Filling.{KeepsMinute, GivesUpDay};
 ghost use Rattle.device_rule.specs.Steps.{IsKeeping, IsPutting, IsBeginning, IsMending};
-ghost use Rattle.device_rule.specs.Rules.{Brings, Standing, Out, In, Torn, Stands, IsPresent, IsEntered, CardDark};
+ghost use Rattle.device_rule.specs.Rules.{Brings, Standing, Out, In, Torn, MeetsStanding, IsPresent, IsEntered, CardDark};
 ghost use Rattle.device_rule.specs.Marked.{of_card, IsBefore, IsBeside};
 ghost use Rattle.unit_rule.specs.Recording.{Recording, card_image, history_of, lost_of};
 ghost use Rattle.unit_rule.specs.Safe.{IsSafe};
@@ -22,7 +22,7 @@ ghost use Rattle.unit_rule.specs.Rule.{started};
 ghost use Rattle.run_promise.specs.Found.{Found, found_of, unit_seen, AnyKept};
 ghost use Rattle.run_promise.specs.Cards.{CardWaits, MayKeep, IsStrung};
 ghost use Rattle.run_promise.specs.Opening.{BeginsAs, as_found, IsLookedAt, carried_first};
-ghost use Rattle.run_promise.specs.Between.{Carried, IsLit, IsCarried, IsFound, AreBrought, AreUntouched, devices};
+ghost use Rattle.run_promise.specs.Between.{RunLedger, LedgerStandsPowered, LedgerStands, IsFound, AreBrought, AreUntouched, devices};
 
 use tach_media::{Chip, Medium};
 
@@ -43,13 +43,13 @@ pub fn what_the_opening_finds_is_carried<M: Medium, C: Chip, D: Chip>(
         BeginsAs u (M.state unit.now) → BeginsAs a (C.state card_a.now) → BeginsAs b (D.state card_b.now) →
         f.unit ≡ started u f.unit.number_a f.unit.number_b (M.state unit.now).clock → (found_of f A).image ≡ a → (found_of f B).image ≡ b →
         (IsOwnValid a → IsLookedAt f A u a (C.state card_a.now).clock) → (IsOwnValid b → IsLookedAt f B u b (D.state card_b.now).clock) →
-        IsCarried f (carried_first due) (devices (M.state unit.now) (C.state card_a.now) (D.state card_b.now)) }
+        LedgerStands f (carried_first due) (devices (M.state unit.now) (C.state card_a.now) (D.state card_b.now)) }
 {}
 
 /// While the unit has power a run carries what it carries with power or without.
 pub fn what_is_lit_is_carried<M: Medium, C: Chip, D: Chip>(unit: &M, card_a: &C, card_b: &D)
-    ensures { (f : Found) (w : Carried) → IsLit f w (devices (M.state unit.now) (C.state card_a.now) (D.state card_b.now)) →
-        IsCarried f w (devices (M.state unit.now) (C.state card_a.now) (D.state card_b.now)) }
+    ensures { (f : Found) (w : RunLedger) → LedgerStandsPowered f w (devices (M.state unit.now) (C.state card_a.now) (D.state card_b.now)) →
+        LedgerStands f w (devices (M.state unit.now) (C.state card_a.now) (D.state card_b.now)) }
 {}
 
 /// THE CRASH-SAFETY THEOREM, from what a run carries at its end: the unit and the cards stand as a book says that follows the history,
@@ -62,10 +62,10 @@ pub fn what_is_carried_is_safe<M: Medium, C: Chip, D: Chip, N: Medium, E: Chip, 
     card_a: &E,
     card_b: &F,
 )
-    ensures { (r : Recording) (f : Found) (w : Carried) (from : ℕ) → Decodes r.unit → AreInOrder from r.trace → last_kept r.unit < from / 60 →
+    ensures { (r : Recording) (f : Found) (w : RunLedger) (from : ℕ) → Decodes r.unit → AreInOrder from r.trace → last_kept r.unit < from / 60 →
         IsFound r f (devices (M.state old_unit.now) (C.state old_a.now) (D.state old_b.now)) →
         Follows (history_of r) (lost_of r) w.book →
-        IsCarried f w (devices (N.state unit.now) (E.state card_a.now) (F.state card_b.now)) →
+        LedgerStands f w (devices (N.state unit.now) (E.state card_a.now) (F.state card_b.now)) →
         ((c : Card) → IsOwnValid (card_image r c) → AreBrought r c w.book (w.brought c)) →
         AreUntouched r f (devices (N.state unit.now) (E.state card_a.now) (F.state card_b.now)) →
         IsSafe r w.marks (devices (M.state old_unit.now) (C.state old_a.now) (D.state old_b.now)) (devices (N.state unit.now) (E.state card_a.now) (F.state card_b.now)) }
@@ -91,7 +91,7 @@ pub fn a_string_waits_for_the_unit<M: Medium, N: Medium, C: Chip>(before: &M, af
         IsStrung f c b z (M.state before.now) (C.state card.now) → IsStrung f c b z (N.state after.now) (C.state card.now) }
     ensures put { (f : Found) (c : Card) (b : Book) (z : Standing) (e : Entry) → IsPresent (found_of f c).start z e.minute →
         IsBefore f.card_a.number f.card_b.number e.minute (M.state before.now) →
-        Stands c (found_of f c).start (found_of f c).began z [] (unit_seen f (M.state before.now)) (of_card (C.state card.now)) →
+        MeetsStanding c (found_of f c).start (found_of f c).began z [] (unit_seen f (M.state before.now)) (of_card (C.state card.now)) →
         LeavesViews (unit_seen f (M.state before.now)) (unit_seen f (N.state after.now)) (IsPutting c e) →
         IsStrung f c b z (M.state before.now) (C.state card.now) → IsStrung f c b z (N.state after.now) (C.state card.now) }
     ensures put_beside { (f : Found) (c : Card) (b : Book) (z : Standing) (e : Entry) →

@@ -5,10 +5,10 @@ use Rattle.activity_codec.specs.declared.values.Pick.{Pick}
 use Rattle.trace_model.specs.declared.Action.TheVariants.{Select, Place, Manual}
 use Rattle.trace_model.specs.Trace.{TraceSecond}
 use Rattle.minute_model.specs.Span.{Span, picked, ungiven_of}
-use Rattle.minute_rules.specs.Kept.{Kept, StandsFor}
+use Rattle.minute_rules.specs.Kept.{Kept, CountsSpan}
 use Rattle.log_model.specs.declared.lines.SlotFault.{SlotFault}
 use Rattle.log_model.specs.Log.{RunLog, Phase, In}
-use Rattle.log_model.specs.Course.{Told, Course, went}
+use Rattle.log_model.specs.Course.{ToldSecond, Course, went}
 use Rattle.safety_model.specs.Safe.{Devices, breakdowns_of}
 use Rattle.run_course.specs.Followed.{Progress}
 use Rattle.run_course.specs.Moments.{and_refused}
@@ -20,16 +20,16 @@ use Rattle.run_course.proofs.Kept.{selection-heard, nothing-else}
 use Rattle.run_promise.specs.Origin.{Origin, rule_of, start_at}
 use Rattle.run_devices.specs.Presence.{PresentStand}
 use Rattle.run_record.specs.Recorded.{Values}
-use Rattle.run_record.specs.Within.{told_before, course_in, IsFoundSo, MayBeWrittenSo, IsSparedSo, Within, GoesOn, ARefusalIsRecorded, ASelectionIsRecorded, AnEntryByHandIsRecorded, APlaceIsRecorded}
+use Rattle.run_record.specs.Within.{told_before, course_in, IsFoundSo, MayBeWrittenSo, IsSparedSo, RecordInSecond, SecondGoesOn, ARefusalIsRecorded, ASelectionIsRecorded, AnEntryByHandIsRecorded, APlaceIsRecorded}
 use Rattle.run_record.proofs.Back.{back-plain}
 use Rattle.run_record.proofs.Stays.{goes-still}
 use Rattle.run_record.proofs.Written.{written-on, spared-on}
 
-module _ (o : Origin) (done : List TraceSecond) (s : TraceSecond) (at : Phase) (v : Values) (d : Devices) (w : Within o done s at [] None [] v d) where
+module _ (o : Origin) (done : List TraceSecond) (s : TraceSecond) (at : Phase) (v : Values) (d : Devices) (w : RecordInSecond o done s at [] None [] v d) where
   abbrev p : Progress
   p = w.b.run
 
-  abbrev told0 : List Told
+  abbrev told0 : List ToldSecond
   told0 = told_before w.b done
 
   abbrev c : Course
@@ -40,8 +40,8 @@ module _ (o : Origin) (done : List TraceSecond) (s : TraceSecond) (at : Phase) (
   but picks refused = record c { picks = picks; refused = refused }
 
   acted : (log : RunLog) (next : Phase) (picks : List (Slot × Pick)) (refused : List (ℕ × SlotFault)) (minutes : Kept) (sp : Span) → Moment p (went p.log done).before s next log [] w.b.broken (breakdowns_of d) →
-      course_in w.b done s next log ≡ but picks refused → StandsFor minutes sp → ungiven_of sp ≡ ungiven_of w.sp →
-      HasDecided (rule_of o) (start_at o) told0 p w.b.span (but picks refused) None sp w.ds [] w.new → GoesOn o done s next [] None [] (record v { log = log; minutes = minutes }) d w.b w.from
+      course_in w.b done s next log ≡ but picks refused → CountsSpan minutes sp → ungiven_of sp ≡ ungiven_of w.sp →
+      HasDecided (rule_of o) (start_at o) told0 p w.b.span (but picks refused) None sp w.ds [] w.new → SecondGoesOn o done s next [] None [] (record v { log = log; minutes = minutes }) d w.b w.from
   acted log next picks refused minutes sp m is stands still decided = record {
     began = refl;
     from = refl;

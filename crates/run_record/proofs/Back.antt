@@ -6,7 +6,7 @@ use Rattle.trace_model.specs.declared.Card.TheVariants.{A, B}
 use Rattle.trace_model.specs.Trace.{TraceSecond}
 use Rattle.log_model.specs.Log.{RunLog, Phase}
 use Rattle.log_model.specs.Slots.{Slots}
-use Rattle.log_model.specs.Course.{Told, Before, Visit}
+use Rattle.log_model.specs.Course.{ToldSecond, Before, Visit}
 use Rattle.history_model.specs.Minutes.{HistoryMinute}
 use Rattle.history_model.specs.Presence.{Start}
 use Rattle.safety_model.specs.Safe.{Devices}
@@ -16,7 +16,7 @@ use Rattle.run_crew.specs.declared.cabin.Cabin.{Cabin}
 use Rattle.run_course.specs.Presence.{SlotsTell}
 use Rattle.run_promise.specs.Origin.{Origin, start_at}
 use Rattle.run_record.specs.Recorded.{Values, AreBack}
-use Rattle.run_record.specs.Within.{told_before, course_in, AreBackAt, Within}
+use Rattle.run_record.specs.Within.{told_before, course_in, AreBackAt, RecordInSecond}
 
 same-number : (u : ℕ) → nat_eq u u ≡ true
 same-number u = grind (arith, nat_tests)
@@ -26,7 +26,7 @@ left-then left A n is = ap (λ (o : Option ℕ). is_minute o n) is ∙ same-numb
 left-then left B n is = ap (λ (o : Option ℕ). is_minute o n) is ∙ same-number n
 
 -- none left later than now
-pub left-by_now : (start : Start) (told : List Told) (past : List HistoryMinute) (left : List Card) (number from : ℕ) (slots : Slots) (k : Kept) → SlotsTell start told past left number from slots k →
+pub left-by_now : (start : Start) (told : List ToldSecond) (past : List HistoryMinute) (left : List Card) (number from : ℕ) (slots : Slots) (k : Kept) → SlotsTell start told past left number from slots k →
     (card : Card) → IfSome (left_of k.left card) (λ n. n ≤ number / 60)
 left-by_now start told past left number from slots k h = λ card. by (left_of k.left card) card refl
   where
@@ -34,7 +34,7 @@ left-by_now start told past left number from slots k h = λ card. by (left_of k.
     by None card is = tt
     by (Some n) card is = h.latest card n (left-then k.left card n is)
 
-pub back-by_now : (start : Start) (told : List Told) (past : List HistoryMinute) (left : List Card) (number from : ℕ) (slots : Slots) (cabin : Cabin) → SlotsTell start told past left number from slots cabin.slots → AreBack (number / 60) cabin
+pub back-by_now : (start : Start) (told : List ToldSecond) (past : List HistoryMinute) (left : List Card) (number from : ℕ) (slots : Slots) (cabin : Cabin) → SlotsTell start told past left number from slots cabin.slots → AreBack (number / 60) cabin
 back-by_now start told past left number from slots cabin h = λ card some. left-by_now start told past left number from slots cabin.slots h card
 
 pub low-too : (low m : ℕ) (o : Option ℕ) → low ≤ m → IfSome o (λ left. left ≤ low) → IfSome o (λ left. left ≤ m)
@@ -46,7 +46,7 @@ pub back-at : (log : RunLog) (before : Before) (s : TraceSecond) (at : Phase) (l
 back-at log before s at low high cabin h = λ card some. inl (h card some)
 
 -- once all minutes that a second has decided are kept, a card that is leaving is back too
-module _ (o : Origin) (done : List TraceSecond) (s : TraceSecond) (at : Phase) (waits : List Visit) (speed : Option ℕ) (v : Values) (d : Devices) (w : Within o done s at waits speed [] v d) where
+module _ (o : Origin) (done : List TraceSecond) (s : TraceSecond) (at : Phase) (waits : List Visit) (speed : Option ℕ) (v : Values) (d : Devices) (w : RecordInSecond o done s at waits speed [] v d) where
   pub back-plain : AreBack w.from v.cabin
   back-plain = λ card some. ⊎_elim
       (λ plain. plain)

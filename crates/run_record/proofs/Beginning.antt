@@ -6,7 +6,7 @@ use Rattle.log_model.specs.declared.lines.Verdict.{Verdict}
 use Rattle.log_model.specs.Log.{RunLog, In}
 use Rattle.log_model.specs.Slots.{Slots}
 use Rattle.log_model.specs.Spans.{AreInOrder}
-use Rattle.log_model.specs.Course.{Told, Went, Course, Visit, second_told, before_next, fresh, went}
+use Rattle.log_model.specs.Course.{ToldSecond, Went, Course, Visit, second_told, before_next, fresh, went}
 use Rattle.log_model.proofs.Growth.{went-more}
 use Rattle.log_model.proofs.Spanning.{IsNext, next-told, order-parts}
 use Rattle.history_model.specs.Minutes.{HistoryMinute}
@@ -21,27 +21,27 @@ use Rattle.run_crew.specs.declared.cards.Accepted.{Accepted}
 use Rattle.run_crew.specs.declared.cabin.Cabin.{Cabin}
 use Rattle.run_crew.specs.Cards.{session_of}
 use Rattle.run_promise.specs.Found.{Found, found_of}
-use Rattle.run_course.specs.Followed.{Followed, HadActions}
+use Rattle.run_course.specs.Followed.{BookFollowsRun, HadActions}
 use Rattle.run_course.specs.Presence.{SlotsTell, EndsWith}
 use Rattle.run_course.proofs.Presence.{goes-on, minute-ends as told-ends}
 use Rattle.run_course.specs.Moment.{Moment}
 use Rattle.run_course.specs.Kept.{BrokenSince}
 use Rattle.run_course.proofs.Moment.{moment-begins}
 use Rattle.run_course.proofs.Kept.{nothing-decided, nothing-marked}
-use Rattle.run_devices.specs.Told.{GoesWith, GoesOwing, IsPowered}
+use Rattle.run_devices.specs.Told.{GoesWith, GoesOwing, DevicesPowered}
 use Rattle.run_promise.specs.Origin.{Origin, rule_of, start_at, first_of}
 use Rattle.run_devices.specs.Presence.{PresentStand, SessionsStand}
 use Rattle.run_devices.proofs.Presence.{minute-ends}
-use Rattle.run_record.specs.Recorded.{Values, progress, carried, slots_of, AreBack, IsWrittenSince, IsWritten, IsOn, Recorded}
-use Rattle.run_record.specs.Within.{Beginning, course_in, MayBeWrittenSo, GoesOn, undecided_from, ASecondBegins, AMinuteIsOver}
+use Rattle.run_record.specs.Recorded.{Values, progress, carried, slots_of, AreBack, IsWrittenSince, IsWritten, RecordPowered, RecordBetweenSeconds}
+use Rattle.run_record.specs.Within.{Beginning, course_in, MayBeWrittenSo, SecondGoesOn, undecided_from, ASecondBegins, AMinuteIsOver}
 use Rattle.run_record.proofs.Written.{written-begins}
 
 -- who was present stands so later in the second
-broken-later : (told : List Told) (c : Course) (card : Card) (from number later : ℕ) → number ≤ later → BrokenSince told c card from number → BrokenSince told c card from later
+broken-later : (told : List ToldSecond) (c : Course) (card : Card) (from number later : ℕ) → number ≤ later → BrokenSince told c card from number → BrokenSince told c card from later
 broken-later told c card from number later le (inl h) = inl (h.0, h.1, h.2, (let low = h.3 in omega (arith, low, le)), h.4)
 broken-later told c card from number later le (inr h) = inr ((let low = h.0 in omega (arith, low, le)), h.1)
 
-pub present-later : (f : Found) (standing : Card → Standing) (told : List Told) (c : Course) (number later from : ℕ) (cabin : Cabin) → number ≤ later → PresentStand f standing told c number from cabin → PresentStand f standing told c later from cabin
+pub present-later : (f : Found) (standing : Card → Standing) (told : List ToldSecond) (c : Course) (number later from : ℕ) (cabin : Cabin) → number ≤ later → PresentStand f standing told c number from cabin → PresentStand f standing told c later from cabin
 present-later f standing told c number later from cabin le h = record {
   seated = h.seated;
   ended = λ m present card low is in_.
@@ -63,7 +63,7 @@ ends-with log from done begun next had order is = record {
     last_one : TraceSecond
     last_one = record { number = had.number; has_power = true; speed = had.speed; actions = had.actions }
 
-    t : Told
+    t : ToldSecond
     t = second_told log (went log had.before).before last_one
 
     same : went log done ≡ record { told = (went log had.before).told ++ t ∷ []; before = before_next (went log had.before).before t }
@@ -78,7 +78,7 @@ ends-with log from done begun next had order is = record {
 
 -- who goes with a session stands so
 sessions-stand : (o : Origin) (v : Values) (due : ℕ) (book : Book) (standing : Card → Standing) (brought : Card → List ℕ) (d : Devices) →
-    IsPowered o.found (carried v due book standing brought) v.cabin.cards d → SessionsStand o.found standing v.cabin.cards
+    DevicesPowered o.found (carried v due book standing brought) v.cabin.cards d → SessionsStand o.found standing v.cabin.cards
 sessions-stand o v due book standing brought d h card a valid is = by (h.go.goes card valid)
   where
     by : GoesOwing (found_of o.found card) card book [] (standing card) (session_of v.cabin.cards card) (card_of d card) → (t : ℕ) × (standing card ≡ IsInAt t a.session.minute)
@@ -87,8 +87,8 @@ sessions-stand o v due book standing brought d h card a valid is = by (h.go.goes
         (on.time, on.stands)
 
 -- ALL OF IT, where slots and presence are told so
-module _ (o : Origin) (done : List TraceSecond) (s : TraceSecond) (t : Told) (span : List Told) (v : Values) (d : Devices) (r : Recorded o done (Lit (t ∷ span)) v d) (number : s.number ≡ v.next) (given : s.has_power ≡ true) where
-  abbrev told0 : List Told
+module _ (o : Origin) (done : List TraceSecond) (s : TraceSecond) (t : ToldSecond) (span : List ToldSecond) (v : Values) (d : Devices) (r : RecordBetweenSeconds o done (Lit (t ∷ span)) v d) (number : s.number ≡ v.next) (given : s.has_power ≡ true) where
+  abbrev told0 : List ToldSecond
   told0 = (went v.log done).told
 
   abbrev slots0 : Slots
@@ -103,7 +103,7 @@ module _ (o : Origin) (done : List TraceSecond) (s : TraceSecond) (t : Told) (sp
   abbrev c : Course
   c = course_in b done s (In 0) v.log
 
-  abbrev on : IsOn o done (t ∷ span) v (carried v r.due r.book r.standing r.brought) d
+  abbrev on : RecordPowered o done (t ∷ span) v (carried v r.due r.book r.standing r.brought) d
   on = r.held
 
   begins : Moment b.run (went v.log done).before s (In 0) v.log [] (breakdowns_of d) (breakdowns_of d) × (c ≡ fresh false slots0)
@@ -113,7 +113,7 @@ module _ (o : Origin) (done : List TraceSecond) (s : TraceSecond) (t : Told) (sp
   same P = subst P (sym begins.1)
 
   begun : (k : SlotsKept) → SlotsTell (start_at o) told0 r.book.sure [] s.number from slots0 k → PresentStand o.found r.standing told0 (fresh false slots0) s.number from (record v.cabin { slots = k }) →
-      AreBack from (record v.cabin { slots = k }) → ((card : Card) (time : ℕ) → IsWrittenSince o v.cabin.slots (v.next - 1) card time → IsWrittenSince o k s.number card time) → GoesOn o done s (In 0) [] None [] (record v { cabin = record v.cabin { slots = k } }) d b from
+      AreBack from (record v.cabin { slots = k }) → ((card : Card) (time : ℕ) → IsWrittenSince o v.cabin.slots (v.next - 1) card time → IsWrittenSince o k s.number card time) → SecondGoesOn o done s (In 0) [] None [] (record v { cabin = record v.cabin { slots = k } }) d b from
   begun k tells present back since = record {
     began = refl;
     from = refl;
@@ -176,7 +176,7 @@ second-begins d o done s t span v r number given minute =
     on.back
     (λ card time h. record { stored = h.stored; past = (let past = h.past in omega (arith, past, number)); stays = h.stays })
   where
-    on : IsOn o done (t ∷ span) v (carried v r.due r.book r.standing r.brought) d
+    on : RecordPowered o done (t ∷ span) v (carried v r.due r.book r.standing r.brought) d
     on = r.held
 
 pub minute-over : (d : Devices) → AMinuteIsOver d
@@ -192,8 +192,8 @@ minute-over d o done s t span v r number given starts minute low high stands =
     from : ℕ
     from = undecided_from o (t ∷ span) v
 
-    f : Followed (rule_of o) (start_at o) o.from (first_of o) done (progress v (Lit (t ∷ span)) r.book)
+    f : BookFollowsRun (rule_of o) (start_at o) o.from (first_of o) done (progress v (Lit (t ∷ span)) r.book)
     f = r.recorded.followed
 
-    on : IsOn o done (t ∷ span) v (carried v r.due r.book r.standing r.brought) d
+    on : RecordPowered o done (t ∷ span) v (carried v r.due r.book r.standing r.brought) d
     on = r.held

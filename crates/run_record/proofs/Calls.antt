@@ -5,7 +5,7 @@ use Rattle.trace_model.specs.declared.Card.{Card}
 use Rattle.trace_model.specs.declared.Card.TheVariants.{A, B}
 use Rattle.trace_model.specs.Trace.{TraceSecond}
 use Rattle.tach_media.specs.Medium.{State, IsCoherent, LeavesOnly, Unchanged, Rose, HasCause, last_count, revivable}
-use Rattle.minute_rules.specs.Kept.{Kept, StandsFor}
+use Rattle.minute_rules.specs.Kept.{Kept, CountsSpan}
 use Rattle.log_model.specs.declared.lines.Mark.{Mark}
 use Rattle.log_model.specs.Causes.{device_of, RoseBy}
 use Rattle.history_model.specs.Minutes.{HistoryMinute}
@@ -15,28 +15,28 @@ use Rattle.device_rule.specs.Views.{unit_view}
 use Rattle.unit_model.specs.Image.{last_kept, odometer_at}
 use Rattle.unit_minutes.specs.declared.notes.Notes.{Notes}
 use Rattle.unit_minutes.specs.Mends.{IsMending}
-use Rattle.run_unit_course.specs.Followed.{Supply, MayPower}
+use Rattle.run_unit_course.specs.Followed.{UnitPower, MayPower}
 use Rattle.run_unit_course.specs.Legs.{resumed}
 use Rattle.run_unit_course.specs.Travelled.{MayShow}
 use Rattle.run_unit_course.specs.Turn.{span_at}
 use Rattle.unit_rule.specs.Rule.{Started}
 use Rattle.device_calls.specs.Rule.{IsHeldMended, Both, CardRests, IsTakenUp}
-use Rattle.unit_rule.specs.Marks.{Holds}
+use Rattle.unit_rule.specs.Marks.{UnitFollowsBook}
 use Rattle.unit_rule.specs.Odometer.{ShowsOdometer, HasTravelled}
 use Rattle.unit_rule.proofs.Moves.{shown-last}
 use Rattle.unit_rule.proofs.Travelling.{travelled-read, travelled-found}
 use Rattle.card_image.specs.Own.{IsOwnValid}
 use Rattle.device_calls.specs.Times.{AreTimedSince}
 use Rattle.safety_model.specs.Safe.{Devices, card_of, breakdowns_of}
-use Rattle.run_promise.specs.Between.{Carried, devices}
+use Rattle.run_promise.specs.Between.{RunLedger, devices}
 use Rattle.run_promise.specs.Cards.{IsUntouched}
 use Rattle.run_promise.specs.Found.{found_of}
 use Rattle.run_course.specs.Telling.{IsMore}
-use Rattle.run_devices.specs.Told.{carried_found, IsPowerless}
+use Rattle.run_devices.specs.Told.{carried_found, DevicesUnpowered}
 use Rattle.run_devices.proofs.Power.{found-powerless, unread-powerless, mended-powered, mended-powerless}
 use Rattle.run_devices.proofs.Travelled.{travelled-mended}
 use Rattle.run_promise.specs.Origin.{Origin, rule_of, first_of}
-use Rattle.run_record.specs.Recorded.{Values, carried, AreThere, IsOff, Recorded}
+use Rattle.run_record.specs.Recorded.{Values, carried, AreThere, RecordUnpowered, RecordBetweenSeconds}
 use Rattle.run_record.specs.Powering.{GoOn, WasRead, IsBack, IsOnlyRead, IsNotRead}
 use Rattle.run_record.proofs.Powering.{off-of}
 
@@ -81,11 +81,11 @@ module _ (o : Origin) (d : Devices) (V : State) (rise : d.unit.breakdowns ≤ V.
       still B h = h
 
 -- WITHOUT POWER the unit is called
-module _ (o : Origin) (done : List TraceSecond) (supply : Supply) (v : Values) (d : Devices) (r : Recorded o done supply v d) (may : MayPower supply v.next) (V : State) (whole : IsCoherent d.unit) (run : LeavesOnly d.unit V Unchanged) where
-  abbrev w : Carried
+module _ (o : Origin) (done : List TraceSecond) (supply : UnitPower) (v : Values) (d : Devices) (r : RecordBetweenSeconds o done supply v d) (may : MayPower supply v.next) (V : State) (whole : IsCoherent d.unit) (run : LeavesOnly d.unit V Unchanged) where
+  abbrev w : RunLedger
   w = carried v r.due r.book r.standing r.brought
 
-  off : IsOff o done v w d
+  off : RecordUnpowered o done v w d
   off = off-of o done supply v w d may r.held
 
   began : o.found.unit.began ≤ d.unit.clock
@@ -105,7 +105,7 @@ module _ (o : Origin) (done : List TraceSecond) (supply : Supply) (v : Values) (
     abbrev k : ℕ
     k = last_kept x
 
-    read : IsPowerless o.found (carried_found k w) (devices V d.card_a d.card_b)
+    read : DevicesUnpowered o.found (carried_found k w) (devices V d.card_a d.card_b)
     read = found-powerless o.found w d V r.found.two whole after wholes off.powerless run works x is
 
     odometers : (shown : ShowsOdometer (odometer_at o.recording.unit) r.book r.travel x) × HasTravelled (odometer_at o.recording.unit) (found k r.book) (resumed shown.leg r.travel) V
@@ -126,7 +126,7 @@ module _ (o : Origin) (done : List TraceSecond) (supply : Supply) (v : Values) (
 
     -- and its mending wrote this
     module _ (j : Notes) (W : State) (failed : Bool) (mends : LeavesOnly V W (IsMending j)) (tells : is_some W.image ≡ is_some V.image) (cause : HasCause V W failed)
-        (holds : (s : Started) (due : ℕ) (b : Book) (marks : List Mark) → Holds s due b marks V → IsHeldMended s due b marks W)
+        (holds : (s : Started) (due : ℕ) (b : Book) (marks : List Mark) → UnitFollowsBook s due b marks V → IsHeldMended s due b marks W)
         (taken_a : (q : Both) (c : Card) (b : Book) (z : Standing) → CardRests q c b z V d.card_a → IsTakenUp q c b z failed W d.card_a)
         (taken_b : (q : Both) (c : Card) (b : Book) (z : Standing) → CardRests q c b z V d.card_b → IsTakenUp q c b z failed W d.card_b) where
       goes : GoOn o d (devices W d.card_a d.card_b)
@@ -139,7 +139,7 @@ module _ (o : Origin) (done : List TraceSecond) (supply : Supply) (v : Values) (
       was-read : WasRead o k (devices W d.card_a d.card_b)
       was-read = (x, goes.left.unit x (whole.counts_now o.found.unit.began x began before), refl)
 
-      pub is-back : failed ≡ false → (minutes : Kept) → StandsFor minutes (span_at (rule_of o) v.next []) → IsBack o done supply v d r k minutes (devices W d.card_a d.card_b)
+      pub is-back : failed ≡ false → (minutes : Kept) → CountsSpan minutes (span_at (rule_of o) v.next []) → IsBack o done supply v d r k minutes (devices W d.card_a d.card_b)
       is-back well minutes stands = record {
         leg = odometers.0.leg;
         shows = shows;

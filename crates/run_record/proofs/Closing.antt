@@ -6,7 +6,7 @@ use Rattle.trace_model.specs.Trace.{TraceSecond}
 use Rattle.log_model.specs.declared.lines.Break.{Break}
 use Rattle.log_model.specs.Log.{Phase}
 use Rattle.log_model.specs.Slots.{Slots, Sitting, same_card, in_slot}
-use Rattle.log_model.specs.Course.{Told, Course, Visit, Before, visits, card_in as card_of_sitting, went}
+use Rattle.log_model.specs.Course.{ToldSecond, Course, Visit, Before, visits, card_in as card_of_sitting, went}
 use Rattle.device_rule.specs.Rules.{Out}
 use Rattle.safety_model.specs.Safe.{Devices, breakdowns_of}
 use Rattle.card_slots.specs.Calls.{seat_in, is_card}
@@ -25,12 +25,12 @@ use Rattle.run_course.specs.Kept.{StaysOut}
 use Rattle.run_course.proofs.Reached.{leaves-first}
 use Rattle.run_course.proofs.Telling.{card-torn, breakdowns-only}
 use Rattle.run_course.proofs.Kept.{nothing-else}
-use Rattle.run_devices.specs.Told.{IsPowered, for_card}
+use Rattle.run_devices.specs.Told.{DevicesPowered, for_card}
 use Rattle.run_promise.specs.Origin.{Origin, rule_of, start_at}
 use Rattle.run_devices.specs.Presence.{PresentStand, IsSeated, sits}
 use Rattle.run_devices.proofs.Presence.{none-to_keep}
 use Rattle.run_record.specs.Recorded.{Values, carried, AreBack}
-use Rattle.run_record.specs.Within.{told_before, course_in, AreOld, Within, GoesOn}
+use Rattle.run_record.specs.Within.{told_before, course_in, AreOld, RecordInSecond, SecondGoesOn}
 use Rattle.run_record.specs.Taking.{IsCalledLeaving, closed_values, fallen_values, ASessionIsClosed, AClosingFails, ALeavingCardIsTorn, ALeavingTearFails}
 use Rattle.run_record.proofs.Back.{back-at, back-plain}
 use Rattle.run_record.proofs.Sitting.{seated-still}
@@ -38,14 +38,14 @@ use Rattle.run_record.proofs.Stays.{goes-still}
 use Rattle.run_record.proofs.Seats.{no-both, this-or, for-other, old-less, found-less, none-sits, sits-back, seat-tells, nowhere-none, nowhere-not, emptied, tells-still}
 use Rattle.run_record.proofs.Onward.{IsStep, steps-on, step-fails}
 
-module _ (o : Origin) (done : List TraceSecond) (s : TraceSecond) (at : Phase) (v : Values) (d e : Devices) (w : Within o done s at [] None [] v d) (slot : Slot) (card : Card) (k : IsCalledLeaving o done s at v d e w slot card) where
+module _ (o : Origin) (done : List TraceSecond) (s : TraceSecond) (at : Phase) (v : Values) (d e : Devices) (w : RecordInSecond o done s at [] None [] v d) (slot : Slot) (card : Card) (k : IsCalledLeaving o done s at v d e w slot card) where
   abbrev p : Progress
   p = w.b.run
 
   abbrev was : Before
   was = (went p.log done).before
 
-  abbrev told0 : List Told
+  abbrev told0 : List ToldSecond
   told0 = told_before w.b done
 
   abbrev c : Course
@@ -89,7 +89,7 @@ module _ (o : Origin) (done : List TraceSecond) (s : TraceSecond) (at : Phase) (
     travels = k.travels;
   }
 
-  pub closed-goes : IsMore (breakdowns_of d) (breakdowns_of e) → IsPowered o.found (carried v w.due (kept_all w.new w.b.run.book) (for_card card Out w.standing) w.brought) closed.cabin.cards e → GoesOn o done s at [] None [] closed e w.b w.from
+  pub closed-goes : IsMore (breakdowns_of d) (breakdowns_of e) → DevicesPowered o.found (carried v w.due (kept_all w.new w.b.run.book) (for_card card Out w.standing) w.brought) closed.cabin.cards e → SecondGoesOn o done s at [] None [] closed e w.b w.from
   closed-goes rise powered = steps-on o done s at at [] [] [] v closed d e w w.sp (step-closed rise) (record {
     minutes = w.minutes;
     until = w.until;
@@ -162,7 +162,7 @@ module _ (o : Origin) (done : List TraceSecond) (s : TraceSecond) (at : Phase) (
     old-now : AreOld v.cabin.cards later.cabin.cards
     old-now x some = old-less card x v.cabin.cards (old-less card x (with_session card None v.cabin.cards) some)
 
-    pub torn-goes : IsPowered o.found (carried v w.due (kept_all w.new w.b.run.book) (for_card card Out w.standing) w.brought) later.cabin.cards e → GoesOn o done s at [] None [] later e w.b w.from
+    pub torn-goes : DevicesPowered o.found (carried v w.due (kept_all w.new w.b.run.book) (for_card card Out w.standing) w.brought) later.cabin.cards e → SecondGoesOn o done s at [] None [] later e w.b w.from
     torn-goes powered = steps-on o done s at at [] [] [] v later d e w w.sp step-torn (record {
       minutes = w.minutes;
       until = w.until;

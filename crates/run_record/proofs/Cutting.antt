@@ -18,7 +18,7 @@ use Rattle.log_model.specs.declared.lines.Verdict.{Verdict}
 use Rattle.log_model.specs.Log.{RunLog, Phase, In, Keeping}
 use Rattle.log_model.specs.Slots.{Slots, Sitting, is_accepted}
 use Rattle.log_model.specs.Causes.{second_of}
-use Rattle.log_model.specs.Course.{Told, Went, Course, Visit, powerless, is_settling, cut_told, went}
+use Rattle.log_model.specs.Course.{ToldSecond, Went, Course, Visit, powerless, is_settling, cut_told, went}
 use Rattle.history_model.specs.Minutes.{HistoryMinute}
 use Rattle.history_model.specs.Presence.{Start}
 use Rattle.history_model.specs.History.{seated, decided_of}
@@ -36,7 +36,7 @@ use Rattle.run_crew.specs.Cards.{known_of, with_session}
 use Rattle.run_crew.proofs.Sessions.{all_gone}
 use Rattle.run_promise.specs.Found.{Found, found_of}
 use Rattle.run_course.specs.Moments.{and_break}
-use Rattle.run_course.specs.Followed.{Progress, Followed}
+use Rattle.run_course.specs.Followed.{Progress, BookFollowsRun}
 use Rattle.run_course.specs.Seconds.{GoesOnBy, next_told, kept_all, broken_at}
 use Rattle.run_course.specs.Presence.{SlotsTell}
 use Rattle.run_course.specs.Within.{not_begun}
@@ -52,14 +52,14 @@ use Rattle.run_course.proofs.Telling.{cut-ends_told}
 use Rattle.run_course.proofs.Kept.{second-decided}
 use Rattle.run_course.proofs.Cutting.{cut-decided}
 use Rattle.run_devices.specs.Told.{AreFoundCards}
-use Rattle.run_promise.specs.Origin.{Origin, rule_of, start_at, first_of, HasRecorded}
+use Rattle.run_promise.specs.Origin.{Origin, rule_of, start_at, first_of, HistoryIsRecorded}
 use Rattle.run_promise.specs.Seconds.{broke_off, seated_now, seated_next, AreTaken}
 use Rattle.run_promise.specs.Ends.{recording_by, BringsAll, AreFound, AreVerdicts, AreSpared}
 use Rattle.run_promise.specs.Beside.{MayBeFound, AreFewFound}
 use Rattle.run_promise.proofs.Seconds.{second-is_broken}
 use Rattle.run_promise.proofs.Beside.{second-tells, verdicts-on, kept-on_cut}
-use Rattle.run_record.specs.Recorded.{Values, progress, carried, IsWritten, IsOff, Recorded}
-use Rattle.run_record.specs.Within.{told_before, course_in, lost_minute, overlaps_by, MayBeWrittenSo, CutWithin, cut_values}
+use Rattle.run_record.specs.Recorded.{Values, progress, carried, IsWritten, RecordUnpowered, RecordBetweenSeconds}
+use Rattle.run_record.specs.Within.{told_before, course_in, lost_minute, overlaps_by, MayBeWrittenSo, RecordAtFailure, cut_values}
 use Rattle.run_record.proofs.Left.{counted-part}
 use Rattle.run_record.proofs.Stays.{since-later, since-cut}
 use Rattle.run_record.proofs.Written.{few-so_far}
@@ -79,13 +79,13 @@ rec-front n [] ys h = tt
 rec-front n (x ∷ xs) ys h = (h.0, rec-front n xs ys h.1)
 
 -- a minute has the cards of the seconds before
-seated-same : (start : Start) (told : List Told) (t : Told) (past : List HistoryMinute) (n : ℕ) (d : Minute) → t.second.number ≡ n → d.minute < n / 60 → seated start (told ++ t ∷ []) past d ≡ seated start told past d
+seated-same : (start : Start) (told : List ToldSecond) (t : ToldSecond) (past : List HistoryMinute) (n : ℕ) (d : Minute) → t.second.number ≡ n → d.minute < n / 60 → seated start (told ++ t ∷ []) past d ≡ seated start told past d
 seated-same start told t past n d is lt =
     let both : seated start (told ++ t ∷ []) past d ∷ [] ≡ seated start told past d ∷ [] = minutes-still start told t past (d ∷ []) (subst (λ (k : ℕ). d.minute < k / 60) (sym is) lt, tt) in
     let one : seated start (told ++ t ∷ []) past d ≡ seated start told past d = cc in
     one
 
-option-same : (start : Start) (told : List Told) (t : Told) (past : List HistoryMinute) (n : ℕ) (o : Option Minute) → t.second.number ≡ n → AllByRecursion (λ (d : Minute). d.minute < n / 60) (option_to_list o) →
+option-same : (start : Start) (told : List ToldSecond) (t : ToldSecond) (past : List HistoryMinute) (n : ℕ) (o : Option Minute) → t.second.number ≡ n → AllByRecursion (λ (d : Minute). d.minute < n / 60) (option_to_list o) →
     option_map {T = Minute} (seated start (told ++ t ∷ []) past) o ≡ option_map {T = Minute} (seated start told past) o
 option-same start told t past n None is lt = refl
 option-same start told t past n (Some d) is lt = ap (λ (i : HistoryMinute). Some i) (seated-same start told t past n d is lt.0)
@@ -113,7 +113,7 @@ taken-broken : (first : ℕ) (old later : Book) (i : Option HistoryMinute) (new 
 taken-broken first old later None new k h = h
 taken-broken first old later (Some i) new k h = record { mark = h.mark; newest = h.newest }
 
-module _ (o : Origin) (done : List TraceSecond) (s : TraceSecond) (at : Phase) (waits : List Visit) (speed : Option ℕ) (v : Values) (d : Devices) (w : CutWithin o done s at waits speed v d) (left_actions : List Action) (left : IsLeft s at left_actions) where
+module _ (o : Origin) (done : List TraceSecond) (s : TraceSecond) (at : Phase) (waits : List Visit) (speed : Option ℕ) (v : Values) (d : Devices) (w : RecordAtFailure o done s at waits speed v d) (left_actions : List Action) (left : IsLeft s at left_actions) where
   abbrev p : Progress
   p = w.b.run
 
@@ -126,16 +126,16 @@ module _ (o : Origin) (done : List TraceSecond) (s : TraceSecond) (at : Phase) (
   abbrev log : RunLog
   log = and_break v.log cut
 
-  abbrev t : Told
+  abbrev t : ToldSecond
   t = next_told log done s
 
-  abbrev told0 : List Told
+  abbrev told0 : List ToldSecond
   told0 = told_before w.b done
 
   abbrev ended : Course
   ended = cut_told true (not_begun left_actions c)
 
-  abbrev f : Followed (rule_of o) (start_at o) o.from (first_of o) done p
+  abbrev f : BookFollowsRun (rule_of o) (start_at o) o.from (first_of o) done p
   f = w.began.followed
 
   pub ends : t ≡ told_with (begins_with w.b.span) true s ended
@@ -154,7 +154,7 @@ module _ (o : Origin) (done : List TraceSecond) (s : TraceSecond) (at : Phase) (
   }
 
   pub number : t.second.number ≡ p.next
-  number = ap (λ (x : Told). x.second.number) ends ∙ w.moment.number
+  number = ap (λ (x : ToldSecond). x.second.number) ends ∙ w.moment.number
 
   waiting : List Minute
   waiting = option_to_list w.lost ++ w.rest
@@ -167,13 +167,13 @@ module _ (o : Origin) (done : List TraceSecond) (s : TraceSecond) (at : Phase) (
       regroup more = append_assoc w.ds (option_to_list w.lost ++ w.rest) more ∙ ap (λ (xs : List Minute). w.ds ++ xs) (append_assoc (option_to_list w.lost) w.rest more)
 
       picks : t.second.picks ≡ c.picks
-      picks = ap (λ (x : Told). x.second.picks) ends
+      picks = ap (λ (x : ToldSecond). x.second.picks) ends
 
       settled : t.course.settled ≡ (c.settled || list_any is_settling left_actions)
-      settled = ap (λ (x : Told). x.course.settled) ends
+      settled = ap (λ (x : ToldSecond). x.course.settled) ends
 
       at_speed : t.second.speed ≡ s.speed
-      at_speed = ap (λ (x : Told). x.second.speed) ends
+      at_speed = ap (λ (x : ToldSecond). x.second.speed) ends
 
       or-false : (b : Bool) → (b || false) ≡ b
       or-false true = refl
@@ -209,7 +209,7 @@ module _ (o : Origin) (done : List TraceSecond) (s : TraceSecond) (at : Phase) (
       ∙ option-same (start_at o) told0 t (p.book.sure ++ w.new) p.next w.lost number (rec-front (p.next / 60) (option_to_list w.lost) later (rec-back (p.next / 60) w.ds (option_to_list w.lost ++ later) over))
 
   found-is : t.course.found ≡ c.found
-  found-is = ap (λ (x : Told). x.course.found) ends
+  found-is = ap (λ (x : ToldSecond). x.course.found) ends
 
   -- where a card was accepted nothing more is decided than was kept
   nothing-more : s.number / 60 ≤ w.from → seated_now o log done s p (w.ds ++ (option_to_list w.lost ++ later)) ≡ w.new
@@ -246,16 +246,16 @@ module _ (o : Origin) (done : List TraceSecond) (s : TraceSecond) (at : Phase) (
   slots-now : (went log (done ++ s ∷ [])).before.slots ≡ t.course.slots
   slots-now = ap (λ (x : Went). x.before.slots) (now-is (rule_of o) (start_at o) o.from (first_of o) done p f.order f.next f.unfound s log goes)
 
-  recorded-so : HasRecorded o (done ++ s ∷ []) (broke_off log s (seated_now o log done s p w.ds) (seated_next o log done s p w.ds w.lost) p) (stranded_at w.lost (all_travelled w.ds w.b.travel)) v.marks (breakdowns_of d) w.brought
+  recorded-so : HistoryIsRecorded o (done ++ s ∷ []) (broke_off log s (seated_now o log done s p w.ds) (seated_next o log done s p w.ds w.lost) p) (stranded_at w.lost (all_travelled w.ds w.b.travel)) v.marks (breakdowns_of d) w.brought
   recorded-so = second-is_broken o done p w.b.travel w.b.marks v.marks w.b.broken w.counted (breakdowns_of d) w.b.brought w.brought w.began w.b.span w.lit s at v.log waits w.moment w.rise w.broke left_actions left w.ds w.lost later decides.1
       (marks-all w.b.marks v.marks w.stay) takes
 
   abbrev book : Book
   book = broken_at (lost_minute o w.b done w.new w.lost) (kept_all w.new p.book)
 
-  recorded : HasRecorded o (done ++ s ∷ []) (progress (cut_values s at v) Lost book) (stranded_at w.lost (all_travelled w.ds w.b.travel)) v.marks (breakdowns_of d) w.brought
+  recorded : HistoryIsRecorded o (done ++ s ∷ []) (progress (cut_values s at v) Lost book) (stranded_at w.lost (all_travelled w.ds w.b.travel)) v.marks (breakdowns_of d) w.brought
   recorded =
-      let R : Progress → Type 0 = λ (q : Progress). HasRecorded o (done ++ s ∷ []) q (stranded_at w.lost (all_travelled w.ds w.b.travel)) v.marks (breakdowns_of d) w.brought in
+      let R : Progress → Type 0 = λ (q : Progress). HistoryIsRecorded o (done ++ s ∷ []) q (stranded_at w.lost (all_travelled w.ds w.b.travel)) v.marks (breakdowns_of d) w.brought in
       subst (λ (n : ℕ). R (record (progress (cut_values s at v) Lost book) { unfound = n })) (sym w.unfound)
       (subst (λ (n : ℕ). R (record (progress (cut_values s at v) Lost book) { unfound = p.unfound; next = suc n })) (sym w.next)
       (subst (λ (i : Option HistoryMinute). R (broke_off log s w.new i p)) lost-is (subst (λ (is : List HistoryMinute). R (broke_off log s is (seated_next o log done s p w.ds w.lost) p)) new-is recorded-so)))
@@ -264,12 +264,12 @@ module _ (o : Origin) (done : List TraceSecond) (s : TraceSecond) (at : Phase) (
   verdicts = verdicts-on o done (done ++ s ∷ []) p.log log p.unfound v.unfound w.b.marks v.marks d d (t ∷ []) p.next w.verdicts (record { unit = λ x h. h; card = λ c x h. h }) w.stay (second-tells o done p f s log goes number)
       (λ x e verdict among seen.
       let same : t ≡ x = ⊎_elim (λ none. absurd (omega (arith, none.1))) (λ here. here) (Contains-push_cases [] t x among) in
-      subst (λ (y : Told). MayBeFound o (done ++ s ∷ []) log v.marks d y e verdict) same
-      (let there : Contains c.found (e, verdict) = subst (λ (fs : List (Visit × Verdict)). Contains fs (e, verdict)) (ap (λ (y : Told). y.course.found) (sym same) ∙ found-is) seen in
+      subst (λ (y : ToldSecond). MayBeFound o (done ++ s ∷ []) log v.marks d y e verdict) same
+      (let there : Contains c.found (e, verdict) = subst (λ (fs : List (Visit × Verdict)). Contains fs (e, verdict)) (ap (λ (y : ToldSecond). y.course.found) (sym same) ∙ found-is) seen in
       let may = w.finds.may e verdict there in
-      let is : t.second.number ≡ s.number = ap (λ (y : Told). y.second.number) ends in
+      let is : t.second.number ≡ s.number = ap (λ (y : ToldSecond). y.second.number) ends in
       let count = often-by o done (done ++ s ∷ []) p.log log t e.card s.number told-now is in
-      let entered_ : t.course.entered ≡ c.entered = ap (λ (y : Told). y.course.entered) ends in
+      let entered_ : t.course.entered ≡ c.entered = ap (λ (y : ToldSecond). y.course.entered) ends in
       subst (λ (n : ℕ). IsVerdict (recording_by o (done ++ s ∷ []) log) (d.unit.left_since o.found.unit.began) ((card_of d e.card).left_since (found_of o.found e.card).began) e.card n verdict × BringsAll (recording_by o (done ++ s ∷ []) log) v.marks e.card n verdict) (sym is)
       (verdict-by o w.b done (done ++ s ∷ []) log may.0 v.marks (d.unit.left_since o.found.unit.began) ((card_of d e.card).left_since (found_of o.found e.card).began) e.card s.number verdict
       (let low = may.1 in let same_times = ap (times_of e.card) entered_ in omega (arith, low, count, same_times)) (λ n. entered-grows o done (done ++ s ∷ []) p.log log t e.card n told-now) may.2)))
@@ -284,7 +284,7 @@ module _ (o : Origin) (done : List TraceSecond) (s : TraceSecond) (at : Phase) (
       let a = entered-by_end o done (done ++ s ∷ []) p.log log t card told-now in
           let b = overlaps-by_end o done (done ++ s ∷ []) p.log log t card told-now in
           let lt = h.fewer in
-          let entered_ = ap (λ (y : Told). times_of card y.course.entered) ends in
+          let entered_ = ap (λ (y : ToldSecond). times_of card y.course.entered) ends in
           let found_ = ap (λ (fs : List (Visit × Verdict)). length (overlaps_by o card fs)) found-is in
           omega (arith, a, b, lt, entered_, found_),
     );
@@ -293,8 +293,8 @@ module _ (o : Origin) (done : List TraceSecond) (s : TraceSecond) (at : Phase) (
     entered_then = ⊎_elim
         (λ before. let grows = entered-grows o done (done ++ s ∷ []) p.log log t card h.time told-now in omega (arith, before, grows))
         (λ now.
-        let count = often-by o done (done ++ s ∷ []) p.log log t card s.number told-now (ap (λ (y : Told). y.second.number) ends) in
-        let entered_ = ap (λ (y : Told). times_of card y.course.entered) ends in
+        let count = often-by o done (done ++ s ∷ []) p.log log t card s.number told-now (ap (λ (y : ToldSecond). y.second.number) ends) in
+        let entered_ = ap (λ (y : ToldSecond). times_of card y.course.entered) ends in
         subst (λ (n : ℕ). 0 < entered_by (recording_by o (done ++ s ∷ []) log) card n) (sym now.0) (let lt = now.1 in omega (arith, count, entered_, lt)))
         h.entered_then;
   }
@@ -307,28 +307,28 @@ module _ (o : Origin) (done : List TraceSecond) (s : TraceSecond) (at : Phase) (
       let a = entered-by_end o done (done ++ s ∷ []) p.log log t card told-now in
       let b = overlaps-by_end o done (done ++ s ∷ []) p.log log t card told-now in
       let le = few-so_far o w.b done c waits card w.few (w.moment.counted card) in
-      let entered_ = ap (λ (y : Told). times_of card y.course.entered) ends in
+      let entered_ = ap (λ (y : ToldSecond). times_of card y.course.entered) ends in
       let found_ = ap (λ (fs : List (Visit × Verdict)). length (overlaps_by o card fs)) found-is in
       omega (arith, a, b, le, entered_, found_)
 
   tells : SlotsTell (start_at o) (went log (done ++ s ∷ [])).told book.sure [] (suc v.next - 1) (suc v.next / 60) (went log (done ++ s ∷ [])).before.slots (with_power_lost s.number v.cabin).slots
   tells =
-      let T : Told = told_with (begins_with w.b.span) true s ended in
+      let T : ToldSecond = told_with (begins_with w.b.span) true s ended in
       let now = second-gone (start_at o) told0 (p.book.sure ++ w.new) w.from T (with_power_lost s.number v.cabin).slots
       (power-lost (start_at o) told0 (p.book.sure ++ w.new) c.left s.number w.from c.slots v.cabin.slots w.tells) in
       let low = w.low in
       let is = w.moment.number in
       let next = w.next in
       let on = time-passes (start_at o) (told0 ++ T ∷ []) (p.book.sure ++ w.new) s.number (suc v.next - 1) w.from (suc v.next / 60) ended.slots (with_power_lost s.number v.cabin).slots now (omega (arith, is, next)) (omega (arith, low, is, next)) (omega arith) in
-      subst (λ (ts : List Told). SlotsTell (start_at o) ts book.sure [] (suc v.next - 1) (suc v.next / 60) (went log (done ++ s ∷ [])).before.slots (with_power_lost s.number v.cabin).slots) (sym told-now)
+      subst (λ (ts : List ToldSecond). SlotsTell (start_at o) ts book.sure [] (suc v.next - 1) (suc v.next / 60) (went log (done ++ s ∷ [])).before.slots (with_power_lost s.number v.cabin).slots) (sym told-now)
       (subst (λ (sl : Slots). SlotsTell (start_at o) (told0 ++ t ∷ []) book.sure [] (suc v.next - 1) (suc v.next / 60) sl (with_power_lost s.number v.cabin).slots) (sym slots-now)
-      (subst (λ (x : Told). SlotsTell (start_at o) (told0 ++ x ∷ []) book.sure [] (suc v.next - 1) (suc v.next / 60) x.course.slots (with_power_lost s.number v.cabin).slots) (sym ends)
+      (subst (λ (x : ToldSecond). SlotsTell (start_at o) (told0 ++ x ∷ []) book.sure [] (suc v.next - 1) (suc v.next / 60) x.course.slots (with_power_lost s.number v.cabin).slots) (sym ends)
       (subst (λ (is : List HistoryMinute). SlotsTell (start_at o) (told0 ++ T ∷ []) is [] (suc v.next - 1) (suc v.next / 60) ended.slots (with_power_lost s.number v.cabin).slots) (sym (sure-kept w.new (lost_minute o w.b done w.new w.lost) p.book)) on)))
 
   dark-slot : (went log (done ++ s ∷ [])).before.slots ≡ ended.slots
-  dark-slot = slots-now ∙ ap (λ (x : Told). x.course.slots) ends
+  dark-slot = slots-now ∙ ap (λ (x : ToldSecond). x.course.slots) ends
 
-  pub cut-recorded : Recorded o (done ++ s ∷ []) Lost (cut_values s at v) d
+  pub cut-recorded : RecordBetweenSeconds o (done ++ s ∷ []) Lost (cut_values s at v) d
   cut-recorded = record {
     book = book;
     travel = stranded_at w.lost (all_travelled w.ds w.b.travel);
@@ -354,9 +354,9 @@ module _ (o : Origin) (done : List TraceSecond) (s : TraceSecond) (at : Phase) (
   }
 
 -- WITHOUT POWER no minute is counted: it may be from any odometer
-pub recounted : (o : Origin) (done : List TraceSecond) (v : Values) (d : Devices) (odometer : ℕ) → Recorded o done Lost v d → Recorded o done Lost (record v { odometer = odometer }) d
+pub recounted : (o : Origin) (done : List TraceSecond) (v : Values) (d : Devices) (odometer : ℕ) → RecordBetweenSeconds o done Lost v d → RecordBetweenSeconds o done Lost (record v { odometer = odometer }) d
 recounted o done v d odometer r =
-    let off : IsOff o done v (carried v r.due r.book r.standing r.brought) d = r.held in
+    let off : RecordUnpowered o done v (carried v r.due r.book r.standing r.brought) d = r.held in
     record {
       book = r.book;
       travel = r.travel;

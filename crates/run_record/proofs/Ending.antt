@@ -7,12 +7,12 @@ use Rattle.trace_model.specs.declared.Card.{Card}
 use Rattle.trace_model.specs.Trace.{TraceSecond}
 use Rattle.minute_model.specs.declared.Minute.{Minute}
 use Rattle.minute_model.specs.Span.{Span, fed, ungiven_of}
-use Rattle.minute_rules.specs.Kept.{StandsFor}
+use Rattle.minute_rules.specs.Kept.{CountsSpan}
 use Rattle.history_model.specs.Growth.{picking, settled_where}
 use Rattle.log_model.specs.declared.lines.Verdict.{Verdict}
 use Rattle.log_model.specs.Log.{RunLog, Keeping}
 use Rattle.log_model.specs.Slots.{Slots}
-use Rattle.log_model.specs.Course.{Told, Went, Course, Visit, fresh, went}
+use Rattle.log_model.specs.Course.{ToldSecond, Went, Course, Visit, fresh, went}
 use Rattle.history_model.specs.Minutes.{HistoryMinute}
 use Rattle.history_model.specs.History.{decided_of}
 use Rattle.history_model.specs.Book.{Book}
@@ -21,7 +21,7 @@ use Rattle.run_unit_course.specs.Legs.{Travel, travelled, all_travelled}
 use Rattle.run_unit_course.specs.Turn.{begins_with, span_at}
 use Rattle.safety_model.specs.Safe.{Devices, card_of, breakdowns_of, entered_by, IsVerdict}
 use Rattle.run_promise.specs.Found.{found_of}
-use Rattle.run_course.specs.Followed.{Progress, Followed}
+use Rattle.run_course.specs.Followed.{Progress, BookFollowsRun}
 use Rattle.run_course.specs.Seconds.{GoesOnBy, next_told, kept_all}
 use Rattle.run_course.specs.Presence.{SlotsTell}
 use Rattle.run_course.specs.Complete.{AreAcknowledged}
@@ -36,7 +36,7 @@ use Rattle.run_course.proofs.Telling.{second-ends_told}
 use Rattle.run_course.proofs.Kept.{second-decided, all-acknowledged}
 use Rattle.run_devices.specs.Presence.{PresentStand}
 use Rattle.run_devices.proofs.Presence.{next-begins}
-use Rattle.run_promise.specs.Origin.{Origin, rule_of, start_at, first_of, HasRecorded}
+use Rattle.run_promise.specs.Origin.{Origin, rule_of, start_at, first_of, HistoryIsRecorded}
 use Rattle.run_promise.specs.Seconds.{went_on, seated_now, AreTaken}
 use Rattle.run_promise.specs.Ends.{recording_by, BringsAll, AreFound, AreVerdicts, AreSpared}
 use Rattle.run_promise.specs.Beside.{MayBeFound, AreFewFound}
@@ -45,7 +45,7 @@ use Rattle.run_promise.proofs.Beside.{second-tells, verdicts-on, kept-on}
 use Rattle.unit_model.specs.Image.{odometer_at}
 use Rattle.unit_rule.specs.Odometer.{odometer_after}
 use Rattle.run_record.specs.Recorded.{Values, progress, AreBack, IsWritten}
-use Rattle.run_record.specs.Within.{told_before, course_in, overlaps_by, MayBeWrittenSo, Within, passed_values, RecordedFrom}
+use Rattle.run_record.specs.Within.{told_before, course_in, overlaps_by, MayBeWrittenSo, RecordInSecond, passed_values, RecordedFrom}
 use Rattle.run_record.proofs.Cutting.{marks-all}
 use Rattle.run_record.proofs.Spans.{AreAlike, alike}
 use Rattle.run_record.proofs.Back.{back-plain}
@@ -58,7 +58,7 @@ pub same-before : (ds : List Minute) (g : Travel) → (all_travelled ds g).befor
 same-before [] g = refl
 same-before (m ∷ ds) g = same-before ds (travelled m.minute m.travelled g)
 
-module _ (o : Origin) (done : List TraceSecond) (s : TraceSecond) (v : Values) (d : Devices) (w : Within o done s Keeping [] (Some s.speed) [] v d) where
+module _ (o : Origin) (done : List TraceSecond) (s : TraceSecond) (v : Values) (d : Devices) (w : RecordInSecond o done s Keeping [] (Some s.speed) [] v d) where
   abbrev p : Progress
   p = w.b.run
 
@@ -68,16 +68,16 @@ module _ (o : Origin) (done : List TraceSecond) (s : TraceSecond) (v : Values) (
   abbrev c : Course
   c = course_in w.b done s Keeping log
 
-  abbrev t : Told
+  abbrev t : ToldSecond
   t = next_told log done s
 
-  abbrev told0 : List Told
+  abbrev told0 : List ToldSecond
   told0 = told_before w.b done
 
-  abbrev f : Followed (rule_of o) (start_at o) o.from (first_of o) done p
+  abbrev f : BookFollowsRun (rule_of o) (start_at o) o.from (first_of o) done p
   f = w.began.followed
 
-  abbrev T : Told
+  abbrev T : ToldSecond
   T = told_with (begins_with w.b.span) false s c
 
   ends : t ≡ T
@@ -87,14 +87,14 @@ module _ (o : Origin) (done : List TraceSecond) (s : TraceSecond) (v : Values) (
   goes = goes_on w.moment
 
   number : t.second.number ≡ p.next
-  number = ap (λ (x : Told). x.second.number) ends ∙ w.moment.number
+  number = ap (λ (x : ToldSecond). x.second.number) ends ∙ w.moment.number
 
   course-is : t.course ≡ c
-  course-is = ap (λ (x : Told). x.course) ends
+  course-is = ap (λ (x : ToldSecond). x.course) ends
 
   decides : decided_of (rule_of o) (w.b.span ++ t ∷ []) ≡ decided_of (rule_of o) w.b.span ++ w.ds
   decides =
-      second-decided (rule_of o) (start_at o) o.from (first_of o) done p f w.b.span w.lit s log goes c w.sp w.ds [] w.new w.decided (ap (λ (x : Told). x.second.picks) ends) (ap (λ (x : Told). x.course.settled) ends) (ap (λ (x : Told). x.second.speed) ends)
+      second-decided (rule_of o) (start_at o) o.from (first_of o) done p f w.b.span w.lit s log goes c w.sp w.ds [] w.new w.decided (ap (λ (x : ToldSecond). x.second.picks) ends) (ap (λ (x : ToldSecond). x.course.settled) ends) (ap (λ (x : ToldSecond). x.second.speed) ends)
       ∙ ap (λ (xs : List Minute). decided_of (rule_of o) w.b.span ++ xs) (append-nil w.ds)
 
   new-is : seated_now o log done s p w.ds ≡ w.new
@@ -127,18 +127,18 @@ module _ (o : Origin) (done : List TraceSecond) (s : TraceSecond) (v : Values) (
       (all-acknowledged v.marks told0 t p.next w.new number
       (subst (λ (n : ℕ). AreMarkedSoFar v.marks told0 t.course n w.new) w.moment.number (subst (λ (x : Course). AreMarkedSoFar v.marks told0 x s.number w.new) (sym course-is) w.marked)))
 
-  abbrev span : List Told
+  abbrev span : List ToldSecond
   span = w.b.span ++ t ∷ []
 
   abbrev book : Book
   book = kept_all w.new p.book
 
-  recorded-so : HasRecorded o (done ++ s ∷ []) (went_on log done s w.b.span (seated_now o log done s p w.ds) p) (all_travelled w.ds w.b.travel) v.marks (breakdowns_of d) w.brought
+  recorded-so : HistoryIsRecorded o (done ++ s ∷ []) (went_on log done s w.b.span (seated_now o log done s p w.ds) p) (all_travelled w.ds w.b.travel) v.marks (breakdowns_of d) w.brought
   recorded-so = second-is_recorded o done p w.b.travel w.b.marks v.marks w.b.broken (breakdowns_of d) w.b.brought w.brought w.began w.b.span w.lit s log w.moment w.ds decides (marks-all w.b.marks v.marks w.stay) acks takes
 
-  recorded : HasRecorded o (done ++ s ∷ []) (progress (passed_values s v) (Lit span) book) (all_travelled w.ds w.b.travel) v.marks (breakdowns_of d) w.brought
+  recorded : HistoryIsRecorded o (done ++ s ∷ []) (progress (passed_values s v) (Lit span) book) (all_travelled w.ds w.b.travel) v.marks (breakdowns_of d) w.brought
   recorded =
-      let R : Progress → Type 0 = λ (q : Progress). HasRecorded o (done ++ s ∷ []) q (all_travelled w.ds w.b.travel) v.marks (breakdowns_of d) w.brought in
+      let R : Progress → Type 0 = λ (q : Progress). HistoryIsRecorded o (done ++ s ∷ []) q (all_travelled w.ds w.b.travel) v.marks (breakdowns_of d) w.brought in
       subst (λ (n : ℕ). R (record (progress (passed_values s v) (Lit span) book) { unfound = n })) (sym w.unfound)
       (subst (λ (n : ℕ). R (record (progress (passed_values s v) (Lit span) book) { unfound = p.unfound; next = suc n })) (sym w.next)
       (subst (λ (is : List HistoryMinute). R (went_on log done s w.b.span is p)) new-is recorded-so))
@@ -153,10 +153,10 @@ module _ (o : Origin) (done : List TraceSecond) (s : TraceSecond) (v : Values) (
   verdicts = verdicts-on o done (done ++ s ∷ []) p.log log p.unfound v.unfound w.b.marks v.marks d d (t ∷ []) p.next w.verdicts (record { unit = λ x h. h; card = λ c x h. h }) w.stay (second-tells o done p f s log goes number)
       (λ x e verdict among seen.
       let same : t ≡ x = ⊎_elim (λ none. absurd (omega (arith, none.1))) (λ here. here) (Contains-push_cases [] t x among) in
-      subst (λ (y : Told). MayBeFound o (done ++ s ∷ []) log v.marks d y e verdict) same
-      (let there : Contains c.found (e, verdict) = subst (λ (fs : List (Visit × Verdict)). Contains fs (e, verdict)) (ap (λ (y : Told). y.course.found) (sym same) ∙ found-is) seen in
+      subst (λ (y : ToldSecond). MayBeFound o (done ++ s ∷ []) log v.marks d y e verdict) same
+      (let there : Contains c.found (e, verdict) = subst (λ (fs : List (Visit × Verdict)). Contains fs (e, verdict)) (ap (λ (y : ToldSecond). y.course.found) (sym same) ∙ found-is) seen in
       let may = w.finds.may e verdict there in
-      let is : t.second.number ≡ s.number = ap (λ (y : Told). y.second.number) ends in
+      let is : t.second.number ≡ s.number = ap (λ (y : ToldSecond). y.second.number) ends in
       let count = often-by o done (done ++ s ∷ []) p.log log t e.card s.number told-now is in
       subst (λ (n : ℕ). IsVerdict (recording_by o (done ++ s ∷ []) log) (d.unit.left_since o.found.unit.began) ((card_of d e.card).left_since (found_of o.found e.card).began) e.card n verdict × BringsAll (recording_by o (done ++ s ∷ []) log) v.marks e.card n verdict) (sym is)
       (verdict-by o w.b done (done ++ s ∷ []) log may.0 v.marks (d.unit.left_since o.found.unit.began) ((card_of d e.card).left_since (found_of o.found e.card).began) e.card s.number verdict
@@ -180,7 +180,7 @@ module _ (o : Origin) (done : List TraceSecond) (s : TraceSecond) (v : Values) (
     entered_then = ⊎_elim
         (λ before. let grows = entered-grows o done (done ++ s ∷ []) p.log log t card h.time told-now in omega (arith, before, grows))
         (λ now.
-        let count = often-by o done (done ++ s ∷ []) p.log log t card s.number told-now (ap (λ (y : Told). y.second.number) ends) in
+        let count = often-by o done (done ++ s ∷ []) p.log log t card s.number told-now (ap (λ (y : ToldSecond). y.second.number) ends) in
         let entered_ = ap (λ (y : Course). times_of card y.entered) course-is in
         subst (λ (n : ℕ). 0 < entered_by (recording_by o (done ++ s ∷ []) log) card n) (sym now.0) (let lt = now.1 in omega (arith, count, entered_, lt)))
         h.entered_then;
@@ -206,7 +206,7 @@ module _ (o : Origin) (done : List TraceSecond) (s : TraceSecond) (v : Values) (
   seen-is =
       ap (λ (n : ℕ). span_at (rule_of o) (suc n) span) w.next
       ∙ rules_see (rule_of o) (start_at o) o.from (first_of o) done p f w.b.span w.lit s log goes
-      ∙ ap (λ (x : Told). fed (picking x.second.picks (settled_where x.course.settled (span_at (rule_of o) p.next w.b.span))) x.second.speed) ends
+      ∙ ap (λ (x : ToldSecond). fed (picking x.second.picks (settled_where x.course.settled (span_at (rule_of o) p.next w.b.span))) x.second.speed) ends
 
   same-span : AreAlike w.sp seen
   same-span = subst (λ (x : Span). AreAlike x seen) (sym w.decided.span_is) (alike w.decided.times c.settled c.picks (span_at (rule_of o) p.next w.b.span) s.speed w.decided.settles)
@@ -223,9 +223,9 @@ module _ (o : Origin) (done : List TraceSecond) (s : TraceSecond) (v : Values) (
   tells : SlotsTell (start_at o) (went log (done ++ s ∷ [])).told book.sure [] (suc v.next - 1) (ungiven_of (span_at (rule_of o) (suc v.next) span)) (went log (done ++ s ∷ [])).before.slots v.cabin.slots
   tells =
       let U : ℕ = ungiven_of (span_at (rule_of o) (suc v.next) span) in
-      subst (λ (ts : List Told). SlotsTell (start_at o) ts book.sure [] (suc v.next - 1) U (went log (done ++ s ∷ [])).before.slots v.cabin.slots) (sym told-now)
+      subst (λ (ts : List ToldSecond). SlotsTell (start_at o) ts book.sure [] (suc v.next - 1) U (went log (done ++ s ∷ [])).before.slots v.cabin.slots) (sym told-now)
       (subst (λ (sl : Slots). SlotsTell (start_at o) (told0 ++ t ∷ []) book.sure [] (suc v.next - 1) U sl v.cabin.slots) (sym slots-now)
-      (subst (λ (x : Told). SlotsTell (start_at o) (told0 ++ x ∷ []) book.sure [] (suc v.next - 1) U x.course.slots v.cabin.slots) (sym ends)
+      (subst (λ (x : ToldSecond). SlotsTell (start_at o) (told0 ++ x ∷ []) book.sure [] (suc v.next - 1) U x.course.slots v.cabin.slots) (sym ends)
       (subst (λ (is : List HistoryMinute). SlotsTell (start_at o) (told0 ++ T ∷ []) is [] (suc v.next - 1) U c.slots v.cabin.slots) (sym (sure-kept w.new None p.book))
       (subst (λ (n : ℕ). SlotsTell (start_at o) (told0 ++ T ∷ []) (p.book.sure ++ w.new) [] n U c.slots v.cabin.slots) last-number
       (subst (λ (n : ℕ). SlotsTell (start_at o) (told0 ++ T ∷ []) (p.book.sure ++ w.new) [] s.number n c.slots v.cabin.slots) from-is gone)))))
@@ -233,9 +233,9 @@ module _ (o : Origin) (done : List TraceSecond) (s : TraceSecond) (v : Values) (
   present : PresentStand o.found w.standing (went log (done ++ s ∷ [])).told (fresh false (went log (done ++ s ∷ [])).before.slots) (suc v.next - 1) (ungiven_of (span_at (rule_of o) (suc v.next) span)) v.cabin
   present =
       let U : ℕ = ungiven_of (span_at (rule_of o) (suc v.next) span) in
-      subst (λ (ts : List Told). PresentStand o.found w.standing ts (fresh false (went log (done ++ s ∷ [])).before.slots) (suc v.next - 1) U v.cabin) (sym told-now)
+      subst (λ (ts : List ToldSecond). PresentStand o.found w.standing ts (fresh false (went log (done ++ s ∷ [])).before.slots) (suc v.next - 1) U v.cabin) (sym told-now)
       (subst (λ (sl : Slots). PresentStand o.found w.standing (told0 ++ t ∷ []) (fresh false sl) (suc v.next - 1) U v.cabin) (sym slots-now)
-      (subst (λ (x : Told). PresentStand o.found w.standing (told0 ++ x ∷ []) (fresh false x.course.slots) (suc v.next - 1) U v.cabin) (sym ends)
+      (subst (λ (x : ToldSecond). PresentStand o.found w.standing (told0 ++ x ∷ []) (fresh false x.course.slots) (suc v.next - 1) U v.cabin) (sym ends)
       (subst (λ (n : ℕ). PresentStand o.found w.standing (told0 ++ T ∷ []) (fresh false c.slots) n U v.cabin) last-number
       (subst (λ (n : ℕ). PresentStand o.found w.standing (told0 ++ T ∷ []) (fresh false c.slots) s.number n v.cabin) from-is
       (next-begins o.found w.standing told0 T s.number s.number w.from v.cabin refl (omega arith) w.present)))))
@@ -260,7 +260,7 @@ module _ (o : Origin) (done : List TraceSecond) (s : TraceSecond) (v : Values) (
       held = record {
         powered = w.powered;
         due = let late = w.late in let is = from-is in omega (arith, late, is);
-        minutes = subst (λ (x : Span). StandsFor v.minutes x) (sym seen-is) (same-span.stands v.minutes w.minutes);
+        minutes = subst (λ (x : Span). CountsSpan v.minutes x) (sym seen-is) (same-span.stands v.minutes w.minutes);
         tells = tells;
         present = present;
         back = subst (λ (n : ℕ). AreBack n v.cabin) from-is (back-plain o done s Keeping [] (Some s.speed) v d w);

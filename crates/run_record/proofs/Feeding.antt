@@ -5,9 +5,9 @@ use Rattle.trace_model.specs.Trace.{TraceSecond}
 use Rattle.minute_model.specs.declared.Minute.{Minute}
 use Rattle.minute_model.proofs.Counted.{judged, decided-counted}
 use Rattle.minute_model.specs.Span.{Span, fed, count_from, decided_in, ungiven_of}
-use Rattle.minute_rules.specs.Kept.{Kept, StandsFor}
+use Rattle.minute_rules.specs.Kept.{Kept, CountsSpan}
 use Rattle.log_model.specs.Log.{In, Keeping}
-use Rattle.log_model.specs.Course.{Told, Course, went}
+use Rattle.log_model.specs.Course.{ToldSecond, Course, went}
 use Rattle.safety_model.specs.Safe.{Devices, breakdowns_of}
 use Rattle.run_course.specs.Followed.{Progress}
 use Rattle.run_course.specs.Presence.{SlotsTell}
@@ -18,7 +18,7 @@ use Rattle.run_course.proofs.Kept.{second-fed}
 use Rattle.run_promise.specs.Origin.{Origin, rule_of, start_at}
 use Rattle.run_devices.specs.Presence.{PresentStand}
 use Rattle.run_record.specs.Recorded.{Values}
-use Rattle.run_record.specs.Within.{told_before, course_in, IsFoundSo, MayBeWrittenSo, IsSparedSo, Within, GoesOn}
+use Rattle.run_record.specs.Within.{told_before, course_in, IsFoundSo, MayBeWrittenSo, IsSparedSo, RecordInSecond, SecondGoesOn}
 use Rattle.run_record.proofs.Back.{back-plain}
 
 many : (a n : ℕ) → length (count_from a n) ≡ n
@@ -26,18 +26,18 @@ many a zero = refl
 many a (suc n) = ap suc (many (a + 1) n)
 
 -- how many minutes a span has decided
-pub decided-many : (span : Span) (minutes : Kept) → StandsFor minutes span → length (decided_in span) ≡ ungiven_of span - span.first / 60
+pub decided-many : (span : Span) (minutes : Kept) → CountsSpan minutes span → length (decided_in span) ≡ ungiven_of span - span.first / 60
 decided-many span minutes h =
     ap (λ (ds : List Minute). length ds) (decided-counted span h.numbered h.settled)
     ∙ length-map (count_from (span.first / 60) (ungiven_of span - span.first / 60)) (judged span.rule span.settlings span.seconds)
     ∙ many (span.first / 60) (ungiven_of span - span.first / 60)
 
-module _ (o : Origin) (done : List TraceSecond) (s : TraceSecond) (v : Values) (d : Devices) (w : Within o done s (In (length s.actions)) [] None [] v d) (minutes : Kept) (stands : StandsFor minutes (fed w.sp s.speed)) (rest : List Minute)
+module _ (o : Origin) (done : List TraceSecond) (s : TraceSecond) (v : Values) (d : Devices) (w : RecordInSecond o done s (In (length s.actions)) [] None [] v d) (minutes : Kept) (stands : CountsSpan minutes (fed w.sp s.speed)) (rest : List Minute)
     (decides : decided_in (fed w.sp s.speed) ≡ decided_in w.sp ++ rest) where
   abbrev p : Progress
   p = w.b.run
 
-  abbrev told0 : List Told
+  abbrev told0 : List ToldSecond
   told0 = told_before w.b done
 
   abbrev c : Course
@@ -63,7 +63,7 @@ module _ (o : Origin) (done : List TraceSecond) (s : TraceSecond) (v : Values) (
       let high : w.sp.first / 60 ≤ ungiven_of (fed w.sp s.speed) = omega arith in
       omega (arith, before, behind, count, parts, here, low, high)
 
-  pub second-is_fed : GoesOn o done s Keeping [] (Some s.speed) rest (record v { minutes = minutes }) d w.b w.from
+  pub second-is_fed : SecondGoesOn o done s Keeping [] (Some s.speed) rest (record v { minutes = minutes }) d w.b w.from
   second-is_fed = record {
     began = refl;
     from = refl;

@@ -10,20 +10,20 @@ use Rattle.minute_model.specs.Minute.{minutes_ahead}
 use Rattle.minute_model.specs.Span.{Span, end_of, fed_many, ungiven_of, latest}
 use Rattle.minute_model.proofs.Counted.{ungiven-most}
 use Rattle.minute_model.proofs.Spans.{fed_many-end, fed_many-rule, fed_many-first_number, fed_many-settlings}
-use Rattle.minute_rules.specs.Kept.{Kept, StandsFor}
+use Rattle.minute_rules.specs.Kept.{Kept, CountsSpan}
 use Rattle.log_model.specs.declared.lines.Mark.{Mark}
 use Rattle.log_model.specs.declared.lines.Refused.{Refused}
 use Rattle.log_model.specs.Log.{RunLog}
 use Rattle.log_model.specs.Slots.{Slots, is_accepted}
 use Rattle.log_model.specs.Causes.{refusals_at, refusal_told}
-use Rattle.log_model.specs.Course.{Told, Went, powerless, fresh, went, without_power}
+use Rattle.log_model.specs.Course.{ToldSecond, Went, powerless, fresh, went, without_power}
 use Rattle.history_model.specs.Growth.{as_span}
 use Rattle.history_model.specs.Minutes.{HistoryMinute}
 use Rattle.history_model.specs.Presence.{Start}
 use Rattle.history_model.specs.Book.{not_begun}
 use Rattle.history_model.proofs.Deciding.{counted}
 use Rattle.device_rule.specs.Rules.{Standing, Out}
-use Rattle.run_unit_course.specs.Followed.{Supply, Lit, Due, Lost, IsDark}
+use Rattle.run_unit_course.specs.Followed.{UnitPower, Lit, Due, Lost, IsDark}
 use Rattle.run_unit_course.specs.Legs.{not_travelled}
 use Rattle.run_unit_course.specs.Lines.{cut_at}
 use Rattle.run_unit_course.specs.Turn.{span_at, cut_at_end}
@@ -35,9 +35,9 @@ use Rattle.run_crew.specs.declared.cabin.Cabin.{Cabin}
 use Rattle.run_crew.specs.Cabin.{with_power_lost}
 use Rattle.run_crew.proofs.Sessions.{all_gone}
 use Rattle.run_promise.specs.Found.{Found, found_of}
-use Rattle.run_promise.specs.Between.{Carried}
+use Rattle.run_promise.specs.Between.{RunLedger}
 use Rattle.run_promise.proofs.End.{lit-carried}
-use Rattle.run_course.specs.Followed.{Progress, Followed}
+use Rattle.run_course.specs.Followed.{Progress, BookFollowsRun}
 use Rattle.run_course.specs.Moments.{and_break}
 use Rattle.run_course.specs.Presence.{SlotsTell}
 use Rattle.run_course.specs.Quiet.{quiet_second, quiet_seconds}
@@ -49,7 +49,7 @@ use Rattle.run_course.proofs.Quiet.{quiet-are-told, rules-see-quiet, quiet-tell}
 use Rattle.run_course.proofs.Steps.{span-end, lit-parts, cut-parts}
 use Rattle.run_devices.specs.Presence.{PresentStand}
 use Rattle.run_devices.proofs.Presence.{next-begins}
-use Rattle.run_devices.specs.Told.{IsPowered, IsPowerless}
+use Rattle.run_devices.specs.Told.{DevicesPowered, DevicesUnpowered}
 use Rattle.run_devices.proofs.Parts.{held-dark}
 use Rattle.run_promise.specs.Origin.{Origin, rule_of, start_at, first_of}
 use Rattle.run_promise.specs.Ends.{recording_by, AreFound, AreVerdicts, AreSpared, MayBeWritten}
@@ -57,7 +57,7 @@ use Rattle.run_promise.specs.Beside.{TellsMore, AreIdle, AreFewFound}
 use Rattle.run_promise.specs.Seconds.{empty_log, at_start}
 use Rattle.run_promise.proofs.Beside.{dark-tells, off-tells, off-cut-tells, quiet-tells, idle-verdicts, idle-spared, idle-few, few-on, written-on, entered-same, kept-cut}
 use Rattle.run_promise.proofs.Seconds as seconds
-use Rattle.run_record.specs.Recorded.{Values, progress, carried, slots_of, AreBack, IsWrittenSince, IsWritten, IsOn, IsOff, Recorded}
+use Rattle.run_record.specs.Recorded.{Values, progress, carried, slots_of, AreBack, IsWrittenSince, IsWritten, RecordPowered, RecordUnpowered, RecordBetweenSeconds}
 use Rattle.run_record.specs.Within.{RecordedFrom}
 use Rattle.run_record.specs.Going.{dark_values, DarkSecondsStayRecorded, off_values, AnOffLineStaysRecorded, off_cut_values, AnOffCutStaysRecorded, quiet_values, quiet_span, QuietSecondsStayRecorded, MayStart, ARunBegins}
 use Rattle.run_record.proofs.Beginning.{ends-with, present-later}
@@ -66,7 +66,7 @@ use Rattle.run_record.proofs.Stays.{since-later, since-cut}
 
 -- ---- no card enters in some seconds more
 
-module _ (o : Origin) (done now : List TraceSecond) (log later : RunLog) (d : Devices) (more : List Told) (from : ℕ) (tells : TellsMore (went log done).told (went later now).told more from) (idle : AreIdle more) where
+module _ (o : Origin) (done now : List TraceSecond) (log later : RunLog) (d : Devices) (more : List ToldSecond) (from : ℕ) (tells : TellsMore (went log done).told (went later now).told more from) (idle : AreIdle more) where
   verdicts-go : (unfound : ℕ) (marks : List Mark) → AreVerdicts o done log unfound marks d → AreFound (d.unit.left_since o.found.unit.began) unfound later.breaks → AreVerdicts o now later unfound marks d
   verdicts-go unfound marks old kept = idle-verdicts o done now log later unfound unfound marks d d more from old (record { unit = λ x h. h; card = λ c x h. h }) tells idle kept
 
@@ -83,17 +83,17 @@ module _ (o : Origin) (done now : List TraceSecond) (log later : RunLog) (d : De
   entered-go card u early some = let same = entered-same o done now log later more from tells card u early in omega (arith, same, some)
 
 -- seconds have numbers
-after-first : (rule : Rule) (start : Start) (from first : ℕ) (done : List TraceSecond) (p : Progress) → Followed rule start from first done p → 0 < p.next
+after-first : (rule : Rule) (start : Start) (from first : ℕ) (done : List TraceSecond) (p : Progress) → BookFollowsRun rule start from first done p → 0 < p.next
 after-first rule start from first done p f = let early = f.early in let next = f.next in omega (arith, early, next)
 
 -- ---- without power
 
-module _ (o : Origin) (done : List TraceSecond) (v : Values) (d : Devices) (supply : Supply) (r : Recorded o done supply v d) where
-  abbrev f : Followed (rule_of o) (start_at o) o.from (first_of o) done (progress v supply r.book)
+module _ (o : Origin) (done : List TraceSecond) (v : Values) (d : Devices) (supply : UnitPower) (r : RecordBetweenSeconds o done supply v d) where
+  abbrev f : BookFollowsRun (rule_of o) (start_at o) o.from (first_of o) done (progress v supply r.book)
   f = r.recorded.followed
 
   -- what may be written goes on
-  written-go : (now : List TraceSecond) (w : Values) (more : List Told) → TellsMore (went v.log done).told (went w.log now).told more v.next → AreIdle more → w.cabin.slots ≡ v.cabin.slots → v.next ≤ w.next →
+  written-go : (now : List TraceSecond) (w : Values) (more : List ToldSecond) → TellsMore (went v.log done).told (went w.log now).told more v.next → AreIdle more → w.cabin.slots ≡ v.cabin.slots → v.next ≤ w.next →
       (card : Card) → IsWritten o done v card → IsWritten o now w card
   written-go now w more tells idle same le card h = record {
     may = may-go o done now v.log w.log d more v.next tells idle card h.may;
@@ -102,7 +102,7 @@ module _ (o : Origin) (done : List TraceSecond) (v : Values) (d : Devices) (supp
     entered_then = entered-go o done now v.log w.log d more v.next tells idle card h.time (let past = h.since.past in let some = after-first (rule_of o) (start_at o) o.from (first_of o) done (progress v supply r.book) f in omega (arith, past, some)) h.entered_then;
   }
 
-module _ (o : Origin) (done : List TraceSecond) (v : Values) (d : Devices) (r : Recorded o done Lost v d) (n speed : ℕ) (actions : List Action) (refused : List Refused) (begun : ℕ)
+module _ (o : Origin) (done : List TraceSecond) (v : Values) (d : Devices) (r : RecordBetweenSeconds o done Lost v d) (n speed : ℕ) (actions : List Action) (refused : List Refused) (begun : ℕ)
     (low : 0 < v.next % 60) (high : v.next % 60 + suc n ≤ 60) (told : map refusal_told refused ≡ refusals_at v.next (without_power 0 actions)) where
   abbrev p : Progress
   p = progress v Lost r.book
@@ -113,10 +113,10 @@ module _ (o : Origin) (done : List TraceSecond) (v : Values) (d : Devices) (r : 
   abbrev w : Values
   w = dark_values (suc n) begun refused v
 
-  abbrev off : IsOff o done v (carried v r.due r.book r.standing r.brought) d
+  abbrev off : RecordUnpowered o done v (carried v r.due r.book r.standing r.brought) d
   off = r.held
 
-  further : (more : List Told) × TellsMore (went v.log done).told (went w.log now).told more v.next × AreIdle more
+  further : (more : List ToldSecond) × TellsMore (went v.log done).told (went w.log now).told more v.next × AreIdle more
   further = dark-tells o done p r.recorded.followed refl (suc n) speed actions (v.log.refused ++ refused) low high
 
   was : Went
@@ -135,7 +135,7 @@ module _ (o : Origin) (done : List TraceSecond) (v : Values) (d : Devices) (r : 
       subst (λ (x : Went). SlotsTell (start_at o) x.told r.book.sure [] (w.next - 1) (w.next / 60) x.before.slots v.cabin.slots) (sym went-now)
       (subst (λ (m : ℕ). SlotsTell (start_at o) ((went v.log done).told ++ all_dark (first ∷ rest) slots) r.book.sure [] m (w.next / 60) slots v.cabin.slots) (let e : v.next + length rest ≡ w.next - 1 = omega (arith, long) in e) on)
 
-  dark-on : Recorded o now Lost w d
+  dark-on : RecordBetweenSeconds o now Lost w d
   dark-on = record {
     book = r.book;
     travel = r.travel;
@@ -169,7 +169,7 @@ dark-recorded d o done v r n speed actions refused begun low high told = dark-on
 
 -- ---- an `off` line
 
-off-held : (o : Origin) (done : List TraceSecond) (supply : Supply) (v : Values) (d : Devices) (r : Recorded o done supply v d) → IsDark supply → IsOff o done v (carried v r.due r.book r.standing r.brought) d
+off-held : (o : Origin) (done : List TraceSecond) (supply : UnitPower) (v : Values) (d : Devices) (r : RecordBetweenSeconds o done supply v d) → IsDark supply → RecordUnpowered o done v (carried v r.due r.book r.standing r.brought) d
 off-held o done (Lit span) v d r dark_ = absurd dark_
 off-held o done Due v d r dark_ = r.held
 off-held o done Lost v d r dark_ = r.held
@@ -187,7 +187,7 @@ module _ (start : Start) (log : RunLog) (done : List TraceSecond) (n next from :
       let rest : List TraceSecond = dark n (next + 1) in
       let long = dark-length n (next + 1) in
       let on = dark-tell start (went log done).told sure number next from ((next + suc n) / 60) off-slots k h first rest le (dark-order (suc n) next) raised (omega (arith, long)) in
-      subst (λ (ts : List Told). SlotsTell start ts sure [] (next + suc n - 1) ((next + suc n) / 60) (went log (done ++ dark (suc n) next)).before.slots k) (sym is.0)
+      subst (λ (ts : List ToldSecond). SlotsTell start ts sure [] (next + suc n - 1) ((next + suc n) / 60) (went log (done ++ dark (suc n) next)).before.slots k) (sym is.0)
       (subst (λ (sl : Slots). SlotsTell start ((went log done).told ++ all_dark (dark (suc n) next) off-slots) sure [] (next + suc n - 1) ((next + suc n) / 60) sl k) (sym is.1)
       (subst (λ (m : ℕ). SlotsTell start ((went log done).told ++ all_dark (first ∷ rest) off-slots) sure [] m ((next + suc n) / 60) off-slots k) (let e : next + length rest ≡ next + suc n - 1 = omega (arith, long) in e) on))
 
@@ -230,18 +230,18 @@ off-recorded d o done supply v r dark_ n =
 -- ---- an `off` line that takes the power
 
 -- unit and cards wait once there is no power
-powered-waits : (f : Found) (w : Carried) (cards : Cards) (d : Devices) → IsPowered f w cards d → IsPowerless f w d
+powered-waits : (f : Found) (w : RunLedger) (cards : Cards) (d : Devices) → DevicesPowered f w cards d → DevicesUnpowered f w d
 powered-waits f w cards d h = record { carried = lit-carried f w d h.lit; wait = λ c valid. held-dark (found_of f c) c w.book (w.standing c) (card_of d c) h.lit.none (h.go.held c valid) }
 
 -- no minute before the next second's is undecided any more behind it
-ungiven-by : (v : Values) (span : Span) → StandsFor v.minutes span → end_of span ≡ v.next → ungiven_of span ≤ v.next / 60
+ungiven-by : (v : Values) (span : Span) → CountsSpan v.minutes span → end_of span ≡ v.next → ungiven_of span ≤ v.next / 60
 ungiven-by v span h end = let most = ungiven-most span h.settled in subst (λ (e : ℕ). ungiven_of span ≤ e / 60) end most
 
-module _ (o : Origin) (done : List TraceSecond) (t : Told) (span : List Told) (v : Values) (d : Devices) (r : Recorded o done (Lit (t ∷ span)) v d) where
+module _ (o : Origin) (done : List TraceSecond) (t : ToldSecond) (span : List ToldSecond) (v : Values) (d : Devices) (r : RecordBetweenSeconds o done (Lit (t ∷ span)) v d) where
   abbrev lit-progress : Progress
   lit-progress = progress v (Lit (t ∷ span)) r.book
 
-  abbrev on : IsOn o done (t ∷ span) v (carried v r.due r.book r.standing r.brought) d
+  abbrev on : RecordPowered o done (t ∷ span) v (carried v r.due r.book r.standing r.brought) d
   on = r.held
 
   abbrev whole : Span
@@ -267,13 +267,13 @@ module _ (o : Origin) (done : List TraceSecond) (t : Told) (span : List Told) (v
     abbrev cut-values : Values
     cut-values = off_cut_values (suc n) v
 
-    further-off : (more : List Told) × TellsMore (went v.log done).told (went cut-log now-off).told more v.next × AreIdle more
+    further-off : (more : List ToldSecond) × TellsMore (went v.log done).told (went cut-log now-off).told more v.next × AreIdle more
     further-off = off-cut-tells o done lit-progress r.recorded.followed t span refl refl (suc n)
 
     -- the last second, as it went and as a cut's
     record LastCut : Type 0 where
-      front : List Told
-      last : Told
+      front : List ToldSecond
+      last : ToldSecond
       told_is : (went v.log done).told ≡ front ++ last ∷ []
       cut_is : (went cut-log done).told ≡ front ++ cut_at_end last ∷ []
       number_is : last.second.number ≡ v.next - 1
@@ -294,8 +294,8 @@ module _ (o : Origin) (done : List TraceSecond) (t : Told) (span : List Told) (v
           told_is = parts.2;
           cut_is = parts.3;
           number_is = parts.6;
-          slots_are = ap (λ (x : Told). x.course.slots) same.1 ∙ one.slots_are;
-          cut_slots = sym two.slots_are ∙ ap (λ (x : Told). x.course.slots) (sym same_cut.1);
+          slots_are = ap (λ (x : ToldSecond). x.course.slots) same.1 ∙ one.slots_are;
+          cut_slots = sym two.slots_are ∙ ap (λ (x : ToldSecond). x.course.slots) (sym same_cut.1);
         }
 
     cut-tells : SlotsTell (start_at o) (went cut-log done).told r.book.sure [] (v.next - 1) (ungiven_of whole) (went cut-log done).before.slots (with_power_lost (v.next - 1) v.cabin).slots
@@ -304,9 +304,9 @@ module _ (o : Origin) (done : List TraceSecond) (t : Told) (span : List Told) (v
         let U : ℕ = ungiven_of whole in
         let was = subst (λ (m : ℕ). SlotsTell (start_at o) (l.front ++ l.last ∷ []) r.book.sure [] m U l.last.course.slots v.cabin.slots) (sym l.number_is)
         (subst (λ (sl : Slots). SlotsTell (start_at o) (l.front ++ l.last ∷ []) r.book.sure [] (v.next - 1) U sl v.cabin.slots) (sym l.slots_are)
-        (subst (λ (ts : List Told). SlotsTell (start_at o) ts r.book.sure [] (v.next - 1) U (slots_of v done) v.cabin.slots) l.told_is on.tells)) in
+        (subst (λ (ts : List ToldSecond). SlotsTell (start_at o) ts r.book.sure [] (v.next - 1) U (slots_of v done) v.cabin.slots) l.told_is on.tells)) in
         let cut = last-cut (start_at o) l.front r.book.sure U l.last v.cabin.slots was in
-        subst (λ (ts : List Told). SlotsTell (start_at o) ts r.book.sure [] (v.next - 1) U (went cut-log done).before.slots (with_power_lost (v.next - 1) v.cabin).slots) (sym l.cut_is)
+        subst (λ (ts : List ToldSecond). SlotsTell (start_at o) ts r.book.sure [] (v.next - 1) U (went cut-log done).before.slots (with_power_lost (v.next - 1) v.cabin).slots) (sym l.cut_is)
         (subst (λ (sl : Slots). SlotsTell (start_at o) (l.front ++ cut_at_end l.last ∷ []) r.book.sure [] (v.next - 1) U sl (with_power_lost (v.next - 1) v.cabin).slots) (sym l.cut_slots)
         (subst (λ (m : ℕ). SlotsTell (start_at o) (l.front ++ cut_at_end l.last ∷ []) r.book.sure [] m U (cut_at_end l.last).course.slots (with_power_lost m v.cabin).slots) l.number_is cut))
 
@@ -319,7 +319,7 @@ module _ (o : Origin) (done : List TraceSecond) (t : Told) (span : List Told) (v
           (let past = h.since.past in let some = after-first (rule_of o) (start_at o) o.from (first_of o) done lit-progress r.recorded.followed in omega (arith, past, some)) h.entered_then;
     }
 
-    off-cut-on : Recorded o now-off Due cut-values d
+    off-cut-on : RecordBetweenSeconds o now-off Due cut-values d
     off-cut-on =
         let is = off-are-told cut-log done (suc n) v.next in
         let dark_slots : (went cut-log now-off).before.slots ≡ (cut_at_end last-second.last).course.slots = is.1 ∙ last-second.cut_slots in
@@ -358,18 +358,18 @@ off-cut-recorded d o done t span v r n = off-cut-on o done t span v d r n
 -- ---- with power, where nothing happens
 
 -- who is present stands so
-quiet-stand : (f : Found) (standing : Card → Standing) (slots : Slots) (speed from : ℕ) (cabin : Cabin) (n next number : ℕ) (told : List Told) → number ≤ next → PresentStand f standing told (fresh false slots) number from cabin →
+quiet-stand : (f : Found) (standing : Card → Standing) (slots : Slots) (speed from : ℕ) (cabin : Cabin) (n next number : ℕ) (told : List ToldSecond) → number ≤ next → PresentStand f standing told (fresh false slots) number from cabin →
     PresentStand f standing (told ++ quiet_seconds (suc n) next speed slots) (fresh false slots) (next + n) from cabin
 quiet-stand f standing slots speed from cabin zero next number told le h =
     let here = present-later f standing told (fresh false slots) number next from cabin le h in
     subst (λ (m : ℕ). PresentStand f standing (told ++ quiet_second next speed slots ∷ []) (fresh false slots) m from cabin) (let e : next ≡ next + 0 = omega arith in e)
     (next-begins f standing told (quiet_second next speed slots) next next from cabin refl (omega arith) here)
 quiet-stand f standing slots speed from cabin (suc n) next number told le h =
-    let q : Told = quiet_second next speed slots in
+    let q : ToldSecond = quiet_second next speed slots in
     let one = next-begins f standing told q next (next + 1) from cabin refl (omega arith) (present-later f standing told (fresh false slots) number next from cabin le h) in
     let rest = quiet-stand f standing slots speed from cabin n (next + 1) (next + 1) (told ++ q ∷ []) (omega arith) one in
     subst (λ (m : ℕ). PresentStand f standing (told ++ quiet_seconds (suc (suc n)) next speed slots) (fresh false slots) m from cabin) (let e : next + 1 + n ≡ next + suc n = omega arith in e)
-    (subst (λ (ts : List Told). PresentStand f standing ts (fresh false slots) (next + 1 + n) from cabin) (append_assoc told (q ∷ []) (quiet_seconds (suc n) (next + 1) speed slots)) rest)
+    (subst (λ (ts : List ToldSecond). PresentStand f standing ts (fresh false slots) (next + 1 + n) from cabin) (append_assoc told (q ∷ []) (quiet_seconds (suc n) (next + 1) speed slots)) rest)
 
 -- within a minute nothing more is decided
 ungiven-still : (span : Span) (speed n : ℕ) → (end_of span + n) / 60 ≡ end_of span / 60 → ungiven_of (fed_many span speed n) ≡ ungiven_of span
@@ -381,12 +381,12 @@ ungiven-still span speed n minute =
     ∙ ap (λ (q : Rule). max (span.first / 60) (max (end_of span / 60 - minutes_ahead q) (latest new.settlings / 60))) (fed_many-rule span speed n)
     ∙ ap (λ (ts : List ℕ). max (span.first / 60) (max (end_of span / 60 - minutes_ahead span.rule) (latest ts / 60))) (fed_many-settlings span speed n)
 
-module _ (o : Origin) (done : List TraceSecond) (t : Told) (span : List Told) (v : Values) (d : Devices) (r : Recorded o done (Lit (t ∷ span)) v d) (n speed : ℕ) (low : 0 < v.next % 60) (high : v.next % 60 + suc n < 60) (minutes : Kept)
-    (stands : StandsFor minutes (span_at (rule_of o) (v.next + suc n) (quiet_span o done (suc n) speed (t ∷ span) v))) where
+module _ (o : Origin) (done : List TraceSecond) (t : ToldSecond) (span : List ToldSecond) (v : Values) (d : Devices) (r : RecordBetweenSeconds o done (Lit (t ∷ span)) v d) (n speed : ℕ) (low : 0 < v.next % 60) (high : v.next % 60 + suc n < 60) (minutes : Kept)
+    (stands : CountsSpan minutes (span_at (rule_of o) (v.next + suc n) (quiet_span o done (suc n) speed (t ∷ span) v))) where
   abbrev quiet-p : Progress
   quiet-p = progress v (Lit (t ∷ span)) r.book
 
-  abbrev quiet-held : IsOn o done (t ∷ span) v (carried v r.due r.book r.standing r.brought) d
+  abbrev quiet-held : RecordPowered o done (t ∷ span) v (carried v r.due r.book r.standing r.brought) d
   quiet-held = r.held
 
   abbrev quiet-now : List TraceSecond
@@ -395,13 +395,13 @@ module _ (o : Origin) (done : List TraceSecond) (t : Told) (span : List Told) (v
   abbrev quiet-w : Values
   quiet-w = quiet_values (suc n) minutes v
 
-  abbrev later-span : List Told
+  abbrev later-span : List ToldSecond
   later-span = quiet_span o done (suc n) speed (t ∷ span) v
 
   abbrev quiet-slots : Slots
   quiet-slots = slots_of v done
 
-  quiet-further : (more : List Told) × TellsMore (went v.log done).told (went v.log quiet-now).told more v.next × AreIdle more
+  quiet-further : (more : List ToldSecond) × TellsMore (went v.log done).told (went v.log quiet-now).told more v.next × AreIdle more
   quiet-further = quiet-tells o done quiet-p r.recorded.followed t span refl (suc n) speed
 
   quiet-went : went v.log quiet-now ≡ record { told = (went v.log done).told ++ quiet_seconds (suc n) v.next speed quiet-slots; before = (went v.log done).before }
@@ -480,8 +480,8 @@ none-sits : (went empty_log []).before.slots ≡ record { driver = None; codrive
 unfolding went
 none-sits = refl
 
-nowhere : (o : Origin) (t : Told) → Contains (went empty_log []).told t → ⊥
-nowhere o t at = let gone = subst (λ (ts : List Told). Contains ts t) none-told at in omega (arith, gone.1)
+nowhere : (o : Origin) (t : ToldSecond) → Contains (went empty_log []).told t → ⊥
+nowhere o t at = let gone = subst (λ (ts : List ToldSecond). Contains ts t) none-told at in omega (arith, gone.1)
 
 module _ (o : Origin) (v : Values) (d : Devices) (h : MayStart o v d) where
   abbrev first-values : Values
@@ -496,7 +496,7 @@ module _ (o : Origin) (v : Values) (d : Devices) (h : MayStart o v d) where
       ∙ ap (λ (n : ℕ). record v { log = empty_log; marks = []; cabin = record v.cabin { slots = nothing_yet }; unfound = 0; next = n }) h.next
       ∙ ap (λ (n : ℕ). record v { log = empty_log; marks = []; cabin = record v.cabin { slots = nothing_yet }; unfound = 0; next = o.from; begun = n }) h.begun
 
-  begins-so : Recorded o [] Due first-values d
+  begins-so : RecordBetweenSeconds o [] Due first-values d
   begins-so = record {
     book = not_begun;
     travel = not_travelled o.recording.unit;
@@ -518,7 +518,7 @@ module _ (o : Origin) (v : Values) (d : Devices) (h : MayStart o v d) where
     held = record {
       powerless = h.powerless;
       due = omega arith;
-      tells = subst (λ (ts : List Told). SlotsTell (start_at o) ts [] [] (o.from - 1) (o.from / 60) (went empty_log []).before.slots nothing_yet) (sym none-told)
+      tells = subst (λ (ts : List ToldSecond). SlotsTell (start_at o) ts [] [] (o.from - 1) (o.from / 60) (went empty_log []).before.slots nothing_yet) (sym none-told)
           (subst (λ (sl : Slots). SlotsTell (start_at o) [] [] [] (o.from - 1) (o.from / 60) sl nothing_yet) (sym none-sits) (nobody-sits (start_at o) [] (o.from - 1) (o.from / 60) (omega arith)));
       bare = h.bare;
       driver = ap (λ (sl : Slots). is_accepted sl.driver) none-sits;
@@ -527,4 +527,4 @@ module _ (o : Origin) (v : Values) (d : Devices) (h : MayStart o v d) where
   }
 
 pub begun-recorded : (d : Devices) → ARunBegins d
-begun-recorded d o v h = subst (λ (x : Values). Recorded o [] Due x d) (sym (first-is o v d h)) (begins-so o v d h)
+begun-recorded d o v h = subst (λ (x : Values). RecordBetweenSeconds o [] Due x d) (sym (first-is o v d h)) (begins-so o v d h)

@@ -10,7 +10,7 @@ use Rattle.log_model.specs.declared.lines.Mark.{Mark}
 use Rattle.log_model.specs.declared.lines.Verdict.{Verdict}
 use Rattle.log_model.specs.Log.{Phase, is_accepting}
 use Rattle.log_model.specs.Slots.{Slots, Sitting, in_slot}
-use Rattle.log_model.specs.Course.{Told, Course, Visit, card_in, with_slot, went}
+use Rattle.log_model.specs.Course.{ToldSecond, Course, Visit, card_in, with_slot, went}
 use Rattle.device_rule.specs.Rules.{Standing}
 use Rattle.safety_model.specs.Safe.{Devices, card_of, breakdowns_of}
 use Rattle.card_slots.specs.Kept.{Kept}
@@ -31,7 +31,7 @@ use Rattle.run_devices.specs.Presence.{PresentStand, IsSeated, sits}
 use Rattle.run_devices.proofs.Presence.{none-to_keep}
 use Rattle.run_promise.specs.Origin.{Origin, rule_of, start_at}
 use Rattle.run_record.specs.Recorded.{Values, AreBack, SitsAccepted, GoesOnIn}
-use Rattle.run_record.specs.Within.{told_before, course_in, VerdictBy, often, IsFoundSo, MayBeWrittenSo, IsSparedSo, Within}
+use Rattle.run_record.specs.Within.{told_before, course_in, VerdictBy, often, IsFoundSo, MayBeWrittenSo, IsSparedSo, RecordInSecond}
 use Rattle.run_record.specs.Judging.{IsAcceptedSo, IsSeatedBy, IsAccepted, IsJudged, ACardIsJudged, AJudgingFails}
 use Rattle.run_record.proofs.Left.{verdict-left}
 use Rattle.run_record.proofs.Back.{back-by_now}
@@ -43,12 +43,12 @@ use Rattle.run_record.proofs.Sitting.{another, sits-with, seated-still, verdicts
 abbrev IsSame : Visit × Verdict → Visit × Verdict → Type 0
 IsSame a b = a ≡ b
 
-module _ (o : Origin) (done : List TraceSecond) (s : TraceSecond) (at : Phase) (waits fewer : List Visit) (v : Values) (d e : Devices) (w : Within o done s at waits None [] v d) (card : Card) (f : Find) (marks : List Mark) (cabin : Cabin) (brought : Card → List ℕ)
+module _ (o : Origin) (done : List TraceSecond) (s : TraceSecond) (at : Phase) (waits fewer : List Visit) (v : Values) (d e : Devices) (w : RecordInSecond o done s at waits None [] v d) (card : Card) (f : Find) (marks : List Mark) (cabin : Cabin) (brought : Card → List ℕ)
     (j : IsJudged o done s at waits fewer v d e w card f marks cabin brought) where
   abbrev p : Progress
   p = w.b.run
 
-  abbrev told0 : List Told
+  abbrev told0 : List ToldSecond
   told0 = told_before w.b done
 
   abbrev c : Course

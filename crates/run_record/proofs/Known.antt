@@ -8,7 +8,7 @@ use Rattle.trace_model.specs.declared.Card.{Card}
 use Rattle.trace_model.specs.Trace.{TraceSecond}
 use Rattle.log_model.specs.Log.{Phase}
 use Rattle.log_model.specs.Slots.{Slots, Sitting, in_slot}
-use Rattle.log_model.specs.Course.{Told, Visit}
+use Rattle.log_model.specs.Course.{ToldSecond, Visit}
 use Rattle.history_model.specs.Minutes.{HistoryMinute}
 use Rattle.history_model.specs.Presence.{Start}
 use Rattle.history_model.specs.Book.{Book, all, IsMark, Ordered}
@@ -16,7 +16,7 @@ use Rattle.device_rule.specs.Views.{unit_view}
 use Rattle.minute_model.specs.declared.Minute.{Minute}
 use Rattle.unit_model.specs.Image.{last_kept}
 use Rattle.unit_rule.specs.Rule.{once_mended}
-use Rattle.unit_rule.specs.Marks.{Holds}
+use Rattle.unit_rule.specs.Marks.{UnitFollowsBook}
 use Rattle.unit_rule.proofs.Moves.{shown-last}
 use Rattle.safety_model.specs.Safe.{Devices}
 use Rattle.card_slots.specs.declared.seats.Seat.{Seat}
@@ -28,7 +28,7 @@ use Rattle.run_promise.specs.Going.{IsTakenAt}
 use Rattle.run_promise.proofs.Going.{sure-kept}
 use Rattle.run_promise.specs.Origin.{Origin, first_of}
 use Rattle.run_record.specs.Recorded.{Values}
-use Rattle.run_record.specs.Within.{Within}
+use Rattle.run_record.specs.Within.{RecordInSecond}
 
 -- ---- a card that is not accepted by its seat is not accepted by the log
 
@@ -48,7 +48,7 @@ sits-bare start past from k (Some seat) (Some y) card h is =
     let none : y.accepted ≡ None = bare-of start past from k seat.card seat.newest y.accepted (ap (λ (z : Seat). z.newest) same) h.1 in
     ap (λ (c : Card). Some (record { card = c; accepted = y.accepted })) own ∙ ap (λ (a : Option ℕ). Some (record { card = card; accepted = a })) none
 
-pub waits-there : (start : Start) (told : List Told) (past : List HistoryMinute) (left : List Card) (number from : ℕ) (slots : Slots) (k : Kept) → SlotsTell start told past left number from slots k →
+pub waits-there : (start : Start) (told : List ToldSecond) (past : List HistoryMinute) (left : List Card) (number from : ℕ) (slots : Slots) (k : Kept) → SlotsTell start told past left number from slots k →
     (slot : Slot) (card : Card) → seat_in k.seats slot ≡ Some (record { card = card; newest = None }) → in_slot slots slot ≡ Some (record { card = card; accepted = None })
 waits-there start told past left number from slots k h Driver card is = sits-bare start past from k k.seats.driver slots.driver card h.driver is
 waits-there start told past left number from slots k h CoDriver card is = sits-bare start past from k k.seats.codriver slots.codriver card h.codriver is
@@ -73,11 +73,11 @@ before-due first due n b order mark = ⊎_elim
     late : (i : HistoryMinute) → Contains (all b) i → i.minute < due
     late i there = All-contains (λ (j : HistoryMinute). j.minute < due) (all b) i order.now.until there
 
-module _ (o : Origin) (done : List TraceSecond) (s : TraceSecond) (at : Phase) (waits : List Visit) (speed : Option ℕ) (rest : List Minute) (v : Values) (d : Devices) (w : Within o done s at waits speed rest v d) (first : o.found.unit.first ≡ first_of o) (y : List ℕ) (there : d.unit.may_leave y) where
+module _ (o : Origin) (done : List TraceSecond) (s : TraceSecond) (at : Phase) (waits : List Visit) (speed : Option ℕ) (rest : List Minute) (v : Values) (d : Devices) (w : RecordInSecond o done s at waits speed rest v d) (first : o.found.unit.first ≡ first_of o) (y : List ℕ) (there : d.unit.may_leave y) where
   abbrev book : Book
   book = kept_all w.new w.b.run.book
 
-  unit : Holds (once_mended o.found.unit) w.due book v.marks d.unit
+  unit : UnitFollowsBook (once_mended o.found.unit) w.due book v.marks d.unit
   unit = w.powered.lit.unit
 
   marks : IsMark o.found.unit.first (all book) (last_kept y)

@@ -9,11 +9,11 @@ use Rattle.trace_model.specs.declared.Action.TheVariants.{Withdraw}
 use Rattle.trace_model.specs.Trace.{TraceSecond}
 use Rattle.minute_model.specs.declared.Minute.{Minute}
 use Rattle.minute_model.specs.Span.{settled, decided_in}
-use Rattle.minute_rules.specs.Kept.{Kept, StandsFor}
+use Rattle.minute_rules.specs.Kept.{Kept, CountsSpan}
 use Rattle.log_model.specs.declared.lines.SlotFault.{SlotFault}
 use Rattle.log_model.specs.Log.{In}
 use Rattle.log_model.specs.Slots.{Sitting, in_slot, refusal}
-use Rattle.log_model.specs.Course.{Told, Course, Visit, Before, Moved, visits, card_in as card_of_sitting, moved_by, carried_out, went}
+use Rattle.log_model.specs.Course.{ToldSecond, Course, Visit, Before, Moved, visits, card_in as card_of_sitting, moved_by, carried_out, went}
 use Rattle.safety_model.specs.Safe.{Devices, breakdowns_of}
 use Rattle.card_slots.specs.declared.seats.Seat.{Seat}
 use Rattle.card_slots.specs.declared.seats.Present.{Present}
@@ -36,7 +36,7 @@ use Rattle.run_promise.specs.Origin.{Origin, rule_of, start_at}
 use Rattle.run_devices.specs.Presence.{sits}
 use Rattle.run_devices.proofs.Presence.{step-leaves}
 use Rattle.run_record.specs.Recorded.{Values}
-use Rattle.run_record.specs.Within.{Beginning, told_before, course_in, IsLeaving, AreBackAt, Within, GoesOn}
+use Rattle.run_record.specs.Within.{Beginning, told_before, course_in, IsLeaving, AreBackAt, RecordInSecond, SecondGoesOn}
 use Rattle.run_record.specs.Taking.{left_values, IsLeft, ACardLeaves}
 use Rattle.run_record.proofs.Back.{back-plain, low-too}
 use Rattle.run_record.proofs.Sitting.{sits-with}
@@ -47,8 +47,8 @@ use Rattle.run_record.proofs.Onward.{IsStep, steps-on}
 use Rattle.run_record.proofs.Putting.{still-goes, slot-itself}
 
 module _ (o : Origin) (done : List TraceSecond) (s : TraceSecond) (v : Values) (d : Devices) (front : List Action) (slot : Slot) (card : Card) (rest : List Action) (are : s.actions ≡ front ++ Withdraw slot ∷ rest)
-    (w : Within o done s (In (length front)) [] None [] v d) (is : refusal (course_in w.b done s (In (length front)) v.log).slots s.speed (Withdraw slot) ≡ None) (seated : card_in (seat_in v.cabin.slots.seats slot) ≡ Some card)
-    (minutes : Kept) (stands : StandsFor minutes (settled w.sp)) (decided : List Minute) (decides : decided_in (settled w.sp) ≡ decided_in w.sp ++ decided) where
+    (w : RecordInSecond o done s (In (length front)) [] None [] v d) (is : refusal (course_in w.b done s (In (length front)) v.log).slots s.speed (Withdraw slot) ≡ None) (seated : card_in (seat_in v.cabin.slots.seats slot) ≡ Some card)
+    (minutes : Kept) (stands : CountsSpan minutes (settled w.sp)) (decided : List Minute) (decides : decided_in (settled w.sp) ≡ decided_in w.sp ++ decided) where
   abbrev n : ℕ
   n = length front
 
@@ -58,7 +58,7 @@ module _ (o : Origin) (done : List TraceSecond) (s : TraceSecond) (v : Values) (
   abbrev was : Before
   was = (went p.log done).before
 
-  abbrev told0 : List Told
+  abbrev told0 : List ToldSecond
   told0 = told_before w.b done
 
   abbrev c : Course
@@ -163,7 +163,7 @@ module _ (o : Origin) (done : List TraceSecond) (s : TraceSecond) (v : Values) (
       (λ other. inl (subst (λ (q : Option ℕ). IfSome q (λ left. left ≤ w.from)) (sym (seat-left card x (seat_in v.cabin.slots.seats slot) (s.number / 60) v.cabin.slots.left seated other)) (plain x some)))
       (this-or card x)
 
-  pub left-goes : GoesOn o done s (In (suc n)) [] None decided later d w.b w.from
+  pub left-goes : SecondGoesOn o done s (In (suc n)) [] None decided later d w.b w.from
   left-goes = steps-on o done s (In n) (In (suc n)) [] [] decided v later d d w (settled w.sp) step (record {
     minutes = stands;
     until = settles-to o done s (In n) [] [] v d w minutes stands decided decides refl;

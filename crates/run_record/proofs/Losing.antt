@@ -14,7 +14,7 @@ use Rattle.log_model.specs.declared.lines.SlotFault.{SlotFault}
 use Rattle.log_model.specs.declared.lines.Verdict.{Verdict}
 use Rattle.log_model.specs.Log.{RunLog, Phase, In, Keeping, is_torn_in}
 use Rattle.log_model.specs.Slots.{Slots, Sitting, in_slot, refusal}
-use Rattle.log_model.specs.Course.{Told, Course, Before, Visit, visits, card_in, with_slot, moved_by, went}
+use Rattle.log_model.specs.Course.{ToldSecond, Course, Before, Visit, visits, card_in, with_slot, moved_by, went}
 use Rattle.event_model.specs.Events.{course_by}
 use Rattle.device_rule.specs.Rules.{Standing}
 use Rattle.safety_model.specs.Safe.{Devices, breakdowns_of}
@@ -38,7 +38,7 @@ use Rattle.run_devices.specs.Presence.{PresentStand, IsSeated, sits}
 use Rattle.run_devices.proofs.Presence.{none-to_keep}
 use Rattle.run_promise.specs.Origin.{Origin, rule_of, start_at}
 use Rattle.run_record.specs.Recorded.{Values, AreBack, GoesOnIn}
-use Rattle.run_record.specs.Within.{told_before, course_in, often, IsFoundSo, MayBeWrittenSo, IsSparedSo, Within}
+use Rattle.run_record.specs.Within.{told_before, course_in, often, IsFoundSo, MayBeWrittenSo, IsSparedSo, RecordInSecond}
 use Rattle.run_record.specs.Judging.{IsJudged}
 use Rattle.run_record.specs.Losing.{IsLostSo, ACardIsLost, ALosingFails}
 use Rattle.run_record.proofs.Back.{back-by_now}
@@ -75,12 +75,12 @@ with-twice : (slots : Slots) (slot : Slot) (y z : Option Sitting) → with_slot 
 with-twice slots Driver y z = refl
 with-twice slots CoDriver y z = refl
 
-module _ (o : Origin) (done : List TraceSecond) (s : TraceSecond) (at : Phase) (waits fewer : List Visit) (v : Values) (d e : Devices) (w : Within o done s at waits None [] v d) (card : Card) (f : Find) (marks : List Mark) (cabin after : Cabin) (brought : Card → List ℕ) (b : Break)
+module _ (o : Origin) (done : List TraceSecond) (s : TraceSecond) (at : Phase) (waits fewer : List Visit) (v : Values) (d e : Devices) (w : RecordInSecond o done s at waits None [] v d) (card : Card) (f : Find) (marks : List Mark) (cabin after : Cabin) (brought : Card → List ℕ) (b : Break)
     (j : IsJudged o done s at waits fewer v d e w card f marks cabin brought) (l : IsLostSo o done s at waits fewer v d e w card f cabin after b) where
   abbrev p : Progress
   p = w.b.run
 
-  abbrev told0 : List Told
+  abbrev told0 : List ToldSecond
   told0 = told_before w.b done
 
   abbrev c : Course

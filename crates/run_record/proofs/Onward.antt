@@ -5,12 +5,12 @@ use Rattle.trace_model.specs.Trace.{TraceSecond}
 use Rattle.run_model.specs.declared.Device.TheVariants.{Unit as Recorder}
 use Rattle.minute_model.specs.declared.Minute.{Minute}
 use Rattle.minute_model.specs.Span.{Span, ungiven_of}
-use Rattle.minute_rules.specs.Kept.{StandsFor}
+use Rattle.minute_rules.specs.Kept.{CountsSpan}
 use Rattle.log_model.specs.declared.lines.Mark.{Mark}
 use Rattle.log_model.specs.declared.lines.Verdict.{Verdict}
 use Rattle.log_model.specs.Log.{Phase, Keeping}
 use Rattle.log_model.specs.Causes.{RoseBy}
-use Rattle.log_model.specs.Course.{Told, Course, Visit, went}
+use Rattle.log_model.specs.Course.{ToldSecond, Course, Visit, went}
 use Rattle.device_rule.specs.Rules.{Standing}
 use Rattle.run_unit_course.specs.Legs.{all_travelled}
 use Rattle.unit_model.specs.Image.{odometer_at}
@@ -23,18 +23,18 @@ use Rattle.run_course.specs.Lines.{times_of}
 use Rattle.run_course.specs.Moment.{Moment}
 use Rattle.run_course.specs.Kept.{HasDecided, AreMarkedSoFar, StaysOut}
 use Rattle.run_course.proofs.Kept.{marks-stay}
-use Rattle.run_devices.specs.Told.{AreFoundCards, IsPowered, IsPowerless}
+use Rattle.run_devices.specs.Told.{AreFoundCards, DevicesPowered, DevicesUnpowered}
 use Rattle.run_promise.specs.Origin.{Origin, rule_of, start_at}
 use Rattle.run_devices.specs.Presence.{PresentStand}
 use Rattle.run_record.specs.Recorded.{Values, carried, GoesOnIn}
-use Rattle.run_record.specs.Within.{told_before, course_in, overlaps_by, IsFoundSo, MayBeWrittenSo, IsSparedSo, AreBackAt, AreOld, GoesOnSo, Within, GoesOn, CutWithin}
+use Rattle.run_record.specs.Within.{told_before, course_in, overlaps_by, IsFoundSo, MayBeWrittenSo, IsSparedSo, AreBackAt, AreOld, GoesOnSo, RecordInSecond, SecondGoesOn, RecordAtFailure}
 use Rattle.run_record.proofs.Left.{verdict-left}
 use Rattle.run_record.proofs.Sitting.{verdicts-later}
 use Rattle.run_record.proofs.Stays.{since-on}
 use Rattle.run_record.proofs.Until.{up-to}
 
-module _ (o : Origin) (done : List TraceSecond) (s : TraceSecond) (at next : Phase) (before waits : List Visit) (rest : List Minute) (v later : Values) (d e : Devices) (w : Within o done s at before None [] v d) where
-  abbrev told0 : List Told
+module _ (o : Origin) (done : List TraceSecond) (s : TraceSecond) (at next : Phase) (before waits : List Visit) (rest : List Minute) (v later : Values) (d e : Devices) (w : RecordInSecond o done s at before None [] v d) where
+  abbrev told0 : List ToldSecond
   told0 = told_before w.b done
 
   abbrev c : Course
@@ -63,10 +63,10 @@ module _ (o : Origin) (done : List TraceSecond) (s : TraceSecond) (at next : Pha
 
   -- unit and cards behind it, with power
   pub record Powers (sp : Span) : Type 0 where
-    pub minutes : StandsFor later.minutes sp
+    pub minutes : CountsSpan later.minutes sp
     pub until : w.from + length rest ≡ ungiven_of sp
     pub standing : Card → Standing
-    pub powered : IsPowered o.found (carried later w.due (kept_all w.new w.b.run.book) standing w.brought) later.cabin.cards e
+    pub powered : DevicesPowered o.found (carried later w.due (kept_all w.new w.b.run.book) standing w.brought) later.cabin.cards e
     pub present : PresentStand o.found standing told0 now s.number w.from later.cabin
     pub back : AreBackAt later.log (went w.b.run.log done).before s next w.from (w.from + length rest) later.cabin
     pub old : AreOld v.cabin.cards later.cabin.cards
@@ -113,7 +113,7 @@ module _ (o : Origin) (done : List TraceSecond) (s : TraceSecond) (at next : Pha
     stay : (mark : Mark) → Contains w.b.marks mark → Contains later.marks mark
     stay mark there = still mark (w.stay mark there)
 
-    pub steps-on : Powers sp → GoesOn o done s next waits None rest later e w.b w.from
+    pub steps-on : Powers sp → SecondGoesOn o done s next waits None rest later e w.b w.from
     steps-on p = record {
       began = refl;
       from = refl;
@@ -157,8 +157,8 @@ module _ (o : Origin) (done : List TraceSecond) (s : TraceSecond) (at next : Pha
     }
 
     -- or the unit failed, and the power is about to be cut
-    pub step-fails : (standing : Card → Standing) → IsPowerless o.found (carried later w.due (kept_all w.new w.b.run.book) standing w.brought) e → RoseBy 1 (w.b.broken Recorder) (breakdowns_of e Recorder) → (next ≡ Keeping → ⊥) → rest ≡ [] →
-        CutWithin o done s next waits None later e
+    pub step-fails : (standing : Card → Standing) → DevicesUnpowered o.found (carried later w.due (kept_all w.new w.b.run.book) standing w.brought) e → RoseBy 1 (w.b.broken Recorder) (breakdowns_of e Recorder) → (next ≡ Keeping → ⊥) → rest ≡ [] →
+        RecordAtFailure o done s next waits None later e
     step-fails standing powerless broke no_keeping none = record {
       b = w.b;
       lit = w.lit;

@@ -13,7 +13,7 @@ use Rattle.log_model.specs.declared.lines.Verdict.{Verdict}
 use Rattle.log_model.specs.declared.lines.Verdict.TheVariants.{Accepted, NotValid, TimeOverlap}
 use Rattle.log_model.specs.Log.{RunLog, is_accepting}
 use Rattle.log_model.specs.Slots.{same_card}
-use Rattle.log_model.specs.Course.{Told, Visit, went}
+use Rattle.log_model.specs.Course.{ToldSecond, Visit, went}
 use Rattle.history_model.specs.Minutes.{HistoryMinute}
 use Rattle.history_model.specs.Presence.{Start}
 use Rattle.history_model.specs.History.{minutes_after}
@@ -33,7 +33,7 @@ over-front n [] ys h = tt
 over-front n (x ∷ xs) ys h = (All-head (λ (d : Minute). d.minute < n) x (xs ++ ys) h, over-front n xs ys (All-tail (λ (d : Minute). d.minute < n) x (xs ++ ys) h))
 
 -- so it has the cards of the seconds before
-pub still : (start : Start) (told : List Told) (t : Told) (past : List HistoryMinute) (n : ℕ) (ds rest : List Minute) → t.second.number ≡ n → All (λ (d : Minute). d.minute < n / 60) (ds ++ rest) →
+pub still : (start : Start) (told : List ToldSecond) (t : ToldSecond) (past : List HistoryMinute) (n : ℕ) (ds rest : List Minute) → t.second.number ≡ n → All (λ (d : Minute). d.minute < n / 60) (ds ++ rest) →
     minutes_after start (told ++ t ∷ []) past ds ≡ minutes_after start told past ds
 still start told t past n ds rest is over =
     minutes-still start told t past ds (subst (λ (k : ℕ). AllByRecursion (λ (d : Minute). d.minute < k / 60) ds) (sym is) (over-front (n / 60) ds rest over))
@@ -71,10 +71,10 @@ visits-as c (v ∷ vs) = by (same_card c v.card) (visits-as c vs)
     by true is = ap suc is
     by false is = is
 
-abbrev entered_up : Card → ℕ → Told → List Visit
+abbrev entered_up : Card → ℕ → ToldSecond → List Visit
 entered_up c u t = cond (nat_le t.second.number u && nat_eq (t.second.number / 60) (u / 60)) (filter (λ (e : Visit). same_card c e.card) t.course.entered) []
 
-flat-more : {Y : Type 0} (g : Told → List Y) (xs : List Told) (t : Told) → length (flat_map g (xs ++ t ∷ [])) ≡ length (flat_map g xs) + length (g t)
+flat-more : {Y : Type 0} (g : ToldSecond → List Y) (xs : List ToldSecond) (t : ToldSecond) → length (flat_map g (xs ++ t ∷ [])) ≡ length (flat_map g xs) + length (g t)
 flat-more g [] t = let e = length-append (g t) [] in omega (arith, e)
 flat-more g (x ∷ xs) t = let e = length-append (g x) (flat_map g (xs ++ t ∷ [])) in let f = length-append (g x) (flat_map g xs) in let rest = flat-more g xs t in omega (arith, e, f, rest)
 
@@ -87,37 +87,37 @@ both-same n u is = ap (λ (k : ℕ). nat_le k u && nat_eq (k / 60) (u / 60)) is 
     same : (u : ℕ) → nat_eq u u ≡ true
     same u = grind (arith, nat_tests)
 
-pub often-by : (o : Origin) (done now : List TraceSecond) (log later : RunLog) (t : Told) (c : Card) (u : ℕ) → (went later now).told ≡ (went log done).told ++ t ∷ [] → t.second.number ≡ u →
+pub often-by : (o : Origin) (done now : List TraceSecond) (log later : RunLog) (t : ToldSecond) (c : Card) (u : ℕ) → (went later now).told ≡ (went log done).told ++ t ∷ [] → t.second.number ≡ u →
     entered_by (recording_by o now later) c u ≡ entered_by (recording_by o done log) c u + times_of c t.course.entered
 often-by o done now log later t c u told is =
-    ap (λ (ts : List Told). length (flat_map (entered_up c u) ts)) told ∙ flat-more (entered_up c u) (went log done).told t
+    ap (λ (ts : List ToldSecond). length (flat_map (entered_up c u) ts)) told ∙ flat-more (entered_up c u) (went log done).told t
     ∙ ap (λ (b : Bool). entered_by (recording_by o done log) c u + length (cond b (filter (λ (e : Visit). same_card c e.card) t.course.entered) [])) (both-same t.second.number u is)
     ∙ ap (λ (n : ℕ). entered_by (recording_by o done log) c u + n) (sym (visits-as c t.course.entered))
 
 -- by a second more it has entered no less often,
-pub entered-grows : (o : Origin) (done now : List TraceSecond) (log later : RunLog) (t : Told) (c : Card) (u : ℕ) → (went later now).told ≡ (went log done).told ++ t ∷ [] → entered_by (recording_by o done log) c u ≤ entered_by (recording_by o now later) c u
+pub entered-grows : (o : Origin) (done now : List TraceSecond) (log later : RunLog) (t : ToldSecond) (c : Card) (u : ℕ) → (went later now).told ≡ (went log done).told ++ t ∷ [] → entered_by (recording_by o done log) c u ≤ entered_by (recording_by o now later) c u
 entered-grows o done now log later t c u told =
-    let e = ap (λ (ts : List Told). length (flat_map (entered_up c u) ts)) told ∙ flat-more (entered_up c u) (went log done).told t in
+    let e = ap (λ (ts : List ToldSecond). length (flat_map (entered_up c u) ts)) told ∙ flat-more (entered_up c u) (went log done).told t in
     let more : entered_by (recording_by o now later) c u ≡ entered_by (recording_by o done log) c u + length (entered_up c u t) = e in
     omega (arith, more)
 
 -- and by the same seconds as often
 pub entered-told : (o : Origin) (done now : List TraceSecond) (log later : RunLog) (c : Card) (u : ℕ) → (went later now).told ≡ (went log done).told → entered_by (recording_by o now later) c u ≡ entered_by (recording_by o done log) c u
-entered-told o done now log later c u told = ap (λ (ts : List Told). length (flat_map (entered_up c u) ts)) told
+entered-told o done now log later c u told = ap (λ (ts : List ToldSecond). length (flat_map (entered_up c u) ts)) told
 
 -- which cards may be written, by the end of the second
-pub entered-by_end : (o : Origin) (done now : List TraceSecond) (log later : RunLog) (t : Told) (c : Card) → (went later now).told ≡ (went log done).told ++ t ∷ [] →
+pub entered-by_end : (o : Origin) (done now : List TraceSecond) (log later : RunLog) (t : ToldSecond) (c : Card) → (went later now).told ≡ (went log done).told ++ t ∷ [] →
     entered (recording_by o now later) c ≡ entered (recording_by o done log) c + times_of c t.course.entered
 entered-by_end o done now log later t c told =
-    ap (λ (ts : List Told). length (flat_map (λ (x : Told). filter (λ (e : Visit). same_card c e.card) x.course.entered) ts)) told
-    ∙ flat-more (λ (x : Told). filter (λ (e : Visit). same_card c e.card) x.course.entered) (went log done).told t
+    ap (λ (ts : List ToldSecond). length (flat_map (λ (x : ToldSecond). filter (λ (e : Visit). same_card c e.card) x.course.entered) ts)) told
+    ∙ flat-more (λ (x : ToldSecond). filter (λ (e : Visit). same_card c e.card) x.course.entered) (went log done).told t
     ∙ ap (λ (n : ℕ). entered (recording_by o done log) c + n) (sym (visits-as c t.course.entered))
 
-pub overlaps-by_end : (o : Origin) (done now : List TraceSecond) (log later : RunLog) (t : Told) (c : Card) → (went later now).told ≡ (went log done).told ++ t ∷ [] →
+pub overlaps-by_end : (o : Origin) (done now : List TraceSecond) (log later : RunLog) (t : ToldSecond) (c : Card) → (went later now).told ≡ (went log done).told ++ t ∷ [] →
     overlaps (recording_by o now later) c ≡ overlaps (recording_by o done log) c + length (filter (λ (f : Visit × Verdict). same_card c f.0.card && is_overlap o.recording c f.1) t.course.found)
 overlaps-by_end o done now log later t c told =
-    ap (λ (ts : List Told). length (flat_map (λ (x : Told). filter (λ (f : Visit × Verdict). same_card c f.0.card && is_overlap o.recording c f.1) x.course.found) ts)) told
-    ∙ flat-more (λ (x : Told). filter (λ (f : Visit × Verdict). same_card c f.0.card && is_overlap o.recording c f.1) x.course.found) (went log done).told t
+    ap (λ (ts : List ToldSecond). length (flat_map (λ (x : ToldSecond). filter (λ (f : Visit × Verdict). same_card c f.0.card && is_overlap o.recording c f.1) x.course.found) ts)) told
+    ∙ flat-more (λ (x : ToldSecond). filter (λ (f : Visit × Verdict). same_card c f.0.card && is_overlap o.recording c f.1) x.course.found) (went log done).told t
 
 -- ACCEPTANCES of a second: none, or one that is found
 pub record HasAccepted (c : Card) (found : List (Visit × Verdict)) : Type 0 where
@@ -151,7 +151,7 @@ accepted-in c (f ∷ fs) = by (same_card c f.0.card && is_accepting f.1) refl (a
     by false is (inl none) = inl (ap (λ (b : Bool). cond b (f ∷ filter (λ (f : Visit × Verdict). same_card c f.0.card && is_accepting f.1) fs) (filter (λ (f : Visit × Verdict). same_card c f.0.card && is_accepting f.1) fs)) is ∙ none)
     by false is (inr some) = inr (record { e = some.e; v = some.v; at = Contains-append_right (f ∷ []) fs (some.e, some.v) some.at; card = some.card; accepts = some.accepts })
 
-pub accepted-or : (c : Card) (t : Told) → (acceptances_in c t ≡ []) ⊎ HasAccepted c t.course.found
+pub accepted-or : (c : Card) (t : ToldSecond) → (acceptances_in c t ≡ []) ⊎ HasAccepted c t.course.found
 accepted-or c t = ⊎_elim (λ none. inl (ap (map (λ (f : Visit × Verdict). t.second.number)) none)) (λ some. inr some) (accepted-in c t.course.found)
 
 -- MINUTES that are decided and not earlier than this one are none

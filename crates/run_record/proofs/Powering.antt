@@ -14,14 +14,14 @@ use Rattle.log_model.specs.Slots.{Slots, in_slot, is_accepted}
 use Rattle.log_model.specs.Course.{Went, Course, Visit, fresh, went}
 use Rattle.history_model.specs.Book.{found}
 use Rattle.device_rule.specs.Rules.{Standing, Out}
-use Rattle.run_unit_course.specs.Followed.{Supply, Lit, Due, Lost, MayPower}
+use Rattle.run_unit_course.specs.Followed.{UnitPower, Lit, Due, Lost, MayPower}
 use Rattle.run_unit_course.specs.Legs.{resumed}
 use Rattle.run_unit_course.specs.Travelled.{MayShow}
 use Rattle.run_unit_course.specs.Turn.{span_at}
 use Rattle.safety_model.specs.Cards.{entered}
 use Rattle.safety_model.specs.Safe.{Devices, breakdowns_of, entered_by}
 use Rattle.run_crew.specs.Cards.{session_of}
-use Rattle.run_promise.specs.Between.{Carried}
+use Rattle.run_promise.specs.Between.{RunLedger}
 use Rattle.run_course.specs.Followed.{Progress}
 use Rattle.run_course.specs.Presence.{SlotsTell}
 use Rattle.run_course.proofs.Logs.{went-found}
@@ -31,7 +31,7 @@ use Rattle.run_course.specs.Kept.{HasDecided}
 use Rattle.run_course.proofs.Moment.{moment-begins}
 use Rattle.run_course.proofs.Reached.{nothing-told}
 use Rattle.run_course.proofs.Kept.{nothing-decided, nothing-marked}
-use Rattle.run_promise.specs.Origin.{Origin, rule_of, start_at, first_of, HasRecorded}
+use Rattle.run_promise.specs.Origin.{Origin, rule_of, start_at, first_of, HistoryIsRecorded}
 use Rattle.run_promise.specs.Seconds.{found_again}
 use Rattle.run_promise.specs.Ends.{recording_by, AreVerdicts}
 use Rattle.run_promise.proofs.Seconds.{found-recorded, more-recorded}
@@ -39,8 +39,8 @@ use Rattle.run_promise.specs.Beside.{AreFewFound}
 use Rattle.run_promise.proofs.Beside.{found-tells, few-on, written-on, idle-verdicts, kept-later, kept-found}
 use Rattle.run_devices.specs.Presence.{PresentStand, sits}
 use Rattle.run_devices.proofs.Presence.{none-to_keep}
-use Rattle.run_record.specs.Recorded.{Values, progress, carried, IsWritten, IsOff, IsHeldBy, Recorded}
-use Rattle.run_record.specs.Within.{Beginning, course_in, IsFoundSo, IsSparedSo, CutWithin}
+use Rattle.run_record.specs.Recorded.{Values, progress, carried, IsWritten, RecordUnpowered, IsHeldBy, RecordBetweenSeconds}
+use Rattle.run_record.specs.Within.{Beginning, course_in, IsFoundSo, IsSparedSo, RecordAtFailure}
 use Rattle.run_record.specs.Waking.{IsWaking, both_slots, PowerWakes}
 use Rattle.run_record.specs.Powering.{WasRead, read_values, begun_values, odometer_found, counted_from, begun_again, GoOn, PowerIsBack, AMendingFails}
 use Rattle.run_record.proofs.Parts.{entered-told}
@@ -48,7 +48,7 @@ use Rattle.run_record.proofs.Stays.{since-later}
 use Rattle.run_record.proofs.Written.{written-begins}
 
 -- WITHOUT POWER, where power may come
-pub off-of : (o : Origin) (done : List TraceSecond) (supply : Supply) (v : Values) (w : Carried) (d : Devices) → MayPower supply v.next → IsHeldBy o done supply v w d → IsOff o done v w d
+pub off-of : (o : Origin) (done : List TraceSecond) (supply : UnitPower) (v : Values) (w : RunLedger) (d : Devices) → MayPower supply v.next → IsHeldBy o done supply v w d → RecordUnpowered o done v w d
 off-of o done (Lit span) v w d may held = absurd may
 off-of o done Due v w d may held = held
 off-of o done Lost v w d may held = held
@@ -66,7 +66,7 @@ no-seat slots driver codriver Driver card u is = let e : true ≡ false = sym (a
 no-seat slots driver codriver CoDriver card u is = let e : true ≡ false = sym (ap is_accepted is) ∙ codriver in cc
 
 -- ALL THAT A POWER-ON leaves of what was recorded, once the unit was read
-module _ (o : Origin) (done : List TraceSecond) (s : TraceSecond) (supply : Supply) (v : Values) (d e : Devices) (r : Recorded o done supply v d) (may : MayPower supply v.next) (number : s.number ≡ v.next) (given : s.has_power ≡ true)
+module _ (o : Origin) (done : List TraceSecond) (s : TraceSecond) (supply : UnitPower) (v : Values) (d e : Devices) (r : RecordBetweenSeconds o done supply v d) (may : MayPower supply v.next) (number : s.number ≡ v.next) (given : s.has_power ≡ true)
     (k leg : ℕ) (shows : MayShow (first_of o) r.book r.travel k leg) (goes : GoOn o d e) where
   abbrev p : Progress
   p = progress v supply r.book
@@ -83,7 +83,7 @@ module _ (o : Origin) (done : List TraceSecond) (s : TraceSecond) (supply : Supp
   abbrev from : ℕ
   from = ungiven_of (span_at (rule_of o) v.next [])
 
-  off : IsOff o done v (carried v r.due r.book r.standing r.brought) d
+  off : RecordUnpowered o done v (carried v r.due r.book r.standing r.brought) d
   off = off-of o done supply v (carried v r.due r.book r.standing r.brought) d may r.held
 
   from-is : from ≡ s.number / 60
@@ -92,10 +92,10 @@ module _ (o : Origin) (done : List TraceSecond) (s : TraceSecond) (supply : Supp
   same : now ≡ was
   same = went-found v.log v.unfound k o.from done r.recorded.followed.order
 
-  recorded : HasRecorded o done run (resumed leg r.travel) v.marks (breakdowns_of d) r.brought
+  recorded : HistoryIsRecorded o done run (resumed leg r.travel) v.marks (breakdowns_of d) r.brought
   recorded = found-recorded o done p r.travel v.marks (breakdowns_of d) r.brought r.recorded may k leg shows
 
-  recorded-later : HasRecorded o done run (resumed leg r.travel) v.marks (breakdowns_of e) r.brought
+  recorded-later : HistoryIsRecorded o done run (resumed leg r.travel) v.marks (breakdowns_of e) r.brought
   recorded-later = more-recorded o done run (resumed leg r.travel) v.marks v.marks (breakdowns_of d) (breakdowns_of e) r.brought recorded (λ device m marked. marked) goes.breakdowns
 
   -- the moment of the power-on, by how often each device had broken down
@@ -217,7 +217,7 @@ power-back d e o done s supply v r may number given k minutes back =
 
 pub mending-fails : (d e : Devices) → AMendingFails d e
 mending-fails d e o done s supply v r may number given k read =
-    subst (λ (w : Went). CutWithin o done s (In 0) (fresh true w.before.slots).entered None (counted_from (odometer_found o r.travel.before read.leg) (read_values k v)) e) (same o done s supply v d e r may number given k read.leg read.shows read.goes)
+    subst (λ (w : Went). RecordAtFailure o done s (In 0) (fresh true w.before.slots).entered None (counted_from (odometer_found o r.travel.before read.leg) (read_values k v)) e) (same o done s supply v d e r may number given k read.leg read.shows read.goes)
     (record {
       b = before o done s supply v d e r may number given k read.leg read.shows read.goes (breakdowns_of d);
       lit = refl;

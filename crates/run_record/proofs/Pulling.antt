@@ -10,7 +10,7 @@ use Rattle.trace_model.specs.Trace.{TraceSecond}
 use Rattle.tach_media.specs.Medium.{State}
 use Rattle.log_model.specs.Log.{Phase, In}
 use Rattle.log_model.specs.Slots.{Sitting, in_slot}
-use Rattle.log_model.specs.Course.{Told, Course, Visit, Before, visits, card_in as card_of_sitting, with_slot, carried_out, went}
+use Rattle.log_model.specs.Course.{ToldSecond, Course, Visit, Before, visits, card_in as card_of_sitting, with_slot, carried_out, went}
 use Rattle.device_rule.specs.Rules.{Standing, In as IsIn, Torn}
 use Rattle.safety_model.specs.Safe.{Devices, card_of, breakdowns_of}
 use Rattle.card_slots.specs.Calls.{seat_in, card_in}
@@ -18,7 +18,7 @@ use Rattle.card_slots.specs.Kept.{Kept, taken}
 use Rattle.run_crew.specs.declared.cards.Accepted.{Accepted}
 use Rattle.run_crew.specs.declared.cards.Cards.{Cards}
 use Rattle.run_crew.specs.Cards.{session_of}
-use Rattle.run_crew.specs.Cabin.{Stands, slot_with, torn_out}
+use Rattle.run_crew.specs.Cabin.{CabinIsSound, slot_with, torn_out}
 use Rattle.run_promise.specs.Found.{CardFound, found_of}
 use Rattle.run_course.specs.Followed.{Progress}
 use Rattle.run_course.specs.Presence.{SlotsTell}
@@ -29,11 +29,11 @@ use Rattle.run_course.specs.Moment.{Moment}
 use Rattle.run_course.specs.Kept.{StaysOut}
 use Rattle.run_course.proofs.Moment.{card-pulled}
 use Rattle.run_course.proofs.Kept.{nothing-else}
-use Rattle.run_devices.specs.Told.{IsPowered, GoesWith, for_card}
+use Rattle.run_devices.specs.Told.{DevicesPowered, GoesWith, for_card}
 use Rattle.run_promise.specs.Origin.{Origin, rule_of, start_at}
 use Rattle.run_devices.specs.Presence.{PresentStand, IsSeated, sits}
 use Rattle.run_record.specs.Recorded.{Values, carried}
-use Rattle.run_record.specs.Within.{told_before, course_in, AreBackAt, Within, GoesOn}
+use Rattle.run_record.specs.Within.{told_before, course_in, AreBackAt, RecordInSecond, SecondGoesOn}
 use Rattle.run_record.specs.Judging.{torn_values}
 use Rattle.run_record.specs.Taking.{pulled_line, ACardIsPulledOut}
 use Rattle.run_record.proofs.Back.{back-at, back-plain}
@@ -49,9 +49,9 @@ stands-of : (f : CardFound) (has : List Entry) (z : Standing) (a : Accepted) (ca
 stands-of f has z a card h = (h.time, h.stands)
 
 -- a card that sits accepted stands so, with the second of its acceptance
-module _ (o : Origin) (done : List TraceSecond) (s : TraceSecond) (at : Phase) (v : Values) (d : Devices) (w : Within o done s at [] None [] v d) (slot : Slot) (card : Card) (seated : card_in (seat_in v.cabin.slots.seats slot) ≡ Some card) (low : ℕ) (stands : Stands low None v.cabin)
+module _ (o : Origin) (done : List TraceSecond) (s : TraceSecond) (at : Phase) (v : Values) (d : Devices) (w : RecordInSecond o done s at [] None [] v d) (slot : Slot) (card : Card) (seated : card_in (seat_in v.cabin.slots.seats slot) ≡ Some card) (low : ℕ) (stands : CabinIsSound low None v.cabin)
     (some : is_some (session_of v.cabin.cards card) ≡ true) where
-  abbrev told_ : List Told
+  abbrev told_ : List ToldSecond
   told_ = told_before w.b done
 
   abbrev course : Course
@@ -77,7 +77,7 @@ module _ (o : Origin) (done : List TraceSecond) (s : TraceSecond) (at : Phase) (
       standing-now.1.1 ∙ ap (λ (m : ℕ). IsIn sitting-now.0 m) minute
 
 module _ (o : Origin) (done : List TraceSecond) (s : TraceSecond) (v : Values) (d : Devices) (front : List Action) (slot : Slot) (card : Card) (rest : List Action) (are : s.actions ≡ front ++ Pull slot ∷ rest)
-    (w : Within o done s (In (length front)) [] None [] v d) (seated : card_in (seat_in v.cabin.slots.seats slot) ≡ Some card) where
+    (w : RecordInSecond o done s (In (length front)) [] None [] v d) (seated : card_in (seat_in v.cabin.slots.seats slot) ≡ Some card) where
   abbrev n : ℕ
   n = length front
 
@@ -87,7 +87,7 @@ module _ (o : Origin) (done : List TraceSecond) (s : TraceSecond) (v : Values) (
   abbrev was : Before
   was = (went p.log done).before
 
-  abbrev told0 : List Told
+  abbrev told0 : List ToldSecond
   told0 = told_before w.b done
 
   abbrev c : Course
@@ -160,8 +160,8 @@ module _ (o : Origin) (done : List TraceSecond) (s : TraceSecond) (v : Values) (
   back-so = back-at later.log was s (In (suc n)) w.from (w.from + 0) later.cabin
       (back-torn (start_at o) told0 (p.book.sure ++ w.new) c.left s.number w.from c.slots v.cabin w.tells slot card seated w.from (back-plain o done s (In n) [] None v d w))
 
-  goes-so : (standing : Card → Standing) → IsPowered o.found (carried later w.due (kept_all w.new w.b.run.book) standing w.brought) later.cabin.cards d → PresentStand o.found standing told0 now s.number w.from later.cabin →
-      GoesOn o done s (In (suc n)) [] None [] later d w.b w.from
+  goes-so : (standing : Card → Standing) → DevicesPowered o.found (carried later w.due (kept_all w.new w.b.run.book) standing w.brought) later.cabin.cards d → PresentStand o.found standing told0 now s.number w.from later.cabin →
+      SecondGoesOn o done s (In (suc n)) [] None [] later d w.b w.from
   goes-so standing powered present = steps-on o done s (In n) (In (suc n)) [] [] [] v later d d w w.sp step (record {
     minutes = w.minutes;
     until = w.until;
@@ -175,12 +175,12 @@ module _ (o : Origin) (done : List TraceSecond) (s : TraceSecond) (v : Values) (
   slots-now : now.slots ≡ with_slot c.slots slot None
   slots-now = ap (λ (k : Course). k.slots) done_.1
 
-  pub pulled-goes : (low : ℕ) → Stands low None v.cabin → GoesOn o done s (In (suc n)) [] None [] later d w.b w.from
+  pub pulled-goes : (low : ℕ) → CabinIsSound low None v.cabin → SecondGoesOn o done s (In (suc n)) [] None [] later d w.b w.from
   pulled-goes low stands = by (session_of v.cabin.cards card) refl
     where
-      by : (a : Option Accepted) → session_of v.cabin.cards card ≡ a → GoesOn o done s (In (suc n)) [] None [] later d w.b w.from
+      by : (a : Option Accepted) → session_of v.cabin.cards card ≡ a → SecondGoesOn o done s (In (suc n)) [] None [] later d w.b w.from
       by None is = goes-so w.standing
-          (subst (λ (cards : Cards). IsPowered o.found (carried later w.due (kept_all w.new w.b.run.book) w.standing w.brought) cards d) (sym (bare-same card v.cabin.cards is)) w.powered)
+          (subst (λ (cards : Cards). DevicesPowered o.found (carried later w.due (kept_all w.new w.b.run.book) w.standing w.brought) cards d) (sym (bare-same card v.cabin.cards is)) w.powered)
           (bare-present (start_at o) told0 (p.book.sure ++ w.new) c.left s.number w.from c.slots v.cabin w.tells slot card seated o.found w.standing c now w.present refl slots-now out-now is)
       by (Some a) is =
           let some : is_some (session_of v.cabin.cards card) ≡ true = ap (λ (q : Option Accepted). is_some q) is in

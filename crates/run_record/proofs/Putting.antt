@@ -9,11 +9,11 @@ use Rattle.trace_model.specs.declared.Action.TheVariants.{Insert}
 use Rattle.trace_model.specs.Trace.{TraceSecond}
 use Rattle.minute_model.specs.declared.Minute.{Minute}
 use Rattle.minute_model.specs.Span.{settled, decided_in}
-use Rattle.minute_rules.specs.Kept.{Kept, StandsFor}
+use Rattle.minute_rules.specs.Kept.{Kept, CountsSpan}
 use Rattle.log_model.specs.declared.lines.SlotFault.{SlotFault}
 use Rattle.log_model.specs.Log.{Phase, In}
 use Rattle.log_model.specs.Slots.{in_slot, refusal}
-use Rattle.log_model.specs.Course.{Told, Course, Visit, Before, Moved, moved_by, carried_out, went}
+use Rattle.log_model.specs.Course.{ToldSecond, Course, Visit, Before, Moved, moved_by, carried_out, went}
 use Rattle.safety_model.specs.Safe.{Devices, breakdowns_of}
 use Rattle.card_slots.specs.Kept.{IsFree}
 use Rattle.run_course.specs.Followed.{Progress}
@@ -31,8 +31,8 @@ use Rattle.run_promise.specs.Origin.{Origin, rule_of, start_at}
 use Rattle.run_devices.specs.Presence.{sits}
 use Rattle.run_devices.proofs.Presence.{step-leaves}
 use Rattle.run_record.specs.Recorded.{Values}
-use Rattle.run_record.specs.Within.{Beginning, told_before, course_in, GoesOnSo, Within, GoesOn}
-use Rattle.run_record.specs.Taking.{put_values, entered_alone, IsPut, ACardIsPutIn, AnEnteredCardIsNext}
+use Rattle.run_record.specs.Within.{Beginning, told_before, course_in, GoesOnSo, RecordInSecond, SecondGoesOn}
+use Rattle.run_record.specs.Taking.{put_values, entered_alone, IsPutIntoSlot, ACardIsPutIn, AnEnteredCardIsNext}
 use Rattle.run_record.proofs.Back.{back-at, back-plain}
 use Rattle.run_record.proofs.Known.{waits-there}
 use Rattle.run_record.proofs.Sitting.{sits-with}
@@ -56,8 +56,8 @@ slot-itself Driver = refl
 slot-itself CoDriver = refl
 
 module _ (o : Origin) (done : List TraceSecond) (s : TraceSecond) (v : Values) (d : Devices) (front : List Action) (slot : Slot) (card : Card) (rest : List Action) (are : s.actions ≡ front ++ Insert slot card ∷ rest)
-    (w : Within o done s (In (length front)) [] None [] v d) (is : refusal (course_in w.b done s (In (length front)) v.log).slots s.speed (Insert slot card) ≡ None)
-    (minutes : Kept) (stands : StandsFor minutes (settled w.sp)) (decided : List Minute) (decides : decided_in (settled w.sp) ≡ decided_in w.sp ++ decided) where
+    (w : RecordInSecond o done s (In (length front)) [] None [] v d) (is : refusal (course_in w.b done s (In (length front)) v.log).slots s.speed (Insert slot card) ≡ None)
+    (minutes : Kept) (stands : CountsSpan minutes (settled w.sp)) (decided : List Minute) (decides : decided_in (settled w.sp) ≡ decided_in w.sp ++ decided) where
   abbrev n : ℕ
   n = length front
 
@@ -67,7 +67,7 @@ module _ (o : Origin) (done : List TraceSecond) (s : TraceSecond) (v : Values) (
   abbrev was : Before
   was = (went p.log done).before
 
-  abbrev told0 : List Told
+  abbrev told0 : List ToldSecond
   told0 = told_before w.b done
 
   abbrev c : Course
@@ -128,7 +128,7 @@ module _ (o : Origin) (done : List TraceSecond) (s : TraceSecond) (v : Values) (
     travels = w.travels;
   }
 
-  pub put-goes : GoesOn o done s (In (suc n)) waits None decided later d w.b w.from
+  pub put-goes : SecondGoesOn o done s (In (suc n)) waits None decided later d w.b w.from
   put-goes = steps-on o done s (In n) (In (suc n)) [] waits decided v later d d w (settled w.sp) step (record {
     minutes = stands;
     until = settles-to o done s (In n) [] [] v d w minutes stands decided decides refl;
@@ -145,7 +145,7 @@ module _ (o : Origin) (done : List TraceSecond) (s : TraceSecond) (v : Values) (
       (action-reached p was s v.log front (Insert slot card) rest are (reaches-of p was s (In n) v.log [] w.b.broken (breakdowns_of d) w.moment)).2
       ∙ ap (λ (r : Option SlotFault). moved_by n r (Insert slot card) c.slots) is
 
-  pub is-put : IsPut o done s v d front slot card minutes decided w
+  pub is-put : IsPutIntoSlot o done s v d front slot card minutes decided w
   is-put = record {
     goes = put-goes;
     moved = subst (λ (b : Beginning). moved_at v.log (went b.run.log done).before s (In (suc n)) ≡ entered_alone slot) (sym put-goes.began) moved-so;

@@ -7,16 +7,16 @@ use Rattle.trace_model.specs.Trace.{TraceSecond}
 use Rattle.log_model.specs.declared.lines.Verdict.{Verdict}
 use Rattle.log_model.specs.Log.{RunLog, In}
 use Rattle.log_model.specs.Slots.{Slots, Sitting, same_card, is_accepted}
-use Rattle.log_model.specs.Course.{Told, Went, Course, Visit, fresh, powerless, cut_told, went}
+use Rattle.log_model.specs.Course.{ToldSecond, Went, Course, Visit, fresh, powerless, cut_told, went}
 use Rattle.run_unit_course.specs.Lines.{cut_at}
-use Rattle.run_unit_course.specs.Followed.{Supply, Lit, Due, Lost, MayPower, MayFail}
+use Rattle.run_unit_course.specs.Followed.{UnitPower, Lit, Due, Lost, MayPower, MayFail}
 use Rattle.safety_model.specs.Cards.{is_overlap}
 use Rattle.safety_model.specs.Safe.{Devices, card_of, breakdowns_of}
 use Rattle.run_crew.specs.Cabin.{with_power_lost}
 use Rattle.run_crew.specs.Cards.{with_session}
 use Rattle.run_crew.proofs.Sessions.{all_gone}
 use Rattle.run_course.specs.Moments.{and_break}
-use Rattle.run_course.specs.Followed.{Progress, Followed}
+use Rattle.run_course.specs.Followed.{Progress, BookFollowsRun}
 use Rattle.run_course.specs.Seconds.{GoesOnBy, next_told}
 use Rattle.run_course.specs.Presence.{SlotsTell}
 use Rattle.run_course.specs.Within.{not_begun}
@@ -32,7 +32,7 @@ use Rattle.run_promise.proofs.Seconds.{failed-recorded}
 use Rattle.run_promise.proofs.Beside.{second-tells, few-on, written-on, verdicts-on, spared-on, kept-later, kept-cut}
 use Rattle.run_promise.specs.Found.{found_of}
 use Rattle.run_promise.specs.Cards.{IsUntouched}
-use Rattle.run_record.specs.Recorded.{Values, progress, carried, IsWritten, IsOff, Recorded}
+use Rattle.run_record.specs.Recorded.{Values, progress, carried, IsWritten, RecordUnpowered, RecordBetweenSeconds}
 use Rattle.run_record.specs.Within.{cut_values}
 use Rattle.run_record.specs.Powering.{IsNotRead, AReadingFails}
 use Rattle.run_record.proofs.Parts.{entered-grows}
@@ -40,7 +40,7 @@ use Rattle.run_record.proofs.Stays.{since-later, since-cut}
 use Rattle.run_record.proofs.Powering.{off-of}
 
 -- where power may come it may fail
-may-fail : (supply : Supply) (next : ℕ) → MayPower supply next → MayFail supply next
+may-fail : (supply : UnitPower) (next : ℕ) → MayPower supply next → MayFail supply next
 may-fail (Lit span) next may = absurd may
 may-fail Due next may = tt
 may-fail Lost next may = may
@@ -49,12 +49,12 @@ dark-sitting : (x : Option Sitting) → is_accepted (powerless x) ≡ false
 dark-sitting None = refl
 dark-sitting (Some x) = refl
 
-module _ (o : Origin) (done : List TraceSecond) (s : TraceSecond) (supply : Supply) (v : Values) (d e : Devices) (r : Recorded o done supply v d) (may : MayPower supply v.next) (number : s.number ≡ v.next) (given : s.has_power ≡ true)
+module _ (o : Origin) (done : List TraceSecond) (s : TraceSecond) (supply : UnitPower) (v : Values) (d e : Devices) (r : RecordBetweenSeconds o done supply v d) (may : MayPower supply v.next) (number : s.number ≡ v.next) (given : s.has_power ≡ true)
     (failed : IsNotRead o done supply v d r e) where
   abbrev p : Progress
   p = progress v supply r.book
 
-  abbrev f : Followed (rule_of o) (start_at o) o.from (first_of o) done p
+  abbrev f : BookFollowsRun (rule_of o) (start_at o) o.from (first_of o) done p
   f = r.recorded.followed
 
   abbrev was : Went
@@ -63,13 +63,13 @@ module _ (o : Origin) (done : List TraceSecond) (s : TraceSecond) (supply : Supp
   abbrev log : RunLog
   log = and_break v.log (cut_at s.number true 0)
 
-  abbrev t : Told
+  abbrev t : ToldSecond
   t = next_told log done s
 
   abbrev ended : Course
   ended = cut_told true (not_begun s.actions (fresh true was.before.slots))
 
-  off : IsOff o done v (carried v r.due r.book r.standing r.brought) d
+  off : RecordUnpowered o done v (carried v r.due r.book r.standing r.brought) d
   off = off-of o done supply v (carried v r.due r.book r.standing r.brought) d may r.held
 
   ends : t ≡ told_with true true s ended
@@ -79,16 +79,16 @@ module _ (o : Origin) (done : List TraceSecond) (s : TraceSecond) (supply : Supp
   goes_by = record { number = number; given = given; breaks = (cut_at s.number true 0 ∷ [], refl, (number, tt)); finds = ([], sym (append-nil v.log.finds), tt) }
 
   is-next : t.second.number ≡ p.next
-  is-next = ap (λ (x : Told). x.second.number) ends ∙ number
+  is-next = ap (λ (x : ToldSecond). x.second.number) ends ∙ number
 
   none : t.course.found ≡ []
-  none = ap (λ (x : Told). x.course.found) ends
+  none = ap (λ (x : ToldSecond). x.course.found) ends
 
   told-now : (went log (done ++ s ∷ [])).told ≡ was.told ++ t ∷ []
   told-now = now-told (rule_of o) (start_at o) o.from (first_of o) done p f.order f.next f.unfound s log goes_by
 
   slots-now : (went log (done ++ s ∷ [])).before.slots ≡ ended.slots
-  slots-now = ap (λ (x : Went). x.before.slots) (now-is (rule_of o) (start_at o) o.from (first_of o) done p f.order f.next f.unfound s log goes_by) ∙ ap (λ (x : Told). x.course.slots) ends
+  slots-now = ap (λ (x : Went). x.before.slots) (now-is (rule_of o) (start_at o) o.from (first_of o) done p f.order f.next f.unfound s log goes_by) ∙ ap (λ (x : ToldSecond). x.course.slots) ends
 
   further : TellsMore was.told (went log (done ++ s ∷ [])).told (t ∷ []) v.next
   further = second-tells o done p f s log goes_by is-next
@@ -97,7 +97,7 @@ module _ (o : Origin) (done : List TraceSecond) (s : TraceSecond) (supply : Supp
   verdicts = verdicts-on o done (done ++ s ∷ []) v.log log v.unfound v.unfound v.marks v.marks d e (t ∷ []) v.next r.beside.verdicts failed.goes.left (λ mark among. among) further
       (λ x visit verdict among seen.
       let same : t ≡ x = ⊎_elim (λ nowhere. absurd (omega (arith, nowhere.1))) (λ here. here) (Contains-push_cases [] t x among) in
-      let gone : Contains {X = Visit × Verdict} [] (visit, verdict) = subst (λ (fs : List (Visit × Verdict)). Contains fs (visit, verdict)) (ap (λ (y : Told). y.course.found) (sym same) ∙ none) seen in
+      let gone : Contains {X = Visit × Verdict} [] (visit, verdict) = subst (λ (fs : List (Visit × Verdict)). Contains fs (visit, verdict)) (ap (λ (y : ToldSecond). y.course.found) (sym same) ∙ none) seen in
       absurd (omega (arith, gone.1)))
       (kept-cut (e.unit.left_since o.found.unit.began) v.unfound v.log.breaks s.number true 0 f.unfound (kept-later (d.unit.left_since o.found.unit.began) (e.unit.left_since o.found.unit.began) failed.goes.left.unit v.unfound v.log.breaks r.beside.verdicts.kept))
 
@@ -124,16 +124,16 @@ module _ (o : Origin) (done : List TraceSecond) (s : TraceSecond) (supply : Supp
 
   tells : SlotsTell (start_at o) (went log (done ++ s ∷ [])).told r.book.sure [] (suc v.next - 1) (suc v.next / 60) (went log (done ++ s ∷ [])).before.slots (with_power_lost s.number v.cabin).slots
   tells =
-      let T : Told = told_with true true s ended in
+      let T : ToldSecond = told_with true true s ended in
       let here = time-passes (start_at o) was.told r.book.sure (v.next - 1) s.number (v.next / 60) (v.next / 60) was.before.slots v.cabin.slots off.tells (omega (arith, number)) (omega arith) (omega (arith, number)) in
       let now = second-gone (start_at o) was.told r.book.sure (v.next / 60) T (with_power_lost s.number v.cabin).slots
       (power-lost (start_at o) was.told r.book.sure [] s.number (v.next / 60) was.before.slots v.cabin.slots here) in
       let on = time-passes (start_at o) (was.told ++ T ∷ []) r.book.sure s.number (suc v.next - 1) (v.next / 60) (suc v.next / 60) ended.slots (with_power_lost s.number v.cabin).slots now (omega (arith, number)) (omega arith) (omega arith) in
-      subst (λ (ts : List Told). SlotsTell (start_at o) ts r.book.sure [] (suc v.next - 1) (suc v.next / 60) (went log (done ++ s ∷ [])).before.slots (with_power_lost s.number v.cabin).slots) (sym told-now)
+      subst (λ (ts : List ToldSecond). SlotsTell (start_at o) ts r.book.sure [] (suc v.next - 1) (suc v.next / 60) (went log (done ++ s ∷ [])).before.slots (with_power_lost s.number v.cabin).slots) (sym told-now)
       (subst (λ (sl : Slots). SlotsTell (start_at o) (was.told ++ t ∷ []) r.book.sure [] (suc v.next - 1) (suc v.next / 60) sl (with_power_lost s.number v.cabin).slots) (sym slots-now)
-      (subst (λ (x : Told). SlotsTell (start_at o) (was.told ++ x ∷ []) r.book.sure [] (suc v.next - 1) (suc v.next / 60) ended.slots (with_power_lost s.number v.cabin).slots) (sym ends) on))
+      (subst (λ (x : ToldSecond). SlotsTell (start_at o) (was.told ++ x ∷ []) r.book.sure [] (suc v.next - 1) (suc v.next / 60) ended.slots (with_power_lost s.number v.cabin).slots) (sym ends) on))
 
-  pub reading-failed : Recorded o (done ++ s ∷ []) Lost (cut_values s (In 0) v) e
+  pub reading-failed : RecordBetweenSeconds o (done ++ s ∷ []) Lost (cut_values s (In 0) v) e
   reading-failed = record {
     book = r.book;
     travel = r.travel;

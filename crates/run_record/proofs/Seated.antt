@@ -7,7 +7,7 @@ use Rattle.trace_model.specs.Trace.{TraceSecond}
 use Rattle.log_model.specs.declared.lines.Break.{Break}
 use Rattle.log_model.specs.Log.{Phase, is_torn_in}
 use Rattle.log_model.specs.Slots.{Sitting, in_slot}
-use Rattle.log_model.specs.Course.{Told, Course, Visit, Before, visits, card_in as card_of_sitting, went}
+use Rattle.log_model.specs.Course.{ToldSecond, Course, Visit, Before, visits, card_in as card_of_sitting, went}
 use Rattle.device_rule.specs.Rules.{Standing, In as IsIn, Torn}
 use Rattle.safety_model.specs.Safe.{Devices, breakdowns_of}
 use Rattle.card_slots.specs.Kept.{Kept, taken}
@@ -24,11 +24,11 @@ use Rattle.run_course.specs.Kept.{StaysOut}
 use Rattle.run_course.proofs.Lines.{who-sits}
 use Rattle.run_course.proofs.Telling.{card-torn}
 use Rattle.run_course.proofs.Kept.{nothing-else}
-use Rattle.run_devices.specs.Told.{IsPowered, for_card}
+use Rattle.run_devices.specs.Told.{DevicesPowered, for_card}
 use Rattle.run_promise.specs.Origin.{Origin, rule_of, start_at}
 use Rattle.run_devices.specs.Presence.{PresentStand, sits}
 use Rattle.run_record.specs.Recorded.{Values, carried}
-use Rattle.run_record.specs.Within.{told_before, course_in, Within, GoesOn}
+use Rattle.run_record.specs.Within.{told_before, course_in, RecordInSecond, SecondGoesOn}
 use Rattle.run_record.specs.Judging.{torn_values}
 use Rattle.run_record.specs.Taking.{fallen, IsCalledSeated, ASeatedCardIsTorn, ASeatedTearFails}
 use Rattle.run_record.proofs.Back.{back-at, back-plain}
@@ -40,14 +40,14 @@ use Rattle.run_record.proofs.Onward.{IsStep, steps-on, step-fails}
 use Rattle.run_record.proofs.Torn.{slots-taken, back-torn, torn-present}
 use Rattle.run_record.proofs.Pulling.{sitting-now, standing-now}
 
-module _ (o : Origin) (done : List TraceSecond) (s : TraceSecond) (at : Phase) (v : Values) (d e : Devices) (w : Within o done s at [] None [] v d) (slot : Slot) (card : Card) (b : Break) (k : IsCalledSeated o done s at v d e w slot card b) where
+module _ (o : Origin) (done : List TraceSecond) (s : TraceSecond) (at : Phase) (v : Values) (d e : Devices) (w : RecordInSecond o done s at [] None [] v d) (slot : Slot) (card : Card) (b : Break) (k : IsCalledSeated o done s at v d e w slot card b) where
   abbrev p : Progress
   p = w.b.run
 
   abbrev was : Before
   was = (went p.log done).before
 
-  abbrev told0 : List Told
+  abbrev told0 : List ToldSecond
   told0 = told_before w.b done
 
   abbrev c : Course
@@ -117,7 +117,7 @@ module _ (o : Origin) (done : List TraceSecond) (s : TraceSecond) (at : Phase) (
   few : s.number / 60 ≤ w.from + 4
   few = let left = few-left o done s at [] [] v d w in omega (arith, left)
 
-  pub torn-goes : IsPowered o.found (carried v w.due (kept_all w.new w.b.run.book) fell w.brought) later.cabin.cards e → GoesOn o done s at [] None [] later e w.b w.from
+  pub torn-goes : DevicesPowered o.found (carried v w.due (kept_all w.new w.b.run.book) fell w.brought) later.cabin.cards e → SecondGoesOn o done s at [] None [] later e w.b w.from
   torn-goes powered = steps-on o done s at at [] [] [] v later d e w w.sp step (record {
     minutes = w.minutes;
     until = w.until;

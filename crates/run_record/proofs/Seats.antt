@@ -11,7 +11,7 @@ use Rattle.trace_model.specs.declared.Card.TheVariants.{A, B}
 use Rattle.trace_model.specs.declared.Action.TheVariants.{Insert}
 use Rattle.log_model.specs.declared.lines.SlotFault.TheVariants.{Occupied, Elsewhere}
 use Rattle.log_model.specs.Slots.{Slots, Sitting, same_card, in_slot, other_slot, holds, refusal}
-use Rattle.log_model.specs.Course.{Told, Course, card_in as card_of_sitting, with_slot}
+use Rattle.log_model.specs.Course.{ToldSecond, Course, card_in as card_of_sitting, with_slot}
 use Rattle.history_model.specs.Minutes.{HistoryMinute}
 use Rattle.history_model.specs.Presence.{Start}
 use Rattle.device_rule.specs.Rules.{Standing}
@@ -23,7 +23,7 @@ use Rattle.run_crew.specs.declared.cards.Accepted.{Accepted}
 use Rattle.run_crew.specs.declared.cards.Cards.{Cards}
 use Rattle.run_crew.specs.declared.cabin.Cabin.{Cabin}
 use Rattle.run_crew.specs.Cards.{known_of, session_of, with_session}
-use Rattle.run_crew.specs.Cabin.{SitsNowhere, AnswersTo, SeatAnswers, Stands, slot_with}
+use Rattle.run_crew.specs.Cabin.{SitsNowhere, AnswersTo, SeatAnswers, CabinIsSound, slot_with}
 use Rattle.run_crew.proofs.Sessions.{same_self}
 use Rattle.run_promise.specs.Found.{Found, found_of}
 use Rattle.run_course.specs.Presence.{SitsAs, has_left, SlotsTell}
@@ -156,7 +156,7 @@ pub card-seated : (card : Card) (seat : Option Seat) → card_in seat ≡ Some c
 card-seated card None is = absurd (cc)
 card-seated card (Some seat) is = let own : seat.card ≡ card = cc in ap (λ (c : Card). same_card c card) own ∙ same_self card
 
-module _ (start : Start) (told : List Told) (past : List HistoryMinute) (left : List Card) (number from : ℕ) (slots : Slots) (k : Kept) (h : SlotsTell start told past left number from slots k) where
+module _ (start : Start) (told : List ToldSecond) (past : List HistoryMinute) (left : List Card) (number from : ℕ) (slots : Slots) (k : Kept) (h : SlotsTell start told past left number from slots k) where
   pub seat-tells : (slot : Slot) → SitsAs start past from k (seat_in k.seats slot) (in_slot slots slot)
   seat-tells Driver = h.driver
   seat-tells CoDriver = h.codriver
@@ -234,7 +234,7 @@ seat-left c d None minute left is ne = absurd (cc)
 seat-left c d (Some seat) minute left is ne = let own : seat.card ≡ c = cc in left-other seat.card d seat.newest minute left (ap (λ (x : Card). same_card x d) own ∙ ne)
 
 -- A CARD WITH A SESSION in its slot is accepted there by the slots, and one without is not
-pub answers-in : (low : ℕ) (cabin : Cabin) → Stands low None cabin → (slot : Slot) → SeatAnswers low cabin.cards (seat_in cabin.slots.seats slot)
+pub answers-in : (low : ℕ) (cabin : Cabin) → CabinIsSound low None cabin → (slot : Slot) → SeatAnswers low cabin.cards (seat_in cabin.slots.seats slot)
 answers-in low cabin h Driver = h.driver
 answers-in low cabin h CoDriver = h.codriver
 
@@ -251,7 +251,7 @@ accepted-seat low cards card (Some seat) h is some =
 
 -- ---- where nobody sat a tear leaves the slots as they were
 
-pub tells-still : (start : Start) (told : List Told) (past : List HistoryMinute) (number from : ℕ) (slot : Slot) (old new : Course) (k : Kept) → SlotsTell start told past old.left number from old.slots k → IsTornFrom slot old new → in_slot old.slots slot ≡ None →
+pub tells-still : (start : Start) (told : List ToldSecond) (past : List HistoryMinute) (number from : ℕ) (slot : Slot) (old new : Course) (k : Kept) → SlotsTell start told past old.left number from old.slots k → IsTornFrom slot old new → in_slot old.slots slot ≡ None →
     SlotsTell start told past new.left number from new.slots k
 tells-still start told past number from slot old new k h is none =
     subst (λ (sl : Slots). SlotsTell start told past new.left number from sl k) (sym (is.slots ∙ empty-still old.slots slot none)) (record {

@@ -6,7 +6,7 @@ use Rattle.trace_model.specs.declared.Card.{Card}
 use Rattle.trace_model.specs.declared.Card.TheVariants.{A, B}
 use Rattle.trace_model.specs.Trace.{TraceSecond}
 use Rattle.log_model.specs.Slots.{Slots, Sitting, same_card, in_slot}
-use Rattle.log_model.specs.Course.{Told, with_slot}
+use Rattle.log_model.specs.Course.{ToldSecond, with_slot}
 use Rattle.history_model.specs.Minutes.{HistoryMinute}
 use Rattle.history_model.specs.Presence.{Start}
 use Rattle.card_slots.specs.declared.seats.Seat.{Seat}
@@ -37,7 +37,7 @@ sits-there start past from k (Some seat) (Some y) m h is =
     ap (λ (c : Card). same_card c m.card) (h.0 ∙ ap (λ (z : Sitting). z.card) e) ∙ itself m.card
 
 -- a card sits in one slot
-module _ (start : Start) (told : List Told) (past : List HistoryMinute) (left : List Card) (number from : ℕ) (slots : Slots) (k : Kept) (h : SlotsTell start told past left number from slots k) where
+module _ (start : Start) (told : List ToldSecond) (past : List HistoryMinute) (left : List Card) (number from : ℕ) (slots : Slots) (k : Kept) (h : SlotsTell start told past left number from slots k) where
   across : (m n : Sitting) → slots.driver ≡ Some m → slots.codriver ≡ Some n → m.card ≡ n.card → ⊥
   across m n driver codriver same =
       let a = sits-there start past from k k.seats.driver slots.driver m h.driver driver in
@@ -68,7 +68,7 @@ seat-of start past from k None (Some y) m h is = absurd h
 seat-of start past from k (Some seat) None m h is = absurd h
 seat-of start past from k (Some seat) (Some y) m h is = let e : y ≡ m = cc in (seat, refl, h.0 ∙ ap (λ (z : Sitting). z.card) e)
 
-pub seat-there : (start : Start) (told : List Told) (past : List HistoryMinute) (left : List Card) (number from : ℕ) (slots : Slots) (k : Kept) → SlotsTell start told past left number from slots k →
+pub seat-there : (start : Start) (told : List ToldSecond) (past : List HistoryMinute) (left : List Card) (number from : ℕ) (slots : Slots) (k : Kept) → SlotsTell start told past left number from slots k →
     (slot : Slot) (m : Sitting) → in_slot slots slot ≡ Some m → (y : Seat) × (seat_in k.seats slot ≡ Some y) × (y.card ≡ m.card)
 seat-there start told past left number from slots k h Driver m is = seat-of start past from k k.seats.driver slots.driver m h.driver is
 seat-there start told past left number from slots k h CoDriver m is = seat-of start past from k k.seats.codriver slots.codriver m h.codriver is

@@ -6,7 +6,7 @@ use Rattle.activity_codec.specs.declared.values.Slot.{Slot}
 use Rattle.activity_codec.specs.declared.values.Pick.{Pick}
 use Rattle.minute_model.specs.Minute.{minutes_ahead}
 use Rattle.minute_model.specs.Span.{Span, end_of, fed, settled, latest, ungiven_of}
-use Rattle.minute_rules.specs.Kept.{Kept, kept_at, StandsFor}
+use Rattle.minute_rules.specs.Kept.{Kept, kept_at, CountsSpan}
 use Rattle.history_model.specs.Growth.{picking, settled_where}
 use Rattle.run_course.specs.Kept.{settled_times}
 
@@ -46,7 +46,7 @@ some k = grind (arith, nat_tests)
 -- THE SAME MINUTES stand for both, and they have decided alike
 pub record AreAlike (a b : Span) : Type 0 where
   pub ungiven : ungiven_of a ≡ ungiven_of b
-  pub stands : (minutes : Kept) → StandsFor minutes a → StandsFor minutes b
+  pub stands : (minutes : Kept) → CountsSpan minutes a → CountsSpan minutes b
 
 alike-with : (ts : List ℕ) (b : Span) → latest ts ≡ latest b.settlings → (AllByRecursion (λ (t : ℕ). t ≤ end_of b) ts → AllByRecursion (λ (t : ℕ). t ≤ end_of b) b.settlings) → AreAlike (with ts b) b
 alike-with ts b same less =

@@ -9,7 +9,7 @@ use Rattle.log_model.specs.declared.lines.Break.{Break}
 use Rattle.log_model.specs.declared.lines.Verdict.{Verdict}
 use Rattle.log_model.specs.Log.{RunLog, Phase, In, Keeping, same_phase, phase_of, tears_here, is_torn_in}
 use Rattle.log_model.specs.Slots.{Slots, Sitting, in_slot}
-use Rattle.log_model.specs.Course.{Told, Course, Visit, visits, card_in, went}
+use Rattle.log_model.specs.Course.{ToldSecond, Course, Visit, visits, card_in, went}
 use Rattle.device_rule.specs.Rules.{Standing}
 use Rattle.safety_model.specs.Safe.{Devices, card_of, breakdowns_of}
 use Rattle.card_slots.specs.Kept.{Kept, left_of}
@@ -35,7 +35,7 @@ use Rattle.run_devices.specs.Presence.{PresentStand, IsSeated, sits}
 use Rattle.run_devices.proofs.Presence.{none-to_keep}
 use Rattle.run_promise.specs.Origin.{Origin, rule_of, start_at}
 use Rattle.run_record.specs.Recorded.{Values, AreBack, GoesOnIn}
-use Rattle.run_record.specs.Within.{told_before, course_in, often, IsFoundSo, MayBeWrittenSo, IsSparedSo, Within}
+use Rattle.run_record.specs.Within.{told_before, course_in, often, IsFoundSo, MayBeWrittenSo, IsSparedSo, RecordInSecond}
 use Rattle.run_record.proofs.Left.{verdict-left}
 use Rattle.run_record.proofs.Back.{back-by_now}
 use Rattle.run_record.proofs.Stays.{goes-taken, left-taken}
@@ -70,12 +70,12 @@ now-torn log s at slot b is =
     ∙ all-three (nat_eq s.number s.number) (same_phase (phase_of is.0 is.1) at) (same_slot slot slot) (same-number s.number) (ap (λ (q : Phase). same_phase q at) is.3 ∙ same-moment at) (itself slot))
     ∙ or-so (is_torn_in log s.number at slot)
 
-module _ (o : Origin) (done : List TraceSecond) (s : TraceSecond) (at : Phase) (waits fewer : List Visit) (v : Values) (d e : Devices) (w : Within o done s at waits None [] v d) (slot : Slot) (card : Card) (b : Break) (cabin : Cabin)
+module _ (o : Origin) (done : List TraceSecond) (s : TraceSecond) (at : Phase) (waits fewer : List Visit) (v : Values) (d e : Devices) (w : RecordInSecond o done s at waits None [] v d) (slot : Slot) (card : Card) (b : Break) (cabin : Cabin)
     (j : IsTornNext o done s at waits fewer v d e w slot card b cabin) where
   abbrev p : Progress
   p = w.b.run
 
-  abbrev told0 : List Told
+  abbrev told0 : List ToldSecond
   told0 = told_before w.b done
 
   abbrev c : Course

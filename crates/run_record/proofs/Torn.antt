@@ -4,7 +4,7 @@ use Rattle.activity_codec.specs.declared.values.Slot.{Slot}
 use Rattle.trace_model.specs.declared.Card.{Card}
 use Rattle.trace_model.specs.declared.Card.TheVariants.{A, B}
 use Rattle.log_model.specs.Slots.{Slots, same_card, in_slot}
-use Rattle.log_model.specs.Course.{Told, Course, Visit, with_slot}
+use Rattle.log_model.specs.Course.{ToldSecond, Course, Visit, with_slot}
 use Rattle.history_model.specs.Minutes.{HistoryMinute}
 use Rattle.history_model.specs.Presence.{Start}
 use Rattle.card_image.specs.Own.{IsOwnValid}
@@ -19,17 +19,17 @@ use Rattle.run_crew.specs.Cards.{session_of, with_session}
 use Rattle.run_crew.specs.Cabin.{left_from, torn_out}
 use Rattle.run_crew.proofs.Sessions.{same_is}
 use Rattle.run_promise.specs.Found.{Found, found_of}
-use Rattle.run_promise.specs.Between.{Carried}
+use Rattle.run_promise.specs.Between.{RunLedger}
 use Rattle.run_course.specs.Presence.{SlotsTell}
 use Rattle.run_course.specs.Kept.{StaysOut}
-use Rattle.run_devices.specs.Told.{AreFoundCards, IsPowered, for_card, with_standing}
+use Rattle.run_devices.specs.Told.{AreFoundCards, DevicesPowered, for_card, with_standing}
 use Rattle.run_devices.proofs.Begun.{tear-powered}
 use Rattle.run_devices.specs.Presence.{PresentStand, StaysSo, IsTornOut, sits}
 use Rattle.run_devices.proofs.Presence.{step-leaves}
 use Rattle.run_record.specs.Recorded.{AreBack}
 use Rattle.run_record.proofs.Seats.{no-both, this-or, for-this, for-other, still-has, other-has, old-less, found-less, card-seated, seat-tells, one-slot, which-slot, sits-back, emptied, seat-left}
 
-module _ (start : Start) (told : List Told) (past : List HistoryMinute) (left : List Card) (number from : ℕ) (slots : Slots) (cabin : Cabin) (h : SlotsTell start told past left number from slots cabin.slots) (slot : Slot) (card : Card) (seated : card_in (seat_in cabin.slots.seats slot) ≡ Some card) where
+module _ (start : Start) (told : List ToldSecond) (past : List HistoryMinute) (left : List Card) (number from : ℕ) (slots : Slots) (cabin : Cabin) (h : SlotsTell start told past left number from slots cabin.slots) (slot : Slot) (card : Card) (seated : card_in (seat_in cabin.slots.seats slot) ≡ Some card) where
   here : is_card (seat_in cabin.slots.seats slot) card ≡ true
   here = card-seated card (seat_in cabin.slots.seats slot) seated
 
@@ -106,7 +106,7 @@ module _ (start : Start) (told : List Told) (past : List HistoryMinute) (left : 
         )
 
 -- UNIT AND CARDS, where a card is pulled out and no device is called
-pub pull-powered : (f : Found) (w : Carried) (cards : Cards) (d : Devices) (card : Card) → IsPowered f w cards d → AreFoundCards f cards → (a : Accepted) → session_of cards card ≡ Some a → (time floor : ℕ) → (IsOwnValid (found_of f card).image → w.standing card ≡ In time a.session.minute) →
-    IsPowered f (with_standing card (Torn time a.session.minute floor) w) (with_session card None cards) d
+pub pull-powered : (f : Found) (w : RunLedger) (cards : Cards) (d : Devices) (card : Card) → DevicesPowered f w cards d → AreFoundCards f cards → (a : Accepted) → session_of cards card ≡ Some a → (time floor : ℕ) → (IsOwnValid (found_of f card).image → w.standing card ≡ In time a.session.minute) →
+    DevicesPowered f (with_standing card (Torn time a.session.minute floor) w) (with_session card None cards) d
 pull-powered f w cards d A p found a has time floor stands = tear-powered f w cards (with_session A None cards) A d.unit d.card_a d.card_b (found-less f A cards found) refl refl p a has time floor stands found
 pull-powered f w cards d B p found a has time floor stands = tear-powered f w cards (with_session B None cards) B d.unit d.card_b d.card_a (found-less f B cards found) refl refl p a has time floor stands found

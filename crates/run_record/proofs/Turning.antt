@@ -6,10 +6,10 @@ use Rattle.minute_model.specs.declared.Minute.{Minute}
 use Rattle.minute_model.specs.Minute.{class_of, minutes_ahead}
 use Rattle.minute_model.specs.Span.{Span, end_of, fed, fed_many, decided_in, ungiven_of, latest, count_from}
 use Rattle.minute_model.proofs.Spans.{decided-fed_many, fed_many-end}
-use Rattle.minute_rules.specs.Kept.{Kept, StandsFor, run, decided_now, minute_ended}
+use Rattle.minute_rules.specs.Kept.{Kept, CountsSpan, run, decided_now, minute_ended}
 use Rattle.minute_rules.proofs.Giving.{fed-stands, fed-given}
 use Rattle.log_model.specs.Log.{In, Keeping}
-use Rattle.log_model.specs.Course.{Told}
+use Rattle.log_model.specs.Course.{ToldSecond}
 use Rattle.history_model.proofs.Deciding.{counted}
 use Rattle.run_course.proofs.Steps.{lit-parts, span-end}
 use Rattle.run_course.specs.Kept.{settled_times}
@@ -19,7 +19,7 @@ use Rattle.safety_model.specs.Safe.{Devices}
 use Rattle.run_course.specs.Seconds.{next_told}
 use Rattle.run_promise.specs.Origin.{Origin, rule_of, start_at, first_of}
 use Rattle.run_record.specs.Recorded.{Values}
-use Rattle.run_record.specs.Within.{Beginning, Within, GoesOn, RecordedFrom, undecided_from, begun_behind, passed_values}
+use Rattle.run_record.specs.Within.{Beginning, RecordInSecond, SecondGoesOn, RecordedFrom, undecided_from, begun_behind, passed_values}
 use Rattle.run_record.specs.Turning.{BehindFirst, last_of, before_last, IsTurned, ATurnIsFed, TheTurnEnds}
 use Rattle.run_record.proofs.Beginning.{second-begins}
 use Rattle.run_record.proofs.Feeding.{second-is_fed}
@@ -55,7 +55,7 @@ often speed zero k = k
 often speed (suc n) k = once speed (often speed n k)
 
 -- within a minute one second decides nothing
-still-decides : (k : Kept) (span : Span) (speed : ℕ) → StandsFor k span → k.next % 60 + 1 < 60 → decided_in (fed span speed) ≡ decided_in span ++ []
+still-decides : (k : Kept) (span : Span) (speed : ℕ) → CountsSpan k span → k.next % 60 + 1 < 60 → decided_in (fed span speed) ≡ decided_in span ++ []
 still-decides k span speed h within =
     decided-fed_many span speed 1 h.numbered h.settled (omega arith)
     ∙ ap (λ (n : ℕ). decided_in span ++ map (class_of span.rule (fed span speed).seconds) (count_from (ungiven_of span) n)) none
@@ -76,17 +76,17 @@ still-decides k span speed h within =
     none = ap (λ (u : ℕ). u - ungiven_of span) same ∙ itself (ungiven_of span)
 
 -- the number of the next second
-next-of : (k : Kept) (span : Span) (speed n : ℕ) → StandsFor k span → StandsFor (often speed n k) (fed_many span speed n) → (often speed n k).next ≡ k.next + n
+next-of : (k : Kept) (span : Span) (speed n : ℕ) → CountsSpan k span → CountsSpan (often speed n k) (fed_many span speed n) → (often speed n k).next ≡ k.next + n
 next-of k span speed n h on = ap (λ (x : Kept). x.next) on.kept ∙ fed_many-end span speed n ∙ ap (λ (e : ℕ). e + n) (sym (ap (λ (x : Kept). x.next) h.kept))
 
-often-stands : (k : Kept) (span : Span) (speed n : ℕ) → StandsFor k span → k.next % 60 + n ≤ 60 → StandsFor (often speed n k) (fed_many span speed n)
+often-stands : (k : Kept) (span : Span) (speed n : ℕ) → CountsSpan k span → k.next % 60 + n ≤ 60 → CountsSpan (often speed n k) (fed_many span speed n)
 often-stands k span speed zero h within = h
 often-stands k span speed (suc n) h within =
     let before = often-stands k span speed n h (omega (arith, within)) in
     let next = next-of k span speed n h before in
     fed-stands (fed_many span speed n) (often speed n k) speed 1 before (omega (arith, next, within)) (omega arith)
 
-often-decides : (k : Kept) (span : Span) (speed n : ℕ) → StandsFor k span → k.next % 60 + n < 60 → decided_in (fed_many span speed n) ≡ decided_in span
+often-decides : (k : Kept) (span : Span) (speed n : ℕ) → CountsSpan k span → k.next % 60 + n < 60 → decided_in (fed_many span speed n) ≡ decided_in span
 often-decides k span speed zero h within = refl
 often-decides k span speed (suc n) h within =
     let before = often-stands k span speed n h (omega (arith, within)) in
@@ -94,16 +94,16 @@ often-decides k span speed (suc n) h within =
     still-decides (often speed n k) (fed_many span speed n) speed before (omega (arith, next, within)) ∙ append-nil (decided_in (fed_many span speed n)) ∙ often-decides k span speed n h (omega (arith, within))
 
 -- a list that has one more has a first one
-record IsFirst (xs : List Told) : Type 0 where
-  first : Told
-  others : List Told
+record IsFirst (xs : List ToldSecond) : Type 0 where
+  first : ToldSecond
+  others : List ToldSecond
   are : xs ≡ first ∷ others
 
-first-of : (xs : List Told) (t : Told) → IsFirst (xs ++ t ∷ [])
+first-of : (xs : List ToldSecond) (t : ToldSecond) → IsFirst (xs ++ t ∷ [])
 first-of [] t = record { first = t; others = []; are = refl }
 first-of (x ∷ xs) t = record { first = x; others = xs ++ t ∷ []; are = refl }
 
-module _ (o : Origin) (done : List TraceSecond) (s : TraceSecond) (v : Values) (d : Devices) (w : Within o done s (In (length s.actions)) [] None [] v d) where
+module _ (o : Origin) (done : List TraceSecond) (s : TraceSecond) (v : Values) (d : Devices) (w : RecordInSecond o done s (In (length s.actions)) [] None [] v d) where
   abbrev gone : (next begun : ℕ) → Kept → Values
   gone next begun minutes = record v { minutes = minutes; next = next; begun = begun }
 
@@ -115,7 +115,7 @@ module _ (o : Origin) (done : List TraceSecond) (s : TraceSecond) (v : Values) (
   end-settled zero x = refl
   end-settled (suc k) x = end-settled k x
 
-  begins-at : (span : List Told) → w.b.run.supply ≡ Lit span → end_of (span_at (rule_of o) w.b.run.next span) ≡ w.b.run.next
+  begins-at : (span : List ToldSecond) → w.b.run.supply ≡ Lit span → end_of (span_at (rule_of o) w.b.run.next span) ≡ w.b.run.next
   begins-at [] lit = omega arith
   begins-at (t ∷ span) lit =
       let f = lit-parts (rule_of o) (start_at o) o.from (first_of o) done w.b.run w.began.followed (t ∷ span) lit w.began.waiting in
@@ -131,8 +131,8 @@ module _ (o : Origin) (done : List TraceSecond) (s : TraceSecond) (v : Values) (
 
   -- BEHIND THE SECOND and j more, all of one minute, of which none was the last
   record At (j : ℕ) : Type 0 where
-    t : Told
-    span : List Told
+    t : ToldSecond
+    span : List ToldSecond
     next : ℕ
     begun : ℕ
     next_is : next ≡ v.next + suc j
@@ -140,8 +140,8 @@ module _ (o : Origin) (done : List TraceSecond) (s : TraceSecond) (v : Values) (
     undecided : undecided_from o (t ∷ span) (gone next begun (often s.speed (suc j) v.minutes)) ≡ w.from
 
   -- a second that is over
-  over : (before : List TraceSecond) (x : TraceSecond) (y : Values) → (g : Within o before x Keeping [] (Some x.speed) [] y d) → (first : ℕ) → g.from ≡ first → (travel : List ℕ) → g.b.travel.before ≡ travel →
-      (t : Told) × ((span : List Told) × (RecordedFrom o (before ++ x ∷ []) (Lit (t ∷ span)) (passed_values x y) d travel × (undecided_from o (t ∷ span) (passed_values x y) ≡ first)))
+  over : (before : List TraceSecond) (x : TraceSecond) (y : Values) → (g : RecordInSecond o before x Keeping [] (Some x.speed) [] y d) → (first : ℕ) → g.from ≡ first → (travel : List ℕ) → g.b.travel.before ≡ travel →
+      (t : ToldSecond) × ((span : List ToldSecond) × (RecordedFrom o (before ++ x ∷ []) (Lit (t ∷ span)) (passed_values x y) d travel × (undecided_from o (t ∷ span) (passed_values x y) ≡ first)))
   over before x y g first from travel same =
       let f = first-of g.b.span (next_told y.log before x) in
       let all = second-over o before x y d g in (
@@ -149,8 +149,8 @@ module _ (o : Origin) (done : List TraceSecond) (s : TraceSecond) (v : Values) (
         (
           f.others,
           (
-            subst (λ (ts : List Told). RecordedFrom o (before ++ x ∷ []) (Lit ts) (passed_values x y) d travel) f.are (subst (λ (ks : List ℕ). RecordedFrom o (before ++ x ∷ []) (Lit (g.b.span ++ next_told y.log before x ∷ [])) (passed_values x y) d ks) same all),
-            subst (λ (ts : List Told). undecided_from o ts (passed_values x y) ≡ first) f.are (sym (from-is o before x y d g) ∙ from),
+            subst (λ (ts : List ToldSecond). RecordedFrom o (before ++ x ∷ []) (Lit ts) (passed_values x y) d travel) f.are (subst (λ (ks : List ℕ). RecordedFrom o (before ++ x ∷ []) (Lit (g.b.span ++ next_told y.log before x ∷ [])) (passed_values x y) d ks) same all),
+            subst (λ (ts : List ToldSecond). undecided_from o ts (passed_values x y) ≡ first) f.are (sym (from-is o before x y d g) ∙ from),
           ),
         ),
       )
@@ -160,7 +160,7 @@ module _ (o : Origin) (done : List TraceSecond) (s : TraceSecond) (v : Values) (
   at-first within =
       let e = minutes-next in
       let k : Kept = once s.speed v.minutes in
-      let stands : StandsFor k (fed w.sp s.speed) = fed-stands w.sp v.minutes s.speed 1 w.minutes (omega (arith, e, within)) (omega arith) in
+      let stands : CountsSpan k (fed w.sp s.speed) = fed-stands w.sp v.minutes s.speed 1 w.minutes (omega (arith, e, within)) (omega arith) in
       let g = second-is_fed o done s v d w k stands [] (still-decides v.minutes w.sp s.speed w.minutes (omega (arith, e, within))) in
       let r = over done s (record v { minutes = k }) g.within w.from g.from w.b.travel.before (ap (λ (b : Beginning). b.travel.before) g.began) in
       record {
@@ -175,7 +175,7 @@ module _ (o : Origin) (done : List TraceSecond) (s : TraceSecond) (v : Values) (
 
   -- the next one begins
   next-begins : (j : ℕ) → v.next % 60 + suc (suc j) ≤ 60 → (a : At j) →
-      GoesOn o (done ++ s ∷ driven j (s.number + 1) s.speed []) (last_of (suc j) s) (In 0) [] None [] (gone a.next a.begun (often s.speed (suc j) v.minutes)) d
+      SecondGoesOn o (done ++ s ∷ driven j (s.number + 1) s.speed []) (last_of (suc j) s) (In 0) [] None [] (gone a.next a.begun (often s.speed (suc j) v.minutes)) d
       (begun_behind o (done ++ s ∷ driven j (s.number + 1) s.speed []) (a.t ∷ a.span) (gone a.next a.begun (often s.speed (suc j) v.minutes)) d a.behind.recorded)
       (undecided_from o (a.t ∷ a.span) (gone a.next a.begun (often s.speed (suc j) v.minutes)))
   next-begins j within a =
@@ -183,8 +183,8 @@ module _ (o : Origin) (done : List TraceSecond) (s : TraceSecond) (v : Values) (
       (let is = number in let next = a.next_is in omega (arith, is, next)) refl (let next = a.next_is in omega (arith, next, within))
 
   -- and is fed with these minutes, which it decides
-  next-fed : (j : ℕ) (minutes : Kept) (rest : List Minute) → v.next % 60 + suc (suc j) ≤ 60 → (a : At j) → ((x : Span) → StandsFor (often s.speed (suc j) v.minutes) x → StandsFor minutes (fed x s.speed) × (decided_in (fed x s.speed) ≡ decided_in x ++ rest)) →
-      GoesOn o (done ++ s ∷ driven j (s.number + 1) s.speed []) (last_of (suc j) s) Keeping [] (Some s.speed) rest (gone a.next a.begun minutes) d
+  next-fed : (j : ℕ) (minutes : Kept) (rest : List Minute) → v.next % 60 + suc (suc j) ≤ 60 → (a : At j) → ((x : Span) → CountsSpan (often s.speed (suc j) v.minutes) x → CountsSpan minutes (fed x s.speed) × (decided_in (fed x s.speed) ≡ decided_in x ++ rest)) →
+      SecondGoesOn o (done ++ s ∷ driven j (s.number + 1) s.speed []) (last_of (suc j) s) Keeping [] (Some s.speed) rest (gone a.next a.begun minutes) d
       (begun_behind o (done ++ s ∷ driven j (s.number + 1) s.speed []) (a.t ∷ a.span) (gone a.next a.begun (often s.speed (suc j) v.minutes)) d a.behind.recorded) w.from
   next-fed j minutes rest within a feeds =
       let b = next-begins j within a in
@@ -197,7 +197,7 @@ module _ (o : Origin) (done : List TraceSecond) (s : TraceSecond) (v : Values) (
       let e = minutes-next in
       next-of v.minutes w.sp s.speed (suc j) w.minutes (often-stands v.minutes w.sp s.speed (suc j) w.minutes (omega (arith, e, within))) ∙ ap (λ (n : ℕ). n + suc j) e
 
-  feeds-on : (j : ℕ) → v.next % 60 + suc (suc j) ≤ 60 → (x : Span) → StandsFor (often s.speed (suc j) v.minutes) x → StandsFor (often s.speed (suc (suc j)) v.minutes) (fed x s.speed)
+  feeds-on : (j : ℕ) → v.next % 60 + suc (suc j) ≤ 60 → (x : Span) → CountsSpan (often s.speed (suc j) v.minutes) x → CountsSpan (often s.speed (suc (suc j)) v.minutes) (fed x s.speed)
   feeds-on j within x h = let at = minutes-at j within in fed-stands x (often s.speed (suc j) v.minutes) s.speed 1 h (omega (arith, at, within)) (omega arith)
 
   at-each : (j : ℕ) → v.next % 60 + suc j < 60 → At j
@@ -219,9 +219,9 @@ module _ (o : Origin) (done : List TraceSecond) (s : TraceSecond) (v : Values) (
       }
 
   -- WHAT THE SECONDS DECIDE is decided by the last
-  module _ (n : ℕ) (within : v.next % 60 + suc n ≤ 60) (minutes : Kept) (stands : (x : Span) → StandsFor v.minutes x → StandsFor minutes (fed_many x s.speed (suc n))) (rest : List Minute)
-      (decides : (x : Span) → StandsFor v.minutes x → decided_in (fed_many x s.speed (suc n)) ≡ decided_in x ++ rest) where
-    before-stands : StandsFor (often s.speed n v.minutes) (fed_many w.sp s.speed n)
+  module _ (n : ℕ) (within : v.next % 60 + suc n ≤ 60) (minutes : Kept) (stands : (x : Span) → CountsSpan v.minutes x → CountsSpan minutes (fed_many x s.speed (suc n))) (rest : List Minute)
+      (decides : (x : Span) → CountsSpan v.minutes x → decided_in (fed_many x s.speed (suc n)) ≡ decided_in x ++ rest) where
+    before-stands : CountsSpan (often s.speed n v.minutes) (fed_many w.sp s.speed n)
     before-stands = let e = minutes-next in often-stands v.minutes w.sp s.speed n w.minutes (omega (arith, e, within))
 
     before-next : (often s.speed n v.minutes).next ≡ v.next + n
@@ -241,24 +241,24 @@ module _ (o : Origin) (done : List TraceSecond) (s : TraceSecond) (v : Values) (
         ∙ sym (fed-given (fed_many w.sp s.speed n) (often s.speed n v.minutes) s.speed 1 before-stands (omega (arith, at, within)) (omega arith))
         ∙ decides w.sp w.minutes)
 
-    feeds-last : (x : Span) → StandsFor (often s.speed n v.minutes) x → StandsFor minutes (fed x s.speed) × (decided_in (fed x s.speed) ≡ decided_in x ++ rest)
+    feeds-last : (x : Span) → CountsSpan (often s.speed n v.minutes) x → CountsSpan minutes (fed x s.speed) × (decided_in (fed x s.speed) ≡ decided_in x ++ rest)
     feeds-last x h =
         let at = before-next in (
-          subst (λ (k : Kept). StandsFor k (fed x s.speed)) minutes-are (fed-stands x (often s.speed n v.minutes) s.speed 1 h (omega (arith, at, within)) (omega arith)),
+          subst (λ (k : Kept). CountsSpan k (fed x s.speed)) minutes-are (fed-stands x (often s.speed n v.minutes) s.speed 1 h (omega (arith, at, within)) (omega arith)),
           fed-given x (often s.speed n v.minutes) s.speed 1 h (omega (arith, at, within)) (omega arith) ∙ ap (λ (ds : List Minute). decided_in x ++ ds) rest-is,
         )
 
 -- behind them, by the number of the last one
-record IsTo (o : Origin) (done : List TraceSecond) (s : TraceSecond) (n : ℕ) (rest : List Minute) (minutes : Kept) (v : Values) (d : Devices) (w : Within o done s (In (length s.actions)) [] None [] v d) (next : ℕ) : Type 0 where
+record IsTo (o : Origin) (done : List TraceSecond) (s : TraceSecond) (n : ℕ) (rest : List Minute) (minutes : Kept) (v : Values) (d : Devices) (w : RecordInSecond o done s (In (length s.actions)) [] None [] v d) (next : ℕ) : Type 0 where
   begun : ℕ
-  fed : Within o (before_last n s done) (last_of n s) Keeping [] (Some s.speed) rest (record v { minutes = minutes; next = next; begun = begun }) d
+  fed : RecordInSecond o (before_last n s done) (last_of n s) Keeping [] (Some s.speed) rest (record v { minutes = minutes; next = next; begun = begun }) d
   travelled_before : fed.b.travel.before ≡ w.b.travel.before
   from : fed.from ≡ w.from
   first : n ≡ 0 → fed.b ≡ w.b
   goes_on : 0 < n → (fed.b.run.log ≡ v.log) × (begins_with fed.b.span ≡ false)
   behind : 0 < n → BehindFirst o done s v d
 
-turned-to : (o : Origin) (done : List TraceSecond) (s : TraceSecond) (n : ℕ) (rest : List Minute) (minutes : Kept) (v : Values) (d : Devices) (w : Within o done s (In (length s.actions)) [] None [] v d) (next : ℕ) → next ≡ v.next + n → IsTo o done s n rest minutes v d w next →
+turned-to : (o : Origin) (done : List TraceSecond) (s : TraceSecond) (n : ℕ) (rest : List Minute) (minutes : Kept) (v : Values) (d : Devices) (w : RecordInSecond o done s (In (length s.actions)) [] None [] v d) (next : ℕ) → next ≡ v.next + n → IsTo o done s n rest minutes v d w next →
     IsTurned o done s n rest minutes v d w
 turned-to o done s n rest minutes v d w next same to =
     let h = subst (λ (k : ℕ). IsTo o done s n rest minutes v d w k) same to in

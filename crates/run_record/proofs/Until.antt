@@ -7,27 +7,27 @@ use Rattle.minute_model.specs.declared.Minute.{Minute}
 use Rattle.minute_model.specs.Minute.{minutes_ahead}
 use Rattle.minute_model.specs.Span.{Span, end_of, settled, decided_in, ungiven_of}
 use Rattle.minute_model.proofs.Counted.{ungiven-most, ungiven-settled}
-use Rattle.minute_rules.specs.Kept.{Kept, StandsFor}
+use Rattle.minute_rules.specs.Kept.{Kept, CountsSpan}
 use Rattle.log_model.specs.Log.{Phase}
-use Rattle.log_model.specs.Course.{Told, Visit}
+use Rattle.log_model.specs.Course.{ToldSecond, Visit}
 use Rattle.history_model.specs.Presence.{Start}
 use Rattle.history_model.proofs.Deciding.{counted}
-use Rattle.run_unit_course.specs.Followed.{Supply, Lit}
+use Rattle.run_unit_course.specs.Followed.{UnitPower, Lit}
 use Rattle.run_unit_course.specs.Turn.{span_at}
 use Rattle.safety_model.specs.Safe.{Devices}
-use Rattle.run_course.specs.Followed.{Progress, Followed}
+use Rattle.run_course.specs.Followed.{Progress, BookFollowsRun}
 use Rattle.run_course.proofs.Steps.{span-end}
 use Rattle.run_course.proofs.Kept.{times-end}
 use Rattle.run_promise.specs.Origin.{Origin, rule_of, start_at, first_of}
 use Rattle.run_record.specs.Recorded.{Values}
-use Rattle.run_record.specs.Within.{Within}
+use Rattle.run_record.specs.Within.{RecordInSecond}
 use Rattle.run_record.proofs.Feeding.{decided-many}
 
 -- a span so far ends with the next second
-base-end : (rule : Rule) (start : Start) (from first : ℕ) (done : List TraceSecond) (p : Progress) → Followed rule start from first done p → (span : List Told) → p.supply ≡ Lit span → end_of (span_at rule p.next span) ≡ p.next
+base-end : (rule : Rule) (start : Start) (from first : ℕ) (done : List TraceSecond) (p : Progress) → BookFollowsRun rule start from first done p → (span : List ToldSecond) → p.supply ≡ Lit span → end_of (span_at rule p.next span) ≡ p.next
 base-end rule start from first done p g [] is = omega arith
 base-end rule start from first done p g (t ∷ span) is =
-    let f = subst (λ (s : Supply). Followed rule start from first done (record p { supply = s })) is g in
+    let f = subst (λ (s : UnitPower). BookFollowsRun rule start from first done (record p { supply = s })) is g in
     let end = span-end p.log from done f.ended t span p.next f.order f.next f.power.running f.spans in
     let n = counted (t ∷ span) in
     omega (arith, end, n)
@@ -39,7 +39,7 @@ ahead-few Amended = omega arith
 span-few : (span : Span) → end_of span / 60 ≤ ungiven_of span + 3
 span-few span = let few = ahead-few span.rule in omega (arith, few)
 
-module _ (o : Origin) (done : List TraceSecond) (s : TraceSecond) (at : Phase) (waits : List Visit) (rest : List Minute) (v : Values) (d : Devices) (w : Within o done s at waits None rest v d) where
+module _ (o : Origin) (done : List TraceSecond) (s : TraceSecond) (at : Phase) (waits : List Visit) (rest : List Minute) (v : Values) (d : Devices) (w : RecordInSecond o done s at waits None rest v d) where
   abbrev base : Span
   base = span_at (rule_of o) w.b.run.next w.b.span
 
@@ -60,7 +60,7 @@ module _ (o : Origin) (done : List TraceSecond) (s : TraceSecond) (at : Phase) (
       (subst (λ (n : ℕ). end_of w.sp / 60 ≤ n + 3) (sym w.until) (span-few w.sp))
 
   -- what a settling decides, where nothing was left
-  pub settles-to : (minutes : Kept) → StandsFor minutes (settled w.sp) → (decided : List Minute) → decided_in (settled w.sp) ≡ decided_in w.sp ++ decided → rest ≡ [] → w.from + length decided ≡ ungiven_of (settled w.sp)
+  pub settles-to : (minutes : Kept) → CountsSpan minutes (settled w.sp) → (decided : List Minute) → decided_in (settled w.sp) ≡ decided_in w.sp ++ decided → rest ≡ [] → w.from + length decided ≡ ungiven_of (settled w.sp)
   settles-to minutes stands decided is none =
       let before = decided-many w.sp v.minutes w.minutes in
       let behind = decided-many (settled w.sp) minutes stands in
@@ -72,5 +72,5 @@ module _ (o : Origin) (done : List TraceSecond) (s : TraceSecond) (at : Phase) (
       let high : w.sp.first / 60 ≤ ungiven_of (settled w.sp) = omega arith in
       omega (arith, before, behind, count, parts, here, zero_, low, high)
 
-  pub settles-here : (minutes : Kept) → StandsFor minutes (settled w.sp) → (decided : List Minute) → decided_in (settled w.sp) ≡ decided_in w.sp ++ decided → rest ≡ [] → w.from + length decided ≡ s.number / 60
+  pub settles-here : (minutes : Kept) → CountsSpan minutes (settled w.sp) → (decided : List Minute) → decided_in (settled w.sp) ≡ decided_in w.sp ++ decided → rest ≡ [] → w.from + length decided ≡ s.number / 60
   settles-here minutes stands decided is none = settles-to minutes stands decided is none ∙ ungiven-settled w.sp w.minutes.settled ∙ ap (λ (n : ℕ). n / 60) now-end

@@ -3,13 +3,13 @@ use Rattle.std.specs.Prelude.{◌≡◌, ℕ, ◌/◌, true, None, List, [], ◌
 use Rattle.trace_model.specs.declared.Card.{Card}
 use Rattle.trace_model.specs.Trace.{TraceSecond}
 use Rattle.run_model.specs.declared.Device.TheVariants.{Unit as Recorder}
-use Rattle.minute_rules.specs.Kept.{Kept, StandsFor}
+use Rattle.minute_rules.specs.Kept.{Kept, CountsSpan}
 use Rattle.log_model.specs.Log.{In}
 use Rattle.log_model.specs.Causes.{RoseBy}
 use Rattle.log_model.specs.Course.{fresh}
 use Rattle.history_model.specs.Book.{found}
 use Rattle.run_unit_course.specs.Lines.{found_from}
-use Rattle.run_unit_course.specs.Followed.{Supply, Lost, MayPower}
+use Rattle.run_unit_course.specs.Followed.{UnitPower, Lost, MayPower}
 use Rattle.run_unit_course.specs.Legs.{resumed}
 use Rattle.run_unit_course.specs.Travelled.{MayShow}
 use Rattle.run_unit_course.specs.Turn.{span_at}
@@ -19,12 +19,12 @@ use Rattle.safety_model.specs.Safe.{Devices, card_of, breakdowns_of}
 use Rattle.run_promise.specs.Found.{found_of}
 use Rattle.run_promise.specs.Cards.{IsUntouched}
 use Rattle.run_course.specs.Telling.{IsMore}
-use Rattle.run_devices.specs.Told.{all_out, IsPowered, IsPowerless}
+use Rattle.run_devices.specs.Told.{all_out, DevicesPowered, DevicesUnpowered}
 use Rattle.run_promise.specs.Origin.{Origin, rule_of, first_of}
 use Rattle.run_promise.specs.Beside.{HaveLeftMore}
 use Rattle.run_promise.specs.Seconds.{found_again}
-use Rattle.run_record.specs.Recorded.{Values, progress, carried, slots_of, AreThere, Recorded}
-use Rattle.run_record.specs.Within.{Beginning, GoesOn, CutWithin, cut_values}
+use Rattle.run_record.specs.Recorded.{Values, progress, carried, slots_of, AreThere, RecordBetweenSeconds}
+use Rattle.run_record.specs.Within.{Beginning, SecondGoesOn, RecordAtFailure, cut_values}
 
 -- what a run has by value once its unit was read: of the cuts since it was read before it is known what was kept
 abbrev pub read_values : (k : ℕ) → Values → Values
@@ -55,46 +55,46 @@ abbrev pub WasRead : Origin → ℕ → Devices → Type 0
 WasRead o k e = (x : List ℕ) × e.unit.left_since o.found.unit.began x × (last_kept x ≡ k)
 
 -- THE UNIT WAS READ AND MENDED: it showed this last-kept minute, and an odometer of this leg; no card is accepted.
-pub record IsBack (o : Origin) (done : List TraceSecond) (supply : Supply) (v : Values) (d : Devices) (r : Recorded o done supply v d) (k : ℕ) (minutes : Kept) (e : Devices) : Type 0 where
+pub record IsBack (o : Origin) (done : List TraceSecond) (supply : UnitPower) (v : Values) (d : Devices) (r : RecordBetweenSeconds o done supply v d) (k : ℕ) (minutes : Kept) (e : Devices) : Type 0 where
   pub leg : ℕ
   pub shows : MayShow (first_of o) r.book r.travel k leg
   pub read : WasRead o k e
-  pub stands : StandsFor minutes (span_at (rule_of o) v.next [])
-  pub powered : IsPowered o.found (all_out (carried (begun_values k minutes v) r.due (found k r.book) r.standing r.brought)) v.cabin.cards e
+  pub stands : CountsSpan minutes (span_at (rule_of o) v.next [])
+  pub powered : DevicesPowered o.found (all_out (carried (begun_values k minutes v) r.due (found k r.book) r.standing r.brought)) v.cabin.cards e
   pub goes : GoOn o d e
   pub travels : HasTravelled (odometer_at o.recording.unit) (found k r.book) (resumed leg r.travel) e.unit
 
 -- how a second begins with power
-abbrev pub begun_again : (o : Origin) (done : List TraceSecond) (supply : Supply) (v : Values) (d : Devices) → Recorded o done supply v d → (k leg : ℕ) (e : Devices) → Beginning
+abbrev pub begun_again : (o : Origin) (done : List TraceSecond) (supply : UnitPower) (v : Values) (d : Devices) → RecordBetweenSeconds o done supply v d → (k leg : ℕ) (e : Devices) → Beginning
 begun_again o done supply v d r k leg e = record { run = found_again k (progress v supply r.book); span = []; travel = resumed leg r.travel; marks = v.marks; broken = breakdowns_of e; brought = r.brought }
 
 -- POWER IS BACK: the second begins with it, and each card in a slot waits to be judged anew.
 abbrev pub PowerIsBack : (d e : Devices) → Type 0
-PowerIsBack d e = (o : Origin) (done : List TraceSecond) (s : TraceSecond) (supply : Supply) (v : Values) → (r : Recorded o done supply v d) → MayPower supply v.next → s.number ≡ v.next → s.has_power ≡ true →
+PowerIsBack d e = (o : Origin) (done : List TraceSecond) (s : TraceSecond) (supply : UnitPower) (v : Values) → (r : RecordBetweenSeconds o done supply v d) → MayPower supply v.next → s.number ≡ v.next → s.has_power ≡ true →
     (k : ℕ) (minutes : Kept) → (back : IsBack o done supply v d r k minutes e) →
-    GoesOn o done s (In 0) (fresh true (slots_of v done)).entered None [] (counted_from (odometer_found o r.travel.before back.leg) (begun_values k minutes v)) e (begun_again o done supply v d r k back.leg e) (s.number / 60)
+    SecondGoesOn o done s (In 0) (fresh true (slots_of v done)).entered None [] (counted_from (odometer_found o r.travel.before back.leg) (begun_values k minutes v)) e (begun_again o done supply v d r k back.leg e) (s.number / 60)
 
 -- THE UNIT WAS READ, and its mending failed.
-pub record IsOnlyRead (o : Origin) (done : List TraceSecond) (supply : Supply) (v : Values) (d : Devices) (r : Recorded o done supply v d) (k : ℕ) (e : Devices) : Type 0 where
+pub record IsOnlyRead (o : Origin) (done : List TraceSecond) (supply : UnitPower) (v : Values) (d : Devices) (r : RecordBetweenSeconds o done supply v d) (k : ℕ) (e : Devices) : Type 0 where
   pub leg : ℕ
   pub shows : MayShow (first_of o) r.book r.travel k leg
   pub read : WasRead o k e
-  pub powerless : IsPowerless o.found (carried (read_values k v) r.due (found k r.book) r.standing r.brought) e
+  pub powerless : DevicesUnpowered o.found (carried (read_values k v) r.due (found k r.book) r.standing r.brought) e
   pub broke : RoseBy 1 (breakdowns_of d Recorder) (breakdowns_of e Recorder)
   pub goes : GoOn o d e
   pub travels : HasTravelled (odometer_at o.recording.unit) (found k r.book) (resumed leg r.travel) e.unit
 
 abbrev pub AMendingFails : (d e : Devices) → Type 0
-AMendingFails d e = (o : Origin) (done : List TraceSecond) (s : TraceSecond) (supply : Supply) (v : Values) → (r : Recorded o done supply v d) → MayPower supply v.next → s.number ≡ v.next → s.has_power ≡ true →
-    (k : ℕ) → (read : IsOnlyRead o done supply v d r k e) → CutWithin o done s (In 0) (fresh true (slots_of v done)).entered None (counted_from (odometer_found o r.travel.before read.leg) (read_values k v)) e
+AMendingFails d e = (o : Origin) (done : List TraceSecond) (s : TraceSecond) (supply : UnitPower) (v : Values) → (r : RecordBetweenSeconds o done supply v d) → MayPower supply v.next → s.number ≡ v.next → s.has_power ≡ true →
+    (k : ℕ) → (read : IsOnlyRead o done supply v d r k e) → RecordAtFailure o done s (In 0) (fresh true (slots_of v done)).entered None (counted_from (odometer_found o r.travel.before read.leg) (read_values k v)) e
 
 -- THE UNIT WAS NOT READ, since a call failed: nothing is found.
-pub record IsNotRead (o : Origin) (done : List TraceSecond) (supply : Supply) (v : Values) (d : Devices) (r : Recorded o done supply v d) (e : Devices) : Type 0 where
-  pub powerless : IsPowerless o.found (carried v r.due r.book r.standing r.brought) e
+pub record IsNotRead (o : Origin) (done : List TraceSecond) (supply : UnitPower) (v : Values) (d : Devices) (r : RecordBetweenSeconds o done supply v d) (e : Devices) : Type 0 where
+  pub powerless : DevicesUnpowered o.found (carried v r.due r.book r.standing r.brought) e
   pub broke : RoseBy 1 (breakdowns_of d Recorder) (breakdowns_of e Recorder)
   pub goes : GoOn o d e
   pub travels : HasTravelled (odometer_at o.recording.unit) r.book r.travel e.unit
 
 abbrev pub AReadingFails : (d e : Devices) → Type 0
-AReadingFails d e = (o : Origin) (done : List TraceSecond) (s : TraceSecond) (supply : Supply) (v : Values) → (r : Recorded o done supply v d) → MayPower supply v.next → s.number ≡ v.next → s.has_power ≡ true →
-    IsNotRead o done supply v d r e → Recorded o (done ++ s ∷ []) Lost (cut_values s (In 0) v) e
+AReadingFails d e = (o : Origin) (done : List TraceSecond) (s : TraceSecond) (supply : UnitPower) (v : Values) → (r : RecordBetweenSeconds o done supply v d) → MayPower supply v.next → s.number ≡ v.next → s.has_power ≡ true →
+    IsNotRead o done supply v d r e → RecordBetweenSeconds o (done ++ s ∷ []) Lost (cut_values s (In 0) v) e

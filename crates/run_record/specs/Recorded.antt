@@ -4,14 +4,14 @@ use Rattle.activity_codec.specs.declared.values.Slot.{Slot}
 use Rattle.trace_model.specs.declared.Card.{Card}
 use Rattle.trace_model.specs.Trace.{TraceSecond}
 use Rattle.minute_model.specs.Span.{ungiven_of}
-use Rattle.minute_rules.specs.Kept.{Kept, StandsFor}
+use Rattle.minute_rules.specs.Kept.{Kept, CountsSpan}
 use Rattle.log_model.specs.declared.lines.Mark.{Mark}
 use Rattle.log_model.specs.Log.{RunLog}
 use Rattle.log_model.specs.Slots.{Slots, is_accepted}
-use Rattle.log_model.specs.Course.{Told, fresh, went}
+use Rattle.log_model.specs.Course.{ToldSecond, fresh, went}
 use Rattle.history_model.specs.Book.{Book}
 use Rattle.device_rule.specs.Rules.{Standing}
-use Rattle.run_unit_course.specs.Followed.{Supply, Lit, Due, Lost}
+use Rattle.run_unit_course.specs.Followed.{UnitPower, Lit, Due, Lost}
 use Rattle.run_unit_course.specs.Legs.{Travel}
 use Rattle.run_unit_course.specs.Turn.{span_at}
 use Rattle.unit_model.specs.Image.{odometer_at}
@@ -26,11 +26,11 @@ use Rattle.run_crew.specs.declared.cabin.Cabin.{Cabin}
 use Rattle.run_crew.specs.Cards.{session_of}
 use Rattle.run_promise.specs.Found.{Found, found_of}
 use Rattle.run_promise.specs.Cards.{IsUntouched}
-use Rattle.run_promise.specs.Between.{Carried}
+use Rattle.run_promise.specs.Between.{RunLedger}
 use Rattle.run_course.specs.Followed.{Progress}
 use Rattle.run_course.specs.Presence.{SlotsTell}
-use Rattle.run_devices.specs.Told.{AreFoundCards, IsPowered, IsPowerless, AreEarly}
-use Rattle.run_promise.specs.Origin.{Origin, rule_of, start_at, HasRecorded}
+use Rattle.run_devices.specs.Told.{AreFoundCards, DevicesPowered, DevicesUnpowered, AreEarly}
+use Rattle.run_promise.specs.Origin.{Origin, rule_of, start_at, HistoryIsRecorded}
 use Rattle.run_promise.specs.Beside.{AreFewFound}
 use Rattle.run_promise.specs.Ends.{recording_by, MayBeWritten, IsBeside}
 use Rattle.run_devices.specs.Presence.{PresentStand}
@@ -49,11 +49,11 @@ pub record Values : Type 0 where
   pub odometer : ℕ
 
 -- how far the run has gone
-abbrev pub progress : Values → Supply → Book → Progress
+abbrev pub progress : Values → UnitPower → Book → Progress
 progress v supply book = record { log = v.log; unfound = v.unfound; next = v.next; begun = v.begun; supply = supply; book = book; waiting = [] }
 
 -- what is carried of unit and cards
-abbrev pub carried : Values → (due : ℕ) → Book → (Card → Standing) → (brought : Card → List ℕ) → Carried
+abbrev pub carried : Values → (due : ℕ) → Book → (Card → Standing) → (brought : Card → List ℕ) → RunLedger
 carried v due book standing brought = record { due = due; book = book; marks = v.marks; standing = standing; brought = brought }
 
 -- the slots as the log has them
@@ -100,18 +100,18 @@ pub record AreThere (f : Found) (d : Devices) : Type 0 where
 
 -- WHILE THERE IS POWER, with these seconds of the span: unit and cards may be called and are as the book says, the minutes stand for the
 -- span, and who was present in the minutes that are still to be kept is told by the slots, and stands so.
-pub record IsOn (o : Origin) (done : List TraceSecond) (span : List Told) (v : Values) (w : Carried) (d : Devices) : Type 0 where
-  pub powered : IsPowered o.found w v.cabin.cards d
+pub record RecordPowered (o : Origin) (done : List TraceSecond) (span : List ToldSecond) (v : Values) (w : RunLedger) (d : Devices) : Type 0 where
+  pub powered : DevicesPowered o.found w v.cabin.cards d
   pub due : w.due ≤ ungiven_of (span_at (rule_of o) v.next span)
-  pub minutes : StandsFor v.minutes (span_at (rule_of o) v.next span)
+  pub minutes : CountsSpan v.minutes (span_at (rule_of o) v.next span)
   pub tells : SlotsTell (start_at o) (went v.log done).told w.book.sure [] (v.next - 1) (ungiven_of (span_at (rule_of o) v.next span)) (slots_of v done) v.cabin.slots
   pub present : PresentStand o.found w.standing (went v.log done).told (fresh false (slots_of v done)) (v.next - 1) (ungiven_of (span_at (rule_of o) v.next span)) v.cabin
   pub back : AreBack (ungiven_of (span_at (rule_of o) v.next span)) v.cabin
   pub written : (card : Card) → is_some (session_of v.cabin.cards card) ≡ true → IsWritten o done v card
 
 -- WITHOUT POWER: no card is accepted, and no minute of before is to be kept any more.
-pub record IsOff (o : Origin) (done : List TraceSecond) (v : Values) (w : Carried) (d : Devices) : Type 0 where
-  pub powerless : IsPowerless o.found w d
+pub record RecordUnpowered (o : Origin) (done : List TraceSecond) (v : Values) (w : RunLedger) (d : Devices) : Type 0 where
+  pub powerless : DevicesUnpowered o.found w d
   pub due : w.due ≤ v.next / 60
   pub tells : SlotsTell (start_at o) (went v.log done).told w.book.sure [] (v.next - 1) (v.next / 60) (slots_of v done) v.cabin.slots
   pub bare : (c : Card) → session_of v.cabin.cards c ≡ None
@@ -119,29 +119,29 @@ pub record IsOff (o : Origin) (done : List TraceSecond) (v : Values) (w : Carrie
   pub codriver : is_accepted (slots_of v done).codriver ≡ false
 
 -- a span that goes on has a second; without power there is none
-abbrev pub IsHeldBy : Origin → List TraceSecond → Supply → Values → Carried → Devices → Type 0
-IsHeldBy o done (Lit span) v w d = IsOn o done span v w d
-IsHeldBy o done Due v w d = IsOff o done v w d
-IsHeldBy o done Lost v w d = IsOff o done v w d
+abbrev pub IsHeldBy : Origin → List TraceSecond → UnitPower → Values → RunLedger → Devices → Type 0
+IsHeldBy o done (Lit span) v w d = RecordPowered o done span v w d
+IsHeldBy o done Due v w d = RecordUnpowered o done v w d
+IsHeldBy o done Lost v w d = RecordUnpowered o done v w d
 
 -- the odometer from which minutes are counted is that of the start and of what was travelled each time before power came last
 abbrev pub IsCountedFrom : Origin → (before : List ℕ) → (odometer : ℕ) → Type 0
 IsCountedFrom o before odometer = odometer ≡ odometer_after (odometer_at o.recording.unit) before
 
 -- while there is power
-abbrev pub IsCountedIn : Supply → Origin → (before : List ℕ) → (odometer : ℕ) → Type 0
+abbrev pub IsCountedIn : UnitPower → Origin → (before : List ℕ) → (odometer : ℕ) → Type 0
 IsCountedIn (Lit span) o before odometer = IsCountedFrom o before odometer
 IsCountedIn Due o before odometer = Unit {0}
 IsCountedIn Lost o before odometer = Unit {0}
 
 -- THE RECORD behind these seconds
-pub record Recorded (o : Origin) (done : List TraceSecond) (supply : Supply) (v : Values) (d : Devices) : Type 0 where
+pub record RecordBetweenSeconds (o : Origin) (done : List TraceSecond) (supply : UnitPower) (v : Values) (d : Devices) : Type 0 where
   pub book : Book
   pub travel : Travel
   pub due : ℕ
   pub standing : Card → Standing
   pub brought : Card → List ℕ
-  pub recorded : HasRecorded o done (progress v supply book) travel v.marks (breakdowns_of d) brought
+  pub recorded : HistoryIsRecorded o done (progress v supply book) travel v.marks (breakdowns_of d) brought
   pub beside : IsBeside o done (progress v supply book) travel v.marks d
   pub there : AreThere o.found d
   pub few : AreFewFound (recording_by o done v.log)

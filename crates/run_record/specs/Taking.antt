@@ -10,7 +10,7 @@ use Rattle.trace_model.specs.Trace.{TraceSecond}
 use Rattle.run_model.specs.declared.Device.TheVariants.{Unit as Recorder}
 use Rattle.minute_model.specs.declared.Minute.{Minute}
 use Rattle.minute_model.specs.Span.{settled, decided_in}
-use Rattle.minute_rules.specs.Kept.{Kept, StandsFor}
+use Rattle.minute_rules.specs.Kept.{Kept, CountsSpan}
 use Rattle.log_model.specs.declared.lines.Break.{Break}
 use Rattle.log_model.specs.declared.lines.Break.TheVariants.{Tear}
 use Rattle.log_model.specs.Log.{Phase, In, Keeping, found_in}
@@ -24,15 +24,15 @@ use Rattle.unit_rule.specs.Odometer.{HasTravelled}
 use Rattle.safety_model.specs.Safe.{Devices, breakdowns_of}
 use Rattle.card_slots.specs.Calls.{seat_in, card_in}
 use Rattle.run_crew.specs.Cards.{session_of}
-use Rattle.run_crew.specs.Cabin.{Stands, with_card_in, with_slot_left, with_session_of, torn_out}
+use Rattle.run_crew.specs.Cabin.{CabinIsSound, with_card_in, with_slot_left, with_session_of, torn_out}
 use Rattle.run_course.specs.Seconds.{kept_all}
 use Rattle.run_course.specs.Reached.{moved_at, IsTearAt}
 use Rattle.run_course.specs.Moment.{entering_by}
 use Rattle.run_course.specs.Telling.{IsMore, BrokeDown}
-use Rattle.run_devices.specs.Told.{IsPowered, IsPowerless, with_standing}
+use Rattle.run_devices.specs.Told.{DevicesPowered, DevicesUnpowered, with_standing}
 use Rattle.run_promise.specs.Origin.{Origin}
 use Rattle.run_record.specs.Recorded.{Values, carried}
-use Rattle.run_record.specs.Within.{course_in, IsLeaving, GoesOnSo, Within, GoesOn, CutWithin}
+use Rattle.run_record.specs.Within.{course_in, IsLeaving, GoesOnSo, RecordInSecond, SecondGoesOn, RecordAtFailure}
 use Rattle.run_record.specs.Judging.{IsNext, torn_values}
 
 -- ---- a card is put into a slot
@@ -47,8 +47,8 @@ entered_alone slot = record { enters = same_slot slot; leaving = λ other. [] }
 
 -- A CARD WAS PUT INTO A SLOT: it enters with this moment and waits, and nothing was found at it; this decides the minutes before this one, which
 -- are still to be kept.
-pub record IsPut (o : Origin) (done : List TraceSecond) (s : TraceSecond) (v : Values) (d : Devices) (front : List Action) (slot : Slot) (card : Card) (minutes : Kept) (decided : List Minute) (w : Within o done s (In (length front)) [] None [] v d) : Type 0 where
-  pub goes : GoesOn o done s (In (suc (length front))) (entering_by (length front) (Insert slot card)) None decided (put_values slot card minutes v) d w.b w.from
+pub record IsPutIntoSlot (o : Origin) (done : List TraceSecond) (s : TraceSecond) (v : Values) (d : Devices) (front : List Action) (slot : Slot) (card : Card) (minutes : Kept) (decided : List Minute) (w : RecordInSecond o done s (In (length front)) [] None [] v d) : Type 0 where
+  pub goes : SecondGoesOn o done s (In (suc (length front))) (entering_by (length front) (Insert slot card)) None decided (put_values slot card minutes v) d w.b w.from
   pub moved : moved_at v.log (went goes.within.b.run.log done).before s (In (suc (length front))) ≡ entered_alone slot
   pub none : (x : Slot) → found_in v.log s.number (In (suc (length front))) x ≡ []
   pub settles : (course_in goes.within.b done s (In (suc (length front))) v.log).settled ≡ true
@@ -56,23 +56,23 @@ pub record IsPut (o : Origin) (done : List TraceSecond) (s : TraceSecond) (v : V
 
 abbrev pub ACardIsPutIn : Devices → Type 0
 ACardIsPutIn d = (o : Origin) (done : List TraceSecond) (s : TraceSecond) (v : Values) (front : List Action) (slot : Slot) (card : Card) (rest : List Action) → s.actions ≡ front ++ Insert slot card ∷ rest →
-    (w : Within o done s (In (length front)) [] None [] v d) → refusal (course_in w.b done s (In (length front)) v.log).slots s.speed (Insert slot card) ≡ None →
-    (minutes : Kept) → StandsFor minutes (settled w.sp) → (decided : List Minute) → decided_in (settled w.sp) ≡ decided_in w.sp ++ decided →
-    IsPut o done s v d front slot card minutes decided w
+    (w : RecordInSecond o done s (In (length front)) [] None [] v d) → refusal (course_in w.b done s (In (length front)) v.log).slots s.speed (Insert slot card) ≡ None →
+    (minutes : Kept) → CountsSpan minutes (settled w.sp) → (decided : List Minute) → decided_in (settled w.sp) ≡ decided_in w.sp ++ decided →
+    IsPutIntoSlot o done s v d front slot card minutes decided w
 
 -- lines that tell of tears at a moment
 abbrev pub AreTearsAt : TraceSecond → Phase → List Break → Type 0
 AreTearsAt s at more = AllByRecursion (λ (b : Break). (slot : Slot) × (failed : Bool) × IsTearAt s at slot failed b) more
 
 -- a card may be judged now, of which nothing was found at this moment
-pub record MayBeJudged (o : Origin) (done : List TraceSecond) (s : TraceSecond) (at : Phase) (waits : List Visit) (v : Values) (d : Devices) (w : Within o done s at waits None [] v d) (slot : Slot) (card : Card) : Type 0 where
+pub record MayBeJudged (o : Origin) (done : List TraceSecond) (s : TraceSecond) (at : Phase) (waits : List Visit) (v : Values) (d : Devices) (w : RecordInSecond o done s at waits None [] v d) (slot : Slot) (card : Card) : Type 0 where
   pub next : IsNext o done s at waits [] v d w slot card
   pub none : (x : Slot) → found_in v.log s.number at x ≡ []
 
 -- BEHIND THE KEEPING of these minutes it may be judged: since then the log tells of tears alone, and it sits there still.
 abbrev pub AnEnteredCardIsNext : (d e : Devices) → Type 0
-AnEnteredCardIsNext d e = (o : Origin) (done : List TraceSecond) (s : TraceSecond) (v : Values) (front : List Action) (slot : Slot) (card : Card) (minutes : Kept) (decided : List Minute) → (w : Within o done s (In (length front)) [] None [] v d) →
-    (put : IsPut o done s v d front slot card minutes decided w) → (later : Values) → (x : Within o done s (In (suc (length front))) (entering_by (length front) (Insert slot card)) None [] later e) → x.b ≡ put.goes.within.b → x.from ≡ s.number / 60 →
+AnEnteredCardIsNext d e = (o : Origin) (done : List TraceSecond) (s : TraceSecond) (v : Values) (front : List Action) (slot : Slot) (card : Card) (minutes : Kept) (decided : List Minute) → (w : RecordInSecond o done s (In (length front)) [] None [] v d) →
+    (put : IsPutIntoSlot o done s v d front slot card minutes decided w) → (later : Values) → (x : RecordInSecond o done s (In (suc (length front))) (entering_by (length front) (Insert slot card)) None [] later e) → x.b ≡ put.goes.within.b → x.from ≡ s.number / 60 →
     (more : List Break) → later.log ≡ record v.log { breaks = v.log.breaks ++ more } → AreTearsAt s (In (suc (length front))) more → seat_in later.cabin.slots.seats slot ≡ Some (record { card = card; newest = None }) →
     MayBeJudged o done s (In (suc (length front))) (entering_by (length front) (Insert slot card)) later e x slot card
 
@@ -83,8 +83,8 @@ abbrev pub left_values : Slot → (second : ℕ) → Kept → Values → Values
 left_values slot second minutes v = record v { cabin = with_slot_left slot second v.cabin; minutes = minutes }
 
 -- A CARD HAS LEFT ITS SLOT with this moment, and its session, if it has one, is not closed yet; this decides the minutes before this one.
-pub record IsLeft (o : Origin) (done : List TraceSecond) (s : TraceSecond) (v : Values) (d : Devices) (front : List Action) (slot : Slot) (card : Card) (minutes : Kept) (decided : List Minute) (w : Within o done s (In (length front)) [] None [] v d) : Type 0 where
-  pub goes : GoesOn o done s (In (suc (length front))) [] None decided (left_values slot s.number minutes v) d w.b w.from
+pub record IsLeft (o : Origin) (done : List TraceSecond) (s : TraceSecond) (v : Values) (d : Devices) (front : List Action) (slot : Slot) (card : Card) (minutes : Kept) (decided : List Minute) (w : RecordInSecond o done s (In (length front)) [] None [] v d) : Type 0 where
+  pub goes : SecondGoesOn o done s (In (suc (length front))) [] None decided (left_values slot s.number minutes v) d w.b w.from
   pub leaving : is_some (session_of v.cabin.cards card) ≡ true →
       IsLeaving v.log (went goes.within.b.run.log done).before s (In (suc (length front))) goes.within.from (goes.within.from + length decided) (with_slot_left slot s.number v.cabin) slot card
   pub settles : (course_in goes.within.b done s (In (suc (length front))) v.log).settled ≡ true
@@ -92,12 +92,12 @@ pub record IsLeft (o : Origin) (done : List TraceSecond) (s : TraceSecond) (v : 
 
 abbrev pub ACardLeaves : Devices → Type 0
 ACardLeaves d = (o : Origin) (done : List TraceSecond) (s : TraceSecond) (v : Values) (front : List Action) (slot : Slot) (card : Card) (rest : List Action) → s.actions ≡ front ++ Withdraw slot ∷ rest →
-    (w : Within o done s (In (length front)) [] None [] v d) → refusal (course_in w.b done s (In (length front)) v.log).slots s.speed (Withdraw slot) ≡ None → card_in (seat_in v.cabin.slots.seats slot) ≡ Some card →
-    (minutes : Kept) → StandsFor minutes (settled w.sp) → (decided : List Minute) → decided_in (settled w.sp) ≡ decided_in w.sp ++ decided →
+    (w : RecordInSecond o done s (In (length front)) [] None [] v d) → refusal (course_in w.b done s (In (length front)) v.log).slots s.speed (Withdraw slot) ≡ None → card_in (seat_in v.cabin.slots.seats slot) ≡ Some card →
+    (minutes : Kept) → CountsSpan minutes (settled w.sp) → (decided : List Minute) → decided_in (settled w.sp) ≡ decided_in w.sp ++ decided →
     IsLeft o done s v d front slot card minutes decided w
 
 -- A CALL FOR A CARD THAT IS LEAVING, behind the keeping of these minutes
-pub record IsCalledLeaving (o : Origin) (done : List TraceSecond) (s : TraceSecond) (at : Phase) (v : Values) (d e : Devices) (w : Within o done s at [] None [] v d) (slot : Slot) (card : Card) : Type 0 where
+pub record IsCalledLeaving (o : Origin) (done : List TraceSecond) (s : TraceSecond) (at : Phase) (v : Values) (d e : Devices) (w : RecordInSecond o done s at [] None [] v d) (slot : Slot) (card : Card) : Type 0 where
   pub low : ℕ
   pub leaving : IsLeaving v.log (went w.b.run.log done).before s at low low v.cabin slot card
   pub is_now : w.from ≡ s.number / 60
@@ -110,17 +110,17 @@ closed_values card v = record v { cabin = with_session_of card None v.cabin }
 
 -- ITS SESSION IS CLOSED, and no card broke down: the card is not accepted any more;
 abbrev pub ASessionIsClosed : (d e : Devices) → Type 0
-ASessionIsClosed d e = (o : Origin) (done : List TraceSecond) (s : TraceSecond) (at : Phase) (v : Values) → (w : Within o done s at [] None [] v d) → (slot : Slot) (card : Card) → IsCalledLeaving o done s at v d e w slot card →
+ASessionIsClosed d e = (o : Origin) (done : List TraceSecond) (s : TraceSecond) (at : Phase) (v : Values) → (w : RecordInSecond o done s at [] None [] v d) → (slot : Slot) (card : Card) → IsCalledLeaving o done s at v d e w slot card →
     IsMore (breakdowns_of d) (breakdowns_of e) →
-    IsPowered o.found (with_standing card Out (carried v w.due (kept_all w.new w.b.run.book) w.standing w.brought)) (closed_values card v).cabin.cards e →
-    GoesOn o done s at [] None [] (closed_values card v) e w.b w.from
+    DevicesPowered o.found (with_standing card Out (carried v w.due (kept_all w.new w.b.run.book) w.standing w.brought)) (closed_values card v).cabin.cards e →
+    SecondGoesOn o done s at [] None [] (closed_values card v) e w.b w.from
 
 -- or the unit failed behind that.
 abbrev pub AClosingFails : (d e : Devices) → Type 0
-AClosingFails d e = (o : Origin) (done : List TraceSecond) (s : TraceSecond) (at : Phase) (v : Values) → (w : Within o done s at [] None [] v d) → (slot : Slot) (card : Card) → IsCalledLeaving o done s at v d e w slot card →
+AClosingFails d e = (o : Origin) (done : List TraceSecond) (s : TraceSecond) (at : Phase) (v : Values) → (w : RecordInSecond o done s at [] None [] v d) → (slot : Slot) (card : Card) → IsCalledLeaving o done s at v d e w slot card →
     IsMore (breakdowns_of d) (breakdowns_of e) →
-    IsPowerless o.found (with_standing card Out (carried v w.due (kept_all w.new w.b.run.book) w.standing w.brought)) e → RoseBy 1 (w.b.broken Recorder) (breakdowns_of e Recorder) → (at ≡ Keeping → ⊥) →
-    CutWithin o done s at [] None (closed_values card v) e
+    DevicesUnpowered o.found (with_standing card Out (carried v w.due (kept_all w.new w.b.run.book) w.standing w.brought)) e → RoseBy 1 (w.b.broken Recorder) (breakdowns_of e Recorder) → (at ≡ Keeping → ⊥) →
+    RecordAtFailure o done s at [] None (closed_values card v) e
 
 -- what a run has by value where the card failed as its session was closed
 abbrev pub fallen_values : Break → Card → (second : ℕ) → Values → Values
@@ -128,17 +128,17 @@ fallen_values b card second v = torn_values b (torn_out card second (with_sessio
 
 -- THE CARD FAILED as its session was closed, and that is told: it is not accepted any more;
 abbrev pub ALeavingCardIsTorn : (d e : Devices) → Type 0
-ALeavingCardIsTorn d e = (o : Origin) (done : List TraceSecond) (s : TraceSecond) (at : Phase) (v : Values) → (w : Within o done s at [] None [] v d) → (slot : Slot) (card : Card) → IsCalledLeaving o done s at v d e w slot card →
+ALeavingCardIsTorn d e = (o : Origin) (done : List TraceSecond) (s : TraceSecond) (at : Phase) (v : Values) → (w : RecordInSecond o done s at [] None [] v d) → (slot : Slot) (card : Card) → IsCalledLeaving o done s at v d e w slot card →
     (b : Break) → IsTearAt s at slot true b → BrokeDown card (breakdowns_of d) (breakdowns_of e) →
-    IsPowered o.found (with_standing card Out (carried v w.due (kept_all w.new w.b.run.book) w.standing w.brought)) (fallen_values b card s.number v).cabin.cards e →
-    GoesOn o done s at [] None [] (fallen_values b card s.number v) e w.b w.from
+    DevicesPowered o.found (with_standing card Out (carried v w.due (kept_all w.new w.b.run.book) w.standing w.brought)) (fallen_values b card s.number v).cabin.cards e →
+    SecondGoesOn o done s at [] None [] (fallen_values b card s.number v) e w.b w.from
 
 -- or the unit failed behind that.
 abbrev pub ALeavingTearFails : (d e : Devices) → Type 0
-ALeavingTearFails d e = (o : Origin) (done : List TraceSecond) (s : TraceSecond) (at : Phase) (v : Values) → (w : Within o done s at [] None [] v d) → (slot : Slot) (card : Card) → IsCalledLeaving o done s at v d e w slot card →
+ALeavingTearFails d e = (o : Origin) (done : List TraceSecond) (s : TraceSecond) (at : Phase) (v : Values) → (w : RecordInSecond o done s at [] None [] v d) → (slot : Slot) (card : Card) → IsCalledLeaving o done s at v d e w slot card →
     (b : Break) → IsTearAt s at slot true b → BrokeDown card (breakdowns_of d) (breakdowns_of e) →
-    IsPowerless o.found (with_standing card Out (carried v w.due (kept_all w.new w.b.run.book) w.standing w.brought)) e → RoseBy 1 (w.b.broken Recorder) (breakdowns_of e Recorder) → (at ≡ Keeping → ⊥) →
-    CutWithin o done s at [] None (fallen_values b card s.number v) e
+    DevicesUnpowered o.found (with_standing card Out (carried v w.due (kept_all w.new w.b.run.book) w.standing w.brought)) e → RoseBy 1 (w.b.broken Recorder) (breakdowns_of e Recorder) → (at ≡ Keeping → ⊥) →
+    RecordAtFailure o done s at [] None (fallen_values b card s.number v) e
 
 -- ---- a card is pulled out, or fails in its slot
 
@@ -149,8 +149,8 @@ pulled_line second begun slot = Tear second slot false begun false
 -- A CARD IS PULLED OUT of its slot, and no device is called.
 abbrev pub ACardIsPulledOut : Devices → Type 0
 ACardIsPulledOut d = (o : Origin) (done : List TraceSecond) (s : TraceSecond) (v : Values) (front : List Action) (slot : Slot) (card : Card) (rest : List Action) → s.actions ≡ front ++ Pull slot ∷ rest →
-    (w : Within o done s (In (length front)) [] None [] v d) → card_in (seat_in v.cabin.slots.seats slot) ≡ Some card → (low : ℕ) → Stands low None v.cabin →
-    GoesOn o done s (In (suc (length front))) [] None [] (torn_values (pulled_line s.number (suc (length front)) slot) (torn_out card s.number v.cabin) v) d w.b w.from
+    (w : RecordInSecond o done s (In (length front)) [] None [] v d) → card_in (seat_in v.cabin.slots.seats slot) ≡ Some card → (low : ℕ) → CabinIsSound low None v.cabin →
+    SecondGoesOn o done s (In (suc (length front))) [] None [] (torn_values (pulled_line s.number (suc (length front)) slot) (torn_out card s.number v.cabin) v) d w.b w.from
 
 -- how a card stands that is torn out, where no minute before this one is to be kept any more
 abbrev pub fallen : (floor : ℕ) → Standing → Standing
@@ -159,11 +159,11 @@ fallen floor (IsIn session newest) = Torn session newest floor
 fallen floor (Torn session newest low) = Torn session newest low
 
 -- AN ACCEPTED CARD FAILED in its slot, as something was to be noted on it: with an action, in the keeping, or as power comes with the second.
-pub record IsCalledSeated (o : Origin) (done : List TraceSecond) (s : TraceSecond) (at : Phase) (v : Values) (d e : Devices) (w : Within o done s at [] None [] v d) (slot : Slot) (card : Card) (b : Break) : Type 0 where
+pub record IsCalledSeated (o : Origin) (done : List TraceSecond) (s : TraceSecond) (at : Phase) (v : Values) (d e : Devices) (w : RecordInSecond o done s at [] None [] v d) (slot : Slot) (card : Card) (b : Break) : Type 0 where
   pub sits_ : card_in (seat_in v.cabin.slots.seats slot) ≡ Some card
   pub session : is_some (session_of v.cabin.cards card) ≡ true
   pub low : ℕ
-  pub stands : Stands low None v.cabin
+  pub stands : CabinIsSound low None v.cabin
   pub here : IsTearAt s at slot true b
   pub power : at ≡ In 0 → (went w.b.run.log done).before.running ≡ false
   pub broke : BrokeDown card (breakdowns_of d) (breakdowns_of e)
@@ -172,12 +172,12 @@ pub record IsCalledSeated (o : Origin) (done : List TraceSecond) (s : TraceSecon
 
 -- That is told, and it is torn out;
 abbrev pub ASeatedCardIsTorn : (d e : Devices) → Type 0
-ASeatedCardIsTorn d e = (o : Origin) (done : List TraceSecond) (s : TraceSecond) (at : Phase) (v : Values) → (w : Within o done s at [] None [] v d) → (slot : Slot) (card : Card) (b : Break) → IsCalledSeated o done s at v d e w slot card b →
-    IsPowered o.found (with_standing card (fallen w.from (w.standing card)) (carried v w.due (kept_all w.new w.b.run.book) w.standing w.brought)) (torn_out card s.number v.cabin).cards e →
-    GoesOn o done s at [] None [] (torn_values b (torn_out card s.number v.cabin) v) e w.b w.from
+ASeatedCardIsTorn d e = (o : Origin) (done : List TraceSecond) (s : TraceSecond) (at : Phase) (v : Values) → (w : RecordInSecond o done s at [] None [] v d) → (slot : Slot) (card : Card) (b : Break) → IsCalledSeated o done s at v d e w slot card b →
+    DevicesPowered o.found (with_standing card (fallen w.from (w.standing card)) (carried v w.due (kept_all w.new w.b.run.book) w.standing w.brought)) (torn_out card s.number v.cabin).cards e →
+    SecondGoesOn o done s at [] None [] (torn_values b (torn_out card s.number v.cabin) v) e w.b w.from
 
 -- or the unit failed behind that.
 abbrev pub ASeatedTearFails : (d e : Devices) → Type 0
-ASeatedTearFails d e = (o : Origin) (done : List TraceSecond) (s : TraceSecond) (at : Phase) (v : Values) → (w : Within o done s at [] None [] v d) → (slot : Slot) (card : Card) (b : Break) → IsCalledSeated o done s at v d e w slot card b →
-    IsPowerless o.found (with_standing card (fallen w.from (w.standing card)) (carried v w.due (kept_all w.new w.b.run.book) w.standing w.brought)) e → RoseBy 1 (w.b.broken Recorder) (breakdowns_of e Recorder) → (at ≡ Keeping → ⊥) →
-    CutWithin o done s at [] None (torn_values b (torn_out card s.number v.cabin) v) e
+ASeatedTearFails d e = (o : Origin) (done : List TraceSecond) (s : TraceSecond) (at : Phase) (v : Values) → (w : RecordInSecond o done s at [] None [] v d) → (slot : Slot) (card : Card) (b : Break) → IsCalledSeated o done s at v d e w slot card b →
+    DevicesUnpowered o.found (with_standing card (fallen w.from (w.standing card)) (carried v w.due (kept_all w.new w.b.run.book) w.standing w.brought)) e → RoseBy 1 (w.b.broken Recorder) (breakdowns_of e Recorder) → (at ≡ Keeping → ⊥) →
+    RecordAtFailure o done s at [] None (torn_values b (torn_out card s.number v.cabin) v) e

@@ -3,15 +3,15 @@ use Rattle.std.specs.Prelude.{◌≡◌, ℕ, zero, suc, ◌+◌, ◌%◌, ◌<�
 use Rattle.trace_model.specs.Trace.{TraceSecond, driven}
 use Rattle.minute_model.specs.declared.Minute.{Minute}
 use Rattle.minute_model.specs.Span.{Span, fed_many, decided_in}
-use Rattle.minute_rules.specs.Kept.{Kept, StandsFor}
+use Rattle.minute_rules.specs.Kept.{Kept, CountsSpan}
 use Rattle.log_model.specs.Log.{In, Keeping}
-use Rattle.log_model.specs.Course.{Told}
+use Rattle.log_model.specs.Course.{ToldSecond}
 use Rattle.run_unit_course.specs.Followed.{Lit}
 use Rattle.run_unit_course.specs.Turn.{begins_with}
 use Rattle.safety_model.specs.Safe.{Devices}
 use Rattle.run_promise.specs.Origin.{Origin}
-use Rattle.run_record.specs.Recorded.{Values, Recorded}
-use Rattle.run_record.specs.Within.{Within}
+use Rattle.run_record.specs.Recorded.{Values, RecordBetweenSeconds}
+use Rattle.run_record.specs.Within.{RecordInSecond}
 
 -- the last of a second and n more behind it, and the seconds before that one
 abbrev pub last_of : ℕ → TraceSecond → TraceSecond
@@ -28,19 +28,19 @@ turned_values n begun minutes v = record v { minutes = minutes; next = v.next + 
 
 -- behind the first of several
 pub record BehindFirst (o : Origin) (done : List TraceSecond) (s : TraceSecond) (v : Values) (d : Devices) : Type 0 where
-  pub told : Told
-  pub span : List Told
+  pub told : ToldSecond
+  pub span : List ToldSecond
   pub values : Values
-  pub recorded : Recorded o (done ++ s ∷ []) (Lit (told ∷ span)) values d
+  pub recorded : RecordBetweenSeconds o (done ++ s ∷ []) (Lit (told ∷ span)) values d
   pub log : values.log ≡ v.log
   pub cabin : values.cabin ≡ v.cabin
   pub unfound : values.unfound ≡ v.unfound
   pub next : values.next ≡ suc v.next
 
 -- THE SECONDS ARE FED: in the keeping of the last one these minutes are to be kept, from the same one on.
-pub record IsTurned (o : Origin) (done : List TraceSecond) (s : TraceSecond) (n : ℕ) (rest : List Minute) (minutes : Kept) (v : Values) (d : Devices) (w : Within o done s (In (length s.actions)) [] None [] v d) : Type 0 where
+pub record IsTurned (o : Origin) (done : List TraceSecond) (s : TraceSecond) (n : ℕ) (rest : List Minute) (minutes : Kept) (v : Values) (d : Devices) (w : RecordInSecond o done s (In (length s.actions)) [] None [] v d) : Type 0 where
   pub begun : ℕ
-  pub fed : Within o (before_last n s done) (last_of n s) Keeping [] (Some s.speed) rest (turned_values n begun minutes v) d
+  pub fed : RecordInSecond o (before_last n s done) (last_of n s) Keeping [] (Some s.speed) rest (turned_values n begun minutes v) d
   pub travelled_before : fed.b.travel.before ≡ w.b.travel.before
   pub from : fed.from ≡ w.from
   -- the last one began as the first, where it is that; or within the span, where nothing was told since
@@ -49,9 +49,9 @@ pub record IsTurned (o : Origin) (done : List TraceSecond) (s : TraceSecond) (n 
   pub behind : 0 < n → BehindFirst o done s v d
 
 abbrev pub ATurnIsFed : Devices → Type 0
-ATurnIsFed d = (o : Origin) (done : List TraceSecond) (s : TraceSecond) (v : Values) → (w : Within o done s (In (length s.actions)) [] None [] v d) → (n : ℕ) → s.number % 60 + suc n ≤ 60 →
-    (minutes : Kept) → ((span : Span) → StandsFor v.minutes span → StandsFor minutes (fed_many span s.speed (suc n))) →
-    (rest : List Minute) → ((span : Span) → StandsFor v.minutes span → decided_in (fed_many span s.speed (suc n)) ≡ decided_in span ++ rest) → IsTurned o done s n rest minutes v d w
+ATurnIsFed d = (o : Origin) (done : List TraceSecond) (s : TraceSecond) (v : Values) → (w : RecordInSecond o done s (In (length s.actions)) [] None [] v d) → (n : ℕ) → s.number % 60 + suc n ≤ 60 →
+    (minutes : Kept) → ((span : Span) → CountsSpan v.minutes span → CountsSpan minutes (fed_many span s.speed (suc n))) →
+    (rest : List Minute) → ((span : Span) → CountsSpan v.minutes span → decided_in (fed_many span s.speed (suc n)) ≡ decided_in span ++ rest) → IsTurned o done s n rest minutes v d w
 
 -- the last one ends them
 abbrev pub TheTurnEnds : Type 0

@@ -11,7 +11,7 @@ use Rattle.run_model.specs.declared.Device.{Device}
 use Rattle.run_model.specs.declared.Device.TheVariants.{Unit as Recorder}
 use Rattle.minute_model.specs.declared.Minute.{Minute}
 use Rattle.minute_model.specs.Span.{Span, fed, picked, decided_in, ungiven_of}
-use Rattle.minute_rules.specs.Kept.{Kept, StandsFor}
+use Rattle.minute_rules.specs.Kept.{Kept, CountsSpan}
 use Rattle.log_model.specs.declared.lines.Mark.{Mark}
 use Rattle.log_model.specs.declared.lines.Verdict.{Verdict}
 use Rattle.log_model.specs.declared.lines.Verdict.TheVariants.{Accepted, NotValid, TimeOverlap}
@@ -19,13 +19,13 @@ use Rattle.log_model.specs.Causes.{RoseBy}
 use Rattle.log_model.specs.Log.{RunLog, Phase, In, Keeping, is_accepting, is_torn_in}
 use Rattle.log_model.specs.declared.lines.SlotFault.{SlotFault}
 use Rattle.log_model.specs.Slots.{same_card, refusal}
-use Rattle.log_model.specs.Course.{Told, Course, Visit, Before, went}
+use Rattle.log_model.specs.Course.{ToldSecond, Course, Visit, Before, went}
 use Rattle.history_model.specs.Minutes.{HistoryMinute}
 use Rattle.history_model.specs.Presence.{card_start}
 use Rattle.history_model.specs.History.{seated}
 use Rattle.history_model.specs.Book.{kept}
 use Rattle.device_rule.specs.Rules.{Standing}
-use Rattle.run_unit_course.specs.Followed.{Supply, Lit, Lost}
+use Rattle.run_unit_course.specs.Followed.{UnitPower, Lit, Lost}
 use Rattle.run_unit_course.specs.Legs.{Travel, stranded_at, all_travelled}
 use Rattle.run_unit_course.specs.Lines.{cut_at}
 use Rattle.run_unit_course.specs.Turn.{span_at}
@@ -48,8 +48,8 @@ use Rattle.run_course.specs.Lines.{times_of}
 use Rattle.run_course.specs.Moment.{Moment}
 use Rattle.run_course.specs.Telling.{IsMore, begun_by, IsLeft}
 use Rattle.run_course.specs.Kept.{HasDecided, AreMarkedSoFar}
-use Rattle.run_devices.specs.Told.{AreFoundCards, IsPowered, IsPowerless, AreEarly}
-use Rattle.run_promise.specs.Origin.{Origin, rule_of, start_at, first_of, HasRecorded}
+use Rattle.run_devices.specs.Told.{AreFoundCards, DevicesPowered, DevicesUnpowered, AreEarly}
+use Rattle.run_promise.specs.Origin.{Origin, rule_of, start_at, first_of, HistoryIsRecorded}
 use Rattle.run_promise.specs.Ends.{recording_by, IsAllOwed, AreVerdicts}
 use Rattle.run_promise.specs.Beside.{HaveLeftMore, AreFewFound}
 use Rattle.run_devices.specs.Presence.{PresentStand}
@@ -59,21 +59,21 @@ use Rattle.card_slots.specs.Kept.{Kept as SlotsKept, left_of}
 use Rattle.run_crew.specs.declared.cabin.Cabin.{Cabin}
 use Rattle.run_crew.specs.declared.cards.Cards.{Cards}
 use Rattle.run_crew.specs.Cards.{session_of}
-use Rattle.run_crew.specs.Cabin.{SitsNowhere, Stands, with_minute_ended, with_power_lost}
-use Rattle.run_record.specs.Recorded.{Values, progress, carried, IsWrittenSince, AreThere, IsCountedFrom, Recorded}
+use Rattle.run_crew.specs.Cabin.{SitsNowhere, CabinIsSound, with_minute_ended, with_power_lost}
+use Rattle.run_record.specs.Recorded.{Values, progress, carried, IsWrittenSince, AreThere, IsCountedFrom, RecordBetweenSeconds}
 
 -- as the second began, behind its power-on: how far the run had gone, the seconds of the span, what was travelled, the marks, how often each
 -- device had broken down, and what acceptances had brought
 pub record Beginning : Type 0 where
   pub run : Progress
-  pub span : List Told
+  pub span : List ToldSecond
   pub travel : Travel
   pub marks : List Mark
   pub broken : Device → ℕ
   pub brought : Card → List ℕ
 
 -- the seconds before it, and its course at a moment
-abbrev pub told_before : Beginning → List TraceSecond → List Told
+abbrev pub told_before : Beginning → List TraceSecond → List ToldSecond
 told_before b done = (went b.run.log done).told
 
 abbrev pub course_in : Beginning → List TraceSecond → TraceSecond → Phase → RunLog → Course
@@ -145,17 +145,17 @@ AreBackAt log before s at low high cabin = (card : Card) → is_some (session_of
 
 -- THE RECORD AT A MOMENT of a second. These cards have entered at it and are not judged yet; one may be leaving its slot, whose session is
 -- not closed yet; the second is fed, or not; and of the minutes that it has decided these are still to be kept.
-pub record Within (o : Origin) (done : List TraceSecond) (s : TraceSecond) (at : Phase) (waits : List Visit) (speed : Option ℕ) (rest : List Minute) (v : Values) (d : Devices) : Type 0 where
+pub record RecordInSecond (o : Origin) (done : List TraceSecond) (s : TraceSecond) (at : Phase) (waits : List Visit) (speed : Option ℕ) (rest : List Minute) (v : Values) (d : Devices) : Type 0 where
   -- as the second began
   pub b : Beginning
   pub lit : b.run.supply ≡ Lit b.span
-  pub began : HasRecorded o done b.run b.travel b.marks b.broken b.brought
+  pub began : HistoryIsRecorded o done b.run b.travel b.marks b.broken b.brought
   pub unfound : v.unfound ≡ b.run.unfound
   pub next : v.next ≡ b.run.next
   -- what the log tells of it so far, and what it has decided
   pub moment : Moment b.run (went b.run.log done).before s at v.log waits b.broken (breakdowns_of d)
   pub sp : Span
-  pub minutes : StandsFor v.minutes sp
+  pub minutes : CountsSpan v.minutes sp
   pub ds : List Minute
   pub new : List HistoryMinute
   pub decided : HasDecided (rule_of o) (start_at o) (told_before b done) b.run b.span (course_in b done s at v.log) speed sp ds rest new
@@ -170,7 +170,7 @@ pub record Within (o : Origin) (done : List TraceSecond) (s : TraceSecond) (at :
   pub due : ℕ
   pub standing : Card → Standing
   pub brought : Card → List ℕ
-  pub powered : IsPowered o.found (carried v due (kept_all new b.run.book) standing brought) v.cabin.cards d
+  pub powered : DevicesPowered o.found (carried v due (kept_all new b.run.book) standing brought) v.cabin.cards d
   pub found : AreFoundCards o.found v.cabin.cards
   pub early : AreEarly (carried v due (kept_all new b.run.book) standing brought)
   pub late : due ≤ from
@@ -190,8 +190,8 @@ pub record Within (o : Origin) (done : List TraceSecond) (s : TraceSecond) (at :
   pub odometer : IsCountedFrom o b.travel.before v.odometer
 
 -- THE SECOND GOES ON: it began so, and this is the first minute that is still to be kept.
-pub record GoesOn (o : Origin) (done : List TraceSecond) (s : TraceSecond) (at : Phase) (waits : List Visit) (speed : Option ℕ) (rest : List Minute) (v : Values) (d : Devices) (b : Beginning) (first : ℕ) : Type 0 where
-  pub within : Within o done s at waits speed rest v d
+pub record SecondGoesOn (o : Origin) (done : List TraceSecond) (s : TraceSecond) (at : Phase) (waits : List Visit) (speed : Option ℕ) (rest : List Minute) (v : Values) (d : Devices) (b : Beginning) (first : ℕ) : Type 0 where
+  pub within : RecordInSecond o done s at waits speed rest v d
   pub began : within.b ≡ b
   pub from : within.from ≡ first
 
@@ -201,10 +201,10 @@ lost_minute o b done new lost = option_map {T = Minute} (seated (start_at o) (to
 
 -- THE RECORD WHERE A CALL ON THE UNIT HAS FAILED at a moment of a second, and the power is about to be cut: of what is decided the next minute
 -- may be kept or not.
-pub record CutWithin (o : Origin) (done : List TraceSecond) (s : TraceSecond) (at : Phase) (waits : List Visit) (speed : Option ℕ) (v : Values) (d : Devices) : Type 0 where
+pub record RecordAtFailure (o : Origin) (done : List TraceSecond) (s : TraceSecond) (at : Phase) (waits : List Visit) (speed : Option ℕ) (v : Values) (d : Devices) : Type 0 where
   pub b : Beginning
   pub lit : b.run.supply ≡ Lit b.span
-  pub began : HasRecorded o done b.run b.travel b.marks b.broken b.brought
+  pub began : HistoryIsRecorded o done b.run b.travel b.marks b.broken b.brought
   pub unfound : v.unfound ≡ b.run.unfound
   pub next : v.next ≡ b.run.next
   pub counted : Device → ℕ
@@ -225,7 +225,7 @@ pub record CutWithin (o : Origin) (done : List TraceSecond) (s : TraceSecond) (a
   pub due : ℕ
   pub standing : Card → Standing
   pub brought : Card → List ℕ
-  pub powerless : IsPowerless o.found (carried v due (broken_at (lost_minute o b done new lost) (kept_all new b.run.book)) standing brought) d
+  pub powerless : DevicesUnpowered o.found (carried v due (broken_at (lost_minute o b done new lost) (kept_all new b.run.book)) standing brought) d
   pub found : AreFoundCards o.found v.cabin.cards
   pub early : AreEarly (carried v due (broken_at (lost_minute o b done new lost) (kept_all new b.run.book)) standing brought)
   pub late : due ≤ s.number / 60
@@ -251,49 +251,49 @@ cut_values s at v = record v {
 
 -- POWER IS CUT: behind the second all is recorded.
 abbrev pub ACutIsRecorded : Devices → Type 0
-ACutIsRecorded d = (o : Origin) (done : List TraceSecond) (s : TraceSecond) (at : Phase) (waits : List Visit) (speed : Option ℕ) (v : Values) → CutWithin o done s at waits speed v d → (rest : List Action) → IsLeft s at rest →
-    Recorded o (done ++ s ∷ []) Lost (cut_values s at v) d
+ACutIsRecorded d = (o : Origin) (done : List TraceSecond) (s : TraceSecond) (at : Phase) (waits : List Visit) (speed : Option ℕ) (v : Values) → RecordAtFailure o done s at waits speed v d → (rest : List Action) → IsLeft s at rest →
+    RecordBetweenSeconds o (done ++ s ∷ []) Lost (cut_values s at v) d
 
 -- what a run has by value behind a second
 abbrev pub passed_values : TraceSecond → Values → Values
 passed_values s v = record v { next = suc v.next; begun = length s.actions }
 
 -- THE RECORD with this travelled before the span
-pub record RecordedFrom (o : Origin) (done : List TraceSecond) (supply : Supply) (v : Values) (d : Devices) (before : List ℕ) : Type 0 where
-  pub recorded : Recorded o done supply v d
+pub record RecordedFrom (o : Origin) (done : List TraceSecond) (supply : UnitPower) (v : Values) (d : Devices) (before : List ℕ) : Type 0 where
+  pub recorded : RecordBetweenSeconds o done supply v d
   pub travelled_before : recorded.travel.before ≡ before
 
 -- THE SECOND ENDS: all that it decided is kept, and behind it all is recorded.
 abbrev pub TheSecondIsOver : Devices → Type 0
-TheSecondIsOver d = (o : Origin) (done : List TraceSecond) (s : TraceSecond) (v : Values) → (w : Within o done s Keeping [] (Some s.speed) [] v d) →
+TheSecondIsOver d = (o : Origin) (done : List TraceSecond) (s : TraceSecond) (v : Values) → (w : RecordInSecond o done s Keeping [] (Some s.speed) [] v d) →
     RecordedFrom o (done ++ s ∷ []) (Lit (w.b.span ++ next_told v.log done s ∷ [])) (passed_values s v) d w.b.travel.before
 
 -- the first minute that a span has not decided
-abbrev pub undecided_from : Origin → List Told → Values → ℕ
+abbrev pub undecided_from : Origin → List ToldSecond → Values → ℕ
 undecided_from o span v = ungiven_of (span_at (rule_of o) v.next span)
 
 -- how a second begins behind one with power
-abbrev pub begun_behind : (o : Origin) (done : List TraceSecond) (span : List Told) (v : Values) (d : Devices) → Recorded o done (Lit span) v d → Beginning
+abbrev pub begun_behind : (o : Origin) (done : List TraceSecond) (span : List ToldSecond) (v : Values) (d : Devices) → RecordBetweenSeconds o done (Lit span) v d → Beginning
 begun_behind o done span v d r = record { run = progress v (Lit span) r.book; span = span; travel = r.travel; marks = v.marks; broken = breakdowns_of d; brought = r.brought }
 
 -- A SECOND BEGINS behind one with power, in the same minute: nothing of it is told or decided yet.
 abbrev pub ASecondBegins : Devices → Type 0
-ASecondBegins d = (o : Origin) (done : List TraceSecond) (s : TraceSecond) (t : Told) (span : List Told) (v : Values) → (r : Recorded o done (Lit (t ∷ span)) v d) → s.number ≡ v.next → s.has_power ≡ true →
-    v.next / 60 ≡ (v.next - 1) / 60 → GoesOn o done s (In 0) [] None [] v d (begun_behind o done (t ∷ span) v d r) (undecided_from o (t ∷ span) v)
+ASecondBegins d = (o : Origin) (done : List TraceSecond) (s : TraceSecond) (t : ToldSecond) (span : List ToldSecond) (v : Values) → (r : RecordBetweenSeconds o done (Lit (t ∷ span)) v d) → s.number ≡ v.next → s.has_power ≡ true →
+    v.next / 60 ≡ (v.next - 1) / 60 → SecondGoesOn o done s (In 0) [] None [] v d (begun_behind o done (t ∷ span) v d r) (undecided_from o (t ∷ span) v)
 
 -- OR A MINUTE IS OVER: who was present in it is known.
 abbrev pub AMinuteIsOver : Devices → Type 0
-AMinuteIsOver d = (o : Origin) (done : List TraceSecond) (s : TraceSecond) (t : Told) (span : List Told) (v : Values) → (r : Recorded o done (Lit (t ∷ span)) v d) → s.number ≡ v.next → s.has_power ≡ true →
+AMinuteIsOver d = (o : Origin) (done : List TraceSecond) (s : TraceSecond) (t : ToldSecond) (span : List ToldSecond) (v : Values) → (r : RecordBetweenSeconds o done (Lit (t ∷ span)) v d) → s.number ≡ v.next → s.has_power ≡ true →
     ((card : Card) → (found_of o.found card).start ≡ card_start (start_at o) card) →
     v.next / 60 ≡ (v.next - 1) / 60 + 1 → undecided_from o (t ∷ span) v ≤ (v.next - 1) / 60 → (v.next - 1) / 60 ≤ undecided_from o (t ∷ span) v + 3 →
-    Stands (undecided_from o (t ∷ span) v) None v.cabin →
-    GoesOn o done s (In 0) [] None [] (record v { cabin = with_minute_ended ((v.next - 1) / 60) v.cabin }) d (begun_behind o done (t ∷ span) v d r) (undecided_from o (t ∷ span) v)
+    CabinIsSound (undecided_from o (t ∷ span) v) None v.cabin →
+    SecondGoesOn o done s (In 0) [] None [] (record v { cabin = with_minute_ended ((v.next - 1) / 60) v.cabin }) d (begun_behind o done (t ∷ span) v d r) (undecided_from o (t ∷ span) v)
 
 -- THE SECOND IS FED behind all of its actions: these minutes are to be kept then.
 abbrev pub ASecondIsFed : Devices → Type 0
-ASecondIsFed d = (o : Origin) (done : List TraceSecond) (s : TraceSecond) (v : Values) → (w : Within o done s (In (length s.actions)) [] None [] v d) →
-    (minutes : Kept) → StandsFor minutes (fed w.sp s.speed) → (rest : List Minute) → decided_in (fed w.sp s.speed) ≡ decided_in w.sp ++ rest →
-    GoesOn o done s Keeping [] (Some s.speed) rest (record v { minutes = minutes }) d w.b w.from
+ASecondIsFed d = (o : Origin) (done : List TraceSecond) (s : TraceSecond) (v : Values) → (w : RecordInSecond o done s (In (length s.actions)) [] None [] v d) →
+    (minutes : Kept) → CountsSpan minutes (fed w.sp s.speed) → (rest : List Minute) → decided_in (fed w.sp s.speed) ≡ decided_in w.sp ++ rest →
+    SecondGoesOn o done s Keeping [] (Some s.speed) rest (record v { minutes = minutes }) d w.b w.from
 
 -- AN ACTION IS REFUSED, and that is told;
 abbrev pub refused_values : (second begun : ℕ) → SlotFault → Values → Values
@@ -301,8 +301,8 @@ refused_values second begun fault v = record v { log = and_refused v.log (record
 
 abbrev pub ARefusalIsRecorded : Devices → Type 0
 ARefusalIsRecorded d = (o : Origin) (done : List TraceSecond) (s : TraceSecond) (v : Values) (front : List Action) (a : Action) (rest : List Action) → s.actions ≡ front ++ a ∷ rest →
-    (w : Within o done s (In (length front)) [] None [] v d) → (fault : SlotFault) → refusal (course_in w.b done s (In (length front)) v.log).slots s.speed a ≡ Some fault →
-    GoesOn o done s (In (suc (length front))) [] None [] (refused_values s.number (suc (length front)) fault v) d w.b w.from
+    (w : RecordInSecond o done s (In (length front)) [] None [] v d) → (fault : SlotFault) → refusal (course_in w.b done s (In (length front)) v.log).slots s.speed a ≡ Some fault →
+    SecondGoesOn o done s (In (suc (length front))) [] None [] (refused_values s.number (suc (length front)) fault v) d w.b w.from
 
 -- or an activity IS SELECTED.
 abbrev pub heard_values : Kept → Values → Values
@@ -310,15 +310,15 @@ heard_values minutes v = record v { minutes = minutes }
 
 abbrev pub ASelectionIsRecorded : Devices → Type 0
 ASelectionIsRecorded d = (o : Origin) (done : List TraceSecond) (s : TraceSecond) (v : Values) (front : List Action) (slot : Slot) (pick : Pick) (rest : List Action) → s.actions ≡ front ++ Select slot pick ∷ rest →
-    (w : Within o done s (In (length front)) [] None [] v d) → refusal (course_in w.b done s (In (length front)) v.log).slots s.speed (Select slot pick) ≡ None →
-    (minutes : Kept) → StandsFor minutes (picked w.sp slot pick) → GoesOn o done s (In (suc (length front))) [] None [] (heard_values minutes v) d w.b w.from
+    (w : RecordInSecond o done s (In (length front)) [] None [] v d) → refusal (course_in w.b done s (In (length front)) v.log).slots s.speed (Select slot pick) ≡ None →
+    (minutes : Kept) → CountsSpan minutes (picked w.sp slot pick) → SecondGoesOn o done s (In (suc (length front))) [] None [] (heard_values minutes v) d w.b w.from
 
 -- AN ENTRY BY HAND that slots and speed let pass changes nothing.
 abbrev pub AnEntryByHandIsRecorded : Devices → Type 0
 AnEntryByHandIsRecorded d = (o : Origin) (done : List TraceSecond) (s : TraceSecond) (v : Values) (front : List Action) (slot : Slot) (pick : Pick) (minute : ℕ) (rest : List Action) →
     s.actions ≡ front ++ Manual slot pick minute ∷ rest →
-    (w : Within o done s (In (length front)) [] None [] v d) → refusal (course_in w.b done s (In (length front)) v.log).slots s.speed (Manual slot pick minute) ≡ None →
-    GoesOn o done s (In (suc (length front))) [] None [] v d w.b w.from
+    (w : RecordInSecond o done s (In (length front)) [] None [] v d) → refusal (course_in w.b done s (In (length front)) v.log).slots s.speed (Manual slot pick minute) ≡ None →
+    SecondGoesOn o done s (In (suc (length front))) [] None [] v d w.b w.from
 
 -- no session is new
 abbrev pub AreOld : (old new : Cards) → Type 0
@@ -332,18 +332,18 @@ pub record GoesOnSo (o : Origin) (cards : Cards) (d e : Devices) : Type 0 where
   pub untouched : (card : Card) → IsUntouched (found_of o.found card) (card_of d card) → IsUntouched (found_of o.found card) (card_of e card) ⊎ (is_some (session_of cards card) ≡ true)
 
 -- A CALL of which nothing is told, as one that notes an event or a place: no card broke down, and unit and cards are as the book says behind it too.
-pub record IsCalled (o : Origin) (done : List TraceSecond) (s : TraceSecond) (at : Phase) (waits : List Visit) (speed : Option ℕ) (rest : List Minute) (v : Values) (d e : Devices) (w : Within o done s at waits speed rest v d) : Type 0 where
+pub record IsCalled (o : Origin) (done : List TraceSecond) (s : TraceSecond) (at : Phase) (waits : List Visit) (speed : Option ℕ) (rest : List Minute) (v : Values) (d e : Devices) (w : RecordInSecond o done s at waits speed rest v d) : Type 0 where
   pub goes : GoesOnSo o v.cabin.cards d e
   pub breakdowns : IsMore (breakdowns_of d) (breakdowns_of e)
-  pub powered : IsPowered o.found (carried v w.due (kept_all w.new w.b.run.book) w.standing w.brought) v.cabin.cards e
+  pub powered : DevicesPowered o.found (carried v w.due (kept_all w.new w.b.run.book) w.standing w.brought) v.cabin.cards e
   pub travels : HasTravelled (odometer_at o.recording.unit) (kept_all w.new w.b.run.book) (all_travelled w.ds w.b.travel) e.unit
 
 abbrev pub ACallIsRecorded : (d e : Devices) → Type 0
-ACallIsRecorded d e = (o : Origin) (done : List TraceSecond) (s : TraceSecond) (at : Phase) (waits : List Visit) (speed : Option ℕ) (rest : List Minute) (v : Values) → (w : Within o done s at waits speed rest v d) →
-    IsCalled o done s at waits speed rest v d e w → GoesOn o done s at waits speed rest v e w.b w.from
+ACallIsRecorded d e = (o : Origin) (done : List TraceSecond) (s : TraceSecond) (at : Phase) (waits : List Visit) (speed : Option ℕ) (rest : List Minute) (v : Values) → (w : RecordInSecond o done s at waits speed rest v d) →
+    IsCalled o done s at waits speed rest v d e w → SecondGoesOn o done s at waits speed rest v e w.b w.from
 
 -- A CALL IN WHICH THE UNIT FAILED: the next of the minutes that were to be kept may be kept or not, if it was begun.
-pub record HasFailed (o : Origin) (done : List TraceSecond) (s : TraceSecond) (at : Phase) (waits : List Visit) (speed : Option ℕ) (rest : List Minute) (v : Values) (d e : Devices) (w : Within o done s at waits speed rest v d) : Type 0 where
+pub record HasFailed (o : Origin) (done : List TraceSecond) (s : TraceSecond) (at : Phase) (waits : List Visit) (speed : Option ℕ) (rest : List Minute) (v : Values) (d e : Devices) (w : RecordInSecond o done s at waits speed rest v d) : Type 0 where
   pub goes : GoesOnSo o v.cabin.cards d e
   pub breakdowns : IsMore (breakdowns_of d) (breakdowns_of e)
   pub broke : RoseBy 1 (w.b.broken Recorder) (breakdowns_of e Recorder)
@@ -357,16 +357,16 @@ pub record HasFailed (o : Origin) (done : List TraceSecond) (s : TraceSecond) (a
   pub due_late : due ≤ s.number / 60
   pub low : w.from ≤ s.number / 60
   pub standing : Card → Standing
-  pub powerless : IsPowerless o.found (carried v due (broken_at (lost_minute o w.b done w.new lost) (kept_all w.new w.b.run.book)) standing w.brought) e
+  pub powerless : DevicesUnpowered o.found (carried v due (broken_at (lost_minute o w.b done w.new lost) (kept_all w.new w.b.run.book)) standing w.brought) e
   pub travels : HasTravelled (odometer_at o.recording.unit) (broken_at (lost_minute o w.b done w.new lost) (kept_all w.new w.b.run.book)) (stranded_at lost (all_travelled w.ds w.b.travel)) e.unit
 
 abbrev pub AFailureIsRecorded : (d e : Devices) → Type 0
-AFailureIsRecorded d e = (o : Origin) (done : List TraceSecond) (s : TraceSecond) (at : Phase) (waits : List Visit) (speed : Option ℕ) (rest : List Minute) (v : Values) → (w : Within o done s at waits speed rest v d) →
-    HasFailed o done s at waits speed rest v d e w → CutWithin o done s at waits speed v e
+AFailureIsRecorded d e = (o : Origin) (done : List TraceSecond) (s : TraceSecond) (at : Phase) (waits : List Visit) (speed : Option ℕ) (rest : List Minute) (v : Values) → (w : RecordInSecond o done s at waits speed rest v d) →
+    HasFailed o done s at waits speed rest v d e w → RecordAtFailure o done s at waits speed v e
 
 -- A PLACE is told of: its note is a call of its own.
 abbrev pub APlaceIsRecorded : Devices → Type 0
 APlaceIsRecorded d = (o : Origin) (done : List TraceSecond) (s : TraceSecond) (v : Values) (front : List Action) (slot : Slot) (ending : Bool) (country region : ℕ) (rest : List Action) →
     s.actions ≡ front ++ Place slot ending country region ∷ rest →
-    (w : Within o done s (In (length front)) [] None [] v d) → refusal (course_in w.b done s (In (length front)) v.log).slots s.speed (Place slot ending country region) ≡ None →
-    GoesOn o done s (In (suc (length front))) [] None [] v d w.b w.from
+    (w : RecordInSecond o done s (In (length front)) [] None [] v d) → refusal (course_in w.b done s (In (length front)) v.log).slots s.speed (Place slot ending country region) ≡ None →
+    SecondGoesOn o done s (In (suc (length front))) [] None [] v d w.b w.from

@@ -8,7 +8,7 @@ use Rattle.card_layout.specs.Images.{SameOutside, bytes_at}
 use Rattle.gated_ring.specs.Ring.{Shape, IsShape, PointsInside, size_of, pointer, indices, ring_list, entry_at, taken, with_head, IsDense, newest_of}
 use Rattle.gated_ring.specs.Change.{IsShortened, IsExtended, IsAdding, IsAdded}
 use Rattle.gated_ring.proofs.Elsewhere.{ring_outside, ring_elsewhere}
-use Rattle.run_rings.specs.Carried.{Carries}
+use Rattle.run_rings.specs.Carried.{RingKeeps}
 
 -- THE NEWEST of a list
 abbrev older_of : ℕ → List (List ℕ) → List (List ℕ)
@@ -120,23 +120,23 @@ module _ (r : Shape) (begins : List (List ℕ)) (more gone old new : List (List 
           inr (omega (arith, long))
 
 -- A RING
-pub carries-none : (r : Shape) (start : List ℕ) → PointsInside r start → IsDense r start → Carries r start start []
+pub carries-none : (r : Shape) (start : List ℕ) → PointsInside r start → IsDense r start → RingKeeps r start start []
 carries-none r start points dense = record { points = points; dense = dense; gone = []; shown = append-nil (ring_list r start); full = inl refl }
 
-module _ (r : Shape) (start x : List ℕ) (more : List (List ℕ)) (h : Carries r start x more) where
+module _ (r : Shape) (start x : List ℕ) (more : List (List ℕ)) (h : RingKeeps r start x more) where
   -- an entry is added
-  pub carries-more : (head y : List ℕ) → IsAdded r head x y → Carries r start y (more ++ with_head r x (taken r x) head ∷ [])
+  pub carries-more : (head y : List ℕ) → IsAdded r head x y → RingKeeps r start y (more ++ with_head r x (taken r x) head ∷ [])
   carries-more head y added =
       let e : IsExtended r head x y = added.list h.points in
       let s = longer r (ring_list r start) more h.gone (ring_list r x) (ring_list r y) h.shown h.full (with_head r x (taken r x) head) (e.newest h.dense) in
       record { points = added.points h.points; dense = added.dense h.points h.dense; gone = s.0; shown = s.1; full = s.2 }
 
   -- a stop came at a moment of that
-  pub carries-maybe : (head c : List ℕ) → IsAdding r head x c → Carries r start c more ⊎ Carries r start c (more ++ with_head r x (taken r x) head ∷ [])
+  pub carries-maybe : (head c : List ℕ) → IsAdding r head x c → RingKeeps r start c more ⊎ RingKeeps r start c (more ++ with_head r x (taken r x) head ∷ [])
   carries-maybe head c moment = by (moment.step h.points).list
     where
-      by : (c ≡ x) ⊎ (IsShortened r x c ⊎ IsExtended r head x c) → Carries r start c more ⊎ Carries r start c (more ++ with_head r x (taken r x) head ∷ [])
-      by (inl is) = inl (subst (λ (z : List ℕ). Carries r start z more) (sym is) h)
+      by : (c ≡ x) ⊎ (IsShortened r x c ⊎ IsExtended r head x c) → RingKeeps r start c more ⊎ RingKeeps r start c (more ++ with_head r x (taken r x) head ∷ [])
+      by (inl is) = inl (subst (λ (z : List ℕ). RingKeeps r start z more) (sym is) h)
       by (inr (inl shortened)) =
           let s = shorter r (ring_list r start) more h.gone (ring_list r x) (ring_list r c) h.shown h.full (shortened.newest h.dense) in
           inl (record { points = (moment.step h.points).points; dense = (moment.step h.points).dense h.dense; gone = s.0; shown = s.1; full = s.2 })
@@ -145,7 +145,7 @@ module _ (r : Shape) (start x : List ℕ) (more : List (List ℕ)) (h : Carries 
           inr (record { points = (moment.step h.points).points; dense = (moment.step h.points).dense h.dense; gone = s.0; shown = s.1; full = s.2 })
 
   -- a dense ring of the same indices with another list of as many entries
-  carries-as : (c : List ℕ) (others away : List (List ℕ)) → pointer r c ≡ pointer r x → indices r c ≡ indices r x → ring_list r start ++ others ≡ away ++ ring_list r c → ((away ≡ []) ⊎ (r.count ≤ length (ring_list r c) + 1)) → Carries r start c others
+  carries-as : (c : List ℕ) (others away : List (List ℕ)) → pointer r c ≡ pointer r x → indices r c ≡ indices r x → ring_list r start ++ others ≡ away ++ ring_list r c → ((away ≡ []) ⊎ (r.count ≤ length (ring_list r c) + 1)) → RingKeeps r start c others
   carries-as c others away pointers same shown full = record {
     points = subst (λ (n : ℕ). n < r.count) (sym pointers) h.points;
     dense = dense h.dense;
@@ -169,14 +169,14 @@ module _ (r : Shape) (start x : List ℕ) (more : List (List ℕ)) (h : Carries 
           )
 
   -- the same bytes of the ring
-  pub carries-same : IsShape r → (c : List ℕ) → bytes_at c r.base (size_of r) ≡ bytes_at x r.base (size_of r) → Carries r start c more
+  pub carries-same : IsShape r → (c : List ℕ) → bytes_at c r.base (size_of r) ≡ bytes_at x r.base (size_of r) → RingKeeps r start c more
   carries-same shape c bytes =
       let is = ring_elsewhere r shape x c bytes h.points in
       carries-as c more h.gone is.0 is.1 (h.shown ∙ ap (λ (l : List (List ℕ)). h.gone ++ l) (sym is.2))
       (⊎_elim (λ none. inl none) (λ lacks. inr (subst (λ (l : List (List ℕ)). r.count ≤ length l + 1) (sym is.2) lacks)) h.full)
 
   -- bytes outside it
-  pub carries-still : IsShape r → (place len : ℕ) (c : List ℕ) → (place + len ≤ r.base) ⊎ (r.base + size_of r ≤ place) → SameOutside place len x c → Carries r start c more
+  pub carries-still : IsShape r → (place len : ℕ) (c : List ℕ) → (place + len ≤ r.base) ⊎ (r.base + size_of r ≤ place) → SameOutside place len x c → RingKeeps r start c more
   carries-still shape place len c apart same = carries-same shape c (ring_outside r place len x c apart same)
 
   -- one of the run's entries gets other bytes where it stands
@@ -209,7 +209,7 @@ module _ (r : Shape) (start x : List ℕ) (more : List (List ℕ)) (h : Carries 
     pub entry-was : e ≡ entry_at r x i
     entry-was = split.1
 
-    pub carries-changed : Carries r start c (older ++ bytes ∷ newer)
+    pub carries-changed : RingKeeps r start c (older ++ bytes ∷ newer)
     carries-changed =
         carries-as c (older ++ bytes ∷ newer) h.gone pointers same
         (sym (append_assoc (ring_list r start) older (bytes ∷ newer))
@@ -222,7 +222,7 @@ module _ (r : Shape) (start x : List ℕ) (more : List (List ℕ)) (h : Carries 
         length-as = length-map (indices r c) (entry_at r c) ∙ ap (λ (js : List ℕ). length js) same ∙ sym (length-map (indices r x) (entry_at r x))
 
   -- an entry that is gone may have been any other
-  pub carries-gone : (older : List (List ℕ)) (e other : List ℕ) (newer : List (List ℕ)) → more ≡ older ++ e ∷ newer → length (ring_list r x) ≤ length newer → Carries r start x (older ++ other ∷ newer)
+  pub carries-gone : (older : List (List ℕ)) (e other : List ℕ) (newer : List (List ℕ)) → more ≡ older ++ e ∷ newer → length (ring_list r x) ≤ length newer → RingKeeps r start x (older ++ other ∷ newer)
   carries-gone older e other newer are many =
       let cut = front-of (ring_list r start ++ older) (ring_list r x) h.gone e newer
       (append_assoc (ring_list r start) older (e ∷ newer) ∙ ap (λ (l : List (List ℕ)). ring_list r start ++ l) (sym are) ∙ h.shown) many in

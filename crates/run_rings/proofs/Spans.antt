@@ -7,17 +7,17 @@ use Rattle.std.proofs.lemmas.List.Sums.{sum_by-cons}
 use Rattle.std.proofs.lemmas.Bool.Decides.{nat_tests}
 use Rattle.minute_model.specs.Second.{Second}
 use Rattle.unit_model.specs.declared.layout.TheConstants.{HIGHEST_ODOMETER}
-use Rattle.log_model.specs.Course.{Told}
+use Rattle.log_model.specs.Course.{ToldSecond}
 use Rattle.log_model.specs.Spans.{go_on, seconds_in}
 use Rattle.note_model.specs.Odometer.{SpanFrom, odometer_before, has_second, odometer_at}
 use Rattle.run_rings.specs.Spans.{go_on_from, TheyAreTheSpans, EarlierOdometersStay, AreAlike, AlikeSecondsCountAlike, AreBefore, AreAllBefore, odometer_on, TheOdometerOfNow}
 
 -- ---- the spans
 
-go-on-spans : (spans : List SpanFrom) (base : ℕ) (t : Told) → map (λ (s : SpanFrom). s.span) (go_on_from spans base t) ≡ go_on (map (λ (s : SpanFrom). s.span) spans) t
+go-on-spans : (spans : List SpanFrom) (base : ℕ) (t : ToldSecond) → map (λ (s : SpanFrom). s.span) (go_on_from spans base t) ≡ go_on (map (λ (s : SpanFrom). s.span) spans) t
 go-on-spans [] base t = refl
 go-on-spans (s ∷ []) base t = refl
-go-on-spans (s ∷ next ∷ spans) base t = ap (λ (l : List (List Told)). s.span ∷ l) (go-on-spans (next ∷ spans) base t)
+go-on-spans (s ∷ next ∷ spans) base t = ap (λ (l : List (List ToldSecond)). s.span ∷ l) (go-on-spans (next ∷ spans) base t)
 
 pub are-spans : TheyAreTheSpans
 are-spans spans base t = by t.lit t.starts
@@ -47,15 +47,15 @@ or-false : (a b : Bool) → b ≡ false → (a || b) ≡ a
 or-false true b is = refl
 or-false false b is = is
 
-has-longer : (u : ℕ) (base : ℕ) (span : List Told) (t : Told) → nat_eq t.second.number u ≡ false → has_second u (record { base = base; span = span ++ t ∷ [] }) ≡ has_second u (record { base = base; span = span })
-has-longer u base span t ne = any-append (λ (x : Told). nat_eq x.second.number u) span t ∙ or-false (list_any (λ (x : Told). nat_eq x.second.number u) span) (nat_eq t.second.number u) ne
+has-longer : (u : ℕ) (base : ℕ) (span : List ToldSecond) (t : ToldSecond) → nat_eq t.second.number u ≡ false → has_second u (record { base = base; span = span ++ t ∷ [] }) ≡ has_second u (record { base = base; span = span })
+has-longer u base span t ne = any-append (λ (x : ToldSecond). nat_eq x.second.number u) span t ∙ or-false (list_any (λ (x : ToldSecond). nat_eq x.second.number u) span) (nat_eq t.second.number u) ne
 
 -- what was driven in it before a second
 abbrev speeds_before : ℕ → List Second → List ℕ
 speeds_before u seconds = map (λ (s : Second). s.speed) (filter (λ (s : Second). nat_lt s.number u) seconds)
 
-seconds-append : (span : List Told) (t : Told) → seconds_in (span ++ t ∷ []) ≡ seconds_in span ++ t.second ∷ []
-seconds-append span t = map-append (λ (x : Told). x.second) span (t ∷ [])
+seconds-append : (span : List ToldSecond) (t : ToldSecond) → seconds_in (span ++ t ∷ []) ≡ seconds_in span ++ t.second ∷ []
+seconds-append span t = map-append (λ (x : ToldSecond). x.second) span (t ∷ [])
 
 speeds-longer : (u : ℕ) (seconds : List Second) (s : Second) → nat_lt s.number u ≡ false → speeds_before u (seconds ++ s ∷ []) ≡ speeds_before u seconds
 speeds-longer u [] s late = ap (λ (b : Bool). map (λ (x : Second). x.speed) (cond b (s ∷ []) [])) late
@@ -66,7 +66,7 @@ speeds-longer u (x ∷ seconds) s late = by (nat_lt x.number u) (speeds-longer u
     by true rest = ap (λ (l : List ℕ). x.speed ∷ l) rest
     by false rest = rest
 
-before-longer : (u base : ℕ) (span : List Told) (t : Told) → nat_lt t.second.number u ≡ false → odometer_before u (record { base = base; span = span ++ t ∷ [] }) ≡ odometer_before u (record { base = base; span = span })
+before-longer : (u base : ℕ) (span : List ToldSecond) (t : ToldSecond) → nat_lt t.second.number u ≡ false → odometer_before u (record { base = base; span = span ++ t ∷ [] }) ≡ odometer_before u (record { base = base; span = span })
 before-longer u base span t late =
     ap (λ (l : List Second). min HIGHEST_ODOMETER (base + sum (speeds_before u l) / 3600)) (seconds-append span t)
     ∙ ap (λ (l : List ℕ). min HIGHEST_ODOMETER (base + sum l / 3600)) (speeds-longer u (seconds_in span) t.second late)
@@ -76,11 +76,11 @@ before-longer u base span t late =
 abbrev by_span : Bool → ℕ → ℕ → ℕ
 by_span has here later = cond has here later
 
-at-new : (spans : List SpanFrom) (base : ℕ) (t : Told) (u : ℕ) → nat_eq t.second.number u ≡ false → odometer_at u (spans ++ record { base = base; span = t ∷ [] } ∷ []) ≡ odometer_at u spans
+at-new : (spans : List SpanFrom) (base : ℕ) (t : ToldSecond) (u : ℕ) → nat_eq t.second.number u ≡ false → odometer_at u (spans ++ record { base = base; span = t ∷ [] } ∷ []) ≡ odometer_at u spans
 at-new [] base t u ne = ap (λ (b : Bool). cond (b || false) (odometer_before u (record { base = base; span = t ∷ [] })) 0) ne
 at-new (s ∷ spans) base t u ne = ap (λ (n : ℕ). by_span (has_second u s) (odometer_before u s) n) (at-new spans base t u ne)
 
-at-longer : (spans : List SpanFrom) (base : ℕ) (t : Told) (u : ℕ) → nat_eq t.second.number u ≡ false → nat_lt t.second.number u ≡ false → odometer_at u (go_on_from spans base t) ≡ odometer_at u spans
+at-longer : (spans : List SpanFrom) (base : ℕ) (t : ToldSecond) (u : ℕ) → nat_eq t.second.number u ≡ false → nat_lt t.second.number u ≡ false → odometer_at u (go_on_from spans base t) ≡ odometer_at u spans
 at-longer [] base t u ne late = ap (λ (b : Bool). cond (b || false) (odometer_before u (record { base = base; span = t ∷ [] })) 0) ne
 at-longer (s ∷ []) base t u ne late = λ i. by_span (has-longer u s.base s.span t ne i) (before-longer u s.base s.span t late i) 0
 at-longer (s ∷ next ∷ spans) base t u ne late = ap (λ (n : ℕ). by_span (has_second u s) (odometer_before u s) n) (at-longer (next ∷ spans) base t u ne late)
@@ -101,12 +101,12 @@ earlier-stay spans base t u lt = by t.lit t.starts
 
 -- ---- alike seconds
 
-module _ (t x : Told) (same : AreAlike t x) (u : ℕ) where
-  has-alike : (base : ℕ) (span : List Told) → has_second u (record { base = base; span = span ++ x ∷ [] }) ≡ has_second u (record { base = base; span = span ++ t ∷ [] })
+module _ (t x : ToldSecond) (same : AreAlike t x) (u : ℕ) where
+  has-alike : (base : ℕ) (span : List ToldSecond) → has_second u (record { base = base; span = span ++ x ∷ [] }) ≡ has_second u (record { base = base; span = span ++ t ∷ [] })
   has-alike base span =
-      any-append (λ (y : Told). nat_eq y.second.number u) span x
-      ∙ ap (λ (n : ℕ). list_any (λ (y : Told). nat_eq y.second.number u) span || nat_eq n u) same.number
-      ∙ sym (any-append (λ (y : Told). nat_eq y.second.number u) span t)
+      any-append (λ (y : ToldSecond). nat_eq y.second.number u) span x
+      ∙ ap (λ (n : ℕ). list_any (λ (y : ToldSecond). nat_eq y.second.number u) span || nat_eq n u) same.number
+      ∙ sym (any-append (λ (y : ToldSecond). nat_eq y.second.number u) span t)
 
   speeds-alike : (seconds : List Second) → speeds_before u (seconds ++ x.second ∷ []) ≡ speeds_before u (seconds ++ t.second ∷ [])
   speeds-alike [] = one (nat_lt x.second.number u) (nat_lt t.second.number u) (ap (λ (n : ℕ). nat_lt n u) same.number)
@@ -124,7 +124,7 @@ module _ (t x : Told) (same : AreAlike t x) (u : ℕ) where
       by true rest = ap (λ (l : List ℕ). y.speed ∷ l) rest
       by false rest = rest
 
-  before-alike : (base : ℕ) (span : List Told) → odometer_before u (record { base = base; span = span ++ x ∷ [] }) ≡ odometer_before u (record { base = base; span = span ++ t ∷ [] })
+  before-alike : (base : ℕ) (span : List ToldSecond) → odometer_before u (record { base = base; span = span ++ x ∷ [] }) ≡ odometer_before u (record { base = base; span = span ++ t ∷ [] })
   before-alike base span =
       ap (λ (l : List Second). min HIGHEST_ODOMETER (base + sum (speeds_before u l) / 3600)) (seconds-append span x)
       ∙ ap (λ (l : List ℕ). min HIGHEST_ODOMETER (base + sum l / 3600)) (speeds-alike (seconds_in span))
@@ -168,9 +168,9 @@ all-before u (s ∷ seconds) all =
     below a b lt = grind (arith, nat_tests)
 
 -- it is in none of them
-none-has : (u : ℕ) (span : List Told) → AreBefore u (seconds_in span) → list_any (λ (x : Told). nat_eq x.second.number u) span ≡ false
+none-has : (u : ℕ) (span : List ToldSecond) → AreBefore u (seconds_in span) → list_any (λ (x : ToldSecond). nat_eq x.second.number u) span ≡ false
 none-has u [] all = refl
-none-has u (t ∷ span) all = ap (λ (b : Bool). b || list_any (λ (x : Told). nat_eq x.second.number u) span) (other t.second.number u all.0) ∙ none-has u span all.1
+none-has u (t ∷ span) all = ap (λ (b : Bool). b || list_any (λ (x : ToldSecond). nat_eq x.second.number u) span) (other t.second.number u all.0) ∙ none-has u span all.1
   where
     other : (a b : ℕ) → a < b → nat_eq a b ≡ false
     other a b lt = grind (arith, nat_tests)
@@ -179,11 +179,11 @@ or-true : (a b : Bool) → b ≡ true → (a || b) ≡ true
 or-true true b is = refl
 or-true false b is = is
 
-now-in : (u base : ℕ) (span : List Told) (t : Told) → t.second.number ≡ u → AreBefore u (seconds_in span) →
+now-in : (u base : ℕ) (span : List ToldSecond) (t : ToldSecond) → t.second.number ≡ u → AreBefore u (seconds_in span) →
     by_span (has_second u (record { base = base; span = span ++ t ∷ [] })) (odometer_before u (record { base = base; span = span ++ t ∷ [] })) 0 ≡ odometer_on base (seconds_in span)
 now-in u base span t is all =
     let has : has_second u (record { base = base; span = span ++ t ∷ [] }) ≡ true =
-    any-append (λ (x : Told). nat_eq x.second.number u) span t ∙ or-true (list_any (λ (x : Told). nat_eq x.second.number u) span) (nat_eq t.second.number u) (ap (λ (n : ℕ). nat_eq n u) is ∙ same-itself u) in
+    any-append (λ (x : ToldSecond). nat_eq x.second.number u) span t ∙ or-true (list_any (λ (x : ToldSecond). nat_eq x.second.number u) span) (nat_eq t.second.number u) (ap (λ (n : ℕ). nat_eq n u) is ∙ same-itself u) in
     let late : nat_lt t.second.number u ≡ false = ap (λ (n : ℕ). nat_lt n u) is ∙ before-itself u in
     ap (λ (b : Bool). by_span b (odometer_before u (record { base = base; span = span ++ t ∷ [] })) 0) has
     ∙ before-longer u base span t late
@@ -197,7 +197,7 @@ front-before : (u : ℕ) (earlier : List SpanFrom) (s : SpanFrom) → AreAllBefo
 front-before u [] s all = (tt, all.0)
 front-before u (x ∷ earlier) s all = let rest = front-before u earlier s all.1 in ((all.0, rest.0), rest.1)
 
-go-on-last : (earlier : List SpanFrom) (s : SpanFrom) (base : ℕ) (t : Told) → go_on_from (earlier ++ s ∷ []) base t ≡ earlier ++ record { base = s.base; span = s.span ++ t ∷ [] } ∷ []
+go-on-last : (earlier : List SpanFrom) (s : SpanFrom) (base : ℕ) (t : ToldSecond) → go_on_from (earlier ++ s ∷ []) base t ≡ earlier ++ record { base = s.base; span = s.span ++ t ∷ [] } ∷ []
 go-on-last [] s base t = refl
 go-on-last (x ∷ []) s base t = refl
 go-on-last (x ∷ y ∷ earlier) s base t = ap (λ (l : List SpanFrom). x ∷ l) (go-on-last (y ∷ earlier) s base t)

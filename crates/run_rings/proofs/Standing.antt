@@ -5,7 +5,7 @@ use Rattle.gated_ring.specs.Ring.{Shape}
 use Rattle.log_model.specs.Slots.{same_card}
 use Rattle.note_model.specs.Noted.{InsertionNote, Withdrawal, with_withdrawal}
 use Rattle.note_model.specs.Rings.{Stand, AreNoFewer, RingShows}
-use Rattle.run_rings.specs.Carried.{Carries}
+use Rattle.run_rings.specs.Carried.{RingKeeps}
 
 module _ {N : Type 0} (is_sure : N → Bool) (Is : N → List ℕ → Type 0) where
   -- some notes, and then some
@@ -22,7 +22,7 @@ module _ {N : Type 0} (is_sure : N → Bool) (Is : N → List ℕ → Type 0) wh
   stand-unsure notes entries n h unsure = subst (Stand is_sure Is (notes ++ n ∷ [])) (append-nil entries) (stand-append notes (n ∷ []) entries [] h (inr (unsure, refl)))
 
   -- so the ring shows them
-  pub ring-shows : (r : Shape) (notes : List N) (start x : List ℕ) (more : List (List ℕ)) → Carries r start x more → Stand is_sure Is notes more → AreNoFewer r is_sure notes start x → RingShows r is_sure Is notes start x
+  pub ring-shows : (r : Shape) (notes : List N) (start x : List ℕ) (more : List (List ℕ)) → RingKeeps r start x more → Stand is_sure Is notes more → AreNoFewer r is_sure notes start x → RingShows r is_sure Is notes start x
   ring-shows r notes start x more h stand few = record { more = more; stand = stand; gone = h.gone; shown = h.shown; full = h.full; few = few }
 
 -- THE LAST INSERTION of a card gets its withdrawal

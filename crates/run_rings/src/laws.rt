@@ -5,7 +5,7 @@ ghost use Rattle.gated_ring.specs.Ring.{Shape, IsShape, PointsInside, size_of, p
 ghost use Rattle.gated_ring.specs.Change.{IsAdding, IsAdded};
 ghost use Rattle.log_model.specs.Slots.{same_card};
 ghost use Rattle.note_model.specs.Noted.{InsertionNote, Withdrawal, with_withdrawal};
-ghost use Rattle.run_rings.specs.Carried.{Carries};
+ghost use Rattle.run_rings.specs.Carried.{RingKeeps};
 ghost use Rattle.run_rings.specs.Spans.{TheyAreTheSpans, EarlierOdometersStay, AlikeSecondsCountAlike, TheOdometerOfNow};
 ghost use Rattle.run_rings.specs.Notes.{LaterLinesChangeNoNote, AnActionNotes, ASecondHasNoted, ACutNotesNoMore, SelectionsNoteNothing, PullsNoteNothing, EntriesByHandNoteNothing, RefusalsNoteNothing, PlacesAreNoted, WithdrawalsAreNoted, InsertionsAreNoted, PowerOnsAreNoted};
 
@@ -13,17 +13,17 @@ ghost use Rattle.run_rings.specs.Notes.{LaterLinesChangeNoNote, AnActionNotes, A
 /// stop comes at a moment of that; bytes outside the ring are written; one of the run's entries gets other bytes where it stands, or would
 /// have, but is gone.
 pub fn what_a_ring_carries()
-    ensures begins { (r : Shape) (start : List ℕ) → PointsInside r start → IsDense r start → Carries r start start [] }
-    ensures added { (r : Shape) (start x : List ℕ) (more : List (List ℕ)) → Carries r start x more → (head y : List ℕ) → IsAdded r head x y → Carries r start y (more ++ with_head r x (taken r x) head ∷ []) }
-    ensures moment { (r : Shape) (start x : List ℕ) (more : List (List ℕ)) → Carries r start x more → (head c : List ℕ) → IsAdding r head x c →
-        Carries r start c more ⊎ Carries r start c (more ++ with_head r x (taken r x) head ∷ []) }
-    ensures elsewhere { (r : Shape) (start x : List ℕ) (more : List (List ℕ)) → Carries r start x more → IsShape r → (place len : ℕ) (c : List ℕ) → (place + len ≤ r.base) ⊎ (r.base + size_of r ≤ place) →
-        SameOutside place len x c → Carries r start c more }
-    ensures changed { (r : Shape) (start x : List ℕ) (more : List (List ℕ)) → Carries r start x more → (c : List ℕ) (i : ℕ) (bytes front back : List ℕ) → pointer r c ≡ pointer r x → indices r c ≡ indices r x →
+    ensures begins { (r : Shape) (start : List ℕ) → PointsInside r start → IsDense r start → RingKeeps r start start [] }
+    ensures added { (r : Shape) (start x : List ℕ) (more : List (List ℕ)) → RingKeeps r start x more → (head y : List ℕ) → IsAdded r head x y → RingKeeps r start y (more ++ with_head r x (taken r x) head ∷ []) }
+    ensures moment { (r : Shape) (start x : List ℕ) (more : List (List ℕ)) → RingKeeps r start x more → (head c : List ℕ) → IsAdding r head x c →
+        RingKeeps r start c more ⊎ RingKeeps r start c (more ++ with_head r x (taken r x) head ∷ []) }
+    ensures elsewhere { (r : Shape) (start x : List ℕ) (more : List (List ℕ)) → RingKeeps r start x more → IsShape r → (place len : ℕ) (c : List ℕ) → (place + len ≤ r.base) ⊎ (r.base + size_of r ≤ place) →
+        SameOutside place len x c → RingKeeps r start c more }
+    ensures changed { (r : Shape) (start x : List ℕ) (more : List (List ℕ)) → RingKeeps r start x more → (c : List ℕ) (i : ℕ) (bytes front back : List ℕ) → pointer r c ≡ pointer r x → indices r c ≡ indices r x →
         indices r x ≡ front ++ i ∷ back → AllByRecursion (λ (j : ℕ). (j == i) ≡ false) (front ++ back) → ring_list r c ≡ map (λ j. if j == i then bytes else entry_at r x j) (indices r x) → (i == i) ≡ true →
-        (older : List (List ℕ)) (e : List ℕ) (newer : List (List ℕ)) → more ≡ older ++ e ∷ newer → length newer ≡ length back → (e ≡ entry_at r x i) × Carries r start c (older ++ bytes ∷ newer) }
-    ensures gone { (r : Shape) (start x : List ℕ) (more : List (List ℕ)) → Carries r start x more → (older : List (List ℕ)) (e other : List ℕ) (newer : List (List ℕ)) → more ≡ older ++ e ∷ newer →
-        length (ring_list r x) ≤ length newer → Carries r start x (older ++ other ∷ newer) }
+        (older : List (List ℕ)) (e : List ℕ) (newer : List (List ℕ)) → more ≡ older ++ e ∷ newer → length newer ≡ length back → (e ≡ entry_at r x i) × RingKeeps r start c (older ++ bytes ∷ newer) }
+    ensures gone { (r : Shape) (start x : List ℕ) (more : List (List ℕ)) → RingKeeps r start x more → (older : List (List ℕ)) (e other : List ℕ) (newer : List (List ℕ)) → more ≡ older ++ e ∷ newer →
+        length (ring_list r x) ≤ length newer → RingKeeps r start x (older ++ other ∷ newer) }
 {}
 
 /// A withdrawal is told by the last insertion of its card.

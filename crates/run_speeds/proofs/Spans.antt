@@ -6,7 +6,7 @@ use Rattle.std.proofs.lemmas.Grind.{flat_map-append}
 use Rattle.std.proofs.lemmas.List.{map-append}
 use Rattle.trace_model.specs.Trace.{TraceSecond}
 use Rattle.log_model.specs.Log.{RunLog, cut_in}
-use Rattle.log_model.specs.Course.{Told, Before, Went, has_power, second_told, before_next, went_on, went, not_begun}
+use Rattle.log_model.specs.Course.{ToldSecond, Before, Went, has_power, second_told, before_next, went_on, went, not_begun}
 use Rattle.log_model.specs.Spans.{go_on, spans_with, spans_of, AreInOrder}
 use Rattle.log_model.proofs.Growth.{went-more}
 use Rattle.log_model.proofs.Spanning.{spans-more}
@@ -89,7 +89,7 @@ grown-blocks false spans xs more is = on-blocks spans xs more is
 
 -- ---- A SECOND MORE, as a log tells it
 
-pub record IsLitSecond (log : RunLog) (before : Before) (s : TraceSecond) (t : Told) : Type 0 where
+pub record IsLitSecond (log : RunLog) (before : Before) (s : TraceSecond) (t : ToldSecond) : Type 0 where
   pub number : t.second.number ≡ s.number
   pub speed : t.second.speed ≡ s.speed
   pub lit : t.lit ≡ true
@@ -100,7 +100,7 @@ pub record IsLitSecond (log : RunLog) (before : Before) (s : TraceSecond) (t : T
 lit-second : (log : RunLog) (before : Before) (s : TraceSecond) → has_power before s ≡ true → IsLitSecond log before s (second_told log before s)
 lit-second log before s power = rw power (record { number = refl; speed = refl; lit = refl; starts = refl; cut = refl; given = refl })
 
-record IsDarkSecond (s : TraceSecond) (t : Told) : Type 0 where
+record IsDarkSecond (s : TraceSecond) (t : ToldSecond) : Type 0 where
   lit : t.lit ≡ false
   cut : t.cut ≡ false
   given : t.given ≡ s.has_power
@@ -112,24 +112,24 @@ dark-second log before s none = rw none (record { lit = refl; cut = refl; given 
 abbrev pub as-speed : TraceSecond → SpeedSecond
 as-speed s = record { number = s.number; speed = s.speed }
 
-map-on : (spans : List (List Told)) (t : Told) → map (λ (span : List Told). map speed_of span) (go_on spans t) ≡ on-last (map (λ (span : List Told). map speed_of span) spans) (speed_of t ∷ [])
+map-on : (spans : List (List ToldSecond)) (t : ToldSecond) → map (λ (span : List ToldSecond). map speed_of span) (go_on spans t) ≡ on-last (map (λ (span : List ToldSecond). map speed_of span) spans) (speed_of t ∷ [])
 map-on [] t = refl
 map-on (span ∷ []) t = ap (λ (s : List SpeedSecond). s ∷ []) (map-append speed_of span (t ∷ []))
 map-on (span ∷ next ∷ spans) t = ap (λ (l : List (List SpeedSecond)). map speed_of span ∷ l) (map-on (next ∷ spans) t)
 
-map-with : (spans : List (List Told)) (t : Told) (lit starts : Bool) → map (λ (span : List Told). map speed_of span) (cond lit (cond starts (spans ++ (t ∷ []) ∷ []) (go_on spans t)) spans)
-    ≡ cond lit (grown starts (map (λ (span : List Told). map speed_of span) spans) (speed_of t ∷ [])) (map (λ (span : List Told). map speed_of span) spans)
-map-with spans t true true = map-append (λ (span : List Told). map speed_of span) spans ((t ∷ []) ∷ [])
+map-with : (spans : List (List ToldSecond)) (t : ToldSecond) (lit starts : Bool) → map (λ (span : List ToldSecond). map speed_of span) (cond lit (cond starts (spans ++ (t ∷ []) ∷ []) (go_on spans t)) spans)
+    ≡ cond lit (grown starts (map (λ (span : List ToldSecond). map speed_of span) spans) (speed_of t ∷ [])) (map (λ (span : List ToldSecond). map speed_of span) spans)
+map-with spans t true true = map-append (λ (span : List ToldSecond). map speed_of span) spans ((t ∷ []) ∷ [])
 map-with spans t true false = map-on spans t
 map-with spans t false starts = refl
 
-speeds-told : (told : List Told) (t : Told) → speeds_of (told ++ t ∷ []) ≡ cond t.lit (grown t.starts (speeds_of told) (speed_of t ∷ [])) (speeds_of told)
-speeds-told told t = ap (map (λ (span : List Told). map speed_of span)) (spans-more told t) ∙ map-with (spans_of told) t t.lit t.starts
+speeds-told : (told : List ToldSecond) (t : ToldSecond) → speeds_of (told ++ t ∷ []) ≡ cond t.lit (grown t.starts (speeds_of told) (speed_of t ∷ [])) (speeds_of told)
+speeds-told told t = ap (map (λ (span : List ToldSecond). map speed_of span)) (spans-more told t) ∙ map-with (spans_of told) t t.lit t.starts
 
 -- with power, and without
 pub speeds-lit : (log : RunLog) (done : List TraceSecond) (s : TraceSecond) → has_power (went log done).before s ≡ true → speed_spans log (done ++ s ∷ []) ≡ grown (not (went log done).before.running) (speed_spans log done) (as-speed s ∷ [])
 speeds-lit log done s power =
-    let t : Told = second_told log (went log done).before s in
+    let t : ToldSecond = second_told log (went log done).before s in
     let is = lit-second log (went log done).before s power in
     ap (λ (w : Went). speeds_of w.told) (went-more log done s)
     ∙ speeds-told (went log done).told t
@@ -137,7 +137,7 @@ speeds-lit log done s power =
 
 pub speeds-dark : (log : RunLog) (done : List TraceSecond) (s : TraceSecond) → has_power (went log done).before s ≡ false → speed_spans log (done ++ s ∷ []) ≡ speed_spans log done
 speeds-dark log done s none =
-    let t : Told = second_told log (went log done).before s in
+    let t : ToldSecond = second_told log (went log done).before s in
     let is = dark-second log (went log done).before s none in
     ap (λ (w : Went). speeds_of w.told) (went-more log done s)
     ∙ speeds-told (went log done).told t
@@ -158,18 +158,18 @@ alike-power a b s h = λ i. s.has_power && (not (h.gone i) || nat_eq (s.number %
 abbrev pub SameCut : (log later : RunLog) → TraceSecond → Type 0
 SameCut log later s = is_some (cut_in later s.number) ≡ is_some (cut_in log s.number)
 
-next-alike : (a b : Before) (t u : Told) → IsAlike a b → u.lit ≡ t.lit → u.cut ≡ t.cut → u.given ≡ t.given → IsAlike (before_next a t) (before_next b u)
+next-alike : (a b : Before) (t u : ToldSecond) → IsAlike a b → u.lit ≡ t.lit → u.cut ≡ t.cut → u.given ≡ t.given → IsAlike (before_next a t) (before_next b u)
 next-alike a b t u h lit cut given = record {
   running = λ i. lit i && not (cut i);
   gone = λ i. cut i || (h.gone i && not (lit i));
   given = given;
 }
 
-module _ (log later : RunLog) (a b : Before) (s : TraceSecond) (h : IsAlike a b) (same : SameCut log later s) (told more : List Told) (are : speeds_of more ≡ speeds_of told) where
-  abbrev t : Told
+module _ (log later : RunLog) (a b : Before) (s : TraceSecond) (h : IsAlike a b) (same : SameCut log later s) (told more : List ToldSecond) (are : speeds_of more ≡ speeds_of told) where
+  abbrev t : ToldSecond
   t = second_told log a s
 
-  abbrev u : Told
+  abbrev u : ToldSecond
   u = second_told later b s
 
   second-alike : (p : Bool) → has_power a s ≡ p → IsAlike (before_next a t) (before_next b u) × (speeds_of (more ++ u ∷ []) ≡ speeds_of (told ++ t ∷ []))

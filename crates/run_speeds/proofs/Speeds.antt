@@ -7,7 +7,7 @@ use Rattle.gated_ring.specs.Ring.{taken, with_head}
 use Rattle.gated_ring.specs.Change.{IsAdding, IsAdded}
 use Rattle.gated_ring.proofs.Elsewhere.{ring_elsewhere}
 use Rattle.note_model.specs.Rings.{Stand}
-use Rattle.run_rings.specs.Carried.{Carries}
+use Rattle.run_rings.specs.Carried.{RingKeeps}
 use Rattle.run_rings.proofs.Carried.{carries-none, carries-more, carries-maybe, carries-same}
 use Rattle.run_rings.proofs.Standing.{stand-one, stand-unsure}
 use Rattle.speed_model.specs.declared.block.Block.{Block}
@@ -65,11 +65,11 @@ module _ (is_sure : Block → Bool) (start : List ℕ) where
 
     module _ (before : IsCoherent old) (b : Block) (sixty : length b.speeds ≡ 60) (run : LeavesOnly old new (IsAdding speed_ring (block_bytes b))) where
       -- an entry more stands for it
-      with-entry : (x c : List ℕ) (o : CarriesBlocks is_sure start blocks x) → Carries speed_ring start c (o.more ++ with_head speed_ring x (taken speed_ring x) (block_bytes b) ∷ []) → CarriesBlocks is_sure start (blocks ++ b ∷ []) c
+      with-entry : (x c : List ℕ) (o : CarriesBlocks is_sure start blocks x) → RingKeeps speed_ring start c (o.more ++ with_head speed_ring x (taken speed_ring x) (block_bytes b) ∷ []) → CarriesBlocks is_sure start (blocks ++ b ∷ []) c
       with-entry x c o carries = record {
         more = o.more ++ block_bytes b ∷ [];
         stand = stand-one is_sure IsBlock blocks o.more b (block_bytes b) o.stand refl;
-        carries = subst (λ (e : List ℕ). Carries speed_ring start c (o.more ++ e ∷ [])) (whole-head x (taken speed_ring x) b sixty) carries;
+        carries = subst (λ (e : List ℕ). RingKeeps speed_ring start c (o.more ++ e ∷ [])) (whole-head x (taken speed_ring x) b sixty) carries;
       }
 
       -- a moment of it carries the blocks before, or this one too

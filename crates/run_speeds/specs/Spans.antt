@@ -2,7 +2,7 @@
 use Rattle.std.specs.Prelude.{ℕ, ◌+◌, Bool, not, List, [], ◌∷◌, map, if◌then◌else◌}
 use Rattle.trace_model.specs.Trace.{TraceSecond}
 use Rattle.log_model.specs.Log.{RunLog}
-use Rattle.log_model.specs.Course.{Told, went}
+use Rattle.log_model.specs.Course.{ToldSecond, went}
 use Rattle.log_model.specs.Spans.{spans_of}
 use Rattle.event_model.specs.Spans.{SpeedSecond}
 use Rattle.note_model.specs.Done.{has_failed_in}
@@ -10,11 +10,11 @@ use Rattle.speed_model.specs.declared.block.Block.{Block}
 use Rattle.speed_model.specs.Blocks.{blocks_in}
 
 -- a second by its number and its speed
-abbrev pub speed_of : Told → SpeedSecond
+abbrev pub speed_of : ToldSecond → SpeedSecond
 speed_of t = record { number = t.second.number; speed = t.second.speed }
 
 -- the power spans of these seconds, each second by its speed
-abbrev pub speeds_of : List Told → List (List SpeedSecond)
+abbrev pub speeds_of : List ToldSecond → List (List SpeedSecond)
 speeds_of told = map (λ span. map speed_of span) (spans_of told)
 
 abbrev pub speed_spans : RunLog → List TraceSecond → List (List SpeedSecond)

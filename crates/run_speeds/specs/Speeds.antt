@@ -5,7 +5,7 @@ use Rattle.card_layout.specs.Images.{bytes_at}
 use Rattle.tach_media.specs.Medium.{State}
 use Rattle.gated_ring.specs.Ring.{PointsInside, IsDense, size_of}
 use Rattle.note_model.specs.Rings.{Stand}
-use Rattle.run_rings.specs.Carried.{Carries}
+use Rattle.run_rings.specs.Carried.{RingKeeps}
 use Rattle.speed_model.specs.declared.block.Block.{Block}
 use Rattle.speed_model.specs.Blocks.{block_bytes}
 use Rattle.speed_model.specs.Stored.{speed_ring, HoldsNewest}
@@ -24,7 +24,7 @@ module _ (is_sure : Block → Bool) (start : List ℕ) where
   pub record CarriesBlocks (blocks : List Block) (x : List ℕ) : Type 0 where
     pub more : List (List ℕ)
     pub stand : Stand is_sure IsBlock blocks more
-    pub carries : Carries speed_ring start x more
+    pub carries : RingKeeps speed_ring start x more
 
   -- or the first of them
   pub record CarriesSome (blocks : List Block) (x : List ℕ) : Type 0 where

@@ -10,7 +10,7 @@ use Rattle.minute_model.specs.Activity.{last}
 use Rattle.run_model.specs.Span.{picks_of}
 use Rattle.log_model.specs.declared.lines.Break.{Break}
 use Rattle.log_model.specs.Log.{kept_after, cut_in}
-use Rattle.log_model.specs.Course.{Told, Went, Before, before_next, went_on, went}
+use Rattle.log_model.specs.Course.{ToldSecond, Went, Before, before_next, went_on, went}
 use Rattle.log_model.specs.Spans.{spans_of, AreInOrder, AreApart}
 use Rattle.log_model.proofs.Growth.{went-more}
 use Rattle.log_model.proofs.Spanning.{spanned, order-parts, spans-more}
@@ -24,7 +24,7 @@ use Rattle.history_model.proofs.Deciding.{short-none}
 use Rattle.run_unit_course.specs.Turn.{ArePlain, lit_second, cut_last}
 use Rattle.run_unit_course.specs.Lines.{log_of, cut_at, IsCutBefore, tells_cut}
 use Rattle.run_unit_course.specs.Keeping.{plain, broken_at}
-use Rattle.run_unit_course.specs.Followed.{Lit, Progress, going_before, lost_before, HadActions, IsShut, IsOpen, Followed}
+use Rattle.run_unit_course.specs.Followed.{Lit, Progress, going_before, lost_before, HadActions, IsShut, IsOpen, BookFollowsUnitRun}
 use Rattle.run_unit_course.proofs.Lines.{cut-none, cut-here, torn-none, found-none, cuts-later, cuts-push, went-cut, tells-here, tells-none, cuts-front, take-front}
 use Rattle.run_unit_course.proofs.Turns.{IsQuiet, given_second, lit-told, cut-told, lit-next}
 use Rattle.run_unit_course.proofs.Spans.{cut_spans, cut-with, cut-spans-last, decided-cut, length-cut, cut-number}
@@ -35,8 +35,8 @@ use Rattle.run_unit_course.proofs.Resting.{Resting, added-same}
 use Rattle.run_unit_course.proofs.Lighted.{span-end}
 
 -- THE SPAN ENDS WITH A CUT, in its last second
-module _ (rule : Rule) (start : Start) (from first : ℕ) (done : List TraceSecond) (p : Progress) (t : Told) (span : List Told)
-    (f : Followed rule start from first done (record p { supply = Lit (t ∷ span) })) (failed : Bool) where
+module _ (rule : Rule) (start : Start) (from first : ℕ) (done : List TraceSecond) (p : Progress) (t : ToldSecond) (span : List ToldSecond)
+    (f : BookFollowsUnitRun rule start from first done (record p { supply = Lit (t ∷ span) })) (failed : Bool) where
   abbrev cut : Break
   cut = cut_at (p.next - 1) failed p.begun
 
@@ -80,7 +80,7 @@ module _ (rule : Rule) (start : Start) (from first : ℕ) (done : List TraceSeco
       let n = number in
       went-cut from (p.next - 1) front p.breaks (p.next - 1) failed p.begun order-front.0 (omega (arith, o, n)) last-cuts
 
-  abbrev t-as : Bool → Told
+  abbrev t-as : Bool → ToldSecond
   t-as ends = lit_second h.number h.speed (picks_of h.actions) (not before.before.running) ends
 
   quiet : (bs : List Break) → AllByRecursion (IsCutBefore p.next) bs → (u : ℕ) → IsQuiet (log_of bs) u
@@ -91,7 +91,7 @@ module _ (rule : Rule) (start : Start) (from first : ℕ) (done : List TraceSeco
       let is = lit-told (log_of p.breaks) before.before h.number h.speed h.actions f.last.power f.last.slots (quiet p.breaks (cuts-later (p.next - 1) p.next p.breaks (omega arith) last-cuts) h.number)
       (cut-none (p.next - 1) p.breaks h.number last-cuts (let n = number in omega (arith, n))) h.selections in
       ap (went (log_of p.breaks)) h.are ∙ went-more (log_of p.breaks) front (given_second h.number h.speed h.actions)
-      ∙ ap (λ (x : Told). record { told = before.told ++ x ∷ []; before = before_next before.before x }) is
+      ∙ ap (λ (x : ToldSecond). record { told = before.told ++ x ∷ []; before = before_next before.before x }) is
       ∙ ap (λ (b : Before). record { told = before.told ++ t-as false ∷ []; before = b }) (lit-next before.before h.number h.speed (picks_of h.actions) (not before.before.running))
 
   pub told-cut : went (log_of later) done ≡ record { told = before.told ++ t-as true ∷ []; before = lost_before }
@@ -100,12 +100,12 @@ module _ (rule : Rule) (start : Start) (from first : ℕ) (done : List TraceSeco
       let is = cut-told (log_of later) before.before h.number h.speed h.actions f.last.power f.last.slots (quiet later later-cuts h.number) some h.selections in
       ap (went (log_of later)) h.are ∙ went-more (log_of later) front (given_second h.number h.speed h.actions)
       ∙ ap (λ (w : Went). went_on (log_of later) w (given_second h.number h.speed h.actions)) front-same
-      ∙ ap (λ (x : Told). record { told = before.told ++ x ∷ []; before = before_next before.before x }) is
+      ∙ ap (λ (x : ToldSecond). record { told = before.told ++ x ∷ []; before = before_next before.before x }) is
 
-  abbrev told : List Told
+  abbrev told : List ToldSecond
   told = (went (log_of p.breaks) done).told
 
-  abbrev now : List Told
+  abbrev now : List ToldSecond
   now = (went (log_of later) done).told
 
   pub spans-cut : spans_of now ≡ f.ended ++ cut_last (t ∷ span) ∷ []
@@ -129,7 +129,7 @@ module _ (rule : Rule) (start : Start) (from first : ℕ) (done : List TraceSeco
   pub second : cut_second (last (cut_last (t ∷ span))) ≡ Some (p.next - 1)
   second =
       let whole = spanned (log_of p.breaks) from done f.order in
-      let apart = apart-last from (from + length done) f.ended (t ∷ span) (subst (λ (ss : List (List Told)). AreApart from ss (from + length done)) f.spans whole.apart) in
+      let apart = apart-last from (from + length done) f.ended (t ∷ span) (subst (λ (ss : List (List ToldSecond)). AreApart from ss (from + length done)) f.spans whole.apart) in
       let end = span-end (log_of p.breaks) from done f.ended t span p.next f.order f.next f.power f.spans in
       cut-number t span apart.1 ∙ ap (λ (k : ℕ). Some (k - 1)) end
 
@@ -171,11 +171,11 @@ module _ (rule : Rule) (start : Start) (from first : ℕ) (done : List TraceSeco
 
     short-now : span ≡ [] → Now b
     short-now nil =
-        let none = ap (λ (s : List Told). decided_of rule (t ∷ s)) nil ∙ short-none rule t in
-        let short : any_long ((t ∷ span) ∷ []) ≡ false = ap (λ (s : List Told). any_long ((t ∷ s) ∷ [])) nil in
+        let none = ap (λ (s : List ToldSecond). decided_of rule (t ∷ s)) nil ∙ short-none rule t in
+        let short : any_long ((t ∷ span) ∷ []) ≡ false = ap (λ (s : List ToldSecond). any_long ((t ∷ s) ∷ [])) nil in
         let cut_none = decided-cut rule (t ∷ span) ∙ none in
         let cut_short : any_long (cut_last (t ∷ span) ∷ []) ≡ false = ap (λ (k : ℕ). nat_lt 1 k || false) (length-cut (t ∷ span)) ∙ short in
-        let wait = ⊎_elim (λ (e : p.waiting ≡ []). e) (λ long. absurd (let e : nat_lt 1 (length (t ∷ span)) ≡ false = ap (λ (s : List Told). nat_lt 1 (length (t ∷ s))) nil in let no : true ≡ false = sym long ∙ e in cc)) f.tied.whole in
+        let wait = ⊎_elim (λ (e : p.waiting ≡ []). e) (λ long. absurd (let e : nat_lt 1 (length (t ∷ span)) ≡ false = ap (λ (s : List ToldSecond). nat_lt 1 (length (t ∷ s))) nil in let no : true ≡ false = sym long ∙ e in cc)) f.tied.whole in
         let is = nothing-broken maybe (sym waits ∙ wait) in
         let alike = known-open rule (take p.unfound p.breaks) p.breaks later same f.ended f.tied.known in
         subst (λ (o : Option HistoryMinute). Now (broken_at o p.book)) (sym is) (
@@ -207,7 +207,7 @@ module _ (rule : Rule) (start : Start) (from first : ℕ) (done : List TraceSeco
     which-length : (nat_lt 1 (length (t ∷ span)) ≡ true) ⊎ (span ≡ [])
     which-length = go span
       where
-        go : (s : List Told) → (nat_lt 1 (length (t ∷ s)) ≡ true) ⊎ (s ≡ [])
+        go : (s : List ToldSecond) → (nat_lt 1 (length (t ∷ s)) ≡ true) ⊎ (s ≡ [])
         go [] = inr refl
         go (y ∷ s) = inl (two (length s))
           where

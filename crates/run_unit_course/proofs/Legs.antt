@@ -10,7 +10,7 @@ use Rattle.minute_model.specs.declared.Rule.{Rule}
 use Rattle.minute_model.specs.declared.Minute.{Minute}
 use Rattle.log_model.specs.declared.lines.Break.{Break}
 use Rattle.log_model.specs.Log.{RunLog}
-use Rattle.log_model.specs.Course.{Told}
+use Rattle.log_model.specs.Course.{ToldSecond}
 use Rattle.history_model.specs.Minutes.{HistoryMinute, up_to}
 use Rattle.history_model.specs.History.{decided_of, limit_by}
 use Rattle.history_model.specs.Growth.{closed_limit}
@@ -66,21 +66,21 @@ stranded-begun (Some d) g e at = ⊎_elim (λ there. inl there) (λ is. inr (d, 
 
 -- KILOMETRES
 -- nothing, of each of these spans
-abbrev pub nothing_of : List (List Told) → List ℕ
+abbrev pub nothing_of : List (List ToldSecond) → List ℕ
 nothing_of spans = map (λ s. 0) spans
 
-pub kilometres-nothing : (spans : List (List Told)) → kilometres_of (nothing_of spans) ≡ 0
+pub kilometres-nothing : (spans : List (List ToldSecond)) → kilometres_of (nothing_of spans) ≡ 0
 kilometres-nothing [] = refl
 kilometres-nothing (span ∷ spans) = let rest = kilometres-nothing spans in let parts = sum_by-cons (λ (n : ℕ). n / 3600) 0 (nothing_of spans) in omega (arith, rest, parts)
 
 pub kilometres-append : (xs ys : List ℕ) → kilometres_of (xs ++ ys) ≡ kilometres_of xs + kilometres_of ys
 kilometres-append xs ys = sum_by-append (λ (n : ℕ). n / 3600) xs ys
 
-pub kilometres-more : (xs : List ℕ) (spans : List (List Told)) → kilometres_of (xs ++ nothing_of spans) ≡ kilometres_of xs
+pub kilometres-more : (xs : List ℕ) (spans : List (List ToldSecond)) → kilometres_of (xs ++ nothing_of spans) ≡ kilometres_of xs
 kilometres-more xs spans = let parts = kilometres-append xs (nothing_of spans) in let none = kilometres-nothing spans in omega (arith, parts, none)
 
 -- the same kilometres, and one leg more
-pub kilometres-leg : (xs ys : List ℕ) (leg : ℕ) (spans : List (List Told)) → kilometres_of xs ≡ kilometres_of ys → kilometres_of (xs ++ leg ∷ nothing_of spans) ≡ kilometres_of (ys ++ leg ∷ [])
+pub kilometres-leg : (xs ys : List ℕ) (leg : ℕ) (spans : List (List ToldSecond)) → kilometres_of xs ≡ kilometres_of ys → kilometres_of (xs ++ leg ∷ nothing_of spans) ≡ kilometres_of (ys ++ leg ∷ [])
 kilometres-leg xs ys leg spans same =
     let left = kilometres-append xs (leg ∷ nothing_of spans) in
     let right = kilometres-append ys (leg ∷ []) in
@@ -104,11 +104,11 @@ leg-nothing : (ds : List Minute) (k : ℕ) → ds ≡ [] → IsLeg k ds 0
 leg-nothing ds k none = subst (λ (xs : List Minute). IsLeg k xs 0) (sym none) (inl refl)
 
 -- the legs of spans that decided nothing
-pub legs-nothing : (rule : Rule) (f : List Told → List (List Told) → Option ℕ) (k : ℕ) (spans : List (List Told)) → AllByRecursion (λ (span : List Told). decided_of rule span ≡ []) spans → AreLegs rule f k spans (nothing_of spans)
+pub legs-nothing : (rule : Rule) (f : List ToldSecond → List (List ToldSecond) → Option ℕ) (k : ℕ) (spans : List (List ToldSecond)) → AllByRecursion (λ (span : List ToldSecond). decided_of rule span ≡ []) spans → AreLegs rule f k spans (nothing_of spans)
 legs-nothing rule f k [] h = refl
 legs-nothing rule f k (span ∷ later) h = (leg-nothing (decided_of rule span) (unwrap_or (f span later) k) h.0, legs-nothing rule f k later h.1)
 
-pub legs-alike : (rule : Rule) (f g : List Told → List (List Told) → Option ℕ) (k : ℕ) (spans : List (List Told)) (legs : List ℕ) → Alike rule f g spans → AreLegs rule f k spans legs → AreLegs rule g k spans legs
+pub legs-alike : (rule : Rule) (f g : List ToldSecond → List (List ToldSecond) → Option ℕ) (k : ℕ) (spans : List (List ToldSecond)) (legs : List ℕ) → Alike rule f g spans → AreLegs rule f k spans legs → AreLegs rule g k spans legs
 legs-alike rule f g k [] legs same h = h
 legs-alike rule f g k (span ∷ later) [] same h = absurd h
 legs-alike rule f g k (span ∷ later) (leg ∷ legs) same h = (
@@ -117,14 +117,14 @@ legs-alike rule f g k (span ∷ later) (leg ∷ legs) same h = (
   legs-alike rule f g k later legs same.1 h.1,
 )
 
-pub legs-agree : (rule : Rule) (f g : List Told → List (List Told) → Option ℕ) (k : ℕ) (spans : List (List Told)) (legs : List ℕ) → Agree f g spans → AreLegs rule g k spans legs → AreLegs rule f k spans legs
+pub legs-agree : (rule : Rule) (f g : List ToldSecond → List (List ToldSecond) → Option ℕ) (k : ℕ) (spans : List (List ToldSecond)) (legs : List ℕ) → Agree f g spans → AreLegs rule g k spans legs → AreLegs rule f k spans legs
 legs-agree rule f g k [] legs same h = h
 legs-agree rule f g k (span ∷ later) [] same h = absurd h
 legs-agree rule f g k (span ∷ later) (leg ∷ legs) same h =
     (subst (λ (o : Option ℕ). IsLeg (unwrap_or o k) (decided_of rule span) leg) (sym same.0) h.0, legs-agree rule f g k later legs same.1 h.1)
 
 -- where all cuts are known, nothing hangs on the last-kept minute
-pub legs-known : (rule : Rule) (found : List Break) (log : RunLog) (k j : ℕ) (spans : List (List Told)) (legs : List ℕ) → AllByRecursion (IsKnown rule found) spans →
+pub legs-known : (rule : Rule) (found : List Break) (log : RunLog) (k j : ℕ) (spans : List (List ToldSecond)) (legs : List ℕ) → AllByRecursion (IsKnown rule found) spans →
     AreLegs rule (closed_limit log) k spans legs → AreLegs rule (closed_limit log) j spans legs
 legs-known rule found log k j [] legs known h = h
 legs-known rule found log k j (span ∷ later) [] known h = absurd h
@@ -137,7 +137,7 @@ legs-known rule found log k j (span ∷ later) (leg ∷ legs) known h = (one kno
         (subst (λ (o : Option ℕ). IsLeg (unwrap_or (limit_by log o) k) (decided_of rule span) leg) cut.1 h.0)
 
 -- spans, and others behind them
-pub legs-parts : (rule : Rule) (f : List Told → List (List Told) → Option ℕ) (k : ℕ) (spans behind : List (List Told)) (legs more : List ℕ) → AreLegs rule (λ span later. f span (later ++ behind)) k spans legs →
+pub legs-parts : (rule : Rule) (f : List ToldSecond → List (List ToldSecond) → Option ℕ) (k : ℕ) (spans behind : List (List ToldSecond)) (legs more : List ℕ) → AreLegs rule (λ span later. f span (later ++ behind)) k spans legs →
     AreLegs rule f k behind more → AreLegs rule f k (spans ++ behind) (legs ++ more)
 legs-parts rule f k [] behind legs more h others = subst (λ (ls : List ℕ). AreLegs rule f k behind (ls ++ more)) (sym h) others
 legs-parts rule f k (span ∷ later) behind [] more h others = absurd h
@@ -147,12 +147,12 @@ legs-parts rule f k (span ∷ later) behind (leg ∷ legs) more h others = (h.0,
 two-seconds : (k : ℕ) → nat_lt 1 (suc (suc k)) ≡ true
 two-seconds k = grind (arith, nat_tests)
 
-pub short-shorter : (span : List Told) (t : Told) (more : List Told) → nat_lt 1 (length (span ++ t ∷ more)) ≡ false → nat_lt 1 (length span) ≡ false
+pub short-shorter : (span : List ToldSecond) (t : ToldSecond) (more : List ToldSecond) → nat_lt 1 (length (span ++ t ∷ more)) ≡ false → nat_lt 1 (length span) ≡ false
 short-shorter [] t more short = refl
 short-shorter (x ∷ []) t more short = absurd (let two = two-seconds (length more) in let no : true ≡ false = sym two ∙ short in cc)
 short-shorter (x ∷ y ∷ span) t more short = absurd (let two = two-seconds (length (span ++ t ∷ more)) in let no : true ≡ false = sym two ∙ short in cc)
 
-pub short-decides : (rule : Rule) (span : List Told) → nat_lt 1 (length span) ≡ false → decided_of rule span ≡ []
+pub short-decides : (rule : Rule) (span : List ToldSecond) → nat_lt 1 (length span) ≡ false → decided_of rule span ≡ []
 short-decides rule [] short = decided-empty rule
 short-decides rule (t ∷ []) short = short-none rule t
 short-decides rule (t ∷ u ∷ span) short = absurd (let two = two-seconds (length span) in let no : true ≡ false = sym two ∙ short in cc)
@@ -227,7 +227,7 @@ leg-whole k ds leg low (inl is) =
     is ∙ ap travelled_by (filter-whole (λ (d : Minute). nat_le d.minute k) ds (All-weaker (λ (d : Minute). d.minute ≤ k) (λ d. nat_le d.minute k ≡ true) (λ d le. within k d.minute le) ds low))
 leg-whole k ds leg low (inr begun) = absurd (none-some begun.0 (sym (none-later k ds low) ∙ begun.1))
 
-pub legs-whole : (rule : Rule) (f : List Told → List (List Told) → Option ℕ) (k : ℕ) (spans : List (List Told)) (legs : List ℕ) → AreWhole rule f k spans → AreLegs rule f k spans legs → legs ≡ whole_legs rule spans
+pub legs-whole : (rule : Rule) (f : List ToldSecond → List (List ToldSecond) → Option ℕ) (k : ℕ) (spans : List (List ToldSecond)) (legs : List ℕ) → AreWhole rule f k spans → AreLegs rule f k spans legs → legs ≡ whole_legs rule spans
 legs-whole rule f k [] legs whole h = h
 legs-whole rule f k (span ∷ later) [] whole h = absurd h
 legs-whole rule f k (span ∷ later) (leg ∷ legs) whole h =

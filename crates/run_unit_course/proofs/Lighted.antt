@@ -11,7 +11,7 @@ use Rattle.minute_model.specs.declared.Minute.{Minute}
 use Rattle.minute_model.specs.Span.{fed_many, decided_in}
 use Rattle.run_model.specs.Span.{picks_of}
 use Rattle.log_model.specs.Log.{RunLog}
-use Rattle.log_model.specs.Course.{Told, Went, Before, has_power, went}
+use Rattle.log_model.specs.Course.{ToldSecond, Went, Before, has_power, went}
 use Rattle.log_model.specs.Spans.{spans_with, spans_of, end_in, AreInOrder}
 use Rattle.log_model.proofs.Spanning.{EndsAt, spanned}
 use Rattle.history_model.specs.Minutes.{HistoryMinute}
@@ -25,7 +25,7 @@ use Rattle.history_model.proofs.Following.{follows-kept}
 use Rattle.run_unit_course.specs.Turn.{IsSelection, empty_slots, ArePlain, lit_second, lit_seconds, span_at, begins_with, actions_of_last}
 use Rattle.run_unit_course.specs.Lines.{log_of, IsCutBefore}
 use Rattle.run_unit_course.specs.Keeping.{plain}
-use Rattle.run_unit_course.specs.Followed.{Lit, Progress, going_before, HadPower, IsSupplied, IsShut, cuts_from, Followed, as_spans}
+use Rattle.run_unit_course.specs.Followed.{Lit, Progress, going_before, HadPower, IsSupplied, IsShut, cuts_from, BookFollowsUnitRun, as_spans}
 use Rattle.run_unit_course.proofs.Lines.{cut-none, torn-none, found-none, cuts-later}
 use Rattle.run_unit_course.proofs.Turns.{IsQuiet, given_second, went-parts, turn-goes}
 use Rattle.run_unit_course.proofs.Spans.{spans-parts, spans-lit, ends-last, turn-seen, begun-turn-seen, decided-at}
@@ -39,7 +39,7 @@ record HasPower (before : Before) (next : ℕ) (starts : Bool) : Type 0 where
   slots : before.slots ≡ empty_slots
   starting : not before.running ≡ starts
 
-lit-power : (span : List Told) (before : Before) (next : ℕ) → IsSupplied (Lit span) before next → HasPower before next (begins_with span)
+lit-power : (span : List ToldSecond) (before : Before) (next : ℕ) → IsSupplied (Lit span) before next → HasPower before next (begins_with span)
 lit-power [] before next h = record { power = λ speed actions. h.comes; slots = h.slots; starting = ap not h.running }
 lit-power (t ∷ span) before next h = record {
   power = λ speed actions. ap (λ (b : Before). has_power b (given_second next speed actions)) h;
@@ -47,34 +47,34 @@ lit-power (t ∷ span) before next h = record {
   starting = ap (λ (b : Before). not b.running) h;
 }
 
-cuts-bound : (span : List Told) (next : ℕ) → cuts_from (Lit span) next ≤ next
+cuts-bound : (span : List ToldSecond) (next : ℕ) → cuts_from (Lit span) next ≤ next
 cuts-bound [] next = omega arith
 cuts-bound (t ∷ span) next = omega arith
 
 -- the span that goes on ends with the number of the next second
-pub span-end : (log : RunLog) (from : ℕ) (done : List TraceSecond) (ended : List (List Told)) (t : Told) (span : List Told) (next : ℕ) → AreInOrder from done → next ≡ from + length done →
+pub span-end : (log : RunLog) (from : ℕ) (done : List TraceSecond) (ended : List (List ToldSecond)) (t : ToldSecond) (span : List ToldSecond) (next : ℕ) → AreInOrder from done → next ≡ from + length done →
     (went log done).before ≡ going_before → spans_of (went log done).told ≡ ended ++ (t ∷ span) ∷ [] → end_in (t ∷ span) ≡ next
 span-end log from done ended t span next order number going are =
     let whole = spanned log from done order in
-    ends-last ended (t ∷ span) next (subst (λ (ss : List (List Told)). EndsAt ss next) are
+    ends-last ended (t ∷ span) next (subst (λ (ss : List (List ToldSecond)). EndsAt ss next) are
     (subst (λ (u : ℕ). EndsAt (spans_of (went log done).told) u) (sym number) (whole.running (ap (λ (b : Before). b.running) going))))
 
 -- the rules of minutes see a turn
-pub seen : (rule : Rule) (next : ℕ) (span : List Told) (n speed : ℕ) (picks : List (Slot × Pick)) → (begins_with span ≡ false → end_in span ≡ next) →
+pub seen : (rule : Rule) (next : ℕ) (span : List ToldSecond) (n speed : ℕ) (picks : List (Slot × Pick)) → (begins_with span ≡ false → end_in span ≡ next) →
     as_span rule (span ++ lit_seconds (suc n) next speed picks (begins_with span)) ≡ fed_many (picking picks (span_at rule next span)) speed (suc n)
 seen rule next [] n speed picks end = begun-turn-seen rule next n speed picks
 seen rule next (t ∷ span) n speed picks end = turn-seen rule next (t ∷ span) n speed picks refl (end refl)
 
 -- A TURN WITH POWER
-module _ (rule : Rule) (start : Start) (from first : ℕ) (done : List TraceSecond) (p : Progress) (span : List Told) (f : Followed rule start from first done (record p { supply = Lit span }))
+module _ (rule : Rule) (start : Start) (from first : ℕ) (done : List TraceSecond) (p : Progress) (span : List ToldSecond) (f : BookFollowsUnitRun rule start from first done (record p { supply = Lit span }))
     (n speed : ℕ) (actions : List Action) (each : AllByRecursion IsSelection actions) where
   abbrev log : RunLog
   log = log_of p.breaks
 
-  abbrev told : List Told
+  abbrev told : List ToldSecond
   told = (went log done).told
 
-  abbrev more : List Told
+  abbrev more : List ToldSecond
   more = lit_seconds (suc n) p.next speed (picks_of actions) (begins_with span)
 
   abbrev ss : List TraceSecond
@@ -130,14 +130,14 @@ module _ (rule : Rule) (start : Start) (from first : ℕ) (done : List TraceSeco
       empty (suc m) = ap (λ (w : Went). w.before.slots) (many m)
 
   -- the minutes that it decides wait for their keeping
-  module _ (x : Told) (xs : List Told) (is : span ++ more ≡ x ∷ xs) (none : p.waiting ≡ []) (new : List Minute)
+  module _ (x : ToldSecond) (xs : List ToldSecond) (is : span ++ more ≡ x ∷ xs) (none : p.waiting ≡ []) (new : List Minute)
       (decides : decided_in (fed_many (picking (picks_of actions) (span_at rule p.next span)) speed (suc n)) ≡ decided_in (span_at rule p.next span) ++ new) (end : begins_with span ≡ false → end_in span ≡ p.next) where
     pub decided-on : decided_of rule (x ∷ xs) ≡ decided_of rule span ++ new
     decided-on =
         ap (decided_of rule) (sym is) ∙ ap decided_in (seen rule p.next span n speed (picks_of actions) end) ∙ decides
         ∙ ap (λ (ds : List Minute). ds ++ new) (decided-at rule p.next span)
 
-    abbrev now : List Told
+    abbrev now : List ToldSecond
     now = (went log (done ++ ss)).told
 
     pub told-now : now ≡ told ++ more
@@ -148,20 +148,20 @@ module _ (rule : Rule) (start : Start) (from first : ℕ) (done : List TraceSeco
 
     pub spans-now : spans_of now ≡ f.ended ++ (x ∷ xs) ∷ []
     spans-now =
-        ap spans_of told-now ∙ spans-parts told more ∙ ap (λ (ss : List (List Told)). fold spans_with ss more) f.spans
-        ∙ spans-lit f.ended span (suc n) p.next speed (picks_of actions) ∙ ap (λ (s : List Told). f.ended ++ as_spans s) is
+        ap spans_of told-now ∙ spans-parts told more ∙ ap (λ (ss : List (List ToldSecond)). fold spans_with ss more) f.spans
+        ∙ spans-lit f.ended span (suc n) p.next speed (picks_of actions) ∙ ap (λ (s : List ToldSecond). f.ended ++ as_spans s) is
 
     -- whether it has two seconds
     which : (nat_lt 1 (length (x ∷ xs)) ≡ true) ⊎ ((xs ≡ []) × (new ≡ []))
     which = go xs refl
       where
-        go : (ys : List Told) → xs ≡ ys → (nat_lt 1 (length (x ∷ xs)) ≡ true) ⊎ ((xs ≡ []) × (new ≡ []))
-        go [] e = inr (e, gone (decided_of rule span) new (sym (sym (short-none rule x) ∙ ap (λ (ys : List Told). decided_of rule (x ∷ ys)) (sym e) ∙ decided-on)))
+        go : (ys : List ToldSecond) → xs ≡ ys → (nat_lt 1 (length (x ∷ xs)) ≡ true) ⊎ ((xs ≡ []) × (new ≡ []))
+        go [] e = inr (e, gone (decided_of rule span) new (sym (sym (short-none rule x) ∙ ap (λ (ys : List ToldSecond). decided_of rule (x ∷ ys)) (sym e) ∙ decided-on)))
           where
             gone : (xs ys : List Minute) → xs ++ ys ≡ [] → ys ≡ []
             gone [] ys h = h
             gone (x ∷ xs) ys h = absurd (cc)
-        go (y ∷ ys) e = inl (ap (λ (zs : List Told). nat_lt 1 (length (x ∷ zs))) e ∙ two (length ys))
+        go (y ∷ ys) e = inl (ap (λ (zs : List ToldSecond). nat_lt 1 (length (x ∷ zs))) e ∙ two (length ys))
           where
             two : (k : ℕ) → nat_lt 1 (suc (suc k)) ≡ true
             two k = grind (arith, nat_tests)
@@ -180,14 +180,14 @@ module _ (rule : Rule) (start : Start) (from first : ℕ) (done : List TraceSeco
         which
       where
         -- one second only: power began with it
-        short-follows : (s : List Told) → xs ≡ [] → s ++ lit_seconds (suc n) p.next speed (picks_of actions) (begins_with span) ≡ x ∷ xs → spans_of told ≡ f.ended ++ as_spans s → Follows (unit_history rule start log now) (with_lost rule start log now) p.book
+        short-follows : (s : List ToldSecond) → xs ≡ [] → s ++ lit_seconds (suc n) p.next speed (picks_of actions) (begins_with span) ≡ x ∷ xs → spans_of told ≡ f.ended ++ as_spans s → Follows (unit_history rule start log now) (with_lost rule start log now) p.book
         short-follows (t ∷ s) nil e are = absurd (two-more s (cc))
           where
-            two-more : (s : List Told) → s ++ lit_second p.next speed (picks_of actions) (begins_with span) false ∷ lit_seconds n (p.next + 1) speed [] false ≡ [] → ⊥
+            two-more : (s : List ToldSecond) → s ++ lit_second p.next speed (picks_of actions) (begins_with span) false ∷ lit_seconds n (p.next + 1) speed [] false ≡ [] → ⊥
             two-more [] e = cc
             two-more (y ∷ s) e = cc
         short-follows [] nil e are =
-            let spans = spans-now ∙ ap (λ (ys : List Told). f.ended ++ (x ∷ ys) ∷ []) nil in
+            let spans = spans-now ∙ ap (λ (ys : List ToldSecond). f.ended ++ (x ∷ ys) ∷ []) nil in
             let alike = known-open rule (take p.unfound p.breaks) p.breaks p.breaks (λ u t. refl) f.ended shut-now.known in
             follows-same (unit_history rule start log told) (unit_history rule start log now) (with_lost rule start log told) (with_lost rule start log now) p.book
             (short-history rule start log now f.ended ((x ∷ []) ∷ []) spans refl (short-none rule x, tt)
@@ -198,7 +198,7 @@ module _ (rule : Rule) (start : Start) (from first : ℕ) (done : List TraceSeco
             ∙ sym (short-lost rule start log told f.ended [] are refl tt))
             f.follows
 
-    pub feeds : Followed rule start from first (done ++ ss) (record p { next = p.next + suc n; begun = length (actions_of_last (suc n) actions); supply = Lit (x ∷ xs); waiting = map plain new })
+    pub feeds : BookFollowsUnitRun rule start from first (done ++ ss) (record p { next = p.next + suc n; begun = length (actions_of_last (suc n) actions); supply = Lit (x ∷ xs); waiting = map plain new })
     feeds =
         let number = f.next in
         let count = length-append done ss in
@@ -219,8 +219,8 @@ module _ (rule : Rule) (start : Start) (from first : ℕ) (done : List TraceSeco
         }
 
 -- A MINUTE IS KEPT
-pub keeps : (rule : Rule) (start : Start) (from first : ℕ) (done : List TraceSecond) (p : Progress) (t : Told) (span : List Told) (i : HistoryMinute) (rest : List HistoryMinute) →
-    Followed rule start from first done (record p { supply = Lit (t ∷ span); waiting = i ∷ rest }) → Followed rule start from first done (record p { supply = Lit (t ∷ span); book = kept i p.book; waiting = rest })
+pub keeps : (rule : Rule) (start : Start) (from first : ℕ) (done : List TraceSecond) (p : Progress) (t : ToldSecond) (span : List ToldSecond) (i : HistoryMinute) (rest : List HistoryMinute) →
+    BookFollowsUnitRun rule start from first done (record p { supply = Lit (t ∷ span); waiting = i ∷ rest }) → BookFollowsUnitRun rule start from first done (record p { supply = Lit (t ∷ span); book = kept i p.book; waiting = rest })
 keeps rule start from first done p t span i rest f = record {
   early = f.early;
   order = f.order;

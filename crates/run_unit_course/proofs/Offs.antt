@@ -8,7 +8,7 @@ use Rattle.std.proofs.lemmas.List.Folds.{list_any-append}
 use Rattle.minute_model.specs.Span.{AreNumbered}
 use Rattle.log_model.specs.declared.lines.Break.{Break}
 use Rattle.log_model.specs.declared.lines.Break.TheVariants.{Cut, Tear}
-use Rattle.log_model.specs.Course.{Told}
+use Rattle.log_model.specs.Course.{ToldSecond}
 use Rattle.log_model.specs.Causes.{is_cut, has_failed, second_of, off_cuts}
 use Rattle.log_model.specs.Spans.{seconds_in}
 use Rattle.run_unit_course.specs.Turn.{cut_last}
@@ -16,33 +16,33 @@ use Rattle.run_unit_course.specs.Lines.{cut_at, with_kept, found_from}
 use Rattle.run_unit_course.specs.Caused.{cuts_by, IsOver}
 
 -- a second with power, and one behind it that the trace gives none: a cut, but where a failed call took the power
-abbrev pub pair : List ℕ → Told → Told → List ℕ
+abbrev pub pair : List ℕ → ToldSecond → ToldSecond → List ℕ
 pair failed t next = cond (t.lit && not next.given && not (list_any (nat_eq t.second.number) failed)) (t.second.number ∷ []) []
 
-pair-given : (failed : List ℕ) (t next : Told) → next.given ≡ true → pair failed t next ≡ []
+pair-given : (failed : List ℕ) (t next : ToldSecond) → next.given ≡ true → pair failed t next ≡ []
 pair-given failed t next given = go t.lit refl
   where
     go : (b : Bool) → t.lit ≡ b → pair failed t next ≡ []
     go true is = rw (is, given) refl
     go false is = rw is refl
 
-abbrev pub AreGiven : List Told → Type 0
-AreGiven told = AllByRecursion (λ (t : Told). t.given ≡ true) told
+abbrev pub AreGiven : List ToldSecond → Type 0
+AreGiven told = AllByRecursion (λ (t : ToldSecond). t.given ≡ true) told
 
-given-none : (failed : List ℕ) (more : List Told) → AreGiven more → off_cuts failed more ≡ []
+given-none : (failed : List ℕ) (more : List ToldSecond) → AreGiven more → off_cuts failed more ≡ []
 given-none failed [] h = refl
 given-none failed (t ∷ []) h = refl
 given-none failed (t ∷ next ∷ more) h = ap (λ (us : List ℕ). us ++ off_cuts failed (next ∷ more)) (pair-given failed t next h.1.0) ∙ given-none failed (next ∷ more) h.1
 
 -- seconds that the trace gives power
-pub off-given : (failed : List ℕ) (told more : List Told) → AreGiven more → off_cuts failed (told ++ more) ≡ off_cuts failed told
+pub off-given : (failed : List ℕ) (told more : List ToldSecond) → AreGiven more → off_cuts failed (told ++ more) ≡ off_cuts failed told
 off-given failed [] more h = given-none failed more h
 off-given failed (t ∷ []) [] h = refl
 off-given failed (t ∷ []) (x ∷ more) h = ap (λ (us : List ℕ). us ++ off_cuts failed (x ∷ more)) (pair-given failed t x h.0) ∙ given-none failed (x ∷ more) h
 off-given failed (t ∷ next ∷ told) more h = ap (λ (us : List ℕ). pair failed t next ++ us) (off-given failed (next ∷ told) more h)
 
 -- a failed call's cut in the last second, or behind it
-pub off-later : (failed : List ℕ) (u n : ℕ) (told : List Told) → AreNumbered n (seconds_in told) → n + length told ≤ u + 1 → off_cuts (failed ++ u ∷ []) told ≡ off_cuts failed told
+pub off-later : (failed : List ℕ) (u n : ℕ) (told : List ToldSecond) → AreNumbered n (seconds_in told) → n + length told ≤ u + 1 → off_cuts (failed ++ u ∷ []) told ≡ off_cuts failed told
 off-later failed u n [] h le = refl
 off-later failed u n (t ∷ []) h le = refl
 off-later failed u n (t ∷ next ∷ told) h le =
@@ -59,13 +59,13 @@ off-later failed u n (t ∷ next ∷ told) h le =
     whole true = refl
     whole false = refl
 
-pub off-same : (failed : List ℕ) (told : List Told) → off_cuts failed (cut_last told) ≡ off_cuts failed told
+pub off-same : (failed : List ℕ) (told : List ToldSecond) → off_cuts failed (cut_last told) ≡ off_cuts failed told
 off-same failed [] = refl
 off-same failed (t ∷ []) = refl
 off-same failed (t ∷ next ∷ []) = refl
 off-same failed (t ∷ next ∷ x ∷ told) = ap (λ (us : List ℕ). pair failed t next ++ us) (off-same failed (next ∷ x ∷ told))
 
-pub over-failed : (failed : List ℕ) (told : List Told) (t : Told) → list_any (nat_eq t.second.number) failed ≡ true → IsOver failed (told ++ t ∷ [])
+pub over-failed : (failed : List ℕ) (told : List ToldSecond) (t : ToldSecond) → list_any (nat_eq t.second.number) failed ≡ true → IsOver failed (told ++ t ∷ [])
 over-failed failed [] t is = ap (λ (b : Bool). t.lit && not b) is ∙ never t.lit
   where
     never : (b : Bool) → (b && false) ≡ false

@@ -10,7 +10,7 @@ use Rattle.trace_model.specs.Trace.{TraceSecond, driven, dark}
 use Rattle.minute_model.specs.declared.Rule.{Rule}
 use Rattle.log_model.specs.declared.lines.Break.{Break}
 use Rattle.log_model.specs.Log.{RunLog}
-use Rattle.log_model.specs.Course.{Told}
+use Rattle.log_model.specs.Course.{ToldSecond}
 use Rattle.log_model.specs.Spans.{spans_of, AreInOrder}
 use Rattle.history_model.specs.Minutes.{HistoryMinute}
 use Rattle.history_model.specs.Presence.{Start}
@@ -55,11 +55,11 @@ driven-last (suc (suc n)) number speed actions =
     ap (λ (ss : List TraceSecond). given_second number speed actions ∷ ss) (driven-last (suc n) (number + 1) speed [] ∙ ap (λ (m : ℕ). driven (suc n) (number + 1) speed [] ++ given_second m speed [] ∷ []) e)
 
 -- SECONDS WITHOUT CARDS
-pub plain-append : (xs ys : List Told) → ArePlain xs → ArePlain ys → ArePlain (xs ++ ys)
+pub plain-append : (xs ys : List ToldSecond) → ArePlain xs → ArePlain ys → ArePlain (xs ++ ys)
 plain-append [] ys h k = k
 plain-append (x ∷ xs) ys h k = (h.0, plain-append xs ys h.1 k)
 
-pub plain-front : (xs ys : List Told) → ArePlain (xs ++ ys) → ArePlain xs
+pub plain-front : (xs ys : List ToldSecond) → ArePlain (xs ++ ys) → ArePlain xs
 plain-front [] ys h = tt
 plain-front (x ∷ xs) ys h = (h.0, plain-front xs ys h.1)
 
@@ -117,34 +117,34 @@ pub follows-same : (minutes later : List HistoryMinute) (lost later_lost : List 
 follows-same minutes later lost later_lost b is same f = subst (λ (is : List HistoryMinute). Follows is later_lost b) (sym is) (subst (λ (ls : List (List HistoryMinute)). Follows minutes ls b) (sym same) f)
 
 -- SPANS, and others behind them that decided nothing
-pub closed-behind : (rule : Rule) (start : Start) (log : RunLog) (told : List Told) (ended more : List (List Told)) → AllByRecursion (λ (span : List Told). decided_of rule span ≡ []) more →
+pub closed-behind : (rule : Rule) (start : Start) (log : RunLog) (told : List ToldSecond) (ended more : List (List ToldSecond)) → AllByRecursion (λ (span : List ToldSecond). decided_of rule span ≡ []) more →
     closed_history rule start log told (ended ++ more) ≡ closed_history rule start log told ended
 closed-behind rule start log told ended more none =
     history-parts rule start told (closed_limit log) (closed_limit log) [] ended more (agree-all (closed_limit log) (closed_limit log) (λ span later. refl) ended)
     ∙ ap (λ (is : List HistoryMinute). closed_history rule start log told ended ++ is) (history-none rule start told (closed_limit log) (closed_history rule start log told ended) more none)
     ∙ append-nil (closed_history rule start log told ended)
 
-pub lost-behind : (rule : Rule) (start : Start) (log : RunLog) (told : List Told) (ended more : List (List Told)) → AllByRecursion (λ (span : List Told). decided_of rule span ≡ []) more →
+pub lost-behind : (rule : Rule) (start : Start) (log : RunLog) (told : List ToldSecond) (ended more : List (List ToldSecond)) → AllByRecursion (λ (span : List ToldSecond). decided_of rule span ≡ []) more →
     closed_lost rule start log told (ended ++ more) ≡ closed_lost rule start log told ended
 lost-behind rule start log told ended more none =
     lost-parts rule start told (closed_limit log) (closed_limit log) [] ended more (agree-all (closed_limit log) (closed_limit log) (λ span later. refl) ended)
     ∙ ap (λ (ls : List (List HistoryMinute)). closed_lost rule start log told ended ++ ls) (lost-none rule start told (closed_limit log) (closed_history rule start log told ended) more none)
     ∙ append-nil (closed_lost rule start log told ended)
 
-pub known-append : (rule : Rule) (found : List Break) (xs ys : List (List Told)) → AllByRecursion (IsKnown rule found) xs → AllByRecursion (IsKnown rule found) ys → AllByRecursion (IsKnown rule found) (xs ++ ys)
+pub known-append : (rule : Rule) (found : List Break) (xs ys : List (List ToldSecond)) → AllByRecursion (IsKnown rule found) xs → AllByRecursion (IsKnown rule found) ys → AllByRecursion (IsKnown rule found) (xs ++ ys)
 known-append rule found [] ys h k = k
 known-append rule found (x ∷ xs) ys h k = (h.0, known-append rule found xs ys h.1 k)
 
-pub known-nothing : (rule : Rule) (found : List Break) (xs : List (List Told)) → AllByRecursion (λ (span : List Told). decided_of rule span ≡ []) xs → AllByRecursion (IsKnown rule found) xs
+pub known-nothing : (rule : Rule) (found : List Break) (xs : List (List ToldSecond)) → AllByRecursion (λ (span : List ToldSecond). decided_of rule span ≡ []) xs → AllByRecursion (IsKnown rule found) xs
 known-nothing rule found [] h = tt
 known-nothing rule found (x ∷ xs) h = (inl h.0, known-nothing rule found xs h.1)
 
-pub known-more : (rule : Rule) (found more : List Break) (xs : List (List Told)) → ((u : ℕ) → tells_cut u found ≡ true → tells_cut u more ≡ true) → AllByRecursion (IsKnown rule found) xs → AllByRecursion (IsKnown rule more) xs
+pub known-more : (rule : Rule) (found more : List Break) (xs : List (List ToldSecond)) → ((u : ℕ) → tells_cut u found ≡ true → tells_cut u more ≡ true) → AllByRecursion (IsKnown rule found) xs → AllByRecursion (IsKnown rule more) xs
 known-more rule found more [] goes h = tt
 known-more rule found more (x ∷ xs) goes h = (⊎_elim (λ none. inl none) (λ k. inr (k.0, k.1, goes k.0 k.2)) h.0, known-more rule found more xs goes h.1)
 
 -- THE HISTORY where the newest span has two seconds, and where there is none, or one of a second
-pub whole-history : (rule : Rule) (start : Start) (log : RunLog) (told : List Told) (ended : List (List Told)) (span : List Told) → spans_of told ≡ ended ++ span ∷ [] → nat_lt 1 (length span) ≡ true → ArePlain told →
+pub whole-history : (rule : Rule) (start : Start) (log : RunLog) (told : List ToldSecond) (ended : List (List ToldSecond)) (span : List ToldSecond) → spans_of told ≡ ended ++ span ∷ [] → nat_lt 1 (length span) ≡ true → ArePlain told →
     unit_history rule start log told ≡ closed_history rule start log told ended ++ map plain (decided_of rule span)
 unfolding unit_history
 whole-history rule start log told ended span are long h =
@@ -152,20 +152,20 @@ whole-history rule start log told ended span are long h =
     ∙ history-long rule start told log ended span (ap (λ (b : Bool). b || false) long)
     ∙ ap (λ (is : List HistoryMinute). closed_history rule start log told ended ++ is) (minutes-plain start told (closed_history rule start log told ended) (decided_of rule span) h)
 
-pub whole-lost : (rule : Rule) (start : Start) (log : RunLog) (told : List Told) (ended : List (List Told)) (span : List Told) → spans_of told ≡ ended ++ span ∷ [] → nat_lt 1 (length span) ≡ true →
+pub whole-lost : (rule : Rule) (start : Start) (log : RunLog) (told : List ToldSecond) (ended : List (List ToldSecond)) (span : List ToldSecond) → spans_of told ≡ ended ++ span ∷ [] → nat_lt 1 (length span) ≡ true →
     with_lost rule start log told ≡ closed_lost rule start log told ended
 unfolding with_lost
 whole-lost rule start log told ended span are long =
     ap (lost_by rule start (limit_of log) told []) are ∙ lost-long rule start told log ended span (ap (λ (b : Bool). b || false) long)
 
-pub short-history : (rule : Rule) (start : Start) (log : RunLog) (told : List Told) (ended more : List (List Told)) → spans_of told ≡ ended ++ more → any_long more ≡ false →
-    AllByRecursion (λ (span : List Told). decided_of rule span ≡ []) more → unit_history rule start log told ≡ history_by rule start (limit_of log) told [] ended
+pub short-history : (rule : Rule) (start : Start) (log : RunLog) (told : List ToldSecond) (ended more : List (List ToldSecond)) → spans_of told ≡ ended ++ more → any_long more ≡ false →
+    AllByRecursion (λ (span : List ToldSecond). decided_of rule span ≡ []) more → unit_history rule start log told ≡ history_by rule start (limit_of log) told [] ended
 unfolding unit_history
 short-history rule start log told ended more are short none =
     ap (history_by rule start (limit_of log) told []) are ∙ history-short rule start told log ended more short none
 
-pub short-lost : (rule : Rule) (start : Start) (log : RunLog) (told : List Told) (ended more : List (List Told)) → spans_of told ≡ ended ++ more → any_long more ≡ false →
-    AllByRecursion (λ (span : List Told). decided_of rule span ≡ []) more → with_lost rule start log told ≡ lost_by rule start (limit_of log) told [] ended
+pub short-lost : (rule : Rule) (start : Start) (log : RunLog) (told : List ToldSecond) (ended more : List (List ToldSecond)) → spans_of told ≡ ended ++ more → any_long more ≡ false →
+    AllByRecursion (λ (span : List ToldSecond). decided_of rule span ≡ []) more → with_lost rule start log told ≡ lost_by rule start (limit_of log) told [] ended
 unfolding with_lost
 short-lost rule start log told ended more are short none =
     ap (lost_by rule start (limit_of log) told []) are ∙ lost-short rule start told log ended more short none

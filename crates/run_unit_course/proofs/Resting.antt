@@ -6,7 +6,7 @@ use Rattle.trace_model.specs.Trace.{TraceSecond, driven}
 use Rattle.minute_model.specs.declared.Rule.{Rule}
 use Rattle.log_model.specs.declared.lines.Break.{Break}
 use Rattle.log_model.specs.Log.{kept_after}
-use Rattle.log_model.specs.Course.{Told, Went, Before, before_next, went_on, went}
+use Rattle.log_model.specs.Course.{ToldSecond, Went, Before, before_next, went_on, went}
 use Rattle.log_model.specs.Spans.{spans_with, spans_of, AreInOrder, AreApart}
 use Rattle.log_model.proofs.Spanning.{spanned}
 use Rattle.history_model.specs.Minutes.{HistoryMinute}
@@ -34,7 +34,7 @@ pub record Resting (rule : Rule) (start : Start) (from first : ℕ) (done : List
   pub cuts : AllByRecursion (IsCutBefore next) breaks
   pub within : unfound ≤ length breaks
   pub plain : ArePlain (went (log_of breaks) done).told
-  pub ended : List (List Told)
+  pub ended : List (List ToldSecond)
   pub spans : spans_of (went (log_of breaks) done).told ≡ ended ++ []
   pub tied : IsShut rule start breaks (take unfound breaks) (went (log_of breaks) done).told ended [] b []
       ⊎ IsOpen rule start breaks (take unfound breaks) (went (log_of breaks) done).told ended b
@@ -49,20 +49,20 @@ pub added-tells : (breaks : List Break) (c : Break) (u : ℕ) → tells_cut u br
 added-tells breaks c u tells = tells-append u breaks (c ∷ []) ∙ rw tells refl
 
 module _ (rule : Rule) (start : Start) (from first : ℕ) (done : List TraceSecond) (breaks : List Break) (unfound next : ℕ) (b : Book) where
-  abbrev told : List Told
+  abbrev told : List ToldSecond
   told = (went (log_of breaks) done).told
 
   -- seconds are added that decide nothing: without power, or a span of one second
-  pub rest-more : (r : Resting rule start from first done breaks unfound next b) (later : List Break) (ss : List TraceSecond) (more : List Told) (before : Before) (n : ℕ) (behind : List (List Told)) →
+  pub rest-more : (r : Resting rule start from first done breaks unfound next b) (later : List Break) (ss : List TraceSecond) (more : List ToldSecond) (before : Before) (n : ℕ) (behind : List (List ToldSecond)) →
       went (log_of later) (done ++ ss) ≡ record { told = told ++ more; before = before } → AreInOrder (from + length done) ss → length ss ≡ n → AllByRecursion (IsCutBefore (next + n)) later →
       take unfound later ≡ take unfound breaks → unfound ≤ length later → ((u : ℕ) → tells_cut u breaks ≡ true → tells_cut u later ≡ true) →
       ((u : ℕ) → tells_cut u (take unfound breaks) ≡ true → kept_after (log_of breaks) u ≡ kept_after (log_of later) u) → ArePlain more →
-      fold spans_with (r.ended ++ []) more ≡ (r.ended ++ []) ++ behind → AllByRecursion (λ (span : List Told). decided_of rule span ≡ []) behind → any_long behind ≡ false →
+      fold spans_with (r.ended ++ []) more ≡ (r.ended ++ []) ++ behind → AllByRecursion (λ (span : List ToldSecond). decided_of rule span ≡ []) behind → any_long behind ≡ false →
       Resting rule start from first (done ++ ss) later unfound (next + n) b
   rest-more r later ss more before n behind goes order len cuts front within tells same plain grows none short =
       let t = ap (λ (w : Went). w.told) goes in
       let k : ArePlain (went (log_of later) (done ++ ss)).told = subst ArePlain (sym t) (plain-append told more r.plain plain) in
-      let spans = ap spans_of t ∙ spans-parts told more ∙ ap (λ (ss : List (List Told)). fold spans_with ss more) r.spans ∙ grows ∙ ap (λ (ss : List (List Told)). ss ++ behind) (append-nil r.ended) in
+      let spans = ap spans_of t ∙ spans-parts told more ∙ ap (λ (ss : List (List ToldSecond)). fold spans_with ss more) r.spans ∙ grows ∙ ap (λ (ss : List (List ToldSecond)). ss ++ behind) (append-nil r.ended) in
       let alike = ended-alike rule start breaks later (take unfound breaks) same told (went (log_of later) (done ++ ss)).told r.plain k r.ended b r.tied in
       let count = length-append done ss in
       let number = r.number in
@@ -117,7 +117,7 @@ module _ (rule : Rule) (start : Start) (from first : ℕ) (done : List TraceSeco
   failed-first speed actions each =
       let is = failed-told (log_of failed) (went (log_of breaks) done).before next speed actions comes.comes comes.slots (quiet-of rule start from first done failed unfound (next + 1) b (failed-cuts 0) next) (cut-here breaks next true 0 r.cuts) each
       ∙ ap (λ (running : Bool). lit_second next speed [] (not running) true) comes.running in
-      ap (λ (t : Told). record { told = (went (log_of breaks) done).told ++ t ∷ []; before = before_next (went (log_of breaks) done).before t }) is
+      ap (λ (t : ToldSecond). record { told = (went (log_of breaks) done).told ++ t ∷ []; before = before_next (went (log_of breaks) done).before t }) is
 
   begun-failed : (speed : ℕ) (actions : List Action) → AllByRecursion IsSelection actions → (n : ℕ) → went (log_of failed) (done ++ driven (suc n) next speed actions)
       ≡ fold (went_on (log_of failed)) (record { told = (went (log_of breaks) done).told ++ lit_second next speed [] true true ∷ []; before = lost_before }) (driven n (next + 1) speed [])
@@ -134,7 +134,7 @@ module _ (rule : Rule) (start : Start) (from first : ℕ) (done : List TraceSeco
       let step : (next + 1) % 60 ≡ next % 60 + 1 = omega (arith, within) in
       begun-failed speed actions each (suc n)
       ∙ lost-goes (log_of failed) ((went (log_of breaks) done).told ++ lit_second next speed [] true true ∷ []) (suc n) (next + 1) speed [] (omega (arith, step)) (omega (arith, step, within))
-      ∙ ap (λ (ts : List Told). record { told = ts; before = lost_before }) (append_assoc (went (log_of breaks) done).told (lit_second next speed [] true true ∷ []) (dark_seconds (suc n) (next + 1) speed true []))
+      ∙ ap (λ (ts : List ToldSecond). record { told = ts; before = lost_before }) (append_assoc (went (log_of breaks) done).told (lit_second next speed [] true true ∷ []) (dark_seconds (suc n) (next + 1) speed true []))
 
   pub rest-failed : (n speed : ℕ) (actions : List Action) → next % 60 + suc n ≤ 60 → AllByRecursion IsSelection actions →
       Resting rule start from first (done ++ driven (suc n) next speed actions) failed unfound (next + suc n) b × (went (log_of failed) (done ++ driven (suc n) next speed actions)).before ≡ lost_before
@@ -156,7 +156,7 @@ module _ (rule : Rule) (start : Start) (from first : ℕ) (done : List TraceSeco
   pub found-told : went (log_of later) done ≡ went (log_of breaks) done
   found-told = went-found from next done breaks unfound k r.order r.cuts
 
-  abbrev seconds : List Told
+  abbrev seconds : List ToldSecond
   seconds = (went (log_of breaks) done).told
 
   seconds-same : (went (log_of later) done).told ≡ seconds
@@ -173,7 +173,7 @@ module _ (rule : Rule) (start : Start) (from first : ℕ) (done : List TraceSeco
       (λ sh. found-shut rule start breaks later (take unfound breaks) (take (length later) later) (found-same breaks unfound k) seconds r.plain r.ended b k (λ u is. goes u (tells-front u unfound breaks is)) low sh)
       (λ o. let f = r.follows.front in
       let whole = spanned (log_of breaks) from done r.order in
-      found-open rule start breaks unfound k seconds r.plain from (from + length done) r.ended (subst (λ (ss : List (List Told)). AreApart from ss (from + length done)) (r.spans ∙ append-nil r.ended) whole.apart) b low o
+      found-open rule start breaks unfound k seconds r.plain from (from + length done) r.ended (subst (λ (ss : List (List ToldSecond)). AreApart from ss (from + length done)) (r.spans ∙ append-nil r.ended) whole.apart) b low o
       (take (length later) later) goes f.0 (sym minutes-now ∙ f.1)
       (beyond-mark first (from / 60) ((from + length done) / 60) k (all b) f.0 r.early (subst (λ (is : List HistoryMinute). Rises (from / 60) is ((from + length done) / 60)) f.1 (rises from rule start (log_of breaks) done r.order)) mark))
       r.tied
@@ -190,7 +190,7 @@ module _ (rule : Rule) (start : Start) (from first : ℕ) (done : List TraceSeco
         plain = plain;
         ended = r.ended;
         spans = spans;
-        tied = inl (subst (λ (ts : List Told). IsShut rule start later (take (length later) later) ts r.ended [] (found k b) []) (sym seconds-same) found-tied);
+        tied = inl (subst (λ (ts : List ToldSecond). IsShut rule start later (take (length later) later) ts r.ended [] (found k b) []) (sym seconds-same) found-tied);
         follows = follows-found k b low (unit_history rule start (log_of later) (went (log_of later) done).told) (with_lost rule start (log_of later) (went (log_of later) done).told)
             (follows-same (unit_history rule start (log_of breaks) seconds) (unit_history rule start (log_of later) (went (log_of later) done).told) (with_lost rule start (log_of breaks) seconds) (with_lost rule start (log_of later) (went (log_of later) done).told) b
             (short-history rule start (log_of later) (went (log_of later) done).told r.ended [] spans refl tt
@@ -208,5 +208,5 @@ module _ (rule : Rule) (start : Start) (from first : ℕ) (done : List TraceSeco
       spans = ap spans_of seconds-same ∙ r.spans
 
   -- the spans that have ended, all of them known
-  pub found-now : (e : List (List Told)) × (spans_of (went (log_of later) done).told ≡ e ++ []) × IsShut rule start later (take (length later) later) (went (log_of later) done).told e [] (found k b) []
-  found-now = (r.ended, ap spans_of seconds-same ∙ r.spans, subst (λ (ts : List Told). IsShut rule start later (take (length later) later) ts r.ended [] (found k b) []) (sym seconds-same) found-tied)
+  pub found-now : (e : List (List ToldSecond)) × (spans_of (went (log_of later) done).told ≡ e ++ []) × IsShut rule start later (take (length later) later) (went (log_of later) done).told e [] (found k b) []
+  found-now = (r.ended, ap spans_of seconds-same ∙ r.spans, subst (λ (ts : List ToldSecond). IsShut rule start later (take (length later) later) ts r.ended [] (found k b) []) (sym seconds-same) found-tied)

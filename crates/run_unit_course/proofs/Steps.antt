@@ -17,7 +17,7 @@ use Rattle.log_model.specs.declared.lines.Refused.{Refused}
 use Rattle.log_model.specs.Log.{RunLog, Phase, cut_in, kept_after, is_torn_in, found_in}
 use Rattle.log_model.specs.Same.{SameAt}
 use Rattle.log_model.proofs.Growth.{went-same}
-use Rattle.log_model.specs.Course.{Told, Went, Before, has_power, went_on, went}
+use Rattle.log_model.specs.Course.{ToldSecond, Went, Before, has_power, went_on, went}
 use Rattle.log_model.specs.Spans.{spans_of, AreInOrder}
 use Rattle.history_model.specs.Minutes.{HistoryMinute}
 use Rattle.history_model.specs.Presence.{Start}
@@ -29,7 +29,7 @@ use Rattle.history_model.specs.Book.{Book, all, not_begun, kept, found, Follows,
 use Rattle.run_unit_course.specs.Turn.{IsSelection, empty_slots, lit_seconds, span_at, begins_with, actions_of_last}
 use Rattle.run_unit_course.specs.Lines.{log_of, cut_at, found_from}
 use Rattle.run_unit_course.specs.Keeping.{plain, kept_all, broken_at}
-use Rattle.run_unit_course.specs.Followed.{Supply, Lit, Due, Lost, Progress, Comes, lost_before, IsShut, Followed, MayPower, MayFail, IsDark}
+use Rattle.run_unit_course.specs.Followed.{UnitPower, Lit, Due, Lost, Progress, Comes, lost_before, IsShut, BookFollowsUnitRun, MayPower, MayFail, IsDark}
 use Rattle.run_unit_course.proofs.Lines.{all-numbered}
 use Rattle.run_unit_course.proofs.Turns.{given_second, off_before, lost-goes, off-goes, went-parts}
 use Rattle.run_unit_course.proofs.Alike.{decided-empty}
@@ -40,7 +40,7 @@ use Rattle.run_unit_course.proofs.Cutting.{ends}
 
 -- WITHOUT POWER
 as-lost : (rule : Rule) (start : Start) (from first : ℕ) (done : List TraceSecond) (breaks : List Break) (unfound next begun : ℕ) (b : Book) → Resting rule start from first done breaks unfound next b → (went (log_of breaks) done).before ≡ lost_before →
-    Followed rule start from first done (record { breaks = breaks; unfound = unfound; next = next; begun = begun; supply = Lost; book = b; waiting = [] })
+    BookFollowsUnitRun rule start from first done (record { breaks = breaks; unfound = unfound; next = next; begun = begun; supply = Lost; book = b; waiting = [] })
 as-lost rule start from first done breaks unfound next begun b r is = record {
   early = r.early;
   order = r.order;
@@ -57,7 +57,7 @@ as-lost rule start from first done breaks unfound next begun b r is = record {
 }
 
 as-due : (rule : Rule) (start : Start) (from first : ℕ) (done : List TraceSecond) (breaks : List Break) (unfound next begun : ℕ) (b : Book) → Resting rule start from first done breaks unfound next b → ((n : ℕ) → Comes (went (log_of breaks) done).before n) →
-    Followed rule start from first done (record { breaks = breaks; unfound = unfound; next = next; begun = begun; supply = Due; book = b; waiting = [] })
+    BookFollowsUnitRun rule start from first done (record { breaks = breaks; unfound = unfound; next = next; begun = begun; supply = Due; book = b; waiting = [] })
 as-due rule start from first done breaks unfound next begun b r comes = record {
   early = r.early;
   order = r.order;
@@ -74,13 +74,13 @@ as-due rule start from first done breaks unfound next begun b r comes = record {
 }
 
 module _ (rule : Rule) (start : Start) (from first : ℕ) (done : List TraceSecond) (p : Progress) where
-  pub rests-due : Followed rule start from first done (record p { supply = Due }) → Resting rule start from first done p.breaks p.unfound p.next p.book
+  pub rests-due : BookFollowsUnitRun rule start from first done (record p { supply = Due }) → Resting rule start from first done p.breaks p.unfound p.next p.book
   rests-due f = record { early = f.early; order = f.order; number = f.next; cuts = f.breaks; within = f.unfound; plain = f.plain; ended = f.ended; spans = f.spans; tied = f.tied.1; follows = f.follows }
 
-  pub rests-lost : Followed rule start from first done (record p { supply = Lost }) → Resting rule start from first done p.breaks p.unfound p.next p.book
+  pub rests-lost : BookFollowsUnitRun rule start from first done (record p { supply = Lost }) → Resting rule start from first done p.breaks p.unfound p.next p.book
   rests-lost f = record { early = f.early; order = f.order; number = f.next; cuts = f.breaks; within = f.unfound; plain = f.plain; ended = f.ended; spans = f.spans; tied = f.tied.1; follows = f.follows }
 
-  pub rests-lit : Followed rule start from first done (record p { supply = Lit [] }) → Resting rule start from first done p.breaks p.unfound p.next p.book
+  pub rests-lit : BookFollowsUnitRun rule start from first done (record p { supply = Lit [] }) → Resting rule start from first done p.breaks p.unfound p.next p.book
   rests-lit f =
       let wait = ⊎_elim (λ (e : p.waiting ≡ []). e) (λ long. absurd (let no : false ≡ true = long in cc)) f.tied.whole in
       record {
@@ -107,7 +107,7 @@ module _ (rule : Rule) (start : Start) (from first : ℕ) (done : List TraceSeco
       now = let e : nat_eq (p.next % 60) 0 ≡ true = grind (arith, nat_tests) in rw e refl
 
   powered-at : (k : ℕ) → IsMark first (all p.book) k → All (λ i. i.minute ≤ k) p.book.sure → Resting rule start from first done p.breaks p.unfound p.next p.book → Comes (went (log_of p.breaks) done).before p.next →
-      Followed rule start from first done (record {
+      BookFollowsUnitRun rule start from first done (record {
         breaks = found_from p.unfound k p.breaks;
         unfound = length (found_from p.unfound k p.breaks);
         next = p.next;
@@ -134,8 +134,8 @@ module _ (rule : Rule) (start : Start) (from first : ℕ) (done : List TraceSeco
         follows = f.follows;
       }
 
-  powered-by : (s : Supply) → MayPower s p.next → Followed rule start from first done (record p { supply = s }) → (k : ℕ) → IsMark first (all p.book) k → All (λ i. i.minute ≤ k) p.book.sure →
-      Followed rule start from first done (record {
+  powered-by : (s : UnitPower) → MayPower s p.next → BookFollowsUnitRun rule start from first done (record p { supply = s }) → (k : ℕ) → IsMark first (all p.book) k → All (λ i. i.minute ≤ k) p.book.sure →
+      BookFollowsUnitRun rule start from first done (record {
         breaks = found_from p.unfound k p.breaks;
         unfound = length (found_from p.unfound k p.breaks);
         next = p.next;
@@ -149,8 +149,8 @@ module _ (rule : Rule) (start : Start) (from first : ℕ) (done : List TraceSeco
   powered-by Lost may f k mark low = powered-at k mark low (rests-lost f) (lost-comes (went (log_of p.breaks) done).before f.power may)
 
   -- power is back, and it is found what was kept: the span begins with the next second
-  pub powered : Followed rule start from first done p → MayPower p.supply p.next → (k : ℕ) → IsMark first (all p.book) k → All (λ i. i.minute ≤ k) p.book.sure →
-      Followed rule start from first done (record {
+  pub powered : BookFollowsUnitRun rule start from first done p → MayPower p.supply p.next → (k : ℕ) → IsMark first (all p.book) k → All (λ i. i.minute ≤ k) p.book.sure →
+      BookFollowsUnitRun rule start from first done (record {
         breaks = found_from p.unfound k p.breaks;
         unfound = length (found_from p.unfound k p.breaks);
         next = p.next;
@@ -162,14 +162,14 @@ module _ (rule : Rule) (start : Start) (from first : ℕ) (done : List TraceSeco
   powered f may k mark low = powered-by p.supply may f k mark low
 
   fails-at : Resting rule start from first done p.breaks p.unfound p.next p.book → Comes (went (log_of p.breaks) done).before p.next → (n speed : ℕ) (actions : List Action) (begun : ℕ) → p.next % 60 + suc n ≤ 60 → AllByRecursion IsSelection actions →
-      Followed rule start from first (done ++ driven (suc n) p.next speed actions)
+      BookFollowsUnitRun rule start from first (done ++ driven (suc n) p.next speed actions)
       (record { breaks = p.breaks ++ cut_at p.next true 0 ∷ []; unfound = p.unfound; next = p.next + suc n; begun = begun; supply = Lost; book = p.book; waiting = [] })
   fails-at r comes n speed actions begun within each =
       let on = rest-failed rule start from first done p.breaks p.unfound p.next p.book r comes n speed actions within each in
       as-lost rule start from first (done ++ driven (suc n) p.next speed actions) (p.breaks ++ cut_at p.next true 0 ∷ []) p.unfound (p.next + suc n) begun p.book on.0 on.1
 
-  powers-by : (s : Supply) → MayFail s p.next → Followed rule start from first done (record p { supply = s }) → (n speed : ℕ) (actions : List Action) (begun : ℕ) → p.next % 60 + suc n ≤ 60 → AllByRecursion IsSelection actions →
-      Followed rule start from first (done ++ driven (suc n) p.next speed actions)
+  powers-by : (s : UnitPower) → MayFail s p.next → BookFollowsUnitRun rule start from first done (record p { supply = s }) → (n speed : ℕ) (actions : List Action) (begun : ℕ) → p.next % 60 + suc n ≤ 60 → AllByRecursion IsSelection actions →
+      BookFollowsUnitRun rule start from first (done ++ driven (suc n) p.next speed actions)
       (record { breaks = p.breaks ++ cut_at p.next true 0 ∷ []; unfound = p.unfound; next = p.next + suc n; begun = begun; supply = Lost; book = p.book; waiting = [] })
   powers-by (Lit []) may f = fails-at (rests-lit f) f.power
   powers-by (Lit (t ∷ span)) may f = absurd may
@@ -177,16 +177,16 @@ module _ (rule : Rule) (start : Start) (from first : ℕ) (done : List TraceSeco
   powers-by Lost may f = fails-at (rests-lost f) (lost-comes (went (log_of p.breaks) done).before f.power may)
 
   -- a call of the power-on fails, in the first of these seconds of a minute: none of its actions is carried out, and the others are dark
-  pub powers_not : Followed rule start from first done p → MayFail p.supply p.next → (n speed : ℕ) (actions : List Action) (begun : ℕ) → p.next % 60 + suc n ≤ 60 → AllByRecursion IsSelection actions →
-      Followed rule start from first (done ++ driven (suc n) p.next speed actions)
+  pub powers_not : BookFollowsUnitRun rule start from first done p → MayFail p.supply p.next → (n speed : ℕ) (actions : List Action) (begun : ℕ) → p.next % 60 + suc n ≤ 60 → AllByRecursion IsSelection actions →
+      BookFollowsUnitRun rule start from first (done ++ driven (suc n) p.next speed actions)
       (record { breaks = p.breaks ++ cut_at p.next true 0 ∷ []; unfound = p.unfound; next = p.next + suc n; begun = begun; supply = Lost; book = p.book; waiting = [] })
   powers_not f may = powers-by p.supply may f
 
   -- after a failed call, within a minute that has begun: no power
-  pub stays_dark : Followed rule start from first done p → p.supply ≡ Lost → (n speed : ℕ) (actions : List Action) (begun : ℕ) → 0 < p.next % 60 → p.next % 60 + n ≤ 60 →
-      Followed rule start from first (done ++ driven n p.next speed actions) (record { breaks = p.breaks; unfound = p.unfound; next = p.next + n; begun = begun; supply = Lost; book = p.book; waiting = [] })
+  pub stays_dark : BookFollowsUnitRun rule start from first done p → p.supply ≡ Lost → (n speed : ℕ) (actions : List Action) (begun : ℕ) → 0 < p.next % 60 → p.next % 60 + n ≤ 60 →
+      BookFollowsUnitRun rule start from first (done ++ driven n p.next speed actions) (record { breaks = p.breaks; unfound = p.unfound; next = p.next + n; begun = begun; supply = Lost; book = p.book; waiting = [] })
   stays_dark g is n speed actions begun some within =
-      let f = subst (λ (s : Supply). Followed rule start from first done (record p { supply = s })) is g in
+      let f = subst (λ (s : UnitPower). BookFollowsUnitRun rule start from first done (record p { supply = s })) is g in
       let r = rests-lost f in
       let goes = ap (λ (b : Before). fold (went_on (log_of p.breaks)) (record { told = (went (log_of p.breaks) done).told; before = b }) (driven n p.next speed actions)) f.power
       ∙ lost-goes (log_of p.breaks) (went (log_of p.breaks) done).told n p.next speed actions some within in
@@ -196,7 +196,7 @@ module _ (rule : Rule) (start : Start) (from first : ℕ) (done : List TraceSeco
       (ap (λ (w : Went). w.before) (went-parts (log_of p.breaks) done (driven n p.next speed actions) ∙ goes))
 
   off-at : Resting rule start from first done p.breaks p.unfound p.next p.book → (went (log_of p.breaks) done).before.slots ≡ empty_slots → (n : ℕ) →
-      Followed rule start from first (done ++ dark (suc n) p.next) (record { breaks = p.breaks; unfound = p.unfound; next = p.next + suc n; begun = 0; supply = Due; book = p.book; waiting = [] })
+      BookFollowsUnitRun rule start from first (done ++ dark (suc n) p.next) (record { breaks = p.breaks; unfound = p.unfound; next = p.next + suc n; begun = 0; supply = Due; book = p.book; waiting = [] })
   off-at r slots n =
       let goes = off-goes (log_of p.breaks) (went (log_of p.breaks) done).told (went (log_of p.breaks) done).before n p.next slots in
       as-due rule start from first (done ++ dark (suc n) p.next) p.breaks p.unfound (p.next + suc n) 0 p.book
@@ -212,20 +212,20 @@ module _ (rule : Rule) (start : Start) (from first : ℕ) (done : List TraceSeco
           go true e = rw e refl
           go false e = rw e refl
 
-  off-by : (s : Supply) → IsDark s → Followed rule start from first done (record p { supply = s }) → (n : ℕ) →
-      Followed rule start from first (done ++ dark (suc n) p.next) (record { breaks = p.breaks; unfound = p.unfound; next = p.next + suc n; begun = 0; supply = Due; book = p.book; waiting = [] })
+  off-by : (s : UnitPower) → IsDark s → BookFollowsUnitRun rule start from first done (record p { supply = s }) → (n : ℕ) →
+      BookFollowsUnitRun rule start from first (done ++ dark (suc n) p.next) (record { breaks = p.breaks; unfound = p.unfound; next = p.next + suc n; begun = 0; supply = Due; book = p.book; waiting = [] })
   off-by (Lit span) is f = absurd is
   off-by Due is f = off-at (rests-due f) (f.power 0).slots
   off-by Lost is f = off-at (rests-lost f) (ap (λ (b : Before). b.slots) f.power)
 
   -- an `off` line of a second at least, while there is no power
-  pub goes_off : Followed rule start from first done p → IsDark p.supply → (n : ℕ) →
-      Followed rule start from first (done ++ dark (suc n) p.next) (record { breaks = p.breaks; unfound = p.unfound; next = p.next + suc n; begun = 0; supply = Due; book = p.book; waiting = [] })
+  pub goes_off : BookFollowsUnitRun rule start from first done p → IsDark p.supply → (n : ℕ) →
+      BookFollowsUnitRun rule start from first (done ++ dark (suc n) p.next) (record { breaks = p.breaks; unfound = p.unfound; next = p.next + suc n; begun = 0; supply = Due; book = p.book; waiting = [] })
   goes_off f is = off-by p.supply is f
 
 -- WITH POWER
-pub keeps-all : (rule : Rule) (start : Start) (from first : ℕ) (done : List TraceSecond) (p : Progress) (t : Told) (span : List Told) (front : List Minute) (rest : List HistoryMinute) →
-    Followed rule start from first done (record p { supply = Lit (t ∷ span); waiting = map plain front ++ rest }) → Followed rule start from first done (record p { supply = Lit (t ∷ span); book = kept_all front p.book; waiting = rest })
+pub keeps-all : (rule : Rule) (start : Start) (from first : ℕ) (done : List TraceSecond) (p : Progress) (t : ToldSecond) (span : List ToldSecond) (front : List Minute) (rest : List HistoryMinute) →
+    BookFollowsUnitRun rule start from first done (record p { supply = Lit (t ∷ span); waiting = map plain front ++ rest }) → BookFollowsUnitRun rule start from first done (record p { supply = Lit (t ∷ span); book = kept_all front p.book; waiting = rest })
 keeps-all rule start from first done p t span [] rest f = f
 keeps-all rule start from first done p t span (d ∷ front) rest f =
     keeps-all rule start from first done (record p { book = kept (plain d) p.book }) t span front rest (keeps rule start from first done p t span (plain d) (map plain front ++ rest) f)
@@ -235,10 +235,10 @@ module _ (rule : Rule) (start : Start) (from first : ℕ) (done : List TraceSeco
   ss = driven (suc n) p.next speed actions
 
   -- what is fed of a turn
-  pub feeds-by : (span : List Told) → Followed rule start from first done (record p { supply = Lit span }) → p.waiting ≡ [] →
+  pub feeds-by : (span : List ToldSecond) → BookFollowsUnitRun rule start from first done (record p { supply = Lit span }) → p.waiting ≡ [] →
       decided_in (fed_many (picking (picks_of actions) (span_at rule p.next span)) speed (suc n)) ≡ decided_in (span_at rule p.next span) ++ new →
-      (t : Told) × (longer : List Told) × (span ++ lit_seconds (suc n) p.next speed (picks_of actions) (begins_with span) ≡ t ∷ longer)
-      × Followed rule start from first (done ++ ss) (record p { next = p.next + suc n; begun = length (actions_of_last (suc n) actions); supply = Lit (t ∷ longer); waiting = map plain new })
+      (t : ToldSecond) × (longer : List ToldSecond) × (span ++ lit_seconds (suc n) p.next speed (picks_of actions) (begins_with span) ≡ t ∷ longer)
+      × BookFollowsUnitRun rule start from first (done ++ ss) (record p { next = p.next + suc n; begun = length (actions_of_last (suc n) actions); supply = Lit (t ∷ longer); waiting = map plain new })
   feeds-by [] f none decides = (_, _, refl, feeds rule start from first done p [] f n speed actions each _ _ refl none new decides (λ e. absurd (cc)))
   feeds-by (t ∷ span) f none decides = (
     t,
@@ -249,9 +249,9 @@ module _ (rule : Rule) (start : Start) (from first : ℕ) (done : List TraceSeco
   )
 
   -- a turn of seconds with power, of which all decided minutes are kept
-  pub turned : Followed rule start from first done p → (span : List Told) → p.supply ≡ Lit span → p.waiting ≡ [] →
+  pub turned : BookFollowsUnitRun rule start from first done p → (span : List ToldSecond) → p.supply ≡ Lit span → p.waiting ≡ [] →
       decided_in (fed_many (picking (picks_of actions) (span_at rule p.next span)) speed (suc n)) ≡ decided_in (span_at rule p.next span) ++ new →
-      Followed rule start from first (done ++ ss) (record {
+      BookFollowsUnitRun rule start from first (done ++ ss) (record {
         breaks = p.breaks;
         unfound = p.unfound;
         next = p.next + suc n;
@@ -261,17 +261,17 @@ module _ (rule : Rule) (start : Start) (from first : ℕ) (done : List TraceSeco
         waiting = [];
       })
   turned g span is none decides =
-      let f = subst (λ (s : Supply). Followed rule start from first done (record p { supply = s })) is g in
+      let f = subst (λ (s : UnitPower). BookFollowsUnitRun rule start from first done (record p { supply = s })) is g in
       let on = feeds-by span f none decides in
       let q : Progress = record p { next = p.next + suc n; begun = length (actions_of_last (suc n) actions) } in
-      subst (λ (s : List Told). Followed rule start from first (done ++ ss) (record { breaks = p.breaks; unfound = p.unfound; next = p.next + suc n; begun = length (actions_of_last (suc n) actions); supply = Lit s; book = kept_all new p.book; waiting = [] })) (sym on.2)
-      (keeps-all rule start from first (done ++ ss) q on.0 on.1 new [] (subst (λ (w : List HistoryMinute). Followed rule start from first (done ++ ss) (record q { supply = Lit (on.0 ∷ on.1); waiting = w })) (sym (append-nil (map plain new))) on.3))
+      subst (λ (s : List ToldSecond). BookFollowsUnitRun rule start from first (done ++ ss) (record { breaks = p.breaks; unfound = p.unfound; next = p.next + suc n; begun = length (actions_of_last (suc n) actions); supply = Lit s; book = kept_all new p.book; waiting = [] })) (sym on.2)
+      (keeps-all rule start from first (done ++ ss) q on.0 on.1 new [] (subst (λ (w : List HistoryMinute). BookFollowsUnitRun rule start from first (done ++ ss) (record q { supply = Lit (on.0 ∷ on.1); waiting = w })) (sym (append-nil (map plain new))) on.3))
 
   -- a turn of seconds with power, in whose last one a call fails: these minutes are kept, one may be, or none was begun
-  pub breaks_off : Followed rule start from first done p → (span : List Told) → p.supply ≡ Lit span → p.waiting ≡ [] →
+  pub breaks_off : BookFollowsUnitRun rule start from first done p → (span : List ToldSecond) → p.supply ≡ Lit span → p.waiting ≡ [] →
       decided_in (fed_many (picking (picks_of actions) (span_at rule p.next span)) speed (suc n)) ≡ decided_in (span_at rule p.next span) ++ new →
       (front : List Minute) (d : Option Minute) (rest : List Minute) → new ≡ front ++ (option_to_list d ++ rest) → (failed : Bool) →
-      Followed rule start from first (done ++ ss) (record {
+      BookFollowsUnitRun rule start from first (done ++ ss) (record {
         breaks = p.breaks ++ cut_at (p.next + suc n - 1) failed (length (actions_of_last (suc n) actions)) ∷ [];
         unfound = p.unfound;
         next = p.next + suc n;
@@ -281,11 +281,11 @@ module _ (rule : Rule) (start : Start) (from first : ℕ) (done : List TraceSeco
         waiting = [];
       })
   breaks_off g span is none decides front d rest are failed =
-      let f = subst (λ (s : Supply). Followed rule start from first done (record p { supply = s })) is g in
+      let f = subst (λ (s : UnitPower). BookFollowsUnitRun rule start from first done (record p { supply = s })) is g in
       let on = feeds-by span f none decides in
       let q : Progress = record p { next = p.next + suc n; begun = length (actions_of_last (suc n) actions) } in
       let waits = ap (map plain) are ∙ map-append plain front (option_to_list d ++ rest) ∙ ap (λ (w : List HistoryMinute). map plain front ++ w) (map-append plain (option_to_list d) rest ∙ ap (λ (w : List HistoryMinute). w ++ map plain rest) (one d)) in
-      let kept_front = keeps-all rule start from first (done ++ ss) q on.0 on.1 front (option_to_list (option_map {T = Minute} plain d) ++ map plain rest) (subst (λ (w : List HistoryMinute). Followed rule start from first (done ++ ss) (record q { supply = Lit (on.0 ∷ on.1); waiting = w })) waits on.3) in
+      let kept_front = keeps-all rule start from first (done ++ ss) q on.0 on.1 front (option_to_list (option_map {T = Minute} plain d) ++ map plain rest) (subst (λ (w : List HistoryMinute). BookFollowsUnitRun rule start from first (done ++ ss) (record q { supply = Lit (on.0 ∷ on.1); waiting = w })) waits on.3) in
       let cut = ends rule start from first (done ++ ss) (record q { book = kept_all front p.book; waiting = option_to_list (option_map {T = Minute} plain d) ++ map plain rest }) on.0 on.1 kept_front failed (option_map {T = Minute} plain d) (map plain rest) refl in
       as-lost rule start from first (done ++ ss) (p.breaks ++ cut_at (p.next + suc n - 1) failed (length (actions_of_last (suc n) actions)) ∷ []) p.unfound (p.next + suc n) (length (actions_of_last (suc n) actions)) (broken_at (option_map {T = Minute} plain d) (kept_all front p.book)) cut.0 cut.1
     where
@@ -294,17 +294,17 @@ module _ (rule : Rule) (start : Start) (from first : ℕ) (done : List TraceSeco
       one (Some d) = refl
 
 -- power is lost in the last second so far, behind all of its actions, and no minute waits
-pub cut_now : (rule : Rule) (start : Start) (from first : ℕ) (done : List TraceSecond) (p : Progress) → Followed rule start from first done p → (t : Told) (span : List Told) → p.supply ≡ Lit (t ∷ span) → p.waiting ≡ [] → (failed : Bool) →
-    Followed rule start from first done
+pub cut_now : (rule : Rule) (start : Start) (from first : ℕ) (done : List TraceSecond) (p : Progress) → BookFollowsUnitRun rule start from first done p → (t : ToldSecond) (span : List ToldSecond) → p.supply ≡ Lit (t ∷ span) → p.waiting ≡ [] → (failed : Bool) →
+    BookFollowsUnitRun rule start from first done
     (record { breaks = p.breaks ++ cut_at (p.next - 1) failed p.begun ∷ []; unfound = p.unfound; next = p.next; begun = p.begun; supply = Lost; book = p.book; waiting = [] })
 cut_now rule start from first done p g t span is none failed =
-    let f = subst (λ (s : Supply). Followed rule start from first done (record p { supply = s })) is g in
+    let f = subst (λ (s : UnitPower). BookFollowsUnitRun rule start from first done (record p { supply = s })) is g in
     let cut = ends rule start from first done p t span f failed None [] none in
     as-lost rule start from first done (p.breaks ++ cut_at (p.next - 1) failed p.begun ∷ []) p.unfound p.next p.begun p.book cut.0 cut.1
 
 -- an `off` line of a second at least, while there is power: its last second turns out to be a cut's
-pub cut_off : (rule : Rule) (start : Start) (from first : ℕ) (done : List TraceSecond) (p : Progress) → Followed rule start from first done p → (t : Told) (span : List Told) → p.supply ≡ Lit (t ∷ span) → p.waiting ≡ [] → (n : ℕ) →
-    Followed rule start from first (done ++ dark (suc n) p.next)
+pub cut_off : (rule : Rule) (start : Start) (from first : ℕ) (done : List TraceSecond) (p : Progress) → BookFollowsUnitRun rule start from first done p → (t : ToldSecond) (span : List ToldSecond) → p.supply ≡ Lit (t ∷ span) → p.waiting ≡ [] → (n : ℕ) →
+    BookFollowsUnitRun rule start from first (done ++ dark (suc n) p.next)
     (record { breaks = p.breaks ++ cut_at (p.next - 1) false p.begun ∷ []; unfound = p.unfound; next = p.next + suc n; begun = 0; supply = Due; book = p.book; waiting = [] })
 cut_off rule start from first done p g t span is none n =
     goes_off rule start from first done (record { breaks = p.breaks ++ cut_at (p.next - 1) false p.begun ∷ []; unfound = p.unfound; next = p.next; begun = p.begun; supply = Lost; book = p.book; waiting = [] })
@@ -312,7 +312,7 @@ cut_off rule start from first done p g t span is none n =
 
 -- AT THE START
 pub begins : (rule : Rule) (start : Start) (from first : ℕ) → first < from / 60 →
-    Followed rule start from first [] (record { breaks = []; unfound = 0; next = from; begun = 0; supply = Due; book = not_begun; waiting = [] })
+    BookFollowsUnitRun rule start from first [] (record { breaks = []; unfound = 0; next = from; begun = 0; supply = Due; book = not_begun; waiting = [] })
 unfolding went spans_of unit_history with_lost
 begins rule start from first early = record {
   early = early;
@@ -340,12 +340,12 @@ begins rule start from first early = record {
 }
 
 -- AT ANY MOMENT
-pub rules_see_the_turn : (rule : Rule) (start : Start) (from first : ℕ) (done : List TraceSecond) (p : Progress) → Followed rule start from first done p → (span : List Told) → p.supply ≡ Lit span → (n speed : ℕ) (picks : List (Slot × Pick)) →
+pub rules_see_the_turn : (rule : Rule) (start : Start) (from first : ℕ) (done : List TraceSecond) (p : Progress) → BookFollowsUnitRun rule start from first done p → (span : List ToldSecond) → p.supply ≡ Lit span → (n speed : ℕ) (picks : List (Slot × Pick)) →
     span_at rule (p.next + suc n) (span ++ lit_seconds (suc n) p.next speed picks (begins_with span)) ≡ fed_many (picking picks (span_at rule p.next span)) speed (suc n)
 rules_see_the_turn rule start from first done p g span is n speed picks =
-    go span (subst (λ (s : Supply). Followed rule start from first done (record p { supply = s })) is g)
+    go span (subst (λ (s : UnitPower). BookFollowsUnitRun rule start from first done (record p { supply = s })) is g)
   where
-    go : (span : List Told) → Followed rule start from first done (record p { supply = Lit span }) →
+    go : (span : List ToldSecond) → BookFollowsUnitRun rule start from first done (record p { supply = Lit span }) →
         span_at rule (p.next + suc n) (span ++ lit_seconds (suc n) p.next speed picks (begins_with span)) ≡ fed_many (picking picks (span_at rule p.next span)) speed (suc n)
     go [] f = seen rule p.next [] n speed picks (λ e. absurd (cc))
     go (t ∷ span) f = seen rule p.next (t ∷ span) n speed picks (λ e. span-end (log_of p.breaks) from done f.ended t span p.next f.order f.next f.power f.spans)
@@ -375,7 +375,7 @@ went-refusing breaks refused ss =
     went-same (log_of breaks) (refusing breaks refused) ss
     (all-numbered (λ (u : ℕ). SameAt (log_of breaks) (refusing breaks refused) u) ss (λ u. record { cut = cut-refusing breaks refused u; torn = torn-refusing breaks refused u; found = found-refusing breaks refused u }))
 
-pub limits-refusing : (breaks : List Break) (refused : List Refused) (spans : List (List Told)) → SameLimits (log_of breaks) (refusing breaks refused) spans
+pub limits-refusing : (breaks : List Break) (refused : List Refused) (spans : List (List ToldSecond)) → SameLimits (log_of breaks) (refusing breaks refused) spans
 limits-refusing breaks refused [] = tt
 limits-refusing breaks refused (span ∷ spans) = (λ long. by (cut_second (last span)), limits-refusing breaks refused spans)
   where
@@ -384,13 +384,13 @@ limits-refusing breaks refused (span ∷ spans) = (λ long. by (cut_second (last
     by (Some u) = ap (λ (k : ℕ). Some k) (kept-refusing breaks refused u)
 
 -- the book follows the history of the run so far, whatever was refused
-pub is_followed : (rule : Rule) (start : Start) (from first : ℕ) (done : List TraceSecond) (p : Progress) → Followed rule start from first done p → (refused : List Refused) →
+pub is_followed : (rule : Rule) (start : Start) (from first : ℕ) (done : List TraceSecond) (p : Progress) → BookFollowsUnitRun rule start from first done p → (refused : List Refused) →
     let log : RunLog = record { breaks = p.breaks; refused = refused; finds = [] } in
     Follows (unit_history rule start log (went log done).told) (with_lost rule start log (went log done).told) p.book
 is_followed rule start from first done p f refused =
     let told = (went (log_of p.breaks) done).told in
     let same = ap (λ (w : Went). w.told) (went-refusing p.breaks refused done) in
-    subst (λ (ts : List Told). Follows (unit_history rule start (refusing p.breaks refused) ts) (with_lost rule start (refusing p.breaks refused) ts) p.book) (sym same)
+    subst (λ (ts : List ToldSecond). Follows (unit_history rule start (refusing p.breaks refused) ts) (with_lost rule start (refusing p.breaks refused) ts) p.book) (sym same)
     (follows-same (unit_history rule start (log_of p.breaks) told) (unit_history rule start (refusing p.breaks refused) told) (with_lost rule start (log_of p.breaks) told) (with_lost rule start (refusing p.breaks refused) told) p.book
     (same-history rule start (log_of p.breaks) (refusing p.breaks refused) told (limits-refusing p.breaks refused (spans_of told)))
     (same-lost rule start (log_of p.breaks) (refusing p.breaks refused) told (limits-refusing p.breaks refused (spans_of told)))

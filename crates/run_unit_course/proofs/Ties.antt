@@ -9,7 +9,7 @@ use Rattle.minute_model.specs.declared.Minute.{Minute}
 use Rattle.minute_model.specs.Activity.{last}
 use Rattle.log_model.specs.declared.lines.Break.{Break}
 use Rattle.log_model.specs.Log.{kept_after}
-use Rattle.log_model.specs.Course.{Told}
+use Rattle.log_model.specs.Course.{ToldSecond}
 use Rattle.log_model.specs.Spans.{AreApart}
 use Rattle.history_model.specs.Minutes.{HistoryMinute, up_to}
 use Rattle.history_model.specs.Presence.{Start}
@@ -31,15 +31,15 @@ use Rattle.run_unit_course.proofs.Parts.{either-lost, closed-behind, lost-behind
 -- SECONDS AND LINES MORE: two logs that tell the same of what was kept after the cuts that are known, and two lists of seconds
 -- without cards
 module _ (rule : Rule) (start : Start) (breaks later found : List Break) (same : (u : ℕ) → tells_cut u found ≡ true → kept_after (log_of breaks) u ≡ kept_after (log_of later) u)
-    (told more : List Told) (h : ArePlain told) (k : ArePlain more) where
-  pub closed-same : (spans : List (List Told)) → AllByRecursion (IsKnown rule found) spans → closed_history rule start (log_of later) more spans ≡ closed_history rule start (log_of breaks) told spans
+    (told more : List ToldSecond) (h : ArePlain told) (k : ArePlain more) where
+  pub closed-same : (spans : List (List ToldSecond)) → AllByRecursion (IsKnown rule found) spans → closed_history rule start (log_of later) more spans ≡ closed_history rule start (log_of breaks) told spans
   closed-same spans known = sym (histories-alike rule start told more h k (closed_limit (log_of breaks)) (closed_limit (log_of later)) [] spans (known-closed rule found breaks later same spans known))
 
-  pub lost-same : (spans : List (List Told)) → AllByRecursion (IsKnown rule found) spans → closed_lost rule start (log_of later) more spans ≡ closed_lost rule start (log_of breaks) told spans
+  pub lost-same : (spans : List (List ToldSecond)) → AllByRecursion (IsKnown rule found) spans → closed_lost rule start (log_of later) more spans ≡ closed_lost rule start (log_of breaks) told spans
   lost-same spans known = sym (losses-alike rule start told more h k (closed_limit (log_of breaks)) (closed_limit (log_of later)) [] spans (known-closed rule found breaks later same spans known))
 
   -- power is kept: the span goes on, and these minutes are decided
-  pub shut-on : (later_found : List Break) (ended : List (List Told)) (span longer : List Told) (b : Book) (waiting : List HistoryMinute) (new : List Minute) →
+  pub shut-on : (later_found : List Break) (ended : List (List ToldSecond)) (span longer : List ToldSecond) (b : Book) (waiting : List HistoryMinute) (new : List Minute) →
       ((u : ℕ) → tells_cut u found ≡ true → tells_cut u later_found ≡ true) → decided_of rule longer ≡ decided_of rule span ++ new → waiting ≡ [] → (new ≡ []) ⊎ (nat_lt 1 (length longer) ≡ true) →
       IsShut rule start breaks found told ended span b waiting → IsShut rule start later later_found more ended longer b (map plain new)
   shut-on later_found ended span longer b waiting new goes decides none which sh = record {
@@ -57,8 +57,8 @@ module _ (rule : Rule) (start : Start) (breaks later found : List Break) (same :
   }
 
   -- no power: spans that decided nothing are added
-  pub shut-off : (later_found : List Break) (ended behind : List (List Told)) (b : Book) → ((u : ℕ) → tells_cut u found ≡ true → tells_cut u later_found ≡ true) →
-      AllByRecursion (λ (span : List Told). decided_of rule span ≡ []) behind → IsShut rule start breaks found told ended [] b [] → IsShut rule start later later_found more (ended ++ behind) [] b []
+  pub shut-off : (later_found : List Break) (ended behind : List (List ToldSecond)) (b : Book) → ((u : ℕ) → tells_cut u found ≡ true → tells_cut u later_found ≡ true) →
+      AllByRecursion (λ (span : List ToldSecond). decided_of rule span ≡ []) behind → IsShut rule start breaks found told ended [] b [] → IsShut rule start later later_found more (ended ++ behind) [] b []
   shut-off later_found ended behind b goes none sh = record {
     known = known-append rule later_found ended behind (known-more rule found later_found ended goes sh.known) (known-nothing rule later_found behind none);
     none = sh.none;
@@ -68,13 +68,13 @@ module _ (rule : Rule) (start : Start) (breaks later found : List Break) (same :
     lost = subst (λ (ls : List (List HistoryMinute)). AreLost ls b) (sym (lost-behind rule start (log_of later) more ended behind none ∙ lost-same ended sh.known)) sh.lost;
   }
 
-  pub open-off : (later_found : List Break) (ended behind : List (List Told)) (b : Book) → ((u : ℕ) → tells_cut u found ≡ tells_cut u later_found) → ((u : ℕ) → tells_cut u breaks ≡ true → tells_cut u later ≡ true) →
-      AllByRecursion (λ (span : List Told). decided_of rule span ≡ []) behind → any_long behind ≡ false → IsOpen rule start breaks found told ended b → IsOpen rule start later later_found more (ended ++ behind) b
+  pub open-off : (later_found : List Break) (ended behind : List (List ToldSecond)) (b : Book) → ((u : ℕ) → tells_cut u found ≡ tells_cut u later_found) → ((u : ℕ) → tells_cut u breaks ≡ true → tells_cut u later ≡ true) →
+      AllByRecursion (λ (span : List ToldSecond). decided_of rule span ≡ []) behind → any_long behind ≡ false → IsOpen rule start breaks found told ended b → IsOpen rule start later later_found more (ended ++ behind) b
   open-off later_found ended behind b goes tells none short o = record {
     front = o.front;
     span = o.span;
     short = o.short ++ behind;
-    are = ap (λ (ss : List (List Told)). ss ++ behind) o.are ∙ append_assoc o.front (o.span ∷ o.short) behind;
+    are = ap (λ (ss : List (List ToldSecond)). ss ++ behind) o.are ∙ append_assoc o.front (o.span ∷ o.short) behind;
     known = known-more rule found later_found o.front (λ u is. sym (goes u) ∙ is) o.known;
     long = o.long;
     none = short-append o.short behind o.none short;
@@ -87,11 +87,11 @@ module _ (rule : Rule) (start : Start) (breaks later found : List Break) (same :
     lost = subst (λ (ls : List (List HistoryMinute)). AreLost ls b) (sym (lost-same o.front o.known)) o.lost;
   }
     where
-      all-append : (xs ys : List (List Told)) → AllByRecursion (λ (span : List Told). decided_of rule span ≡ []) xs → AllByRecursion (λ (span : List Told). decided_of rule span ≡ []) ys → AllByRecursion (λ (span : List Told). decided_of rule span ≡ []) (xs ++ ys)
+      all-append : (xs ys : List (List ToldSecond)) → AllByRecursion (λ (span : List ToldSecond). decided_of rule span ≡ []) xs → AllByRecursion (λ (span : List ToldSecond). decided_of rule span ≡ []) ys → AllByRecursion (λ (span : List ToldSecond). decided_of rule span ≡ []) (xs ++ ys)
       all-append [] ys h k = k
       all-append (x ∷ xs) ys h k = (h.0, all-append xs ys h.1 k)
 
-      short-append : (xs ys : List (List Told)) → any_long xs ≡ false → any_long ys ≡ false → any_long (xs ++ ys) ≡ false
+      short-append : (xs ys : List (List ToldSecond)) → any_long xs ≡ false → any_long ys ≡ false → any_long (xs ++ ys) ≡ false
       short-append [] ys h k = k
       short-append (x ∷ xs) ys h k = go (nat_lt 1 (length x)) h (λ rest. short-append xs ys rest k)
         where
@@ -100,7 +100,7 @@ module _ (rule : Rule) (start : Start) (breaks later found : List Break) (same :
           go false h rest = rest h
 
   -- the history of the spans that have ended is the same
-  pub ended-alike : (ended : List (List Told)) (b : Book) → IsShut rule start breaks found told ended [] b [] ⊎ IsOpen rule start breaks found told ended b → Alike rule (limit_of (log_of breaks)) (limit_of (log_of later)) ended
+  pub ended-alike : (ended : List (List ToldSecond)) (b : Book) → IsShut rule start breaks found told ended [] b [] ⊎ IsOpen rule start breaks found told ended b → Alike rule (limit_of (log_of breaks)) (limit_of (log_of later)) ended
   ended-alike ended b (inl sh) = known-open rule found breaks later same ended sh.known
   ended-alike ended b (inr o) =
       subst (Alike rule (limit_of (log_of breaks)) (limit_of (log_of later))) (sym o.are)
@@ -109,14 +109,14 @@ module _ (rule : Rule) (start : Start) (breaks later found : List Break) (same :
         nothing-alike rule (limit_of (log_of breaks)) (limit_of (log_of later)) o.short o.nothing,
       ))
 
-  pub same-minutes : (ended : List (List Told)) → Alike rule (limit_of (log_of breaks)) (limit_of (log_of later)) ended → history_by rule start (limit_of (log_of later)) more [] ended ≡ history_by rule start (limit_of (log_of breaks)) told [] ended
+  pub same-minutes : (ended : List (List ToldSecond)) → Alike rule (limit_of (log_of breaks)) (limit_of (log_of later)) ended → history_by rule start (limit_of (log_of later)) more [] ended ≡ history_by rule start (limit_of (log_of breaks)) told [] ended
   same-minutes ended alike = sym (histories-alike rule start told more h k (limit_of (log_of breaks)) (limit_of (log_of later)) [] ended alike)
 
-  pub same-losses : (ended : List (List Told)) → Alike rule (limit_of (log_of breaks)) (limit_of (log_of later)) ended → lost_by rule start (limit_of (log_of later)) more [] ended ≡ lost_by rule start (limit_of (log_of breaks)) told [] ended
+  pub same-losses : (ended : List (List ToldSecond)) → Alike rule (limit_of (log_of breaks)) (limit_of (log_of later)) ended → lost_by rule start (limit_of (log_of later)) more [] ended ≡ lost_by rule start (limit_of (log_of breaks)) told [] ended
   same-losses ended alike = sym (losses-alike rule start told more h k (limit_of (log_of breaks)) (limit_of (log_of later)) [] ended alike)
 
 -- A MINUTE IS KEPT
-pub shut-kept : (rule : Rule) (start : Start) (breaks found : List Break) (told : List Told) (ended : List (List Told)) (span : List Told) (b : Book) (i : HistoryMinute) (rest : List HistoryMinute) →
+pub shut-kept : (rule : Rule) (start : Start) (breaks found : List Break) (told : List ToldSecond) (ended : List (List ToldSecond)) (span : List ToldSecond) (b : Book) (i : HistoryMinute) (rest : List HistoryMinute) →
     IsShut rule start breaks found told ended span b (i ∷ rest) → IsShut rule start breaks found told ended span (kept i b) rest
 shut-kept rule start breaks found told ended span b i rest sh = record {
   known = sh.known;
@@ -129,7 +129,7 @@ shut-kept rule start breaks found told ended span b i rest sh = record {
 
 -- THE SPAN ENDS WITH A CUT
 pub cut-lost : (rule : Rule) (start : Start) (breaks later known_breaks : List Break) (same : (u : ℕ) → tells_cut u known_breaks ≡ true → kept_after (log_of breaks) u ≡ kept_after (log_of later) u)
-    (told more : List Told) (h : ArePlain told) (k : ArePlain more) (ended : List (List Told)) (span : List Told) (b : Book) (maybe : Option HistoryMinute) (waiting : List HistoryMinute) →
+    (told more : List ToldSecond) (h : ArePlain told) (k : ArePlain more) (ended : List (List ToldSecond)) (span : List ToldSecond) (b : Book) (maybe : Option HistoryMinute) (waiting : List HistoryMinute) →
     IsShut rule start breaks known_breaks told ended span b waiting → AreLost (closed_lost rule start (log_of later) more ended) (broken_at maybe b)
 cut-lost rule start breaks later known_breaks same told more h k ended span b maybe waiting sh =
     subst (λ (ls : List (List HistoryMinute)). AreLost ls (broken_at maybe b)) (sym (lost-same rule start breaks later known_breaks same told more h k ended sh.known)) (gone maybe)
@@ -139,7 +139,7 @@ cut-lost rule start breaks later known_breaks same told more h k ended span b ma
     gone (Some i) = sh.lost
 
 pub cut-long : (rule : Rule) (start : Start) (breaks later found : List Break) (same : (u : ℕ) → tells_cut u found ≡ true → kept_after (log_of breaks) u ≡ kept_after (log_of later) u)
-    (told more : List Told) (h : ArePlain told) (k : ArePlain more) (ended : List (List Told)) (span cut : List Told) (b : Book) (broken : Option HistoryMinute) (waiting : List HistoryMinute) (second : ℕ) →
+    (told more : List ToldSecond) (h : ArePlain told) (k : ArePlain more) (ended : List (List ToldSecond)) (span cut : List ToldSecond) (b : Book) (broken : Option HistoryMinute) (waiting : List HistoryMinute) (second : ℕ) →
     nat_lt 1 (length cut) ≡ true → cut_second (last cut) ≡ Some second → tells_cut second later ≡ true → tells_cut second found ≡ false →
     IsShut rule start breaks found told ended span b waiting → IsOpen rule start later found more (ended ++ cut ∷ []) (broken_at broken b)
 cut-long rule start breaks later known_breaks same told more h k ended span cut b maybe waiting second long is tells absent sh = record {
@@ -165,7 +165,7 @@ cut-long rule start breaks later known_breaks same told more h k ended span cut 
 
 -- WHAT WAS KEPT IS FOUND, where it was known already
 pub found-shut : (rule : Rule) (start : Start) (breaks later known_breaks later_known : List Break) (same : (u : ℕ) → tells_cut u known_breaks ≡ true → kept_after (log_of breaks) u ≡ kept_after (log_of later) u)
-    (told : List Told) (h : ArePlain told) (ended : List (List Told)) (b : Book) (m : ℕ) → ((u : ℕ) → tells_cut u known_breaks ≡ true → tells_cut u later_known ≡ true) → All (λ i. i.minute ≤ m) b.sure →
+    (told : List ToldSecond) (h : ArePlain told) (ended : List (List ToldSecond)) (b : Book) (m : ℕ) → ((u : ℕ) → tells_cut u known_breaks ≡ true → tells_cut u later_known ≡ true) → All (λ i. i.minute ≤ m) b.sure →
     IsShut rule start breaks known_breaks told ended [] b [] → IsShut rule start later later_known told ended [] (found m b) []
 found-shut rule start breaks later known_breaks later_known same told h ended b m goes low sh = record {
   known = known-more rule known_breaks later_known ended goes sh.known;
@@ -191,7 +191,7 @@ found-same breaks i m u tells =
     ∙ sym (kept-known (take i breaks) (map (with_kept m) (drop i breaks)) u tells)
 
 -- where it was not
-module _ (rule : Rule) (start : Start) (breaks : List Break) (i m : ℕ) (told : List Told) (h : ArePlain told) (from until : ℕ) (ended : List (List Told)) (apart : AreApart from ended until)
+module _ (rule : Rule) (start : Start) (breaks : List Break) (i m : ℕ) (told : List ToldSecond) (h : ArePlain told) (from until : ℕ) (ended : List (List ToldSecond)) (apart : AreApart from ended until)
     (b : Book) (low : All (λ j. j.minute ≤ m) b.sure) (o : IsOpen rule start breaks (take i breaks) told ended b) where
   abbrev later : List Break
   later = found_from i m breaks

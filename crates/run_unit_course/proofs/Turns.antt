@@ -13,7 +13,7 @@ use Rattle.run_model.specs.Span.{picks_of}
 use Rattle.log_model.specs.declared.lines.Verdict.{Verdict}
 use Rattle.log_model.specs.Log.{RunLog, Phase, In, Keeping, cut_in, is_torn_in, found_in}
 use Rattle.log_model.specs.Slots.{Slots}
-use Rattle.log_model.specs.Course.{Course, Told, Went, Before, Moved, moved_by, unmoved, slot_told, both_told, begins, acted, all_acted, fresh, cut_told, lit_course, dark_course, has_power, second_told, before_next, went_on, went, not_begun}
+use Rattle.log_model.specs.Course.{Course, ToldSecond, Went, Before, Moved, moved_by, unmoved, slot_told, both_told, begins, acted, all_acted, fresh, cut_told, lit_course, dark_course, has_power, second_told, before_next, went_on, went, not_begun}
 use Rattle.run_unit_course.specs.Turn.{IsSelection, empty_slots, plain_course, lit_second, lit_seconds, dark_second, dark_seconds}
 use Rattle.run_unit_course.specs.Followed.{going_before, lost_before}
 
@@ -79,11 +79,11 @@ fresh-plain true = refl
 fresh-plain false = refl
 
 -- a second by its course
-abbrev lit_as : (number speed : ℕ) → (starts : Bool) → Course → (cut : Bool) → Told
+abbrev lit_as : (number speed : ℕ) → (starts : Bool) → Course → (cut : Bool) → ToldSecond
 lit_as number speed starts c cut =
     record { second = record { number = number; speed = speed; picks = c.picks }; given = true; lit = true; starts = starts; cut = cut; course = c }
 
-abbrev dark_as : (number speed : ℕ) → Course → Told
+abbrev dark_as : (number speed : ℕ) → Course → ToldSecond
 dark_as number speed c =
     record { second = record { number = number; speed = speed; picks = [] }; given = true; lit = false; starts = false; cut = false; course = c }
 
@@ -153,21 +153,21 @@ and-true false = refl
 pub lit-next : (before : Before) (number speed : ℕ) (picks : List (Slot × Pick)) (starts : Bool) → before_next before (lit_second number speed picks starts false) ≡ going_before
 lit-next before number speed picks starts = rw (and-false before.gone) refl
 
-one-on : (log : RunLog) (told : List Told) (before : Before) (s : TraceSecond) (t : Told) (next : Before) → second_told log before s ≡ t → before_next before t ≡ next → went_on log (record { told = told; before = before }) s ≡ record { told = told ++ t ∷ []; before = next }
+one-on : (log : RunLog) (told : List ToldSecond) (before : Before) (s : TraceSecond) (t : ToldSecond) (next : Before) → second_told log before s ≡ t → before_next before t ≡ next → went_on log (record { told = told; before = before }) s ≡ record { told = told ++ t ∷ []; before = next }
 one-on log told before s t next is goes =
-    ap (λ (x : Told). record { told = told ++ x ∷ []; before = before_next before x }) is ∙ ap (λ (b : Before). record { told = told ++ t ∷ []; before = b }) goes
+    ap (λ (x : ToldSecond). record { told = told ++ x ∷ []; before = before_next before x }) is ∙ ap (λ (b : Before). record { told = told ++ t ∷ []; before = b }) goes
 
-pub going-on : (log : RunLog) (told : List Told) (n number speed : ℕ) → ((u : ℕ) → IsQuiet log u) → ((u : ℕ) → number ≤ u → cut_in log u ≡ None) →
+pub going-on : (log : RunLog) (told : List ToldSecond) (n number speed : ℕ) → ((u : ℕ) → IsQuiet log u) → ((u : ℕ) → number ≤ u → cut_in log u ≡ None) →
     fold (went_on log) (record { told = told; before = going_before }) (driven n number speed []) ≡ record { told = told ++ lit_seconds n number speed [] false; before = going_before }
-going-on log told zero number speed quiet none = ap (λ (ts : List Told). record { told = ts; before = going_before }) (sym (append-nil told))
+going-on log told zero number speed quiet none = ap (λ (ts : List ToldSecond). record { told = ts; before = going_before }) (sym (append-nil told))
 going-on log told (suc n) number speed quiet none =
     ap (λ (w : Went). fold (went_on log) w (driven n (number + 1) speed []))
     (one-on log told going_before (given_second number speed []) (lit_second number speed [] false false) going_before (lit-told log going_before number speed [] refl refl (quiet number) (none number (omega arith)) tt) (lit-next going_before number speed [] false))
     ∙ going-on log (told ++ lit_second number speed [] false false ∷ []) n (number + 1) speed quiet (λ u le. none u (omega (arith, le)))
-    ∙ ap (λ (ts : List Told). record { told = ts; before = going_before }) (append_assoc told (lit_second number speed [] false false ∷ []) (lit_seconds n (number + 1) speed [] false))
+    ∙ ap (λ (ts : List ToldSecond). record { told = ts; before = going_before }) (append_assoc told (lit_second number speed [] false false ∷ []) (lit_seconds n (number + 1) speed [] false))
 
 -- a turn with power: it is kept, or begins
-pub turn-goes : (log : RunLog) (told : List Told) (before : Before) (n number speed : ℕ) (actions : List Action) → has_power before (given_second number speed actions) ≡ true → before.slots ≡ empty_slots →
+pub turn-goes : (log : RunLog) (told : List ToldSecond) (before : Before) (n number speed : ℕ) (actions : List Action) → has_power before (given_second number speed actions) ≡ true → before.slots ≡ empty_slots →
     ((u : ℕ) → IsQuiet log u) → ((u : ℕ) → number ≤ u → cut_in log u ≡ None) → AllByRecursion IsSelection actions →
     fold (went_on log) (record { told = told; before = before }) (driven (suc n) number speed actions)
     ≡ record { told = told ++ lit_seconds (suc n) number speed (picks_of actions) (not before.running); before = going_before }
@@ -175,12 +175,12 @@ turn-goes log told before n number speed actions power slots quiet none each =
     ap (λ (w : Went). fold (went_on log) w (driven n (number + 1) speed []))
     (one-on log told before (given_second number speed actions) (lit_second number speed (picks_of actions) (not before.running) false) going_before (lit-told log before number speed actions power slots (quiet number) (none number (omega arith)) each) (lit-next before number speed (picks_of actions) (not before.running)))
     ∙ going-on log (told ++ lit_second number speed (picks_of actions) (not before.running) false ∷ []) n (number + 1) speed quiet (λ u le. none u (omega (arith, le)))
-    ∙ ap (λ (ts : List Told). record { told = ts; before = going_before }) (append_assoc told (lit_second number speed (picks_of actions) (not before.running) false ∷ []) (lit_seconds n (number + 1) speed [] false))
+    ∙ ap (λ (ts : List ToldSecond). record { told = ts; before = going_before }) (append_assoc told (lit_second number speed (picks_of actions) (not before.running) false ∷ []) (lit_seconds n (number + 1) speed [] false))
 
 -- after a failed call, within a minute: no power
-pub lost-goes : (log : RunLog) (told : List Told) (n number speed : ℕ) (actions : List Action) → 0 < number % 60 → number % 60 + n ≤ 60 →
+pub lost-goes : (log : RunLog) (told : List ToldSecond) (n number speed : ℕ) (actions : List Action) → 0 < number % 60 → number % 60 + n ≤ 60 →
     fold (went_on log) (record { told = told; before = lost_before }) (driven n number speed actions) ≡ record { told = told ++ dark_seconds n number speed true actions; before = lost_before }
-lost-goes log told zero number speed actions some within = ap (λ (ts : List Told). record { told = ts; before = lost_before }) (sym (append-nil told))
+lost-goes log told zero number speed actions some within = ap (λ (ts : List ToldSecond). record { told = ts; before = lost_before }) (sym (append-nil told))
 lost-goes log told (suc zero) number speed actions some within =
     one-on log told lost_before (given_second number speed actions) (dark_second number speed true actions) lost_before (dark-told log lost_before (given_second number speed actions) (no number some) refl) refl
   where
@@ -191,7 +191,7 @@ lost-goes log told (suc (suc n)) number speed actions some within =
     ap (λ (w : Went). fold (went_on log) w (driven (suc n) (number + 1) speed []))
     (one-on log told lost_before (given_second number speed actions) (dark_second number speed true actions) lost_before (dark-told log lost_before (given_second number speed actions) (no number some) refl) refl)
     ∙ lost-goes log (told ++ dark_second number speed true actions ∷ []) (suc n) (number + 1) speed [] (omega (arith, step)) (omega (arith, step, within))
-    ∙ ap (λ (ts : List Told). record { told = ts; before = lost_before }) (append_assoc told (dark_second number speed true actions ∷ []) (dark_seconds (suc n) (number + 1) speed true []))
+    ∙ ap (λ (ts : List ToldSecond). record { told = ts; before = lost_before }) (append_assoc told (dark_second number speed true actions ∷ []) (dark_seconds (suc n) (number + 1) speed true []))
   where
     no : (number : ℕ) → 0 < number % 60 → has_power lost_before (given_second number speed actions) ≡ false
     no number some = let other : nat_eq (number % 60) 0 ≡ false = grind (arith, nat_tests) in rw other refl
@@ -200,19 +200,19 @@ lost-goes log told (suc (suc n)) number speed actions some within =
 abbrev pub off_before : Bool → Before
 off_before gone = record { running = false; gone = gone; given = false; slots = empty_slots }
 
-off-more : (log : RunLog) (told : List Told) (gone : Bool) (n number : ℕ) →
+off-more : (log : RunLog) (told : List ToldSecond) (gone : Bool) (n number : ℕ) →
     fold (went_on log) (record { told = told; before = off_before gone }) (dark n number) ≡ record { told = told ++ dark_seconds n number 0 false []; before = off_before gone }
-off-more log told gone zero number = ap (λ (ts : List Told). record { told = ts; before = off_before gone }) (sym (append-nil told))
+off-more log told gone zero number = ap (λ (ts : List ToldSecond). record { told = ts; before = off_before gone }) (sym (append-nil told))
 off-more log told gone (suc n) number =
     ap (λ (w : Went). fold (went_on log) w (dark n (number + 1)))
     (one-on log told (off_before gone) (record { number = number; has_power = false; speed = 0; actions = [] }) (dark_second number 0 false []) (off_before gone) (dark-told log (off_before gone) (record { number = number; has_power = false; speed = 0; actions = [] }) refl refl) (ap off_before (and-true gone)))
     ∙ off-more log (told ++ dark_second number 0 false [] ∷ []) gone n (number + 1)
-    ∙ ap (λ (ts : List Told). record { told = ts; before = off_before gone }) (append_assoc told (dark_second number 0 false [] ∷ []) (dark_seconds n (number + 1) 0 false []))
+    ∙ ap (λ (ts : List ToldSecond). record { told = ts; before = off_before gone }) (append_assoc told (dark_second number 0 false [] ∷ []) (dark_seconds n (number + 1) 0 false []))
 
-pub off-goes : (log : RunLog) (told : List Told) (before : Before) (n number : ℕ) → before.slots ≡ empty_slots →
+pub off-goes : (log : RunLog) (told : List ToldSecond) (before : Before) (n number : ℕ) → before.slots ≡ empty_slots →
     fold (went_on log) (record { told = told; before = before }) (dark (suc n) number) ≡ record { told = told ++ dark_seconds (suc n) number 0 false []; before = off_before before.gone }
 off-goes log told before n number slots =
     ap (λ (w : Went). fold (went_on log) w (dark n (number + 1)))
     (one-on log told before (record { number = number; has_power = false; speed = 0; actions = [] }) (dark_second number 0 false []) (off_before before.gone) (dark-told log before (record { number = number; has_power = false; speed = 0; actions = [] }) refl slots) (ap off_before (and-true before.gone)))
     ∙ off-more log (told ++ dark_second number 0 false [] ∷ []) before.gone n (number + 1)
-    ∙ ap (λ (ts : List Told). record { told = ts; before = off_before before.gone }) (append_assoc told (dark_second number 0 false [] ∷ []) (dark_seconds n (number + 1) 0 false []))
+    ∙ ap (λ (ts : List ToldSecond). record { told = ts; before = off_before before.gone }) (append_assoc told (dark_second number 0 false [] ∷ []) (dark_seconds n (number + 1) 0 false []))

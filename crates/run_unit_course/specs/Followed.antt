@@ -7,7 +7,7 @@ use Rattle.minute_model.specs.declared.Rule.{Rule}
 use Rattle.minute_model.specs.Activity.{last}
 use Rattle.log_model.specs.declared.lines.Break.{Break}
 use Rattle.log_model.specs.Log.{RunLog}
-use Rattle.log_model.specs.Course.{Told, Before, has_power, went}
+use Rattle.log_model.specs.Course.{ToldSecond, Before, has_power, went}
 use Rattle.log_model.specs.Spans.{spans_of, AreInOrder}
 use Rattle.history_model.specs.Minutes.{HistoryMinute}
 use Rattle.history_model.specs.Presence.{Start}
@@ -20,10 +20,10 @@ use Rattle.run_unit_course.specs.Lines.{log_of, IsCutBefore, tells_cut}
 
 -- whether the unit has power: with the seconds of the span so far, none where it begins with the next second; or none, but from
 -- the next second on that the trace gives it power; or none, since a call failed, before the next minute or an `off` line
-pub data Supply : Type 0 where
-  Lit : List Told → Supply
-  Due : Supply
-  Lost : Supply
+pub data UnitPower : Type 0 where
+  Lit : List ToldSecond → UnitPower
+  Due : UnitPower
+  Lost : UnitPower
 
 -- how far a run has gone: its breaks, from which index on it is not known what was kept, the number of the next second, how many
 -- actions the last one had, the power, the book, and the decided minutes whose keeping has not begun
@@ -32,18 +32,18 @@ pub record Progress : Type 0 where
   pub unfound : ℕ
   pub next : ℕ
   pub begun : ℕ
-  pub supply : Supply
+  pub supply : UnitPower
   pub book : Book
   pub waiting : List HistoryMinute
 
 -- the span that goes on
-abbrev pub going_on : Supply → List Told
+abbrev pub going_on : UnitPower → List ToldSecond
 going_on (Lit span) = span
 going_on Due = []
 going_on Lost = []
 
 -- it as a list of spans
-abbrev pub as_spans : List Told → List (List Told)
+abbrev pub as_spans : List ToldSecond → List (List ToldSecond)
 as_spans [] = []
 as_spans (t ∷ span) = (t ∷ span) ∷ []
 
@@ -62,7 +62,7 @@ pub record Comes (before : Before) (next : ℕ) : Type 0 where
   pub slots : before.slots ≡ empty_slots
 
 -- the seconds so far went so that the unit's power is this
-abbrev pub IsSupplied : Supply → Before → ℕ → Type 0
+abbrev pub IsSupplied : UnitPower → Before → ℕ → Type 0
 IsSupplied (Lit []) before next = Comes before next
 IsSupplied (Lit (t ∷ span)) before next = before ≡ going_before
 IsSupplied Due before next = (n : ℕ) → Comes before n
@@ -85,49 +85,49 @@ pub record HadPower (breaks : List Break) (done : List TraceSecond) (begun : ℕ
       (record { number = had.number; has_power = true; speed = had.speed; actions = had.actions }) ≡ true
   pub slots : (went (log_of breaks) had.before).before.slots ≡ empty_slots
 
-abbrev pub IsLastOf : Supply → List Break → List TraceSecond → ℕ → Type 0
+abbrev pub IsLastOf : UnitPower → List Break → List TraceSecond → ℕ → Type 0
 IsLastOf (Lit []) breaks done begun = Unit {0}
 IsLastOf (Lit (t ∷ span)) breaks done begun = HadPower breaks done begun
 IsLastOf Due breaks done begun = Unit {0}
 IsLastOf Lost breaks done begun = Unit {0}
 
 -- power may come with the next second that the trace gives power
-abbrev pub MayPower : Supply → (next : ℕ) → Type 0
+abbrev pub MayPower : UnitPower → (next : ℕ) → Type 0
 MayPower (Lit span) next = ⊥
 MayPower Due next = Unit {0}
 MayPower Lost next = next % 60 ≡ 0
 
 -- the power-on may fail in the next second, also once the unit was read
-abbrev pub MayFail : Supply → (next : ℕ) → Type 0
+abbrev pub MayFail : UnitPower → (next : ℕ) → Type 0
 MayFail (Lit []) next = Unit {0}
 MayFail (Lit (t ∷ span)) next = ⊥
 MayFail Due next = Unit {0}
 MayFail Lost next = next % 60 ≡ 0
 
 -- no power
-abbrev pub IsDark : Supply → Type 0
+abbrev pub IsDark : UnitPower → Type 0
 IsDark (Lit span) = ⊥
 IsDark Due = Unit {0}
 IsDark Lost = Unit {0}
 
 -- the first second that a further cut may be told in
-abbrev pub cuts_from : Supply → (next : ℕ) → ℕ
+abbrev pub cuts_from : UnitPower → (next : ℕ) → ℕ
 cuts_from (Lit []) next = next
 cuts_from (Lit (t ∷ span)) next = next - 1
 cuts_from Due next = next
 cuts_from Lost next = next
 
 -- a span that has ended decided nothing, or these breaks tell of its cut
-abbrev pub IsKnown : Rule → List Break → List Told → Type 0
+abbrev pub IsKnown : Rule → List Break → List ToldSecond → Type 0
 IsKnown rule found span = (decided_of rule span ≡ []) ⊎ ((u : ℕ) × (cut_second (last span) ≡ Some u) × (tells_cut u found ≡ true))
 
 -- the histories with a lost minute of spans all of whose cuts have their limits
-abbrev pub closed_lost : Rule → Start → RunLog → List Told → List (List Told) → List (List HistoryMinute)
+abbrev pub closed_lost : Rule → Start → RunLog → List ToldSecond → List (List ToldSecond) → List (List HistoryMinute)
 closed_lost rule start log told spans = lost_by rule start (closed_limit log) told [] spans
 
 -- It is known what was kept after each cut but those of spans that decided nothing: the minutes of the spans that have ended, each
 -- up to its limit, and then all decided minutes of the span that goes on, are the sure ones and those that wait.
-pub record IsShut (rule : Rule) (start : Start) (breaks found : List Break) (told : List Told) (ended : List (List Told)) (span : List Told)
+pub record IsShut (rule : Rule) (start : Start) (breaks found : List Break) (told : List ToldSecond) (ended : List (List ToldSecond)) (span : List ToldSecond)
     (b : Book) (waiting : List HistoryMinute) : Type 0 where
   pub known : AllByRecursion (IsKnown rule found) ended
   pub none : b.maybe ≡ None
@@ -137,15 +137,15 @@ pub record IsShut (rule : Rule) (start : Start) (breaks found : List Break) (tol
   pub lost : AreLost (closed_lost rule start (log_of breaks) told ended) b
 
 -- It is not known yet what was kept after the cut of the last span with more than one second; the spans behind it decided nothing.
-pub record IsOpen (rule : Rule) (start : Start) (breaks found : List Break) (told : List Told) (ended : List (List Told)) (b : Book) : Type 0 where
-  pub front : List (List Told)
-  pub span : List Told
-  pub short : List (List Told)
+pub record IsOpen (rule : Rule) (start : Start) (breaks found : List Break) (told : List ToldSecond) (ended : List (List ToldSecond)) (b : Book) : Type 0 where
+  pub front : List (List ToldSecond)
+  pub span : List ToldSecond
+  pub short : List (List ToldSecond)
   pub are : ended ≡ front ++ span ∷ short
   pub known : AllByRecursion (IsKnown rule found) front
   pub long : nat_lt 1 (length span) ≡ true
   pub none : any_long short ≡ false
-  pub nothing : AllByRecursion (λ (span : List Told). decided_of rule span ≡ []) short
+  pub nothing : AllByRecursion (λ (span : List ToldSecond). decided_of rule span ≡ []) short
   pub second : ℕ
   pub cut : cut_second (last span) ≡ Some second
   pub told_cut : tells_cut second breaks ≡ true
@@ -154,18 +154,18 @@ pub record IsOpen (rule : Rule) (start : Start) (breaks found : List Break) (tol
   pub lost : AreLost (closed_lost rule start (log_of breaks) told front) b
 
 -- without power no minute waits, and the last cut is found or not
-abbrev pub IsEnded : Rule → Start → List Break → List Break → List Told → List (List Told) → Book → List HistoryMinute → Type 0
+abbrev pub IsEnded : Rule → Start → List Break → List Break → List ToldSecond → List (List ToldSecond) → Book → List HistoryMinute → Type 0
 IsEnded rule start breaks found told ended b waiting =
     (waiting ≡ []) × (IsShut rule start breaks found told ended [] b [] ⊎ IsOpen rule start breaks found told ended b)
 
-abbrev pub IsTied : Rule → Start → List Break → List Break → List Told → List (List Told) → Supply → Book → List HistoryMinute → Type 0
+abbrev pub IsTied : Rule → Start → List Break → List Break → List ToldSecond → List (List ToldSecond) → UnitPower → Book → List HistoryMinute → Type 0
 IsTied rule start breaks found told ended (Lit span) b waiting = IsShut rule start breaks found told ended span b waiting
 IsTied rule start breaks found told ended Due b waiting = IsEnded rule start breaks found told ended b waiting
 IsTied rule start breaks found told ended Lost b waiting = IsEnded rule start breaks found told ended b waiting
 
 -- The run so far is followed: `from` is the number of its first second, `first` the last-kept minute at its start, `done` its
 -- seconds so far, by the trace.
-pub record Followed (rule : Rule) (start : Start) (from first : ℕ) (done : List TraceSecond) (p : Progress) : Type 0 where
+pub record BookFollowsUnitRun (rule : Rule) (start : Start) (from first : ℕ) (done : List TraceSecond) (p : Progress) : Type 0 where
   pub early : first < from / 60
   pub order : AreInOrder from done
   pub next : p.next ≡ from + length done
@@ -174,7 +174,7 @@ pub record Followed (rule : Rule) (start : Start) (from first : ℕ) (done : Lis
   pub plain : ArePlain (went (log_of p.breaks) done).told
   pub power : IsSupplied p.supply (went (log_of p.breaks) done).before p.next
   pub last : IsLastOf p.supply p.breaks done p.begun
-  pub ended : List (List Told)
+  pub ended : List (List ToldSecond)
   pub spans : spans_of (went (log_of p.breaks) done).told ≡ ended ++ as_spans (going_on p.supply)
   pub tied : IsTied rule start p.breaks (take p.unfound p.breaks) (went (log_of p.breaks) done).told ended p.supply p.book p.waiting
   pub follows : Follows (unit_history rule start (log_of p.breaks) (went (log_of p.breaks) done).told)

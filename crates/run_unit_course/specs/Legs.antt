@@ -2,7 +2,7 @@
 use Rattle.std.specs.Prelude.{◌≡◌, ◌⊎◌, ℕ, ◌/◌, ◌≤◌, Option, Some, None, List, [], ◌∷◌, ◌++◌, All, sum_by, map, filter, find, nat_le, nat_lt, unwrap_or}
 use Rattle.minute_model.specs.declared.Rule.{Rule}
 use Rattle.minute_model.specs.declared.Minute.{Minute}
-use Rattle.log_model.specs.Course.{Told}
+use Rattle.log_model.specs.Course.{ToldSecond}
 use Rattle.history_model.specs.History.{decided_of}
 
 -- a minute of which a keeping was begun, and what was travelled up to it: each time before power came last, and since
@@ -67,16 +67,16 @@ abbrev pub IsLeg : (kept : ℕ) → List Minute → ℕ → Type 0
 IsLeg k ds leg = (leg ≡ travelled_by (filter (λ d. nat_le d.minute k) ds)) ⊎ ((d : Minute) × (find (λ d. nat_lt k d.minute) ds ≡ Some d) × (leg ≡ d.travelled))
 
 -- the legs of the spans, each by the limit of its cut, or where it has none by the last-kept minute
-abbrev pub AreLegs : Rule → (limit : List Told → List (List Told) → Option ℕ) → (kept : ℕ) → List (List Told) → List ℕ → Type 0
+abbrev pub AreLegs : Rule → (limit : List ToldSecond → List (List ToldSecond) → Option ℕ) → (kept : ℕ) → List (List ToldSecond) → List ℕ → Type 0
 AreLegs rule limit k [] legs = legs ≡ []
 AreLegs rule limit k (span ∷ later) [] = ⊥
 AreLegs rule limit k (span ∷ later) (leg ∷ legs) = IsLeg (unwrap_or (limit span later) k) (decided_of rule span) leg × AreLegs rule limit k later legs
 
 -- each minute that these spans have decided is no later than the limit of its span's cut, or where it has none than the last-kept one
-abbrev pub AreWhole : Rule → (limit : List Told → List (List Told) → Option ℕ) → (kept : ℕ) → List (List Told) → Type 0
+abbrev pub AreWhole : Rule → (limit : List ToldSecond → List (List ToldSecond) → Option ℕ) → (kept : ℕ) → List (List ToldSecond) → Type 0
 AreWhole rule limit k [] = Unit {0}
 AreWhole rule limit k (span ∷ later) = All (λ d. d.minute ≤ unwrap_or (limit span later) k) (decided_of rule span) × AreWhole rule limit k later
 
 -- what was travelled in each span, up to the last minute that it has decided
-abbrev pub whole_legs : Rule → List (List Told) → List ℕ
+abbrev pub whole_legs : Rule → List (List ToldSecond) → List ℕ
 whole_legs rule spans = map (λ span. travelled_by (decided_of rule span)) spans

@@ -9,7 +9,7 @@ use Rattle.minute_model.specs.declared.Rule.{Rule}
 use Rattle.minute_model.specs.Span.{Span, begin}
 use Rattle.log_model.specs.declared.lines.SlotFault.{SlotFault}
 use Rattle.log_model.specs.Slots.{Slots}
-use Rattle.log_model.specs.Course.{Course, Told, cut_told, without_power}
+use Rattle.log_model.specs.Course.{Course, ToldSecond, cut_told, without_power}
 use Rattle.history_model.specs.Growth.{as_span}
 
 -- an action that no card bears on
@@ -40,7 +40,7 @@ plain_course picks refused = record {
 }
 
 -- a second with power: whether power begins with it, and whether it is a cut's
-abbrev pub lit_second : (number speed : ℕ) → List (Slot × Pick) → (starts cut : Bool) → Told
+abbrev pub lit_second : (number speed : ℕ) → List (Slot × Pick) → (starts cut : Bool) → ToldSecond
 lit_second number speed picks starts cut = record {
   second = record { number = number; speed = speed; picks = picks };
   given = true;
@@ -51,12 +51,12 @@ lit_second number speed picks starts cut = record {
 }
 
 -- n seconds with power at one speed, the first with these selections, with which power may begin
-abbrev pub lit_seconds : ℕ → (number speed : ℕ) → List (Slot × Pick) → (starts : Bool) → List Told
+abbrev pub lit_seconds : ℕ → (number speed : ℕ) → List (Slot × Pick) → (starts : Bool) → List ToldSecond
 lit_seconds zero number speed picks starts = []
 lit_seconds (suc n) number speed picks starts = lit_second number speed picks starts false ∷ lit_seconds n (number + 1) speed [] false
 
 -- a second without power, which the trace gives power or not: its actions are refused
-abbrev pub dark_second : (number speed : ℕ) → (given : Bool) → List Action → Told
+abbrev pub dark_second : (number speed : ℕ) → (given : Bool) → List Action → ToldSecond
 dark_second number speed given actions = record {
   second = record { number = number; speed = speed; picks = [] };
   given = given;
@@ -67,31 +67,31 @@ dark_second number speed given actions = record {
 }
 
 -- n seconds without power, the first with these actions
-abbrev pub dark_seconds : ℕ → (number speed : ℕ) → (given : Bool) → List Action → List Told
+abbrev pub dark_seconds : ℕ → (number speed : ℕ) → (given : Bool) → List Action → List ToldSecond
 dark_seconds zero number speed given actions = []
 dark_seconds (suc n) number speed given actions = dark_second number speed given actions ∷ dark_seconds n (number + 1) speed given []
 
 -- the second turns out to be a cut's
-abbrev pub cut_at_end : Told → Told
+abbrev pub cut_at_end : ToldSecond → ToldSecond
 cut_at_end t = record t { cut = true; course = cut_told true t.course }
 
 -- the last of these seconds does
-abbrev pub cut_last : List Told → List Told
+abbrev pub cut_last : List ToldSecond → List ToldSecond
 cut_last [] = []
 cut_last (t ∷ []) = cut_at_end t ∷ []
 cut_last (t ∷ next ∷ told) = t ∷ cut_last (next ∷ told)
 
 -- no card was in a slot in these seconds, and none was moved
-abbrev pub ArePlain : List Told → Type 0
-ArePlain told = AllByRecursion (λ (t : Told). (t.course.slots ≡ empty_slots) × (t.course.settled ≡ false)) told
+abbrev pub ArePlain : List ToldSecond → Type 0
+ArePlain told = AllByRecursion (λ (t : ToldSecond). (t.course.slots ≡ empty_slots) × (t.course.settled ≡ false)) told
 
 -- the span so far for the rules of minutes: one that begins with the second of this number, or that goes on
-abbrev pub span_at : Rule → (next : ℕ) → List Told → Span
+abbrev pub span_at : Rule → (next : ℕ) → List ToldSecond → Span
 span_at rule next [] = begin rule next
 span_at rule next (t ∷ span) = as_span rule (t ∷ span)
 
 -- power begins with the next second
-abbrev pub begins_with : List Told → Bool
+abbrev pub begins_with : List ToldSecond → Bool
 begins_with [] = true
 begins_with (t ∷ span) = false
 

@@ -30,7 +30,7 @@ use Rattle.card_string.proofs.Shutting.{up_more}
 use Rattle.card_string.proofs.Since.{holds_up}
 use Rattle.device_calls.proofs.Inserted.{inserting_open, inserting_shut}
 use Rattle.device_calls.proofs.OnCard.{mark-is}
-use Rattle.safety_laws.specs.Whole.{IsReady, brought_in}
+use Rattle.safety_laws.specs.Whole.{IsInsertable, brought_in}
 use Rattle.safety_laws.specs.Again.{BringsAll, IsBrokenOff, IsBegunAgain, EndsWith}
 use Rattle.safety_laws.proofs.Sitting.{sizes-told, above, brought-open, brought-shut, mark-first, mark-behind, own, holds-open, shut_bound, holds-shut}
 use Rattle.safety_laws.proofs.Moments.{Stays, insert_stays, shown}
@@ -86,7 +86,7 @@ goes_ends app image brought next y goes =
     let all : HoldsSince app image brought next y = record { more = brought; rest = []; split = sym (append-nil brought); behind = tt; stands = inl goes } in
     record { next = next; holds = all; up = holds_up app image brought next y all }
 
-module _ (image : List ℕ) (ready : IsReady image) (owed : List Entry) (left : List ℕ) (off : IsBrokenOff image owed left) where
+module _ (image : List ℕ) (ready : IsInsertable image) (owed : List Entry) (left : List ℕ) (off : IsBrokenOff image owed left) where
   abbrev app : Application
   app = own_sizes image
 

@@ -29,7 +29,7 @@ use Rattle.card_string.specs.Since.{HoldsSince}
 use Rattle.card_string.proofs.Kept.{holds_kept}
 use Rattle.card_string.proofs.OfCards.{open_holds, shut_inserting, card_keep_holds, card_close_holds}
 use Rattle.card_string.proofs.Since.{holds_up}
-use Rattle.safety_laws.specs.Whole.{IsReady, MayBegin, brought_in, IsSitting, IsMoment, inserting, keeping, closing, IsShown}
+use Rattle.safety_laws.specs.Whole.{IsInsertable, MayBegin, brought_in, IsSitting, IsMoment, inserting, keeping, closing, IsShown}
 use Rattle.safety_laws.proofs.Sitting.{sizes-told, own-valid, above, brought-open, brought-shut, Sits, own, holds-open, shut_bound, holds-shut, sits-of}
 
 -- a card that holds its string
@@ -40,7 +40,7 @@ pub record Stays (app : Application) (image : List ℕ) (brought : List Entry) (
   pub next : ℕ
   pub holds : HoldsSince app image brought next x
 
-pub shown : (image : List ℕ) → IsReady image → (brought : List Entry) (x : List ℕ) → Stays (own_sizes image) image brought x → IsShown image brought x
+pub shown : (image : List ℕ) → IsInsertable image → (brought : List Entry) (x : List ℕ) → Stays (own_sizes image) image brought x → IsShown image brought x
 shown image ready brought x so = record {
   sizes = so.sizes;
   long = so.long;
@@ -97,7 +97,7 @@ module _ (s : Session) (sound : IsApplication s.application) (image : List ℕ) 
 
 -- ---- an insertion
 
-module _ (image : List ℕ) (ready : IsReady image) where
+module _ (image : List ℕ) (ready : IsInsertable image) where
   abbrev app : Application
   app = own_sizes image
 
@@ -134,7 +134,7 @@ module _ (image : List ℕ) (ready : IsReady image) where
 
 -- ---- EACH MOMENT
 
-module _ (image : List ℕ) (ready : IsReady image) (brought : List Entry) (s : Session) (x : List ℕ) (sitting : IsSitting image brought s x) where
+module _ (image : List ℕ) (ready : IsInsertable image) (brought : List Entry) (s : Session) (x : List ℕ) (sitting : IsSitting image brought s x) where
   so : Sits (own_sizes image) image brought s x
   so = sits-of image ready sitting
 
@@ -161,13 +161,13 @@ module _ (image : List ℕ) (ready : IsReady image) (brought : List Entry) (s : 
     holds_up (own_sizes image) image brought (suc s.minute) x all_here,
   )
 
-pub moment-shown : (image : List ℕ) → IsReady image → {brought : List Entry} {x : List ℕ} → IsMoment image brought x → IsShown image brought x
+pub moment-shown : (image : List ℕ) → IsInsertable image → {brought : List Entry} {x : List ℕ} → IsMoment image brought x → IsShown image brought x
 moment-shown image ready (inserting registration odometer now owed x may moment) = shown image ready (brought_in image owed) x (insert_stays image ready registration odometer now owed may x moment)
 moment-shown image ready (keeping brought s e odometer x y sitting late moment) = keep_shown image ready brought s x sitting e odometer y late moment
 moment-shown image ready (closing brought s act x y sitting moment) = close_shown image ready brought s x sitting act y moment
 
 -- such a card may be inserted again
-pub ready-again : (image : List ℕ) → IsReady image → {brought : List Entry} {x : List ℕ} → IsMoment image brought x → All (λ (b : ℕ). b < 256) x → IsReady x
+pub ready-again : (image : List ℕ) → IsInsertable image → {brought : List Entry} {x : List ℕ} → IsMoment image brought x → All (λ (b : ℕ). b < 256) x → IsInsertable x
 ready-again image ready {x = x} moment bytes =
     let so = moment-shown image ready moment in
     record {

@@ -40,7 +40,7 @@ use Rattle.card_string.proofs.Replayed.{mark_least}
 use Rattle.card_string.proofs.Small.{card_small, trimmed_small, last_of_small}
 use Rattle.card_string.proofs.Start.{starts_open, starts_shut}
 use Rattle.device_calls.proofs.Passed.{valid-days}
-use Rattle.safety_laws.specs.Whole.{IsReady, MayBegin, brought_in, IsSitting, inserted, kept}
+use Rattle.safety_laws.specs.Whole.{IsInsertable, MayBegin, brought_in, IsSitting, inserted, kept}
 
 -- ---- small things
 
@@ -135,7 +135,7 @@ module _ (s : Session) (sound : IsApplication s.application) (image : List ℕ) 
 
 -- ---- THE START
 
-module _ (image : List ℕ) (ready : IsReady image) where
+module _ (image : List ℕ) (ready : IsInsertable image) where
   abbrev pub app : Application
   app = own_sizes image
 
@@ -194,7 +194,7 @@ module _ (image : List ℕ) (ready : IsReady image) where
 
 -- ---- EACH SESSION SO FAR
 
-pub sits-of : (image : List ℕ) → IsReady image → {brought : List Entry} {s : Session} {x : List ℕ} → IsSitting image brought s x → Sits (own_sizes image) image brought s x
+pub sits-of : (image : List ℕ) → IsInsertable image → {brought : List Entry} {s : Session} {x : List ℕ} → IsSitting image brought s x → Sits (own_sizes image) image brought s x
 sits-of image ready (inserted registration odometer now owed s x may done same knows) = inserted-sits image ready registration odometer now owed may s x done same knows
 sits-of image ready (kept brought s t e odometer x y before late done same) =
     let so = sits-of image ready before in

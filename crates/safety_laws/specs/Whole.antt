@@ -15,7 +15,7 @@ use Rattle.card_session.specs.Repairs.{lacked_by}
 use Rattle.card_string.specs.Each.{KeepsSince}
 
 -- a card that may be inserted: an image of bytes that is long enough for its sizes, and valid
-pub record IsReady (image : List ℕ) : Type 0 where
+pub record IsInsertable (image : List ℕ) : Type 0 where
   pub bytes : All (λ b. b < 256) image
   pub sizes : IsApplication (own_sizes image)
   pub fits : image_size_of (own_sizes image) ≤ length image

@@ -13,7 +13,7 @@ use Rattle.unit_model.specs.Image.{recorded}
 use Rattle.log_model.specs.declared.lines.Break.{Break}
 use Rattle.log_model.specs.declared.lines.Mark.{Mark}
 use Rattle.log_model.specs.Log.{RunLog}
-use Rattle.log_model.specs.Course.{Told, went}
+use Rattle.log_model.specs.Course.{ToldSecond, went}
 use Rattle.log_model.specs.Spans.{spans_of, AreInOrder}
 use Rattle.log_model.specs.Causes.{second_of, cuts}
 use Rattle.history_model.specs.Minutes.{HistoryMinute}
@@ -73,9 +73,9 @@ none-past [] rest is = refl
 none-past (x ∷ xs) rest is = absurd (cc)
 
 module _ (rule : Rule) (start : Start) (log : RunLog) (n : ℕ) (ss : List TraceSecond) (order : AreInOrder n ss) (days : List ShownDay) (marks : List Mark) (since : ℕ) (unit : State) (coherent : IsCoherent unit) (early : since ≤ unit.clock)
-    (marked : (span : List Told) (d : Minute) → Contains (spans_of (went log ss).told) span → Contains (decided_of rule span) d → IsMarked marks Recorder d.minute)
+    (marked : (span : List ToldSecond) (d : Minute) → Contains (spans_of (went log ss).told) span → Contains (decided_of rule span) d → IsMarked marks Recorder d.minute)
     (safe : UnitSafe days (unit_history rule start log (went log ss).told) (with_lost rule start log (went log ss).told) marks since unit) where
-  abbrev told : List Told
+  abbrev told : List ToldSecond
   told = (went log ss).told
 
   abbrev past : List HistoryMinute

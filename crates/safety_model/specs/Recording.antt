@@ -6,7 +6,7 @@ use Rattle.trace_model.specs.declared.Card.TheVariants.{A, B}
 use Rattle.trace_model.specs.Trace.{TraceSecond}
 use Rattle.minute_model.specs.declared.Rule.{Rule}
 use Rattle.log_model.specs.Log.{RunLog}
-use Rattle.log_model.specs.Course.{Told, went}
+use Rattle.log_model.specs.Course.{ToldSecond, went}
 use Rattle.history_model.specs.Minutes.{HistoryMinute}
 use Rattle.history_model.specs.Presence.{Start, CardStart, expected_entries}
 use Rattle.history_model.specs.History.{unit_history, with_lost}
@@ -28,7 +28,7 @@ card_image r A = r.card_a
 card_image r B = r.card_b
 
 -- its seconds as they went
-abbrev pub told_of : Recording → List Told
+abbrev pub told_of : Recording → List ToldSecond
 told_of r = (went r.log r.trace).told
 
 module _ (r : Recording) where

@@ -10,7 +10,7 @@ use Rattle.unit_model.specs.Days.{ShownDay, newest_days}
 use Rattle.unit_model.specs.Image.{recorded, last_kept}
 use Rattle.unit_model.specs.Decoding.{Decodes}
 use Rattle.log_model.specs.declared.lines.Mark.{Mark}
-use Rattle.log_model.specs.Course.{Told}
+use Rattle.log_model.specs.Course.{ToldSecond}
 use Rattle.log_model.specs.Spans.{spans_of}
 use Rattle.history_model.specs.Minutes.{HistoryMinute}
 use Rattle.history_model.specs.History.{decided_of}
@@ -80,8 +80,8 @@ pub record UnitSafe (start : List ShownDay)
   pub marked : (m : Mark) → Contains (marks_of Recorder marks) m → UnitMarkHolds start past lost unit m
 
 -- WHERE NO CALL ON IT FAILED: each decided minute of these seconds stands in the history,
-abbrev pub HasEachDecided : Rule → List Told → (past : List HistoryMinute) → Type 0
-HasEachDecided rule told past = (span : List Told) (d : Minute) → Contains (spans_of told) span → Contains (decided_of rule span) d →
+abbrev pub HasEachDecided : Rule → List ToldSecond → (past : List HistoryMinute) → Type 0
+HasEachDecided rule told past = (span : List ToldSecond) (d : Minute) → Contains (spans_of told) span → Contains (decided_of rule span) d →
     (i : HistoryMinute) × Contains past i × (i.minute ≡ d.minute)
 
 -- and an image's days are the start's with all of these minutes, of which the newest 366 are retained.

@@ -8,7 +8,7 @@ use Rattle.gated_ring.specs.Change.{IsAdded}
 use Rattle.gated_ring.proofs.Orders.{range_split, next_below}
 use Rattle.gated_ring.proofs.Listing.{indices_cases, few_indices}
 use Rattle.speed_model.specs.Stored.{speed_ring}
-use Rattle.speed_store.specs.Stores.{Holds, there_count, with_one}
+use Rattle.speed_store.specs.Stores.{HoldsBlocks, there_count, with_one}
 
 -- one place more
 pub there-more : (x : List ℕ) (n time : ℕ) → time ≡ number_at x (gate_of speed_ring n) 4 → there_count x (n + 1) ≡ there_count x n + (if time == 0 then 0 else 1)
@@ -38,7 +38,7 @@ turned p k n le =
     ap (λ (l : List ℕ). length (filter p l)) split ∙ ap length (filter-append p (range_with_len 0 k) (range_with_len k (n - k))) ∙ length-append (filter p (range_with_len 0 k)) (filter p (range_with_len k (n - k))) in
     omega (arith, left, right)
 
-pub count-holds : (x : List ℕ) (count : ℕ) → PointsInside speed_ring x → count ≡ there_count x 1440 → Holds count x
+pub count-holds : (x : List ℕ) (count : ℕ) → PointsInside speed_ring x → count ≡ there_count x 1440 → HoldsBlocks count x
 unfolding indices
 count-holds x count points is =
     let k = next speed_ring (pointer speed_ring x) in
@@ -46,7 +46,7 @@ count-holds x count points is =
     record { points = points; count_is = is ∙ sym (turned (is_there speed_ring x) k 1440 (omega (arith, below))) }
 
 -- a block more
-pub holds-more : (x y head : List ℕ) (count : ℕ) (used : Bool) → Holds count x → used ≡ is_there speed_ring x (taken speed_ring x) → IsAdded speed_ring head x y → Holds (with_one count used) y
+pub holds-more : (x y head : List ℕ) (count : ℕ) (used : Bool) → HoldsBlocks count x → used ≡ is_there speed_ring x (taken speed_ring x) → IsAdded speed_ring head x y → HoldsBlocks (with_one count used) y
 holds-more x y head count used h is added =
     let long : length (indices speed_ring y) ≡ length (staying speed_ring x) + 1 = ap length (added.list h.points).indices_are ∙ length-append (staying speed_ring x) (taken speed_ring x ∷ []) in
     let few : length (indices speed_ring y) ≤ 1440 = few_indices speed_ring y (added.points h.points) in

@@ -9,7 +9,7 @@ use Rattle.std.specs.List.{AllByRecursion}
 use Rattle.event_model.specs.Spans.{SpeedSecond, InARow, first_of, numbers, speeds, at_speed}
 use Rattle.speed_model.specs.declared.block.Block.{Block}
 use Rattle.speed_model.specs.Blocks.{minute_of, lies_in, with_second, minutes_of, is_moving, block_of, blocks_of}
-use Rattle.speed_store.specs.Feeding.{with_going, IsEarlier, StandsFor, block_in, block_at}
+use Rattle.speed_store.specs.Feeding.{with_going, IsEarlier, KeepsSpeedsOf, block_in, block_at}
 
 abbrev second_at : (number speed : ℕ) → SpeedSecond
 second_at number speed = record { number = number; speed = speed }
@@ -91,7 +91,7 @@ block-is going kept time are begun = by (length going == 60) refl ∙ ap (λ (n 
 
 -- ---- one second more
 
-module _ (kept : List ℕ) (seconds : List SpeedSecond) (next speed : ℕ) (h : StandsFor kept seconds next) where
+module _ (kept : List ℕ) (seconds : List SpeedSecond) (next speed : ℕ) (h : KeepsSpeedsOf kept seconds next) where
   abbrev s : SpeedSecond
   s = second_at next speed
 
@@ -117,7 +117,7 @@ module _ (kept : List ℕ) (seconds : List SpeedSecond) (next speed : ℕ) (h : 
 
   -- the minute goes on
   module _ (inside : next % 60 + 1 < 60) where
-    grown : StandsFor (kept ++ speed ∷ []) (seconds ++ s ∷ []) (next + 1)
+    grown : KeepsSpeedsOf (kept ++ speed ∷ []) (seconds ++ s ∷ []) (next + 1)
     grown =
         let same : (next + 1) / 60 ≡ next / 60 = omega (arith, inside) in
         let from : next + 1 - length (h.going ++ s ∷ []) ≡ next - length h.going = omega (arith, more-long, low) in
@@ -149,7 +149,7 @@ module _ (kept : List ℕ) (seconds : List SpeedSecond) (next speed : ℕ) (h : 
     earlier-last [] all = omega (arith, last)
     earlier-last (t ∷ going) all = omega (arith, last, all.0)
 
-    ended : StandsFor [] (seconds ++ s ∷ []) (next + 1)
+    ended : KeepsSpeedsOf [] (seconds ++ s ∷ []) (next + 1)
     ended =
         let later : next / 60 ≤ (next + 1) / 60 = omega arith in
         record {
@@ -182,13 +182,13 @@ module _ (kept : List ℕ) (seconds : List SpeedSecond) (next speed : ℕ) (h : 
 
 -- within a minute
 abbrev pub Grows : (kept : List ℕ) (seconds : List SpeedSecond) (next n speed : ℕ) → Type 0
-Grows kept seconds next n speed = StandsFor (kept ++ replicate n speed) (seconds ++ at_speed next n speed) (next + n) × (blocks_of (seconds ++ at_speed next n speed) ≡ blocks_of seconds)
+Grows kept seconds next n speed = KeepsSpeedsOf (kept ++ replicate n speed) (seconds ++ at_speed next n speed) (next + n) × (blocks_of (seconds ++ at_speed next n speed) ≡ blocks_of seconds)
 
-pub grows : (n : ℕ) (kept : List ℕ) (seconds : List SpeedSecond) (next speed : ℕ) → StandsFor kept seconds next → next % 60 + n < 60 → Grows kept seconds next n speed
+pub grows : (n : ℕ) (kept : List ℕ) (seconds : List SpeedSecond) (next speed : ℕ) → KeepsSpeedsOf kept seconds next → next % 60 + n < 60 → Grows kept seconds next n speed
 grows zero kept seconds next speed h inside =
     let end : next ≡ next + 0 = omega arith in (
-      subst (λ (l : List ℕ). StandsFor l (seconds ++ []) (next + 0)) (sym (append-nil kept))
-          (subst (λ (l : List SpeedSecond). StandsFor kept l (next + 0)) (sym (append-nil seconds)) (subst (StandsFor kept seconds) end h)),
+      subst (λ (l : List ℕ). KeepsSpeedsOf l (seconds ++ []) (next + 0)) (sym (append-nil kept))
+          (subst (λ (l : List SpeedSecond). KeepsSpeedsOf kept l (next + 0)) (sym (append-nil seconds)) (subst (KeepsSpeedsOf kept seconds) end h)),
       ap blocks_of (append-nil seconds),
     )
 grows (suc n) kept seconds next speed h inside =
@@ -199,22 +199,22 @@ grows (suc n) kept seconds next speed h inside =
     let end : next + 1 + n ≡ next + suc n = omega arith in
     let kept_is : (kept ++ speed ∷ []) ++ replicate n speed ≡ kept ++ speed ∷ replicate n speed = append_assoc kept (speed ∷ []) (replicate n speed) in
     let seconds_are : (seconds ++ s ∷ []) ++ rest ≡ seconds ++ s ∷ rest = append_assoc seconds (s ∷ []) rest in (
-      subst (StandsFor (kept ++ speed ∷ replicate n speed) (seconds ++ s ∷ rest)) end
-          (subst (λ (l : List SpeedSecond). StandsFor (kept ++ speed ∷ replicate n speed) l (next + 1 + n)) seconds_are
-          (subst (λ (l : List ℕ). StandsFor l ((seconds ++ s ∷ []) ++ rest) (next + 1 + n)) kept_is more.0)),
+      subst (KeepsSpeedsOf (kept ++ speed ∷ replicate n speed) (seconds ++ s ∷ rest)) end
+          (subst (λ (l : List SpeedSecond). KeepsSpeedsOf (kept ++ speed ∷ replicate n speed) l (next + 1 + n)) seconds_are
+          (subst (λ (l : List ℕ). KeepsSpeedsOf l ((seconds ++ s ∷ []) ++ rest) (next + 1 + n)) kept_is more.0)),
       ap blocks_of (sym seconds_are) ∙ more.1 ∙ no-block kept seconds next speed h first,
     )
 
 -- up to its end
 abbrev pub Ends : (kept : List ℕ) (seconds : List SpeedSecond) (next n speed : ℕ) → Type 0
-Ends kept seconds next n speed = StandsFor [] (seconds ++ at_speed next n speed) (next + n)
+Ends kept seconds next n speed = KeepsSpeedsOf [] (seconds ++ at_speed next n speed) (next + n)
     × (blocks_of (seconds ++ at_speed next n speed) ≡ blocks_of seconds ++ option_to_list (block_in (next + n - 60) (kept ++ replicate n speed)))
 
-pub ends : (n : ℕ) (kept : List ℕ) (seconds : List SpeedSecond) (next speed : ℕ) → StandsFor kept seconds next → next % 60 + suc n ≡ 60 → Ends kept seconds next (suc n) speed
+pub ends : (n : ℕ) (kept : List ℕ) (seconds : List SpeedSecond) (next speed : ℕ) → KeepsSpeedsOf kept seconds next → next % 60 + suc n ≡ 60 → Ends kept seconds next (suc n) speed
 ends zero kept seconds next speed h last =
     let end : next + 1 ≡ next + suc zero = omega arith in
     let here : next % 60 + 1 ≡ 60 = omega (arith, last) in (
-      subst (StandsFor [] (seconds ++ at_speed next 1 speed)) end (ended kept seconds next speed h here),
+      subst (KeepsSpeedsOf [] (seconds ++ at_speed next 1 speed)) end (ended kept seconds next speed h here),
       its-block kept seconds next speed h here ∙ ap (λ (k : ℕ). blocks_of seconds ++ option_to_list (block_in (k - 60) (kept ++ speed ∷ []))) end,
     )
 ends (suc n) kept seconds next speed h last =
@@ -225,7 +225,7 @@ ends (suc n) kept seconds next speed h last =
     let end : next + 1 + suc n ≡ next + suc (suc n) = omega arith in
     let kept_is : (kept ++ speed ∷ []) ++ replicate (suc n) speed ≡ kept ++ speed ∷ replicate (suc n) speed = append_assoc kept (speed ∷ []) (replicate (suc n) speed) in
     let seconds_are : (seconds ++ s ∷ []) ++ rest ≡ seconds ++ s ∷ rest = append_assoc seconds (s ∷ []) rest in (
-      subst (StandsFor [] (seconds ++ s ∷ rest)) end (subst (λ (l : List SpeedSecond). StandsFor [] l (next + 1 + suc n)) seconds_are more.0),
+      subst (KeepsSpeedsOf [] (seconds ++ s ∷ rest)) end (subst (λ (l : List SpeedSecond). KeepsSpeedsOf [] l (next + 1 + suc n)) seconds_are more.0),
       ap blocks_of (sym seconds_are) ∙ more.1
           ∙ ap (λ (l : List Block). l ++ option_to_list (block_in (next + 1 + suc n - 60) ((kept ++ speed ∷ []) ++ replicate (suc n) speed))) (no-block kept seconds next speed h first)
           ∙ ap (λ (k : ℕ). blocks_of seconds ++ option_to_list (block_in (k - 60) ((kept ++ speed ∷ []) ++ replicate (suc n) speed))) end
@@ -250,7 +250,7 @@ sixty-in o time kept is = subst (λ (p : Option Block). IfSome p (λ b. length b
 
 -- ---- THE BLOCK OF A MINUTE, by what is kept of it
 
-pub given-at : (n : ℕ) (kept : List ℕ) (seconds : List SpeedSecond) (next speed : ℕ) → 0 < n → next % 60 + n ≤ 60 → StandsFor kept seconds next →
+pub given-at : (n : ℕ) (kept : List ℕ) (seconds : List SpeedSecond) (next speed : ℕ) → 0 < n → next % 60 + n ≤ 60 → KeepsSpeedsOf kept seconds next →
     blocks_of (seconds ++ at_speed next n speed) ≡ blocks_of seconds ++ option_to_list (block_at kept next n speed)
 given-at zero kept seconds next speed some le h = absurd (omega (arith, some))
 given-at (suc n) kept seconds next speed some le h = by (nat_lt (next % 60 + suc n) 60) refl

@@ -8,7 +8,7 @@ use Rattle.gated_ring.specs.Change.{IsAdding, IsAdded}
 use Rattle.gated_ring.proofs.Dense.{drop_all}
 use Rattle.gated_ring.proofs.Elsewhere.{ring_outside, ring_elsewhere}
 use Rattle.gated_ring.proofs.Listing.{few_indices}
-use Rattle.run_rings.specs.Carried.{Carries}
+use Rattle.run_rings.specs.Carried.{RingKeeps}
 use Rattle.run_rings.proofs.Carried.{carries-more, carries-maybe}
 use Rattle.std.specs.Int.{to_be_bytes, w32}
 use Rattle.speed_model.specs.declared.block.Block.{Block}
@@ -91,7 +91,7 @@ module _ (start x : List ℕ) (more : List Block) (h : HoldsNewest start x more)
         newest = is.2 ∙ h.newest;
       }
 
-  pub newest-carries : Carries speed_ring start x (map block_bytes more)
+  pub newest-carries : RingKeeps speed_ring start x (map block_bytes more)
   newest-carries = record {
     points = h.points;
     dense = h.dense;
@@ -107,12 +107,12 @@ module _ (start x : List ℕ) (more : List Block) (h : HoldsNewest start x more)
       few lt = inr (let long : length (stored_blocks x) ≡ length all - (length all - 1440) = ap (λ (l : List (List ℕ)). length l) h.newest ∙ length-drop (length all - 1440) all in omega (arith, long, lt))
 
 -- what a run carries, whatever failed
-module _ (start x : List ℕ) (more : List Block) (h : Carries speed_ring start x (map block_bytes more)) (b : Block) (sixty : length b.speeds ≡ 60) where
-  with-block : (c : List ℕ) → Carries speed_ring start c (map block_bytes more ++ with_head speed_ring x (taken speed_ring x) (block_bytes b) ∷ []) → Carries speed_ring start c (map block_bytes (more ++ b ∷ []))
-  with-block c carries = subst (Carries speed_ring start c) (ap (λ (e : List ℕ). map block_bytes more ++ e ∷ []) (whole-head x (taken speed_ring x) b sixty) ∙ sym (map-more more b)) carries
+module _ (start x : List ℕ) (more : List Block) (h : RingKeeps speed_ring start x (map block_bytes more)) (b : Block) (sixty : length b.speeds ≡ 60) where
+  with-block : (c : List ℕ) → RingKeeps speed_ring start c (map block_bytes more ++ with_head speed_ring x (taken speed_ring x) (block_bytes b) ∷ []) → RingKeeps speed_ring start c (map block_bytes (more ++ b ∷ []))
+  with-block c carries = subst (RingKeeps speed_ring start c) (ap (λ (e : List ℕ). map block_bytes more ++ e ∷ []) (whole-head x (taken speed_ring x) b sixty) ∙ sym (map-more more b)) carries
 
-  pub carries-added : (y : List ℕ) → IsAdded speed_ring (block_bytes b) x y → Carries speed_ring start y (map block_bytes (more ++ b ∷ []))
+  pub carries-added : (y : List ℕ) → IsAdded speed_ring (block_bytes b) x y → RingKeeps speed_ring start y (map block_bytes (more ++ b ∷ []))
   carries-added y added = with-block y (carries-more speed_ring start x (map block_bytes more) h (block_bytes b) y added)
 
-  pub carries-moment : (c : List ℕ) → IsAdding speed_ring (block_bytes b) x c → Carries speed_ring start c (map block_bytes more) ⊎ Carries speed_ring start c (map block_bytes (more ++ b ∷ []))
+  pub carries-moment : (c : List ℕ) → IsAdding speed_ring (block_bytes b) x c → RingKeeps speed_ring start c (map block_bytes more) ⊎ RingKeeps speed_ring start c (map block_bytes (more ++ b ∷ []))
   carries-moment c moment = ⊎_elim (λ before. inl before) (λ after. inr (with-block c after)) (carries-maybe speed_ring start x (map block_bytes more) h (block_bytes b) c moment)

@@ -16,7 +16,7 @@ IsEarlier minute [] = Unit {0}
 IsEarlier minute (s ∷ seconds) = minute_of s < minute
 
 -- THE SPEEDS THAT ARE KEPT stand for these seconds of a span, behind which this one comes next: they are those of its minute
-pub record StandsFor (kept : List ℕ) (seconds : List SpeedSecond) (next : ℕ) : Type 0 where
+pub record KeepsSpeedsOf (kept : List ℕ) (seconds : List SpeedSecond) (next : ℕ) : Type 0 where
   pub over : List (List SpeedSecond)
   pub going : List SpeedSecond
   pub minutes_are : minutes_of seconds ≡ with_going over going
@@ -28,7 +28,7 @@ pub record StandsFor (kept : List ℕ) (seconds : List SpeedSecond) (next : ℕ)
 
 -- this second follows those before
 abbrev pub Follows : (kept : List ℕ) → (next : ℕ) → Type 0
-Follows kept next = (seconds : List SpeedSecond) × StandsFor kept seconds next
+Follows kept next = (seconds : List SpeedSecond) × KeepsSpeedsOf kept seconds next
 
 -- the block of a minute that began at this second and of which these speeds are kept: where they are all, and one is moving
 abbrev pub block_in : (time : ℕ) → (kept : List ℕ) → Option Block

@@ -10,7 +10,7 @@ abbrev pub there_count : List ℕ → (n : ℕ) → ℕ
 there_count x n = length (filter (is_there speed_ring x) (range_with_len 0 n))
 
 -- A STORE OF SO MANY BLOCKS stands for an image: its pointer is an index, and so many blocks are there
-pub record Holds (count : ℕ) (x : List ℕ) : Type 0 where
+pub record HoldsBlocks (count : ℕ) (x : List ℕ) : Type 0 where
   pub points : PointsInside speed_ring x
   pub count_is : count ≡ length (indices speed_ring x)
 

@@ -2,7 +2,7 @@
 ghost use Rattle.std.specs.Prelude.{◌≡◌, ℕ, ◌+◌, ◌%◌, ◌<◌, ◌≤◌, ◌^◌, List, [], ◌++◌, length, replicate, option_to_list, IfSome};
 ghost use Rattle.event_model.specs.Spans.{SpeedSecond, at_speed};
 ghost use Rattle.speed_model.specs.Blocks.{blocks_of, is_moving};
-ghost use Rattle.speed_store.specs.Feeding.{StandsFor, Follows, block_in};
+ghost use Rattle.speed_store.specs.Feeding.{KeepsSpeedsOf, Follows, block_in};
 
 use speed_model::Block;
 use std::marker::Model;
@@ -31,7 +31,7 @@ impl SpeedMinute {
     /// A span with no second yet.
     pub fn new() -> SpeedMinute
         ensures none { result ≡ [] }
-        ensures stands { (next : ℕ) → StandsFor result [] next }
+        ensures stands { (next : ℕ) → KeepsSpeedsOf result [] next }
     {
         SpeedMinute {
             speeds: [0; 60],
@@ -46,8 +46,8 @@ impl SpeedMinute {
         requires minute { second % 60 + n ≤ 60 }
         requires fits { second + n ≤ 2 ^ 32 }
         requires follows { Follows self.old second }
-        ensures fed { (seconds : List SpeedSecond) → StandsFor self.old seconds second → StandsFor self.new (seconds ++ at_speed second n speed) (second + n) }
-        ensures given { (seconds : List SpeedSecond) → StandsFor self.old seconds second → blocks_of (seconds ++ at_speed second n speed) ≡ blocks_of seconds ++ option_to_list result }
+        ensures fed { (seconds : List SpeedSecond) → KeepsSpeedsOf self.old seconds second → KeepsSpeedsOf self.new (seconds ++ at_speed second n speed) (second + n) }
+        ensures given { (seconds : List SpeedSecond) → KeepsSpeedsOf self.old seconds second → blocks_of (seconds ++ at_speed second n speed) ≡ blocks_of seconds ++ option_to_list result }
         ensures time { IfSome result (λ b. b.time + 60 ≡ second + n) }
         ensures whole { IfSome result (λ b. length b.speeds ≡ 60) }
     {

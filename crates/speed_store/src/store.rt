@@ -10,7 +10,7 @@ ghost use Rattle.speed_model.specs.Blocks.{block_bytes};
 ghost use Rattle.speed_model.specs.Stored.{speed_ring};
 ghost use Rattle.speed_store.specs.Finding.{IsBlockAt};
 ghost use Rattle.speed_store.specs.Faults.{IfBadPointer, has_failed};
-ghost use Rattle.speed_store.specs.Stores.{Holds, there_count, with_one};
+ghost use Rattle.speed_store.specs.Stores.{HoldsBlocks, there_count, with_one};
 
 use crate::SpeedFault;
 use crate::finding::{block_at, index_of};
@@ -45,7 +45,7 @@ impl SpeedStore {
     /// `Failed` where the medium failed, and `BadPointer` exactly where the ring's pointer is not below 1440.
     pub fn load<M: Medium>(unit: &mut M) -> Result<SpeedStore, SpeedFault>
         requires unit { IsUnit (M.state unit.old) }
-        ensures holds { IfOk result (λ count. IfSome (M.state unit.old).image (Holds count)) }
+        ensures holds { IfOk result (λ count. IfSome (M.state unit.old).image (HoldsBlocks count)) }
         ensures bad { IfErr result (λ fault. IfBadPointer fault (λ v. (BLOCK_SLOTS ≤ v) × IfSome (M.state unit.old).image (λ x. pointer speed_ring x ≡ v))) }
         ensures reads { Reads (M.state unit.old) (M.state unit.new) (has_failed result) }
     {
@@ -70,7 +70,7 @@ impl SpeedStore {
     pub fn block<M: Medium>(&self, unit: &mut M, nth: u16) -> Result<Block, Failed>
         requires unit { IsUnit (M.state unit.old) }
         requires nth { nth < self.now }
-        ensures block { IfOk result (λ block. IfSome (M.state unit.old).image (λ x. Holds self.now x → IsBlockAt x (get_or (indices speed_ring x) nth 0) block)) }
+        ensures block { IfOk result (λ block. IfSome (M.state unit.old).image (λ x. HoldsBlocks self.now x → IsBlockAt x (get_or (indices speed_ring x) nth 0) block)) }
         ensures reads { Reads (M.state unit.old) (M.state unit.new) (is_err result) }
     {
         let index = index_of(unit, nth)?;
@@ -87,7 +87,7 @@ impl SpeedStore {
     pub fn add<M: Medium>(&mut self, unit: &mut M, block: &Block) -> Result<(), Failed>
         requires unit { IsUnit (M.state unit.old) }
         requires time { block.now.time ≢ 0 }
-        ensures holds { OnOk result (IfSome (M.state unit.old).image (λ x. Holds self.old x → IfSome (M.state unit.new).image (Holds self.new))) }
+        ensures holds { OnOk result (IfSome (M.state unit.old).image (λ x. HoldsBlocks self.old x → IfSome (M.state unit.new).image (HoldsBlocks self.new))) }
         ensures added { OnOk result (IfSome (M.state unit.old).image (λ x. IfSome (M.state unit.new).image (IsAdded speed_ring (block_bytes block.now) x))) }
         ensures moments { LeavesOnly (M.state unit.old) (M.state unit.new) (IsAdding speed_ring (block_bytes block.now)) }
         ensures settled { OnOk result ((M.state unit.new).clock < last_count → IsSettled (M.state unit.new)) }

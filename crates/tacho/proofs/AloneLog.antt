@@ -18,7 +18,7 @@ use Rattle.log_model.specs.declared.lines.Break.TheVariants.{Cut, Tear as Torn}
 use Rattle.log_model.specs.declared.lines.Verdict.{Verdict}
 use Rattle.log_model.specs.Log.{RunLog, phase_of}
 use Rattle.log_model.specs.Slots.{same_card}
-use Rattle.log_model.specs.Course.{Told, went}
+use Rattle.log_model.specs.Course.{ToldSecond, went}
 use Rattle.log_model.specs.Spans.{spans_of}
 use Rattle.log_model.specs.Causes.{HasCauses, RoseBy, is_cut, cuts, tears, places, in_the_slot, torn_of, device_of}
 use Rattle.history_model.specs.Minutes.{HistoryMinute}
@@ -117,18 +117,18 @@ module _ (IsVerdict : Card → ℕ → Verdict → Type 0) (before now : Device 
   }
 
 -- ITS HISTORY, whatever the cards bring
-module _ (rule : Rule) (a b : Start) (log : RunLog) (told : List Told) (plain : ArePlain told) where
+module _ (rule : Rule) (a b : Start) (log : RunLog) (told : List ToldSecond) (plain : ArePlain told) where
   minutes-any : (past : List HistoryMinute) (ds : List Minute) → minutes_after a told past ds ≡ minutes_after b told past ds
   minutes-any past ds = minutes-plain a told past ds plain ∙ sym (minutes-plain b told past ds plain)
 
-  history-any : (past : List HistoryMinute) (spans : List (List Told)) → history_by rule a (limit_of log) told past spans ≡ history_by rule b (limit_of log) told past spans
+  history-any : (past : List HistoryMinute) (spans : List (List ToldSecond)) → history_by rule a (limit_of log) told past spans ≡ history_by rule b (limit_of log) told past spans
   history-any past [] = refl
   history-any past (span ∷ later) =
       let more : List HistoryMinute = limited_to (limit_of log span later) (span_minutes rule b told past span) in
       ap (λ (is : List HistoryMinute). limited_to (limit_of log span later) is ++ history_by rule a (limit_of log) told (past ++ limited_to (limit_of log span later) is) later) (minutes-any past (decided_of rule span))
       ∙ ap (λ (is : List HistoryMinute). more ++ is) (history-any (past ++ more) later)
 
-  lost-any : (past : List HistoryMinute) (spans : List (List Told)) → lost_by rule a (limit_of log) told past spans ≡ lost_by rule b (limit_of log) told past spans
+  lost-any : (past : List HistoryMinute) (spans : List (List ToldSecond)) → lost_by rule a (limit_of log) told past spans ≡ lost_by rule b (limit_of log) told past spans
   lost-any past [] = refl
   lost-any past (span ∷ later) =
       let whole : List HistoryMinute = span_minutes rule b told past span in

@@ -9,7 +9,7 @@ use Rattle.trace_model.specs.Trace.{TraceSecond}
 use Rattle.log_model.specs.declared.lines.Verdict.{Verdict}
 use Rattle.log_model.specs.Log.{RunLog, Phase, In, cut_in, kept_after}
 use Rattle.log_model.specs.Slots.{refusal}
-use Rattle.log_model.specs.Course.{Course, Visit, Told, Before, begins, acted, has_power, second_told, before_next, not_begun}
+use Rattle.log_model.specs.Course.{Course, Visit, ToldSecond, Before, begins, acted, has_power, second_told, before_next, not_begun}
 use Rattle.gated_ring.specs.Ring.{Shape, IsDense, ring_list}
 use Rattle.event_model.specs.declared.kinds.TheConstants.{DRIVING_WITHOUT_CARD, OVER_SPEEDING, POWER_INTERRUPTION}
 use Rattle.event_model.specs.Spans.{bares_of, overs_of, gap_of}
@@ -108,20 +108,20 @@ nobodys-map : {X : Type 0} (f : X → Event) → ((x : X) → IsNobodys (f x)) �
 nobodys-map f each [] = tt
 nobodys-map f each (x ∷ xs) = (each x, nobodys-map f each xs)
 
-nobodys-flat : (h : List Told → List Event) → ((span : List Told) → AreNobodys (h span)) → (spans : List (List Told)) → AreNobodys (flat_map h spans)
+nobodys-flat : (h : List ToldSecond → List Event) → ((span : List ToldSecond) → AreNobodys (h span)) → (spans : List (List ToldSecond)) → AreNobodys (flat_map h spans)
 nobodys-flat h each [] = tt
 nobodys-flat h each (span ∷ spans) = each-append IsNobodys (h span) (flat_map h spans) (each span) (nobodys-flat h each spans)
 
-nobodys-between : (log : RunLog) (span next : List Told) → AreNobodys (gap_between log span next)
+nobodys-between : (log : RunLog) (span next : List ToldSecond) → AreNobodys (gap_between log span next)
 nobodys-between log span [] = tt
 nobodys-between log span (t ∷ next) = nobodys-map gap_event (λ s. (refl, refl)) (option_to_list (gap_of (kept_after log (last_in span)) t.second.number))
 
-nobodys-gaps : (log : RunLog) (spans : List (List Told)) → AreNobodys (gaps_in log spans)
+nobodys-gaps : (log : RunLog) (spans : List (List ToldSecond)) → AreNobodys (gaps_in log spans)
 nobodys-gaps log [] = tt
 nobodys-gaps log (x ∷ []) = tt
 nobodys-gaps log (x ∷ y ∷ spans) = each-append IsNobodys (gap_between log x y) (gaps_in log (y ∷ spans)) (nobodys-between log x y) (nobodys-gaps log (y ∷ spans))
 
-pub nobodys-events : (kind limit : ℕ) (log : RunLog) (spans : List (List Told)) → AreNobodys (plain_events kind limit log spans)
+pub nobodys-events : (kind limit : ℕ) (log : RunLog) (spans : List (List ToldSecond)) → AreNobodys (plain_events kind limit log spans)
 nobodys-events kind limit log spans = by (kind == DRIVING_WITHOUT_CARD) (kind == OVER_SPEEDING) (kind == POWER_INTERRUPTION)
   where
     by : (a b c : Bool) → AreNobodys (cond a (flat_map bares_in spans) (cond b (flat_map (overs_in limit) spans) (cond c (gaps_in log spans) [])))

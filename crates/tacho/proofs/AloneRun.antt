@@ -9,7 +9,7 @@ use Rattle.run_model.specs.declared.Device.{Device}
 use Rattle.run_model.specs.declared.Device.TheVariants.{Unit as OfUnit}
 use Rattle.tach_media.specs.Medium.{State}
 use Rattle.log_model.specs.Log.{RunLog}
-use Rattle.log_model.specs.Course.{Told, Visit, went}
+use Rattle.log_model.specs.Course.{ToldSecond, Visit, went}
 use Rattle.log_model.specs.Spans.{spans_of}
 use Rattle.log_model.specs.Causes.{HasCauses, device_of}
 use Rattle.event_model.specs.declared.kinds.TheConstants.{OVER_SPEEDING}
@@ -59,7 +59,7 @@ module _ (x : List ℕ) (start : ℕ) (items : List Item) (out : Outcome) (U V A
   abbrev ss : List TraceSecond
   ss = seconds_of start items
 
-  abbrev told : List Told
+  abbrev told : List ToldSecond
   told = (went log ss).told
 
   selects : OnlySelect ss

@@ -22,7 +22,7 @@ use Rattle.tacho.specs.declared.end.Fault.{Fault}
 use Rattle.tacho.specs.declared.end.Fault.TheVariants.{WriteFault, MediumFault}
 use Rattle.tacho.specs.Outside.{Outside, memory_of}
 use Rattle.tacho.specs.Program.{HasCauses}
-use Rattle.tacho.specs.Outcomes.{IsEmpty, IsRun, IsRefusal, IsTold, refusal_of_run}
+use Rattle.tacho.specs.Outcomes.{IsEmpty, IsRun, IsRefusal, SourceTells, refusal_of_run}
 use Rattle.tacho.specs.CardsRecorded.{devices_of, StartWith, AreSound, HaveCounts, IsRefusedInOpening, EndsWithCards}
 use Rattle.tacho.proofs.Recordings.{none-bad, run-refusal, refused-no-run}
 use Rattle.tacho.proofs.UnitRuns.{run-done}
@@ -80,10 +80,10 @@ none-broke old new sound later CardB = ⊎_elim (λ rose. absurd (sound.card_b r
 module _ (old new : Outside) (outcome : Outcome) (start : ℕ) (items : List Item) (not_unit : IsForUnit items → ⊥)
     (later : AreAfter (devices_of old) (devices_of new)) (broke : HasBroken old.unit new.unit (length (cuts true (log_of outcome))))
     (is_read : (text : List ℕ) (s : ℕ) (is : List Item) → old.source.left ≡ Some text → IsTraceText Whole text s is → (start ≡ s) × (items ≡ is)) where
-  same-trace : (s : ℕ) (is : List Item) → IsTold old s is → (start ≡ s) × (items ≡ is)
+  same-trace : (s : ℕ) (is : List Item) → SourceTells old s is → (start ≡ s) × (items ≡ is)
   same-trace s is told = is_read told.text s is told.told told.trace
 
-  not-unit : (s : ℕ) (is : List Item) → IsTold old s is → IsForUnit is → ⊥
+  not-unit : (s : ℕ) (is : List Item) → SourceTells old s is → IsForUnit is → ⊥
   not-unit s is told for = not_unit (subst IsForUnit (sym (same-trace s is told).1) for)
 
   -- THE RUN WAS REFUSED

@@ -12,14 +12,14 @@ use Rattle.log_model.specs.declared.lines.SlotFault.{SlotFault}
 use Rattle.log_model.specs.declared.lines.Verdict.{Verdict}
 use Rattle.log_model.specs.Log.{RunLog, Phase, In, Keeping, cut_in, is_torn_in}
 use Rattle.log_model.specs.Slots.{Slots}
-use Rattle.log_model.specs.Course.{Course, Visit, Told, Went, Before, Moved, moved_by, unmoved, slot_told, both_told, begins, acted, all_acted, fresh, cut_told, lit_course, dark_course, without_power, has_power, second_told, went_on, went, not_begun}
+use Rattle.log_model.specs.Course.{Course, Visit, ToldSecond, Went, Before, Moved, moved_by, unmoved, slot_told, both_told, begins, acted, all_acted, fresh, cut_told, lit_course, dark_course, without_power, has_power, second_told, went_on, went, not_begun}
 use Rattle.log_model.specs.Causes.{pulled_of, torn_of, cards_torn, finds_of, visit_places}
 use Rattle.run_unit_course.specs.Turn.{IsSelection, empty_slots, plain_course, ArePlain}
 use Rattle.unit_events.specs.Plain.{OnlySelect}
 use Rattle.unit_events.proofs.Bridge.{each-push}
 
 -- SECONDS WITHOUT CARDS: such actions alone are carried out, and the slots stay empty, whatever the log tells
-pub record IsCardless (t : Told) : Type 0 where
+pub record IsCardless (t : ToldSecond) : Type 0 where
   pub picks : List (Slot × Pick)
   pub refused : List (ℕ × SlotFault)
   pub is : t.course ≡ plain_course picks refused
@@ -97,7 +97,7 @@ second-cardless log before s slots each = by (has_power before s) refl
     by true is = let lit = lit-plain log s (not before.running) before.slots slots each in rw is (record { picks = lit.0; refused = []; is = lit.1 })
     by false is = rw is (record { picks = []; refused = without_power 0 s.actions; is = ap (dark_course s) slots })
 
-abbrev pub AreCardless : List Told → Type 0
+abbrev pub AreCardless : List ToldSecond → Type 0
 AreCardless told = AllByRecursion IsCardless told
 
 all-cardless : (log : RunLog) (ss : List TraceSecond) → OnlySelect ss → (w : Went) → AreCardless w.told → w.before.slots ≡ empty_slots → AreCardless (fold (went_on log) w ss).told
@@ -111,28 +111,28 @@ pub cardless : (log : RunLog) (ss : List TraceSecond) → OnlySelect ss → AreC
 unfolding went
 cardless log ss each = all-cardless log ss each not_begun tt refl
 
-pub plain-told : (told : List Told) → AreCardless told → ArePlain told
+pub plain-told : (told : List ToldSecond) → AreCardless told → ArePlain told
 plain-told [] h = tt
 plain-told (t ∷ told) h = ((ap (λ (c : Course). c.slots) h.0.is, ap (λ (c : Course). c.settled) h.0.is), plain-told told h.1)
 
 -- so nothing is told of one
-none-of : {X : Type 0} (f : Told → List X) → ((t : Told) → IsCardless t → f t ≡ []) → (told : List Told) → AreCardless told → flat_map f told ≡ []
+none-of : {X : Type 0} (f : ToldSecond → List X) → ((t : ToldSecond) → IsCardless t → f t ≡ []) → (told : List ToldSecond) → AreCardless told → flat_map f told ≡ []
 none-of f each [] h = refl
 none-of {X} f each (t ∷ told) h = ap (λ (xs : List X). xs ++ flat_map f told) (each t h.0) ∙ none-of f each told h.1
 
-pub none-found : (told : List Told) → AreCardless told → finds_of told ≡ []
+pub none-found : (told : List ToldSecond) → AreCardless told → finds_of told ≡ []
 none-found told h = none-of _ (λ t is. ap (λ (c : Course). map (λ f. (t.second.number, f.0.phase, f.0.slot, f.1)) c.found) is.is) told h
 
-pub none-torn-out : (told : List Told) → AreCardless told → torn_of told ≡ []
+pub none-torn-out : (told : List ToldSecond) → AreCardless told → torn_of told ≡ []
 none-torn-out told h = none-of _ (λ t is. ap (λ (c : Course). visit_places t.second.number c.torn) is.is) told h
 
-pub none-pulled : (told : List Told) → AreCardless told → pulled_of told ≡ []
+pub none-pulled : (told : List ToldSecond) → AreCardless told → pulled_of told ≡ []
 none-pulled told h = none-of _ (λ t is. ap (λ (c : Course). visit_places t.second.number c.pulled) is.is) told h
 
-pub no-card-torn : (told : List Told) → AreCardless told → cards_torn told ≡ []
+pub no-card-torn : (told : List ToldSecond) → AreCardless told → cards_torn told ≡ []
 no-card-torn told h = none-of _ (λ t is. ap (λ (c : Course). map (λ v. v.card) c.torn) is.is) told h
 
-pub nothing-found : (t : Told) (e : Visit) (v : Verdict) → IsCardless t → Contains t.course.found (e, v) → ⊥
+pub nothing-found : (t : ToldSecond) (e : Visit) (v : Verdict) → IsCardless t → Contains t.course.found (e, v) → ⊥
 nothing-found t e v is at =
     let none : Contains {X = Visit × Verdict} [] (e, v) = subst (λ (fs : List (Visit × Verdict)). Contains fs (e, v)) (ap (λ (c : Course). c.found) is.is) at in
     omega (arith, none.1)

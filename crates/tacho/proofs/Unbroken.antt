@@ -12,7 +12,7 @@ use Rattle.log_model.specs.declared.lines.Break.TheVariants.{Cut, Tear}
 use Rattle.log_model.specs.declared.lines.Verdict.{Verdict}
 use Rattle.log_model.specs.Log.{RunLog, Phase}
 use Rattle.log_model.specs.Slots.{same_card}
-use Rattle.log_model.specs.Course.{Told, Visit, went}
+use Rattle.log_model.specs.Course.{ToldSecond, Visit, went}
 use Rattle.log_model.specs.Causes.{HasCauses, RoseBy, cuts, tears, places, visit_places, in_the_slot, torn_of, cards_torn, device_of}
 
 -- a count that did not rise rose by none
@@ -39,7 +39,7 @@ no-visits [] is = refl
 no-visits (v ∷ vs) is = absurd (let e : v.card ∷ map (λ w. w.card) vs ≡ [] = is in cc)
 
 -- so no place is told of a card that was torn out
-none-torn : (told : List Told) → cards_torn told ≡ [] → torn_of told ≡ []
+none-torn : (told : List ToldSecond) → cards_torn told ≡ [] → torn_of told ≡ []
 none-torn [] is = refl
 none-torn (t ∷ told) is =
     let parts = both-empty (map (λ v. v.card) t.course.torn) (cards_torn told) is in

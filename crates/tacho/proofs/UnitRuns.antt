@@ -27,7 +27,7 @@ use Rattle.tacho.specs.Blank.{no_image}
 use Rattle.tacho.specs.Alone.{IsForUnit, NoVerdict, StartsAs, IsUnitFault, IsRefusedAlone}
 use Rattle.tacho.specs.Outside.{Outside, memory_of}
 use Rattle.tacho.specs.Program.{HasCauses}
-use Rattle.tacho.specs.Outcomes.{IsEmpty, IsRun, IsRefusal, IsTold, refusal_of_run}
+use Rattle.tacho.specs.Outcomes.{IsEmpty, IsRun, IsRefusal, SourceTells, refusal_of_run}
 use Rattle.tacho.specs.UnitRecorded.{breakdowns_in, IsSound, HaveCounts, Starts, IsRecorded, IsAllThere, IsCaused, EndsOnUnit}
 use Rattle.tacho.proofs.Recordings.{none-bad, run-refusal, refused-no-run}
 use Rattle.tacho.proofs.Unbroken.{none-failed, unbroken-log}
@@ -56,10 +56,10 @@ refused-on-unit start before after U V by empty refused = ⊎_elim (λ h. inl (h
 module _ (old new : Outside) (outcome : Outcome) (start : ℕ) (items : List Item)
     (whole : IsCoherent old.unit) (whole_new : IsCoherent new.unit) (for_unit : IsForUnit items)
     (is_read : (text : List ℕ) (s : ℕ) (is : List Item) → old.source.left ≡ Some text → IsTraceText Whole text s is → (start ≡ s) × (items ≡ is)) where
-  only-lines : (s : ℕ) (is : List Item) → IsTold old s is → IsForUnit is
+  only-lines : (s : ℕ) (is : List Item) → SourceTells old s is → IsForUnit is
   only-lines s is told = subst IsForUnit (is_read told.text s is told.told told.trace).1 for_unit
 
-  on-read : (fault : RunFault) → (IsUnitRefused start old.unit new.unit fault × LeavesOnly old.unit new.unit Unchanged × IsEmpty outcome) ⊎ IsFoundLater fault → (s : ℕ) (is : List Item) → IsTold old s is
+  on-read : (fault : RunFault) → (IsUnitRefused start old.unit new.unit fault × LeavesOnly old.unit new.unit Unchanged × IsEmpty outcome) ⊎ IsFoundLater fault → (s : ℕ) (is : List Item) → SourceTells old s is
       → (IsUnitRefused s old.unit new.unit fault × LeavesOnly old.unit new.unit Unchanged × IsEmpty outcome) ⊎ IsFoundLater fault
   on-read fault when s is told =
       subst (λ (t : ℕ). (IsUnitRefused t old.unit new.unit fault × LeavesOnly old.unit new.unit Unchanged × IsEmpty outcome) ⊎ IsFoundLater fault) (is_read told.text s is told.told told.trace).0 when

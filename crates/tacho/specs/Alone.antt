@@ -11,7 +11,7 @@ use Rattle.run_model.specs.declared.Device.{Device}
 use Rattle.run_model.specs.declared.Device.TheVariants.{Unit as OfUnit, CardA, CardB}
 use Rattle.tach_media.specs.Medium.{State, Rose, LeavesOnly, Unchanged}
 use Rattle.log_model.specs.declared.lines.Verdict.{Verdict}
-use Rattle.log_model.specs.Course.{Told, Visit, went}
+use Rattle.log_model.specs.Course.{ToldSecond, Visit, went}
 use Rattle.log_model.specs.Causes.{cuts, device_of}
 use Rattle.event_model.specs.Events.{Tearing}
 use Rattle.history_model.specs.Minutes.{HistoryMinute}
@@ -61,7 +61,7 @@ IsForUnit items = AllByRecursion (λ item. IsTrue (needs_no_card item)) items
 -- ---- its log
 
 -- the seconds of a trace that begins at a second, as the run went
-abbrev pub told_of : Outcome → (start : ℕ) → List Item → List Told
+abbrev pub told_of : Outcome → (start : ℕ) → List Item → List ToldSecond
 told_of o start items = (went (log_of o) (seconds_of start items)).told
 
 -- the unit history of such a run by a rule of minutes, and its fronts up to a cut's limit, each with its lost minute

@@ -17,7 +17,7 @@ use Rattle.trace_model.specs.declared.Item.{Item}
 use Rattle.tacho.specs.declared.end.Fault.{Fault}
 use Rattle.tacho.specs.declared.end.Fault.TheVariants.{Done}
 use Rattle.tacho.specs.Outside.{Outside}
-use Rattle.tacho.specs.Outcomes.{IsEmpty, IsRun, IsRefusal, IsTold, refusal_of_run}
+use Rattle.tacho.specs.Outcomes.{IsEmpty, IsRun, IsRefusal, SourceTells, refusal_of_run}
 
 -- the unit and both cards
 abbrev pub devices_of : Outside → Devices
@@ -25,7 +25,7 @@ devices_of told = devices told.unit told.card_a.memory told.card_b.memory
 
 -- the source told this trace, each device started with its image alone, and no clock has come to its end
 pub record StartWith (unit card_a card_b : List ℕ) (start : ℕ) (items : List Item) (old new : Outside) : Type 0 where
-  pub told : IsTold old start items
+  pub told : SourceTells old start items
   pub begins : BeginAs unit card_a card_b (devices_of old)
   pub clocks : HaveTime (devices_of new)
 
@@ -65,7 +65,7 @@ pub record IsRefusedBy (unit card_a card_b : List ℕ) (start : ℕ) (old new : 
 -- THE TRACE WAS RECORDED ON THE UNIT AND BOTH CARDS, or one of them kept it from being recorded.
 pub record EndsWithCards (old new : Outside) (outcome : Outcome) (fault : Fault) : Type 0 where
   -- One of its lines is a card's.
-  pub with_cards : (start : ℕ) (items : List Item) → IsTold old start items → IsForUnit items → ⊥
+  pub with_cards : (start : ℕ) (items : List Item) → SourceTells old start items → IsForUnit items → ⊥
   -- THE RUN of the trace, where it was recorded: the crash-safety theorem of unit and cards, the auxiliary records that the unit shows, and the events that the cards show.
   pub run : (start : ℕ) (items : List Item) (unit card_a card_b : List ℕ) → StartWith unit card_a card_b start items old new → IsRun fault
       → EndsTrace unit card_a card_b start items outcome (devices_of old) (devices_of new)
@@ -80,7 +80,7 @@ pub record EndsWithCards (old new : Outside) (outcome : Outcome) (fault : Fault)
   -- WHATEVER THE DEVICES TELL: no clock and no count has fallen, and none broke down but where a call failed; and a refusal came in the opening,
   -- with each device as it was and no outcome, or of a unit that was read anew at a power-on.
   pub later : AreAfter (devices_of old) (devices_of new)
-  pub early : (start : ℕ) (items : List Item) → IsTold old start items → IsRefusal fault → IsNotRecorded start (devices_of old) (devices_of new) outcome fault
+  pub early : (start : ℕ) (items : List Item) → SourceTells old start items → IsRefusal fault → IsNotRecorded start (devices_of old) (devices_of new) outcome fault
   -- Each cut that a failed call made is a breakdown of the unit more.
   pub broke : HasBroken old.unit new.unit (length (cuts true (log_of outcome)))
   -- And where the trace was recorded and no failed call has cut the power, the unit has not broken down.

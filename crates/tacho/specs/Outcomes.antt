@@ -71,7 +71,7 @@ refusal_of_run (run.ClockBack kept second) = ClockBack kept second
 refusal_of_run (run.SameCard number) = SameCard number
 
 -- the source told this trace
-pub record IsTold (old : Outside) (start : ℕ) (items : List Item) : Type 0 where
+pub record SourceTells (old : Outside) (start : ℕ) (items : List Item) : Type 0 where
   pub text : List ℕ
   pub told : old.source.left ≡ Some text
   pub trace : IsTraceText Whole text start items

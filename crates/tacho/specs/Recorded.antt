@@ -11,7 +11,7 @@ use Rattle.tacho.specs.declared.end.Fault.TheVariants.{Done, WriteFault, Memory}
 use Rattle.tacho.specs.End.{IsBeforeDevices}
 use Rattle.tacho.specs.Outside.{Outside}
 use Rattle.tacho.specs.Reading.{JudgesTrace}
-use Rattle.tacho.specs.Outcomes.{IsEmpty, outcome_text, IsRecordEnd, IsRun, IsTold}
+use Rattle.tacho.specs.Outcomes.{IsEmpty, outcome_text, IsRecordEnd, IsRun, SourceTells}
 use Rattle.tacho.specs.UnitRecorded.{EndsOnUnit}
 use Rattle.tacho.specs.CardsRecorded.{EndsWithCards}
 
@@ -28,7 +28,7 @@ pub record EndsRecord (old new : Outside) (outcome : Outcome) (fault : Fault) : 
   -- Where no trace was read, or memory ran out, there is no outcome; and a trace that was told is only kept from being recorded so where
   -- memory ran out, unless the source failed.
   pub unread : IsBeforeDevices fault → IsEmpty outcome
-  pub memory : (start : ℕ) (items : List Item) → IsTold old start items → (Rose old.source.faults new.source.faults → ⊥) → IsBeforeDevices fault → fault ≡ Memory
+  pub memory : (start : ℕ) (items : List Item) → SourceTells old start items → (Rose old.source.faults new.source.faults → ⊥) → IsBeforeDevices fault → fault ≡ Memory
   -- Then it is recorded, if it can be: what was recorded, and each refusal with its cause.
   pub on : EndsOn old new outcome fault
   -- Done: exactly the five lines were printed; at a write fault a front of them.

@@ -24,7 +24,7 @@ use Rattle.tacho.specs.declared.end.Fault.TheVariants.{Done, BadUnit, ClockBack,
 use Rattle.tacho.specs.Blank.{no_image}
 use Rattle.tacho.specs.Alone.{IsForUnit, NoVerdict, counts, StartsAs, IsAlone, told_of, history_of}
 use Rattle.tacho.specs.Outside.{Outside}
-use Rattle.tacho.specs.Outcomes.{IsEmpty, IsRun, IsRefusal, IsTold, refusal_of_run}
+use Rattle.tacho.specs.Outcomes.{IsEmpty, IsRun, IsRefusal, SourceTells, refusal_of_run}
 
 -- neither stream failed, and no call on the unit
 pub record IsSound (old new : Outside) : Type 0 where
@@ -71,13 +71,13 @@ pub record IsNotRecorded (start : ℕ) (old new : State) (outcome : Outcome) (fa
 -- THE TRACE WAS RECORDED ON THE UNIT ALONE, or the unit kept it from being recorded.
 pub record EndsOnUnit (old new : Outside) (outcome : Outcome) (fault : Fault) : Type 0 where
   -- None of its lines is a card's.
-  pub for_unit : (start : ℕ) (items : List Item) → IsTold old start items → IsForUnit items
+  pub for_unit : (start : ℕ) (items : List Item) → SourceTells old start items → IsForUnit items
   pub only : (device : Device) → fault ≡ MediumFault device → device ≡ OfUnit
   -- THE RUN of the trace, where it was recorded.
-  pub run : (start : ℕ) (items : List Item) (x : List ℕ) → IsTold old start items → Starts x old.unit new.unit → IsRun fault
+  pub run : (start : ℕ) (items : List Item) (x : List ℕ) → SourceTells old start items → Starts x old.unit new.unit → IsRun fault
       → IsRecorded x start items old.unit.clock outcome new.unit
   -- Its refused actions are those of the seconds without power, and each cut was an `off` line's or a breakdown of the unit.
-  pub caused : (start : ℕ) (items : List Item) (x : List ℕ) → IsTold old start items → Starts x old.unit new.unit → IsRun fault
+  pub caused : (start : ℕ) (items : List Item) (x : List ℕ) → SourceTells old start items → Starts x old.unit new.unit → IsRun fault
       → IsCaused old new start items outcome
   -- Each refusal by the unit has its cause in the image that it started with; the unit is as it was, and there is no outcome.
   pub bad_unit : (place : ℕ) (x : List ℕ) → Starts x old.unit new.unit → fault ≡ BadUnit place → first_bad_place x ≡ Some place
@@ -85,21 +85,21 @@ pub record EndsOnUnit (old new : Outside) (outcome : Outcome) (fault : Fault) : 
       → Decodes x × (last_kept x ≡ kept) × (second / 60 ≤ kept)
   pub refused : (x : List ℕ) → Starts x old.unit new.unit → IsRefusal fault → LeavesOnly old.unit new.unit Unchanged × IsEmpty outcome
   -- And each cause has its end, where nothing failed: what can be recorded is.
-  pub records : (start : ℕ) (items : List Item) (x : List ℕ) → IsTold old start items → Starts x old.unit new.unit → IsSound old new
+  pub records : (start : ℕ) (items : List Item) (x : List ℕ) → SourceTells old start items → Starts x old.unit new.unit → IsSound old new
       → Decodes x → last_kept x < start / 60 → fault ≡ Done
-  pub finds_bad_unit : (start : ℕ) (items : List Item) (x : List ℕ) (place : ℕ) → IsTold old start items → Starts x old.unit new.unit → IsSound old new
+  pub finds_bad_unit : (start : ℕ) (items : List Item) (x : List ℕ) (place : ℕ) → SourceTells old start items → Starts x old.unit new.unit → IsSound old new
       → first_bad_place x ≡ Some place → fault ≡ BadUnit place
-  pub finds_clock_back : (start : ℕ) (items : List Item) (x : List ℕ) → IsTold old start items → Starts x old.unit new.unit → IsSound old new
+  pub finds_clock_back : (start : ℕ) (items : List Item) (x : List ℕ) → SourceTells old start items → Starts x old.unit new.unit → IsSound old new
       → Decodes x → start / 60 ≤ last_kept x → fault ≡ ClockBack (last_kept x) start
   -- Whatever the unit tells, a refusal came in the opening, with the unit as it was and no outcome, or of a unit that was read anew at a power-on.
-  pub early : (start : ℕ) (items : List Item) → IsTold old start items → IsRefusal fault → IsNotRecorded start old.unit new.unit outcome fault
+  pub early : (start : ℕ) (items : List Item) → SourceTells old start items → IsRefusal fault → IsNotRecorded start old.unit new.unit outcome fault
   -- Each cut that a failed call made is a breakdown of the unit more.
   pub broke : HasBroken old.unit new.unit (length (cuts true (log_of outcome)))
   -- And where the trace was recorded and no failed call has cut the power, the unit has not broken down.
   pub calm : IsRun fault → cuts true (log_of outcome) ≡ [] → new.unit.breakdowns ≡ old.unit.breakdowns
   -- Where nothing failed, no call has cut the power.
-  pub unbroken : (start : ℕ) (items : List Item) (x : List ℕ) → IsTold old start items → Starts x old.unit new.unit → IsSound old new → HaveCounts old
+  pub unbroken : (start : ℕ) (items : List Item) (x : List ℕ) → SourceTells old start items → Starts x old.unit new.unit → IsSound old new → HaveCounts old
       → NothingFailed (log_of outcome)
   -- WHERE NOTHING FAILED, EVERY MINUTE IS THERE: each decided one stands in the history, and the unit has all of it in its newest days.
-  pub whole : (start : ℕ) (items : List Item) (x : List ℕ) → IsTold old start items → Starts x old.unit new.unit → IsSound old new → HaveCounts old
+  pub whole : (start : ℕ) (items : List Item) (x : List ℕ) → SourceTells old start items → Starts x old.unit new.unit → IsSound old new → HaveCounts old
       → IsRun fault → IsAllThere x start items outcome new.unit

@@ -4,7 +4,7 @@ ghost use Rattle.minute_model.specs.declared.Minute.{Minute as Decided};
 ghost use Rattle.std.specs.List.{AllByRecursion};
 ghost use Rattle.minute_model.specs.Span.{Span, fed_many, decided_in};
 ghost use Rattle.minute_rules.specs.Alike.{minute_later, repeated, decided_alike};
-ghost use Rattle.minute_rules.specs.Kept.{StandsFor};
+ghost use Rattle.minute_rules.specs.Kept.{CountsSpan};
 ghost use Rattle.trace_model.specs.Trace.{item_seconds};
 ghost use Rattle.trace_text.specs.declared.lines_trace.Form.TheVariants.{Minutes as FormOfMinutes};
 ghost use Rattle.trace_text.specs.Line.{IsKnown};
@@ -59,8 +59,8 @@ fn feed_item(
 ) -> Result<(), AllocError>
     requires fits { minutes.old.next + item_seconds item ≤ LAST_TIME }
     requires known { IsKnown FormOfMinutes item }
-    ensures stands { (span : Span) → StandsFor minutes.old span → OnOk result (StandsFor minutes.new (fed_item span item)) }
-    ensures lines { (span : Span) → StandsFor minutes.old span → lines.old.items ≡ lines_shown (decided_in span)
+    ensures stands { (span : Span) → CountsSpan minutes.old span → OnOk result (CountsSpan minutes.new (fed_item span item)) }
+    ensures lines { (span : Span) → CountsSpan minutes.old span → lines.old.items ≡ lines_shown (decided_in span)
         → OnOk result (lines.new.items ≡ lines_shown (decided_in (fed_item span item))) }
     ensures next { OnOk result (minutes.new.next ≡ minutes.old.next + item_seconds item) }
 {
@@ -82,8 +82,8 @@ fn run(
     speed: u8,
 ) -> Result<(), AllocError>
     requires { minutes.old.next + seconds ≤ LAST_TIME }
-    ensures stands { (span : Span) → StandsFor minutes.old span → OnOk result (StandsFor minutes.new (fed_many span speed seconds)) }
-    ensures lines { (span : Span) → StandsFor minutes.old span → lines.old.items ≡ lines_shown (decided_in span)
+    ensures stands { (span : Span) → CountsSpan minutes.old span → OnOk result (CountsSpan minutes.new (fed_many span speed seconds)) }
+    ensures lines { (span : Span) → CountsSpan minutes.old span → lines.old.items ≡ lines_shown (decided_in span)
         → OnOk result (lines.new.items ≡ lines_shown (decided_in (fed_many span speed seconds))) }
     ensures next { OnOk result (minutes.new.next ≡ minutes.old.next + seconds) }
 {
@@ -102,8 +102,8 @@ fn run_pieces<L: Ledger>(
     requires parts { blank.parts ≡ L.parts }
     requires some { 0 < blank.parts }
     requires fits { minutes.old.next + seconds ≤ LAST_TIME }
-    ensures stands { (span : Span) → StandsFor minutes.old span → OnOk result (StandsFor minutes.new (fed_many span speed seconds)) }
-    ensures lines { (span : Span) → StandsFor minutes.old span → lines.old.items ≡ lines_shown (decided_in span)
+    ensures stands { (span : Span) → CountsSpan minutes.old span → OnOk result (CountsSpan minutes.new (fed_many span speed seconds)) }
+    ensures lines { (span : Span) → CountsSpan minutes.old span → lines.old.items ≡ lines_shown (decided_in span)
         → OnOk result (lines.new.items ≡ lines_shown (decided_in (fed_many span speed seconds))) }
     ensures next { OnOk result (minutes.new.next ≡ minutes.old.next + seconds) }
 {

@@ -10,7 +10,7 @@ use Rattle.trace_text.specs.declared.lines_trace.TraceFault.TheVariants.{ReadFau
 use Rattle.trace_text.specs.declared.reading.Reading.{Reading}
 use Rattle.trace_text.specs.Text.{counts, fields, counted, numbered}
 use Rattle.trace_text.specs.Line.{IsStart, IsItem}
-use Rattle.trace_text.specs.Trace.{Spells, IsWithin, items_of, put_in, added, waits, waiting_from, opened, ended}
+use Rattle.trace_text.specs.Trace.{Spells, IsWithinLimits, items_of, put_in, added, waits, waiting_from, opened, ended}
 use Rattle.trace_text.specs.Judged.{IsFirstBad, bad_line, IsPassedAt, items_before}
 use Rattle.trace_text.specs.Reading.{HasTaken, HasSpelled, HasStarted, HasRead, IsFaultAt, IsFaultOf}
 use Rattle.trace_text.proofs.Numbering.{counted-line, counted-same}
@@ -81,11 +81,11 @@ pub item-bad : (lines behind : List (List ℕ)) (line : List ℕ) (old : Reading
 item-bad lines behind line old start is later counts_it none =
     let s = behind-start lines old start is later in
     let total = s.taken.total in
-    let within : IsWithin start (total_seconds (items_of (opened s.written))) = (omega (arith, total, s.taken.within.0), omega (arith, total, s.taken.within.1)) in
+    let within : IsWithinLimits start (total_seconds (items_of (opened s.written))) = (omega (arith, total, s.taken.within.0), omega (arith, total, s.taken.within.1)) in
     bad_line (counted lines) (fields line) (numbered (old.lines + 2) behind) (counted-line lines line behind old.lines counts_it is.number) (inr (start, s.written, s.spells, within)) (bad_item old.form (counted lines) (old.lines + 1) start (fields line) s.written s.spells none)
 
 -- or it passes a limit
-pub taken-long : (start line : ℕ) (placed more : List (ℕ × Item)) (old : Reading) (item : Item) → HasTaken start placed old → (IsWithin start (old.total + item_seconds item) → ⊥) → IsPassedAt start 0 (placed ++ ((line, item) ∷ more)) line
+pub taken-long : (start line : ℕ) (placed more : List (ℕ × Item)) (old : Reading) (item : Item) → HasTaken start placed old → (IsWithinLimits start (old.total + item_seconds item) → ⊥) → IsPassedAt start 0 (placed ++ ((line, item) ∷ more)) line
 taken-long start line placed more old item is passed =
     passed-behind start 0 old.total placed ((line, item) ∷ more) line (omega (arith, is.total)) is.within (inl (refl, passed))
 

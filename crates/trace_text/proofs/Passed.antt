@@ -3,7 +3,7 @@ use Rattle.std.proofs.Common.{◌≡◌, ◌∙◌, ℕ, ◌+◌, List, [], ◌�
 use Rattle.std.proofs.lemmas.List.Sums.{sum_by-cons}
 use Rattle.trace_model.specs.declared.Item.{Item}
 use Rattle.trace_model.specs.Trace.{item_seconds, total_seconds}
-use Rattle.trace_text.specs.Trace.{IsWithin, items_of}
+use Rattle.trace_text.specs.Trace.{IsWithinLimits, items_of}
 use Rattle.trace_text.specs.Judged.{IsPassedAt}
 
 pub total-cons : (line : ℕ) (item : Item) (placed : List (ℕ × Item)) → total_seconds (items_of ((line, item) ∷ placed)) ≡ item_seconds item + total_seconds (items_of placed)
@@ -24,7 +24,7 @@ passed-one start total ((line, item) ∷ xs) n m (inr p) (inl q) = absurd (q.1 p
 passed-one start total ((line, item) ∷ xs) n m (inr p) (inr q) = passed-one start (total + item_seconds item) xs n m p.1 q.1
 
 -- and none within the limits
-pub not_passed : (start total all : ℕ) (xs : List (ℕ × Item)) (n : ℕ) → all ≡ total + total_seconds (items_of xs) → IsWithin start all → IsPassedAt start total xs n → ⊥
+pub not_passed : (start total all : ℕ) (xs : List (ℕ × Item)) (n : ℕ) → all ≡ total + total_seconds (items_of xs) → IsWithinLimits start all → IsPassedAt start total xs n → ⊥
 not_passed start total all [] n is within p = p
 not_passed start total all ((line, item) ∷ xs) n is within (inl p) =
     let e = total-cons line item xs in p.1 (omega (arith, e, is, within.0), omega (arith, e, is, within.1))
@@ -32,7 +32,7 @@ not_passed start total all ((line, item) ∷ xs) n is within (inr p) =
     let e = total-cons line item xs in not_passed start (total + item_seconds item) all xs n (omega (arith, e, is)) within p.1
 
 -- behind items that are within the limits
-pub passed-behind : (start total all : ℕ) (xs ys : List (ℕ × Item)) (n : ℕ) → all ≡ total + total_seconds (items_of xs) → IsWithin start all → IsPassedAt start all ys n → IsPassedAt start total (xs ++ ys) n
+pub passed-behind : (start total all : ℕ) (xs ys : List (ℕ × Item)) (n : ℕ) → all ≡ total + total_seconds (items_of xs) → IsWithinLimits start all → IsPassedAt start all ys n → IsPassedAt start total (xs ++ ys) n
 passed-behind start total all [] ys n is within p =
     let e : all ≡ total = omega (arith, is) in
     let P : ℕ → Type 0 = λ t. IsPassedAt start t ys n in subst P e p

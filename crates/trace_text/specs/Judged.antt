@@ -6,7 +6,7 @@ use Rattle.trace_text.specs.declared.lines_trace.Form.{Form}
 use Rattle.trace_text.specs.declared.lines_trace.TraceFault.{TraceFault}
 use Rattle.trace_text.specs.declared.lines_trace.TraceFault.TheVariants.{ReadFault, BadLine, TooLong, Memory}
 use Rattle.trace_text.specs.Text.{text_lines, counted}
-use Rattle.trace_text.specs.Trace.{Spells, IsTraceOf, IsWithin, InGrammar, BeginsWell, opened, ended}
+use Rattle.trace_text.specs.Trace.{Spells, IsTraceOf, IsWithinLimits, InGrammar, BeginsWell, opened, ended}
 
 -- Line n is the first outside the grammar, and no limit is passed before it: the lines before it begin a trace, and with
 -- it they do not. Where no line counts, it is the one after the last.
@@ -20,8 +20,8 @@ pub data IsFirstBad (form : Form) (lines : List (List ℕ)) (n : ℕ) : Type 0 w
 abbrev pub IsPassedAt : ℕ → ℕ → List (ℕ × Item) → ℕ → Type 0
 IsPassedAt start total [] n = ⊥
 IsPassedAt start total ((line, item) ∷ items) n =
-    ((line ≡ n) × (IsWithin start (total + item_seconds item) → ⊥))
-    ⊎ (IsWithin start (total + item_seconds item) × IsPassedAt start (total + item_seconds item) items n)
+    ((line ≡ n) × (IsWithinLimits start (total + item_seconds item) → ⊥))
+    ⊎ (IsWithinLimits start (total + item_seconds item) × IsPassedAt start (total + item_seconds item) items n)
 
 -- the items of written lines, where these lines stand behind them
 abbrev pub items_before : List (ℕ × List (List ℕ)) → List (ℕ × Item) → List (ℕ × Item)

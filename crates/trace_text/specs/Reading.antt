@@ -7,14 +7,14 @@ use Rattle.trace_text.specs.declared.lines_trace.TraceFault.{TraceFault}
 use Rattle.trace_text.specs.declared.lines_trace.TraceFault.TheVariants.{ReadFault, BadLine, TooLong, Memory}
 use Rattle.trace_text.specs.declared.reading.Reading.{Reading}
 use Rattle.trace_text.specs.Text.{counted}
-use Rattle.trace_text.specs.Trace.{Spells, IsWithin, items_of, waiting_from, opened}
+use Rattle.trace_text.specs.Trace.{Spells, IsWithinLimits, items_of, waiting_from, opened}
 use Rattle.trace_text.specs.Judged.{IsFirstBad, IsFirstTooLong, IsPassedAt}
 
 -- these items were taken, and no limit is passed
 pub record HasTaken (start : ℕ) (placed : List (ℕ × Item)) (reading : Reading) : Type 0 where
   pub items : reading.items ≡ items_of placed
   pub total : reading.total ≡ total_seconds (items_of placed)
-  pub within : IsWithin start reading.total
+  pub within : IsWithinLimits start reading.total
 
 -- what was read of a trace behind its `start` line
 pub record HasSpelled (lines : List (ℕ × List (List ℕ))) (start : ℕ) (reading : Reading) : Type 0 where

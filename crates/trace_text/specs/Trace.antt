@@ -58,8 +58,8 @@ abbrev pub ended : List (ℕ × Item) → List (ℕ × Item)
 ended written = opened written ++ put_in (waiting_from None written)
 
 -- so many seconds from this one on are within the limits: at most 34560000, and none later than 4294880895
-abbrev pub IsWithin : ℕ → ℕ → Type 0
-IsWithin start seconds = (seconds ≤ 34560000) × (start + seconds ≤ 4294880896)
+abbrev pub IsWithinLimits : ℕ → ℕ → Type 0
+IsWithinLimits start seconds = (seconds ≤ 34560000) × (start + seconds ≤ 4294880896)
 
 -- a run comes before the next `off` and before the end
 abbrev pub RunComes : List Item → Type 0
@@ -79,7 +79,7 @@ HasRuns (Act action ∷ items) = RunComes items × HasRuns items
 -- and before the end.
 pub record IsWellFormed (start : ℕ) (items : List Item) : Type 0 where
   pub first : IsFirstSecond start
-  pub within : IsWithin start (total_seconds items)
+  pub within : IsWithinLimits start (total_seconds items)
   pub each : AllByRecursion InRange items
   pub runs : HasRuns items
 
@@ -88,7 +88,7 @@ pub record IsTraceOf (form : Form) (lines : List (List ℕ)) (start : ℕ) (item
   pub written : List (ℕ × Item)
   pub spells : Spells form (counted lines) start written
   pub items_are : items ≡ items_of (ended written)
-  pub within : IsWithin start (total_seconds items)
+  pub within : IsWithinLimits start (total_seconds items)
 
 -- these lines begin a trace, or there are none
 abbrev pub InGrammar : Form → List (ℕ × List (List ℕ)) → Type 0
@@ -98,4 +98,4 @@ InGrammar form lines = (lines ≡ []) ⊎ ((start : ℕ) × (written : List (ℕ
 abbrev pub BeginsWell : Form → List (ℕ × List (List ℕ)) → Type 0
 BeginsWell form lines =
     (lines ≡ [])
-    ⊎ ((start : ℕ) × (written : List (ℕ × Item)) × Spells form lines start written × IsWithin start (total_seconds (items_of (opened written))))
+    ⊎ ((start : ℕ) × (written : List (ℕ × Item)) × Spells form lines start written × IsWithinLimits start (total_seconds (items_of (opened written))))

@@ -187,7 +187,7 @@ impl Reading {
 
 ghost use Rattle.std.specs.Prelude.{◌^◌, ◌-◌, ◌≡◌, ◌↔◌, ◌+◌, IsTrue};
 ghost use Rattle.trace_model.specs.Trace.{item_seconds};
-ghost use Rattle.trace_text.specs.Trace.{IsWithin, waits};
+ghost use Rattle.trace_text.specs.Trace.{IsWithinLimits, waits};
 
 /// The seconds that an item spells.
 fn seconds_of(item: Item) -> u32
@@ -212,7 +212,7 @@ fn waits_behind(item: Item, line: u32) -> Option<u32>
 
 /// Whether so many more seconds are within the limits.
 fn fits(start: u32, total: u32, seconds: u32) -> bool
-    ensures { IsTrue result ↔ IsWithin start (total + seconds) }
+    ensures { IsTrue result ↔ IsWithinLimits start (total + seconds) }
 {
     let all = total as u64 + seconds as u64;
     all <= MOST as u64 && start as u64 + all <= LAST as u64 + 1

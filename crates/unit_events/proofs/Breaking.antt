@@ -23,7 +23,7 @@ some-none : {X : Type 0} (x : X) (xs : List X) → xs ≡ xs ++ x ∷ [] → ⊥
 some-none x xs is = absurd (let no : [] ≡ x ∷ [] = append_cancel_left xs [] (x ∷ []) (append-nil xs ∙ is) in cc)
 
 -- DRIVING WITHOUT A CARD ends with the second before that in which it is told
-module _ (kept : bare.Bare) (ds : List DriverSecond) (stands : bare.StandsFor kept ds) (next n : ℕ) (follows : bare.IsNext kept next) where
+module _ (kept : bare.Bare) (ds : List DriverSecond) (stands : bare.CountsDriverSeconds kept ds) (next n : ℕ) (follows : bare.IsNext kept next) where
   span-ends : (s : Span) → bare.span_in kept ≡ Some s → s.end + 1 ≡ next
   span-ends s is = by (kept.seconds == 0) refl is
     where
@@ -45,7 +45,7 @@ module _ (kept : bare.Bare) (ds : List DriverSecond) (stands : bare.StandsFor ke
       one (Some x) e = cc
 
 -- AN OVER SPEEDING too
-module _ (kept : over.Speeding) (ds : List SpeedSecond) (stands : over.StandsFor kept ds) (next n speed : ℕ) (follows : over.IsNext kept.run next) where
+module _ (kept : over.Speeding) (ds : List SpeedSecond) (stands : over.CountsSpeedSeconds kept ds) (next n speed : ℕ) (follows : over.IsNext kept.run next) where
   over-span-ends : (o : Over) → over.over_in kept.run ≡ Some o → o.end + 1 ≡ next
   over-span-ends o is = by (nat_lt 60 kept.run.seconds) refl is
     where

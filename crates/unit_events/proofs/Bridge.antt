@@ -17,7 +17,7 @@ use Rattle.log_model.specs.declared.lines.Break.TheVariants.{Cut, Tear as Torn}
 use Rattle.log_model.specs.declared.lines.Verdict.{Verdict}
 use Rattle.log_model.specs.Log.{RunLog, Phase, In, Keeping, cut_in, kept_after, same_phase, tears_here, is_torn_in, found_in, is_accepting}
 use Rattle.log_model.specs.Slots.{Slots, is_accepted}
-use Rattle.log_model.specs.Course.{Course, Visit, Told, Went, Before, Moved, moved_by, unmoved, slot_told, both_told, begins, acted, all_acted, fresh, cut_told, lit_course, has_power, second_told, before_next, went_on, went, not_begun}
+use Rattle.log_model.specs.Course.{Course, Visit, ToldSecond, Went, Before, Moved, moved_by, unmoved, slot_told, both_told, begins, acted, all_acted, fresh, cut_told, lit_course, has_power, second_told, before_next, went_on, went, not_begun}
 use Rattle.log_model.specs.Spans.{go_on, spans_with, spans_of}
 use Rattle.log_model.specs.Causes.{is_cut}
 use Rattle.event_model.specs.declared.kinds.TheConstants.{DRIVING_WITHOUT_CARD, OVER_SPEEDING, POWER_INTERRUPTION, CARD_FAULT}
@@ -120,7 +120,7 @@ module _ (log : RunLog) (h : IsWithoutCards log) (before : Before) (s : TraceSec
       )
 
 -- a second in which no card was found and none torn out
-record IsBareTold (t : Told) : Type 0 where
+record IsBareTold (t : ToldSecond) : Type 0 where
   slots : t.course.slots ≡ empty_slots
   found : t.course.found ≡ []
   torn : t.course.torn ≡ []
@@ -149,10 +149,10 @@ pub each-push : {T : Type 0} (P : T → Type 0) (xs : List T) (x : T) → AllByR
 each-push P [] x h is = (is, tt)
 each-push P (y ∷ xs) x h is = (h.0, each-push P xs x h.1 is)
 
-abbrev told_in : Seen → Told
+abbrev told_in : Seen → ToldSecond
 told_in x = x.told
 
-abbrev told_span : List Seen → List Told
+abbrev told_span : List Seen → List ToldSecond
 told_span span = map told_in span
 
 -- the seconds so far, as events see them and as they went
@@ -168,7 +168,7 @@ watches-one log h s each w v k =
     record {
       before = ap (λ (b : Before). before_next b (second_told log b s)) k.before;
       told = map-append told_in w.seen (seen_by log w.before s ∷ [])
-          ∙ ap (λ (ts : List Told). ts ++ second_told log w.before s ∷ []) k.told
+          ∙ ap (λ (ts : List ToldSecond). ts ++ second_told log w.before s ∷ []) k.told
           ∙ ap (λ (b : Before). v.told ++ second_told log b s ∷ []) k.before;
       plain = each-push IsPlainSeen w.seen (seen_by log w.before s) k.plain (seen-one log h w.before s slots each);
       slots = (told-bare log h v.before s k.slots each).slots;
@@ -187,8 +187,8 @@ watches log h ss each =
 -- THE POWER SPANS
 on-same : (sp : List (List Seen)) (x : Seen) → go_on (map told_span sp) x.told ≡ map told_span (seen_on sp x)
 on-same [] x = refl
-on-same (span ∷ []) x = ap (λ (s : List Told). s ∷ []) (sym (map-append told_in span (x ∷ [])))
-on-same (span ∷ next ∷ sp) x = ap (λ (ss : List (List Told)). told_span span ∷ ss) (on-same (next ∷ sp) x)
+on-same (span ∷ []) x = ap (λ (s : List ToldSecond). s ∷ []) (sym (map-append told_in span (x ∷ [])))
+on-same (span ∷ next ∷ sp) x = ap (λ (ss : List (List ToldSecond)). told_span span ∷ ss) (on-same (next ∷ sp) x)
 
 with-same : (sp : List (List Seen)) (x : Seen) → spans_with (map told_span sp) x.told ≡ map told_span (seen_with sp x)
 with-same sp x = by x.told.lit x.told.starts
@@ -202,7 +202,7 @@ with-same sp x = by x.told.lit x.told.starts
 
 spans-same : (xs : List Seen) (sp : List (List Seen)) → fold spans_with (map told_span sp) (told_span xs) ≡ map told_span (fold seen_with sp xs)
 spans-same [] sp = refl
-spans-same (x ∷ xs) sp = ap (λ (ss : List (List Told)). fold spans_with ss (told_span xs)) (with-same sp x) ∙ spans-same xs (seen_with sp x)
+spans-same (x ∷ xs) sp = ap (λ (ss : List (List ToldSecond)). fold spans_with ss (told_span xs)) (with-same sp x) ∙ spans-same xs (seen_with sp x)
 
 abbrev ArePlainSpans : List (List Seen) → Type 0
 ArePlainSpans sp = AllByRecursion (λ (span : List Seen). AllByRecursion IsPlainSeen span) sp
@@ -322,7 +322,7 @@ over-span limit span all =
     ∙ ap (λ (ds : List SpeedSecond). map over_event (filter_map over_of (ended_runs (is_above limit) ds))) (sym (map-map speed_second told_in span))
 
 -- those of all spans
-flat-same : (h : List Seen → List Event) (k : List Told → List Event) → ((span : List Seen) → AllByRecursion IsPlainSeen span → h span ≡ k (told_span span)) →
+flat-same : (h : List Seen → List Event) (k : List ToldSecond → List Event) → ((span : List Seen) → AllByRecursion IsPlainSeen span → h span ≡ k (told_span span)) →
     (sp : List (List Seen)) → ArePlainSpans sp → flat_map h sp ≡ flat_map k (map told_span sp)
 flat-same h k each [] all = refl
 flat-same h k each (span ∷ sp) all =
@@ -386,7 +386,7 @@ module _ (log : RunLog) (h : IsWithoutCards log) (ss : List TraceSecond) (each :
 
   spans-are : map told_span (seen_spans (seen_of log ss)) ≡ spans_of (went log ss).told
   unfolding spans_of
-  spans-are = sym (spans-same (seen_of log ss) []) ∙ ap (λ (ts : List Told). fold spans_with [] ts) (watches log h ss each).0
+  spans-are = sym (spans-same (seen_of log ss) []) ∙ ap (λ (ts : List ToldSecond). fold spans_with [] ts) (watches log h ss each).0
 
   pub events-plain : (kind limit : ℕ) (sessions : ℕ → Visit → ℕ) (t : Tearing) → events_of kind limit sessions t log ss ≡ plain_events kind limit log (spans_of (went log ss).told)
   events-plain kind limit sessions t =

@@ -8,7 +8,7 @@ use Rattle.log_model.specs.declared.lines.Break.{Break}
 use Rattle.log_model.specs.declared.lines.Break.TheVariants.{Cut, Tear}
 use Rattle.log_model.specs.declared.lines.Refused.{Refused}
 use Rattle.log_model.specs.Log.{RunLog, kept_after}
-use Rattle.log_model.specs.Course.{Told, Visit, Went, went}
+use Rattle.log_model.specs.Course.{ToldSecond, Visit, Went, went}
 use Rattle.log_model.specs.Spans.{spans_of}
 use Rattle.log_model.specs.Causes.{is_cut}
 use Rattle.unit_model.specs.declared.layout.TheConstants.{SPEED_LIMIT, FIRST_OVER, OVER_COUNT}
@@ -19,7 +19,7 @@ use Rattle.event_model.specs.Events.{Crew, Event, Tearing, events_of}
 use Rattle.event_model.specs.Places.{place_of, day_place}
 use Rattle.note_model.specs.Tables.{table_in, held_in, held_of, number_or_none, HasRest, IsNotedAt, AreNoted}
 use Rattle.run_unit_course.specs.Lines.{log_of, IsCutBefore}
-use Rattle.run_unit_course.specs.Followed.{Supply, Lit, Due, Lost}
+use Rattle.run_unit_course.specs.Followed.{UnitPower, Lit, Due, Lost}
 use Rattle.run_unit_course.proofs.Steps.{went-refusing}
 use Rattle.unit_events.specs.Plain.{nobody, driver_seconds, speed_seconds, bare_event, over_event, gap_event, bares_in, overs_in, gap_to, last_in, gap_between, gaps_in, plain_events, OnlySelect}
 use Rattle.unit_events.specs.Noted.{Lists, due_gap, lists_of, of_kind, are_sure, IsNotDue}
@@ -42,23 +42,23 @@ empty-map : {X : Type 0} (f : X → Event) → ((x : X) → IsEmpty (f x)) → (
 empty-map f each [] = tt
 empty-map f each (x ∷ xs) = (each x, empty-map f each xs)
 
-empty-flat : (h : List Told → List Event) → ((span : List Told) → AreEmpty (h span)) → (spans : List (List Told)) → AreEmpty (flat_map h spans)
+empty-flat : (h : List ToldSecond → List Event) → ((span : List ToldSecond) → AreEmpty (h span)) → (spans : List (List ToldSecond)) → AreEmpty (flat_map h spans)
 empty-flat h each [] = tt
 empty-flat h each (span ∷ spans) = empty-append (h span) (flat_map h spans) (each span) (empty-flat h each spans)
 
 empty-gap : (kept now : ℕ) → AreEmpty (gap_to kept now)
 empty-gap kept now = empty-map gap_event (λ s. (refl, refl)) (option_to_list (gap_of kept now))
 
-empty-between : (log : RunLog) (span next : List Told) → AreEmpty (gap_between log span next)
+empty-between : (log : RunLog) (span next : List ToldSecond) → AreEmpty (gap_between log span next)
 empty-between log span [] = tt
 empty-between log span (t ∷ next) = empty-gap (kept_after log (last_in span)) t.second.number
 
-empty-gaps : (log : RunLog) (spans : List (List Told)) → AreEmpty (gaps_in log spans)
+empty-gaps : (log : RunLog) (spans : List (List ToldSecond)) → AreEmpty (gaps_in log spans)
 empty-gaps log [] = tt
 empty-gaps log (x ∷ []) = tt
 empty-gaps log (x ∷ y ∷ spans) = empty-append (gap_between log x y) (gaps_in log (y ∷ spans)) (empty-between log x y) (empty-gaps log (y ∷ spans))
 
-empty-events : (kind limit : ℕ) (log : RunLog) (spans : List (List Told)) → AreEmpty (plain_events kind limit log spans)
+empty-events : (kind limit : ℕ) (log : RunLog) (spans : List (List ToldSecond)) → AreEmpty (plain_events kind limit log spans)
 empty-events kind limit log spans = by (kind == DRIVING_WITHOUT_CARD) (kind == OVER_SPEEDING) (kind == POWER_INTERRUPTION)
   where
     by : (a b c : Bool) → AreEmpty (cond a (flat_map bares_in spans) (cond b (flat_map (overs_in limit) spans) (cond c (gaps_in log spans) [])))
@@ -108,7 +108,7 @@ unfolding kept_after
 kept-logged breaks refused u = refl
 
 module _ (limit number : ℕ) (breaks : List Break) (refused : List Refused) (ss : List TraceSecond) (cuts : AllByRecursion (IsCutBefore number) breaks) (each : OnlySelect ss) where
-  abbrev spans : List (List Told)
+  abbrev spans : List (List ToldSecond)
   spans = spans_of (went (log_of breaks) ss).told
 
   plain-logged : (kind : ℕ) (sessions : ℕ → Visit → ℕ) (t : Tearing) → events_of kind limit sessions t (logged breaks refused) ss ≡ plain_events kind limit (log_of breaks) spans
@@ -119,18 +119,18 @@ module _ (limit number : ℕ) (breaks : List Break) (refused : List Refused) (ss
       (gaps-log (log_of breaks) (logged breaks refused) (kept-logged breaks refused) spans)
 
   -- behind a second with power, or without it
-  lists-plain : (kind : ℕ) (supply : Supply) (next : ℕ) → IsNotDue supply → of_kind kind (lists_of limit (log_of breaks) spans supply next) ≡ plain_events kind limit (log_of breaks) spans
+  lists-plain : (kind : ℕ) (supply : UnitPower) (next : ℕ) → IsNotDue supply → of_kind kind (lists_of limit (log_of breaks) spans supply next) ≡ plain_events kind limit (log_of breaks) spans
   lists-plain kind supply next on =
       ap (λ (gaps : List Event). cond (kind == DRIVING_WITHOUT_CARD) (flat_map bares_in spans) (cond (kind == OVER_SPEEDING) (flat_map (overs_in limit) spans) (cond (kind == POWER_INTERRUPTION) gaps [])))
       (ap (λ (es : List Event). gaps_in (log_of breaks) spans ++ es) (none supply on) ∙ append-nil (gaps_in (log_of breaks) spans))
     where
-      none : (s : Supply) → IsNotDue s → due_gap (log_of breaks) spans s next ≡ []
+      none : (s : UnitPower) → IsNotDue s → due_gap (log_of breaks) spans s next ≡ []
       none (Lit []) on = absurd on
       none (Lit (t ∷ span)) on = refl
       none Due on = refl
       none Lost on = refl
 
-  pub shows-run : (start x : List ℕ) (supply : Supply) (next : ℕ) → number_of start SPEED_LIMIT ≡ limit → IsNotDue supply → ShowsEvents start (log_of breaks) (lists_of limit (log_of breaks) spans supply next) x →
+  pub shows-run : (start x : List ℕ) (supply : UnitPower) (next : ℕ) → number_of start SPEED_LIMIT ≡ limit → IsNotDue supply → ShowsEvents start (log_of breaks) (lists_of limit (log_of breaks) spans supply next) x →
       (numbers : Card → List ℕ) (sessions : ℕ → Visit → ℕ) (t : Tearing) → ShowsRun numbers start (logged breaks refused) ss sessions t x
   shows-run start x supply next limit_is on s numbers sessions t =
       let l : Lists = lists_of limit (log_of breaks) spans supply next in

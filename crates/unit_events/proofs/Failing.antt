@@ -8,7 +8,7 @@ use Rattle.std.proofs.lemmas.List.Folds.{list_any-append, list_all-append}
 use Rattle.log_model.specs.declared.lines.Break.{Break}
 use Rattle.log_model.specs.declared.lines.Break.TheVariants.{Cut, Tear}
 use Rattle.log_model.specs.Log.{RunLog, kept_by, kept_after}
-use Rattle.log_model.specs.Course.{Told}
+use Rattle.log_model.specs.Course.{ToldSecond}
 use Rattle.log_model.specs.Causes.{is_cut, has_failed, second_of}
 use Rattle.event_model.specs.declared.entries.Span.{Span}
 use Rattle.event_model.specs.Events.{Event}
@@ -162,10 +162,10 @@ gap-failed log kept now failed sure = by (kept == 0) sure
     by true is = refl
     by false is = absurd (let no : (not (has_failed_in log now) && true) ≡ false = rw failed refl in let wrong : false ≡ true = sym no ∙ is in cc)
 
-pub since-failed : (log : RunLog) (span : List Told) (now : ℕ) → has_failed_in log now ≡ true → are_sure log (gap_since log span now) ≡ true → gap_since log span now ≡ []
+pub since-failed : (log : RunLog) (span : List ToldSecond) (now : ℕ) → has_failed_in log now ≡ true → are_sure log (gap_since log span now) ≡ true → gap_since log span now ≡ []
 since-failed log span now failed sure = gap-failed log (kept_after log (last_in span)) now failed sure
 
-pub behind-failed : (log : RunLog) (spans : List (List Told)) (now : ℕ) → has_failed_in log now ≡ true → are_sure log (gap_behind log spans now) ≡ true → gap_behind log spans now ≡ []
+pub behind-failed : (log : RunLog) (spans : List (List ToldSecond)) (now : ℕ) → has_failed_in log now ≡ true → are_sure log (gap_behind log spans now) ≡ true → gap_behind log spans now ≡ []
 behind-failed log [] now failed sure = refl
 behind-failed log (span ∷ []) now failed sure = since-failed log span now failed sure
 behind-failed log (span ∷ next ∷ spans) now failed sure = behind-failed log (next ∷ spans) now failed sure

@@ -3,14 +3,14 @@ use Rattle.std.specs.Prelude.{◌≡◌, ℕ, ◌==◌, Bool, true, not, List, [
 use Rattle.std.specs.List.{list_all}
 use Rattle.trace_model.specs.Trace.{TraceSecond}
 use Rattle.log_model.specs.Log.{RunLog}
-use Rattle.log_model.specs.Course.{Told, went}
+use Rattle.log_model.specs.Course.{ToldSecond, went}
 use Rattle.log_model.specs.Spans.{spans_of}
 use Rattle.event_model.specs.declared.kinds.TheConstants.{DRIVING_WITHOUT_CARD, OVER_SPEEDING, POWER_INTERRUPTION}
 use Rattle.event_model.specs.Events.{Event}
 use Rattle.note_model.specs.Done.{has_failed_in}
 use Rattle.note_model.specs.Events.{noting_second}
 use Rattle.run_unit_course.specs.Lines.{log_of}
-use Rattle.run_unit_course.specs.Followed.{Supply, Lit, Due, Lost, Progress}
+use Rattle.run_unit_course.specs.Followed.{UnitPower, Lit, Due, Lost, Progress}
 use Rattle.unit_events.specs.Plain.{bares_in, overs_in, gaps_in, gap_behind}
 
 -- the events of the three types that come without a card: driving without a card, over speedings, power interruptions
@@ -40,21 +40,21 @@ of_kind kind l =
     else (if kind == OVER_SPEEDING then l.overs else (if kind == POWER_INTERRUPTION then l.gaps else []))
 
 -- where power is back with the next second, the interruption before it is noted already
-abbrev pub due_gap : RunLog → List (List Told) → Supply → (next : ℕ) → List Event
+abbrev pub due_gap : RunLog → List (List ToldSecond) → UnitPower → (next : ℕ) → List Event
 due_gap log ended (Lit []) next = gap_behind log ended next
 due_gap log ended (Lit (t ∷ span)) next = []
 due_gap log ended Due next = []
 due_gap log ended Lost next = []
 
 -- power is not waiting for its first second
-abbrev pub IsNotDue : Supply → Type 0
+abbrev pub IsNotDue : UnitPower → Type 0
 IsNotDue (Lit []) = ⊥
 IsNotDue (Lit (t ∷ span)) = Unit {0}
 IsNotDue Due = Unit {0}
 IsNotDue Lost = Unit {0}
 
 -- what is to be noted of these spans
-abbrev pub lists_of : (limit : ℕ) → RunLog → List (List Told) → Supply → (next : ℕ) → Lists
+abbrev pub lists_of : (limit : ℕ) → RunLog → List (List ToldSecond) → UnitPower → (next : ℕ) → Lists
 lists_of limit log spans supply next = record {
   bares = flat_map bares_in spans;
   overs = flat_map (overs_in limit) spans;

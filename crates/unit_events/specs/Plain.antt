@@ -6,7 +6,7 @@ use Rattle.trace_model.specs.Trace.{TraceSecond}
 use Rattle.minute_model.specs.Activity.{last}
 use Rattle.log_model.specs.declared.lines.Break.{Break}
 use Rattle.log_model.specs.Log.{RunLog, kept_after}
-use Rattle.log_model.specs.Course.{Told}
+use Rattle.log_model.specs.Course.{ToldSecond}
 use Rattle.log_model.specs.Causes.{is_cut}
 use Rattle.event_model.specs.declared.kinds.TheConstants.{DRIVING_WITHOUT_CARD, OVER_SPEEDING, POWER_INTERRUPTION}
 use Rattle.event_model.specs.declared.entries.Over.{Over}
@@ -20,17 +20,17 @@ abbrev pub nobody : Crew
 nobody = record { driver = None; codriver = None }
 
 -- a second, and whether it is driven without a card: it is where the vehicle moves
-abbrev pub driver_second : Told → DriverSecond
+abbrev pub driver_second : ToldSecond → DriverSecond
 driver_second t = record { number = t.second.number; bare = nat_lt 0 t.second.speed }
 
 -- a second with its speed
-abbrev pub speed_second : Told → SpeedSecond
+abbrev pub speed_second : ToldSecond → SpeedSecond
 speed_second t = record { number = t.second.number; speed = t.second.speed }
 
-abbrev pub driver_seconds : List Told → List DriverSecond
+abbrev pub driver_seconds : List ToldSecond → List DriverSecond
 driver_seconds span = map driver_second span
 
-abbrev pub speed_seconds : List Told → List SpeedSecond
+abbrev pub speed_seconds : List ToldSecond → List SpeedSecond
 speed_seconds span = map speed_second span
 
 -- a run without a card, an over speeding and an interruption as events
@@ -44,10 +44,10 @@ abbrev pub gap_event : Span → Event
 gap_event s = noted_with POWER_INTERRUPTION s.begin s.end nobody
 
 -- those that have ended in a span
-abbrev pub bares_in : List Told → List Event
+abbrev pub bares_in : List ToldSecond → List Event
 bares_in span = map bare_event (bares_of (driver_seconds span))
 
-abbrev pub overs_in : (limit : ℕ) → List Told → List Event
+abbrev pub overs_in : (limit : ℕ) → List ToldSecond → List Event
 overs_in limit span = map over_event (overs_of limit (speed_seconds span))
 
 -- the interruption up to a second, where this minute was found kept
@@ -55,31 +55,31 @@ abbrev pub gap_to : (kept now : ℕ) → List Event
 gap_to kept now = map gap_event (option_to_list (gap_of kept now))
 
 -- the number of a last second, 0 without one
-abbrev pub number_or_0 : Option Told → ℕ
+abbrev pub number_or_0 : Option ToldSecond → ℕ
 number_or_0 None = 0
 number_or_0 (Some t) = t.second.number
 
 -- the last second of a span
-abbrev pub last_in : List Told → ℕ
+abbrev pub last_in : List ToldSecond → ℕ
 last_in span = number_or_0 (last span)
 
 -- the interruption behind a span and before a second
-abbrev pub gap_since : RunLog → List Told → (now : ℕ) → List Event
+abbrev pub gap_since : RunLog → List ToldSecond → (now : ℕ) → List Event
 gap_since log span now = gap_to (kept_after log (last_in span)) now
 
 -- and before a span
-abbrev pub gap_between : RunLog → List Told → List Told → List Event
+abbrev pub gap_between : RunLog → List ToldSecond → List ToldSecond → List Event
 gap_between log span [] = []
 gap_between log span (t ∷ next) = gap_since log span t.second.number
 
 -- those between these spans
-abbrev pub gaps_in : RunLog → List (List Told) → List Event
+abbrev pub gaps_in : RunLog → List (List ToldSecond) → List Event
 gaps_in log [] = []
 gaps_in log (span ∷ []) = []
 gaps_in log (span ∷ next ∷ spans) = gap_between log span next ++ gaps_in log (next ∷ spans)
 
 -- the one behind the last of these spans and before a second
-abbrev pub gap_behind : RunLog → List (List Told) → (now : ℕ) → List Event
+abbrev pub gap_behind : RunLog → List (List ToldSecond) → (now : ℕ) → List Event
 gap_behind log [] now = []
 gap_behind log (span ∷ []) now = gap_since log span now
 gap_behind log (span ∷ next ∷ spans) now = gap_behind log (next ∷ spans) now
@@ -90,7 +90,7 @@ gap_found [] kept now = []
 gap_found (b ∷ breaks) kept now = gap_to kept now
 
 -- the events of a type in these spans
-abbrev pub plain_events : (kind limit : ℕ) → RunLog → List (List Told) → List Event
+abbrev pub plain_events : (kind limit : ℕ) → RunLog → List (List ToldSecond) → List Event
 plain_events kind limit log spans =
     if kind == DRIVING_WITHOUT_CARD then flat_map bares_in spans
     else (if kind == OVER_SPEEDING then flat_map (overs_in limit) spans

@@ -12,8 +12,8 @@ use Rattle.unit_events.specs.Noting.{ended_in, AreNotedBy}
 
 -- they stand for these seconds
 pub record Stand (w : Watch) (drivers : List DriverSecond) (speeds : List SpeedSecond) : Type 0 where
-  pub bare : bare_feed.StandsFor w.bare drivers
-  pub over : over_feed.StandsFor w.over speeds
+  pub bare : bare_feed.CountsDriverSeconds w.bare drivers
+  pub over : over_feed.CountsSpeedSeconds w.over speeds
 
 -- for some seconds, none of them at 0, up to a next one
 pub record Watches (w : Watch) (next : ℕ) : Type 0 where
@@ -29,9 +29,9 @@ pub record Watches (w : Watch) (next : ℕ) : Type 0 where
 pub record IsWatched (failed : Bool) (old new : Watch) (first n speed : ℕ) (prior unit : State) : Type 0 where
   pub bare : Option Span
   pub over : Option Over
-  pub bares : (drivers : List DriverSecond) → bare_feed.StandsFor old.bare drivers →
+  pub bares : (drivers : List DriverSecond) → bare_feed.CountsDriverSeconds old.bare drivers →
       bares_of (drivers ++ all_bare first n (nat_lt 0 speed)) ≡ bares_of drivers ++ option_to_list bare
-  pub overs : (speeds : List SpeedSecond) → over_feed.StandsFor old.over speeds →
+  pub overs : (speeds : List SpeedSecond) → over_feed.CountsSpeedSeconds old.over speeds →
       overs_of old.over.limit (speeds ++ at_speed first n speed) ≡ overs_of old.over.limit speeds ++ option_to_list over
   pub stands : (drivers : List DriverSecond) (speeds : List SpeedSecond) → Stand old drivers speeds →
       Stand new (drivers ++ all_bare first n (nat_lt 0 speed)) (speeds ++ at_speed first n speed)

@@ -20,7 +20,7 @@ use Rattle.unit_model.proofs.Numbers as numbers
 use Rattle.unit_model.proofs.Checks.{still}
 use Rattle.unit_model.proofs.StillDecodes.{rows_pass}
 use Rattle.unit_owed.specs.Owed.{Cell, rows_in, row_in, cell_in, session_in, number_in, cell_begin, is_row_of, row_index, row_of}
-use Rattle.unit_owed.specs.Rows.{cell_pieces, with_cell, IsPuttingCell, IsPutting, IsPut, putting, pieces_into, entry_word}
+use Rattle.unit_owed.specs.Rows.{cell_pieces, with_cell, IsPuttingCell, IsPutting, OwedRowHas, putting, pieces_into, entry_word}
 
 -- what a search finds passes
 pub found_passes : (p : ℕ → Bool) (l : List ℕ) (r : ℕ) → find p l ≡ Some r → p r ≡ true
@@ -314,8 +314,8 @@ module _ (number : List ℕ) (e : Entry) (x : List ℕ) (sized : length x ≡ IM
       let some = after_some (cell_pieces r m w) (omega arith, (omega arith, (omega arith, tt))) x c known in
       by_count c some.0 some.1 some.2
 
-  pub put_end : IsPut number e x (put_all (putting number m w (rows_in x)) x)
-  put_end = subst (λ (o : Option ℕ). IsPut number e x (put_all (pieces_into m w o) x)) (sym mine) (record {
+  pub put_end : OwedRowHas number e x (put_all (putting number m w (rows_in x)) x)
+  put_end = subst (λ (o : Option ℕ). OwedRowHas number e x (put_all (pieces_into m w o) x)) (sym mine) (record {
     putting = at_end;
     entry = λ s is. subst (λ (k : ℕ). row_in (rows_in y) k ≡ with_cell (m % 4) (record { minute = m; word = w }) (row_in (rows_in x) k)) (one_row s is) done;
   })

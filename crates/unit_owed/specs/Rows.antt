@@ -92,7 +92,7 @@ pub record IsPutting (number : List ℕ) (e : Entry) (x c : List ℕ) : Type 0 w
   pub decodes : Decodes x → Decodes c
 
 -- after a `put_owed` the entry stands in the number's row
-pub record IsPut (number : List ℕ) (e : Entry) (x y : List ℕ) : Type 0 where
+pub record OwedRowHas (number : List ℕ) (e : Entry) (x y : List ℕ) : Type 0 where
   pub putting : IsPutting number e x y
   pub entry : (r : ℕ) → row_index number (rows_in x) ≡ Some r → row_in (rows_in y) r ≡ with_cell (e.minute % 4) (record { minute = e.minute; word = entry_word e }) (row_in (rows_in x) r)
 

@@ -6,7 +6,7 @@ ghost use Rattle.tach_media.specs.Plan.{PutsAll, PutsBy, more, none};
 ghost use Rattle.unit_model.specs.Image.{IsUnit};
 ghost use Rattle.unit_model.specs.Days.{word_minute};
 ghost use Rattle.unit_owed.specs.Owed.{rows_in};
-ghost use Rattle.unit_owed.specs.Rows.{entry_word, cell_pieces, row_pieces, pieces_into, putting, pieces_at, beginning, HasRow, IsRowAt, IsRowFor, IsPut, IsPutting, IsRowBegun, IsRowBeginning};
+ghost use Rattle.unit_owed.specs.Rows.{entry_word, cell_pieces, row_pieces, pieces_into, putting, pieces_at, beginning, HasRow, IsRowAt, IsRowFor, OwedRowHas, IsPutting, IsRowBegun, IsRowBeginning};
 
 use crate::rows::{begun_index, read_rows, row_index};
 use activity_codec::{Change, Entry, encode_change};
@@ -85,7 +85,7 @@ pub fn put_owed<M: Medium>(unit: &mut M, number: &[u8], entry: &Entry) -> Result
     requires row { IfSome (M.state unit.old).image (HasRow number.now) }
     ensures puts { PutsBy (M.state unit.old) (M.state unit.new) (is_err result) 0 3 (λ x. putting number.now entry.now.minute (entry_word entry.now) (rows_in x)) }
     ensures wrote { OnOk result (IfSome (M.state unit.old).image (λ x. min ((M.state unit.old).clock + 3) last_count ≤ (M.state unit.new).clock)) }
-    ensures put { OnOk result (IfSome (M.state unit.old).image (λ x. IfSome (M.state unit.new).image (IsPut number.now entry.now x))) }
+    ensures put { OnOk result (IfSome (M.state unit.old).image (λ x. IfSome (M.state unit.new).image (OwedRowHas number.now entry.now x))) }
     ensures moments { LeavesOnly (M.state unit.old) (M.state unit.new) (IsPutting number.now entry.now) }
     ensures settled { OnOk result (StaysSettled (M.state unit.old) (M.state unit.new)) }
     ensures cause { HasCause (M.state unit.old) (M.state unit.new) (is_err result) }
@@ -110,7 +110,7 @@ pub fn put_owed_at<M: Medium>(unit: &mut M, row: u32, entry: &Entry) -> Result<(
     requires unit { IsUnit (M.state unit.old) }
     requires low { row < 8 }
     ensures puts { PutsAll (M.state unit.old) (M.state unit.new) (is_err result) (cell_pieces row entry.now.minute (entry_word entry.now)) }
-    ensures put { (number : List ℕ) → IfSome (M.state unit.old).image (IsRowAt row number) → OnOk result (IfSome (M.state unit.old).image (λ x. IfSome (M.state unit.new).image (IsPut number entry.now x))) }
+    ensures put { (number : List ℕ) → IfSome (M.state unit.old).image (IsRowAt row number) → OnOk result (IfSome (M.state unit.old).image (λ x. IfSome (M.state unit.new).image (OwedRowHas number entry.now x))) }
     ensures moments { (number : List ℕ) → IfSome (M.state unit.old).image (IsRowAt row number) → LeavesOnly (M.state unit.old) (M.state unit.new) (IsPutting number entry.now) }
     ensures settled { OnOk result ((M.state unit.new).clock < last_count → IsSettled (M.state unit.new)) }
     ensures cause { HasCause (M.state unit.old) (M.state unit.new) (is_err result) }

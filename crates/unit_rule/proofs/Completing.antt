@@ -14,7 +14,7 @@ use Rattle.device_rule.specs.Filling.{FillsDays, filled_with}
 use Rattle.device_rule.specs.Rules.{Shows}
 use Rattle.safety_model.specs.Unit.{marks_of}
 use Rattle.unit_rule.specs.Rule.{Started}
-use Rattle.unit_rule.specs.Marks.{Holds}
+use Rattle.unit_rule.specs.Marks.{UnitFollowsBook}
 use Rattle.unit_rule.specs.Complete.{AreMarksOf}
 use Rattle.unit_rule.proofs.Moves.{shown-days}
 
@@ -40,7 +40,7 @@ no-front sure past rest i is front = absurd (
     let longer : length past ≡ length sure + 1 = ap length is ∙ length-append sure (i ∷ []) in omega (arith, long, longer))
 
 -- WHAT IS LEFT: where nothing was lost, each image that a stop may leave has all sure minutes, of which the newest 366 days are retained
-pub left-whole : (s : Started) (due : ℕ) (b : Book) (marks : List Mark) (unit : State) → Holds s due b marks unit → b.maybe ≡ None → AreLost [] b → (x : List ℕ) → unit.may_leave x → recorded x ≡ newest_days 366 (filled_with s.days b.sure)
+pub left-whole : (s : Started) (due : ℕ) (b : Book) (marks : List Mark) (unit : State) → UnitFollowsBook s due b marks unit → b.maybe ≡ None → AreLost [] b → (x : List ℕ) → unit.may_leave x → recorded x ≡ newest_days 366 (filled_with s.days b.sure)
 left-whole s due b marks unit h none lost x left = go shown.next comes days
   where
     shown : Shows (FillsDays s.days) s.first b (unit_view [] [] x)

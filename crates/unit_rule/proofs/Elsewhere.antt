@@ -12,7 +12,7 @@ use Rattle.log_model.specs.declared.lines.Mark.{Mark}
 use Rattle.history_model.specs.Book.{Book}
 use Rattle.safety_model.specs.Unit.{issued_bytes}
 use Rattle.unit_rule.specs.Rule.{Started}
-use Rattle.unit_rule.specs.Marks.{Holds}
+use Rattle.unit_rule.specs.Marks.{UnitFollowsBook}
 use Rattle.run_unit_course.specs.Legs.{Travel}
 use Rattle.unit_rule.specs.Odometer.{HasTravelled, IsBesideTravel}
 use Rattle.unit_rule.proofs.Moves.{issued-parts}
@@ -31,8 +31,8 @@ rows-issued x c same =
     issued-parts x c (part_before 624 384 0 564 x c same (omega arith)) (part_before 624 384 580 44 x c same (omega arith)) (part_after 624 384 1008 16 x c same (omega arith)) (part_after 624 384 2393642 2 x c same (omega arith))
 
 -- the unit's rule and its marks
-pub holds-elsewhere : (s : Started) {U V : State} (due : ℕ) (b : Book) (marks : List Mark) → Holds s due b marks U → IsCoherent U → (R : List ℕ → List ℕ → Type 0) → LeavesOnly U V R →
-    ((x c : List ℕ) → R x c → SameJournal x c × (issued_bytes c ≡ issued_bytes x) × (Decodes x → Decodes c)) → ((x c : List ℕ) → R x c → AreRowsOn s x c) → Holds s due b marks V
+pub holds-elsewhere : (s : Started) {U V : State} (due : ℕ) (b : Book) (marks : List Mark) → UnitFollowsBook s due b marks U → IsCoherent U → (R : List ℕ → List ℕ → Type 0) → LeavesOnly U V R →
+    ((x c : List ℕ) → R x c → SameJournal x c × (issued_bytes c ≡ issued_bytes x) × (Decodes x → Decodes c)) → ((x c : List ℕ) → R x c → AreRowsOn s x c) → UnitFollowsBook s due b marks V
 holds-elsewhere s {U} {V} due b marks h before R run same steps = holds-aside s due b marks h before (λ x c. Decodes x × R x c)
     (record {
       size = run.size;

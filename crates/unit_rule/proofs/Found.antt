@@ -8,7 +8,7 @@ use Rattle.history_model.specs.Book.{Book}
 use Rattle.history_model.proofs.Books.{mark-earlier}
 use Rattle.device_rule.specs.Views.{unit_view}
 use Rattle.unit_rule.specs.Rule.{Started}
-use Rattle.unit_rule.specs.Marks.{Holds}
+use Rattle.unit_rule.specs.Marks.{UnitFollowsBook}
 use Rattle.unit_rule.proofs.Moves.{shown-last}
 
 -- a unit that works and tells an image leaves that alone
@@ -16,12 +16,12 @@ pub one-image : (unit : State) (x : List ℕ) → IsCoherent unit → unit.works
 one-image unit x whole works is c left = let told = whole.only c works left in let same : Some c ≡ Some x = sym told ∙ is in cc
 
 -- an image that a stop may leave now has an earlier last-kept minute than may be decided next
-pub left-earlier : (s : Started) (due : ℕ) (b : Book) (marks : List Mark) (unit : State) → Holds s due b marks unit → (x : List ℕ) → unit.may_leave x → last_kept x < due
+pub left-earlier : (s : Started) (due : ℕ) (b : Book) (marks : List Mark) (unit : State) → UnitFollowsBook s due b marks unit → (x : List ℕ) → unit.may_leave x → last_kept x < due
 left-earlier s due b marks unit h x left =
     let rule = h.unit_holds [] [] in
     let early = mark-earlier s.first due b (unit_view [] [] x).last rule.order (rule.now (unit_view [] [] x) (x, left, refl)).mark in
     omega (arith, early, shown-last [] [] x)
 
 -- and decodes
-pub left-decodes : (s : Started) (due : ℕ) (b : Book) (marks : List Mark) (unit : State) → IsCoherent unit → Holds s due b marks unit → (x : List ℕ) → unit.may_leave x → Decodes x
+pub left-decodes : (s : Started) (due : ℕ) (b : Book) (marks : List Mark) (unit : State) → IsCoherent unit → UnitFollowsBook s due b marks unit → (x : List ℕ) → unit.may_leave x → Decodes x
 left-decodes s due b marks unit whole h x left = h.decodes x (whole.counts_now s.began x (h.unit_holds [] []).later left)

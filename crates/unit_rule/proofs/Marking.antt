@@ -29,7 +29,7 @@ use Rattle.device_rule.proofs.Holding.{acknowledges-on}
 use Rattle.device_rule.proofs.Viewed.{seen-coherent, seen-run}
 use Rattle.safety_model.specs.Unit.{marks_of, is_of, IsPrompt, Increase, issued_bytes}
 use Rattle.unit_rule.specs.Rule.{Started, started, once_mended, seen_unit, IsRuled, HasRowsOn, HasRowsMended}
-use Rattle.unit_rule.specs.Marks.{IsHeld, Holds}
+use Rattle.unit_rule.specs.Marks.{MarkIsKept, UnitFollowsBook}
 use Rattle.unit_rule.proofs.Keeping.{keeping_view, kept_view}
 use Rattle.unit_rule.proofs.Moves.{shown-last, shown-days, issued-besides}
 use Rattle.unit_rule.proofs.RowsOn.{AreRowsOn, rows-besides, rows-start, rows-kept, low-kept}
@@ -61,14 +61,14 @@ told-image (Some x) told = (x, refl)
 
 -- THE OPENING: a unit that leaves one image only, with these days, this last-kept minute, and issued so; it was not mended yet
 pub holds-opened : (s : Started) (unit : State) (x : List ℕ) (due : ℕ) → s.days ≡ recorded x → s.first ≡ last_kept x → s.issued ≡ issued_bytes x → s.image ≡ x → s.mended ≡ false → s.began ≤ unit.clock → ((c : List ℕ) → unit.may_leave c → c ≡ x) → ((c : List ℕ) → unit.left_since s.began c → c ≡ x) →
-    FillsDays s.days None [] (recorded x) → Decodes x → last_kept x < due → Holds s due not_begun [] unit
+    FillsDays s.days None [] (recorded x) → Decodes x → last_kept x < due → UnitFollowsBook s due not_begun [] unit
 holds-opened s unit x due days first issued image dark later now since fills decodes late = record {
   unit_holds = λ number_a number_b. opened number_a number_b;
   decodes = λ c on. subst Decodes (sym (since c on)) decodes;
   issued = λ c on. ap issued_bytes (since c on) ∙ sym issued;
   rows = λ c on. subst (HasRowsOn s) (sym (since c on)) (rows-start s x image);
   low = λ is c on. absurd (no (sym is ∙ dark));
-  marks_hold = All-nil (IsHeld s not_begun unit);
+  marks_hold = All-nil (MarkIsKept s not_begun unit);
   marks_rise = tt;
   marks_until = All-nil (λ (m : Mark). m.minute < due);
 }
@@ -88,7 +88,7 @@ holds-opened s unit x due days first issued image dark later now since fills dec
         (record { later = later; order = rule.order; now = rule.now; since = rule.since })
 
 -- a unit that has this image alone, which decodes, is a start: so is each image that a run leaves
-pub holds-started : (unit : State) (x : List ℕ) (number_a number_b : Option (List ℕ)) (due : ℕ) → IsCoherent unit → ((c : List ℕ) → unit.left_since unit.clock c → c ≡ x) → Decodes x → last_kept x < due → Holds (started x number_a number_b unit.clock) due not_begun [] unit
+pub holds-started : (unit : State) (x : List ℕ) (number_a number_b : Option (List ℕ)) (due : ℕ) → IsCoherent unit → ((c : List ℕ) → unit.left_since unit.clock c → c ≡ x) → Decodes x → last_kept x < due → UnitFollowsBook (started x number_a number_b unit.clock) due not_begun [] unit
 holds-started unit x number_a number_b due whole since decodes late =
     holds-opened (started x number_a number_b unit.clock) unit x due refl refl refl refl refl (omega arith) (λ c on. since c (whole.counts_now unit.clock c (omega arith) on)) since
     (inl (retained-whole (recorded x) (few_days x (decoded_of x decodes).known))) decodes late
@@ -97,14 +97,14 @@ holds-started unit x number_a number_b due whole since decodes late =
     retained-whole days few = ap (λ (n : ℕ). drop n days) (let none : 0 ≡ length days - 366 = omega (arith, few) in none)
 
 -- marks of the cards are listed beside those of the unit
-pub holds-beside : (s : Started) (due : ℕ) (b : Book) (marks more : List Mark) (unit : State) → marks_of Recorder more ≡ [] → Holds s due b marks unit → Holds s due b (marks ++ more) unit
+pub holds-beside : (s : Started) (due : ℕ) (b : Book) (marks more : List Mark) (unit : State) → marks_of Recorder more ≡ [] → UnitFollowsBook s due b marks unit → UnitFollowsBook s due b (marks ++ more) unit
 holds-beside s due b marks more unit none h = record {
   unit_holds = h.unit_holds;
   decodes = h.decodes;
   issued = h.issued;
   rows = h.rows;
   low = h.low;
-  marks_hold = subst (All (IsHeld s b unit)) (sym same) h.marks_hold;
+  marks_hold = subst (All (MarkIsKept s b unit)) (sym same) h.marks_hold;
   marks_rise = subst Increase (sym same) h.marks_rise;
   marks_until = subst (All (λ (m : Mark). m.minute < due)) (sym same) h.marks_until;
 }
@@ -113,31 +113,31 @@ holds-beside s due b marks more unit none h = record {
     same = filter-append (λ (n : Mark). is_of Recorder n.device) marks more ∙ ap (λ (ms : List Mark). marks_of Recorder marks ++ ms) none ∙ append-nil (marks_of Recorder marks)
 
 -- once it was mended, and without that
-pub holds-mended : (s : Started) (due : ℕ) (b : Book) (marks : List Mark) (unit : State) → Holds s due b marks unit → ((x : List ℕ) → unit.may_leave x → HasRowsMended s x) → Holds (once_mended s) due b marks unit
+pub holds-mended : (s : Started) (due : ℕ) (b : Book) (marks : List Mark) (unit : State) → UnitFollowsBook s due b marks unit → ((x : List ℕ) → unit.may_leave x → HasRowsMended s x) → UnitFollowsBook (once_mended s) due b marks unit
 holds-mended s due b marks unit h low = record {
   unit_holds = h.unit_holds;
   decodes = h.decodes;
   issued = h.issued;
   rows = h.rows;
   low = λ is. low;
-  marks_hold = All-weaker (IsHeld s b unit) (IsHeld (once_mended s) b unit) (λ m held. record { began = held.began; prompt = held.prompt; holds = held.holds; sure = held.sure }) (marks_of Recorder marks) h.marks_hold;
+  marks_hold = All-weaker (MarkIsKept s b unit) (MarkIsKept (once_mended s) b unit) (λ m held. record { began = held.began; prompt = held.prompt; holds = held.holds; sure = held.sure }) (marks_of Recorder marks) h.marks_hold;
   marks_rise = h.marks_rise;
   marks_until = h.marks_until;
 }
 
-pub holds-dark : (s : Started) (due : ℕ) (b : Book) (marks : List Mark) (unit : State) → Holds (once_mended s) due b marks unit → Holds s due b marks unit
+pub holds-dark : (s : Started) (due : ℕ) (b : Book) (marks : List Mark) (unit : State) → UnitFollowsBook (once_mended s) due b marks unit → UnitFollowsBook s due b marks unit
 holds-dark s due b marks unit h = record {
   unit_holds = h.unit_holds;
   decodes = h.decodes;
   issued = h.issued;
   rows = h.rows;
   low = λ is. h.low refl;
-  marks_hold = All-weaker (IsHeld (once_mended s) b unit) (IsHeld s b unit) (λ m held. record { began = held.began; prompt = held.prompt; holds = held.holds; sure = held.sure }) (marks_of Recorder marks) h.marks_hold;
+  marks_hold = All-weaker (MarkIsKept (once_mended s) b unit) (MarkIsKept s b unit) (λ m held. record { began = held.began; prompt = held.prompt; holds = held.holds; sure = held.sure }) (marks_of Recorder marks) h.marks_hold;
   marks_rise = h.marks_rise;
   marks_until = h.marks_until;
 }
 
-module _ (s : Started) {U V : State} (due : ℕ) (b : Book) (marks : List Mark) (h : Holds s due b marks U) (before : IsCoherent U) where
+module _ (s : Started) {U V : State} (due : ℕ) (b : Book) (marks : List Mark) (h : UnitFollowsBook s due b marks U) (before : IsCoherent U) where
   -- every image goes on to decode
   decodes-on : (R : List ℕ → List ℕ → Type 0) → LeavesOnly U V R → ((x c : List ℕ) → R x c → Decodes x → Decodes c) → (c : List ℕ) → V.left_since s.began c → Decodes c
   decodes-on R run goes c on =
@@ -165,8 +165,8 @@ module _ (s : Started) {U V : State} (due : ℕ) (b : Book) (marks : List Mark) 
 
   -- marks go on to hold where no step falls behind
   held-all : (R : List ℕ → List ℕ → Type 0) → LeavesOnly U V R → (S : UnitView → UnitView → Type 0) (d : Book) → ((number_a number_b : List ℕ) → LeavesViews (seen_unit number_a number_b U) (seen_unit number_a number_b V) S) →
-      ((number_a number_b : List ℕ) (u v : UnitView) → (seen_unit number_a number_b U).may_leave u → S u v → u.last ≤ v.last) → ((i : HistoryMinute) → Contains b.sure i → Contains d.sure i) → All (IsHeld s d V) (marks_of Recorder marks)
-  held-all R left S d run rises sure = All-weaker (IsHeld s b U) (IsHeld s d V)
+      ((number_a number_b : List ℕ) (u v : UnitView) → (seen_unit number_a number_b U).may_leave u → S u v → u.last ≤ v.last) → ((i : HistoryMinute) → Contains b.sure i → Contains d.sure i) → All (MarkIsKept s d V) (marks_of Recorder marks)
+  held-all R left S d run rises sure = All-weaker (MarkIsKept s b U) (MarkIsKept s d V)
       (λ m held. record {
         began = held.began;
         prompt = prompt-on R m left (held.holds [] []).0 held.prompt;
@@ -176,7 +176,7 @@ module _ (s : Started) {U V : State} (due : ℕ) (b : Book) (marks : List Mark) 
       }) (marks_of Recorder marks) h.marks_hold
 
   -- a step beside the minutes
-  pub holds-aside : (R : List ℕ → List ℕ → Type 0) → LeavesOnly U V R → ((x c : List ℕ) → R x c → (recorded c ≡ recorded x) × (last_kept c ≡ last_kept x) × (issued_bytes c ≡ issued_bytes x) × (Decodes x → Decodes c)) → ((x c : List ℕ) → R x c → AreRowsOn s x c) → Holds s due b marks V
+  pub holds-aside : (R : List ℕ → List ℕ → Type 0) → LeavesOnly U V R → ((x c : List ℕ) → R x c → (recorded c ≡ recorded x) × (last_kept c ≡ last_kept x) × (issued_bytes c ≡ issued_bytes x) × (Decodes x → Decodes c)) → ((x c : List ℕ) → R x c → AreRowsOn s x c) → UnitFollowsBook s due b marks V
   holds-aside R run aside steps = record {
     unit_holds = λ number_a number_b. unit-aside (FillsDays s.days) s.first IsAside s.began due b (h.unit_holds number_a number_b) (goes number_a number_b) (λ u v is. is);
     decodes = decodes-on R run (λ x c here. (aside x c here).3);
@@ -193,7 +193,7 @@ module _ (s : Started) {U V : State} (due : ℕ) (b : Book) (marks : List Mark) 
           (λ x c here. (shown-days number_a number_b c ∙ (aside x c here).0 ∙ sym (shown-days number_a number_b x), shown-last number_a number_b c ∙ (aside x c here).1 ∙ sym (shown-last number_a number_b x)))
 
   -- calls that only read
-  pub holds-read : LeavesOnly U V Unchanged → Holds s due b marks V
+  pub holds-read : LeavesOnly U V Unchanged → UnitFollowsBook s due b marks V
   holds-read run = holds-aside Unchanged run (λ x c none. absurd none) (λ x c none. absurd none)
 
   -- KEEP, once it was mended
@@ -230,7 +230,7 @@ module _ (s : Started) {U V : State} (due : ℕ) (b : Book) (marks : List Mark) 
 
     -- a minute was kept, and is marked
     pub holds-kept : (m : Mark) → m.device ≡ Recorder → m.minute ≡ i.minute → m.clock ≡ V.clock → V.clock ≤ U.clock + 12 → IsCoherent V → IsSettled V →
-        ((c : List ℕ) → V.may_leave c → (x : List ℕ) × U.may_leave x × journal.IsKept (seen_by_unit i) x c) → Holds s (suc i.minute) (kept i b) (marks ++ m ∷ []) V
+        ((c : List ℕ) → V.may_leave c → (x : List ℕ) × U.may_leave x × journal.IsKept (seen_by_unit i) x c) → UnitFollowsBook s (suc i.minute) (kept i b) (marks ++ m ∷ []) V
     holds-kept m device is clock most whole settled ends = record {
       unit_holds = λ number_a number_b.
           let rule = (keep-unit (FillsDays s.days) s.first KeepsMinute GivesUpDay (days-go-on s.days) s.began due b i (ruled number_a number_b) late (lit number_a number_b)
@@ -243,10 +243,10 @@ module _ (s : Started) {U V : State} (due : ℕ) (b : Book) (marks : List Mark) 
       issued = issued-on (journal.IsKeeping (seen_by_unit i) odometer) run (λ x c here. issued-besides x c here.outside);
       rows = rows-on (journal.IsKeeping (seen_by_unit i) odometer) run kept-rows;
       low = low-on (journal.IsKeeping (seen_by_unit i) odometer) run kept-low;
-      marks_hold = subst (All (IsHeld s (kept i b) V)) (sym (marks-more marks m device))
-          (All-append (IsHeld s (kept i b) V) (marks_of Recorder marks) (m ∷ [])
+      marks_hold = subst (All (MarkIsKept s (kept i b) V)) (sym (marks-more marks m device))
+          (All-append (MarkIsKept s (kept i b) V) (marks_of Recorder marks) (m ∷ [])
           (held-all (journal.IsKeeping (seen_by_unit i) odometer) run (IsKeeping KeepsMinute GivesUpDay i) (kept i b) keeps keeps-up (λ j at. Contains-append_left b.sure (i ∷ []) j at))
-          (all-one (IsHeld s (kept i b) V) m (record {
+          (all-one (MarkIsKept s (kept i b) V) m (record {
             began = let began : s.began ≤ U.clock = (h.unit_holds [] []).later in omega (arith, began, run.later, clock);
             prompt = λ told.
                 let x = told-image U.image (sym run.tells ∙ told) in
@@ -270,7 +270,7 @@ module _ (s : Started) {U V : State} (due : ℕ) (b : Book) (marks : List Mark) 
     }
 
     -- power was lost in it
-    pub holds-broken : Holds s (suc i.minute) (broken i b) marks V
+    pub holds-broken : UnitFollowsBook s (suc i.minute) (broken i b) marks V
     holds-broken = record {
       unit_holds = λ number_a number_b.
           let rule = keep-unit_dark (FillsDays s.days) s.first KeepsMinute GivesUpDay (days-go-on s.days) s.began due b i (ruled number_a number_b) late (lit number_a number_b) in
@@ -285,7 +285,7 @@ module _ (s : Started) {U V : State} (due : ℕ) (b : Book) (marks : List Mark) 
     }
 
   -- POWER IS BACK, and this minute is found
-  pub holds-found : (k : ℕ) → LeavesOnly U V Unchanged → ((c : List ℕ) → V.may_leave c → last_kept c ≡ k) → All (λ i. i.minute ≤ k) b.sure → Holds s due (found k b) marks V
+  pub holds-found : (k : ℕ) → LeavesOnly U V Unchanged → ((c : List ℕ) → V.may_leave c → last_kept c ≡ k) → All (λ i. i.minute ≤ k) b.sure → UnitFollowsBook s due (found k b) marks V
   holds-found k run is sure = record {
     unit_holds = λ number_a number_b.
         let goes = rests number_a number_b in

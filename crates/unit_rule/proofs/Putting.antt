@@ -10,10 +10,10 @@ use Rattle.gated_ring.specs.Ring.{PointsInside}
 use Rattle.unit_model.specs.declared.layout.TheConstants.{OWED}
 use Rattle.unit_model.specs.Image.{day_ring}
 use Rattle.unit_owed.specs.Owed.{Cell, OwedRow, Row, rows_in, row_in, row_index, entry_of, cell_entries, placed, in_order, seen_row, row_view}
-use Rattle.unit_owed.specs.Rows.{entry_word, with_cell, IsPuttingCell, IsPutting as IsPuttingRow, IsPut as IsPutRow, HasRow}
+use Rattle.unit_owed.specs.Rows.{entry_word, with_cell, IsPuttingCell, IsPutting as IsPuttingRow, OwedRowHas as IsPutRow, HasRow}
 use Rattle.unit_owed.proofs.Laws.{view_by_row}
 use Rattle.device_rule.specs.Views.{unit_view}
-use Rattle.device_rule.specs.Steps.{IsPutting, IsPut, cleared, owing}
+use Rattle.device_rule.specs.Steps.{IsPutting, UnitOwes, cleared, owing}
 use Rattle.device_rule.proofs.OwedView.{filter-fold}
 use Rattle.unit_rule.proofs.Cells.{elsewhere, cleared_cells, put_cells, before_all, ordered_back, ordered_last}
 use Rattle.unit_rule.proofs.Beginning.{last_same, recorded_same}
@@ -107,10 +107,10 @@ module _ (a b : List ℕ) (e : Entry) (x c : List ℕ) (apart : a ≢ b) (known 
   pub second_putting : All (λ d. d.minute < e.minute) (cleared e (row_view b x)).cells → IsPuttingRow b e x c → IsPutting B e (unit_view a b x) (unit_view a b c)
   second_putting all is = second_by is.outside (view_by_row x c a (is.others a apart)) (own_seen b e x c late all is)
 
-  pub first_put : All (λ d. d.minute < e.minute) (cleared e (row_view a x)).cells → HasRow a x → IsPutRow a e x c → IsPut A e (unit_view a b x) (unit_view a b c)
+  pub first_put : All (λ d. d.minute < e.minute) (cleared e (row_view a x)).cells → HasRow a x → IsPutRow a e x c → UnitOwes A e (unit_view a b x) (unit_view a b c)
   unfolding unit_view
   first_put all has is = with_row_a is.putting.outside (view_by_row x c b (is.putting.others b back)) (owing e (row_view a x)) (own_put a e x c late all has is)
 
-  pub second_put : All (λ d. d.minute < e.minute) (cleared e (row_view b x)).cells → HasRow b x → IsPutRow b e x c → IsPut B e (unit_view a b x) (unit_view a b c)
+  pub second_put : All (λ d. d.minute < e.minute) (cleared e (row_view b x)).cells → HasRow b x → IsPutRow b e x c → UnitOwes B e (unit_view a b x) (unit_view a b c)
   unfolding unit_view
   second_put all has is = with_row_b is.putting.outside (view_by_row x c a (is.putting.others a apart)) (owing e (row_view b x)) (own_put b e x c late all has is)

@@ -13,10 +13,10 @@ use Rattle.device_rule.proofs.Viewed.{seen-coherent}
 use Rattle.safety_model.specs.Unit.{marks_of, UnitMarkHolds, UnitSafe}
 use Rattle.safety_model.proofs.Giving.{unit-minutes, unit-marked}
 use Rattle.unit_rule.specs.Rule.{Started, seen_unit}
-use Rattle.unit_rule.specs.Marks.{IsHeld, Holds}
+use Rattle.unit_rule.specs.Marks.{MarkIsKept, UnitFollowsBook}
 
-module _ (s : Started) (past : List HistoryMinute) (lost : List (List HistoryMinute)) (due : ℕ) (b : Book) (marks : List Mark) (unit : State) (whole : IsCoherent unit) (follows : Follows past lost b) (h : Holds s due b marks unit) where
-  mark-holds : (m : Mark) → IsHeld s b unit m → UnitMarkHolds s.days past lost unit m
+module _ (s : Started) (past : List HistoryMinute) (lost : List (List HistoryMinute)) (due : ℕ) (b : Book) (marks : List Mark) (unit : State) (whole : IsCoherent unit) (follows : Follows past lost b) (h : UnitFollowsBook s due b marks unit) where
+  mark-holds : (m : Mark) → MarkIsKept s b unit m → UnitMarkHolds s.days past lost unit m
   mark-holds m held = record {
     i = held.sure.0;
     minute = held.sure.2;
@@ -33,5 +33,5 @@ module _ (s : Started) (past : List HistoryMinute) (lost : List (List HistoryMin
     minutes = unit-minutes s.days past lost [] [] b follows s.first s.began due unit (h.unit_holds [] []);
     decodes = h.decodes;
     in_order = h.marks_rise;
-    marked = λ m at. mark-holds m (All-contains (IsHeld s b unit) (marks_of Recorder marks) m h.marks_hold at);
+    marked = λ m at. mark-holds m (All-contains (MarkIsKept s b unit) (marks_of Recorder marks) m h.marks_hold at);
   }

@@ -10,7 +10,7 @@ use Rattle.unit_model.proofs.WholeDays.{decoded_of}
 use Rattle.unit_minutes.specs.DayOdometers.{RecordsDay}
 use Rattle.minute_model.specs.declared.Rule.{Rule}
 use Rattle.log_model.specs.Log.{RunLog}
-use Rattle.log_model.specs.Course.{Told}
+use Rattle.log_model.specs.Course.{ToldSecond}
 use Rattle.log_model.specs.Spans.{spans_of}
 use Rattle.log_model.specs.declared.lines.Mark.{Mark}
 use Rattle.history_model.specs.History.{limit_of}
@@ -21,7 +21,7 @@ use Rattle.history_model.proofs.Filters.{all-one}
 use Rattle.device_rule.specs.Views.{unit_view}
 use Rattle.device_rule.specs.Filling.{seen_by_unit}
 use Rattle.unit_rule.specs.Rule.{Started}
-use Rattle.unit_rule.specs.Marks.{Holds}
+use Rattle.unit_rule.specs.Marks.{UnitFollowsBook}
 use Rattle.run_unit_course.specs.Legs.{Reckoned, Travel, reckoned, not_travelled, travelled, stranded, resumed, kilometres_of, AreLegs}
 use Rattle.unit_rule.specs.Odometer.{odometer_by, odometer_after, ShowsOdometer, IsBegunBy, ShowsDays, HasTravelled, IsBesideTravel, IsKeepingDays, OdometerSafe}
 use Rattle.unit_rule.proofs.Moves.{shown-last}
@@ -103,7 +103,7 @@ module _ (start : ℕ) (b : Book) (g : Travel) {U V : State} (t : HasTravelled s
   travelled-read run = travelled-aside Unchanged run (λ x c never. absurd never)
 
   -- KEEP of a minute with the odometer of what was travelled up to it
-  module _ (s : Started) (due : ℕ) (marks : List Mark) (h : Holds s due b marks U) (i : HistoryMinute) (odometer leg : ℕ) (is : odometer ≡ odometer_by (odometer_after start g.before) leg) (none : b.maybe ≡ None) (late : due ≤ i.minute)
+  module _ (s : Started) (due : ℕ) (marks : List Mark) (h : UnitFollowsBook s due b marks U) (i : HistoryMinute) (odometer leg : ℕ) (is : odometer ≡ odometer_by (odometer_after start g.before) leg) (none : b.maybe ≡ None) (late : due ≤ i.minute)
       (run : LeavesOnly U V (IsKeepingDays (seen_by_unit i) odometer)) where
     goes-on : odometer ≡ odometer_after start (g.before ++ leg ∷ [])
     goes-on = is ∙ sym (fold-append odometer_by start g.before (leg ∷ []))
@@ -285,7 +285,7 @@ module _ (start : ℕ) (b : Book) (g : Travel) {U V : State} (t : HasTravelled s
           })
 
 -- at the end, where the legs of what was travelled are those of the spans
-pub odometer-safe : (rule : Rule) (log : RunLog) (told : List Told) (start : ℕ) (b : Book) (g : Travel) (unit : State) → HasTravelled start b g unit →
+pub odometer-safe : (rule : Rule) (log : RunLog) (told : List ToldSecond) (start : ℕ) (b : Book) (g : Travel) (unit : State) → HasTravelled start b g unit →
     ((x : List ℕ) → unit.may_leave x → (shown : ShowsOdometer start b g x) → (legs : List ℕ) × AreLegs rule (limit_of log) (last_kept x) (spans_of told) legs × (kilometres_of legs ≡ kilometres_of (g.before ++ shown.leg ∷ []))) →
     (x : List ℕ) → unit.may_leave x → OdometerSafe rule log told start x
 odometer-safe rule log told start b g unit t are x left =

@@ -10,7 +10,7 @@ use Rattle.unit_minutes.specs.Keeping.{IsKeeping}
 use Rattle.history_model.specs.Minutes.{HistoryMinute}
 use Rattle.minute_model.specs.declared.Rule.{Rule}
 use Rattle.log_model.specs.Log.{RunLog}
-use Rattle.log_model.specs.Course.{Told}
+use Rattle.log_model.specs.Course.{ToldSecond}
 use Rattle.log_model.specs.Spans.{spans_of}
 use Rattle.history_model.specs.Book.{Book, all}
 use Rattle.history_model.specs.History.{limit_of}
@@ -76,7 +76,7 @@ pub record IsKeepingDays (k : UnitMinute) (odometer : ℕ) (x c : List ℕ) : Ty
 
 -- An image's odometer is the start's and the whole kilometres of each span, up to the last-kept minute of each or up to one of
 -- which the keeping was broken off.
-pub record OdometerSafe (rule : Rule) (log : RunLog) (told : List Told) (start : ℕ) (x : List ℕ) : Type 0 where
+pub record OdometerSafe (rule : Rule) (log : RunLog) (told : List ToldSecond) (start : ℕ) (x : List ℕ) : Type 0 where
   pub legs : List ℕ
   pub are : AreLegs rule (limit_of log) (last_kept x) (spans_of told) legs
   pub sum_is : odometer_at x ≡ min (start + kilometres_of legs) HIGHEST_ODOMETER

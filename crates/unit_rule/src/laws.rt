@@ -6,7 +6,7 @@ ghost use Rattle.unit_model.specs.Decoding.{Decodes};
 ghost use Rattle.unit_model.specs.Image.{last_kept, odometer_at, recorded};
 ghost use Rattle.minute_model.specs.declared.Rule.{Rule};
 ghost use Rattle.log_model.specs.Log.{RunLog};
-ghost use Rattle.log_model.specs.Course.{Told};
+ghost use Rattle.log_model.specs.Course.{ToldSecond};
 ghost use Rattle.log_model.specs.Spans.{spans_of};
 ghost use Rattle.log_model.specs.declared.lines.Mark.{Mark};
 ghost use Rattle.history_model.specs.Minutes.{HistoryMinute};
@@ -15,7 +15,7 @@ ghost use Rattle.history_model.specs.History.{limit_of};
 ghost use Rattle.device_rule.specs.Filling.{filled_with};
 ghost use Rattle.safety_model.specs.Unit.{UnitSafe, marks_of};
 ghost use Rattle.unit_rule.specs.Rule.{Started, started};
-ghost use Rattle.unit_rule.specs.Marks.{Holds};
+ghost use Rattle.unit_rule.specs.Marks.{UnitFollowsBook};
 ghost use Rattle.unit_rule.specs.Complete.{AreMarksOf};
 ghost use Rattle.run_unit_course.specs.Legs.{Travel, kilometres_of, AreWhole, whole_legs};
 ghost use Rattle.unit_rule.specs.Odometer.{HasTravelled, OdometerSafe};
@@ -26,13 +26,13 @@ use tach_media::Medium;
 /// might have left shows the start and a front of the history, retained, and decodes, and each mark is kept.
 pub fn a_followed_run_is_safe<M: Medium>(unit: &M)
     ensures { (s : Started) (past : List HistoryMinute) (lost : List (List HistoryMinute)) (due : ℕ) (b : Book) (marks : List Mark) →
-        Holds s due b marks (M.state unit.now) → Follows past lost b → UnitSafe s.days past lost marks s.began (M.state unit.now) }
+        UnitFollowsBook s due b marks (M.state unit.now) → Follows past lost b → UnitSafe s.days past lost marks s.began (M.state unit.now) }
 {}
 
 /// An image that a read gives decodes, and its last-kept minute is earlier than any that may be decided next.
 pub fn what_is_found_decodes<M: Medium>(unit: &M)
-    ensures decodes { (s : Started) (due : ℕ) (b : Book) (marks : List Mark) → Holds s due b marks (M.state unit.now) → (x : List ℕ) → (M.state unit.now).image ≡ Some x → Decodes x }
-    ensures earlier { (s : Started) (due : ℕ) (b : Book) (marks : List Mark) → Holds s due b marks (M.state unit.now) → (x : List ℕ) → (M.state unit.now).image ≡ Some x → last_kept x < due }
+    ensures decodes { (s : Started) (due : ℕ) (b : Book) (marks : List Mark) → UnitFollowsBook s due b marks (M.state unit.now) → (x : List ℕ) → (M.state unit.now).image ≡ Some x → Decodes x }
+    ensures earlier { (s : Started) (due : ℕ) (b : Book) (marks : List Mark) → UnitFollowsBook s due b marks (M.state unit.now) → (x : List ℕ) → (M.state unit.now).image ≡ Some x → last_kept x < due }
 {}
 
 /// The odometer of an image that a stop may leave is the start's and the whole kilometres of each time that there was power, up
@@ -45,20 +45,20 @@ pub fn an_odometer_is_a_sum<M: Medium>(unit: &M)
 /// Where each minute that the spans of a run have decided was kept, the odometer is the start's and the whole kilometres of each
 /// span, up to the last minute that it has decided: no other one is `OdometerSafe`.
 pub fn a_whole_odometer()
-    ensures { (rule : Rule) (log : RunLog) (told : List Told) (start : ℕ) (x : List ℕ) → OdometerSafe rule log told start x → AreWhole rule (limit_of log) (last_kept x) (spans_of told) →
+    ensures { (rule : Rule) (log : RunLog) (told : List ToldSecond) (start : ℕ) (x : List ℕ) → OdometerSafe rule log told start x → AreWhole rule (limit_of log) (last_kept x) (spans_of told) →
         odometer_at x ≡ min (start + kilometres_of (whole_legs rule (spans_of told))) HIGHEST_ODOMETER }
 {}
 
 /// A unit that has an image which decodes, and no other, is a start: so is each image that a run may leave.
 pub fn an_image_that_decodes_is_a_start<M: Medium>(unit: &M)
     ensures { (x : List ℕ) (number_a number_b : Option (List ℕ)) (due : ℕ) → ((c : List ℕ) → (M.state unit.now).left_since (M.state unit.now).clock c → c ≡ x) → Decodes x → last_kept x < due →
-        Holds (started x number_a number_b (M.state unit.now).clock) due not_begun [] (M.state unit.now) }
+        UnitFollowsBook (started x number_a number_b (M.state unit.now).clock) due not_begun [] (M.state unit.now) }
 {}
 
 /// Where nothing was lost and no minute is begun, each image that a stop may leave has the start and all sure minutes, of which the
 /// newest 366 days are retained.
 pub fn what_is_left_is_whole<M: Medium>(unit: &M)
-    ensures { (s : Started) (due : ℕ) (b : Book) (marks : List Mark) → Holds s due b marks (M.state unit.now) → b.maybe ≡ None → AreLost [] b →
+    ensures { (s : Started) (due : ℕ) (b : Book) (marks : List Mark) → UnitFollowsBook s due b marks (M.state unit.now) → b.maybe ≡ None → AreLost [] b →
         (x : List ℕ) → (M.state unit.now).may_leave x → recorded x ≡ newest_days 366 (filled_with s.days b.sure) }
 {}
 

@@ -6,12 +6,12 @@ ghost use Rattle.unit_model.specs.NewImage.{new_image};
 ghost use Rattle.gated_ring.specs.Ring.{PointsInside};
 ghost use Rattle.history_model.specs.Minutes.{HistoryMinute};
 ghost use Rattle.unit_owed.specs.Owed.{owed_to, row_view};
-ghost use Rattle.unit_owed.specs.Rows.{IsPutting as IsPuttingRow, IsPut as IsPutRow, IsRowBeginning, IsRowBegun, HasRow};
+ghost use Rattle.unit_owed.specs.Rows.{IsPutting as IsPuttingRow, OwedRowHas as IsPutRow, IsRowBeginning, IsRowBegun, HasRow};
 ghost use Rattle.unit_minutes.specs.declared.notes.Notes.{Notes};
 ghost use Rattle.unit_minutes.specs.Image.{IsKeeping as IsKeepingImage, IsKept as IsKeptImage};
 ghost use Rattle.unit_minutes.specs.Mends.{IsMending as IsMendingImage, IsMended as IsMendedImage};
 ghost use Rattle.device_rule.specs.Views.{unit_view};
-ghost use Rattle.device_rule.specs.Steps.{IsKeeping, IsKept, IsPutting, IsPut, IsBeginning, IsBegun, IsMending, IsMended, cleared};
+ghost use Rattle.device_rule.specs.Steps.{IsKeeping, IsKept, IsPutting, UnitOwes, IsBeginning, IsBegun, IsMending, IsMended, cleared};
 ghost use Rattle.device_rule.specs.Filling.{seen_by_unit, KeepsMinute, GivesUpDay};
 
 /// A moment of the keeping of a minute of the history is one of the rule's keeping: the minute kept, or not yet, with the oldest
@@ -55,10 +55,10 @@ pub fn a_putting_is_seen()
 pub fn an_entry_is_put()
     ensures first { (a b : List ℕ) (e : Entry) (x c : List ℕ) → a ≢ b → PointsInside day_ring x → 1440 ≤ e.minute →
         All (λ d. d.minute < e.minute) (cleared e (row_view a x)).cells →
-        HasRow a x → IsPutRow a e x c → IsPut A e (unit_view a b x) (unit_view a b c) }
+        HasRow a x → IsPutRow a e x c → UnitOwes A e (unit_view a b x) (unit_view a b c) }
     ensures second { (a b : List ℕ) (e : Entry) (x c : List ℕ) → a ≢ b → PointsInside day_ring x → 1440 ≤ e.minute →
         All (λ d. d.minute < e.minute) (cleared e (row_view b x)).cells →
-        HasRow b x → IsPutRow b e x c → IsPut B e (unit_view a b x) (unit_view a b c) }
+        HasRow b x → IsPutRow b e x c → UnitOwes B e (unit_view a b x) (unit_view a b c) }
 {}
 
 /// A moment of a mend is one of the rule's mending; at its end no cell is later than the last-kept minute.

@@ -21,7 +21,7 @@ use Rattle.log_model.specs.declared.lines.SlotFault.{SlotFault}
 use Rattle.log_model.specs.declared.lines.SlotFault.TheVariants.{Moving, Empty}
 use Rattle.log_model.specs.declared.lines.Verdict.TheVariants.{Accepted}
 use Rattle.log_model.specs.Log.{RunLog, cut_in, kept_after, is_torn_in, found_in}
-use Rattle.log_model.specs.Course.{Told, went}
+use Rattle.log_model.specs.Course.{ToldSecond, went}
 use Rattle.log_model.specs.Spans.{spans_of}
 use Rattle.log_model.specs.Causes.{refusals_of}
 use Rattle.history_model.specs.Minutes.{HistoryMinute, card_history}
@@ -36,7 +36,7 @@ abbrev new_cards : Start
 new_cards = record { card_a = new_card; card_b = new_card }
 
 -- how the seconds of these lines went, from 2010-03-01 00:00 on
-abbrev told_from : ℕ → RunLog → List Item → List Told
+abbrev told_from : ℕ → RunLog → List Item → List ToldSecond
 told_from start log lines = (went log (seconds_of start lines)).told
 
 abbrev minutes_from : ℕ → RunLog → List Item → List HistoryMinute

@@ -4,7 +4,7 @@ ghost use Rattle.tach_media.specs.Medium.{LeavesOnly, Reads, HasCause, LiesInsid
 ghost use Rattle.card_model.specs.Days.{Day};
 ghost use Rattle.card_model.specs.Bytes.{two_bytes};
 ghost use Rattle.card_model.specs.Changes.{early, until, date_of, cut};
-ghost use Rattle.card_model.specs.Image.{Holds, IsAt, IsPointer, IsStringShape, at};
+ghost use Rattle.card_model.specs.Image.{HoldsDays, IsAt, IsPointer, IsStringShape, at};
 ghost use Rattle.card_days.specs.Moments.{FileFitsIn};
 ghost use Rattle.card_days.specs.Rears.{IsRear, LiesOn};
 ghost use Rattle.card_days.specs.Steps.{SettlesIfSettled};
@@ -65,11 +65,11 @@ impl Circle {
         ensures trimmed { OnOk result (IfSome (M.state medium.old).image (λ x. IfSome (M.state medium.new).image (IsTrimmed self.now date x))) }
         ensures moments { LeavesOnly (M.state medium.old) (M.state medium.new) (IsTrimming self.now date 0) }
         ensures settled { OnOk result (WritesOrReads (M.state medium.old) (M.state medium.new)) }
-        ensures empty { IfSome (M.state medium.old).image (λ x. Holds self.now x [] → Reads (M.state medium.old) (M.state medium.new) (is_err result)) }
+        ensures empty { IfSome (M.state medium.old).image (λ x. HoldsDays self.now x [] → Reads (M.state medium.old) (M.state medium.new) (is_err result)) }
         ensures cause { HasCause (M.state medium.old) (M.state medium.new) (is_err result) }
         ensures most { (M.state medium.new).clock ≤ (M.state medium.old).clock + DAYS_MOST }
-        ensures writes { IfSome (M.state medium.old).image (λ x. (days : List Day) → Holds self.now x days → (M.state medium.new).clock + length (until date days) ≤ (M.state medium.old).clock + (length days + 1)) }
-        ensures drops { OnOk result (IfSome (M.state medium.old).image (λ x. (days : List Day) → Holds self.now x days → (M.state medium.new).clock + length (until date days) ≤ (M.state medium.old).clock + length days)) }
+        ensures writes { IfSome (M.state medium.old).image (λ x. (days : List Day) → HoldsDays self.now x days → (M.state medium.new).clock + length (until date days) ≤ (M.state medium.old).clock + (length days + 1)) }
+        ensures drops { OnOk result (IfSome (M.state medium.old).image (λ x. (days : List Day) → HoldsDays self.now x days → (M.state medium.new).clock + length (until date days) ≤ (M.state medium.old).clock + length days)) }
     {
         let mut rear = self.rear(medium)?;
         let mut later = rear.is_later(date);
@@ -145,7 +145,7 @@ impl Circle {
         ensures cut { OnOk result (IfSome (M.state medium.old).image (λ x. IfSome (M.state medium.new).image (IsCutLast self.now minute x))) }
         ensures moments { LeavesOnly (M.state medium.old) (M.state medium.new) (IsCuttingLast self.now minute) }
         ensures settled { OnOk result (WritesWhereDays self.now (M.state medium.old) (M.state medium.new)) }
-        ensures empty { IfSome (M.state medium.old).image (λ x. Holds self.now x [] → Reads (M.state medium.old) (M.state medium.new) (is_err result)) }
+        ensures empty { IfSome (M.state medium.old).image (λ x. HoldsDays self.now x [] → Reads (M.state medium.old) (M.state medium.new) (is_err result)) }
         ensures cause { HasCause (M.state medium.old) (M.state medium.new) (is_err result) }
         ensures most { (M.state medium.new).clock ≤ (M.state medium.old).clock + 1 }
     {
@@ -168,12 +168,12 @@ impl Circle {
         requires writable { LiesInside (M.state medium.old).writable self.now.base (4 + self.now.size) }
         ensures trimmed { OnOk result (IfSome (M.state medium.old).image (λ x. IfSome (M.state medium.new).image (IsTrim self.now minute x))) }
         ensures moments { LeavesOnly (M.state medium.old) (M.state medium.new) (IsTrimMoment self.now minute) }
-        ensures settled { OnOk result (IfSome (M.state medium.old).image (λ x. (days : List Day) → Holds self.now x days → days ≢ [] → (M.state medium.new).clock < last_count → IsSettled (M.state medium.new))) }
+        ensures settled { OnOk result (IfSome (M.state medium.old).image (λ x. (days : List Day) → HoldsDays self.now x days → days ≢ [] → (M.state medium.new).clock < last_count → IsSettled (M.state medium.new))) }
         ensures still { OnOk result (SettlesIfSettled (M.state medium.old) (M.state medium.new)) }
-        ensures empty { IfSome (M.state medium.old).image (λ x. Holds self.now x [] → Reads (M.state medium.old) (M.state medium.new) (is_err result)) }
+        ensures empty { IfSome (M.state medium.old).image (λ x. HoldsDays self.now x [] → Reads (M.state medium.old) (M.state medium.new) (is_err result)) }
         ensures cause { HasCause (M.state medium.old) (M.state medium.new) (is_err result) }
         ensures most { (M.state medium.new).clock ≤ (M.state medium.old).clock + (DAYS_MOST + 1) }
-        ensures writes { IfSome (M.state medium.old).image (λ x. (days : List Day) → Holds self.now x days → (M.state medium.new).clock + length (until (date_of minute) days) ≤ (M.state medium.old).clock + (length days + 1)) }
+        ensures writes { IfSome (M.state medium.old).image (λ x. (days : List Day) → HoldsDays self.now x days → (M.state medium.new).clock + length (until (date_of minute) days) ≤ (M.state medium.old).clock + (length days + 1)) }
     {
         self.drop_later(medium, first_second(minute))?;
         self.cut(medium, minute)

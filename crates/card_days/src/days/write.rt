@@ -4,8 +4,8 @@ ghost use Rattle.tach_media.specs.Medium.{LeavesOnly, Reads, HasCause, LiesInsid
 ghost use Rattle.tach_media.specs.Plan.{PutsAll, PutsBy};
 ghost use Rattle.card_model.specs.Days.{Day};
 ghost use Rattle.card_model.specs.Changes.{fitting, until, date_of, trimmed};
-ghost use Rattle.card_model.specs.Image.{Holds, IsPointer};
-ghost use Rattle.card_days.specs.Held.{IsHeld, Knows};
+ghost use Rattle.card_model.specs.Image.{HoldsDays, IsPointer};
+ghost use Rattle.card_days.specs.Held.{IsInBounds, Knows};
 ghost use Rattle.card_days.specs.Moments.{FileFitsIn, IfKnown, IsChanging, IsChanged, KnowsChanged, IsDayBeginning, IsDayBegun, KnowsBegun, ClearsChanged, ClearsBegun, BeginsAgain};
 ghost use Rattle.card_days.specs.Plans.{left_in, most_drops, change_pieces, tail_more, beginning_pieces, tail_begun, mend_pieces, km_pieces, tail_km};
 ghost use Rattle.card_days.specs.Steps.{SameDays, IsIdle, IsDropMended, IsMeasured, IsMeasuring, KnowsMeasured, SettlesIfSettled};
@@ -115,7 +115,7 @@ impl Days {
     pub fn add_change<M: Medium>(&mut self, medium: &mut M, word: u16) -> Result<(), Failed>
         requires fits { FileFitsIn self.old.shape (M.state medium.old) }
         requires writable { LiesInside (M.state medium.old).writable self.old.shape.base (4 + self.old.shape.size) }
-        ensures held { IsHeld self.old }
+        ensures held { IsInBounds self.old }
         ensures shape { self.new.shape ≡ self.old.shape }
         ensures puts { PutsBy (M.state medium.old) (M.state medium.new) (is_err result) 2 (2 + 2 * most_drops self.old.shape.size self.old.tail.used 2) (change_pieces self.old word) }
         ensures changed { OnOk result (IfSome (M.state medium.old).image (λ x. IfSome (M.state medium.new).image (IfKnown self.old (IsChanged self.old.shape word) x))) }
@@ -138,7 +138,7 @@ impl Days {
     fn clear_oldest<M: Medium>(&self, medium: &mut M) -> Result<(), Failed>
         requires fits { FileFitsIn self.now.shape (M.state medium.old) }
         requires writable { LiesInside (M.state medium.old).writable self.now.shape.base (4 + self.now.shape.size) }
-        ensures held { IsHeld self.now }
+        ensures held { IsInBounds self.now }
         ensures puts { PutsAll (M.state medium.old) (M.state medium.new) (is_err result) (mend_pieces self.now) }
     {
         let mut plan = self.writing();
@@ -206,14 +206,14 @@ impl Days {
         requires writable { LiesInside (M.state medium.old).writable self.old.shape.base (4 + self.old.shape.size) }
         ensures shape { self.new.shape ≡ self.old.shape }
         ensures trimmed { OnOk result (IfSome (M.state medium.old).image (λ x. IfSome (M.state medium.new).image (IsTrim self.old.shape minute x))) }
-        ensures knows { OnOk result (IfSome (M.state medium.old).image (λ x. IfSome (M.state medium.new).image (λ y. (days : List Day) → Holds self.old.shape x days → Knows self.new y (trimmed minute days)))) }
+        ensures knows { OnOk result (IfSome (M.state medium.old).image (λ x. IfSome (M.state medium.new).image (λ y. (days : List Day) → HoldsDays self.old.shape x days → Knows self.new y (trimmed minute days)))) }
         ensures moments { LeavesOnly (M.state medium.old) (M.state medium.new) (IsTrimMoment self.old.shape minute) }
-        ensures settled { OnOk result (IfSome (M.state medium.old).image (λ x. (days : List Day) → Holds self.old.shape x days → days ≢ [] → (M.state medium.new).clock < last_count → IsSettled (M.state medium.new))) }
+        ensures settled { OnOk result (IfSome (M.state medium.old).image (λ x. (days : List Day) → HoldsDays self.old.shape x days → days ≢ [] → (M.state medium.new).clock < last_count → IsSettled (M.state medium.new))) }
         ensures still { OnOk result (SettlesIfSettled (M.state medium.old) (M.state medium.new)) }
-        ensures empty { IfSome (M.state medium.old).image (λ x. Holds self.old.shape x [] → Reads (M.state medium.old) (M.state medium.new) (is_err result)) }
+        ensures empty { IfSome (M.state medium.old).image (λ x. HoldsDays self.old.shape x [] → Reads (M.state medium.old) (M.state medium.new) (is_err result)) }
         ensures cause { HasCause (M.state medium.old) (M.state medium.new) (is_err result) }
         ensures most { (M.state medium.new).clock ≤ (M.state medium.old).clock + (DAYS_MOST + 1) }
-        ensures writes { IfSome (M.state medium.old).image (λ x. (days : List Day) → Holds self.old.shape x days → (M.state medium.new).clock + length (until (date_of minute) days) ≤ (M.state medium.old).clock + (length days + 1)) }
+        ensures writes { IfSome (M.state medium.old).image (λ x. (days : List Day) → HoldsDays self.old.shape x days → (M.state medium.new).clock + length (until (date_of minute) days) ≤ (M.state medium.old).clock + (length days + 1)) }
     {
         self.circle.trim(medium, minute)?;
         self.tail = self.circle.tail(medium)?;

@@ -5,7 +5,7 @@ ghost use Rattle.unit_model.specs.Image.{IsUnit};
 ghost use Rattle.unit_minutes.specs.Image.{Agrees};
 ghost use Rattle.tach_media.specs.Plan.{PutsAll, PutsBy};
 ghost use Rattle.unit_owed.specs.Owed.{rows_in, owed_to};
-ghost use Rattle.unit_owed.specs.Rows.{entry_word, cell_pieces, row_pieces, putting, beginning, HasRow, IsRowAt, IsRowFor, IsPut, IsPutting, IsRowBegun, IsRowBeginning};
+ghost use Rattle.unit_owed.specs.Rows.{entry_word, cell_pieces, row_pieces, putting, beginning, HasRow, IsRowAt, IsRowFor, OwedRowHas, IsPutting, IsRowBegun, IsRowBeginning};
 ghost use Rattle.unit_owed.specs.Searching.{IsSane};
 
 use super::Journal;
@@ -89,7 +89,7 @@ impl Journal {
         ensures row { OnOk result (IfSome (M.state unit.new).image (HasRow (card_number_bytes number.now))) }
         ensures puts { PutsBy (M.state unit.old) (M.state unit.new) (is_err result) 0 3 (λ x. putting (card_number_bytes number.now) entry.now.minute (entry_word entry.now) (rows_in x)) }
         ensures wrote { OnOk result (IfSome (M.state unit.old).image (λ x. min ((M.state unit.old).clock + 3) last_count ≤ (M.state unit.new).clock)) }
-        ensures put { OnOk result (IfSome (M.state unit.old).image (λ x. IfSome (M.state unit.new).image (IsPut (card_number_bytes number.now) entry.now x))) }
+        ensures put { OnOk result (IfSome (M.state unit.old).image (λ x. IfSome (M.state unit.new).image (OwedRowHas (card_number_bytes number.now) entry.now x))) }
         ensures moments { LeavesOnly (M.state unit.old) (M.state unit.new) (IsPutting (card_number_bytes number.now) entry.now) }
         ensures settled { OnOk result (StaysSettled (M.state unit.old) (M.state unit.new)) }
         ensures cause { HasCause (M.state unit.old) (M.state unit.new) (is_err result) }
@@ -150,7 +150,7 @@ impl Journal {
         ensures same { self.new ≡ self.old }
         ensures agrees { OnOk result (IfSome (M.state unit.new).image (Agrees self.old)) }
         ensures puts { PutsAll (M.state unit.old) (M.state unit.new) (is_err result) (cell_pieces row entry.now.minute (entry_word entry.now)) }
-        ensures put { (number : List ℕ) → IfSome (M.state unit.old).image (IsRowAt row number) → OnOk result (IfSome (M.state unit.old).image (λ x. IfSome (M.state unit.new).image (IsPut number entry.now x))) }
+        ensures put { (number : List ℕ) → IfSome (M.state unit.old).image (IsRowAt row number) → OnOk result (IfSome (M.state unit.old).image (λ x. IfSome (M.state unit.new).image (OwedRowHas number entry.now x))) }
         ensures moments { (number : List ℕ) → IfSome (M.state unit.old).image (IsRowAt row number) → LeavesOnly (M.state unit.old) (M.state unit.new) (IsPutting number entry.now) }
         ensures settled { OnOk result ((M.state unit.new).clock < last_count → IsSettled (M.state unit.new)) }
         ensures cause { HasCause (M.state unit.old) (M.state unit.new) (is_err result) }

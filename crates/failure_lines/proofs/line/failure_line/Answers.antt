@@ -4,16 +4,16 @@ use Rattle.activity_codec.specs.Names.{slot_name}
 use Rattle.activity_codec.specs.declared.values.Slot.{Slot}
 use Rattle.log_model.specs.declared.lines.Break.{Break}
 use Rattle.log_model.specs.declared.lines.Break.TheVariants.{Cut, Tear}
-use Rattle.failure_lines.specs.Failures.{IsTold, IsFailureText}
+use Rattle.failure_lines.specs.Failures.{IsBreakLine, IsFailureText}
 use Rattle.failure_lines.proofs.line.failure_line.Goals as goal
 
-cut_told : (b : Break) (second kept : ℕ) (failed : Bool) (begun : ℕ) (text : List ℕ) → b ≡ Cut second kept failed begun → failed ≡ true → IsFailureText (codes "unit") second (codes "power is cut") text → IsTold b text
-cut_told b second kept failed begun text is yes_failed told = subst (λ (x : Break). IsTold x text) (sym (is ∙ ap (λ (f : Bool). Cut second kept f begun) yes_failed)) told
+cut_told : (b : Break) (second kept : ℕ) (failed : Bool) (begun : ℕ) (text : List ℕ) → b ≡ Cut second kept failed begun → failed ≡ true → IsFailureText (codes "unit") second (codes "power is cut") text → IsBreakLine b text
+cut_told b second kept failed begun text is yes_failed told = subst (λ (x : Break). IsBreakLine x text) (sym (is ∙ ap (λ (f : Bool). Cut second kept f begun) yes_failed)) told
 
 tear_told : (b : Break) (second : ℕ) (slot : Slot) (failed : Bool) (begun : ℕ) (late : Bool) (who text : List ℕ) → b ≡ Tear second slot failed begun late → failed ≡ true → who ≡ slot_name slot ++ codes " card"
-    → IsFailureText who second (codes "it is torn out") text → IsTold b text
+    → IsFailureText who second (codes "it is torn out") text → IsBreakLine b text
 tear_told b second slot failed begun late who text is yes_failed name told =
-    subst (λ (x : Break). IsTold x text) (sym (is ∙ ap (λ (f : Bool). Tear second slot f begun late) yes_failed))
+    subst (λ (x : Break). IsBreakLine x text) (sym (is ∙ ap (λ (f : Bool). Tear second slot f begun late) yes_failed))
     (subst (λ (w : List ℕ). IsFailureText w second (codes "it is torn out") text) name told)
 
 pub returns-else-not-failed : goal.returns-else-not-failed

@@ -6,13 +6,13 @@ use Rattle.std.proofs.lemmas.List.{take_more, take_all}
 use Rattle.std.proofs.lemmas.List.Sums.{count_by_more_yes, count_by_more_no}
 use Rattle.std.proofs.lemmas.Option.{slice_get_within, get_or_from_slice_get}
 use Rattle.log_model.specs.declared.lines.Break.{Break}
-use Rattle.failure_lines.specs.Failures.{IsTold, AreTold, is_failed}
+use Rattle.failure_lines.specs.Failures.{IsBreakLine, AreTold, is_failed}
 use Rattle.failure_lines.proofs.More.{told_more}
 use Rattle.failure_lines.proofs.lines.put_lines.Goals.{then-is_failed, else-is_failed}
 use Rattle.failure_lines.proofs.lines.put_lines.Goals as goal
 
 -- one break more
-one_more : (breaks : List Break) (i : ℕ) (b : Break) (text line : List ℕ) → slice_get breaks i ≡ Some b → AreTold (take i breaks) text → IsTold b line → AreTold (take (i + 1) breaks) (text ++ line)
+one_more : (breaks : List Break) (i : ℕ) (b : Break) (text line : List ℕ) → slice_get breaks i ≡ Some b → AreTold (take i breaks) text → IsBreakLine b line → AreTold (take (i + 1) breaks) (text ++ line)
 one_more breaks i b text line here is told =
     subst (λ (bs : List Break). AreTold bs (text ++ line)) (sym (take_more breaks i b (slice_get_within breaks i b here)))
     (subst (λ (x : Break). AreTold (take i breaks ++ x ∷ []) (text ++ line)) (sym (get_or_from_slice_get breaks i b b here)) (told_more (take i breaks) b text line is told))

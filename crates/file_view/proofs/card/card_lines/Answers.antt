@@ -2,7 +2,7 @@ use Rattle.std.proofs.Common.{◌≡◌, ◌∙◌, ◌≤◌, ℕ, ◌+◌, ◌
 use Rattle.std.proofs.Math.Seq.{take-length}
 use Rattle.activity_codec.specs.declared.entries.Entry.{Entry}
 use Rattle.card_model.specs.Days.{Day}
-use Rattle.card_model.specs.Image.{StringShape, Holds}
+use Rattle.card_model.specs.Image.{StringShape, HoldsDays}
 use Rattle.card_model.specs.Walk.{days_of}
 use Rattle.card_image.specs.CardFile.{string_alone}
 use Rattle.card_retention.specs.Entries.{entries_up_to}

@@ -2,7 +2,7 @@ use Rattle.std.proofs.Common.{◌≡◌, ◌∙◌, ◌≤◌, ℕ, ◌+◌, ◌
 use Rattle.std.proofs.Math.Seq.{take-length}
 use Rattle.std.proofs.lemmas.List.{take_more}
 use Rattle.card_model.specs.Days.{Day}
-use Rattle.card_model.specs.Image.{StringShape, IsStringShape, Holds}
+use Rattle.card_model.specs.Image.{StringShape, IsStringShape, HoldsDays}
 use Rattle.card_model.specs.Walk.{days_of}
 use Rattle.card_image.specs.CardFile.{string_alone}
 use Rattle.tach_media.specs.Medium.{bytes_at}
@@ -24,7 +24,7 @@ use Rattle.file_view.proofs.HandDays.{hands_early, hands_low}
 use Rattle.file_view.proofs.hands.hands_in.Goals as goal
 
 -- a head that was read is that of a day that stands there
-read_day : (r : StringShape) → IsStringShape r → (x : List ℕ) → r ≡ record { base = 0; size = length x - 4 } → 4 ≤ length x → Holds r x (days_of (record { base = 0; size = length x - 4 }) x) → (A : List DayHead) → A ≡ heads_of r x (days_of r x) →
+read_day : (r : StringShape) → IsStringShape r → (x : List ℕ) → r ≡ record { base = 0; size = length x - 4 } → 4 ≤ length x → HoldsDays r x (days_of (record { base = 0; size = length x - 4 }) x) → (A : List DayHead) → A ≡ heads_of r x (days_of r x) →
     (k : ℕ) → k < length A → IsDayAt r x (get_or A k head_none) (get_or (days_of r x) k day_none) × (k < length (days_of r x))
 read_day r shape x is long holds A heads k low =
     let count : length A ≡ length (days_of r x) = ap (λ (l : List DayHead). length l) heads ∙ heads_count r x 0 (days_of r x) in

@@ -9,7 +9,7 @@ use Rattle.run_crew.specs.declared.cards.Known.{Known}
 use Rattle.run_crew.specs.declared.cards.Accepted.{Accepted}
 use Rattle.run_crew.specs.Cards.{known_of, session_of}
 use Rattle.run_minutes.specs.declared.keeper.Keeper.{Keeper}
-use Rattle.run_minutes.specs.Keeping.{CardReady, HasItsRow, HaveRows}
+use Rattle.run_minutes.specs.Keeping.{CardMayBeCalled, HasItsRow, HaveRows}
 use Rattle.run_minutes.proofs.Units.{unit-stays}
 use Rattle.run_outcome.specs.declared.outcome.Outcome.{Outcome}
 use Rattle.run_insertion.specs.Entering.{ending_of, measured, breaks_by, finds_by, Way}
@@ -174,8 +174,8 @@ returns-clause-going g c = on_ok c.accept-answer.result (λ well.
     let same = others-session e.which old new k.others in
     let rows : (card : Card) → HasItsRow old U card → HasItsRow new V card = λ card had. ok_gives c.accept-answer.result (c.accept-answer.ensures.rows card had) well in
     let others = other-ready old (g.C.Chip.card c.args.card.now) (g.D.Chip.card c.args.others.now) (g.C.Chip.state c.args.card.now) (g.D.Chip.state c.args.others.now) e.which h.ready.card_a h.ready.card_b in
-    let still : CardReady (known_of new (other e.which)) (g.D.Chip.card c.args.others.now) (g.D.Chip.state c.args.others.now) =
-    subst (λ (q : Known). CardReady q (g.D.Chip.card c.args.others.now) (g.D.Chip.state c.args.others.now)) (sym k.others) others in
+    let still : CardMayBeCalled (known_of new (other e.which)) (g.D.Chip.card c.args.others.now) (g.D.Chip.state c.args.others.now) =
+    subst (λ (q : Known). CardMayBeCalled q (g.D.Chip.card c.args.others.now) (g.D.Chip.state c.args.others.now)) (sym k.others) others in
     let both = both-ready new (g.C.Chip.card c.accept-answer.new.card) (g.D.Chip.card c.args.others.now) (g.C.Chip.state c.accept-answer.new.card) (g.D.Chip.state c.args.others.now) e.which c.accept-answer.ensures.card still in
     record {
       ready = record { unit_ready = ok_gives c.accept-answer.result c.accept-answer.ensures.ready well; card_a = both.0; card_b = both.1 };

@@ -2,7 +2,7 @@ use Rattle.std.proofs.Common.{◌≡◌, ℕ, ◌+◌, ◌-◌, ◌≤◌, true,
 use Rattle.run_promise.specs.Between.{devices}
 use Rattle.run_minutes.specs.Books.{HaveTime}
 use Rattle.run_minutes.specs.Later.{AreLater, AreCalm}
-use Rattle.run_acts.specs.Going.{largest_number, IsWithin}
+use Rattle.run_acts.specs.Going.{largest_number, IsInsideSecond}
 use Rattle.recorder_with_cards.specs.Recorded.{actions_in, RingsActions}
 use Rattle.recorder_with_cards.specs.Carded.{CardsActions}
 use Rattle.run_acts.specs.Power.{is_lit}
@@ -14,7 +14,7 @@ use Rattle.recorder_with_cards.proofs.acts.act_all.Given as goal
 
 abbrev pub invariant-loop-i : goal.invariant-loop-i
 invariant-loop-i g l = record {
-  going : IsWithin l.run (g.M.Medium.state l.unit) (g.C.Chip.card l.card_a) (g.D.Chip.card l.card_b) (g.C.Chip.state l.card_a) (g.D.Chip.state l.card_b);
+  going : IsInsideSecond l.run (g.M.Medium.state l.unit) (g.C.Chip.card l.card_a) (g.D.Chip.card l.card_b) (g.C.Chip.state l.card_a) (g.D.Chip.state l.card_b);
   acted : AreActed l.has_power l.speed 0 (between l.from l.i l.items) l.fn.run l.run l.fn.outcome l.outcome;
   ringed : l.has_power ≡ true → length (actions_in (between l.from l.i l.items)) ≡ l.i - l.from → l.i - l.from ≤ largest_number
       → RingsActions (actions_in (between l.from l.i l.items)) (l.i - l.from) l.speed l.fn.run l.run l.fn.outcome l.outcome (devices (g.M.Medium.state l.fn.unit) (g.C.Chip.state l.fn.card_a) (g.D.Chip.state l.fn.card_b)) (devices (g.M.Medium.state l.unit) (g.C.Chip.state l.card_a) (g.D.Chip.state l.card_b));

@@ -5,13 +5,13 @@ use Rattle.trace_model.specs.declared.Action.TheVariants.{Insert, Withdraw, Tear
 use Rattle.log_model.specs.Slots.{refusal}
 use Rattle.log_model.specs.declared.lines.Break.{Break}
 use Rattle.card_slots.specs.Calls.{logged, seat_in, card_in}
-use Rattle.run_crew.specs.Cabin.{Stands}
+use Rattle.run_crew.specs.Cabin.{CabinIsSound}
 use Rattle.run_outcome.specs.Lines.{Listed}
 use Rattle.run_outcome.specs.declared.outcome.Outcome.{Outcome}
 use Rattle.run_minutes.specs.declared.keeper.Moment.{Moment}
 use Rattle.run_acts.specs.declared.run.Run.{Run}
 use Rattle.run_acts.specs.Power.{is_lit}
-use Rattle.run_acts.specs.Going.{IsHeld, IsLit}
+use Rattle.run_acts.specs.Going.{CanBeCut, RunHasPowerAllSeated}
 use Rattle.run_acts.specs.Room.{Takes}
 use Rattle.run_acts.specs.Acting.{pulled_run, pulled_breaks}
 use Rattle.recorder_with_cards.specs.Acting.{put_count, StaysIn, moment_of, IsDone, CallsNone}
@@ -145,16 +145,16 @@ returns-in-Tear-clause-held g c =
     let run = c.args.run.now in
     let o = card_in (seat_in run.keeper.cabin.slots.seats c.in-Tear.slot) in
     let at = ap (λ (m : Moment). m.second / 60) c.moment-at.ensures in
-    subst (λ (r : Run). IsHeld (r.next / 60) r (g.M.Medium.state c.args.unit.now) (g.C.Chip.card c.args.card_a.now) (g.D.Chip.card c.args.card_b.now) (g.C.Chip.state c.args.card_a.now) (g.D.Chip.state c.args.card_b.now)) (sym c.pull.ensures.run)
-    (pulled-held run c.moment-at.result.second (omega (arith, at)) o (λ from leaving s. subst (λ (r : Run). Stands from leaving r.keeper.cabin) c.pull.ensures.run (c.pull.ensures.stands from leaving s)) c.requires.going.held)
+    subst (λ (r : Run). CanBeCut (r.next / 60) r (g.M.Medium.state c.args.unit.now) (g.C.Chip.card c.args.card_a.now) (g.D.Chip.card c.args.card_b.now) (g.C.Chip.state c.args.card_a.now) (g.D.Chip.state c.args.card_b.now)) (sym c.pull.ensures.run)
+    (pulled-held run c.moment-at.result.second (omega (arith, at)) o (λ from leaving s. subst (λ (r : Run). CabinIsSound from leaving r.keeper.cabin) c.pull.ensures.run (c.pull.ensures.stands from leaving s)) c.requires.going.held)
 
 pub returns-in-Tear-clause-going : goal.returns-in-Tear-clause-going
 returns-in-Tear-clause-going g c =
     let run = c.args.run.now in
     let o = card_in (seat_in run.keeper.cabin.slots.seats c.in-Tear.slot) in
     let at = ap (λ (m : Moment). m.second / 60) c.moment-at.ensures in
-    subst (λ (r : Run). IsLit (r.next / 60) r (g.M.Medium.state c.args.unit.now) (g.C.Chip.card c.args.card_a.now) (g.D.Chip.card c.args.card_b.now) (g.C.Chip.state c.args.card_a.now) (g.D.Chip.state c.args.card_b.now)) (sym c.pull.ensures.run)
-    (pulled-going run c.moment-at.result.second (omega (arith, at)) o (λ from leaving s. subst (λ (r : Run). Stands from leaving r.keeper.cabin) c.pull.ensures.run (c.pull.ensures.stands from leaving s)) (c.requires.going.lit (ap is_lit c.requires.lit)))
+    subst (λ (r : Run). RunHasPowerAllSeated (r.next / 60) r (g.M.Medium.state c.args.unit.now) (g.C.Chip.card c.args.card_a.now) (g.D.Chip.card c.args.card_b.now) (g.C.Chip.state c.args.card_a.now) (g.D.Chip.state c.args.card_b.now)) (sym c.pull.ensures.run)
+    (pulled-going run c.moment-at.result.second (omega (arith, at)) o (λ from leaving s. subst (λ (r : Run). CabinIsSound from leaving r.keeper.cabin) c.pull.ensures.run (c.pull.ensures.stands from leaving s)) (c.requires.going.lit (ap is_lit c.requires.lit)))
 
 pub returns-in-Tear-clause-takes : goal.returns-in-Tear-clause-takes
 returns-in-Tear-clause-takes g c =

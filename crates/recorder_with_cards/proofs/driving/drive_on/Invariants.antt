@@ -4,7 +4,7 @@ use Rattle.run_promise.specs.Between.{devices}
 use Rattle.run_promise.specs.Origin.{Origin}
 use Rattle.run_minutes.specs.Books.{HaveTime}
 use Rattle.run_minutes.specs.Later.{AreAfter, AreCalm}
-use Rattle.run_acts.specs.Going.{IsGoing}
+use Rattle.run_acts.specs.Going.{IsBetweenSeconds}
 use Rattle.run_acts.specs.Room.{HasRoom}
 use Rattle.run_acts.specs.Evented.{LastAt}
 use Rattle.run_acts.specs.RunRinged.{RunRinged}
@@ -14,7 +14,7 @@ use Rattle.recorder_with_cards.proofs.driving.drive_on.Given as goal
 
 abbrev pub invariant-loop-left : goal.invariant-loop-left
 invariant-loop-left g l = record {
-  going : IsGoing l.run (g.M.Medium.state l.unit) (g.C.Chip.card l.card_a) (g.D.Chip.card l.card_b) (g.C.Chip.state l.card_a) (g.D.Chip.state l.card_b);
+  going : IsBetweenSeconds l.run (g.M.Medium.state l.unit) (g.C.Chip.card l.card_a) (g.D.Chip.card l.card_b) (g.C.Chip.state l.card_a) (g.D.Chip.state l.card_b);
   next : l.run.next + l.left ≡ l.fn.run.next + l.seconds;
   enough : HasRoom l.run l.outcome l.left 0 0 0;
   room : (left offs insertions actions : ℕ) → HasRoom l.fn.run l.fn.outcome (l.seconds + left) offs insertions actions → HasRoom l.run l.outcome (l.left + left) offs insertions actions;

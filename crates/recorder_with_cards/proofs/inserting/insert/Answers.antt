@@ -2,9 +2,9 @@ use Rattle.std.proofs.Common.{rules, ◌≡◌, ◌∙◌, inl, inr, ◌+◌, �
 use Rattle.tach_media.proofs.Runs.{cause_after}
 use Rattle.minute_model.specs.Span.{ungiven_of}
 use Rattle.run_crew.specs.declared.cabin.Cabin.{Cabin}
-use Rattle.run_crew.specs.Cabin.{Stands, with_card_in}
+use Rattle.run_crew.specs.Cabin.{CabinIsSound, with_card_in}
 use Rattle.run_acts.specs.Power.{with_cabin}
-use Rattle.run_acts.specs.Going.{IsHeld, IsLit}
+use Rattle.run_acts.specs.Going.{CanBeCut, RunHasPowerAllSeated}
 use Rattle.run_acts.specs.Room.{Takes, waiting}
 use Rattle.card_slots.specs.Calls.{seat_in}
 use Rattle.run_acts.specs.Acting.{IsSettled, IsBareIn, told_of}
@@ -70,7 +70,7 @@ module _ (g : Over) (c : After-settle g) where
   bare : IsBareIn (with_card_in c.args.slot c.args.card c.args.run.now.keeper.cabin) c.args.slot
   bare =
       let h = c.requires.going in
-      put-bare c.args.slot c.args.card c.args.run.now.keeper.cabin (ungiven_of h.span) (subst (λ (b : Cabin). Stands (ungiven_of h.span) None b) c.put_in.ensures.kept (c.put_in.ensures.stands (ungiven_of h.span) h.cabin))
+      put-bare c.args.slot c.args.card c.args.run.now.keeper.cabin (ungiven_of h.span) (subst (λ (b : Cabin). CabinIsSound (ungiven_of h.span) None b) c.put_in.ensures.kept (c.put_in.ensures.stands (ungiven_of h.span) h.cabin))
 
   taken : Takes 0 0 0 put c.settle.new.run c.args.outcome.now c.settle.new.outcome
   taken = subst (λ (b : Cabin). Takes 0 0 0 (with_cabin b c.args.run.now) c.settle.new.run c.args.outcome.now c.settle.new.outcome) c.put_in.ensures.kept c.settle.ensures.takes
@@ -80,7 +80,7 @@ seat-there : (g : Over) (c : In_ok-settle g) → seat_in c.settle.new.run.keeper
 seat-there g c =
     let h = c.requires.going in
     let cabin = c.args.run.now.keeper.cabin in
-    let stands = subst (λ (b : Cabin). Stands (ungiven_of h.span) None b) c.put_in.ensures.kept (c.put_in.ensures.stands (ungiven_of h.span) h.cabin) in
+    let stands = subst (λ (b : Cabin). CabinIsSound (ungiven_of h.span) None b) c.put_in.ensures.kept (c.put_in.ensures.stands (ungiven_of h.span) h.cabin) in
     let here = subst (λ (b : Cabin). IsBareIn b c.args.slot) (sym c.put_in.ensures.kept) (put-bare c.args.slot c.args.card cabin (ungiven_of h.span) stands) in
     (c.in_ok-settle.ensures.bare c.args.slot here).0 ∙ ap (λ (b : Cabin). seat_in b.slots.seats c.args.slot) c.put_in.ensures.kept ∙ seat-put c.args.slot c.args.card cabin
 
@@ -120,16 +120,16 @@ module _ (g : Over) (c : After-accept_in g) where
 pub settle-requires-clause-held : goal.settle-requires-clause-held
 settle-requires-clause-held g c =
     let run = c.args.run.now in let h = c.requires.going in
-    let stands = subst (λ (b : Cabin). Stands (ungiven_of h.span) None b) c.put_in.ensures.kept (c.put_in.ensures.stands (ungiven_of h.span) h.cabin) in
-    subst (λ (b : Cabin). IsHeld (run.next / 60) (with_cabin b run) (g.M.Medium.state c.args.unit.now) (g.C.Chip.card c.args.card_a.now) (g.D.Chip.card c.args.card_b.now) (g.C.Chip.state c.args.card_a.now) (g.D.Chip.state c.args.card_b.now))
+    let stands = subst (λ (b : Cabin). CabinIsSound (ungiven_of h.span) None b) c.put_in.ensures.kept (c.put_in.ensures.stands (ungiven_of h.span) h.cabin) in
+    subst (λ (b : Cabin). CanBeCut (run.next / 60) (with_cabin b run) (g.M.Medium.state c.args.unit.now) (g.C.Chip.card c.args.card_a.now) (g.D.Chip.card c.args.card_b.now) (g.C.Chip.state c.args.card_a.now) (g.D.Chip.state c.args.card_b.now))
     (sym c.put_in.ensures.kept) (put-held c.args.slot c.args.card (run.next / 60) run (ungiven_of h.span) stands c.requires.held)
 
 pub settle-requires-clause-going : goal.settle-requires-clause-going
 settle-requires-clause-going g c =
     let run = c.args.run.now in (
       None,
-      subst (λ (b : Cabin). IsLit (run.next / 60) (with_cabin b run) (g.M.Medium.state c.args.unit.now) (g.C.Chip.card c.args.card_a.now) (g.D.Chip.card c.args.card_b.now) (g.C.Chip.state c.args.card_a.now) (g.D.Chip.state c.args.card_b.now))
-          (sym c.put_in.ensures.kept) (put-going c.args.slot c.args.card (run.next / 60) run (λ from s. subst (λ (b : Cabin). Stands from None b) c.put_in.ensures.kept (c.put_in.ensures.stands from s)) c.requires.going),
+      subst (λ (b : Cabin). RunHasPowerAllSeated (run.next / 60) (with_cabin b run) (g.M.Medium.state c.args.unit.now) (g.C.Chip.card c.args.card_a.now) (g.D.Chip.card c.args.card_b.now) (g.C.Chip.state c.args.card_a.now) (g.D.Chip.state c.args.card_b.now))
+          (sym c.put_in.ensures.kept) (put-going c.args.slot c.args.card (run.next / 60) run (λ from s. subst (λ (b : Cabin). CabinIsSound from None b) c.put_in.ensures.kept (c.put_in.ensures.stands from s)) c.requires.going),
     )
 
 pub returns-in_err-settle-clause-takes : goal.returns-in_err-settle-clause-takes
@@ -151,8 +151,8 @@ pub accept_in-requires-clause-going : goal.accept_in-requires-clause-going
 accept_in-requires-clause-going g c =
     let run = c.args.run.now in
     c.in_ok-settle.ensures.going None
-    (subst (λ (b : Cabin). IsLit (run.next / 60) (with_cabin b run) (g.M.Medium.state c.args.unit.now) (g.C.Chip.card c.args.card_a.now) (g.D.Chip.card c.args.card_b.now) (g.C.Chip.state c.args.card_a.now) (g.D.Chip.state c.args.card_b.now))
-    (sym c.put_in.ensures.kept) (put-going c.args.slot c.args.card (run.next / 60) run (λ from s. subst (λ (b : Cabin). Stands from None b) c.put_in.ensures.kept (c.put_in.ensures.stands from s)) c.requires.going))
+    (subst (λ (b : Cabin). RunHasPowerAllSeated (run.next / 60) (with_cabin b run) (g.M.Medium.state c.args.unit.now) (g.C.Chip.card c.args.card_a.now) (g.D.Chip.card c.args.card_b.now) (g.C.Chip.state c.args.card_a.now) (g.D.Chip.state c.args.card_b.now))
+    (sym c.put_in.ensures.kept) (put-going c.args.slot c.args.card (run.next / 60) run (λ from s. subst (λ (b : Cabin). CabinIsSound from None b) c.put_in.ensures.kept (c.put_in.ensures.stands from s)) c.requires.going))
 
 pub returns-clause-inserted : goal.returns-clause-inserted
 returns-clause-inserted g c =

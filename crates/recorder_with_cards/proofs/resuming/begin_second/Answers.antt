@@ -4,7 +4,7 @@ use Rattle.run_acts.specs.declared.run.Run.{Run}
 use Rattle.run_acts.specs.declared.run.Power.{Power}
 use Rattle.run_acts.specs.declared.run.Power.TheVariants.{Lit, Due, Lost}
 use Rattle.run_acts.specs.Power.{is_lit, has_power, minute_over}
-use Rattle.run_acts.specs.Going.{IsWithin}
+use Rattle.run_acts.specs.Going.{IsInsideSecond}
 use Rattle.run_acts.specs.Room.{HasRoomWithin}
 use Rattle.run_acts.proofs.Standing.{lit-is, begun-at, still-dark}
 use Rattle.recorder_with_cards.proofs.AwakeRooms.{room-over, room-away, room-awake}
@@ -45,7 +45,7 @@ pub returns-then-is_lit-clause-going : goal.returns-then-is_lit-clause-going
 returns-then-is_lit-clause-going g c =
     let run = c.args.run.now in
     let lit : is_lit run.power ≡ true = sym c.is_lit.ensures ∙ c.if-is_lit.true in
-    subst (λ (r : Run). IsWithin r (g.M.Medium.state c.args.unit.now) (g.C.Chip.card c.args.card_a.now) (g.D.Chip.card c.args.card_b.now) (g.C.Chip.state c.args.card_a.now) (g.D.Chip.state c.args.card_b.now)) (sym c.end_minute.ensures.run)
+    subst (λ (r : Run). IsInsideSecond r (g.M.Medium.state c.args.unit.now) (g.C.Chip.card c.args.card_a.now) (g.D.Chip.card c.args.card_b.now) (g.C.Chip.state c.args.card_a.now) (g.D.Chip.state c.args.card_b.now)) (sym c.end_minute.ensures.run)
     (begun-at run lit (λ from few h. subst (λ (r : Run). KnowsEnded from (run.next / 60) r.keeper.cabin.slots) c.end_minute.ensures.run (c.end_minute.ensures.ended from few h)) c.requires.going)
 
 pub returns-then-is_lit-clause-room : goal.returns-then-is_lit-clause-room

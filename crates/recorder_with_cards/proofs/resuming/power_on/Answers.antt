@@ -13,7 +13,7 @@ use Rattle.run_record.proofs.Calls.{not-read}
 use Rattle.run_record.proofs.Reading.{reading-fails}
 use Rattle.run_acts.specs.Power.{is_lit, cut_run, has_power}
 use Rattle.run_acts.specs.Recording.{log_of, values_of, RunCut, IsNow, RunRecorded}
-use Rattle.run_record.specs.Recorded.{progress, Recorded}
+use Rattle.run_record.specs.Recorded.{progress, RecordBetweenSeconds}
 use Rattle.run_note_record.proofs.Dark.{power-on_broken}
 use Rattle.run_note_record.proofs.Seconds.{events-stay}
 use Rattle.recorder_with_cards.proofs.ActsEvented.{in-evented_cut}
@@ -119,7 +119,7 @@ module _ (g : Over) (c : After-open_unit g) where
     may : (rec : RunRecorded o done run out dev0) → MayPower rec.supply run.next
     may rec = may-of run.power rec.supply run.next rec.powers c.requires.dark has
 
-    read : (rec : RunRecorded o done run out dev0) → Recorded o done rec.supply (values_of run out) dev1
+    read : (rec : RunRecorded o done run out dev0) → RecordBetweenSeconds o done rec.supply (values_of run out) dev1
     read rec = read-on o done rec.supply (values_of run out) dev0 rec.recorded (may rec) (g.M.Medium.state c.open_unit.new.unit) whole c.open_unit.ensures.leaves c.open_unit.ensures.cause.breakdowns
 
     left : RunRecorded o done run out dev0 → HaveLeftMore o dev0 dev1

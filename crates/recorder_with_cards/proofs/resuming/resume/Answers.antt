@@ -8,9 +8,9 @@ use Rattle.unit_minutes.specs.declared.notes.Notes.{Notes}
 use Rattle.run_crew.specs.declared.cabin.Cabin.{Cabin}
 use Rattle.run_crew.specs.Cards.{session_of}
 use Rattle.run_minutes.specs.declared.keeper.Keeper.{Keeper}
-use Rattle.run_minutes.specs.Keeping.{UnitReady}
+use Rattle.run_minutes.specs.Keeping.{UnitMayBeCalled}
 use Rattle.run_acts.specs.declared.run.Run.{Run}
-use Rattle.run_acts.specs.Going.{IsHeld, IsLit}
+use Rattle.run_acts.specs.Going.{CanBeCut, RunHasPowerAllSeated}
 use Rattle.run_acts.specs.Room.{falls_of, bare_count, waiting, Takes, bare_seats}
 use Rattle.run_acts.proofs.Standing.{span-lit, span-held}
 use Rattle.recorder_with_cards.specs.Accepting.{IsBare}
@@ -22,14 +22,14 @@ use Rattle.log_model.specs.Log.{In, RunLog}
 use Rattle.card_slots.specs.declared.seats.Seat.{Seat}
 use Rattle.run_promise.specs.Between.{devices}
 use Rattle.run_minutes.proofs.DecidedBooked.{time-before}
-use Rattle.run_record.specs.Recorded.{Values, progress, Recorded}
+use Rattle.run_record.specs.Recorded.{Values, progress, RecordBetweenSeconds}
 use Rattle.run_acts.specs.declared.run.Power.{Power}
 use Rattle.run_acts.specs.Recording.{GoesOnOrCut, GoesOnOrFails, log_of, IsOrigin, values_of, ComesPower, RunWithin, RunFails}
 use Rattle.run_acts.proofs.NoteRecorded.{goes-plain}
 use Rattle.recorder_with_cards.specs.Judged.{moment_in}
 use Rattle.recorder_with_cards.proofs.Resumed.{RunWaking, waiting_in, at-once, wholes-of, kept-of, same-devices, awake, awake-is, awake-stands, unmended, unmended-read, unmended-stands, within-of, driver-judged, codriver-judged, codriver-on, comes-waking, IsReadAgain}
 use Rattle.recorder_with_cards.specs.Woken.{EventsWoken, RingsWoken}
-use Rattle.log_model.specs.Course.{Told, went, second_told, Visit}
+use Rattle.log_model.specs.Course.{ToldSecond, went, second_told, Visit}
 use Rattle.run_record.specs.Waking.{both_slots}
 use Rattle.run_note_record.specs.RingsSoFar.{RingedBehind}
 use Rattle.run_note_record.specs.Stored.{StandsOn, StoresOff}
@@ -48,9 +48,9 @@ use Rattle.recorder_with_cards.proofs.WokenStored.{unmended-stored}
 use Rattle.recorder_with_cards.proofs.StoredCalls.{mend-stays}
 use Rattle.recorder_with_cards.proofs.WokenEvented.{WakesEvented, unmended-evented, wakes-evented, driver-evented, codriver-evented, anew-limit, woken-fails, woken-on, woken-ends, none-woken, gap-woken, here-empty, begun-watched, gap-memory, none-told, some-told}
 use Rattle.run_unit_course.specs.Lines.{cut_at}
-use Rattle.run_unit_course.specs.Followed.{Lost, Supply, MayPower}
+use Rattle.run_unit_course.specs.Followed.{Lost, UnitPower, MayPower}
 use Rattle.run_course.specs.Moments.{and_break}
-use Rattle.run_course.specs.Followed.{Progress, Followed}
+use Rattle.run_course.specs.Followed.{Progress, BookFollowsRun}
 use Rattle.unit_memory.specs.declared.memory.UnitFacts.{UnitFacts}
 use Rattle.run_promise.specs.Seconds.{found_again}
 use Rattle.run_record.specs.Within.{Beginning}
@@ -106,9 +106,9 @@ record Behind (k : ℕ) (old : Run) (before : Outcome) (d : Devices) : Type 0 wh
   origin : IsOrigin o
   done : List TraceSecond
   s : TraceSecond
-  supply : Supply
+  supply : UnitPower
   v : Values
-  r : Recorded o done supply v d
+  r : RecordBetweenSeconds o done supply v d
   stay : AllStay o (marked v.marks (truths_of o v.log done)) 0 v.log (notes_in v.log done) old.keeper.memory.registration v.cabin d
   may : MayPower supply v.next
   number : s.number ≡ v.next
@@ -194,7 +194,7 @@ module _ (g : Over) (c : After-moment-at g) where
   few_too : bare_count mid.keeper.cabin.slots.seats.codriver ≡ bare_count run.keeper.cabin.slots.seats.codriver
   few_too = ap (λ (b : Cabin). bare_count b.slots.seats.codriver) cabin
 
-  ready : UnitReady mid.keeper (g.M.Medium.state c.mend.new.unit)
+  ready : UnitMayBeCalled mid.keeper (g.M.Medium.state c.mend.new.unit)
   ready = record {
     is_unit = c.mend.ensures.unit;
     works = c.in_ok-mend.ensures.cause.works;
@@ -214,7 +214,7 @@ module _ (g : Over) (c : After-moment-at g) where
   calm : AreCalm out.breaks.items out.breaks.items dev0 mended
   calm = calm-of-unit (g.M.Medium.state c.args.unit.now) (g.M.Medium.state c.mend.new.unit) (g.C.Chip.state c.args.card_a.now) (g.D.Chip.state c.args.card_b.now)
 
-  abbrev premises : length out.marks.items + MOST_OWED * bare_seats run.keeper.cabin.slots.seats ≤ out.marks.room → (o : Origin) → IsOrigin o → (done : List TraceSecond) (s : TraceSecond) (supply : Supply) (v : Values) → Recorded o done supply v dev0 →
+  abbrev premises : length out.marks.items + MOST_OWED * bare_seats run.keeper.cabin.slots.seats ≤ out.marks.room → (o : Origin) → IsOrigin o → (done : List TraceSecond) (s : TraceSecond) (supply : UnitPower) (v : Values) → RecordBetweenSeconds o done supply v dev0 →
       AllStay o (marked v.marks (truths_of o v.log done)) 0 v.log (notes_in v.log done) run.keeper.memory.registration v.cabin dev0 → MayPower supply v.next → s.number ≡ v.next → s.has_power ≡ true → values_of run out ≡ read_values c.args.journal.kept v → Premises
   premises room o origin done s supply v r stay may number given values = record { room = room; o = o; origin = origin; done = done; s = s; supply = supply; v = v; r = r; stay = stay; may = may; number = number; given = given; values = values }
 
@@ -258,12 +258,12 @@ module _ (g : Over) (c : After-moment-at g) where
     began_log : woke.0.run.log ≡ log_of out
     began_log = ap (λ (q : Progress). q.log) is.0 ∙ sym log_is
 
-    woken : WithEvents p → WakesEvented p.o p.done p.s woke.0 (waiting_in Driver first_card ++ others) both_slots mid out mended × ComesInTurn Driver (log_of out) p.s.number × Followed (rule_of p.o) (start_at p.o) p.o.from (first_of p.o) p.done (found_again c.args.journal.kept (progress p.v p.supply p.r.book))
+    woken : WithEvents p → WakesEvented p.o p.done p.s woke.0 (waiting_in Driver first_card ++ others) both_slots mid out mended × ComesInTurn Driver (log_of out) p.s.number × BookFollowsRun (rule_of p.o) (start_at p.o) p.o.from (first_of p.o) p.done (found_again c.args.journal.kept (progress p.v p.supply p.r.book))
     woken e = wakes-evented p.o p.done p.s p.supply p.v dev0 mended p.r p.may p.number p.given c.args.journal.kept e.evented quiet woke.0 (waiting_in Driver first_card ++ others) mid out woke.1 is log_is
 
     -- of the rings
     module _ (q : WithRings p) where
-      abbrev told : Told
+      abbrev told : ToldSecond
       told = second_told (log_of out) (went (log_of out) p.done).before p.s
 
       starts : WakesRinged p.o p.done p.s woke.0 (waiting_in Driver first_card ++ others) both_slots q.spans told mid out mended
@@ -536,7 +536,7 @@ module _ (g : Over) (c : After-accept_anew-2 g) where
       comes : ComesPower p.done out2
       comes = comes-waking p.o p.done p.s (woke g start p).0 [] [] two out2 dev2 (goes-on fine)
 
-      lit : IsLit (two.next / 60) two (g.M.Medium.state c.accept_anew-2.new.unit) (g.C.Chip.card c.accept_anew-2.new.card_a) (g.D.Chip.card c.accept_anew-2.new.card_b) (g.C.Chip.state c.accept_anew-2.new.card_a) (g.D.Chip.state c.accept_anew-2.new.card_b)
+      lit : RunHasPowerAllSeated (two.next / 60) two (g.M.Medium.state c.accept_anew-2.new.unit) (g.C.Chip.card c.accept_anew-2.new.card_a) (g.D.Chip.card c.accept_anew-2.new.card_b) (g.C.Chip.state c.accept_anew-2.new.card_a) (g.D.Chip.state c.accept_anew-2.new.card_b)
       lit = ok_gives c.accept_anew-2.result c.accept_anew-2.ensures.going fine
 
       began-here : within.within.b.run.log ≡ log_of (out g start)
@@ -659,7 +659,7 @@ none-before g c = is-none (length c.args.outcome.now.breaks.items) (sym c.is_emp
 pub accept_anew-requires-clause-held : goal.accept_anew-requires-clause-held
 accept_anew-requires-clause-held g c =
     let at = (goal.at.accept_anew-requires-clause-held g c).After-moment-at in
-    subst (λ (m : ℕ). IsHeld (m / 60) (mid g at) (g.M.Medium.state c.mend.new.unit) (g.C.Chip.card c.args.card_a.now) (g.D.Chip.card c.args.card_b.now) (g.C.Chip.state c.args.card_a.now) (g.D.Chip.state c.args.card_b.now)) (sym c.begin_span.ensures.begun.next)
+    subst (λ (m : ℕ). CanBeCut (m / 60) (mid g at) (g.M.Medium.state c.mend.new.unit) (g.C.Chip.card c.args.card_a.now) (g.D.Chip.card c.args.card_b.now) (g.C.Chip.state c.args.card_a.now) (g.D.Chip.state c.args.card_b.now)) (sym c.begin_span.ensures.begun.next)
     (span-held c.args.rule (run g at) (mid g at) c.mend.new.journal c.requires.going c.begin_span.ensures.begun (ready g at) c.begin_span.ensures.odometer)
 
 pub accept_anew-requires-clause-going : goal.accept_anew-requires-clause-going
@@ -667,7 +667,7 @@ accept_anew-requires-clause-going g c =
     let at = (goal.at.accept_anew-requires-clause-going g c).After-moment-at in
     let kept = ap (λ (j : Notes). j.kept) c.in_ok-mend.ensures.notes in
     let early = c.requires.later in
-    subst (λ (m : ℕ). IsLit (m / 60) (mid g at) (g.M.Medium.state c.mend.new.unit) (g.C.Chip.card c.args.card_a.now) (g.D.Chip.card c.args.card_b.now) (g.C.Chip.state c.args.card_a.now) (g.D.Chip.state c.args.card_b.now)) (sym c.begin_span.ensures.begun.next)
+    subst (λ (m : ℕ). RunHasPowerAllSeated (m / 60) (mid g at) (g.M.Medium.state c.mend.new.unit) (g.C.Chip.card c.args.card_a.now) (g.D.Chip.card c.args.card_b.now) (g.C.Chip.state c.args.card_a.now) (g.D.Chip.state c.args.card_b.now)) (sym c.begin_span.ensures.begun.next)
     (span-lit c.args.rule (run g at) (mid g at) c.mend.new.journal c.requires.dark c.requires.going c.begin_span.ensures.begun (omega (arith, kept, early)) (ready g at))
 
 pub accept_anew-requires-clause-none : goal.accept_anew-requires-clause-none

@@ -20,7 +20,7 @@ use Rattle.run_outcome.specs.Room.{off_count}
 use Rattle.run_minutes.proofs.Counts.{lines-length}
 use Rattle.run_acts.specs.declared.run.Run.{Run}
 use Rattle.run_acts.specs.Power.{is_lit, off_cut}
-use Rattle.run_acts.specs.Going.{IsGoing}
+use Rattle.run_acts.specs.Going.{IsBetweenSeconds}
 use Rattle.run_acts.specs.Room.{cuts_from, HasRoom}
 use Rattle.run_acts.proofs.Standing.{off-at}
 use Rattle.recorder_with_cards.specs.Items.{between, insertions_in}
@@ -69,7 +69,7 @@ returns-in-Off-clause-gone g c =
     let small = c.requires.small in
     record {
       late = tt;
-      going = subst (λ (r : Run). IsGoing r (g.M.Medium.state c.args.unit.now) (g.C.Chip.card c.args.card_a.now) (g.D.Chip.card c.args.card_b.now) (g.C.Chip.state c.args.card_a.now) (g.D.Chip.state c.args.card_b.now)) (sym c.off.ensures.run)
+      going = subst (λ (r : Run). IsBetweenSeconds r (g.M.Medium.state c.args.unit.now) (g.C.Chip.card c.args.card_a.now) (g.D.Chip.card c.args.card_b.now) (g.C.Chip.state c.args.card_a.now) (g.D.Chip.state c.args.card_b.now)) (sym c.off.ensures.run)
           (off-at run c.in-Off.seconds (omega (arith, small, is)) c.requires.going);
       next = ap (λ (r : Run). r.next) c.off.ensures.run ∙ ap (λ (n : ℕ). run.next + n) (sym is);
       unfound =

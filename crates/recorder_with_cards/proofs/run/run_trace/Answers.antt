@@ -12,7 +12,7 @@ use Rattle.run_outcome.specs.Lines.{Listed}
 use Rattle.safety_model.specs.Safe.{Devices, card_of}
 use Rattle.safety_model.specs.Recording.{card_image}
 use Rattle.run_crew.specs.Cards.{known_of as known_in}
-use Rattle.run_opening.specs.Begun.{known_of, IsReady, IsRefusedBy as IsRefusedAs}
+use Rattle.run_opening.specs.Begun.{known_of, RunIsOpened, IsRefusedBy as IsRefusedAs}
 use Rattle.run_opening.specs.Cards.{IsFoundOn}
 use Rattle.recorder_with_cards.specs.Carded.{RunCarded}
 use Rattle.recorder_with_cards.specs.Ends.{opened_with, origin_of}
@@ -95,14 +95,14 @@ loop-i-init g c =
       told = λ x a b h.
           let began : Devices = devices (g.U.Medium.state c.args.unit.now) (g.C.Chip.state c.args.card_a.now) (g.C.Chip.state c.args.card_b.now) in
           let now : Devices = devices (g.U.Medium.state c.judge.new.unit) (g.C.Chip.state c.judge.new.card_a) (g.C.Chip.state c.judge.new.card_b) in
-          let ready : IsReady (opened_with x a b) c.args.trace.now.start c.in_ok-opened.opened began now = e.begins (opened_with x a b) (begins-with x a b [] (record { breaks = []; refused = []; finds = [] }) began h) in
+          let ready : RunIsOpened (opened_with x a b) c.args.trace.now.start c.in_ok-opened.opened began now = e.begins (opened_with x a b) (begins-with x a b [] (record { breaks = []; refused = []; finds = [] }) began h) in
           (may-record x a b c.args.trace.now.start began now c.in_ok-opened.opened ready, is-found x a b c.args.trace.now.start began now c.in_ok-opened.opened ready);
       cards = λ x a b h time few.
           let began : Devices = devices (g.U.Medium.state c.args.unit.now) (g.C.Chip.state c.args.card_a.now) (g.C.Chip.state c.args.card_b.now) in
           let now : Devices = devices (g.U.Medium.state c.judge.new.unit) (g.C.Chip.state c.judge.new.card_a) (g.C.Chip.state c.judge.new.card_b) in
           let start : ℕ = c.args.trace.now.start in
           let opened = c.in_ok-opened.opened in
-          let ready : IsReady (opened_with x a b) start opened began now = e.begins (opened_with x a b) (begins-with x a b [] (record { breaks = []; refused = []; finds = [] }) began h) in
+          let ready : RunIsOpened (opened_with x a b) start opened began now = e.begins (opened_with x a b) (begins-with x a b [] (record { breaks = []; refused = []; finds = [] }) began h) in
           let chips = chip_of (g.C.Chip.card c.judge.new.card_a) (g.C.Chip.card c.judge.new.card_b) in
           let low = c.new-run.ensures.odometer in
           let same_odometer = ap (λ (k : Keeper). k.odometer) keeper in

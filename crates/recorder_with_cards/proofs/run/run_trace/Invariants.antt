@@ -3,7 +3,7 @@ use Rattle.trace_model.specs.Trace.{total_seconds, seconds_of}
 use Rattle.run_promise.specs.Between.{IsFound, devices}
 use Rattle.run_minutes.specs.Books.{HaveTime}
 use Rattle.run_opening.specs.Begun.{found_in}
-use Rattle.run_acts.specs.Going.{largest_number, IsGoing}
+use Rattle.run_acts.specs.Going.{largest_number, IsBetweenSeconds}
 use Rattle.recorder_with_cards.specs.Carded.{RunCarded}
 use Rattle.recorder_with_cards.specs.Ends.{BeginAs, MayRecord, opened_with, origin_of}
 use Rattle.recorder_with_cards.proofs.Waiting.{Waits}
@@ -16,7 +16,7 @@ use Rattle.recorder_with_cards.proofs.run.run_trace.Given as goal
 abbrev pub invariant-loop-i : goal.invariant-loop-i
 invariant-loop-i g l = record {
   first : l.first ≤ l.i;
-  going : IsGoing l.run (g.U.Medium.state l.unit) (g.C.Chip.card l.card_a) (g.C.Chip.card l.card_b) (g.C.Chip.state l.card_a) (g.C.Chip.state l.card_b);
+  going : IsBetweenSeconds l.run (g.U.Medium.state l.unit) (g.C.Chip.card l.card_a) (g.C.Chip.card l.card_b) (g.C.Chip.state l.card_a) (g.C.Chip.state l.card_b);
   next : l.run.next + total_seconds (drop l.i l.trace.items) ≡ l.trace.start + total_seconds l.trace.items;
   room : HasRoom l.run l.outcome (total_seconds (drop l.i l.trace.items)) (offs (drop l.i l.trace.items)) (insertions (drop l.first l.trace.items)) (length l.trace.items - l.first);
   unfound : l.run.unfound ≤ length l.outcome.breaks.items;

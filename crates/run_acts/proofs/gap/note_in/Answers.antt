@@ -6,7 +6,7 @@ use Rattle.tach_media.proofs.Runs.{on_ok, ok_gives}
 use Rattle.card_slots.specs.Calls.{seat_in, card_in}
 use Rattle.run_crew.specs.declared.cards.Known.{Known}
 use Rattle.run_crew.specs.Cards.{session_of, known_of}
-use Rattle.run_crew.specs.Cabin.{number_of_seat, Stands}
+use Rattle.run_crew.specs.Cabin.{number_of_seat, CabinIsSound}
 use Rattle.log_model.specs.declared.lines.Break.{Break}
 use Rattle.run_outcome.specs.Lines.{Listed}
 use Rattle.run_acts.specs.declared.run.Run.{Run}
@@ -32,7 +32,7 @@ use Rattle.run_acts.proofs.CardPlaces.{places-self}
 use Rattle.run_minutes.proofs.Calm.{calm-same}
 use Rattle.run_acts.proofs.OneCard.{OneCard, unit-is, later-by, calm-by, known-noted, only-noted, more-noted, room-noted, calm-noted, held-noted, going-noted, none-there, on_a, on_b}
 use Rattle.run_minutes.specs.Later.{AreCalm, AreLater}
-use Rattle.run_minutes.specs.Keeping.{CardReady, HasItsRow, UnitReady}
+use Rattle.run_minutes.specs.Keeping.{CardMayBeCalled, HasItsRow, UnitMayBeCalled}
 use Rattle.card_layout.specs.declared.command.CardState.{CardState}
 use Rattle.run_crew.specs.declared.cards.Cards.{Cards}
 use Rattle.tach_media.specs.declared.fault.Failed.{Failed}
@@ -66,10 +66,10 @@ NotesThere state chip which slot event result old new breaks after U V x y = rec
   moments : IfSome (session_of old.keeper.cabin.cards which) (λ a. LeavesOnly (state x) (state y) (IsNote a.session.application));
   value : IfSome (session_of old.keeper.cabin.cards which) (λ a. IsValue a.session);
   unit : IsUnit V;
-  ready : OnOk result (UnitReady new.keeper V);
+  ready : OnOk result (UnitMayBeCalled new.keeper V);
   rows : (card : Card) → HasItsRow old.keeper.cabin.cards U card → OnOk result (HasItsRow new.keeper.cabin.cards V card);
-  stands : (from : ℕ) (leaving : Option Card) → Stands from leaving old.keeper.cabin → Stands from leaving new.keeper.cabin;
-  card : CardReady (known_of new.keeper.cabin.cards which) (chip y) (state y);
+  stands : (from : ℕ) (leaving : Option Card) → CabinIsSound from leaving old.keeper.cabin → CabinIsSound from leaving new.keeper.cabin;
+  card : CardMayBeCalled (known_of new.keeper.cabin.cards which) (chip y) (state y);
   size : (state y).size ≡ (state x).size;
   clock_card : (state x).clock ≤ (state y).clock;
   cause : HasCause U V (is_err result);

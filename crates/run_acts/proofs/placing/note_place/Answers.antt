@@ -4,10 +4,10 @@ use Rattle.tach_media.proofs.Runs.{on_ok, ok_gives, cause_after}
 use Rattle.minute_model.specs.Span.{ungiven_of}
 use Rattle.card_slots.specs.Calls.{seat_in, card_in, logged}
 use Rattle.run_crew.specs.Cards.{session_of, known_of}
-use Rattle.run_crew.specs.Cabin.{number_of_seat, Stands}
+use Rattle.run_crew.specs.Cabin.{number_of_seat, CabinIsSound}
 use Rattle.log_model.specs.declared.lines.Break.{Break}
 use Rattle.run_outcome.specs.Lines.{Listed}
-use Rattle.run_minutes.specs.Keeping.{HasLeftMore, with_lines, CardReady, HasItsRow, UnitReady}
+use Rattle.run_minutes.specs.Keeping.{HasLeftMore, with_lines, CardMayBeCalled, HasItsRow, UnitMayBeCalled}
 use Rattle.run_acts.specs.declared.run.Run.{Run}
 use Rattle.run_insertion.proofs.Noted.{noted-ready, noted-row}
 use Rattle.run_acts.specs.Acting.{noted_run, IsNotedOn, falls_by}
@@ -97,7 +97,7 @@ module _ (g : Over) (c : In_ok-note_place g) where
   some-of : (card : Card) → c.in-Some.card ≡ card → is_some (session_of c.args.run.now.keeper.cabin.cards card) ≡ true
   some-of card is = numbered-session c.args.run.now.keeper.cabin.cards (seat_in c.args.run.now.keeper.cabin.slots.seats c.args.slot) card c.in-Some-number_in.number (seat-of card is) numbered
 
-  ready-then : UnitReady c.args.run.now.keeper (g.M.Medium.state c.note_place.new.unit)
+  ready-then : UnitMayBeCalled c.args.run.now.keeper (g.M.Medium.state c.note_place.new.unit)
   ready-then = noted-ready (g.met.M.Medium.coherent c.args.unit.now) (g.met.M.Medium.coherent c.note_place.new.unit) c.note_place.ensures.journal c.args.run.now.keeper c.requires.going.ready.unit_ready c.in_ok-note_place.ensures.cause.works
 
   quiet : NotesEvents [] false first middle
@@ -129,10 +129,10 @@ NotesThere state chip which slot entry at result old new breaks after U V x y = 
   moments : IfSome (session_of old.keeper.cabin.cards which) (λ a. LeavesOnly (state x) (state y) (IsNote a.session.application));
   value : IfSome (session_of old.keeper.cabin.cards which) (λ a. IsValue a.session);
   unit : IsUnit V;
-  ready : OnOk result (UnitReady new.keeper V);
+  ready : OnOk result (UnitMayBeCalled new.keeper V);
   rows : (card : Card) → HasItsRow old.keeper.cabin.cards U card → OnOk result (HasItsRow new.keeper.cabin.cards V card);
-  stands : (from : ℕ) (leaving : Option Card) → Stands from leaving old.keeper.cabin → Stands from leaving new.keeper.cabin;
-  card : CardReady (known_of new.keeper.cabin.cards which) (chip y) (state y);
+  stands : (from : ℕ) (leaving : Option Card) → CabinIsSound from leaving old.keeper.cabin → CabinIsSound from leaving new.keeper.cabin;
+  card : CardMayBeCalled (known_of new.keeper.cabin.cards which) (chip y) (state y);
   size : (state y).size ≡ (state x).size;
   clock_card : (state x).clock ≤ (state y).clock;
   cause : HasCause U V (is_err result);

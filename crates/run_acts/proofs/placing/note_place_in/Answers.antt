@@ -6,9 +6,9 @@ use Rattle.run_crew.specs.declared.cards.Known.{Known}
 use Rattle.run_crew.specs.declared.cards.Cards.{Cards}
 use Rattle.run_crew.specs.declared.cabin.Cabin.{Cabin}
 use Rattle.run_crew.specs.Cards.{known_of, session_of, with_session}
-use Rattle.run_crew.specs.Cabin.{Stands, crew_of, torn_out}
+use Rattle.run_crew.specs.Cabin.{CabinIsSound, crew_of, torn_out}
 use Rattle.run_minutes.specs.declared.keeper.Keeper.{Keeper}
-use Rattle.run_minutes.specs.Keeping.{CardReady, HasItsRow, fault_of}
+use Rattle.run_minutes.specs.Keeping.{CardMayBeCalled, HasItsRow, fault_of}
 use Rattle.run_minutes.proofs.Sessions.{number-set, row-set, torn-stands}
 use Rattle.run_minutes.proofs.Units.{has-row}
 use Rattle.run_minutes.proofs.CardBooked.{no-session, none-there, session-set}
@@ -114,7 +114,7 @@ pub returns-then-is_err-clause-stands : goal.returns-then-is_err-clause-stands
 returns-then-is_err-clause-stands g c = λ from leaving h.
     let run = c.args.run.now in
     let cabin = cabin-fell g c in
-    subst (λ (b : Cabin). Stands from leaving b) (sym cabin)
+    subst (λ (b : Cabin). CabinIsSound from leaving b) (sym cabin)
     (torn-stands run.keeper.cabin c.args.which c.args.at.second from leaving c.requires.minute h)
 
 pub returns-clause-noted : goal.returns-clause-noted
@@ -143,7 +143,7 @@ pub returns-clause-stands : goal.returns-clause-stands
 returns-clause-stands g c = λ from leaving h.
     let run = c.args.run.now in
     let cards = cards-back g c in
-    subst (λ (q : Cards). Stands from leaving (record run.keeper.cabin { cards = q })) (sym cards) h
+    subst (λ (q : Cards). CabinIsSound from leaving (record run.keeper.cabin { cards = q })) (sym cards) h
 
 pub returns-clause-card : goal.returns-clause-card
 returns-clause-card g c =
@@ -154,7 +154,7 @@ returns-clause-card g c =
     let cause = cause-well g c in
     let is = sizes-back g c in
     let cards = cards-back g c in
-    subst (λ (q : Cards). CardReady (known_of q c.args.which) next Y) (sym cards)
+    subst (λ (q : Cards). CardMayBeCalled (known_of q c.args.which) next Y) (sym cards)
     (ready-again (known_of run.keeper.cabin.cards c.args.which) c.in-Ok.app (g.C.Chip.card c.args.card.now) next X Y c.requires.card is c.note_place_on.ensures.port cause.works)
 
 -- ---- what is noted on the unit

@@ -2,7 +2,7 @@ use Rattle.std.proofs.Common.{suc, ◌≡◌, ◌∙◌, ℕ, ◌/◌, length, r
 use Rattle.std.specs.Prelude.{is_err}
 use Rattle.tach_media.proofs.Runs.{on_ok, ok_gives}
 use Rattle.minute_model.specs.Span.{ungiven_of, settled}
-use Rattle.run_minutes.specs.Minutes.{AreKept, Told, kept_after}
+use Rattle.run_minutes.specs.Minutes.{AreKept, KeepingState, kept_after}
 use Rattle.run_acts.specs.declared.run.Run.{Run}
 use Rattle.run_acts.specs.declared.run.Power.{Power}
 use Rattle.run_acts.specs.Room.{waiting}
@@ -171,7 +171,7 @@ returns-clause-bare g c =
     on_ok c.keep_all.result (λ well slot h.
     let o = c.args.outcome.now in
     let t = told_of c.args.run.now o in
-    let u : Told = record { keeper = c.keep_all.new.self; marks = c.keep_all.new.marks; breaks = c.keep_all.new.breaks } in
+    let u : KeepingState = record { keeper = c.keep_all.new.self; marks = c.keep_all.new.marks; breaks = c.keep_all.new.breaks } in
     let kept : AreKept c.args.at c.as_slice.result.now t u = rw well at c.keep_all.ensures.kept in
     let stays = all-bare c.args.at c.as_slice.result.now t u slot kept h in
     (stays.seat, stays.bare))

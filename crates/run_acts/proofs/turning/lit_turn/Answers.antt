@@ -12,9 +12,9 @@ use Rattle.run_acts.specs.declared.run.Power.{Power}
 use Rattle.run_acts.specs.declared.run.Power.TheVariants.{Lit, Lost}
 use Rattle.run_acts.specs.Power.{is_lit, passed, cut_run}
 use Rattle.minute_rules.specs.Kept.{Kept as Minutes}
-use Rattle.run_crew.specs.Cabin.{with_power_lost, Stands}
+use Rattle.run_crew.specs.Cabin.{with_power_lost, CabinIsSound}
 use Rattle.run_minutes.proofs.Counts.{lines-length}
-use Rattle.run_acts.specs.Going.{StandSomehow, IsGoing, IsLit}
+use Rattle.run_acts.specs.Going.{StandSomehow, IsBetweenSeconds, RunHasPowerAllSeated}
 use Rattle.run_acts.specs.Room.{falls_of, cuts_within, waiting}
 use Rattle.run_acts.proofs.Kept.{given-ended, given-rows, seats-less, owing-sum}
 use Rattle.run_acts.proofs.Torn.{cut-falls}
@@ -42,7 +42,7 @@ use Rattle.run_acts.proofs.turning.lit_turn.Goals as goal
 -- ---- what the seconds decide
 
 module _ (g : Over) (c : After-as_slice g) where
-  abbrev lit : IsLit (c.args.run.now.next / 60) c.args.run.now (g.M.Medium.state c.args.unit.now) (g.C.Chip.card c.args.card_a.now) (g.D.Chip.card c.args.card_b.now) (g.C.Chip.state c.args.card_a.now) (g.D.Chip.state c.args.card_b.now)
+  abbrev lit : RunHasPowerAllSeated (c.args.run.now.next / 60) c.args.run.now (g.M.Medium.state c.args.unit.now) (g.C.Chip.card c.args.card_a.now) (g.D.Chip.card c.args.card_b.now) (g.C.Chip.state c.args.card_a.now) (g.D.Chip.state c.args.card_b.now)
   lit = c.requires.going.lit (ap is_lit c.requires.lit)
 
   decided : Decides (ungiven_of lit.span) (ungiven_of (fed_many lit.span c.args.speed c.args.n)) c.args.run.now.keeper.journal.kept c.feed-decided.result.items
@@ -108,7 +108,7 @@ keep_turn-kept-requires-clause-watches g c = (c.requires.going.lit (ap is_lit c.
 -- ---- what the keeping did
 
 module _ (g : Over) (c : After-is_err g) where
-  abbrev power : IsLit (c.args.run.now.next / 60) c.args.run.now (g.M.Medium.state c.args.unit.now) (g.C.Chip.card c.args.card_a.now) (g.D.Chip.card c.args.card_b.now) (g.C.Chip.state c.args.card_a.now) (g.D.Chip.state c.args.card_b.now)
+  abbrev power : RunHasPowerAllSeated (c.args.run.now.next / 60) c.args.run.now (g.M.Medium.state c.args.unit.now) (g.C.Chip.card c.args.card_a.now) (g.D.Chip.card c.args.card_b.now) (g.C.Chip.state c.args.card_a.now) (g.D.Chip.state c.args.card_b.now)
   power = c.requires.going.lit (ap is_lit c.requires.lit)
 
   decides : Decides (ungiven_of power.span) (ungiven_of (fed_many power.span c.args.speed c.args.n)) c.args.run.now.keeper.journal.kept c.feed-decided.result.items
@@ -119,10 +119,10 @@ module _ (g : Over) (c : After-is_err g) where
   kept_run = record c.args.run.now { minutes = c.feed-decided.new.minutes; keeper = c.keep_turn-kept.new.run.keeper; watch = c.keep_turn-kept.new.run.watch }
 
   abbrev IsGoingThen : Run → Type 0
-  IsGoingThen run = IsGoing (passed c.args.n c.args.begun run) (g.M.Medium.state c.keep_turn-kept.new.unit) (g.C.Chip.card c.keep_turn-kept.new.card_a) (g.D.Chip.card c.keep_turn-kept.new.card_b) (g.C.Chip.state c.keep_turn-kept.new.card_a) (g.D.Chip.state c.keep_turn-kept.new.card_b)
+  IsGoingThen run = IsBetweenSeconds (passed c.args.n c.args.begun run) (g.M.Medium.state c.keep_turn-kept.new.unit) (g.C.Chip.card c.keep_turn-kept.new.card_a) (g.D.Chip.card c.keep_turn-kept.new.card_b) (g.C.Chip.state c.keep_turn-kept.new.card_a) (g.D.Chip.state c.keep_turn-kept.new.card_b)
 
-  stands : (from : ℕ) (leaving : Option Card) → All (λ (m : Minute). from ≤ m.minute) c.feed-decided.result.items → Stands from leaving c.args.run.now.keeper.cabin → (next : ℕ) → from ≤ next → kept_after c.args.run.now.keeper.journal.kept c.feed-decided.result.items < next
-      → Stands next leaving c.keep_turn-kept.new.run.keeper.cabin
+  stands : (from : ℕ) (leaving : Option Card) → All (λ (m : Minute). from ≤ m.minute) c.feed-decided.result.items → CabinIsSound from leaving c.args.run.now.keeper.cabin → (next : ℕ) → from ≤ next → kept_after c.args.run.now.keeper.journal.kept c.feed-decided.result.items < next
+      → CabinIsSound next leaving c.keep_turn-kept.new.run.keeper.cabin
   stands = rw c.as_slice.ensures.value at c.keep_turn-kept.ensures.stands
 
   stand-somehow : StandSomehow c.keep_turn-kept.new.run.keeper.cabin

@@ -5,7 +5,7 @@ use Rattle.run_promise.specs.Between.{devices}
 use Rattle.run_outcome.specs.declared.outcome.Outcome.{Outcome}
 use Rattle.run_acts.specs.declared.run.Run.{Run}
 use Rattle.run_acts.specs.Power.{is_lit, passed}
-use Rattle.run_acts.specs.Going.{IsGoing}
+use Rattle.run_acts.specs.Going.{IsBetweenSeconds}
 use Rattle.run_acts.specs.Room.{HasRoom}
 use Rattle.run_acts.proofs.Standing.{passed-at}
 use Rattle.run_acts.specs.Turning.{IsTurnOf}
@@ -44,7 +44,7 @@ returns-then-not-is_lit-clause-turned g c =
 pub returns-then-not-is_lit-clause-going : goal.returns-then-not-is_lit-clause-going
 returns-then-not-is_lit-clause-going g c =
     let dark : is_lit c.args.run.now.power ≡ false = sym c.is_lit.ensures ∙ c.if-not-is_lit.true in
-    subst (λ (r : Run). IsGoing r (g.M.Medium.state c.args.unit.now) (g.C.Chip.card c.args.card_a.now) (g.D.Chip.card c.args.card_b.now) (g.C.Chip.state c.args.card_a.now) (g.D.Chip.state c.args.card_b.now)) (sym c.pass.ensures)
+    subst (λ (r : Run). IsBetweenSeconds r (g.M.Medium.state c.args.unit.now) (g.C.Chip.card c.args.card_a.now) (g.D.Chip.card c.args.card_b.now) (g.C.Chip.state c.args.card_a.now) (g.D.Chip.state c.args.card_b.now)) (sym c.pass.ensures)
     (passed-at c.args.run.now c.args.n c.args.begun dark c.requires.small c.requires.some c.requires.going)
 
 pub returns-then-not-is_lit-clause-room : goal.returns-then-not-is_lit-clause-room
@@ -62,7 +62,7 @@ returns-clause-turned g c =
 
 pub returns-clause-going : goal.returns-clause-going
 returns-clause-going g c =
-    subst (λ (r : Run). IsGoing r (g.M.Medium.state c.lit_turn.new.unit) (g.C.Chip.card c.lit_turn.new.card_a) (g.D.Chip.card c.lit_turn.new.card_b) (g.C.Chip.state c.lit_turn.new.card_a) (g.D.Chip.state c.lit_turn.new.card_b)) (sym c.pass-2.ensures) c.lit_turn.ensures.going
+    subst (λ (r : Run). IsBetweenSeconds r (g.M.Medium.state c.lit_turn.new.unit) (g.C.Chip.card c.lit_turn.new.card_a) (g.D.Chip.card c.lit_turn.new.card_b) (g.C.Chip.state c.lit_turn.new.card_a) (g.D.Chip.state c.lit_turn.new.card_b)) (sym c.pass-2.ensures) c.lit_turn.ensures.going
 
 pub returns-clause-room : goal.returns-clause-room
 returns-clause-room g c = λ left offs insertions actions h.

@@ -16,7 +16,7 @@ use Rattle.run_crew.specs.declared.cabin.Cabin.{Cabin}
 use Rattle.run_crew.specs.Cards.{known_of, session_of, with_session}
 use Rattle.run_crew.specs.Cabin.{torn_out, crew_of}
 use Rattle.run_minutes.specs.declared.keeper.Keeper.{Keeper}
-use Rattle.run_minutes.specs.Keeping.{CardReady, HasItsRow, fault_of}
+use Rattle.run_minutes.specs.Keeping.{CardMayBeCalled, HasItsRow, fault_of}
 use Rattle.run_minutes.proofs.Sessions.{number-set, row-set}
 use Rattle.run_minutes.proofs.Units.{has-row, row-beside}
 use Rattle.run_insertion.proofs.Noted.{noted-ready, noted-row}
@@ -174,7 +174,7 @@ returns-in-Err-clause-card g c =
     let told : (known_of cards which).sizes ≡ Ok c.in-Ok.app = cc in
     let after : c.tear.new.self.cabin.cards ≡ with_session which None (with_session which None cards) =
     ap (λ (k : Keeper). k.cabin.cards) c.tear.ensures.keeper ∙ ap (λ (b : Cabin). with_session which None b.cards) c.close.ensures.kept in
-    subst (λ (q : Cards). CardReady (known_of q which) chip X) (sym after)
+    subst (λ (q : Cards). CardMayBeCalled (known_of q which) chip X) (sym after)
     (twice-ready which cards (λ app is. let same : c.in-Ok.app ≡ app = cc in subst (λ (a : Application). IsPort a None chip X) same c.leave.ensures.port))
 
 -- ---- what the call on the card leaves of it

@@ -6,23 +6,23 @@ use Rattle.tach_media.proofs.Runs.{on_ok, ok_gives, cause_after}
 use Rattle.activity_codec.specs.declared.values.Slot.{Slot}
 use Rattle.minute_model.specs.declared.Minute.{Minute}
 use Rattle.minute_model.specs.Span.{Span, settled, decided_in, ungiven_of}
-use Rattle.minute_rules.specs.Kept.{StandsFor}
+use Rattle.minute_rules.specs.Kept.{CountsSpan}
 use Rattle.safety_model.specs.Safe.{Devices}
 use Rattle.run_promise.specs.Between.{devices}
 use Rattle.log_model.specs.declared.lines.Break.{Break}
 use Rattle.card_slots.specs.Calls.{seat_in, card_in, logged}
 use Rattle.run_crew.specs.declared.cabin.Cabin.{Cabin}
 use Rattle.run_crew.specs.Cards.{session_of, known_of}
-use Rattle.run_crew.specs.Cabin.{Stands, with_slot_left}
+use Rattle.run_crew.specs.Cabin.{CabinIsSound, with_slot_left}
 use Rattle.run_outcome.specs.Lines.{Listed}
 use Rattle.run_outcome.specs.declared.outcome.Outcome.{Outcome}
 use Rattle.run_minutes.specs.declared.keeper.Moment.{Moment}
-use Rattle.run_minutes.specs.Keeping.{HasLeftMore, CardReady, HasItsRow, UnitReady, tears_of}
-use Rattle.run_minutes.specs.Minutes.{Told, Reach, IsReach}
+use Rattle.run_minutes.specs.Keeping.{HasLeftMore, CardMayBeCalled, HasItsRow, UnitMayBeCalled, tears_of}
+use Rattle.run_minutes.specs.Minutes.{KeepingState, Reach, IsReach}
 use Rattle.run_minutes.proofs.Counts.{lines-length}
 use Rattle.run_acts.specs.declared.run.Run.{Run}
 use Rattle.run_acts.specs.Power.{with_cabin}
-use Rattle.run_acts.specs.Going.{IsHeld, IsGoingOn, IsLit}
+use Rattle.run_acts.specs.Going.{CanBeCut, RunHasPower, RunHasPowerAllSeated}
 use Rattle.run_acts.specs.Room.{waiting_of, falls_of, Takes}
 use Rattle.run_acts.proofs.Torn.{tears-without}
 use Rattle.run_acts.specs.Behind.{BooksWithdrawn}
@@ -98,11 +98,11 @@ left-there : (P : Moment → Run → Type 0) (slot : Slot) (at here : Moment) (r
 left-there P slot at here run left is moment h = subst (λ (m : Moment). P m (left_run slot m.second run)) moment (subst (λ (b : Cabin). P at (with_cabin b run)) is h)
 
 module _ {U A0 B0 : State} {chip_a chip_b : CardState} where
-  left-lit : (slot : Slot) (card : Card) (second : ℕ) (run : Run) (left : Cabin) → IsLit (run.next / 60) run U chip_a chip_b A0 B0 → left ≡ with_slot_left slot second run.keeper.cabin → ((from : ℕ) → Stands from None run.keeper.cabin → Stands from (Some card) left)
-      → IsGoingOn (Some card) (run.next / 60) (with_cabin left run) U chip_a chip_b A0 B0
+  left-lit : (slot : Slot) (card : Card) (second : ℕ) (run : Run) (left : Cabin) → RunHasPowerAllSeated (run.next / 60) run U chip_a chip_b A0 B0 → left ≡ with_slot_left slot second run.keeper.cabin → ((from : ℕ) → CabinIsSound from None run.keeper.cabin → CabinIsSound from (Some card) left)
+      → RunHasPower (Some card) (run.next / 60) (with_cabin left run) U chip_a chip_b A0 B0
   left-lit slot card second run left lit is stands =
-      subst (λ (b : Cabin). IsGoingOn (Some card) (run.next / 60) (with_cabin b run) U chip_a chip_b A0 B0) (sym is)
-      (left-going slot card second run (run.next / 60) lit (λ from h. subst (λ (b : Cabin). Stands from (Some card) b) is (stands from h)))
+      subst (λ (b : Cabin). RunHasPower (Some card) (run.next / 60) (with_cabin b run) U chip_a chip_b A0 B0) (sym is)
+      (left-going slot card second run (run.next / 60) lit (λ from h. subst (λ (b : Cabin). CabinIsSound from (Some card) b) is (stands from h)))
 
 pub settle-requires-clause-held : goal.settle-requires-clause-held
 settle-requires-clause-held g c =
@@ -112,8 +112,8 @@ settle-requires-clause-held g c =
     let here = c.requires.at in
     let there : card_in (seat_in run.keeper.cabin.slots.seats c.args.slot) ≡ Some card = cc in
     let u = ungiven_of c.requires.going.span in
-    let stands = subst (λ (b : Cabin). Stands u (Some card) b) c.leave.ensures.kept (c.leave.ensures.stands u card there c.requires.going.cabin) in
-    subst (λ (b : Cabin). IsHeld (run.next / 60) (with_cabin b run) (g.M.Medium.state c.args.unit.now) (g.C.Chip.card c.args.card_a.now) (g.D.Chip.card c.args.card_b.now) (g.C.Chip.state c.args.card_a.now) (g.D.Chip.state c.args.card_b.now)) (sym c.leave.ensures.kept)
+    let stands = subst (λ (b : Cabin). CabinIsSound u (Some card) b) c.leave.ensures.kept (c.leave.ensures.stands u card there c.requires.going.cabin) in
+    subst (λ (b : Cabin). CanBeCut (run.next / 60) (with_cabin b run) (g.M.Medium.state c.args.unit.now) (g.C.Chip.card c.args.card_a.now) (g.D.Chip.card c.args.card_b.now) (g.C.Chip.state c.args.card_a.now) (g.D.Chip.state c.args.card_b.now)) (sym c.leave.ensures.kept)
     (left-held c.args.slot card second run (run.next / 60) c.requires.held (omega (arith, here)) u stands)
 
 pub settle-requires-clause-going : goal.settle-requires-clause-going
@@ -130,7 +130,7 @@ module _ (g : Over) (c : In_ok-settle g) where
   seat-of : (card : Card) → c.in-Some.card ≡ card → card_in (seat_in c.args.run.now.keeper.cabin.slots.seats c.args.slot) ≡ Some card
   seat-of card is = cc
 
-  going-with : (card : Card) → c.in-Some.card ≡ card → IsGoingOn (Some card) (c.settle.new.run.next / 60) c.settle.new.run (g.M.Medium.state c.settle.new.unit) (g.C.Chip.card c.settle.new.card_a) (g.D.Chip.card c.settle.new.card_b) (g.C.Chip.state c.settle.new.card_a) (g.D.Chip.state c.settle.new.card_b)
+  going-with : (card : Card) → c.in-Some.card ≡ card → RunHasPower (Some card) (c.settle.new.run.next / 60) c.settle.new.run (g.M.Medium.state c.settle.new.unit) (g.C.Chip.card c.settle.new.card_a) (g.D.Chip.card c.settle.new.card_b) (g.C.Chip.state c.settle.new.card_a) (g.D.Chip.state c.settle.new.card_b)
   going-with card is =
       c.in_ok-settle.ensures.going (Some card)
       (left-lit c.args.slot card c.args.at.second c.args.run.now c.leave.new.self c.requires.going c.leave.ensures.kept (λ from h. c.leave.ensures.stands from card (seat-of card is) h))
@@ -204,10 +204,10 @@ Closes state chip which slot at result old new breaks after U V x y = record {
   shut : ShutsSo which slot at old new breaks after (state x) (state y);
   bare : session_of old.keeper.cabin.cards which ≡ None → y ≡ x;
   unit : IsUnit V;
-  ready : OnOk result (UnitReady new.keeper V);
+  ready : OnOk result (UnitMayBeCalled new.keeper V);
   rows : (card : Card) → HasItsRow old.keeper.cabin.cards U card → OnOk result (HasItsRow new.keeper.cabin.cards V card);
-  stands : (from : ℕ) → Stands from (Some which) old.keeper.cabin → Stands from None new.keeper.cabin;
-  card : CardReady (known_of new.keeper.cabin.cards which) (chip y) (state y);
+  stands : (from : ℕ) → CabinIsSound from (Some which) old.keeper.cabin → CabinIsSound from None new.keeper.cabin;
+  card : CardMayBeCalled (known_of new.keeper.cabin.cards which) (chip y) (state y);
   size : (state y).size ≡ (state x).size;
   more : (state x).breakdowns ≤ (state y).breakdowns;
   clock_card : (state x).clock ≤ (state y).clock;
@@ -227,8 +227,8 @@ closing-left {C} state x y None h same = subst (λ (z : C). HasLeftMore (state x
 closing-left {C} state x y (Some s) h same = h.1.keeps
 
 abbrev Booked : (slot : Slot) (at : Moment) (card : Card) (failed : Bool) (run new : Run) (before after : Outcome) (d e : Devices) (left : Cabin) → Type 0
-Booked slot at card failed run new before after d e left = (decided : List Minute) × (reach : Reach) × (closing : Option Closing) × (between : Told)
-    × ((span : Span) → StandsFor run.minutes span → decided_in (settled span) ≡ decided_in span ++ decided)
+Booked slot at card failed run new before after d e left = (decided : List Minute) × (reach : Reach) × (closing : Option Closing) × (between : KeepingState)
+    × ((span : Span) → CountsSpan run.minutes span → decided_in (settled span) ≡ decided_in span ++ decided)
     × IsReach decided at (not (is_some closing)) (told_of (with_cabin left run) before) between reach
     × BooksWithdrawn card decided failed reach closing (told_of (with_cabin left run) before) (told_of new after) d e
 
@@ -370,7 +370,7 @@ module _ (g : Over) (c : In_ok-settle g) (k : OneCard c.in-Some.card (g.C.Chip.s
     small : s.number < 2 ^ 32
     small = let low = c.requires.small in let same = now.number in omega (arith, low, same)
 
-    minutes : StandsFor c.settle.new.run.minutes (settled w.within.sp)
+    minutes : CountsSpan c.settle.new.run.minutes (settled w.within.sp)
     minutes = c.in_ok-settle.ensures.settled.minutes w.within.sp w.within.minutes
 
     time-then : HaveTime between
@@ -455,7 +455,7 @@ module _ (g : Over) (c : In_ok-settle g) (k : OneCard c.in-Some.card (g.C.Chip.s
         (closed-lines c.args.at c.args.outcome.now c.settle.new.outcome k.breaks n_.0 c.args.slot (settled-lines c.args.at false (with_cabin c.leave.new.self c.args.run.now) c.settle.new.run c.args.outcome.now c.settle.new.outcome c.in_ok-settle.ensures.settled) n_.1.told) in
         quiet-goes o done s front rest (Withdraw c.args.slot) are c.args.run.now c.args.outcome.now first_ last w tt t.lines (log_of told) t.are t.tears left shows before (is_err k.result)
 
-    ringed : (spans : List SpanFrom) (t : Rattle.log_model.specs.Course.Told) → RingsWithin o done s w.within.b.run.log front c.args.run.now (log_of c.args.outcome.now) spans t first_ → RingsGoOn (is_err k.result) o done s w.within.b (front ++ Withdraw c.args.slot ∷ []) k.new (log_of told) spans t last
+    ringed : (spans : List SpanFrom) (t : Rattle.log_model.specs.Course.ToldSecond) → RingsWithin o done s w.within.b.run.log front c.args.run.now (log_of c.args.outcome.now) spans t first_ → RingsGoOn (is_err k.result) o done s w.within.b (front ++ Withdraw c.args.slot ∷ []) k.new (log_of told) spans t last
     ringed spans t rings =
         let lit = c.requires.going in
         let r = c.in_ok-settle.ensures.recorded in
@@ -581,7 +581,7 @@ module _ (g : Over) (c : After-from_residual g) where
     cut-left : HaveLeftMore o start end
     cut-left = more-left o start end (w.within.powered.lit.unit.unit_holds [] []).later w.within.there.clocks c.settle.ensures.keeps
 
-    cut-ringed : (spans : List SpanFrom) (t : Rattle.log_model.specs.Course.Told) → RingsWithin o done s w.within.b.run.log front c.args.run.now (log_of c.args.outcome.now) spans t start
+    cut-ringed : (spans : List SpanFrom) (t : Rattle.log_model.specs.Course.ToldSecond) → RingsWithin o done s w.within.b.run.log front c.args.run.now (log_of c.args.outcome.now) spans t start
         → RingsGoOn (is_err c.from_residual.result) o done s w.within.b (front ++ Withdraw c.args.slot ∷ []) c.settle.new.run (log_of c.settle.new.outcome) spans t end
     cut-ringed spans t rings =
         let card : Card = c.in-Some.card in

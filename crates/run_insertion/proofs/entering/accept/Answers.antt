@@ -8,7 +8,7 @@ use Rattle.run_promise.specs.Found.{found_of}
 use Rattle.run_crew.specs.declared.cabin.Cabin.{Cabin}
 use Rattle.run_crew.specs.Cards.{known_of}
 use Rattle.run_crew.specs.Cabin.{with_sizes_of, torn_out}
-use Rattle.run_minutes.specs.Keeping.{CardReady, HasItsRow}
+use Rattle.run_minutes.specs.Keeping.{CardMayBeCalled, HasItsRow}
 use Rattle.run_minutes.proofs.Units.{row-measured}
 use Rattle.run_insertion.specs.Entering.{Unread, Unsized, Judged, Unfit, APPLICATION_FILE, outcome_by}
 use Rattle.run_insertion.specs.Noted.{HasNoted, IsOnUnit, IsComing, fault_of, notes_by}
@@ -129,7 +129,7 @@ returns-in-Err-clause-stands g c = λ from le s. c.measure-2.ensures.stands from
 pub returns-in-Err-clause-card : goal.returns-in-Err-clause-card
 returns-in-Err-clause-card g c =
     let kept = c.measure-2.ensures.kept ∙ ap (λ (s : Result Application ℕ). with_sizes_of c.args.entering.which s c.args.keeper.now.cabin) c.in-Err.is in
-    subst (λ (b : Cabin). CardReady (known_of b.cards c.args.entering.which) (g.C.Chip.card c.wake.new.card) (g.C.Chip.state c.wake.new.card)) (sym kept)
+    subst (λ (b : Cabin). CardMayBeCalled (known_of b.cards c.args.entering.which) (g.C.Chip.card c.wake.new.card) (g.C.Chip.state c.wake.new.card)) (sym kept)
     (unsized-ready c.args.entering.which c.args.keeper.now.cabin c.in-Err.field (g.C.Chip.card c.wake.new.card) (g.C.Chip.state c.wake.new.card) c.requires.bare)
 
 -- ---- the clocks

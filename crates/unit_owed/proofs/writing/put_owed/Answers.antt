@@ -4,7 +4,7 @@ use Rattle.tach_media.specs.Plan.{PutsBy, put_all, IsPartway}
 use Rattle.unit_model.specs.Days.{word_minute}
 use Rattle.unit_model.proofs.Sized.{unit_sized}
 use Rattle.unit_owed.specs.Owed.{rows_in}
-use Rattle.unit_owed.specs.Rows.{putting, HasRow, IsPut}
+use Rattle.unit_owed.specs.Rows.{putting, HasRow, OwedRowHas}
 use Rattle.unit_owed.proofs.Putting.{putting_moment, put_end}
 use Rattle.unit_owed.proofs.writing.put_owed.Goals as goal
 
@@ -30,10 +30,10 @@ returns-clause-put g c =
     let e = c.args.entry.now in
     let number = c.args.number.now in
     let is = c.entry_word.ensures.word in
-    on_ok c.write_entry.result (λ fine. where_told (g.M.Medium.state c.args.unit.now).image (g.M.Medium.state c.write_entry.new.unit).image (IsPut number e) (λ x y was now.
+    on_ok c.write_entry.result (λ fine. where_told (g.M.Medium.state c.args.unit.now).image (g.M.Medium.state c.write_entry.new.unit).image (OwedRowHas number e) (λ x y was now.
     let mine = at_image (HasRow number) was c.requires.row in
     let same : y ≡ put_all (putting number e.minute c.entry_word.result (rows_in x)) x = turned_into (λ z. put_all (putting number e.minute c.entry_word.result (rows_in z)) z) (c.write_entry.ensures.puts.written fine) was now in
-    subst (IsPut number e x) (sym (same ∙ (λ t. put_all (putting number e.minute (is t) (rows_in x)) x)))
+    subst (OwedRowHas number e x) (sym (same ∙ (λ t. put_all (putting number e.minute (is t) (rows_in x)) x)))
     (put_end number e x (unit_sized (g.met.M.Medium.coherent c.args.unit.now) c.requires.unit x was) mine.0 mine.1 c.write_entry.ensures.minute
     (subst (λ (w : ℕ). w < 65536) is c.write_entry.ensures.word) (subst (λ (w : ℕ). word_minute w < 1440) is c.entry_word.ensures.minute))))
 

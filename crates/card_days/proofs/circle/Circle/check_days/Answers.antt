@@ -1,7 +1,7 @@
 use Rattle.std.proofs.Common.{◌≡◌, ◌<◌, ◌≤◌, ◌+◌, ℕ, List, Option, Some, IfSome, Result, length, arith, refl, sym, ◌∙◌, ap, subst}
 use Rattle.std.specs.Prelude.{IfErr}
 use Rattle.tach_media.proofs.Runs.{both_told, reads_then, no_reads}
-use Rattle.card_model.specs.Image.{IsStringShape, IsPointer, IsPlace, Holds, turned, string_of, spot, oldest_pointer, newest_pointer, circle_of}
+use Rattle.card_model.specs.Image.{IsStringShape, IsPointer, IsPlace, HoldsDays, turned, string_of, spot, oldest_pointer, newest_pointer, circle_of}
 use Rattle.card_model.specs.Walk.{days_of}
 use Rattle.card_model.specs.Checks.{first_failing, day_checks}
 use Rattle.card_days.specs.declared.fault.DaysFault.{DaysFault}
@@ -48,7 +48,7 @@ returns-then-so_far-reach-clause-days g c =
     let h = c.in_ok-head.head in
     let image = (g.M.Medium.state c.args.medium.now).image in
     let one_too = subst (λ (m : Option (List ℕ)). IfSome m (λ x. IsRecord r.size c.loop-head.so_far c.loop-head.before c.loop-head.date (turned (spot r.size o c.loop-head.so_far) (string_of r x)) h)) (inv.reads.same refl) c.in_ok-head.ensures.record in
-    both_told image (λ x. o ≡ oldest_pointer r x → IsPointer r.size (newest_pointer r x) → IsPlace r.size o c.args.reach (newest_pointer r x) → Holds r x (days_of r x)) inv.walked one_too (λ x was walked one is newest place.
+    both_told image (λ x. o ≡ oldest_pointer r x → IsPointer r.size (newest_pointer r x) → IsPlace r.size o c.args.reach (newest_pointer r x) → HoldsDays r x (days_of r x)) inv.walked one_too (λ x was walked one is newest place.
     let shape = c.in_ok-head.ensures.shape in
     let inside : r.base + (4 + r.size) ≤ length x = omega (arith, c.requires.fits, (g.met.M.Medium.coherent c.args.medium.now).sized x was) in
     let below : k < r.size = omega (arith, inv.within, c.requires.below) in

@@ -2,7 +2,7 @@ use Rattle.std.proofs.Common.{◌≡◌, ◌+◌, List, [], inl, false, IfSome, 
 use Rattle.tach_media.specs.Medium.{Reads}
 use Rattle.tach_media.proofs.Runs.{goes_on, at_image, where_told, told_too, cause_after}
 use Rattle.card_model.specs.Days.{Day}
-use Rattle.card_model.specs.Image.{Holds}
+use Rattle.card_model.specs.Image.{HoldsDays}
 use Rattle.card_days.specs.Trim.{IsTrimming, IsTrimmed, IsWithoutLast, newest_later}
 use Rattle.card_days.proofs.Rears.{later_told}
 use Rattle.card_days.proofs.Settling.{none_later}
@@ -20,7 +20,7 @@ returns-in_err-rear-2-clause-moments g c =
     goes_on inv.moments c.drop_newest.ensures.moments (λ x y d was is step.
     trimming_fewer r date (i + 0) x d (trimming_then r date i 0 x y d
     (at_image (IsTrimming r date i x) is (at_image (λ x. IfSome (g.M.Medium.state c.loop-later.medium).image (IsTrimming r date i x)) was inv.made))
-    (trimming_part r date y d (λ days h. sym (at_image (λ y. (days : List Day) → Holds r y days → c.loop-later.later ≡ newest_later date days) is later days h) ∙ c.loop-later-test.true) step)))
+    (trimming_part r date y d (λ days h. sym (at_image (λ y. (days : List Day) → HoldsDays r y days → c.loop-later.later ≡ newest_later date days) is later days h) ∙ c.loop-later-test.true) step)))
 
 pub loop-later-preserved : goal.loop-later-preserved
 loop-later-preserved g c =
@@ -37,14 +37,14 @@ loop-later-preserved g c =
       cause = cause_after inv.cause again.cause;
       made = through_both (g.M.Medium.state c.args.medium.now).image (g.M.Medium.state c.loop-later.medium).image (g.M.Medium.state c.drop_newest.new.medium).image (IsTrimming r date i) (IsWithoutLast r) (IsTrimming r date (i + 1))
           inv.moments.tells inv.made again.shortened (λ x y z was is a b. trimming_then r date i 1 x y z a
-          (trimming_one r date y z (λ days h. sym (at_image (λ y. (days : List Day) → Holds r y days → c.loop-later.later ≡ newest_later date days) is later days h) ∙ c.loop-later-test.true) b));
+          (trimming_one r date y z (λ days h. sym (at_image (λ y. (days : List Day) → HoldsDays r y days → c.loop-later.later ≡ newest_later date days) is later days h) ∙ c.loop-later-test.true) b));
       moments = goes_on inv.moments c.drop_newest.ensures.moments (λ x y d was is step.
           trimming_fewer r date (i + 0) x d (trimming_then r date i 0 x y d
           (at_image (IsTrimming r date i x) is (at_image (λ x. IfSome (g.M.Medium.state c.loop-later.medium).image (IsTrimming r date i x)) was inv.made))
-          (trimming_part r date y d (λ days h. sym (at_image (λ y. (days : List Day) → Holds r y days → c.loop-later.later ≡ newest_later date days) is later days h) ∙ c.loop-later-test.true) step)));
+          (trimming_part r date y d (λ days h. sym (at_image (λ y. (days : List Day) → HoldsDays r y days → c.loop-later.later ≡ newest_later date days) is later days h) ∙ c.loop-later-test.true) step)));
       settled = inl again.settled;
       empty = if_told (g.M.Medium.state c.args.medium.now).image _ (λ x was h. absurd (none_later r date c.loop-later.later c.loop-later-test.true x was h
-          (at_image (λ x. Holds r x [] → Reads (g.M.Medium.state c.args.medium.now) (g.M.Medium.state c.loop-later.medium) false) was inv.empty h) later));
+          (at_image (λ x. HoldsDays r x [] → Reads (g.M.Medium.state c.args.medium.now) (g.M.Medium.state c.loop-later.medium) false) was inv.empty h) later));
       lies = again.lies;
       known = again.known;
       later = c.is_later-later-in-loop-later.ensures;
@@ -69,7 +69,7 @@ returns-after-loop-later-clause-trimmed g c =
     let later = later_told (g.M.Medium.state c.loop-later.medium).image r inv.shape (λ x is. omega (arith, c.requires.fits, inv.moments.size, (g.met.M.Medium.coherent c.loop-later.medium).sized x is)) c.loop-later.rear date c.loop-later.later inv.later inv.known in
     where_told (g.M.Medium.state c.args.medium.now).image _ (IsTrimmed r date) (λ x y was is.
     ends_trimmed r date i x y (at_image (IsTrimming r date i x) is (at_image (λ x. IfSome (g.M.Medium.state c.loop-later.medium).image (IsTrimming r date i x)) was inv.made))
-    (λ days kept h s k. sym (at_image (λ y. (days : List Day) → Holds r y days → c.loop-later.later ≡ newest_later date days) is later kept k) ∙ c.loop-later-test.false))
+    (λ days kept h s k. sym (at_image (λ y. (days : List Day) → HoldsDays r y days → c.loop-later.later ≡ newest_later date days) is later kept k) ∙ c.loop-later-test.false))
 
 pub returns-in_err-rear-2-clause-empty : goal.returns-in_err-rear-2-clause-empty
 returns-in_err-rear-2-clause-empty g c =
@@ -78,7 +78,7 @@ returns-in_err-rear-2-clause-empty g c =
     let inv = c.loop-later.invariant in
     let later = later_told (g.M.Medium.state c.loop-later.medium).image r inv.shape (λ x is. omega (arith, c.requires.fits, inv.moments.size, (g.met.M.Medium.coherent c.loop-later.medium).sized x is)) c.loop-later.rear date c.loop-later.later inv.later inv.known in
     if_told (g.M.Medium.state c.args.medium.now).image _ (λ x was h. absurd (none_later r date c.loop-later.later c.loop-later-test.true x was h
-    (at_image (λ x. Holds r x [] → Reads (g.M.Medium.state c.args.medium.now) (g.M.Medium.state c.loop-later.medium) false) was inv.empty h) later))
+    (at_image (λ x. HoldsDays r x [] → Reads (g.M.Medium.state c.args.medium.now) (g.M.Medium.state c.loop-later.medium) false) was inv.empty h) later))
 
 pub returns-in_err-rear-clause-writes : goal.returns-in_err-rear-clause-writes
 returns-in_err-rear-clause-writes g c = if_told (g.M.Medium.state c.args.medium.now).image _ (λ x was days h. omega (arith, c.in_err-rear.ensures.reads.clock, until_short c.args.date days))

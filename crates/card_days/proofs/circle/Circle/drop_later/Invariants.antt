@@ -1,7 +1,7 @@
 use Rattle.std.proofs.Common.{◌≡◌, ◌≤◌, ◌+◌, ◌-◌, [], false}
 use Rattle.std.specs.Prelude.{IfSome}
 use Rattle.tach_media.specs.Medium.{LeavesOnly, Reads, HasCause}
-use Rattle.card_model.specs.Image.{IsStringShape, Holds}
+use Rattle.card_model.specs.Image.{IsStringShape, HoldsDays}
 use Rattle.card_days.specs.Rears.{head_later, IsRear, LiesOn}
 use Rattle.card_days.specs.Trim.{IsTrimming, WritesOrReads}
 use Rattle.card_days.proofs.circle.Circle.drop_later.Given as goal
@@ -18,7 +18,7 @@ invariant-loop-later g l =
       made : IfSome before.image (λ x. IfSome now.image (IsTrimming l.self l.date l.count x));
       moments : LeavesOnly before now (IsTrimming l.self l.date 0);
       settled : WritesOrReads before now;
-      empty : IfSome before.image (λ x. Holds l.self x [] → Reads before now false);
+      empty : IfSome before.image (λ x. HoldsDays l.self x [] → Reads before now false);
       lies : LiesOn l.self l.rear;
       known : IfSome now.image (IsRear l.self l.rear);
       later : l.later ≡ head_later l.date l.rear.head;

@@ -3,7 +3,7 @@ use Rattle.std.specs.Prelude.{IfErr}
 use Rattle.tach_media.specs.Medium.{bytes_at}
 use Rattle.tach_media.proofs.Runs.{both_told, reads_then}
 use Rattle.card_model.specs.Bytes.{number}
-use Rattle.card_model.specs.Image.{StringShape, IsStringShape, IsPlace, Holds, oldest_pointer, newest_pointer, circle_of}
+use Rattle.card_model.specs.Image.{StringShape, IsStringShape, IsPlace, HoldsDays, oldest_pointer, newest_pointer, circle_of}
 use Rattle.card_model.specs.Walk.{days_of}
 use Rattle.card_model.specs.Checks.{first_failing, first_bad, is_pointer, is_empty, day_checks, distance_of}
 use Rattle.card_model.proofs.Walking.{distance_is}
@@ -53,7 +53,7 @@ returns-then-branch-clause-days g c =
     let empty = subst (λ (t : StringShape). IfSome image (λ x. o ≡ oldest_pointer t x → n ≡ newest_pointer t x → b ≡ is_empty t x)) c.of-days.ensures.shape
     (subst (λ (m : Option (List ℕ)). IfSome m (λ x. o ≡ oldest_pointer c.of-days.result x → n ≡ newest_pointer c.of-days.result x → b ≡ is_empty c.of-days.result x)) (two.same refl) c.in_ok-is_empty.ensures.empty) in
     let places = both_told image (λ x. (o ≡ oldest_pointer s x) × (n ≡ newest_pointer s x)) c.in_ok-oldest.ensures.value newest (λ x was a b. (a, b)) in
-    both_told image (λ x. Holds s x (days_of s x)) places empty (λ x was at_places none.
+    both_told image (λ x. HoldsDays s x (days_of s x)) places empty (λ x was at_places none.
     let inside : s.base + (4 + s.size) ≤ length x = omega (arith, c.requires.inside, c.requires.low, (g.met.M.Medium.coherent c.args.medium.now).sized x was) in
     empty_holds s x (subst (λ (p : ℕ). is_pointer s.size p ≡ true) at_places.0 o_test) (subst (λ (p : ℕ). is_pointer s.size p ≡ true) at_places.1 n_test) shape inside (sym (none at_places.0 at_places.1) ∙ c.if-branch.true))
 

@@ -3,7 +3,7 @@ use Rattle.std.proofs.lemmas.Result.{on_ok_weaker}
 use Rattle.tach_media.specs.Medium.{Reads}
 use Rattle.tach_media.proofs.Runs.{weaken, goes_on, at_image}
 use Rattle.card_model.specs.Changes.{until}
-use Rattle.card_model.specs.Image.{Holds}
+use Rattle.card_model.specs.Image.{HoldsDays}
 use Rattle.card_days.specs.Trim.{IsTrimming, IsTrimmed, IsCutLast, IsTrim}
 use Rattle.card_days.proofs.CutLast.{while_dropping, while_cutting, trim_made}
 use Rattle.card_days.proofs.Settling.{reads_after, settled_after, still_after}
@@ -44,7 +44,7 @@ pub returns-clause-empty : goal.returns-clause-empty
 returns-clause-empty g c =
     let r = c.args.self.now in
     if_told (g.M.Medium.state c.args.medium.now).image _ (λ x was h. reads_after r x was h
-    (at_image (λ x. Holds r x [] → Reads (g.M.Medium.state c.args.medium.now) (g.M.Medium.state c.drop_later.new.medium) false) was c.in_ok-drop_later.ensures.empty h) c.cut.ensures.empty)
+    (at_image (λ x. HoldsDays r x [] → Reads (g.M.Medium.state c.args.medium.now) (g.M.Medium.state c.drop_later.new.medium) false) was c.in_ok-drop_later.ensures.empty h) c.cut.ensures.empty)
 
 pub returns-in_err-drop_later-clause-writes : goal.returns-in_err-drop_later-clause-writes
 returns-in_err-drop_later-clause-writes g c = from_told (g.M.Medium.state c.args.medium.now).image _ _ c.drop_later.ensures.writes (λ x was few days h.

@@ -3,7 +3,7 @@ use Rattle.tach_media.proofs.Runs.{weaken, at_image, where_told, turned_into}
 use Rattle.tach_media.specs.Plan.{put_all}
 use Rattle.card_model.specs.Image.{StringShape}
 use Rattle.card_days.specs.declared.head.Tail.{Tail}
-use Rattle.card_days.specs.Held.{Held, IsHeld}
+use Rattle.card_days.specs.Held.{Held, IsInBounds}
 use Rattle.card_days.specs.Moments.{IfKnown, IsChanged, KnowsChanged, ClearsChanged}
 use Rattle.card_days.specs.Plans.{left_in, change_pieces, tail_more}
 use Rattle.card_days.proofs.Changing.{changing_known, changed_known, changed_knows, changed_clears, change_count}
@@ -15,32 +15,32 @@ hold r t = record { shape = r; tail = t }
 
 pub returns-in_err-used-clause-moments : goal.returns-in_err-used-clause-moments
 returns-in_err-used-clause-moments g c =
-    let is : IsHeld c.args.self.now = subst (λ (h : Held). IsHeld h) c.self.view_is c.self.invariant in
+    let is : IsInBounds c.args.self.now = subst (λ (h : Held). IsInBounds h) c.self.view_is c.self.invariant in
     weaken c.in_err-used.ensures.puts.leaves (λ x d was part.
     changing_known c.args.self.now is c.args.word x (omega (arith, c.requires.fits, (g.met.M.Medium.coherent c.args.medium.now).sized x was)) d part)
 
 pub returns-in_err-used-clause-writes : goal.returns-in_err-used-clause-writes
 returns-in_err-used-clause-writes g c =
-    let is : IsHeld c.args.self.now = subst (λ (h : Held). IsHeld h) c.self.view_is c.self.invariant in
+    let is : IsInBounds c.args.self.now = subst (λ (h : Held). IsInBounds h) c.self.view_is c.self.invariant in
     from_told (g.M.Medium.state c.args.medium.now).image _ _ c.in_err-used.ensures.exact (λ x was exact days k.
     omega (arith, exact, change_count c.args.self.now is c.args.word x (omega (arith, c.requires.fits, (g.met.M.Medium.coherent c.args.medium.now).sized x was)) days k))
 
 pub returns-clause-moments : goal.returns-clause-moments
 returns-clause-moments g c =
-    let is : IsHeld c.args.self.now = subst (λ (h : Held). IsHeld h) c.self.view_is c.self.invariant in
+    let is : IsInBounds c.args.self.now = subst (λ (h : Held). IsInBounds h) c.self.view_is c.self.invariant in
     weaken c.in_ok-used.ensures.puts.leaves (λ x d was part.
     changing_known c.args.self.now is c.args.word x (omega (arith, c.requires.fits, (g.met.M.Medium.coherent c.args.medium.now).sized x was)) d part)
 
 pub returns-clause-writes : goal.returns-clause-writes
 returns-clause-writes g c =
-    let is : IsHeld c.args.self.now = subst (λ (h : Held). IsHeld h) c.self.view_is c.self.invariant in
+    let is : IsInBounds c.args.self.now = subst (λ (h : Held). IsInBounds h) c.self.view_is c.self.invariant in
     from_told (g.M.Medium.state c.args.medium.now).image _ _ c.in_ok-used.ensures.exact (λ x was exact days k.
     omega (arith, exact, change_count c.args.self.now is c.args.word x (omega (arith, c.requires.fits, (g.met.M.Medium.coherent c.args.medium.now).sized x was)) days k))
 
 pub returns-clause-changed : goal.returns-clause-changed
 returns-clause-changed g c =
     let v = c.args.self.now in
-    let is : IsHeld c.args.self.now = subst (λ (h : Held). IsHeld h) c.self.view_is c.self.invariant in
+    let is : IsInBounds c.args.self.now = subst (λ (h : Held). IsInBounds h) c.self.view_is c.self.invariant in
     where_told (g.M.Medium.state c.args.medium.now).image _ (IfKnown v (IsChanged v.shape c.args.word)) (λ x y was now.
     let y_is : y ≡ put_all (change_pieces v c.args.word x) x = turned_into (λ x. put_all (change_pieces v c.args.word x) x) (c.in_ok-used.ensures.puts.written refl) was now in
     subst (λ (l : List ℕ). IfKnown v (IsChanged v.shape c.args.word) x l) (sym y_is)
@@ -50,7 +50,7 @@ pub returns-clause-knows : goal.returns-clause-knows
 returns-clause-knows g c =
     let v = c.args.self.now in
     let w = c.args.word in
-    let is : IsHeld c.args.self.now = subst (λ (h : Held). IsHeld h) c.self.view_is c.self.invariant in
+    let is : IsInBounds c.args.self.now = subst (λ (h : Held). IsInBounds h) c.self.view_is c.self.invariant in
     let used = c.in_ok-used.used in
     let next_is : hold c.self.inside.circle c.with_word-self-inside.result ≡ hold v.shape (tail_more v.tail w used) =
     ap (λ (t : Tail). hold c.self.inside.circle t) c.with_word-self-inside.ensures.tail ∙ ap (λ (h : Held). hold h.shape (tail_more h.tail w used)) c.self.view_is in
@@ -63,7 +63,7 @@ returns-clause-knows g c =
 pub returns-clause-cleared : goal.returns-clause-cleared
 returns-clause-cleared g c =
     let v = c.args.self.now in
-    let is : IsHeld c.args.self.now = subst (λ (h : Held). IsHeld h) c.self.view_is c.self.invariant in
+    let is : IsInBounds c.args.self.now = subst (λ (h : Held). IsInBounds h) c.self.view_is c.self.invariant in
     where_told (g.M.Medium.state c.args.medium.now).image _ (ClearsChanged v c.args.word) (λ x y was now.
     let y_is : y ≡ put_all (change_pieces v c.args.word x) x = turned_into (λ x. put_all (change_pieces v c.args.word x) x) (c.in_ok-used.ensures.puts.written refl) was now in
     subst (λ (l : List ℕ). ClearsChanged v c.args.word x l) (sym y_is)

@@ -3,7 +3,7 @@ use Rattle.tach_media.proofs.Runs.{weaken, at_image, where_told, turned_into}
 use Rattle.tach_media.specs.Plan.{put_all}
 use Rattle.card_model.specs.Image.{StringShape}
 use Rattle.card_days.specs.declared.head.Tail.{Tail}
-use Rattle.card_days.specs.Held.{Held, IsHeld}
+use Rattle.card_days.specs.Held.{Held, IsInBounds}
 use Rattle.card_days.specs.Moments.{IfKnown, IsDayBegun, KnowsBegun, ClearsBegun, BeginsAgain}
 use Rattle.card_days.specs.Plans.{left_in, beginning_pieces, tail_begun}
 use Rattle.card_days.proofs.Starting.{beginning_known, begun_told, begun_knows, begun_clears, begins_again, beginning_count}
@@ -15,32 +15,32 @@ hold r t = record { shape = r; tail = t }
 
 pub returns-in_err-used-clause-moments : goal.returns-in_err-used-clause-moments
 returns-in_err-used-clause-moments g c =
-    let is : IsHeld c.args.self.now = subst (λ (h : Held). IsHeld h) c.self.view_is c.self.invariant in
+    let is : IsInBounds c.args.self.now = subst (λ (h : Held). IsInBounds h) c.self.view_is c.self.invariant in
     weaken c.in_err-used.ensures.puts.leaves (λ x d was part.
     beginning_known c.args.self.now is c.args.date.0 c.args.words.now c.requires.some c.requires.few x (omega (arith, c.requires.fits, (g.met.M.Medium.coherent c.args.medium.now).sized x was)) d part)
 
 pub returns-in_err-used-clause-writes : goal.returns-in_err-used-clause-writes
 returns-in_err-used-clause-writes g c =
-    let is : IsHeld c.args.self.now = subst (λ (h : Held). IsHeld h) c.self.view_is c.self.invariant in
+    let is : IsInBounds c.args.self.now = subst (λ (h : Held). IsInBounds h) c.self.view_is c.self.invariant in
     from_told (g.M.Medium.state c.args.medium.now).image _ _ c.in_err-used.ensures.exact (λ x was exact days k.
     omega (arith, exact, beginning_count c.args.self.now is c.args.date.0 c.args.words.now c.requires.some c.requires.few x (omega (arith, c.requires.fits, (g.met.M.Medium.coherent c.args.medium.now).sized x was)) days k))
 
 pub returns-clause-moments : goal.returns-clause-moments
 returns-clause-moments g c =
-    let is : IsHeld c.args.self.now = subst (λ (h : Held). IsHeld h) c.self.view_is c.self.invariant in
+    let is : IsInBounds c.args.self.now = subst (λ (h : Held). IsInBounds h) c.self.view_is c.self.invariant in
     weaken c.in_ok-used.ensures.puts.leaves (λ x d was part.
     beginning_known c.args.self.now is c.args.date.0 c.args.words.now c.requires.some c.requires.few x (omega (arith, c.requires.fits, (g.met.M.Medium.coherent c.args.medium.now).sized x was)) d part)
 
 pub returns-clause-writes : goal.returns-clause-writes
 returns-clause-writes g c =
-    let is : IsHeld c.args.self.now = subst (λ (h : Held). IsHeld h) c.self.view_is c.self.invariant in
+    let is : IsInBounds c.args.self.now = subst (λ (h : Held). IsInBounds h) c.self.view_is c.self.invariant in
     from_told (g.M.Medium.state c.args.medium.now).image _ _ c.in_ok-used.ensures.exact (λ x was exact days k.
     omega (arith, exact, beginning_count c.args.self.now is c.args.date.0 c.args.words.now c.requires.some c.requires.few x (omega (arith, c.requires.fits, (g.met.M.Medium.coherent c.args.medium.now).sized x was)) days k))
 
 pub returns-clause-begun : goal.returns-clause-begun
 returns-clause-begun g c =
     let v = c.args.self.now in
-    let is : IsHeld c.args.self.now = subst (λ (h : Held). IsHeld h) c.self.view_is c.self.invariant in
+    let is : IsInBounds c.args.self.now = subst (λ (h : Held). IsInBounds h) c.self.view_is c.self.invariant in
     where_told (g.M.Medium.state c.args.medium.now).image _ (IfKnown v (IsDayBegun v.shape c.args.date.0 c.args.words.now)) (λ x y was now.
     let y_is : y ≡ put_all (beginning_pieces v c.args.date.0 c.args.words.now x) x = turned_into (λ x. put_all (beginning_pieces v c.args.date.0 c.args.words.now x) x) (c.in_ok-used.ensures.puts.written refl) was now in
     subst (λ (l : List ℕ). IfKnown v (IsDayBegun v.shape c.args.date.0 c.args.words.now) x l) (sym y_is)
@@ -50,7 +50,7 @@ pub returns-clause-knows : goal.returns-clause-knows
 returns-clause-knows g c =
     let v = c.args.self.now in
     let w = c.args.words.now in
-    let is : IsHeld c.args.self.now = subst (λ (h : Held). IsHeld h) c.self.view_is c.self.invariant in
+    let is : IsInBounds c.args.self.now = subst (λ (h : Held). IsInBounds h) c.self.view_is c.self.invariant in
     let used = c.in_ok-used.used in
     let next_is : hold c.self.inside.circle c.new_tail-self-inside.result ≡ hold v.shape (tail_begun v c.args.date.0 w used) =
     ap (λ (t : Tail). hold c.self.inside.circle t) c.new_tail-self-inside.ensures.tail ∙ ap (λ (h : Held). hold h.shape (tail_begun v c.args.date.0 w used)) c.self.view_is in
@@ -63,7 +63,7 @@ returns-clause-knows g c =
 pub returns-clause-cleared : goal.returns-clause-cleared
 returns-clause-cleared g c =
     let v = c.args.self.now in
-    let is : IsHeld c.args.self.now = subst (λ (h : Held). IsHeld h) c.self.view_is c.self.invariant in
+    let is : IsInBounds c.args.self.now = subst (λ (h : Held). IsInBounds h) c.self.view_is c.self.invariant in
     where_told (g.M.Medium.state c.args.medium.now).image _ (ClearsBegun v c.args.date.0 c.args.words.now) (λ x y was now.
     let y_is : y ≡ put_all (beginning_pieces v c.args.date.0 c.args.words.now x) x = turned_into (λ x. put_all (beginning_pieces v c.args.date.0 c.args.words.now x) x) (c.in_ok-used.ensures.puts.written refl) was now in
     subst (λ (l : List ℕ). ClearsBegun v c.args.date.0 c.args.words.now x l) (sym y_is)
@@ -72,7 +72,7 @@ returns-clause-cleared g c =
 pub returns-clause-again : goal.returns-clause-again
 returns-clause-again g c =
     let v = c.args.self.now in
-    let is : IsHeld c.args.self.now = subst (λ (h : Held). IsHeld h) c.self.view_is c.self.invariant in
+    let is : IsInBounds c.args.self.now = subst (λ (h : Held). IsInBounds h) c.self.view_is c.self.invariant in
     where_told (g.M.Medium.state c.args.medium.now).image _ (BeginsAgain v c.args.date.0 c.args.words.now) (λ x y was now.
     let y_is : y ≡ put_all (beginning_pieces v c.args.date.0 c.args.words.now x) x = turned_into (λ x. put_all (beginning_pieces v c.args.date.0 c.args.words.now x) x) (c.in_ok-used.ensures.puts.written refl) was now in
     subst (λ (l : List ℕ). BeginsAgain v c.args.date.0 c.args.words.now x l) (sym y_is)

@@ -1,7 +1,7 @@
 use Rattle.std.proofs.Common.{rules, ◌≡◌, ◌+◌, ◌*◌, ◌++◌, Bool, true, false, ap, sym, ◌∙◌, subst}
 use Rattle.std.specs.Prelude.{is_err}
 use Rattle.tach_media.specs.Plan.{Pieces, PutsAll, PutsBy, more}
-use Rattle.card_days.specs.Held.{Held, IsHeld}
+use Rattle.card_days.specs.Held.{Held, IsInBounds}
 use Rattle.card_days.specs.Plans.{most_drops, drop_pieces, word_pieces, change_pieces}
 use Rattle.card_days.proofs.Changing.{change_puts}
 use Rattle.card_days.proofs.days.Days.change.Goals as goal
@@ -10,7 +10,7 @@ pub returns-in_err-put_pieces-clause-puts : goal.returns-in_err-put_pieces-claus
 returns-in_err-put_pieces-clause-puts g c =
     let v = c.args.self.now in
     let w = c.args.word in
-    let is : IsHeld v = subst (λ (h : Held). IsHeld h) c.self.view_is c.self.invariant in
+    let is : IsInBounds v = subst (λ (h : Held). IsInBounds h) c.self.view_is c.self.invariant in
     let room = c.in_ok-left in
     let mid = g.M.Medium.state c.make_room.new.medium in
     let new = g.M.Medium.state c.put_pieces.new.medium in
@@ -26,7 +26,7 @@ pub returns-clause-puts : goal.returns-clause-puts
 returns-clause-puts g c =
     let v = c.args.self.now in
     let w = c.args.word in
-    let is : IsHeld v = subst (λ (h : Held). IsHeld h) c.self.view_is c.self.invariant in
+    let is : IsInBounds v = subst (λ (h : Held). IsInBounds h) c.self.view_is c.self.invariant in
     let room = c.in_ok-left in
     let mid = g.M.Medium.state c.make_room.new.medium in
     let new = g.M.Medium.state c.put_pieces.new.medium in

@@ -3,7 +3,7 @@ use Rattle.tach_media.proofs.Runs.{weaken, where_told, turned_into}
 use Rattle.tach_media.specs.Plan.{put_all}
 use Rattle.card_model.specs.Image.{StringShape}
 use Rattle.card_days.specs.declared.head.Tail.{Tail}
-use Rattle.card_days.specs.Held.{Held, IsHeld}
+use Rattle.card_days.specs.Held.{Held, IsInBounds}
 use Rattle.card_days.specs.Moments.{IfKnown}
 use Rattle.card_days.specs.Plans.{km_pieces, tail_km}
 use Rattle.card_days.specs.Steps.{IsMeasured, KnowsMeasured}
@@ -15,13 +15,13 @@ hold r t = record { shape = r; tail = t }
 
 pub returns-in_err-write_km-clause-moments : goal.returns-in_err-write_km-clause-moments
 returns-in_err-write_km-clause-moments g c =
-    let is : IsHeld c.args.self.now = subst (λ (h : Held). IsHeld h) c.self.view_is c.self.invariant in
+    let is : IsInBounds c.args.self.now = subst (λ (h : Held). IsInBounds h) c.self.view_is c.self.invariant in
     weaken c.in_err-write_km.ensures.puts.leaves (λ x d was part.
     measuring_known c.args.self.now is x (omega (arith, c.requires.fits, (g.met.M.Medium.coherent c.args.medium.now).sized x was)) c.args.km.0 d part)
 
 pub returns-clause-moments : goal.returns-clause-moments
 returns-clause-moments g c =
-    let is : IsHeld c.args.self.now = subst (λ (h : Held). IsHeld h) c.self.view_is c.self.invariant in
+    let is : IsInBounds c.args.self.now = subst (λ (h : Held). IsInBounds h) c.self.view_is c.self.invariant in
     weaken c.in_ok-write_km.ensures.puts.leaves (λ x d was part.
     measuring_known c.args.self.now is x (omega (arith, c.requires.fits, (g.met.M.Medium.coherent c.args.medium.now).sized x was)) c.args.km.0 d part)
 
@@ -29,7 +29,7 @@ pub returns-clause-measured : goal.returns-clause-measured
 returns-clause-measured g c =
     let v = c.args.self.now in
     let km = c.args.km.0 in
-    let is : IsHeld c.args.self.now = subst (λ (h : Held). IsHeld h) c.self.view_is c.self.invariant in
+    let is : IsInBounds c.args.self.now = subst (λ (h : Held). IsInBounds h) c.self.view_is c.self.invariant in
     where_told (g.M.Medium.state c.args.medium.now).image _ (IfKnown v (IsMeasured v.shape km)) (λ x y was now.
     let y_is : y ≡ put_all (km_pieces v km) x = turned_into (put_all (km_pieces v km)) (c.in_ok-write_km.ensures.puts.written refl) was now in
     subst (λ (l : List ℕ). IfKnown v (IsMeasured v.shape km) x l) (sym y_is)
@@ -39,7 +39,7 @@ pub returns-clause-knows : goal.returns-clause-knows
 returns-clause-knows g c =
     let v = c.args.self.now in
     let km = c.args.km.0 in
-    let is : IsHeld c.args.self.now = subst (λ (h : Held). IsHeld h) c.self.view_is c.self.invariant in
+    let is : IsInBounds c.args.self.now = subst (λ (h : Held). IsInBounds h) c.self.view_is c.self.invariant in
     let next_is : hold c.self.inside.circle c.with_km-self-inside.result ≡ hold v.shape (tail_km v.tail km) =
     ap (λ (t : Tail). hold c.self.inside.circle t) c.with_km-self-inside.ensures.tail ∙ ap (λ (h : Held). hold h.shape (tail_km h.tail km)) c.self.view_is in
     where_told (g.M.Medium.state c.args.medium.now).image _ (KnowsMeasured v (hold c.self.inside.circle c.with_km-self-inside.result) km) (λ x y was now.

@@ -2,7 +2,7 @@ use Rattle.std.proofs.Common.{◌≡◌, ◌∙◌, ◌+◌, ◌∷◌, ◌++◌
 use Rattle.std.specs.Prelude.{Bool}
 use Rattle.std.specs.Bool.{OnTrue}
 use Rattle.file_view.specs.CardFiles.{may_follow}
-use Rattle.file_view.specs.Reading.{told_at, Stands}
+use Rattle.file_view.specs.Reading.{told_at, FoundInFile}
 use Rattle.file_view.proofs.Fronts.{front_none, front_more, stops_unfit, stops_none, stops_lacking, front_whole}
 use Rattle.file_view.proofs.parts.Parts.read.Goals as goal
 
@@ -19,7 +19,7 @@ loop-place-preserved c =
     let here = c.in-Some.ensures.some in
     let yes : c.take.result ≡ true = grind (arith, c.if-not-take.false) in
     let follows : may_follow front.entries (told_at c.args.b.now c.in-Some.entry) ≡ true = sym (c.take.ensures.follows front.entries front.stands) ∙ yes in
-    let taken = subst (λ (b : Bool). OnTrue b (Stands c.args.b.now c.take.new.self (front.entries ++ told_at c.args.b.now c.in-Some.entry ∷ []))) yes (c.take.ensures.taken front.entries front.stands) in
+    let taken = subst (λ (b : Bool). OnTrue b (FoundInFile c.args.b.now c.take.new.self (front.entries ++ told_at c.args.b.now c.in-Some.entry ∷ []))) yes (c.take.ensures.taken front.entries front.stands) in
     record {
       inside = omega (arith, here.inside);
       sound = c.take.ensures.sound;

@@ -4,7 +4,7 @@ use Rattle.card_slots.specs.Kept.{Kept, KnowsNewest}
 use Rattle.run_crew.specs.declared.cards.Cards.{Cards}
 use Rattle.run_crew.specs.declared.cabin.Cabin.{Cabin}
 use Rattle.run_crew.specs.Cards.{with_session}
-use Rattle.run_crew.specs.Cabin.{Stands, slot_with, left_from}
+use Rattle.run_crew.specs.Cabin.{CabinIsSound, slot_with, left_from}
 use Rattle.run_crew.proofs.Moves.{tear-stands, tear-left}
 use Rattle.run_crew.proofs.cabin.Cabin.tear.Goals as goal
 use Rattle.run_crew.proofs.cabin.Cabin.tear.Goals.{in-Some, in_default}
@@ -29,8 +29,8 @@ returns-clause-stands c = λ from leaving h.
           subst KnowsNewest (w.take.ensures.kept ∙ ap (λ (o : Option Slot). left_from o c.args.second c.args.self.now.slots) (sym w.in-Some.is ∙ c.slot_of.ensures)) (w.take.ensures.newest h.newest)
       | in_default w ↦ subst (λ (o : Option Slot). KnowsNewest (left_from o c.args.second c.args.self.now.slots)) (sym w.in_default.is ∙ c.slot_of.ensures) h.newest
     ] in
-    subst (λ (b : Cabin). Stands from leaving b) (sym (returns-clause-kept c)) (tear-stands c.args.self.now c.args.card c.args.second from leaving c.requires.minute h newest)
+    subst (λ (b : Cabin). CabinIsSound from leaving b) (sym (returns-clause-kept c)) (tear-stands c.args.self.now c.args.card c.args.second from leaving c.requires.minute h newest)
 
 pub returns-clause-left : goal.returns-clause-left
 returns-clause-left c = λ from h.
-    subst (λ (b : Cabin). Stands from None b) (sym (returns-clause-kept c)) (tear-left c.args.self.now c.args.card c.args.second from h)
+    subst (λ (b : Cabin). CabinIsSound from None b) (sym (returns-clause-kept c)) (tear-left c.args.self.now c.args.card c.args.second from h)

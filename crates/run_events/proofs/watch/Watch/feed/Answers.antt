@@ -6,7 +6,7 @@ use Rattle.event_model.specs.Spans.{bares_of, all_bare, at_speed}
 use Rattle.event_rules.specs.Bare as bare_feed
 use Rattle.unit_events.proofs.Watching.{bare-row, speed-row, bare-some, over-some}
 use Rattle.run_crew.specs.declared.cards.Crew.{Crew}
-use Rattle.run_events.specs.Watching.{seconds_with, driver_second, speed_second, BareWith, OverWith, bares_with, overs_with, StandsFor}
+use Rattle.run_events.specs.Watching.{seconds_with, driver_second, speed_second, BareWith, OverWith, bares_with, overs_with, WatchesSpan}
 use Rattle.run_events.proofs.WatchFed.{bares-given, overs-given, stands-on, late-on, drivers-late, speeds-late}
 use Rattle.run_events.proofs.watch.Watch.feed.Goals as goal
 
@@ -22,7 +22,7 @@ returns-clause-fed c = record {
       ∙ ap (λ (k : Crew). overs_with c.args.self.now.over.limit ss ++ option_to_list (option_map {T = Over} {U = OverWith} (λ over. record { over = over; begin = k; end = c.args.self.now.last }) c.feed_run-2.result)) (sym c.unwrap_or-2.ensures);
   stands = λ ss h.
       stands-on c.args.self.now ss h c.args.first c.args.n c.args.speed c.args.crew c.requires.some _
-      (subst (λ (b : Bool). bare_feed.StandsFor c.feed_run.new.self (map driver_second ss ++ all_bare c.args.first c.args.n b)) c.is_driven_bare-is_bare.ensures (c.feed_run.ensures.fed (map driver_second ss) h.bare))
+      (subst (λ (b : Bool). bare_feed.CountsDriverSeconds c.feed_run.new.self (map driver_second ss ++ all_bare c.args.first c.args.n b)) c.is_driven_bare-is_bare.ensures (c.feed_run.ensures.fed (map driver_second ss) h.bare))
       (c.feed_run-2.ensures.fed (map speed_second ss) h.over) c.feed_run-2.ensures.limit
       (c.begin_of-self.ensures ∙ ap (λ (b : Bool). cond b (Some (unwrap_or c.args.self.now.bare_begin c.args.crew)) None) c.is_driven_bare-is_bare.ensures)
       (c.begin_of-self-2.ensures ∙ ap (λ (l : ℕ). cond (nat_lt l c.args.speed) (Some (unwrap_or c.args.self.now.over_begin c.args.crew)) None) c.requires.limit)

@@ -23,13 +23,13 @@ note_ended-requires-clause-works g c = c.in_ok-put_block.ensures.cause.works
 -- ---- what is watched then
 
 abbrev fed-speeds : (kept : List ℕ) (first n speed : ℕ) (fed after : List ℕ) → Type 0
-fed-speeds kept first n speed fed after = (after ≡ fed) × ((seconds : List SpeedSecond) → minute.StandsFor kept seconds first → minute.StandsFor fed (seconds ++ at_speed first n speed) (first + n))
+fed-speeds kept first n speed fed after = (after ≡ fed) × ((seconds : List SpeedSecond) → minute.KeepsSpeedsOf kept seconds first → minute.KeepsSpeedsOf fed (seconds ++ at_speed first n speed) (first + n))
 
 follows-then : (kept : List ℕ) (first n speed : ℕ) (fed after : List ℕ) → fed-speeds kept first n speed fed after → minute.Follows kept first → minute.Follows after (first + n)
 follows-then kept first n speed fed after h f = subst (λ (l : List ℕ). minute.Follows l (first + n)) (sym h.0) (f.0 ++ at_speed first n speed, h.1 f.0 f.1)
 
-stands-then : (kept : List ℕ) (first n speed : ℕ) (fed after : List ℕ) → fed-speeds kept first n speed fed after → (seconds : List SpeedSecond) → minute.StandsFor kept seconds first → minute.StandsFor after (seconds ++ at_speed first n speed) (first + n)
-stands-then kept first n speed fed after h seconds stands = subst (λ (l : List ℕ). minute.StandsFor l (seconds ++ at_speed first n speed) (first + n)) (sym h.0) (h.1 seconds stands)
+stands-then : (kept : List ℕ) (first n speed : ℕ) (fed after : List ℕ) → fed-speeds kept first n speed fed after → (seconds : List SpeedSecond) → minute.KeepsSpeedsOf kept seconds first → minute.KeepsSpeedsOf after (seconds ++ at_speed first n speed) (first + n)
+stands-then kept first n speed fed after h seconds stands = subst (λ (l : List ℕ). minute.KeepsSpeedsOf l (seconds ++ at_speed first n speed) (first + n)) (sym h.0) (h.1 seconds stands)
 
 pub returns-in_err-put_block-clause-watches : goal.returns-in_err-put_block-clause-watches
 returns-in_err-put_block-clause-watches g c = record {

@@ -7,7 +7,7 @@ use Rattle.run_crew.specs.declared.cards.Accepted.{Accepted}
 use Rattle.run_crew.specs.declared.cards.Cards.{Cards}
 use Rattle.run_crew.specs.declared.cabin.Cabin.{Cabin}
 use Rattle.run_crew.specs.Cards.{session_of, with_session}
-use Rattle.run_crew.specs.Cabin.{Stands, torn_out, left_from, slot_with, crew_of}
+use Rattle.run_crew.specs.Cabin.{CabinIsSound, torn_out, left_from, slot_with, crew_of}
 use Rattle.run_crew.proofs.Moves.{kept-stands}
 use Rattle.run_minutes.specs.declared.keeper.Keeper.{Keeper}
 use Rattle.run_crew.specs.declared.cards.Known.{Known}
@@ -72,7 +72,7 @@ returns-then-is_err-clause-stands g c = λ from leaving le h.
     let cabin =
     ap (λ (q : Keeper). q.cabin) c.tear.ensures.keeper ∙ ap (λ (cards : Cards). torn_out c.args.which c.args.at.second (record { slots = k.cabin.slots; cards = cards })) c.take.ensures.left
     ∙ ap (λ (cards : Cards). record { slots = left_from (slot_with k.cabin.slots.seats c.args.which) c.args.at.second k.cabin.slots; cards = cards }) (session-twice c.args.which None None k.cabin.cards) in
-    subst (λ (b : Cabin). Stands (c.args.kept.now.entry.minute + 1) leaving b) (sym cabin)
+    subst (λ (b : Cabin). CabinIsSound (c.args.kept.now.entry.minute + 1) leaving b) (sym cabin)
     (torn-stands k.cabin c.args.which c.args.at.second (c.args.kept.now.entry.minute + 1) leaving c.requires.minute (stands-later from (c.args.kept.now.entry.minute + 1) le leaving k.cabin h))
 
 -- ---- the card has its entry
@@ -108,7 +108,7 @@ returns-clause-stands g c = λ from leaving le h.
     let cards = c.set_session.ensures ∙ ap (λ (q : Cards). with_session c.args.which (Some after) q) c.take.ensures.left ∙ session-twice c.args.which None (Some after) k.cabin.cards in
     let last = ok_gives c.keep_on_card.result c.keep_on_card.ensures.last well in
     let now : after.session.minute ≡ m = last.0 in
-    subst (λ (q : Cards). Stands (m + 1) leaving (record { slots = k.cabin.slots; cards = q })) (sym cards)
+    subst (λ (q : Cards). CabinIsSound (m + 1) leaving (record { slots = k.cabin.slots; cards = q })) (sym cards)
     (kept-stands from m c.args.which c.in-Some.accepted after k.cabin leaving le (sym c.in-Some.ensures.taken) c.keep_on_card.ensures.same.0 (omega (arith, now)) h)
 
 -- ---- a card without a session is as it was

@@ -5,13 +5,13 @@ use Rattle.card_session.specs.declared.session.Kept.{Kept}
 use Rattle.log_model.specs.declared.lines.Mark.{Mark}
 use Rattle.run_outcome.specs.Lines.{Listed}
 use Rattle.tach_media.proofs.Runs.{cause_after}
-use Rattle.run_crew.specs.Cabin.{Stands, IsBehind}
+use Rattle.run_crew.specs.Cabin.{CabinIsSound, IsBehind}
 use Rattle.run_minutes.specs.declared.keeper.Keeper.{Keeper}
 use Rattle.safety_model.specs.Safe.{card_of}
 use Rattle.run_promise.specs.Found.{found_of}
 use Rattle.run_promise.specs.Between.{devices}
 use Rattle.unit_minutes.specs.declared.notes.Notes.{Notes}
-use Rattle.run_minutes.specs.Keeping.{CardReady, Still, IsBrought, cabin_by, kept_in, state_at, most_tears}
+use Rattle.run_minutes.specs.Keeping.{CardMayBeCalled, Still, IsBrought, cabin_by, kept_in, state_at, most_tears}
 use Rattle.run_minutes.specs.Minutes.{unit_mark}
 use Rattle.run_minutes.specs.Owing.{BooksBrought}
 use Rattle.run_minutes.proofs.CardEvents.{stays-self}
@@ -53,7 +53,7 @@ returns-in_err-commit-clause-kept g c =
       noted = c.in_err-commit.ensures.quiet;
       last = λ well. absurd (cc);
       marks = omega (arith, few);
-      stands = λ from leaving le h. subst (λ (q : Keeper). Stands (m.minute + 1) leaving q.cabin) (sym c.commit.ensures.keeper) (stands-later from (m.minute + 1) le leaving k.cabin h);
+      stands = λ from leaving le h. subst (λ (q : Keeper). CabinIsSound (m.minute + 1) leaving q.cabin) (sym c.commit.ensures.keeper) (stands-later from (m.minute + 1) le leaving k.cabin h);
     })
 
 pub returns-in_err-commit-clause-stands : goal.returns-in_err-commit-clause-stands
@@ -65,8 +65,8 @@ returns-in_err-commit-clause-stands g c =
     let t = standing c.commit.new.self c.commit.new.marks c.args.breaks.now (g.M.Medium.state c.commit.new.unit) (g.C.Chip.state c.args.card_a.now) (g.D.Chip.state c.args.card_b.now) (g.C.Chip.card c.args.card_a.now) (g.D.Chip.card c.args.card_b.now) in
     subst (λ (f : Bool). StandsAfter c.args.at f s t) failed (record {
       unit = c.commit.ensures.unit;
-      card_a = subst (λ (q : Keeper). CardReady q.cabin.cards.a (g.C.Chip.card c.args.card_a.now) X) (sym c.commit.ensures.keeper) c.requires.ready.card_a;
-      card_b = subst (λ (q : Keeper). CardReady q.cabin.cards.b (g.D.Chip.card c.args.card_b.now) Y) (sym c.commit.ensures.keeper) c.requires.ready.card_b;
+      card_a = subst (λ (q : Keeper). CardMayBeCalled q.cabin.cards.a (g.C.Chip.card c.args.card_a.now) X) (sym c.commit.ensures.keeper) c.requires.ready.card_a;
+      card_b = subst (λ (q : Keeper). CardMayBeCalled q.cabin.cards.b (g.D.Chip.card c.args.card_b.now) Y) (sym c.commit.ensures.keeper) c.requires.ready.card_b;
       minute = subst (λ (q : Keeper). q.cabin.slots.minute ≤ c.args.at.second / 60) (sym c.commit.ensures.keeper) c.requires.may.early;
       cause = c.in_err-commit.ensures.cause;
       ready = λ well. absurd (cc);
@@ -145,8 +145,8 @@ returns-in_err-bring-clause-kept g c =
           (g.met.M.Medium.coherent c.commit.new.unit) (g.met.M.Medium.coherent c.bring.new.unit) was.2 c.in_err-bring.ensures.stands.cause k.cabin (ap (λ (q : Keeper). q.cabin) c.commit.ensures.keeper));
       last = λ well. absurd (cc);
       marks = omega (arith, one, here);
-      stands = λ from leaving le h. subst (λ (n : ℕ). Stands (n + 1) leaving c.bring.new.self.cabin) same
-          (c.bring.ensures.cabin from leaving (omega (arith, le, same)) (subst (λ (q : Keeper). Stands from leaving q.cabin) (sym c.commit.ensures.keeper) h));
+      stands = λ from leaving le h. subst (λ (n : ℕ). CabinIsSound (n + 1) leaving c.bring.new.self.cabin) same
+          (c.bring.ensures.cabin from leaving (omega (arith, le, same)) (subst (λ (q : Keeper). CabinIsSound from leaving q.cabin) (sym c.commit.ensures.keeper) h));
     })
 
 pub returns-in_err-bring-clause-stands : goal.returns-in_err-bring-clause-stands
@@ -268,9 +268,9 @@ returns-clause-kept g c =
       last = λ well. ap (λ (q : Keeper). q.journal.kept) is.1.keeper ∙ ap (λ (q : Keeper). q.journal.kept) was.1.keeper ∙ notes.0;
       marks = omega (arith, few, more, here);
       stands = λ from leaving le h.
-          let first = subst (λ (n : ℕ). Stands (n + 1) leaving c.bring.new.self.cabin) e
-          (c.bring.ensures.cabin from leaving (omega (arith, le, e)) (subst (λ (q : Keeper). Stands from leaving q.cabin) (sym c.commit.ensures.keeper) h)) in
-          subst (λ (n : ℕ). Stands (n + 1) leaving c.bring-2.new.self.cabin) f (c.bring-2.ensures.cabin (m.minute + 1) leaving (omega (arith, f)) first);
+          let first = subst (λ (n : ℕ). CabinIsSound (n + 1) leaving c.bring.new.self.cabin) e
+          (c.bring.ensures.cabin from leaving (omega (arith, le, e)) (subst (λ (q : Keeper). CabinIsSound from leaving q.cabin) (sym c.commit.ensures.keeper) h)) in
+          subst (λ (n : ℕ). CabinIsSound (n + 1) leaving c.bring-2.new.self.cabin) f (c.bring-2.ensures.cabin (m.minute + 1) leaving (omega (arith, f)) first);
     }
 
 pub returns-clause-stands : goal.returns-clause-stands

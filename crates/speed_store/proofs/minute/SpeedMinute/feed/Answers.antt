@@ -2,7 +2,7 @@ use Rattle.std.proofs.Common.{◌≡◌, ◌+◌, ◌-◌, ◌++◌, ℕ, suc, L
 use Rattle.std.proofs.lemmas.List.{append-nil, length-map}
 use Rattle.event_model.specs.Spans.{SpeedSecond, at_speed}
 use Rattle.speed_model.specs.Blocks.{blocks_of}
-use Rattle.speed_store.specs.Feeding.{StandsFor, block_in}
+use Rattle.speed_store.specs.Feeding.{KeepsSpeedsOf, block_in}
 use Rattle.speed_store.proofs.Feeding.{grows, Ends, ends, time-behind, sixty-in}
 use Rattle.speed_store.proofs.minute.SpeedMinute.feed.Goals as goal
 
@@ -11,7 +11,7 @@ put-requires c = let h = c.requires.follows.1 in omega (arith, length-map h.goin
 
 pub returns-then-behind-lt-SECONDS-clause-fed : goal.returns-then-behind-lt-SECONDS-clause-fed
 returns-then-behind-lt-SECONDS-clause-fed c = λ seconds h.
-    subst (λ (l : List ℕ). StandsFor l (seconds ++ at_speed c.args.second c.args.n c.args.speed) (c.args.second + c.args.n)) (sym c.put.ensures)
+    subst (λ (l : List ℕ). KeepsSpeedsOf l (seconds ++ at_speed c.args.second c.args.n c.args.speed) (c.args.second + c.args.n)) (sym c.put.ensures)
     (grows c.args.n c.args.self.now seconds c.args.second c.args.speed h (omega (arith, c.if-behind-lt-SECONDS.true))).0
 
 pub returns-then-behind-lt-SECONDS-clause-given : goal.returns-then-behind-lt-SECONDS-clause-given
@@ -22,7 +22,7 @@ pub returns-clause-fed : goal.returns-clause-fed
 returns-clause-fed c = λ seconds h.
     let n = c.args.n - 1 in
     let is : suc n ≡ c.args.n = omega (arith, c.requires.some) in
-    subst (λ (l : List ℕ). StandsFor l (seconds ++ at_speed c.args.second c.args.n c.args.speed) (c.args.second + c.args.n)) (sym c.close.ensures.none)
+    subst (λ (l : List ℕ). KeepsSpeedsOf l (seconds ++ at_speed c.args.second c.args.n c.args.speed) (c.args.second + c.args.n)) (sym c.close.ensures.none)
     (subst (λ (k : ℕ). Ends c.args.self.now seconds c.args.second k c.args.speed) is (ends n c.args.self.now seconds c.args.second c.args.speed h (omega (arith, is, c.requires.minute, c.if-behind-lt-SECONDS.false)))).0
 
 pub returns-clause-given : goal.returns-clause-given

@@ -4,7 +4,7 @@ use Rattle.gated_ring.specs.Ring.{Shape, PointsInside, is_there, taken}
 use Rattle.gated_ring.specs.Change.{IsAdded}
 use Rattle.speed_model.specs.Blocks.{block_bytes}
 use Rattle.speed_model.specs.Stored.{speed_ring}
-use Rattle.speed_store.specs.Stores.{Holds}
+use Rattle.speed_store.specs.Stores.{HoldsBlocks}
 use Rattle.speed_store.proofs.Counting.{holds-more}
 use Rattle.speed_store.proofs.store.SpeedStore.add.Goals as goal
 
@@ -20,12 +20,12 @@ returns-clause-holds g c =
     let after = (g.M.Medium.state c.add_block.new.unit).image in
     let room = c.in_ok-room.room in
     let bytes = block_bytes c.args.block.now in
-    if_told o (λ x. Holds c.args.self.now x → IfSome after (Holds c.grow.new.self)) (λ x told h.
+    if_told o (λ x. HoldsBlocks c.args.self.now x → IfSome after (HoldsBlocks c.grow.new.self)) (λ x told h.
     let mid : (g.M.Medium.state c.room.new.medium).image ≡ Some x = c.in_ok-room.ensures.reads.same refl ∙ told in
     let index : room.index ≡ taken speed_ring x =
     at_image (λ (x : List ℕ). PointsInside speed_ring x → room.index ≡ taken speed_ring x) told (subst (λ (r : Shape). IfSome o (λ x. PointsInside r x → room.index ≡ taken r x)) c.blocks-2.ensures c.in_ok-room.ensures.index) h.points in
     let used : room.used ≡ is_there speed_ring x room.index =
     at_image (λ (x : List ℕ). room.used ≡ is_there speed_ring x room.index) told (subst (λ (r : Shape). IfSome o (λ x. room.used ≡ is_there r x room.index)) c.blocks-2.ensures c.in_ok-room.ensures.used) in
     let added : IfSome after (IsAdded speed_ring bytes x) = at_image (λ (x : List ℕ). IfSome after (IsAdded speed_ring bytes x)) mid c.in_ok-add_block.ensures.added in
-    from_told after (IsAdded speed_ring bytes x) (Holds c.grow.new.self) added
-    (λ y is one. subst (λ (n : ℕ). Holds n y) (sym c.grow.ensures) (holds-more x y bytes c.args.self.now room.used h (used ∙ ap (is_there speed_ring x) index) one)))
+    from_told after (IsAdded speed_ring bytes x) (HoldsBlocks c.grow.new.self) added
+    (λ y is one. subst (λ (n : ℕ). HoldsBlocks n y) (sym c.grow.ensures) (holds-more x y bytes c.args.self.now room.used h (used ∙ ap (is_there speed_ring x) index) one)))

@@ -4,7 +4,7 @@ use Rattle.tach_media.proofs.Runs.{on_ok, ok_gives}
 use Rattle.std.specs.Prelude.{is_err}
 use Rattle.tach_media.specs.Plan.{PutsBy}
 use Rattle.unit_owed.specs.Owed.{rows_in}
-use Rattle.unit_owed.specs.Rows.{entry_word, putting, HasRow, IsPut}
+use Rattle.unit_owed.specs.Rows.{entry_word, putting, HasRow, OwedRowHas}
 use Rattle.unit_minutes.proofs.OwedBeside.{still_agrees, told_after}
 use Rattle.unit_minutes.proofs.journal.Journal.put_owed.Goals as goal
 
@@ -13,7 +13,7 @@ returns-clause-agrees g c = on_ok c.put_owed.result (λ fine. still_agrees c.arg
     (c.put_owed.ensures.puts.written fine) c.requires.agrees (ok_gives c.put_owed.result c.put_owed.ensures.put fine) (λ x y is. is.putting.outside))
 
 pub returns-clause-put : goal.returns-clause-put
-returns-clause-put g c = subst (λ (n : List ℕ). OnOk c.put_owed.result (IfSome (g.M.Medium.state c.args.unit.now).image (λ x. IfSome (g.M.Medium.state c.put_owed.new.unit).image (IsPut n c.args.entry.now x)))) c.write_card_number.ensures.bytes c.put_owed.ensures.put
+returns-clause-put g c = subst (λ (n : List ℕ). OnOk c.put_owed.result (IfSome (g.M.Medium.state c.args.unit.now).image (λ x. IfSome (g.M.Medium.state c.put_owed.new.unit).image (OwedRowHas n c.args.entry.now x)))) c.write_card_number.ensures.bytes c.put_owed.ensures.put
 
 pub returns-clause-row : goal.returns-clause-row
 returns-clause-row g c =
@@ -21,8 +21,8 @@ returns-clause-row g c =
     let old = (g.M.Medium.state c.args.unit.now).image in
     let new = (g.M.Medium.state c.put_owed.new.unit).image in
     on_ok c.put_owed.result (λ fine.
-    told_after old new (HasRow number) (IsPut number c.args.entry.now) (HasRow number) c.put_owed.ensures.moments.tells c.requires.row
-    (ok_gives c.put_owed.result (subst (λ (n : List ℕ). OnOk c.put_owed.result (IfSome old (λ x. IfSome new (IsPut n c.args.entry.now x)))) c.write_card_number.ensures.bytes c.put_owed.ensures.put) fine)
+    told_after old new (HasRow number) (OwedRowHas number c.args.entry.now) (HasRow number) c.put_owed.ensures.moments.tells c.requires.row
+    (ok_gives c.put_owed.result (subst (λ (n : List ℕ). OnOk c.put_owed.result (IfSome old (λ x. IfSome new (OwedRowHas n c.args.entry.now x)))) c.write_card_number.ensures.bytes c.put_owed.ensures.put) fine)
     (λ x y has is. (has.0, is.putting.indices number ∙ has.1)))
 
 pub returns-clause-puts : goal.returns-clause-puts
