@@ -5,6 +5,8 @@ use Rattle.card_retention.specs.Expected.{is_newest}
 use Rattle.card_retention.specs.Shown.{sizes}
 use Rattle.card_image.specs.Fields.{card_days, end_mark}
 
--- The day of a minute, where it is new, is later than that of the end mark: so it is on each card whose end mark a session has moved.
+-- The day of a minute, where it is new, is later than that of the end mark: so it is on each card whose end mark a
+-- session has moved.
 abbrev pub BeginsLater : Application → (minute : ℕ) → List ℕ → Type 0
-BeginsLater app minute x = is_newest (minute / 1440) (sizes (card_days app x)) ≡ false → end_mark app x / 1440 < minute / 1440
+BeginsLater app minute x = is_newest (minute / 1440) (sizes (card_days app x)) ≡ false
+    → end_mark app x / 1440 < minute / 1440

@@ -1,4 +1,5 @@
--- Days of a card over those of before: what a session's first keep has written behind the end mark, and a repair cuts again.
+-- Days of a card over those of before: what a session's first keep has written behind the end mark, and a repair cuts
+-- again.
 use Rattle.std.specs.Prelude.{◌≡◌, ℕ, ◌+◌, ◌-◌, ◌%◌, ◌<◌, ◌≤◌, List, [], ◌∷◌, ◌++◌}
 use Rattle.card_model.specs.Days.{Day, AreDays, len_of}
 use Rattle.card_model.specs.Changes.{Remain, OnNewest, date_of, with_newest, with_word}
@@ -9,13 +10,16 @@ pub record IsBehind (mark w : ℕ) (d : Day) : Type 0 where
   pub day : date_of mark ≤ d.date
   pub minute : d.date ≡ date_of mark → mark % 1440 < word_minute w
 
--- DAYS ABOVE OTHERS by so many bytes: the same, with a word more behind the mark on the newest day, or with a day behind the mark's
+-- DAYS ABOVE OTHERS by so many bytes: the same, with a word more behind the mark on the newest day, or with a day
+-- behind the mark's
 pub data Above (mark : ℕ) (base : List Day) : (bytes : ℕ) → List Day → Type 0 where
   Same : Above mark base 0 base
-  Word : (bytes w : ℕ) (over : List Day) → Above mark base bytes over → AreDays 0 over → OnNewest (IsBehind mark w) over → Above mark base (bytes + 2) (with_newest (with_word w) over)
+  Word : (bytes w : ℕ) (over : List Day) → Above mark base bytes over → AreDays 0 over → OnNewest (IsBehind mark w) over
+      → Above mark base (bytes + 2) (with_newest (with_word w) over)
   Begun : (d : Day) → date_of mark < d.date → Above mark base (len_of d) (base ++ d ∷ [])
 
--- they stand above what drops have left of the days of before, for which no more of the oldest are gone than must be for `bytes`
+-- they stand above what drops have left of the days of before, for which no more of the oldest are gone than must be
+-- for `bytes`
 pub record IsOver (size mark bytes : ℕ) (days over : List Day) : Type 0 where
   pub base : List Day
   pub left : Remain (size - bytes) days base

@@ -1,5 +1,6 @@
-//! Entries by hand on a driver card (profile): what each moment of one leaves of a card, and of a session's first keep behind them.
-//! Nothing of the card's minutes changes, a stopped one is cut again by the next insertion, and its words count in their day.
+//! Entries by hand on a driver card (profile): what each moment of one leaves of a card, and of a session's first keep
+//! behind them. Nothing of the card's minutes changes, a stopped one is cut again by the next insertion, and its words
+//! count in their day.
 #![tactic(auto)]
 
 mod laws;

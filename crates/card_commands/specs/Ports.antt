@@ -1,6 +1,7 @@
 -- The flat image of a card, as a medium behind the card's commands.
 use Rattle.std.proofs.Common.{arith}
-use Rattle.std.specs.Prelude.{◌≡◌, ℕ, ◌+◌, ◌-◌, ◌≤◌, nat_lt, if◌then◌else◌, Bool, true, false, Result, Ok, Err, min, List, [], ◌∷◌, map, Option, Some, None, option_and_then, is_none}
+use Rattle.std.specs.Prelude.{◌≡◌, ℕ, ◌+◌, ◌-◌, ◌≤◌, nat_lt, if◌then◌else◌, Bool, true, false, Result, Ok, Err, min}
+use Rattle.std.specs.Prelude.{List, [], ◌∷◌, map, Option, Some, None, option_and_then, is_none}
 use Rattle.std.specs.Option.{ForSome}
 use Rattle.card_layout.specs.declared.files.Application.{Application}
 use Rattle.card_layout.specs.declared.files.CardFile.{CardFile}
@@ -41,7 +42,8 @@ port_coherent app s whole = record {
 abbrev pub file_from : ℕ → List CardFile → ℕ → Option ElementaryFile
 file_from base [] place = None
 file_from base (f ∷ fs) place =
-    if nat_lt place (base + f.size) then Some (record { fid = f.fid; range = record { base = base; len = f.size }; updated = f.updated })
+    if nat_lt place (base + f.size)
+    then Some (record { fid = f.fid; range = record { base = base; len = f.size }; updated = f.updated })
     else file_from (base + f.size) fs place
 
 unfoldable pub file_at : Application → ℕ → Option ElementaryFile

@@ -37,8 +37,8 @@ pub fn fixed_file(fid: Fid) -> Option<ElementaryFile>
     })
 }
 
-/// A file by the sizes in these bytes of Application_Identification. There is none where one of its fields is out of its
-/// range.
+/// A file by the sizes in these bytes of Application_Identification. There is none where one of its fields is out of
+/// its range.
 #[tactic(auto, unfolding(card_layout::specs::Files::files_of))]
 pub fn sized_file(application: &[u8; 10], fid: Fid) -> Option<ElementaryFile>
     requires { is_fixed fid ≡ false }

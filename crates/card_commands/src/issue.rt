@@ -8,13 +8,14 @@ use tach_media::{Failed, Medium};
 /// The place of the card type, the first byte of Application_Identification.
 const CARD_TYPE: u32 = APPLICATION_RANGE.base;
 
-/// Writes a new image over the first bytes of a medium. The card type is 0 from the first write to the last, so that what a
-/// stop leaves in between is no card.
+/// Writes a new image over the first bytes of a medium. The card type is 0 from the first write to the last, so that
+/// what a stop leaves in between is no card.
 pub fn issue<M: Medium>(medium: &mut M, image: &[u8]) -> Result<(), Failed>
     requires least { 34 ≤ length image.now }
     requires most { length image.now ≤ (M.state medium.old).size }
     requires writable { LiesInside (M.state medium.old).writable 0 (M.state medium.old).size }
-    ensures written { OnOk result ((M.state medium.new).image ≡ option_map (put 0 image.now) (M.state medium.old).image) }
+    ensures written { OnOk result ((M.state medium.new).image
+        ≡ option_map (put 0 image.now) (M.state medium.old).image) }
     ensures moments { LeavesOnly (M.state medium.old) (M.state medium.new) (IsIssued image.now) }
     ensures settled { OnOk result ((M.state medium.new).clock < last_count → IsSettled (M.state medium.new)) }
     ensures clock { OnOk result (Rose (M.state medium.old).clock (M.state medium.new).clock) }

@@ -1,4 +1,5 @@
-ghost use Rattle.std.specs.Prelude.{◌≡◌, ◌≤◌, ◌<◌, ◌+◌, ◌^◌, true, false, length, take, Some, None, Ok, Err, OnOk, IfOk, IfErr, IfSome, is_err};
+ghost use Rattle.std.specs.Prelude.{◌≡◌, ◌≤◌, ◌<◌, ◌+◌, ◌^◌, true, false, length, take, Some, None, Ok, Err, OnOk};
+ghost use Rattle.std.specs.Prelude.{IfOk, IfErr, IfSome, is_err};
 ghost use Rattle.card_commands.specs.declared.port.TheConstants.{READ_MOST, WRITE_MOST};
 ghost use Rattle.card_layout.specs.Application.{IsApplication, application_in};
 ghost use Rattle.card_layout.specs.Files.{image_size_of};
@@ -102,7 +103,8 @@ impl<C: Chip> Port<C> {
         requires few { length out.old ≤ READ_MOST }
         requires inside { offset + length out.old ≤ file.range.len }
         requires file { file.range.base + file.range.len ≤ LARGEST_IMAGE }
-        ensures bytes { OnOk result (IfSome (C.state self.old.chip).image (λ x. out.new ≡ bytes_at x (file.range.base + offset) (length out.old))) }
+        ensures bytes { OnOk result (IfSome (C.state self.old.chip).image
+            (λ x. out.new ≡ bytes_at x (file.range.base + offset) (length out.old))) }
         ensures reads { Reads (C.state self.old.chip) (C.state self.new.chip) (is_err result) }
         ensures application { self.new.application ≡ self.old.application }
     {
@@ -118,7 +120,8 @@ impl<C: Chip> Port<C> {
         requires some { 0 < length out.old }
         requires inside { place + length out.old ≤ image_size_of self.old.application }
         ensures many { IfOk result (λ n. (0 < n) × (n ≤ length out.old)) }
-        ensures bytes { IfOk result (λ n. IfSome (C.state self.old.chip).image (λ x. take n out.new ≡ bytes_at x place n)) }
+        ensures bytes { IfOk result (λ n. IfSome (C.state self.old.chip).image (λ x. take n out.new ≡ bytes_at x place
+            n)) }
         ensures reads { Reads (C.state self.old.chip) (C.state self.new.chip) (is_err result) }
         ensures application { self.new.application ≡ self.old.application }
     {
@@ -138,7 +141,8 @@ impl<C: Chip> Port<C> {
         requires some { 0 < length out.old }
         requires inside { place + length out.old ≤ image_size_of self.old.application }
         requires short { place + length out.old < 2 ^ 32 }
-        ensures bytes { OnOk result (IfSome (C.state self.old.chip).image (λ x. out.new ≡ bytes_at x place (length out.old))) }
+        ensures bytes { OnOk result (IfSome (C.state self.old.chip).image
+            (λ x. out.new ≡ bytes_at x place (length out.old))) }
         ensures reads { Reads (C.state self.old.chip) (C.state self.new.chip) (is_err result) }
         ensures application { self.new.application ≡ self.old.application }
     {
@@ -195,13 +199,16 @@ impl<C: Chip> Port<C> {
 }
 
 impl<C: Chip + Drop> Port<C> {
-    /// Reads the card's sizes. The chip's size is at least 24959. A refusal drops `chip`, so callers hand in a `&mut C`.
+    /// Reads the card's sizes. The chip's size is at least 24959. A refusal drops `chip`, so callers hand in a `&mut
+    /// C`.
     pub fn load(mut chip: C) -> Result<Port<C>, PortFault>
         requires { LARGEST_IMAGE ≤ (C.state chip).size }
         ensures reads { IfOk result (λ port. Reads (C.state chip) (C.state port.chip) false) }
         ensures good { IfOk result (λ port. IsApplication port.application) }
-        ensures sizes { IfOk result (λ port. IfSome (C.state chip).image (λ x. IsJudged (application_in x) (Ok port.application))) }
-        ensures refused { IfErr result (λ fault. IfSome (C.state chip).image (λ x. IsJudged (application_in x) (Err fault))) }
+        ensures sizes { IfOk result (λ port. IfSome (C.state chip).image (λ x. IsJudged (application_in x)
+            (Ok port.application))) }
+        ensures refused { IfErr result (λ fault. IfSome (C.state chip).image
+            (λ x. IsJudged (application_in x) (Err fault))) }
     {
         let application = read_sizes(&mut chip)?;
         Ok(Port::new(chip, application))

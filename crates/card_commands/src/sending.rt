@@ -14,8 +14,10 @@ use tach_media::{Answer, Chip, Failed};
 // Sends a command and takes its answer.
 fn send<C: Chip>(chip: &mut C, command: &Command, answer: &mut Answer) -> Result<(), Failed>
     requires { IsWritable command.now }
-    ensures sent { OnOk result (IsSent command.now (C.state chip.old).image (C.card chip.old) (C.card chip.new) answer.new.items) }
-    ensures image { Does (command_outcome (C.card chip.old) command.now).effect (C.state chip.old) (C.state chip.new) (is_err result) }
+    ensures sent { OnOk result (IsSent command.now (C.state chip.old).image (C.card chip.old) (C.card chip.new)
+        answer.new.items) }
+    ensures image { Does (command_outcome (C.card chip.old) command.now).effect (C.state chip.old) (C.state chip.new)
+        (is_err result) }
     ensures kept { OnErr result (C.card chip.new ≡ C.card chip.old) }
 {
     chip.transmit(&write_command(command), answer)
@@ -56,10 +58,14 @@ pub fn read<C: Chip>(
     requires few { length out.old ≤ READ_MOST }
     requires inside { offset + length out.old ≤ file.range.len }
     requires near { offset < 2 ^ 15 }
-    ensures bytes { OnOk result (IfSome (C.state chip.old).image (λ x. out.new ≡ bytes_at x (file.range.base + offset) (length out.old))) }
-    ensures card { OnOk result (C.card chip.new ≡ record (C.card chip.old) { application = (C.card chip.new).application }) }
-    ensures sizes { OnOk result (Fixes (is_application file) (C.state chip.old).image (C.card chip.old).application (C.card chip.new).application) }
-    ensures told { OnOk result (is_application file ≡ true → IfSome (C.card chip.new).application (λ bytes. out.new ≡ bytes_at bytes offset (length out.old))) }
+    ensures bytes { OnOk result (IfSome (C.state chip.old).image
+        (λ x. out.new ≡ bytes_at x (file.range.base + offset) (length out.old))) }
+    ensures card { OnOk result (C.card chip.new
+        ≡ record (C.card chip.old) { application = (C.card chip.new).application }) }
+    ensures sizes { OnOk result (Fixes (is_application file) (C.state chip.old).image (C.card chip.old).application
+        (C.card chip.new).application) }
+    ensures told { OnOk result (is_application file ≡ true
+        → IfSome (C.card chip.new).application (λ bytes. out.new ≡ bytes_at bytes offset (length out.old))) }
     ensures reads { Reads (C.state chip.old) (C.state chip.new) (is_err result) }
     ensures kept { OnErr result (C.card chip.new ≡ C.card chip.old) }
 {
@@ -87,7 +93,8 @@ pub fn update<C: Chip>(
     requires few { length bytes.now ≤ WRITE_MOST }
     requires inside { offset + length bytes.now ≤ file.range.len }
     requires near { offset < 2 ^ 15 }
-    ensures writes { WritesAt (file.range.base + offset) bytes.now (C.state chip.old) (C.state chip.new) (is_err result) }
+    ensures writes { WritesAt (file.range.base + offset) bytes.now (C.state chip.old) (C.state chip.new)
+        (is_err result) }
     ensures card { C.card chip.new ≡ C.card chip.old }
 {
     let mut held = ArrayVec::new();

@@ -1,9 +1,11 @@
-ghost use Rattle.std.specs.Prelude.{◌≡◌, ◌≤◌, ◌<◌, ◌+◌, ◌++◌, ◌/◌, ◌%◌, [], ◌∷◌, true, not, length, Some, None, Ok, OnOk, OnErr, IfOk, IfSome, is_ok, is_err};
+ghost use Rattle.std.specs.Prelude.{◌≡◌, ◌≤◌, ◌<◌, ◌+◌, ◌++◌, ◌/◌, ◌%◌, [], ◌∷◌, true, not, length, Some, None, Ok};
+ghost use Rattle.std.specs.Prelude.{OnOk, OnErr, IfOk, IfSome, is_ok, is_err};
 ghost use Rattle.card_commands.specs.declared.port.TheConstants.{READ_MOST};
 ghost use Rattle.card_layout.specs.declared.command.Command.TheVariants.{Select, Read, Update};
 ghost use Rattle.card_layout.specs.Application.{application_in};
 ghost use Rattle.tach_media.specs.Medium.{State, LiesInside, Reads, bytes_at};
-ghost use Rattle.card_layout.specs.Outcomes.{just_issued, in_directory, is_fixed, file_of, Fixes, command_outcome, outcome_from, gives, IsData, is_application};
+ghost use Rattle.card_layout.specs.Outcomes.{just_issued, in_directory, is_fixed, file_of, Fixes, command_outcome};
+ghost use Rattle.card_layout.specs.Outcomes.{outcome_from, gives, IsData, is_application};
 ghost use Rattle.tach_media.specs.Chip.{Does, WritesAt};
 ghost use Rattle.card_commands.specs.Performing.{IsFile, IsSound, IsPerformed};
 ghost use Rattle.card_commands.specs.Written.{IsWritable};
@@ -97,7 +99,8 @@ impl<M: Medium> SimCard<M> {
 
     fn read(&mut self, place: u32, out: &mut [u8]) -> Result<(), Failed>
         requires { place + length out.old ≤ (M.state self.old.medium).size }
-        ensures bytes { OnOk result (IfSome (M.state self.old.medium).image (λ x. out.new ≡ bytes_at x place (length out.old))) }
+        ensures bytes { OnOk result (IfSome (M.state self.old.medium).image
+            (λ x. out.new ≡ bytes_at x place (length out.old))) }
         ensures reads { Reads (M.state self.old.medium) (M.state self.new.medium) (is_err result) }
         ensures card { self.new.card ≡ self.old.card }
         ensures works { self.new.works ≡ is_ok result }
@@ -121,11 +124,12 @@ impl<M: Medium> SimCard<M> {
         written
     }
 
-    // The bytes of Application_Identification by which the card goes. They are fixed here, unless an earlier command has
-    // needed the sizes.
+    // The bytes of Application_Identification by which the card goes. They are fixed here, unless an earlier command
+    // has needed the sizes.
     fn fix(&mut self) -> Result<[u8; 10], Failed>
         requires { self.old.works ≡ true }
-        ensures sizes { OnOk result (Fixes true (M.state self.old.medium).image self.old.card.application self.new.card.application) }
+        ensures sizes { OnOk result (Fixes true (M.state self.old.medium).image self.old.card.application
+            self.new.card.application) }
         ensures card { IfOk result (λ bytes. self.new.card ≡ record self.old.card { application = Some bytes }) }
         ensures image { IfOk result (λ bytes. IfSome (M.state self.old.medium).image (λ x. bytes ≡ application_in x)) }
         ensures reads { Reads (M.state self.old.medium) (M.state self.new.medium) (is_err result) }
@@ -143,7 +147,8 @@ impl<M: Medium> SimCard<M> {
     // The file with this identifier, in whichever directory.
     fn find(&mut self, fid: Fid) -> Result<Option<ElementaryFile>, Failed>
         requires { self.old.works ≡ true }
-        ensures sizes { OnOk result (Fixes (not (is_fixed fid)) (M.state self.old.medium).image self.old.card.application self.new.card.application) }
+        ensures sizes { OnOk result (Fixes (not (is_fixed fid)) (M.state self.old.medium).image
+            self.old.card.application self.new.card.application) }
         ensures file { IfOk result (λ file. file ≡ file_of self.new.card.application fid) }
         ensures inside { IfOk result (λ file. IfSome file IsFile) }
         ensures card { OnOk result (self.new.card ≡ record self.old.card { application = self.new.card.application }) }
@@ -173,7 +178,8 @@ impl<M: Medium> SimCard<M> {
     // SELECT by file identifier.
     fn select(&mut self, fid: Fid) -> Result<u16, Failed>
         requires { self.old.works ≡ true }
-        ensures performed { IfOk result (λ status. IsPerformed (Ok (Select fid)) (M.state self.old.medium).image self.old.card self.new.card [] status) }
+        ensures performed { IfOk result (λ status. IsPerformed (Ok (Select fid)) (M.state self.old.medium).image
+            self.old.card self.new.card [] status) }
         ensures reads { Reads (M.state self.old.medium) (M.state self.new.medium) (is_err result) }
         ensures kept { OnErr result (self.new.card ≡ self.old.card) }
     {
@@ -200,8 +206,10 @@ impl<M: Medium> SimCard<M> {
         requires works { self.old.works ≡ true }
         requires file { IsFile file }
         requires inside { offset + length out.old ≤ file.range.len }
-        ensures bytes { OnOk result (IsData (gives file offset (length out.old)) (M.state self.old.medium).image self.new.card.application out.new) }
-        ensures sizes { OnOk result (Fixes (is_application file) (M.state self.old.medium).image self.old.card.application self.new.card.application) }
+        ensures bytes { OnOk result (IsData (gives file offset (length out.old)) (M.state self.old.medium).image
+            self.new.card.application out.new) }
+        ensures sizes { OnOk result (Fixes (is_application file) (M.state self.old.medium).image
+            self.old.card.application self.new.card.application) }
         ensures card { OnOk result (self.new.card ≡ record self.old.card { application = self.new.card.application }) }
         ensures reads { Reads (M.state self.old.medium) (M.state self.new.medium) (is_err result) }
         ensures kept { OnErr result (self.new.card ≡ self.old.card) }
@@ -229,7 +237,8 @@ impl<M: Medium> SimCard<M> {
         requires works { self.old.works ≡ true }
         requires len { len ≤ READ_MOST }
         requires empty { answer.old.items ≡ [] }
-        ensures performed { IfOk result (λ status. IsPerformed (Ok (Read offset len)) (M.state self.old.medium).image self.old.card self.new.card answer.new.items status) }
+        ensures performed { IfOk result (λ status. IsPerformed (Ok (Read offset len)) (M.state self.old.medium).image
+            self.old.card self.new.card answer.new.items status) }
         ensures reads { Reads (M.state self.old.medium) (M.state self.new.medium) (is_err result) }
         ensures kept { OnErr result (self.new.card ≡ self.old.card) }
         ensures no_answer { OnErr result (answer.new.items ≡ []) }
@@ -254,8 +263,10 @@ impl<M: Medium> SimCard<M> {
     fn update_binary(&mut self, offset: u16, bytes: &ArrayVec<u8, 255>) -> Result<u16, Failed>
         requires works { self.old.works ≡ true }
         requires some { 0 < length bytes.now.items }
-        ensures performed { IfOk result (λ status. IsPerformed (Ok (Update offset bytes.now)) (M.state self.old.medium).image self.old.card self.new.card [] status) }
-        ensures image { Does (command_outcome self.old.card (Update offset bytes.now)).effect (M.state self.old.medium) (M.state self.new.medium) (is_err result) }
+        ensures performed { IfOk result (λ status. IsPerformed (Ok (Update offset bytes.now))
+            (M.state self.old.medium).image self.old.card self.new.card [] status) }
+        ensures image { Does (command_outcome self.old.card (Update offset bytes.now)).effect (M.state self.old.medium)
+            (M.state self.new.medium) (is_err result) }
         ensures kept { OnErr result (self.new.card ≡ self.old.card) }
     {
         let Some(file) = self.selected() else {
@@ -279,8 +290,10 @@ impl<M: Medium> SimCard<M> {
         requires works { self.old.works ≡ true }
         requires writable { IfOk read.now IsWritable }
         requires empty { answer.old.items ≡ [] }
-        ensures performed { IfOk result (λ status. IsPerformed read.now (M.state self.old.medium).image self.old.card self.new.card answer.new.items status) }
-        ensures image { Does (outcome_from self.old.card read.now).effect (M.state self.old.medium) (M.state self.new.medium) (is_err result) }
+        ensures performed { IfOk result (λ status. IsPerformed read.now (M.state self.old.medium).image self.old.card
+            self.new.card answer.new.items status) }
+        ensures image { Does (outcome_from self.old.card read.now).effect (M.state self.old.medium)
+            (M.state self.new.medium) (is_err result) }
         ensures room { length answer.new.items ≤ READ_MOST }
         ensures kept { OnErr result (self.new.card ≡ self.old.card) }
         ensures no_answer { OnErr result (answer.new.items ≡ []) }

@@ -1,5 +1,6 @@
 -- What the walk of `load` has read.
-use Rattle.std.specs.Prelude.{◌≡◌, ◌⊎◌, ℕ, ◌+◌, ◌-◌, ◌*◌, ◌<◌, ◌≤◌, Bool, true, false, Some, None, Result, Ok, Err, List, ◌++◌}
+use Rattle.std.specs.Prelude.{◌≡◌, ◌⊎◌, ℕ, ◌+◌, ◌-◌, ◌*◌, ◌<◌, ◌≤◌, Bool, true, false, Some, None, Result, Ok, Err}
+use Rattle.std.specs.Prelude.{List, ◌++◌}
 use Rattle.tach_media.specs.Medium.{bytes_at}
 use Rattle.card_model.specs.Bytes.{number, two_bytes}
 use Rattle.card_model.specs.Days.{Day, len_of, record_of, IsDay}

@@ -11,13 +11,15 @@ use Rattle.card_days.specs.Held.{Held, Knows}
 abbrev pub FileFitsIn : StringShape → State → Type 0
 FileFitsIn r s = r.base + (4 + r.size) ≤ s.size
 
--- Outside the string's file nothing differs, and where the image tells what is kept of it, the two images are so related.
+-- Outside the string's file nothing differs, and where the image tells what is kept of it, the two images are so
+-- related.
 pub record IfKnown (v : Held) (R : List ℕ → List ℕ → Type 0) (x c : List ℕ) : Type 0 where
   pub outside : SameOutside v.shape.base (4 + v.shape.size) x c
   pub told : (days : List Day) → Knows v x days → R x c
 
 -- Outside the string's file nothing differs; and of days that may be changed so, there is what is said of them.
-pub record IsOfDays (r : StringShape) (May : List Day → Type 0) (Is : List Day → List ℕ → Type 0) (x c : List ℕ) : Type 0 where
+pub record IsOfDays (r : StringShape) (May : List Day → Type 0) (Is : List Day → List ℕ → Type 0) (x c : List ℕ) : Type
+    0 where
   pub outside : SameOutside r.base (4 + r.size) x c
   pub list : (days : List Day) → HoldsDays r x days → May days → Is days c
 
@@ -38,7 +40,8 @@ IsChanged r w x y = IsOfDays r (OnNewest (TakesWord w)) (HoldsChanged r w) x y
 
 -- what is kept then is what the image tells then
 abbrev pub KnowsChanged : (v next : Held) → ℕ → List ℕ → List ℕ → Type 0
-KnowsChanged v next w x y = (days : List Day) → Knows v x days → OnNewest (TakesWord w) days → Knows next y (with_newest (with_word w) (fitting (v.shape.size - 2) days))
+KnowsChanged v next w x y = (days : List Day) → Knows v x days → OnNewest (TakesWord w) days
+    → Knows next y (with_newest (with_word w) (fitting (v.shape.size - 2) days))
 
 -- there is no length before the oldest day
 abbrev pub IsCleared : StringShape → List ℕ → Type 0
@@ -46,15 +49,18 @@ IsCleared r y = bytes_at y (at r (oldest_pointer r y)) 2 ≡ two_bytes 0
 
 -- so it is where a day has gone
 abbrev pub ClearsChanged : Held → ℕ → List ℕ → List ℕ → Type 0
-ClearsChanged v w x y = (days : List Day) → Knows v x days → OnNewest (TakesWord w) days → fitting (v.shape.size - 2) days ≢ days → IsCleared v.shape y
+ClearsChanged v w x y = (days : List Day) → Knows v x days → OnNewest (TakesWord w) days
+    → fitting (v.shape.size - 2) days ≢ days → IsCleared v.shape y
 
 -- the new list of a `begin_day`
 abbrev pub HoldsBegun : StringShape → (date : ℕ) → (words : List ℕ) → List Day → List ℕ → Type 0
-HoldsBegun r date words days y = HoldsDays r y (fitting (r.size - (12 + 2 * length words)) days ++ new_day days date words ∷ [])
+HoldsBegun r date words days y = HoldsDays r y
+    (fitting (r.size - (12 + 2 * length words)) days ++ new_day days date words ∷ [])
 
 -- a moment of `begin_day`, and after it
 abbrev pub IsDayBeginning : StringShape → (date : ℕ) → (words : List ℕ) → List ℕ → List ℕ → Type 0
-IsDayBeginning r date words x c = IsOfDays r (λ days. IsNext days date words) (OrRemain r (r.size - (12 + 2 * length words)) (HoldsBegun r date words)) x c
+IsDayBeginning r date words x c = IsOfDays r (λ days. IsNext days date words)
+    (OrRemain r (r.size - (12 + 2 * length words)) (HoldsBegun r date words)) x c
 
 abbrev pub IsDayBegun : StringShape → (date : ℕ) → (words : List ℕ) → List ℕ → List ℕ → Type 0
 IsDayBegun r date words x y = IsOfDays r (λ days. IsNext days date words) (HoldsBegun r date words) x y
@@ -70,4 +76,5 @@ ClearsBegun v date words x y = (days : List Day) → Knows v x days → IsNext d
 
 -- a string without a day begins again where it stood
 abbrev pub BeginsAgain : Held → (date : ℕ) → (words : List ℕ) → List ℕ → List ℕ → Type 0
-BeginsAgain v date words x y = Knows v x [] → IsNext [] date words → (oldest_pointer v.shape y ≡ oldest_pointer v.shape x) × (newest_pointer v.shape y ≡ oldest_pointer v.shape x)
+BeginsAgain v date words x y = Knows v x [] → IsNext [] date words
+    → (oldest_pointer v.shape y ≡ oldest_pointer v.shape x) × (newest_pointer v.shape y ≡ oldest_pointer v.shape x)

@@ -1,5 +1,6 @@
 -- The writes of the calls on a string, in their order, by what is kept of it.
-use Rattle.std.specs.Prelude.{ℕ, ◌+◌, ◌-◌, ◌*◌, ◌%◌, ◌&&◌, List, [], ◌∷◌, ◌++◌, length, take, drop, nat_eq, nat_le, nat_lt, if◌then◌else◌, ◌==◌}
+use Rattle.std.specs.Prelude.{ℕ, ◌+◌, ◌-◌, ◌*◌, ◌%◌, ◌&&◌, List, [], ◌∷◌, ◌++◌, length, take, drop, nat_eq, nat_le}
+use Rattle.std.specs.Prelude.{nat_lt, if◌then◌else◌, ◌==◌}
 use Rattle.card_model.specs.declared.lengths.TheConstants.{DAY_LEAST, DAY_MOST}
 use Rattle.tach_media.specs.Medium.{bytes_at}
 use Rattle.tach_media.specs.Plan.{Piece, piece}
@@ -23,17 +24,20 @@ left_in v new x used =
 
 -- how many days go at most for so many bytes more
 abbrev pub most_drops : (size used new : ℕ) → ℕ
-most_drops size used new = if nat_le (used + new) size then 0 else (if nat_le (used + new) (size + DAY_LEAST) then 1 else 2)
+most_drops size used new = if nat_le (used + new) size then 0
+    else (if nat_le (used + new) (size + DAY_LEAST) then 1 else 2)
 
 -- a drop: the oldest pointer, and the length before the day that is the oldest then
 abbrev pub drop_pieces : Held → (used left : ℕ) → List Piece
 drop_pieces v used left =
-    if used == left then [] else piece v.shape.base (two_bytes (oldest_at v left)) ∷ piece (at v.shape (oldest_at v left)) (two_bytes 0) ∷ []
+    if used == left then [] else piece v.shape.base (two_bytes (oldest_at v left))
+    ∷ piece (at v.shape (oldest_at v left)) (two_bytes 0) ∷ []
 
 -- a word behind the newest day, and the length that counts it
 abbrev pub word_pieces : Held → (w : ℕ) → List Piece
 word_pieces v w =
-    piece (at v.shape (end_of v)) (two_bytes w) ∷ piece (at v.shape (spot v.shape.size v.tail.head.place 2)) (two_bytes (newest_len v + 2)) ∷ []
+    piece (at v.shape (end_of v)) (two_bytes w)
+    ∷ piece (at v.shape (spot v.shape.size v.tail.head.place 2)) (two_bytes (newest_len v + 2)) ∷ []
 
 -- a change of the newest day's state: a drop if it must be, and the word
 abbrev pub change_pieces : Held → (w : ℕ) → List ℕ → List Piece
@@ -50,7 +54,8 @@ tail_more t w used = record { head = record t.head { words = more_words t.head.w
 -- bytes on the string, round its end
 abbrev pub round_pieces : StringShape → ℕ → List ℕ → List Piece
 round_pieces r p bytes =
-    if nat_le (length bytes) (r.size - p) then piece (at r p) bytes ∷ [] else piece (at r p) (take (r.size - p) bytes) ∷ piece (at r 0) (drop (r.size - p) bytes) ∷ []
+    if nat_le (length bytes) (r.size - p) then piece (at r p) bytes ∷ [] else piece (at r p) (take (r.size - p) bytes)
+    ∷ piece (at r 0) (drop (r.size - p) bytes) ∷ []
 
 -- the newest pointer, where it differs
 abbrev pub pointer_pieces : StringShape → (newest p : ℕ) → List Piece
@@ -61,7 +66,8 @@ abbrev pub day_pieces : Held → (bytes : List ℕ) → List Piece
 day_pieces v bytes =
     let r : StringShape = v.shape in
     piece (at r (end_of v)) (two_bytes (newest_len v)) ∷ (round_pieces r (spot r.size (end_of v) 4) bytes
-    ++ (piece (at r (spot r.size (end_of v) 2)) (two_bytes (4 + length bytes)) ∷ pointer_pieces r v.tail.head.place (end_of v)))
+    ++ (piece (at r (spot r.size (end_of v) 2)) (two_bytes (4 + length bytes))
+    ∷ pointer_pieces r v.tail.head.place (end_of v)))
 
 -- the counter of the next day
 abbrev pub count_of : Held → ℕ
@@ -81,7 +87,11 @@ beginning_pieces v date words x =
 
 -- the tail with that day
 abbrev pub tail_begun : Held → (date : ℕ) → (words : List ℕ) → (used : ℕ) → Tail
-tail_begun v date words used = record { head = day_head (end_of v) (day_by v date words); latest = last_word words; used = used }
+tail_begun v date words used = record {
+  head = day_head (end_of v) (day_by v date words);
+  latest = last_word words;
+  used = used;
+}
 
 -- the length before the oldest day, which there is, is cleared
 abbrev pub mend_pieces : Held → List Piece

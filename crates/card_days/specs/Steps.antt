@@ -1,6 +1,8 @@
 -- What the steps of a write on the string do.
-use Rattle.std.specs.Prelude.{◌≡◌, ◌⊎◌, false, ℕ, ◌+◌, ◌-◌, ◌<◌, ◌≤◌, ◌≢◌, List, [], ◌∷◌, length, take, drop, nat_le, ◌==◌, if◌then◌else◌}
-use Rattle.tach_media.specs.Medium.{State, Reads, LeavesOnly, Unchanged, put, SameOutside, IsPartlyWritten, IsSettled, last_count}
+use Rattle.std.specs.Prelude.{◌≡◌, ◌⊎◌, false, ℕ, ◌+◌, ◌-◌, ◌<◌, ◌≤◌, ◌≢◌, List, [], ◌∷◌, length, take, drop, nat_le}
+use Rattle.std.specs.Prelude.{◌==◌, if◌then◌else◌}
+use Rattle.tach_media.specs.Medium.{State, Reads, LeavesOnly, Unchanged, put, SameOutside, IsPartlyWritten, IsSettled}
+use Rattle.tach_media.specs.Medium.{last_count}
 use Rattle.card_model.specs.Bytes.{two_bytes}
 use Rattle.card_model.specs.Days.{Day, total}
 use Rattle.card_model.specs.Changes.{with_newest, with_km}
@@ -14,12 +16,15 @@ roomier room (d ∷ ds) = if nat_le (total (d ∷ ds)) room then d ∷ ds else d
 
 -- bytes on the string, round its end
 abbrev pub put_round : StringShape → ℕ → List ℕ → List ℕ → List ℕ
-put_round r p bytes x = if nat_le (length bytes) (r.size - p) then put (at r p) bytes x else put (at r 0) (drop (r.size - p) bytes) (put (at r p) (take (r.size - p) bytes) x)
+put_round r p bytes x = if nat_le (length bytes) (r.size - p) then put (at r p) bytes x
+    else put (at r 0) (drop (r.size - p) bytes) (put (at r p) (take (r.size - p) bytes) x)
 
 abbrev pub IsRounding : StringShape → ℕ → List ℕ → List ℕ → List ℕ → Type 0
 IsRounding r p bytes x c =
     ((length bytes ≤ r.size - p) × IsPartlyWritten (at r p) bytes x c)
-    ⊎ ((r.size - p < length bytes) × (IsPartlyWritten (at r p) (take (r.size - p) bytes) x c ⊎ IsPartlyWritten (at r 0) (drop (r.size - p) bytes) (put (at r p) (take (r.size - p) bytes) x) c))
+    ⊎ ((r.size - p < length bytes)
+    × (IsPartlyWritten (at r p) (take (r.size - p) bytes) x c
+    ⊎ IsPartlyWritten (at r 0) (drop (r.size - p) bytes) (put (at r p) (take (r.size - p) bytes) x) c))
 
 -- the newest pointer, where it differs
 abbrev pub newest_pointed : StringShape → ℕ → ℕ → List ℕ → List ℕ
@@ -65,11 +70,13 @@ pub record IsMeasured (r : StringShape) (km : ℕ) (x y : List ℕ) : Type 0 whe
 
 pub record IsMeasuring (r : StringShape) (km : ℕ) (x c : List ℕ) : Type 0 where
   pub outside : SameOutside r.base (4 + r.size) x c
-  pub list : (days : List Day) → HoldsDays r x days → days ≢ [] → HoldsDays r c days ⊎ HoldsDays r c (with_newest (with_km km) days)
+  pub list : (days : List Day) → HoldsDays r x days → days ≢ []
+      → HoldsDays r c days ⊎ HoldsDays r c (with_newest (with_km km) days)
 
 -- what is kept then is what the image tells then
 abbrev pub KnowsMeasured : (v next : Held) → ℕ → List ℕ → List ℕ → Type 0
-KnowsMeasured v next km x y = (days : List Day) → Knows v x days → days ≢ [] → Knows next y (with_newest (with_km km) days)
+KnowsMeasured v next km x y = (days : List Day) → Knows v x days → days ≢ []
+    → Knows next y (with_newest (with_km km) days)
 
 -- a call that writes, or leaves the medium as it was
 abbrev pub SettlesIfSettled : State → State → Type 0

@@ -19,7 +19,8 @@ pub record ShorterBy (date count : ℕ) (days kept : List Day) : Type 0 where
 -- a moment at which days later than a date go, so many at least
 pub record IsTrimming (r : StringShape) (date count : ℕ) (x c : List ℕ) : Type 0 where
   pub outside : SameOutside r.base (4 + r.size) x c
-  pub list : (days : List Day) → HoldsDays r x days → (kept : List Day) × ShorterBy date count days kept × HoldsDays r c kept
+  pub list : (days : List Day) → HoldsDays r x days
+      → (kept : List Day) × ShorterBy date count days kept × HoldsDays r c kept
 
 pub record IsTrimmed (r : StringShape) (date : ℕ) (x y : List ℕ) : Type 0 where
   pub outside : SameOutside r.base (4 + r.size) x y
@@ -32,7 +33,8 @@ pub record IsWithoutLast (r : StringShape) (x y : List ℕ) : Type 0 where
 
 pub record IsLosingLast (r : StringShape) (x c : List ℕ) : Type 0 where
   pub outside : SameOutside r.base (4 + r.size) x c
-  pub list : (older : List Day) (d : Day) → HoldsDays r x (older ++ d ∷ []) → HoldsDays r c (older ++ d ∷ []) ⊎ HoldsDays r c older
+  pub list : (older : List Day) (d : Day) → HoldsDays r x (older ++ d ∷ [])
+      → HoldsDays r c (older ++ d ∷ []) ⊎ HoldsDays r c older
 
 -- the newest day, if there is one, has no word later than a minute on that minute's day
 pub record IsCutLast (r : StringShape) (minute : ℕ) (x y : List ℕ) : Type 0 where
@@ -51,7 +53,9 @@ pub record IsTrim (r : StringShape) (minute : ℕ) (x y : List ℕ) : Type 0 whe
 -- a moment of `trim`: of the old days only some of those later than the minute's day are gone, or the trimmed list
 pub record IsTrimMoment (r : StringShape) (minute : ℕ) (x c : List ℕ) : Type 0 where
   pub outside : SameOutside r.base (4 + r.size) x c
-  pub list : (days : List Day) → HoldsDays r x days → ((kept : List Day) × Shorter (date_of minute) days kept × HoldsDays r c kept) ⊎ HoldsDays r c (trimmed minute days)
+  pub list : (days : List Day) → HoldsDays r x days
+      → ((kept : List Day) × Shorter (date_of minute) days kept × HoldsDays r c kept)
+      ⊎ HoldsDays r c (trimmed minute days)
 
 -- a call that writes, or only reads
 abbrev pub WritesOrReads : State → State → Type 0
@@ -59,4 +63,5 @@ WritesOrReads old new = (new.clock < last_count → IsSettled new) ⊎ Reads old
 
 -- a call that writes, or only reads where there is no day
 abbrev pub WritesWhereDays : StringShape → State → State → Type 0
-WritesWhereDays r old new = (new.clock < last_count → IsSettled new) ⊎ (Reads old new false × IfSome old.image (λ x. (days : List Day) → HoldsDays r x days → days ≡ []))
+WritesWhereDays r old new = (new.clock < last_count → IsSettled new)
+    ⊎ (Reads old new false × IfSome old.image (λ x. (days : List Day) → HoldsDays r x days → days ≡ []))

@@ -1,5 +1,7 @@
-ghost use Rattle.std.specs.Prelude.{◌≡◌, ◌≤◌, ◌<◌, ◌+◌, length, IfOk, OnOk, IfSome, is_err, option_map, take, slice_index, ◌*◌};
-ghost use Rattle.tach_media.specs.Medium.{LeavesOnly, Reads, HasCause, LiesInside, IsPartlyWritten, IsSettled, last_count, put, bytes_at};
+ghost use Rattle.std.specs.Prelude.{◌≡◌, ◌≤◌, ◌<◌, ◌+◌, length, IfOk, OnOk, IfSome, is_err, option_map, take};
+ghost use Rattle.std.specs.Prelude.{slice_index, ◌*◌};
+ghost use Rattle.tach_media.specs.Medium.{LeavesOnly, Reads, HasCause, LiesInside, IsPartlyWritten, IsSettled};
+ghost use Rattle.tach_media.specs.Medium.{last_count, put, bytes_at};
 ghost use Rattle.card_model.specs.Bytes.{number, two_bytes, decimal};
 ghost use Rattle.card_model.specs.Changes.{counter_after};
 ghost use Rattle.card_model.specs.Days.{body};
@@ -34,7 +36,8 @@ pub fn write_two<M: Medium>(medium: &mut M, place: u32, n: u32) -> Result<(), Fa
     requires inside { place + 2 ≤ (M.state medium.old).size }
     requires writable { LiesInside (M.state medium.old).writable place 2 }
     requires short { n < 65536 }
-    ensures written { OnOk result ((M.state medium.new).image ≡ option_map (put place (two_bytes n)) (M.state medium.old).image) }
+    ensures written { OnOk result ((M.state medium.new).image
+        ≡ option_map (put place (two_bytes n)) (M.state medium.old).image) }
     ensures moments { LeavesOnly (M.state medium.old) (M.state medium.new) (IsPartlyWritten place (two_bytes n)) }
     ensures settled { OnOk result ((M.state medium.new).clock < last_count → IsSettled (M.state medium.new)) }
     ensures cause { HasCause (M.state medium.old) (M.state medium.new) (is_err result) }
@@ -72,7 +75,8 @@ pub fn body_of(date: u32, counter: u32, words: &[u16]) -> [u8; 12]
     requires counter { counter ≤ 9999 }
     requires some { 1 ≤ length words.now }
     requires few { length words.now ≤ 2 }
-    ensures bytes { take (8 + 2 * length words.now) result ≡ body (record { date = date; counter = counter; km = 0; words = words.now }) }
+    ensures bytes { take (8 + 2 * length words.now) result
+        ≡ body (record { date = date; counter = counter; km = 0; words = words.now }) }
 {
     let first = words[0];
     let second = second(words);

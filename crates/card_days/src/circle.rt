@@ -1,10 +1,13 @@
-ghost use Rattle.std.specs.Prelude.{◌≡◌, ◌≤◌, ◌<◌, ◌+◌, ◌%◌, ℕ, length, slice_index, IfOk, OnOk, IfSome, is_err, option_map, take, Some, None, []};
+ghost use Rattle.std.specs.Prelude.{◌≡◌, ◌≤◌, ◌<◌, ◌+◌, ◌%◌, ℕ, length, slice_index, IfOk, OnOk, IfSome, is_err};
+ghost use Rattle.std.specs.Prelude.{option_map, take, Some, None, []};
 ghost use Rattle.card_model.specs.declared.lengths.TheConstants.{DAY_MOST};
 ghost use Rattle.card_layout.specs.declared.files.TheConstants.{STRING_MOST};
-ghost use Rattle.tach_media.specs.Medium.{LeavesOnly, Reads, HasCause, LiesInside, IsPartlyWritten, IsSettled, last_count, put, bytes_at};
+ghost use Rattle.tach_media.specs.Medium.{LeavesOnly, Reads, HasCause, LiesInside, IsPartlyWritten, IsSettled};
+ghost use Rattle.tach_media.specs.Medium.{last_count, put, bytes_at};
 ghost use Rattle.card_model.specs.Days.{Day};
 ghost use Rattle.card_model.specs.Bytes.{number, two_bytes};
-ghost use Rattle.card_model.specs.Image.{HoldsDays, IsAt, IsPlace, IsPointer, IsStringShape, at, newest_pointer, oldest_pointer, spot, string_of, turned};
+ghost use Rattle.card_model.specs.Image.{HoldsDays, IsAt, IsPlace, IsPointer, IsStringShape, at, newest_pointer};
+ghost use Rattle.card_model.specs.Image.{oldest_pointer, spot, string_of, turned};
 ghost use Rattle.card_days.specs.Moments.{FileFitsIn};
 ghost use Rattle.card_days.specs.Heads.{head_bytes, day_head};
 ghost use Rattle.card_days.specs.Loading.{shape_of};
@@ -132,7 +135,8 @@ impl Circle {
     // The oldest pointer.
     pub(crate) fn oldest<M: Medium>(&self, medium: &mut M) -> Result<u32, Failed>
         requires fits { FileFitsIn self.now (M.state medium.old) }
-        ensures oldest { IfOk result (λ p. IfSome (M.state medium.old).image (λ x. IsPointer self.now.size (oldest_pointer self.now x) → p ≡ oldest_pointer self.now x)) }
+        ensures oldest { IfOk result (λ p. IfSome (M.state medium.old).image (λ x. IsPointer self.now.size
+            (oldest_pointer self.now x) → p ≡ oldest_pointer self.now x)) }
         ensures pointer { IfOk result (λ p. IsPointer self.now.size p) }
         ensures shape { IsStringShape self.now }
         ensures reads { Reads (M.state medium.old) (M.state medium.new) (is_err result) }
@@ -144,7 +148,8 @@ impl Circle {
     // The newest pointer.
     pub(crate) fn newest<M: Medium>(&self, medium: &mut M) -> Result<u32, Failed>
         requires fits { FileFitsIn self.now (M.state medium.old) }
-        ensures newest { IfOk result (λ p. IfSome (M.state medium.old).image (λ x. IsPointer self.now.size (newest_pointer self.now x) → p ≡ newest_pointer self.now x)) }
+        ensures newest { IfOk result (λ p. IfSome (M.state medium.old).image (λ x. IsPointer self.now.size
+            (newest_pointer self.now x) → p ≡ newest_pointer self.now x)) }
         ensures pointer { IfOk result (λ p. IsPointer self.now.size p) }
         ensures shape { IsStringShape self.now }
         ensures reads { Reads (M.state medium.old) (M.state medium.new) (is_err result) }
@@ -157,8 +162,10 @@ impl Circle {
     pub(crate) fn len_at<M: Medium>(&self, medium: &mut M, place: u32) -> Result<u32, Failed>
         requires fits { FileFitsIn self.now (M.state medium.old) }
         requires pointer { IsPointer self.now.size place }
-        ensures len { IfOk result (λ n. IfSome (M.state medium.old).image (λ x. (q : ℕ) → IsPlace self.now.size place 2 q → q < self.now.size
-            → number (bytes_at x (at self.now q) 2) % 2 ≡ 0 → number (bytes_at x (at self.now q) 2) ≤ DAY_MOST → n ≡ number (bytes_at x (at self.now q) 2))) }
+        ensures len { IfOk result (λ n. IfSome (M.state medium.old).image (λ x. (q : ℕ) → IsPlace self.now.size place 2
+            q → q < self.now.size
+            → number (bytes_at x (at self.now q) 2) % 2 ≡ 0 → number (bytes_at x (at self.now q) 2) ≤ DAY_MOST
+            → n ≡ number (bytes_at x (at self.now q) 2))) }
         ensures even { IfOk result (λ n. n % 2 ≡ 0) }
         ensures most { IfOk result (λ n. n ≤ DAY_MOST) }
         ensures reads { Reads (M.state medium.old) (M.state medium.new) (is_err result) }
@@ -172,7 +179,8 @@ impl Circle {
     pub(crate) fn previous_at<M: Medium>(&self, medium: &mut M, place: u32) -> Result<u32, Failed>
         requires fits { FileFitsIn self.now (M.state medium.old) }
         requires pointer { IsPointer self.now.size place }
-        ensures len { IfOk result (λ n. IfSome (M.state medium.old).image (λ x. number (bytes_at x (at self.now place) 2) % 2 ≡ 0 → number (bytes_at x (at self.now place) 2) ≤ DAY_MOST
+        ensures len { IfOk result (λ n. IfSome (M.state medium.old).image (λ x. number
+            (bytes_at x (at self.now place) 2) % 2 ≡ 0 → number (bytes_at x (at self.now place) 2) ≤ DAY_MOST
             → n ≡ number (bytes_at x (at self.now place) 2))) }
         ensures even { IfOk result (λ n. n % 2 ≡ 0) }
         ensures most { IfOk result (λ n. n ≤ DAY_MOST) }
@@ -194,7 +202,8 @@ impl Circle {
         requires pointer { IsPointer self.now.size place }
         requires breaks { self.now.size ≤ place + length out.old }
         requires short { length out.old ≤ 12 }
-        ensures bytes { OnOk result (IfSome (M.state medium.old).image (λ x. out.new ≡ take (length out.old) (turned place (string_of self.now x)))) }
+        ensures bytes { OnOk result (IfSome (M.state medium.old).image
+            (λ x. out.new ≡ take (length out.old) (turned place (string_of self.now x)))) }
         ensures reads { Reads (M.state medium.old) (M.state medium.new) (is_err result) }
     {
         let start = self.base + 4;
@@ -210,7 +219,8 @@ impl Circle {
         requires fits { FileFitsIn self.now (M.state medium.old) }
         requires pointer { IsPointer self.now.size place }
         ensures shape { IsStringShape self.now }
-        ensures bytes { IfOk result (λ b. IfSome (M.state medium.old).image (λ x. b ≡ take 12 (turned place (string_of self.now x)))) }
+        ensures bytes { IfOk result (λ b. IfSome (M.state medium.old).image (λ x. b ≡ take 12
+            (turned place (string_of self.now x)))) }
         ensures reads { Reads (M.state medium.old) (M.state medium.new) (is_err result) }
     {
         let mut bytes = [0u8; 12];
@@ -234,7 +244,8 @@ impl Circle {
         requires even { distance % 2 ≡ 0 }
         requires most { distance + 2 ≤ self.now.size }
         ensures short { IfOk result (λ n. n < 65536) }
-        ensures spelled { IfOk result (λ n. IfSome (M.state medium.old).image (λ x. bytes_at (turned place (string_of self.now x)) distance 2 ≡ two_bytes n)) }
+        ensures spelled { IfOk result (λ n. IfSome (M.state medium.old).image
+            (λ x. bytes_at (turned place (string_of self.now x)) distance 2 ≡ two_bytes n)) }
         ensures reads { Reads (M.state medium.old) (M.state medium.new) (is_err result) }
     {
         let field = self.base + 4 + self.spot(place, distance);
@@ -251,7 +262,8 @@ impl Circle {
         requires pointer { IsPointer self.now.size place }
         ensures shape { IsStringShape self.now }
         ensures short { IfOk result (λ h. h.counter < 65536) }
-        ensures head { IfOk result (λ h. IfSome (M.state medium.old).image (λ x. head_bytes h ≡ take 12 (turned place (string_of self.now x)))) }
+        ensures head { IfOk result (λ h. IfSome (M.state medium.old).image (λ x. head_bytes h ≡ take 12
+            (turned place (string_of self.now x)))) }
         ensures reads { Reads (M.state medium.old) (M.state medium.new) (is_err result) }
     {
         let bytes = self.twelve_at(medium, place)?;
@@ -266,8 +278,10 @@ impl Circle {
     ) -> Result<Option<DayHead>, Failed>
         requires fits { FileFitsIn self.now (M.state medium.old) }
         requires pointer { IsPointer self.now.size place }
-        ensures there { IfOk result (λ o. IfSome (M.state medium.old).image (λ x. (d : Day) → IsAt self.now x place d → o ≡ Some (day_head place d))) }
-        ensures empty { IfOk result (λ o. IfSome (M.state medium.old).image (λ x. HoldsDays self.now x [] → oldest_pointer self.now x ≡ place → o ≡ None)) }
+        ensures there { IfOk result (λ o. IfSome (M.state medium.old).image (λ x. (d : Day) → IsAt self.now x place d
+            → o ≡ Some (day_head place d))) }
+        ensures empty { IfOk result (λ o. IfSome (M.state medium.old).image (λ x. HoldsDays self.now x []
+            → oldest_pointer self.now x ≡ place → o ≡ None)) }
         ensures place { IfOk result (λ o. IfSome o (λ h. h.place ≡ place)) }
         ensures reads { Reads (M.state medium.old) (M.state medium.new) (is_err result) }
     {
@@ -289,7 +303,8 @@ impl Circle {
         requires pointer { IsPointer self.now.size place }
         requires few { index < 1440 }
         ensures short { IfOk result (λ w. w < 65536) }
-        ensures word { IfOk result (λ w. IfSome (M.state medium.old).image (λ x. (d : Day) → IsAt self.now x place d → index < length d.words → w ≡ slice_index d.words index)) }
+        ensures word { IfOk result (λ w. IfSome (M.state medium.old).image (λ x. (d : Day) → IsAt self.now x place d
+            → index < length d.words → w ≡ slice_index d.words index)) }
         ensures reads { Reads (M.state medium.old) (M.state medium.new) (is_err result) }
     {
         let field = self.base + 4 + self.spot(place, 12 + 2 * index as u32);
@@ -307,8 +322,10 @@ impl Circle {
         requires writable { LiesInside (M.state medium.old).writable self.now.base (4 + self.now.size) }
         requires pointer { IsPointer self.now.size place }
         requires short { n < 65536 }
-        ensures written { OnOk result ((M.state medium.new).image ≡ option_map (put (at self.now place) (two_bytes n)) (M.state medium.old).image) }
-        ensures moments { LeavesOnly (M.state medium.old) (M.state medium.new) (IsPartlyWritten (at self.now place) (two_bytes n)) }
+        ensures written { OnOk result ((M.state medium.new).image ≡ option_map (put (at self.now place) (two_bytes n))
+            (M.state medium.old).image) }
+        ensures moments { LeavesOnly (M.state medium.old) (M.state medium.new)
+            (IsPartlyWritten (at self.now place) (two_bytes n)) }
         ensures settled { OnOk result ((M.state medium.new).clock < last_count → IsSettled (M.state medium.new)) }
         ensures cause { HasCause (M.state medium.old) (M.state medium.new) (is_err result) }
         ensures most { (M.state medium.new).clock ≤ (M.state medium.old).clock + 1 }

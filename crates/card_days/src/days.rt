@@ -1,4 +1,5 @@
-ghost use Rattle.std.specs.Prelude.{◌≡◌, ◌≢◌, ◌≤◌, ◌<◌, ◌+◌, ◌*◌, ◌%◌, ℕ, List, [], length, slice_get, slice_index, None, IfOk, IfErr, OnOk, IfSome, is_err};
+ghost use Rattle.std.specs.Prelude.{◌≡◌, ◌≢◌, ◌≤◌, ◌<◌, ◌+◌, ◌*◌, ◌%◌, ℕ, List, [], length, slice_get, slice_index};
+ghost use Rattle.std.specs.Prelude.{None, IfOk, IfErr, OnOk, IfSome, is_err};
 ghost use Rattle.card_layout.specs.declared.files.TheConstants.{STRING_LEAST, STRING_MOST};
 ghost use Rattle.std.specs.List.{last_or};
 ghost use Rattle.tach_media.specs.Medium.{LeavesOnly, Reads, HasCause, LiesInside, IsSettled, last_count};
@@ -39,18 +40,20 @@ impl Model for Days {
 }
 
 impl Days {
-    /// The days of a range, which is the file Driver_Activity_Data. It writes nothing. `BadDays` comes exactly where the
-    /// string holds no list of days, with the place in the file where it first fails: the pointers; then of each day,
-    /// oldest first, its length, the length of the day before, its date, its counter and its words; and that the next
-    /// day begins at the newest pointer or before it.
+    /// The days of a range, which is the file Driver_Activity_Data. It writes nothing. `BadDays` comes exactly where
+    /// the string holds no list of days, with the place in the file where it first fails: the pointers; then of each
+    /// day, oldest first, its length, the length of the day before, its date, its counter and its words; and that the
+    /// next day begins at the newest pointer or before it.
     pub fn load<M: Medium>(medium: &mut M, range: Range) -> Result<Days, DaysFault>
         requires inside { range.base + range.len ≤ (M.state medium.old).size }
         requires even { range.len % 2 ≡ 0 }
         requires low { 4 + STRING_LEAST ≤ range.len }
         requires high { range.len ≤ 4 + STRING_MOST }
         ensures shape { IfOk result (λ days. days.shape ≡ shape_of range) }
-        ensures days { IfOk result (λ days. IfSome (M.state medium.old).image (λ x. Knows days x (days_of (shape_of range) x))) }
-        ensures bad { IfErr result (λ fault. IfBadDays fault (λ p. IfSome (M.state medium.old).image (λ x. first_bad (shape_of range) x ≡ Some p))) }
+        ensures days { IfOk result (λ days. IfSome (M.state medium.old).image (λ x. Knows days x
+            (days_of (shape_of range) x))) }
+        ensures bad { IfErr result (λ fault. IfBadDays fault (λ p. IfSome (M.state medium.old).image
+            (λ x. first_bad (shape_of range) x ≡ Some p))) }
         ensures place { IfErr result (λ fault. IfBadDays fault (λ p. p < range.len)) }
         ensures reads { Reads (M.state medium.old) (M.state medium.new) (has_failed result) }
     {
@@ -63,7 +66,8 @@ impl Days {
     /// nothing.
     pub fn tail(&self) -> Option<Tail>
         ensures tail { result ≡ tail_of self.now }
-        ensures newest { (x : List ℕ) (days : List Day) → Knows self.now x days → result ≡ tail_in self.now.shape x days }
+        ensures newest { (x : List ℕ) (days : List Day) → Knows self.now x days
+            → result ≡ tail_in self.now.shape x days }
     {
         if self.tail.used == 0 {
             return None;
@@ -74,7 +78,8 @@ impl Days {
     /// The head of the oldest day; `None` exactly where there is no day.
     pub fn first<M: Medium>(&self, medium: &mut M) -> Result<Option<DayHead>, Failed>
         requires fits { FileFitsIn self.now.shape (M.state medium.old) }
-        ensures first { IfOk result (λ o. IfSome (M.state medium.old).image (λ x. (days : List Day) → HoldsDays self.now.shape x days → o ≡ slice_get (heads_of self.now.shape x days) 0)) }
+        ensures first { IfOk result (λ o. IfSome (M.state medium.old).image (λ x. (days : List Day) → HoldsDays
+            self.now.shape x days → o ≡ slice_get (heads_of self.now.shape x days) 0)) }
         ensures place { IfOk result (λ o. IfSome o (λ h. h.place < self.now.shape.size)) }
         ensures reads { Reads (M.state medium.old) (M.state medium.new) (is_err result) }
     {
@@ -84,7 +89,8 @@ impl Days {
     /// The head of the newest day; `None` exactly where there is no day.
     pub fn last<M: Medium>(&self, medium: &mut M) -> Result<Option<DayHead>, Failed>
         requires fits { FileFitsIn self.now.shape (M.state medium.old) }
-        ensures last { IfOk result (λ o. IfSome (M.state medium.old).image (λ x. (days : List Day) → HoldsDays self.now.shape x days → o ≡ last_or None (heads_of self.now.shape x days))) }
+        ensures last { IfOk result (λ o. IfSome (M.state medium.old).image (λ x. (days : List Day) → HoldsDays
+            self.now.shape x days → o ≡ last_or None (heads_of self.now.shape x days))) }
         ensures place { IfOk result (λ o. IfSome o (λ h. h.place < self.now.shape.size)) }
         ensures reads { Reads (M.state medium.old) (M.state medium.new) (is_err result) }
     {
@@ -99,7 +105,8 @@ impl Days {
     ) -> Result<Option<DayHead>, Failed>
         requires fits { FileFitsIn self.now.shape (M.state medium.old) }
         requires place { head.now.place < 4 + self.now.shape.size }
-        ensures after { IfOk result (λ o. IfSome (M.state medium.old).image (λ x. IsAfter self.now.shape x head.now o)) }
+        ensures after { IfOk result (λ o. IfSome (M.state medium.old).image (λ x. IsAfter self.now.shape x head.now
+            o)) }
         ensures place { IfOk result (λ o. IfSome o (λ h. h.place < self.now.shape.size)) }
         ensures reads { Reads (M.state medium.old) (M.state medium.new) (is_err result) }
     {
@@ -115,7 +122,8 @@ impl Days {
     ) -> Result<Option<DayHead>, Failed>
         requires fits { FileFitsIn self.now.shape (M.state medium.old) }
         requires place { head.now.place < 4 + self.now.shape.size }
-        ensures before { IfOk result (λ o. IfSome (M.state medium.old).image (λ x. IsBefore self.now.shape x head.now o)) }
+        ensures before { IfOk result (λ o. IfSome (M.state medium.old).image (λ x. IsBefore self.now.shape x head.now
+            o)) }
         ensures place { IfOk result (λ o. IfSome o (λ h. h.place < self.now.shape.size)) }
         ensures reads { Reads (M.state medium.old) (M.state medium.new) (is_err result) }
     {
@@ -127,7 +135,8 @@ impl Days {
         requires fits { FileFitsIn self.now.shape (M.state medium.old) }
         requires place { head.now.place < 4 + self.now.shape.size }
         requires there { index < head.now.words }
-        ensures word { IfOk result (λ w. IfSome (M.state medium.old).image (λ x. (d : Day) → IsAt self.now.shape x head.now.place d → index < length d.words → w ≡ slice_index d.words index)) }
+        ensures word { IfOk result (λ w. IfSome (M.state medium.old).image (λ x. (d : Day) → IsAt self.now.shape x
+            head.now.place d → index < length d.words → w ≡ slice_index d.words index)) }
         ensures reads { Reads (M.state medium.old) (M.state medium.new) (is_err result) }
     {
         self.circle.word(medium, head, index)

@@ -1,10 +1,14 @@
-ghost use Rattle.std.specs.Prelude.{◌≡◌, ◌≤◌, ◌<◌, ◌+◌, ◌*◌, ◌%◌, Some, None, true, drop, IfOk, IfErr, IfSome, IfNone, OnOk, is_err, ◌&&◌, nat_le, nat_lt};
+ghost use Rattle.std.specs.Prelude.{◌≡◌, ◌≤◌, ◌<◌, ◌+◌, ◌*◌, ◌%◌, Some, None, true, drop, IfOk, IfErr, IfSome, IfNone};
+ghost use Rattle.std.specs.Prelude.{OnOk, is_err, ◌&&◌, nat_le, nat_lt};
 ghost use Rattle.card_model.specs.declared.lengths.TheConstants.{DAY_LEAST, DAY_MOST, DAYS_MOST};
 ghost use Rattle.card_layout.specs.declared.files.TheConstants.{STRING_LEAST, STRING_MOST};
 ghost use Rattle.tach_media.specs.Medium.{Reads};
-ghost use Rattle.card_model.specs.Image.{StringShape, IsStringShape, IsPointer, HoldsDays, spot, turned, string_of, oldest_pointer, newest_pointer, circle_of, IsPlace};
+ghost use Rattle.card_model.specs.Image.{StringShape, IsStringShape, IsPointer, HoldsDays, spot, turned, string_of};
+ghost use Rattle.card_model.specs.Image.{oldest_pointer, newest_pointer, circle_of, IsPlace};
 ghost use Rattle.card_model.specs.Walk.{words_of, days_of};
-ghost use Rattle.card_model.specs.Checks.{first_failing, first_bad, is_pointer, is_len, is_previous, is_date, is_decimal, field_checks, word_checks, record_checks, day_checks, file_place, is_empty};
+ghost use Rattle.card_model.specs.Checks.{first_failing, first_bad, is_pointer, is_len, is_previous, is_date};
+ghost use Rattle.card_model.specs.Checks.{is_decimal, field_checks, word_checks, record_checks, day_checks, file_place};
+ghost use Rattle.card_model.specs.Checks.{is_empty};
 ghost use Rattle.card_days.specs.Moments.{FileFitsIn};
 ghost use Rattle.card_days.specs.Loading.{shape_of, IfBadDays, has_failed, ArePairs, IsRecord, FailsAt};
 
@@ -32,9 +36,12 @@ impl Circle {
         requires below { so_far < self.now.size }
         requires even { so_far % 2 ≡ 0 }
         requires shape { IsStringShape self.now }
-        ensures first { result ≡ first_failing (field_checks self.now.size so_far before date head.now.previous head.now.len head.now.date head.now.counter) }
+        ensures first { result ≡ first_failing
+            (field_checks self.now.size so_far before date head.now.previous head.now.len head.now.date
+            head.now.counter) }
         ensures offset { IfSome result (λ k. (k % 2 ≡ 0) × (so_far + k ≤ self.now.size)) }
-        ensures len { IfNone result ((head.now.len % 2 ≡ 0) × (DAY_LEAST ≤ head.now.len) × (head.now.len ≤ DAY_MOST) × (so_far + head.now.len ≤ self.now.size)) }
+        ensures len { IfNone result ((head.now.len % 2 ≡ 0) × (DAY_LEAST ≤ head.now.len) × (head.now.len ≤ DAY_MOST)
+            × (so_far + head.now.len ≤ self.now.size)) }
     {
         if !self.is_len(so_far, head.len as u32) {
             return Some(2);
@@ -63,8 +70,10 @@ impl Circle {
         requires pointer { IsPointer self.now.size place }
         requires few { count ≤ 1440 }
         requires shape { IsStringShape self.now }
-        ensures first { IfOk result (λ o. IfSome (M.state medium.old).image (λ x. o ≡ first_failing (word_checks 12 0 1 (words_of count (drop 12 (turned place (string_of self.now x))))))) }
-        ensures spelled { IfOk result (λ o. IfSome (M.state medium.old).image (λ x. o ≡ None → ArePairs count (drop 12 (turned place (string_of self.now x))))) }
+        ensures first { IfOk result (λ o. IfSome (M.state medium.old).image (λ x. o ≡ first_failing
+            (word_checks 12 0 1 (words_of count (drop 12 (turned place (string_of self.now x))))))) }
+        ensures spelled { IfOk result (λ o. IfSome (M.state medium.old).image
+            (λ x. o ≡ None → ArePairs count (drop 12 (turned place (string_of self.now x))))) }
         ensures offset { IfOk result (λ o. IfSome o (λ k. (k % 2 ≡ 0) × (k < 12 + 2 * count))) }
         ensures reads { Reads (M.state medium.old) (M.state medium.new) (is_err result) }
     {
@@ -111,9 +120,13 @@ impl Circle {
         requires below { so_far < self.now.size }
         requires even { so_far % 2 ≡ 0 }
         ensures shape { IsStringShape self.now }
-        ensures record { IfOk result (λ h. IfSome (M.state medium.old).image (λ x. IsRecord self.now.size so_far before date (turned (spot self.now.size oldest so_far) (string_of self.now x)) h)) }
-        ensures len { IfOk result (λ h. (h.len % 2 ≡ 0) × (DAY_LEAST ≤ h.len) × (h.len ≤ DAY_MOST) × (so_far + h.len ≤ self.now.size)) }
-        ensures bad { IfErr result (λ fault. IfBadDays fault (λ p. IfSome (M.state medium.old).image (λ x. FailsAt self.now.size oldest so_far before date (turned (spot self.now.size oldest so_far) (string_of self.now x)) p))) }
+        ensures record { IfOk result (λ h. IfSome (M.state medium.old).image (λ x. IsRecord self.now.size so_far before
+            date (turned (spot self.now.size oldest so_far) (string_of self.now x)) h)) }
+        ensures len { IfOk result (λ h. (h.len % 2 ≡ 0) × (DAY_LEAST ≤ h.len) × (h.len ≤ DAY_MOST)
+            × (so_far + h.len ≤ self.now.size)) }
+        ensures bad { IfErr result (λ fault. IfBadDays fault (λ p. IfSome (M.state medium.old).image
+            (λ x. FailsAt self.now.size oldest so_far before date
+            (turned (spot self.now.size oldest so_far) (string_of self.now x)) p))) }
         ensures place { IfErr result (λ fault. IfBadDays fault (λ p. p < 4 + self.now.size)) }
         ensures reads { Reads (M.state medium.old) (M.state medium.new) (has_failed result) }
     {
@@ -141,8 +154,13 @@ impl Circle {
         requires pointer { IsPointer self.now.size oldest }
         requires below { reach < self.now.size }
         ensures shape { IsStringShape self.now }
-        ensures days { OnOk result (IfSome (M.state medium.old).image (λ x. oldest ≡ oldest_pointer self.now x → IsPointer self.now.size (newest_pointer self.now x) → IsPlace self.now.size oldest reach (newest_pointer self.now x) → HoldsDays self.now x (days_of self.now x))) }
-        ensures bad { IfErr result (λ fault. IfBadDays fault (λ p. IfSome (M.state medium.old).image (λ x. oldest ≡ oldest_pointer self.now x → first_failing (day_checks DAYS_MOST self.now.size oldest reach 0 0 0 (circle_of self.now x)) ≡ Some p))) }
+        ensures days { OnOk result (IfSome (M.state medium.old).image
+            (λ x. oldest ≡ oldest_pointer self.now x → IsPointer self.now.size (newest_pointer self.now x)
+            → IsPlace self.now.size oldest reach (newest_pointer self.now x)
+            → HoldsDays self.now x (days_of self.now x))) }
+        ensures bad { IfErr result (λ fault. IfBadDays fault (λ p. IfSome (M.state medium.old).image
+            (λ x. oldest ≡ oldest_pointer self.now x
+            → first_failing (day_checks DAYS_MOST self.now.size oldest reach 0 0 0 (circle_of self.now x)) ≡ Some p))) }
         ensures place { IfErr result (λ fault. IfBadDays fault (λ p. p < 4 + self.now.size)) }
         ensures reads { Reads (M.state medium.old) (M.state medium.new) (has_failed result) }
     {
@@ -170,7 +188,8 @@ impl Circle {
         requires fits { FileFitsIn self.now (M.state medium.old) }
         requires pointer { IsPointer self.now.size oldest }
         requires shape { IsStringShape self.now }
-        ensures empty { IfOk result (λ b. IfSome (M.state medium.old).image (λ x. oldest ≡ oldest_pointer self.now x → newest ≡ newest_pointer self.now x → b ≡ is_empty self.now x)) }
+        ensures empty { IfOk result (λ b. IfSome (M.state medium.old).image (λ x. oldest ≡ oldest_pointer self.now x
+            → newest ≡ newest_pointer self.now x → b ≡ is_empty self.now x)) }
         ensures reads { Reads (M.state medium.old) (M.state medium.new) (is_err result) }
     {
         if oldest != newest {
@@ -197,8 +216,10 @@ impl Circle {
         requires low { 4 + STRING_LEAST ≤ range.len }
         requires high { range.len ≤ 4 + STRING_MOST }
         ensures shape { IfOk result (λ days. days ≡ shape_of range) }
-        ensures days { OnOk result (IfSome (M.state medium.old).image (λ x. HoldsDays (shape_of range) x (days_of (shape_of range) x))) }
-        ensures bad { IfErr result (λ fault. IfBadDays fault (λ p. IfSome (M.state medium.old).image (λ x. first_bad (shape_of range) x ≡ Some p))) }
+        ensures days { OnOk result (IfSome (M.state medium.old).image
+            (λ x. HoldsDays (shape_of range) x (days_of (shape_of range) x))) }
+        ensures bad { IfErr result (λ fault. IfBadDays fault (λ p. IfSome (M.state medium.old).image
+            (λ x. first_bad (shape_of range) x ≡ Some p))) }
         ensures place { IfErr result (λ fault. IfBadDays fault (λ p. p < range.len)) }
         ensures reads { Reads (M.state medium.old) (M.state medium.new) (has_failed result) }
     {

@@ -60,7 +60,8 @@ impl Rear {
 }
 
 impl Circle {
-    // Where a block begins that has the twelve bytes at a place, unless they break over the end: as far before it as it can.
+    // Where a block begins that has the twelve bytes at a place, unless they break over the end: as far before it as it
+    // can.
     fn block_place(&self, place: u32) -> u32
         requires shape { IsStringShape self.now }
         requires pointer { IsPointer self.now.size place }
@@ -130,8 +131,10 @@ impl Circle {
         requires start { IsPointer self.now.size oldest }
         requires end { IsPointer self.now.size newest }
         requires inside { block.place + BLOCK ≤ self.now.size }
-        requires oldest { IfSome (M.state medium.old).image (λ x. IsPointer self.now.size (oldest_pointer self.now x) → oldest ≡ oldest_pointer self.now x) }
-        requires newest { IfSome (M.state medium.old).image (λ x. IsPointer self.now.size (newest_pointer self.now x) → newest ≡ newest_pointer self.now x) }
+        requires oldest { IfSome (M.state medium.old).image
+            (λ x. IsPointer self.now.size (oldest_pointer self.now x) → oldest ≡ oldest_pointer self.now x) }
+        requires newest { IfSome (M.state medium.old).image
+            (λ x. IsPointer self.now.size (newest_pointer self.now x) → newest ≡ newest_pointer self.now x) }
         requires bytes { IfSome (M.state medium.old).image (IsBlock self.now block) }
         ensures lies { IfOk result (LiesOn self.now) }
         ensures known { IfOk result (λ v. IfSome (M.state medium.new).image (IsRear self.now v)) }

@@ -15,7 +15,8 @@ impl Circle {
     pub(crate) fn tail<M: Medium>(&self, medium: &mut M) -> Result<Tail, Failed>
         requires fits { FileFitsIn self.now (M.state medium.old) }
         ensures held { IfOk result (λ t. IsInBounds (record { shape = self.now; tail = t })) }
-        ensures knows { IfOk result (λ t. IfSome (M.state medium.old).image (λ x. (days : List Day) → HoldsDays self.now x days → Knows (record { shape = self.now; tail = t }) x days)) }
+        ensures knows { IfOk result (λ t. IfSome (M.state medium.old).image (λ x. (days : List Day) → HoldsDays self.now
+            x days → Knows (record { shape = self.now; tail = t }) x days)) }
         ensures reads { Reads (M.state medium.old) (M.state medium.new) (is_err result) }
     {
         let oldest = self.oldest(medium)?;

@@ -1,4 +1,5 @@
-ghost use Rattle.std.specs.Prelude.{◌≡◌, ◌≤◌, ◌<◌, ◌+◌, List, length, slice_get, slice_index, None, IfOk, OnOk, IfSome, is_err};
+ghost use Rattle.std.specs.Prelude.{◌≡◌, ◌≤◌, ◌<◌, ◌+◌, List, length, slice_get, slice_index, None, IfOk, OnOk, IfSome};
+ghost use Rattle.std.specs.Prelude.{is_err};
 ghost use Rattle.std.specs.List.{last_or};
 ghost use Rattle.tach_media.specs.Medium.{Reads};
 ghost use Rattle.card_model.specs.Days.{Day};
@@ -14,7 +15,8 @@ impl Circle {
     // The head of the oldest day; `None` exactly where there is no day.
     pub(crate) fn first<M: Medium>(&self, medium: &mut M) -> Result<Option<DayHead>, Failed>
         requires fits { FileFitsIn self.now (M.state medium.old) }
-        ensures first { IfOk result (λ o. IfSome (M.state medium.old).image (λ x. (days : List Day) → HoldsDays self.now x days → o ≡ slice_get (heads_of self.now x days) 0)) }
+        ensures first { IfOk result (λ o. IfSome (M.state medium.old).image (λ x. (days : List Day) → HoldsDays self.now
+            x days → o ≡ slice_get (heads_of self.now x days) 0)) }
         ensures place { IfOk result (λ o. IfSome o (λ h. h.place < self.now.size)) }
         ensures reads { Reads (M.state medium.old) (M.state medium.new) (is_err result) }
     {
@@ -25,7 +27,8 @@ impl Circle {
     // The head of the newest day; `None` exactly where there is no day.
     pub(crate) fn last<M: Medium>(&self, medium: &mut M) -> Result<Option<DayHead>, Failed>
         requires fits { FileFitsIn self.now (M.state medium.old) }
-        ensures last { IfOk result (λ o. IfSome (M.state medium.old).image (λ x. (days : List Day) → HoldsDays self.now x days → o ≡ last_or None (heads_of self.now x days))) }
+        ensures last { IfOk result (λ o. IfSome (M.state medium.old).image (λ x. (days : List Day) → HoldsDays self.now
+            x days → o ≡ last_or None (heads_of self.now x days))) }
         ensures place { IfOk result (λ o. IfSome o (λ h. h.place < self.now.size)) }
         ensures reads { Reads (M.state medium.old) (M.state medium.new) (is_err result) }
     {
@@ -84,7 +87,8 @@ impl Circle {
         requires fits { FileFitsIn self.now (M.state medium.old) }
         requires place { head.now.place < 4 + self.now.size }
         requires there { index < head.now.words }
-        ensures word { IfOk result (λ w. IfSome (M.state medium.old).image (λ x. (d : Day) → IsAt self.now x head.now.place d → index < length d.words → w ≡ slice_index d.words index)) }
+        ensures word { IfOk result (λ w. IfSome (M.state medium.old).image (λ x. (d : Day) → IsAt self.now x
+            head.now.place d → index < length d.words → w ≡ slice_index d.words index)) }
         ensures reads { Reads (M.state medium.old) (M.state medium.new) (is_err result) }
     {
         let place = self.pointer(head.place);

@@ -15,7 +15,8 @@ abbrev pub Copies : {T : Type 0} → Result T CopyFault → List ℕ → (held s
 Copies (Ok done) bytes held sunk = Appends held sunk bytes
 Copies (Err fault) bytes held sunk = AppendsFront held sunk bytes
 
--- the sink's count of faults has not fallen, and it has risen, or stands at its last value, where the sink is told to have failed
+-- the sink's count of faults has not fallen, and it has risen, or stands at its last value, where the sink is told to
+-- have failed
 pub record CountsWrites {T : Type 0} (result : Result T CopyFault) (before now : ℕ) : Type 0 where
   pub later : before ≤ now
   pub wrote : IsErrOf result WriteFault → Rose before now

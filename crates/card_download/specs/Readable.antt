@@ -14,7 +14,8 @@ use Rattle.card_download.specs.Written.{bad_field}
 abbrev pub HasAllFiles : List ℕ → Type 0
 HasAllFiles x = image_size_of (own_sizes x) ≤ length x
 
--- its card file can be viewed: its sizes are in their ranges, its string of days decodes, and the pointer of its vehicles is an index
+-- its card file can be viewed: its sizes are in their ranges, its string of days decodes, and the pointer of its
+-- vehicles is an index
 pub record IsReadable (x : List ℕ) : Type 0 where
   pub sizes : bad_field x ≡ None
   pub days : first_bad (day_string (own_sizes x)) x ≡ None

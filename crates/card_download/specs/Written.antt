@@ -16,8 +16,8 @@ file_of x = card_file (own_sizes x) x
 abbrev pub bad_field : List ℕ → Option ℕ
 bad_field x = first_bad_field (application_in x)
 
--- What the sink has gained of a card with this image. Its sizes are in their ranges where the file is written, or begun; a field
--- that is named is the first that is not, and then nothing was written.
+-- What the sink has gained of a card with this image. Its sizes are in their ranges where the file is written, or
+-- begun; a field that is named is the first that is not, and then nothing was written.
 abbrev pub Writes : {T : Type 0} → Result T CardFileFault → List ℕ → (held sunk : Option (List ℕ)) → Type 0
 Writes (Ok done) x held sunk = (bad_field x ≡ None) × Appends held sunk (file_of x)
 Writes (Err WriteFault) x held sunk = (bad_field x ≡ None) × AppendsFront held sunk (file_of x)

@@ -10,14 +10,14 @@ use card_commands::{Port, read_sizes};
 use card_layout::LARGEST_IMAGE;
 use tach_media::{Chip, Sink};
 
-/// Reads a card by its commands, and writes its card file to a sink (Appendix 7, 3.4): all files but Card_Download, in their order,
-/// with no signature (the order, and that there is none: profile). The card is read, and never written.
+/// Reads a card by its commands, and writes its card file to a sink (Appendix 7, 3.4): all files but Card_Download, in
+/// their order, with no signature (the order, and that there is none: profile). The card is read, and never written.
 ///
 /// # Errors
 ///
-/// `BadApplication` exactly where a field of Application_Identification is out of its range, with the number of the first; nothing
-/// was written then. `Failed` only where a call on the card failed, and `WriteFault` only where the sink failed, after a front of
-/// the card file.
+/// `BadApplication` exactly where a field of Application_Identification is out of its range, with the number of the
+/// first; nothing was written then. `Failed` only where a call on the card failed, and `WriteFault` only where the sink
+/// failed, after a front of the card file.
 pub fn write_card_file<C: Chip, K: Sink>(card: &mut C, sink: &mut K) -> Result<(), CardFileFault>
     requires { LARGEST_IMAGE ≤ (C.state card.old).size }
     ensures writes { IfSome (C.state card.old).image (λ x. Writes result x (K.held sink.old) (K.held sink.new)) }

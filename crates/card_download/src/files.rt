@@ -32,7 +32,8 @@ pub fn copy_files<M: Medium, K: Sink>(
     requires good { IsApplication app.now }
     requires size { image_size_of app.now ≤ (M.state medium.old).size }
     requires works { (M.state medium.old).works ≡ true }
-    ensures copies { IfSome (M.state medium.old).image (λ x. Copies result (card_file app.now x) (K.held sink.old) (K.held sink.new)) }
+    ensures copies { IfSome (M.state medium.old).image
+        (λ x. Copies result (card_file app.now x) (K.held sink.old) (K.held sink.new)) }
     ensures counts { CountsWrites result (K.faults sink.old) (K.faults sink.new) }
     ensures reads { Reads (M.state medium.old) (M.state medium.new) (copy_failed result) }
 {
@@ -52,7 +53,8 @@ fn copy_file<M: Medium, K: Sink>(
     requires good { IsApplication app.now }
     requires size { image_size_of app.now ≤ (M.state medium.old).size }
     requires works { (M.state medium.old).works ≡ true }
-    ensures copies { IfSome (M.state medium.old).image (λ x. Copies result (file_part app.now x file) (K.held sink.old) (K.held sink.new)) }
+    ensures copies { IfSome (M.state medium.old).image
+        (λ x. Copies result (file_part app.now x file) (K.held sink.old) (K.held sink.new)) }
     ensures counts { CountsWrites result (K.faults sink.old) (K.faults sink.new) }
     ensures reads { Reads (M.state medium.old) (M.state medium.new) (copy_failed result) }
 {
@@ -95,7 +97,8 @@ fn copy_range<M: Medium, K: Sink>(
     requires inside { range.base + range.len ≤ (M.state medium.old).size }
     requires short { range.base + range.len < 2 ^ 32 }
     requires works { (M.state medium.old).works ≡ true }
-    ensures copies { IfSome (M.state medium.old).image (λ x. Copies result (bytes_at x range.base range.len) (K.held sink.old) (K.held sink.new)) }
+    ensures copies { IfSome (M.state medium.old).image
+        (λ x. Copies result (bytes_at x range.base range.len) (K.held sink.old) (K.held sink.new)) }
     ensures counts { CountsWrites result (K.faults sink.old) (K.faults sink.new) }
     ensures reads { Reads (M.state medium.old) (M.state medium.new) (copy_failed result) }
 {
@@ -117,7 +120,8 @@ fn copy_block<M: Medium, K: Sink>(
 ) -> Result<(), CopyFault>
     requires few { len ≤ BLOCK }
     requires inside { place + len ≤ (M.state medium.old).size }
-    ensures copies { IfSome (M.state medium.old).image (λ x. Copies result (bytes_at x place len) (K.held sink.old) (K.held sink.new)) }
+    ensures copies { IfSome (M.state medium.old).image
+        (λ x. Copies result (bytes_at x place len) (K.held sink.old) (K.held sink.new)) }
     ensures counts { CountsWrites result (K.faults sink.old) (K.faults sink.new) }
     ensures reads { Reads (M.state medium.old) (M.state medium.new) (copy_failed result) }
 {

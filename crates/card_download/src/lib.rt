@@ -1,5 +1,5 @@
-//! The download of a driver card (Annex IB, Appendix 7, 3.4): the files of a card are read by its commands, and written to a sink
-//! as a card file. It takes no memory from the heap, and writes nothing to the card.
+//! The download of a driver card (Annex IB, Appendix 7, 3.4): the files of a card are read by its commands, and written
+//! to a sink as a card file. It takes no memory from the heap, and writes nothing to the card.
 #![tactic(auto)]
 
 mod card;

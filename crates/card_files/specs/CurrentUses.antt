@@ -12,4 +12,7 @@ current_use_bytes v = joined (time_bytes v.session ∷ v.registration.0 ∷ [])
 
 unfoldable pub current_use_of : List ℕ → CurrentUse
 current_use_of bytes =
-    record { session = time_of (field_at current_use_widths 0 bytes); registration = record { 0 = field_at current_use_widths 1 bytes } }
+    record {
+      session = time_of (field_at current_use_widths 0 bytes);
+      registration = record { 0 = field_at current_use_widths 1 bytes };
+    }

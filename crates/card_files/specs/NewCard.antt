@@ -15,7 +15,8 @@ blank_name = 1 ∷ replicate 35 32
 -- issue and begin of validity 2009-01-01 00:00:00, expiry 2013-12-31 23:59:59
 abbrev pub validity_bytes : List ℕ
 validity_bytes =
-    joined (time_bytes (record { 0 = 1_230_768_000 }) ∷ time_bytes (record { 0 = 1_230_768_000 }) ∷ time_bytes (record { 0 = 1_388_534_399 }) ∷ [])
+    joined (time_bytes (record { 0 = 1_230_768_000 }) ∷ time_bytes (record { 0 = 1_230_768_000 })
+    ∷ time_bytes (record { 0 = 1_388_534_399 }) ∷ [])
 
 -- Identification: issuing state, card number, authority, issue, begin of validity and expiry, surname, first names,
 -- birth date 1970-01-01 in decimal digits, language

@@ -20,8 +20,8 @@ pub record IsEvent (kind begin : ℕ) (bytes : List ℕ) : Type 0 where
 abbrev pub HoldsEvent : Application → (kind begin : ℕ) → List ℕ → Type 0
 HoldsEvent app kind begin x = (i : ℕ) × (i < app.events) × IsEvent kind begin (entry_at (event_ring app kind) x i)
 
--- The place that a new entry takes in a ring without a pointer: an empty one, of which the gate is 0, else that of the earliest
--- entry; of several the lowest.
+-- The place that a new entry takes in a ring without a pointer: an empty one, of which the gate is 0, else that of the
+-- earliest entry; of several the lowest.
 abbrev pub TakesPlace : Shape → List ℕ → ℕ → Type 0
 TakesPlace r x i = IsEarliest r.count (λ j. number_at x (gate_of r j) 4) i
 

@@ -1,4 +1,5 @@
--- The rings of a card's files (Appendix 1 and Appendix 2, section 4): vehicle entries, place entries, and of each type the events.
+-- The rings of a card's files (Appendix 1 and Appendix 2, section 4): vehicle entries, place entries, and of each type
+-- the events.
 use Rattle.std.specs.Prelude.{ℕ, ◌+◌, ◌*◌, ◌==◌, if◌then◌else◌, take}
 use Rattle.card_layout.specs.Fields.{total_width}
 use Rattle.card_layout.specs.declared.files.Application.{Application}
@@ -26,10 +27,16 @@ vehicle_ring app =
 
 -- the place entries, in Places: an entry's gate is its time, its first field
 abbrev pub place_ring : Application → Shape
-place_ring app = record { base = place_of app (file 0x0506); width = total_width place_widths; count = app.places; pointer_width = 1; gate = 0 }
+place_ring app = record {
+  base = place_of app (file 0x0506);
+  width = total_width place_widths;
+  count = app.places;
+  pointer_width = 1;
+  gate = 0;
+}
 
--- The sets of Events_Data in their order: time overlap 03, insertion while driving 05, last session not correctly closed 06, power
--- supply interruption 08, motion data error 09, and behind them the security breach attempts.
+-- The sets of Events_Data in their order: time overlap 03, insertion while driving 05, last session not correctly
+-- closed 06, power supply interruption 08, motion data error 09, and behind them the security breach attempts.
 abbrev pub set_of : ℕ → ℕ
 set_of kind =
     if kind == 3 then 0

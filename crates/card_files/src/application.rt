@@ -20,7 +20,8 @@ pub fn read_application(b: &[u8]) -> Result<Application, BadApplication>
 
     // Writing what was read gives the bytes, and reading what was written gives the sizes.
     ensures bytes { IfOk result (λ app. application_bytes app ≡ b.now) }
-    ensures reads_back { (app : Application) → app.structure < 2 ^ 16 → IsApplication app → b.now ≡ application_bytes app → result ≡ Ok app }
+    ensures reads_back { (app : Application) → app.structure < 2 ^ 16 → IsApplication app
+        → b.now ≡ application_bytes app → result ≡ Ok app }
 {
     judged(b)
 }

@@ -1,5 +1,6 @@
 //! Events_Data: a set of events of each type.
-ghost use Rattle.std.specs.Prelude.{◌≡◌, ◌≢◌, ◌≤◌, ◌<◌, ◌+◌, ◌*◌, ◌||◌, ◌==◌, ◌↔◌, length, IsTrue, IfOk, IfSome, OnOk, is_err};
+ghost use Rattle.std.specs.Prelude.{◌≡◌, ◌≢◌, ◌≤◌, ◌<◌, ◌+◌, ◌*◌, ◌||◌, ◌==◌, ◌↔◌, length, IsTrue, IfOk, IfSome, OnOk};
+ghost use Rattle.std.specs.Prelude.{is_err};
 ghost use Rattle.card_layout.specs.Application.{IsApplication};
 ghost use Rattle.card_layout.specs.Files.{place_of, size_of, image_size_of};
 ghost use Rattle.tach_media.specs.Medium.{Reads, LeavesOnly, LiesInside, HasCause, IsSettled, last_count, bytes_at};
@@ -72,7 +73,8 @@ pub fn has_event<M: Medium>(
 ) -> Result<bool, Failed>
     requires sizes { IsApplication app.now }
     requires fits { image_size_of app.now ≤ (M.state medium.old).size }
-    ensures there { IfOk result (λ there. IfSome (M.state medium.old).image (λ x. IsTrue there ↔ HoldsEvent app.now kind begin.0 x)) }
+    ensures there { IfOk result (λ there. IfSome (M.state medium.old).image (λ x. IsTrue there ↔ HoldsEvent app.now kind
+        begin.0 x)) }
     ensures reads { Reads (M.state medium.old) (M.state medium.new) (is_err result) }
 {
     let mut room = [0; MOST_BYTES];
@@ -86,7 +88,8 @@ pub fn has_event<M: Medium>(
 fn choose<M: Medium>(medium: &mut M, app: &Application, kind: u8) -> Result<u32, Failed>
     requires sizes { IsApplication app.now }
     requires fits { image_size_of app.now ≤ (M.state medium.old).size }
-    ensures takes { IfOk result (λ i. IfSome (M.state medium.old).image (λ x. TakesPlace (event_ring app.now kind) x i)) }
+    ensures takes { IfOk result (λ i. IfSome (M.state medium.old).image (λ x. TakesPlace (event_ring app.now kind) x
+        i)) }
     ensures below { IfOk result (λ i. i < app.now.events) }
     ensures reads { Reads (M.state medium.old) (M.state medium.new) (is_err result) }
 {
@@ -97,8 +100,9 @@ fn choose<M: Medium>(medium: &mut M, app: &Application, kind: u8) -> Result<u32,
     Ok(earliest(set, count))
 }
 
-/// Notes an event in the set of its type: in an empty place, else in that of the earliest begin, then the lowest (profile).
-/// A stop at a moment of the call leaves that place as it was, empty, or with the event; every other byte of the card stays.
+/// Notes an event in the set of its type: in an empty place, else in that of the earliest begin, then the lowest
+/// (profile). A stop at a moment of the call leaves that place as it was, empty, or with the event; every other byte of
+/// the card stays.
 ///
 /// # Errors
 ///
@@ -110,10 +114,12 @@ pub fn note_event<M: Medium>(
 ) -> Result<(), Failed>
     requires sizes { IsApplication app.now }
     requires fits { image_size_of app.now ≤ (M.state medium.old).size }
-    requires writable { LiesInside (M.state medium.old).writable (place_of app.now (file 0x0502)) (size_of app.now (file 0x0502)) }
+    requires writable { LiesInside (M.state medium.old).writable (place_of app.now (file 0x0502))
+        (size_of app.now (file 0x0502)) }
     requires kind { IsTrue (event.now.kind == 5 || event.now.kind == 6 || event.now.kind == 8) }
     requires begin { event.now.begin.0 ≢ 0 }
-    ensures noted { OnOk result (IfSome (M.state medium.old).image (λ x. IfSome (M.state medium.new).image (IsEventNoted app.now event.now x))) }
+    ensures noted { OnOk result (IfSome (M.state medium.old).image
+        (λ x. IfSome (M.state medium.new).image (IsEventNoted app.now event.now x))) }
     ensures moments { LeavesOnly (M.state medium.old) (M.state medium.new) (IsNotingEvent app.now event.now) }
     ensures settled { OnOk result ((M.state medium.new).clock < last_count → IsSettled (M.state medium.new)) }
     ensures cause { HasCause (M.state medium.old) (M.state medium.new) (is_err result) }

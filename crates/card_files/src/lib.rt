@@ -1,9 +1,9 @@
 //! The files of a driver card (Annex IB, Appendix 2, section 4): where they stand in the card's flat image, how
 //! Application_Identification is read, and the image of a new card.
 //!
-//! The entries of a driver card's files (Annex IB, Appendix 1) as values and as bytes: reading what was written gives the
-//! value, and writing what was read gives the bytes. And the rings in which they stand on a card: its vehicles, its places,
-//! and the events of each type, of which the earliest makes room for a new one.
+//! The entries of a driver card's files (Annex IB, Appendix 1) as values and as bytes: reading what was written gives
+//! the value, and writing what was read gives the bytes. And the rings in which they stand on a card: its vehicles, its
+//! places, and the events of each type, of which the earliest makes room for a new one.
 #![tactic(auto)]
 
 // files and a new card

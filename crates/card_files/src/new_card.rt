@@ -1,5 +1,6 @@
 //! The flat image of a new card, as its maker issues it.
-ghost use Rattle.std.specs.Prelude.{◌≡◌, ◌+◌, ◌^◌, ◌<◌, ◌++◌, length, replicate, IfOk, OnOk, vec_len, slice_range, Some};
+ghost use Rattle.std.specs.Prelude.{◌≡◌, ◌+◌, ◌^◌, ◌<◌, ◌++◌, length, replicate, IfOk, OnOk, vec_len, slice_range};
+ghost use Rattle.std.specs.Prelude.{Some};
 ghost use Rattle.card_files.specs.declared.new_card.TheConstants.{IDENTIFICATION_SIZE};
 ghost use Rattle.byteorder.specs.Endian.{big_bytes};
 ghost use Rattle.card_layout.specs.Application.{application_bytes};

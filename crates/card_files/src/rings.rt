@@ -35,7 +35,8 @@ pub fn vehicles<M: Medium>(medium: &mut M, app: &Application) -> Result<Ring, Ri
     requires fits { image_size_of app.now ≤ (M.state medium.old).size }
     ensures ring { IfOk result (λ ring. ring ≡ vehicle_ring app.now) }
     ensures known { IfOk result (λ ring. IfSome (M.state medium.old).image (PointsInside ring)) }
-    ensures bad { IfErr result (λ fault. IfBadPointer fault (λ v. (app.now.vehicles ≤ v) × IfSome (M.state medium.old).image (λ x. pointer (vehicle_ring app.now) x ≡ v))) }
+    ensures bad { IfErr result (λ fault. IfBadPointer fault (λ v. (app.now.vehicles ≤ v) × IfSome
+        (M.state medium.old).image (λ x. pointer (vehicle_ring app.now) x ≡ v))) }
     ensures reads { Reads (M.state medium.old) (M.state medium.new) (has_failed result) }
 {
     let file = file_of(app, Fid::VEHICLES);
@@ -61,7 +62,8 @@ pub fn places<M: Medium>(medium: &mut M, app: &Application) -> Result<Ring, Ring
     requires fits { image_size_of app.now ≤ (M.state medium.old).size }
     ensures ring { IfOk result (λ ring. ring ≡ place_ring app.now) }
     ensures known { IfOk result (λ ring. IfSome (M.state medium.old).image (PointsInside ring)) }
-    ensures bad { IfErr result (λ fault. IfBadPointer fault (λ v. (app.now.places ≤ v) × IfSome (M.state medium.old).image (λ x. pointer (place_ring app.now) x ≡ v))) }
+    ensures bad { IfErr result (λ fault. IfBadPointer fault (λ v. (app.now.places ≤ v) × IfSome
+        (M.state medium.old).image (λ x. pointer (place_ring app.now) x ≡ v))) }
     ensures reads { Reads (M.state medium.old) (M.state medium.new) (has_failed result) }
 {
     let file = file_of(app, Fid::PLACES);
@@ -76,8 +78,8 @@ pub fn places<M: Medium>(medium: &mut M, app: &Application) -> Result<Ring, Ring
     )
 }
 
-/// Adds a place entry, the newest of its ring. Where the pointer of Places is not an index it writes nothing: such a card
-/// is not valid.
+/// Adds a place entry, the newest of its ring. Where the pointer of Places is not an index it writes nothing: such a
+/// card is not valid.
 ///
 /// # Errors
 ///
@@ -89,13 +91,20 @@ pub fn note_place<M: Medium>(
 ) -> Result<(), Failed>
     requires sizes { IsApplication app.now }
     requires fits { image_size_of app.now ≤ (M.state medium.old).size }
-    requires writable { LiesInside (M.state medium.old).writable (place_of app.now (file 0x0506)) (size_of app.now (file 0x0506)) }
+    requires writable { LiesInside (M.state medium.old).writable (place_of app.now (file 0x0506))
+        (size_of app.now (file 0x0506)) }
     requires time { entry.now.time.0 ≢ 0 }
     requires odometer { entry.now.odometer.0 < 2 ^ 24 }
-    ensures noted { OnOk result (IfSome (M.state medium.old).image (λ x. PointsInside (place_ring app.now) x → IfSome (M.state medium.new).image (IsPlaceNoted app.now entry.now x))) }
-    ensures bad { OnOk result (IfSome (M.state medium.old).image (λ x. app.now.places ≤ pointer (place_ring app.now) x → (M.state medium.new).image ≡ (M.state medium.old).image)) }
+    ensures noted { OnOk result (IfSome (M.state medium.old).image
+        (λ x. PointsInside (place_ring app.now) x
+        → IfSome (M.state medium.new).image (IsPlaceNoted app.now entry.now x))) }
+    ensures bad { OnOk result (IfSome (M.state medium.old).image
+        (λ x. app.now.places ≤ pointer (place_ring app.now) x
+        → (M.state medium.new).image ≡ (M.state medium.old).image)) }
     ensures moments { LeavesOnly (M.state medium.old) (M.state medium.new) (IsNotingPlace app.now entry.now) }
-    ensures settled { OnOk result (IfSome (M.state medium.old).image (λ x. PointsInside (place_ring app.now) x → (M.state medium.new).clock < last_count → IsSettled (M.state medium.new))) }
+    ensures settled { OnOk result (IfSome (M.state medium.old).image
+        (λ x. PointsInside (place_ring app.now) x → (M.state medium.new).clock < last_count
+        → IsSettled (M.state medium.new))) }
     ensures cause { HasCause (M.state medium.old) (M.state medium.new) (is_err result) }
     ensures most { (M.state medium.new).clock ≤ (M.state medium.old).clock + 5 }
 {

@@ -4,7 +4,8 @@ ghost use Rattle.card_layout.specs.declared.files.Fid.{Fid};
 ghost use Rattle.card_layout.specs.declared.files.Range.{Range};
 ghost use Rattle.card_layout.specs.Files as spec;
 ghost use Rattle.card_layout.specs.Application.{IsApplication};
-ghost use Rattle.card_layout.specs.Files.{files_of, range_from, total_size, range_of, place_of, size_of, image_size_of, is_listed, AreApart};
+ghost use Rattle.card_layout.specs.Files.{files_of, range_from, total_size, range_of, place_of, size_of, image_size_of};
+ghost use Rattle.card_layout.specs.Files.{is_listed, AreApart};
 
 use card_layout::{Application, CardFile, Fid, Range};
 
@@ -62,7 +63,8 @@ pub fn file_range(app: &Application, fid: Fid) -> Option<Range>
     ensures value { result ≡ range_of app.now fid }
     ensures listed { IsSome result ↔ IsTrue (is_listed (files_of app.now) fid) }
     ensures inside { IfSome result (λ r. r.base + r.len ≤ image_size_of app.now) }
-    ensures apart { IfSome result (λ r. (other : Fid) (b : Range) → fid.0 ≢ other.0 → range_of app.now other ≡ Some b → AreApart r b) }
+    ensures apart { IfSome result (λ r. (other : Fid) (b : Range) → fid.0 ≢ other.0 → range_of app.now other ≡ Some b
+        → AreApart r b) }
 {
     range_in(&files(app), fid)
 }

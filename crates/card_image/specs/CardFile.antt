@@ -1,5 +1,6 @@
 -- The card file: a card's files one after the other (Appendix 7, 3.4), and the entries that it shows.
-use Rattle.std.specs.Prelude.{◌≡◌, ℕ, ◌+◌, ◌*◌, ◌/◌, ◌<◌, ◌≤◌, ◌^◌, Bool, not, ◌&&◌, Option, Some, None, List, [], ◌∷◌, ◌++◌, length, map, filter, nat_eq, All}
+use Rattle.std.specs.Prelude.{◌≡◌, ℕ, ◌+◌, ◌*◌, ◌/◌, ◌<◌, ◌≤◌, ◌^◌, Bool, not, ◌&&◌, Option, Some, None, List, [], ◌∷◌}
+use Rattle.std.specs.Prelude.{◌++◌, length, map, filter, nat_eq, All}
 use Rattle.byteorder.specs.Endian.{big_bytes}
 use Rattle.card_layout.specs.Fields.{joined}
 use Rattle.activity_codec.specs.declared.entries.Entry.{Entry}
@@ -30,7 +31,8 @@ entry_bytes e = joined (big_bytes 2 e.fid ∷ big_bytes 1 e.kind ∷ big_bytes 2
 abbrev pub entry_of : Application → List ℕ → CardFile → FileEntry
 entry_of app x f = record { fid = f.fid.0; kind = 0; value = bytes_at x (place_of app f.fid) (size_of app f.fid) }
 
--- the entries of a card's image: all files but Card_Download in their order (the order, and that no signature is written: profile)
+-- the entries of a card's image: all files but Card_Download in their order (the order, and that no signature is
+-- written: profile)
 abbrev pub entries_of : Application → List ℕ → List FileEntry
 entries_of app x = map (entry_of app x) (filter (λ f. not (nat_eq f.fid.0 0x050E)) (files_of app))
 
@@ -58,9 +60,10 @@ string_alone app = record { base = 0; size = app.activity }
 abbrev pub vehicles_alone : Application → Shape
 vehicles_alone app = record (vehicle_ring app) { base = 0 }
 
--- a card file of these entries, whose sizes are these: the files of sizes, days and vehicles are there once each, the sizes
--- before the others; and they decode
-pub record IsCardFile (app : Application) (days vehicles : List ℕ) (entries : List FileEntry) (bytes : List ℕ) : Type 0 where
+-- a card file of these entries, whose sizes are these: the files of sizes, days and vehicles are there once each, the
+-- sizes before the others; and they decode
+pub record IsCardFile (app : Application) (days vehicles : List ℕ) (entries : List FileEntry) (bytes : List ℕ) : Type
+    0 where
   pub each : All IsFileEntry entries
   pub spelled : bytes ≡ joined (map entry_bytes entries)
   pub sizes : List ℕ
@@ -70,7 +73,8 @@ pub record IsCardFile (app : Application) (days vehicles : List ℕ) (entries : 
   pub before : List FileEntry
   pub behind : List FileEntry
   pub first : entries ≡ before ++ behind
-  pub sizes_first : (values_of 0x0501 before ≡ sizes ∷ []) × (values_of 0x0504 before ≡ []) × (values_of 0x0505 before ≡ [])
+  pub sizes_first : (values_of 0x0501 before ≡ sizes ∷ []) × (values_of 0x0504 before ≡ [])
+      × (values_of 0x0505 before ≡ [])
   pub sized : (length sizes ≡ 10) × (length days ≡ 4 + app.activity) × (length vehicles ≡ 2 + 31 * app.vehicles)
   pub application : (first_bad_field sizes ≡ None) × (app ≡ application_of sizes)
   pub string : first_bad (string_alone app) days ≡ None
@@ -84,4 +88,5 @@ last_minute app vehicles (Some i) = (vehicle_of (entry_at (vehicles_alone app) v
 -- the entries that a card file shows: those of its days up to the end mark
 unfoldable pub shown_entries : Application → (days vehicles : List ℕ) → List Entry
 shown_entries app days vehicles =
-    entries_up_to (last_minute app vehicles (last_of (indices (vehicles_alone app) vehicles))) (days_of (string_alone app) days)
+    entries_up_to (last_minute app vehicles (last_of (indices (vehicles_alone app) vehicles)))
+    (days_of (string_alone app) days)

@@ -1,5 +1,6 @@
 -- Whether a card is valid: the checks of an insertion in their order, each with its file and its place in the file.
-use Rattle.std.specs.Prelude.{◌≡◌, ℕ, suc, ◌+◌, ◌/◌, Bool, false, not, ◌&&◌, Option, Some, None, option_map, List, [], ◌∷◌, ◌++◌, map, filter, nat_eq, nat_lt, nat_le, if◌then◌else◌}
+use Rattle.std.specs.Prelude.{◌≡◌, ℕ, suc, ◌+◌, ◌/◌, Bool, false, not, ◌&&◌, Option, Some, None, option_map, List, []}
+use Rattle.std.specs.Prelude.{◌∷◌, ◌++◌, map, filter, nat_eq, nat_lt, nat_le, if◌then◌else◌}
 use Rattle.activity_codec.specs.Words.{word_absent, word_minute}
 use Rattle.card_layout.specs.declared.files.Application.{Application}
 use Rattle.card_layout.specs.declared.files.Fid.{Fid}
@@ -9,7 +10,8 @@ use Rattle.card_model.specs.Changes.{date_of, trimmed}
 use Rattle.card_model.specs.Image.{oldest_pointer}
 use Rattle.card_model.specs.Checks.{Check, check, first_failing, file_place, first_bad}
 use Rattle.gated_ring.specs.Ring.{Shape as RingShape, pointer}
-use Rattle.card_image.specs.Fields.{file, file_bytes, day_string, vehicle_ring, place_ring, last_of, card_days, end_mark, session_time}
+use Rattle.card_image.specs.Fields.{file, file_bytes, day_string, vehicle_ring, place_ring, last_of, card_days}
+use Rattle.card_image.specs.Fields.{end_mark, session_time}
 
 -- a word of the string: the date of its day, the word, and its place in the file of days
 pub record PlacedWord : Type 0 where
@@ -25,7 +27,8 @@ minute_at w = w.date / 60 + word_minute w.word
 abbrev pub words_placed : (size oldest so_far date : ℕ) → List ℕ → List PlacedWord
 words_placed size oldest so_far date [] = []
 words_placed size oldest so_far date (w ∷ ws) =
-    record { date = date; word = w; place = file_place size oldest so_far } ∷ words_placed size oldest (so_far + 2) date ws
+    record { date = date; word = w; place = file_place size oldest so_far }
+    ∷ words_placed size oldest (so_far + 2) date ws
 
 -- the words of days that begin so far behind the oldest day: of each behind its fields
 abbrev pub days_placed : (size oldest so_far : ℕ) → List Day → List PlacedWord
@@ -37,19 +40,23 @@ days_placed size oldest so_far (d ∷ ds) =
 abbrev pub tells_none : PlacedWord → Bool
 tells_none w = word_absent w.word
 
--- the latest word up to the mark lies in the mark's day and is an entry's, and this one does not stand at the minute after the mark
+-- the latest word up to the mark lies in the mark's day and is an entry's, and this one does not stand at the minute
+-- after the mark
 abbrev pub leaves_gap : (mark : ℕ) → Option PlacedWord → PlacedWord → Bool
 leaves_gap mark None w = false
-leaves_gap mark (Some latest) w = nat_eq latest.date (date_of mark) && (not (tells_none latest) && not (nat_eq (minute_at w) (suc mark)))
+leaves_gap mark (Some latest) w = nat_eq latest.date (date_of mark)
+    && (not (tells_none latest) && not (nat_eq (minute_at w) (suc mark)))
 
 -- No word behind the mark is an entry's, and the first of them closes what is open at the mark.
 abbrev pub closing_checks : (mark : ℕ) → Option PlacedWord → List PlacedWord → List Check
 closing_checks mark latest [] = []
-closing_checks mark latest (w ∷ ws) = check (tells_none w && not (leaves_gap mark latest w)) w.place ∷ map (λ v. check (tells_none v) v.place) ws
+closing_checks mark latest (w ∷ ws) = check (tells_none w && not (leaves_gap mark latest w)) w.place
+    ∷ map (λ v. check (tells_none v) v.place) ws
 
 abbrev pub words_behind_mark : (mark : ℕ) → List PlacedWord → List Check
 words_behind_mark mark ws =
-    closing_checks mark (last_of (filter (λ w. nat_le (minute_at w) mark) ws)) (filter (λ w. nat_lt mark (minute_at w)) ws)
+    closing_checks mark (last_of (filter (λ w. nat_le (minute_at w) mark) ws))
+    (filter (λ w. nat_lt mark (minute_at w)) ws)
 
 -- each word is later than the one before it
 abbrev pub rising_checks : List PlacedWord → List Check
@@ -63,12 +70,14 @@ newest_rises size oldest so_far [] = []
 newest_rises size oldest so_far (d ∷ []) = rising_checks (words_placed size oldest (so_far + 12) d.date d.words)
 newest_rises size oldest so_far (d ∷ e ∷ ds) = newest_rises size oldest (so_far + len_of d) (e ∷ ds)
 
--- What an insertion asks of the words, beyond what any reader asks: where no session is open, that what stands behind the end mark
--- closes it; that the words of the newest day up to the mark rise; and, where no session is open, those of the newest day too.
+-- What an insertion asks of the words, beyond what any reader asks: where no session is open, that what stands behind
+-- the end mark closes it; that the words of the newest day up to the mark rise; and, where no session is open, those of
+-- the newest day too.
 abbrev pub word_checks : (size oldest mark session : ℕ) → List Day → List Check
 word_checks size oldest mark session days =
     (if nat_eq session 0 then words_behind_mark mark (days_placed size oldest 0 days) else [])
-    ++ (newest_rises size oldest 0 (trimmed mark days) ++ (if nat_eq session 0 then newest_rises size oldest 0 days else []))
+    ++ (newest_rises size oldest 0 (trimmed mark days)
+    ++ (if nat_eq session 0 then newest_rises size oldest 0 days else []))
 
 -- a file, and the place in it where it first fails
 pub record FileCheck : Type 0 where
@@ -81,7 +90,8 @@ file_check fid bad = record { fid = file fid; bad = bad }
 -- the first file that fails, with the place
 abbrev pub first_bad_of : List FileCheck → Option (Fid × ℕ)
 first_bad_of [] = None
-first_bad_of (c ∷ cs) = elim c.bad as (λ _. Option (Fid × ℕ)) [ Some place ↦ Some (c.fid, place) | None ↦ first_bad_of cs ]
+first_bad_of (c ∷ cs) = elim c.bad as (λ _. Option (Fid × ℕ))
+    [ Some place ↦ Some (c.fid, place) | None ↦ first_bad_of cs ]
 
 -- a ring's pointer is an index; else its file fails at its front
 abbrev pub pointer_bad : RingShape → List ℕ → Option ℕ
@@ -94,7 +104,8 @@ file_checks app x =
     ∷ file_check 0x0504 (first_bad (day_string app) x)
     ∷ file_check 0x0505 (pointer_bad (vehicle_ring app) x)
     ∷ file_check 0x0506 (pointer_bad (place_ring app) x)
-    ∷ file_check 0x0504 (first_failing (word_checks app.activity (oldest_pointer (day_string app) x) (end_mark app x) (session_time app x) (card_days app x)))
+    ∷ file_check 0x0504 (first_failing (word_checks app.activity (oldest_pointer (day_string app) x) (end_mark app x)
+    (session_time app x) (card_days app x)))
     ∷ []
 
 -- the file of a card's image that first fails, and the place in it, if one does

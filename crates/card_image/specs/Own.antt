@@ -41,8 +41,8 @@ own_covered x =
 abbrev pub counted_view : CardView → Counted
 counted_view v = record { days = v.held.days; before = last_entry v.held.entries }
 
--- The days that the entries of a card have, whose image was this at the start: the days that count there, and those that further
--- entries bring, where the next one is not earlier than a minute.
+-- The days that the entries of a card have, whose image was this at the start: the days that count there, and those
+-- that further entries bring, where the next one is not earlier than a minute.
 unfoldable pub expected_with : (start : List ℕ) → (next : ℕ) → List Entry → List WordDay
 expected_with start next more =
     expected_days (own_covered start) next (counted (own_covered start) (counted_view (own_view start)) more)
@@ -52,9 +52,10 @@ abbrev pub StandsFrom : (start : List ℕ) → (oldest : ℕ) → List WordDay �
 StandsFrom start oldest days = (d : WordDay) → Contains (own_view start).held.days d →
     d.day ≤ (own_view start).mark / 1440 → oldest ≤ d.day → InDays d.day days
 
--- Of these entries, which begin with its own, a card whose image was this at the start keeps all but those of whole days at the old
--- end, where the next one is not earlier than a minute; the newest of these days, those that are there and 16 bytes together exceed
--- its string. A day that was begun on that of its end mark, and has no entry yet, may be there with its first word.
+-- Of these entries, which begin with its own, a card whose image was this at the start keeps all but those of whole
+-- days at the old end, where the next one is not earlier than a minute; the newest of these days, those that are there
+-- and 16 bytes together exceed its string. A day that was begun on that of its end mark, and has no entry yet, may be
+-- there with its first word.
 pub record KeepsFrom (start : List ℕ) (from : ℕ) (all : List Entry) (held : Held) : Type 0 where
   pub more : List Entry
   pub begins : all ≡ (own_view start).held.entries ++ more

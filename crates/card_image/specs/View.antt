@@ -29,8 +29,9 @@ pub record CardView : Type 0 where
   pub mark : ℕ
   -- the second in which the open session began, 0 where none is open
   pub session : ℕ
-  -- the newest minute of the card as its end mark trims it: the mark, its newest word's, or, where the latest word up to the
-  -- mark is an entry's and the minute after it lies in its day, that minute, at which a closing word is still to come
+  -- the newest minute of the card as its end mark trims it: the mark, its newest word's, or, where the latest word up
+  -- to the mark is an entry's and the minute after it lies in its day, that minute, at which a closing word is still to
+  -- come
   pub newest : ℕ
   -- the minute of the newest word that stands there, up to the mark or beyond it
   pub word : ℕ

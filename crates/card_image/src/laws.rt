@@ -11,8 +11,8 @@ ghost use Rattle.card_image.specs.View.{view_of, card_view, counting};
 ghost use Rattle.card_image.specs.Judging.{first_bad_file};
 ghost use Rattle.card_image.specs.Beside.{HaveSameDays, HaveSameVehicles, HaveSameSession, IsBeside};
 
-/// A write beside the sizes, the days, the vehicles, the pointer of places, the second of the session and the number leaves
-/// what a card shows, how it is judged, and its number.
+/// A write beside the sizes, the days, the vehicles, the pointer of places, the second of the session and the number
+/// leaves what a card shows, how it is judged, and its number.
 pub fn a_write_beside_is_not_seen()
     ensures { (app : Application) (x c : List ℕ) → IsApplication app → PointsInside (vehicle_ring app) x →
         (place len : ℕ) → IsBeside app place len → SameOutside place len x c →
@@ -39,8 +39,8 @@ pub fn a_session_is_alone()
         card_view app c ≡ view_of (last_use app x) (end_mark app x) (session_time app c) (card_days app x) }
 {}
 
-/// The newest minute is the end mark, or that of the closing word behind the last entry. The entries are those of the days that
-/// count.
+/// The newest minute is the end mark, or that of the closing word behind the last entry. The entries are those of the
+/// days that count.
 pub fn newest_is_behind_the_entries()
     ensures newest { (app : Application) (x : List ℕ) → AreDays 0 (card_days app x) →
         (card_view app x).newest ≡ max (card_view app x).mark (closed_at (last_entry (card_view app x).held.entries)) }

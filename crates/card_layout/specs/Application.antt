@@ -1,5 +1,7 @@
--- Application_Identification: its fields in order, with their widths and ranges (Appendix 1, DriverCardApplicationIdentification).
-use Rattle.std.specs.Prelude.{◌≡◌, ℕ, ◌+◌, ◌-◌, ◌%◌, ◌≤◌, ◌==◌, ◌&&◌, nat_le, if◌then◌else◌, Bool, true, Option, Some, None, List, [], ◌∷◌, map, drop}
+-- Application_Identification: its fields in order, with their widths and ranges (Appendix 1,
+-- DriverCardApplicationIdentification).
+use Rattle.std.specs.Prelude.{◌≡◌, ℕ, ◌+◌, ◌-◌, ◌%◌, ◌≤◌, ◌==◌, ◌&&◌, nat_le, if◌then◌else◌, Bool, true, Option, Some}
+use Rattle.std.specs.Prelude.{None, List, [], ◌∷◌, map, drop}
 use Rattle.byteorder.specs.Endian.{big_number}
 use Rattle.card_layout.specs.Fields.{number_in, numbers_written}
 use Rattle.card_layout.specs.Images.{bytes_at}

@@ -1,5 +1,6 @@
 -- The commands of a card (Appendix 2, section 3.6) by their bytes: class, instruction, P1, P2, then a length and data.
-use Rattle.std.specs.Prelude.{ℕ, ◌+◌, ◌==◌, ◌&&◌, ◌||◌, not, nat_lt, if◌then◌else◌, Bool, Result, Ok, Err, List, [], ◌∷◌, length, drop, slice_index, bytes_eq}
+use Rattle.std.specs.Prelude.{ℕ, ◌+◌, ◌==◌, ◌&&◌, ◌||◌, not, nat_lt, if◌then◌else◌, Bool, Result, Ok, Err, List, []}
+use Rattle.std.specs.Prelude.{◌∷◌, length, drop, slice_index, bytes_eq}
 use Rattle.card_layout.specs.Images.{number_at}
 use Rattle.card_layout.specs.declared.command.Command.{Command}
 use Rattle.card_layout.specs.declared.command.Command.TheVariants.{Application, Select, Read, Update}
@@ -25,12 +26,14 @@ is_by_name b = slice_index b 2 == 0x04
 -- P1 and P2: a SELECT is by name or by identifier and asks for no answer data; else they are an offset below 32768
 abbrev pub has_good_parameters : List ℕ → Bool
 has_good_parameters b =
-    if is_select b then (is_by_name b || slice_index b 2 == 0x02) && slice_index b 3 == 0x0C else nat_lt (slice_index b 2) 0x80
+    if is_select b then (is_by_name b || slice_index b 2 == 0x02) && slice_index b 3 == 0x0C
+    else nat_lt (slice_index b 2) 0x80
 
 -- a name has six bytes and an identifier two, READ BINARY has no data, and UPDATE BINARY has some
 abbrev pub has_good_length : List ℕ → Bool
 has_good_length b =
-    if is_select b then (if is_by_name b then slice_index b 4 == 6 && length b == 11 else slice_index b 4 == 2 && length b == 7)
+    if is_select b then (if is_by_name b then slice_index b 4 == 6 && length b == 11 else slice_index b 4 == 2
+    && length b == 7)
     else if is_read b then length b == 5
     else not (slice_index b 4 == 0) && length b == 5 + slice_index b 4
 

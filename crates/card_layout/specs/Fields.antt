@@ -1,5 +1,6 @@
 -- Fields that stand one after the other, by their widths. A number stands with its highest byte first.
-use Rattle.std.specs.Prelude.{◌≡◌, ℕ, ◌+◌, ◌^◌, ◌<◌, List, [], ◌∷◌, ◌++◌, length, take, drop, slice_index, slice_index_or}
+use Rattle.std.specs.Prelude.{◌≡◌, ℕ, ◌+◌, ◌^◌, ◌<◌, List, [], ◌∷◌, ◌++◌, length, take, drop, slice_index}
+use Rattle.std.specs.Prelude.{slice_index_or}
 use Rattle.byteorder.specs.Endian.{big_number, big_bytes}
 
 -- the fields of these widths, from the front of the bytes

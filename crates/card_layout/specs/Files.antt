@@ -1,5 +1,6 @@
 -- The elementary files of a driver card, one after the other in its flat image (Appendix 2, section 4.2).
-use Rattle.std.specs.Prelude.{ℕ, ◌+◌, ◌*◌, ◌≤◌, ◌⊎◌, ◌==◌, if◌then◌else◌, Bool, true, false, Option, Some, None, List, [], ◌∷◌, unwrap_or, option_map}
+use Rattle.std.specs.Prelude.{ℕ, ◌+◌, ◌*◌, ◌≤◌, ◌⊎◌, ◌==◌, if◌then◌else◌, Bool, true, false, Option, Some, None, List}
+use Rattle.std.specs.Prelude.{[], ◌∷◌, unwrap_or, option_map}
 use Rattle.card_layout.specs.declared.files.Application.{Application}
 use Rattle.card_layout.specs.declared.files.CardFile.{CardFile}
 use Rattle.card_layout.specs.declared.files.Fid.{Fid}
@@ -38,7 +39,8 @@ files_of app =
 -- the range of the file with this identifier, where the first of the files begins at this place
 abbrev pub range_from : ℕ → List CardFile → Fid → Option Range
 range_from base [] fid = None
-range_from base (f ∷ fs) fid = if fid.0 == f.fid.0 then Some (record { base = base; len = f.size }) else range_from (base + f.size) fs fid
+range_from base (f ∷ fs) fid = if fid.0 == f.fid.0 then Some (record { base = base; len = f.size })
+    else range_from (base + f.size) fs fid
 
 -- the range of a file in the flat image
 abbrev pub range_of : Application → Fid → Option Range

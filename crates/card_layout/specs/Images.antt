@@ -1,4 +1,5 @@
--- Images, which are lists of bytes: the bytes at a place, other bytes at a place, and the number that bytes spell, the highest first.
+-- Images, which are lists of bytes: the bytes at a place, other bytes at a place, and the number that bytes spell, the
+-- highest first.
 use Rattle.std.specs.Prelude.{◌≡◌, ℕ, ◌+◌, List, ◌++◌, length, take, drop}
 pub use Rattle.byteorder.specs.Endian.{big_number, big_bytes}
 

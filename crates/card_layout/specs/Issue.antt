@@ -3,8 +3,8 @@ use Rattle.std.specs.Prelude.{◌≡◌, ◌⊎◌, List, [], ◌∷◌, length,
 use Rattle.card_layout.specs.Images.{SameOutside, bytes_at, put}
 use Rattle.card_layout.specs.declared.files.TheConstants.{APPLICATION_RANGE}
 
--- An issue that a stop cuts short leaves the card type 0 between its first and its last write, and in the end the new image.
--- What stands behind the given image stays.
+-- An issue that a stop cuts short leaves the card type 0 between its first and its last write, and in the end the new
+-- image. What stands behind the given image stays.
 pub record IsPartlyIssued (image old new : List ℕ) : Type 0 where
   pub outside : SameOutside 0 (length image) old new
   pub typeless : bytes_at new APPLICATION_RANGE.base 1 ≡ 0 ∷ []

@@ -1,5 +1,7 @@
 -- What a card answers to a command, and what the command does to its flat image (Appendix 2, section 3.6).
-use Rattle.std.specs.Prelude.{◌≡◌, ℕ, ◌+◌, ◌/◌, ◌%◌, ◌==◌, ◌||◌, not, nat_lt, if◌then◌else◌, Bool, true, false, Option, Some, None, option_map, option_and_then, IfSome, IsSomeAnd, is_none, Result, Ok, Err, List, [], ◌∷◌, ◌++◌, length}
+use Rattle.std.specs.Prelude.{◌≡◌, ℕ, ◌+◌, ◌/◌, ◌%◌, ◌==◌, ◌||◌, not, nat_lt, if◌then◌else◌, Bool, true, false, Option}
+use Rattle.std.specs.Prelude.{Some, None, option_map, option_and_then, IfSome, IsSomeAnd, is_none, Result, Ok, Err}
+use Rattle.std.specs.Prelude.{List, [], ◌∷◌, ◌++◌, length}
 use Rattle.card_layout.specs.declared.files.Fid.{Fid}
 use Rattle.card_layout.specs.declared.files.Range.{Range}
 use Rattle.card_layout.specs.declared.files.TheConstants.{APPLICATION_RANGE}
@@ -41,10 +43,13 @@ fixed_range fid =
     else if fid.0 == 0x0005 then record { base = 25; len = 8 }
     else APPLICATION_RANGE
 
--- a file by the sizes that these bytes of Application_Identification tell; none where one of their fields is out of its range
+-- a file by the sizes that these bytes of Application_Identification tell; none where one of their fields is out of its
+-- range
 abbrev pub sized_file : List ℕ → Fid → Option ElementaryFile
 sized_file bytes fid =
-    if is_none (first_bad_field bytes) then option_map (λ r. record { fid = fid; range = r; updated = is_updated (application_of bytes) fid }) (range_of (application_of bytes) fid)
+    if is_none (first_bad_field bytes)
+    then option_map (λ r. record { fid = fid; range = r; updated = is_updated (application_of bytes) fid })
+    (range_of (application_of bytes) fid)
     else None
 
 -- the file with this identifier, in whichever directory, once the sizes are fixed by these bytes
@@ -112,7 +117,8 @@ abbrev pub command_outcome : CardState → Command → Outcome
 command_outcome card Application = done (in_directory Tachograph card) nothing
 command_outcome card (Select fid) = select_outcome card fid
 command_outcome card (Read offset len) = on_selected card card.selected (λ file. read_outcome card file offset len)
-command_outcome card (Update offset bytes) = on_selected card card.selected (λ file. update_outcome card file offset bytes.items)
+command_outcome card (Update offset bytes) = on_selected card card.selected
+    (λ file. update_outcome card file offset bytes.items)
 
 abbrev pub outcome_from : CardState → Result Command ℕ → Outcome
 outcome_from card (Ok command) = command_outcome card command
@@ -126,7 +132,8 @@ outcome_of card b = outcome_from card (command_of b)
 abbrev pub is_application : ElementaryFile → Bool
 is_application file = file.fid.0 == 0x0501
 
--- A SELECT of any file but the three whose places are fixed needs the sizes, and so does a read of Application_Identification.
+-- A SELECT of any file but the three whose places are fixed needs the sizes, and so does a read of
+-- Application_Identification.
 abbrev pub effect_needs_sizes : Effect → Bool
 effect_needs_sizes nothing = false
 effect_needs_sizes (gives file offset len) = is_application file
@@ -149,10 +156,12 @@ bytes_need_sizes card b = result_needs_sizes card (command_of b)
 -- fixes them as a read gives them; once fixed they stay.
 abbrev pub Fixes : (needed : Bool) (image before after : Option (List ℕ)) → Type 0
 Fixes needed image (Some bytes) after = after ≡ Some bytes
-Fixes true image None after = IsSomeAnd after (λ bytes. (length bytes ≡ APPLICATION_RANGE.len) × IfSome image (λ x. bytes ≡ application_in x))
+Fixes true image None after = IsSomeAnd after
+    (λ bytes. (length bytes ≡ APPLICATION_RANGE.len) × IfSome image (λ x. bytes ≡ application_in x))
 Fixes false image None after = after ≡ None
 
--- the data of an answer: as many bytes as were asked, those of the image; of Application_Identification those by which the card goes
+-- the data of an answer: as many bytes as were asked, those of the image; of Application_Identification those by which
+-- the card goes
 abbrev pub IsData : Effect → (image application : Option (List ℕ)) → List ℕ → Type 0
 IsData nothing image application given = given ≡ []
 IsData (gives file offset len) image application given =
@@ -166,4 +175,5 @@ pub record IsAnswered (b : List ℕ) (image : Option (List ℕ)) (before after :
   pub state : after ≡ (outcome_of (record before { application = after.application }) b).card
   pub given : List ℕ
   pub given_is : IsData (outcome_of before b).effect image after.application given
-  pub whole : answer ≡ given ++ (let status = (outcome_of (record before { application = after.application }) b).status in status / 256 ∷ status % 256 ∷ [])
+  pub whole : answer ≡ given ++ (let status = (outcome_of (record before { application = after.application }) b).status
+      in status / 256 ∷ status % 256 ∷ [])

@@ -1,5 +1,6 @@
 -- What is found out about each entry of a card file, one use and one line of the unit file after another.
-use Rattle.std.specs.Prelude.{◌≡◌, ℕ, ◌+◌, ◌&&◌, nat_le, Bool, true, false, Option, Some, None, List, [], ◌∷◌, if◌then◌else◌}
+use Rattle.std.specs.Prelude.{◌≡◌, ℕ, ◌+◌, ◌&&◌, nat_le, Bool, true, false, Option, Some, None, List, [], ◌∷◌}
+use Rattle.std.specs.Prelude.{if◌then◌else◌}
 use Rattle.std.specs.List.{list_any}
 use Rattle.std.specs.List.Sorted.{IsNonDecreasingBy}
 use Rattle.activity_codec.specs.declared.entries.Entry.{Entry}
@@ -104,7 +105,10 @@ instead_seen e (Some shown) = instead_of e (Some (minute_of shown e.minute))
 
 -- how a case differs
 abbrev pub difference_in : Case → Viewed Difference
-difference_in c = record { minute = c.entry.minute; shown = record { slot = c.entry.slot; act = c.entry.act; instead = instead_seen c.entry c.seen } }
+difference_in c = record {
+  minute = c.entry.minute;
+  shown = record { slot = c.entry.slot; act = c.entry.act; instead = instead_seen c.entry c.seen };
+}
 
 -- the difference of a case, if it is missed
 abbrev pub differing : Case → Sort → List (Viewed Difference)

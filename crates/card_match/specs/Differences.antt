@@ -1,5 +1,6 @@
 -- Which entries of a card file differ from a unit file, and how (profile).
-use Rattle.std.specs.Prelude.{◌≡◌, ℕ, ◌&&◌, not, Bool, true, false, Option, Some, None, List, [], ◌∷◌, if◌then◌else◌, map, filter, count_by}
+use Rattle.std.specs.Prelude.{◌≡◌, ℕ, ◌&&◌, not, Bool, true, false, Option, Some, None, List, [], ◌∷◌, if◌then◌else◌}
+use Rattle.std.specs.Prelude.{map, filter, count_by}
 use Rattle.activity_codec.specs.Activity.{same_slot, same_activity}
 use Rattle.activity_codec.specs.declared.entries.Entry.{Entry}
 use Rattle.activity_codec.specs.declared.values.Activity.{Activity}
@@ -32,7 +33,10 @@ differs a e = is_tested a e && not (stands a e)
 
 -- how an entry differs
 abbrev pub difference_of : Against → Entry → Viewed Difference
-difference_of a e = record { minute = e.minute; shown = record { slot = e.slot; act = e.act; instead = instead_of e (minute_at a.minutes e.minute) } }
+difference_of a e = record {
+  minute = e.minute;
+  shown = record { slot = e.slot; act = e.act; instead = instead_of e (minute_at a.minutes e.minute) };
+}
 
 -- the entries that differ, each as it does
 abbrev pub differences : Against → List Entry → List (Viewed Difference)
@@ -55,7 +59,8 @@ pub record AreCounted (a : Against) (entries : List Entry) (c : Counts) : Type 0
   pub other_are : c.other ≡ count_by (is_other a) entries
   pub before_are : c.before ≡ count_by (is_before a) entries
 
--- THE ANSWER THAT TELLS ALL: the runs of consecutive minutes within a day of which the entries differ in the same way, and the counts
+-- THE ANSWER THAT TELLS ALL: the runs of consecutive minutes within a day of which the entries differ in the same way,
+-- and the counts
 pub record AreDifferences (a : Against) (entries : List Entry) (all : Differences) : Type 0 where
   pub runs_are : all.runs.items ≡ lines_of same_difference (differences a entries)
   pub counts_are : AreCounted a entries all.counts

@@ -41,9 +41,11 @@ instead_exact _ _ is = absurd (cc)
 
 pub difference_exact : (one other : Difference) → same_difference one other ≡ true → one ≡ other
 difference_exact one other is =
-    let parts = both (same_slot one.slot other.slot && same_activity one.act other.act) (same_instead one.instead other.instead) is in
+    let parts = both (same_slot one.slot other.slot && same_activity one.act other.act)
+    (same_instead one.instead other.instead) is in
     let front = both (same_slot one.slot other.slot) (same_activity one.act other.act) parts.0 in
-    let of : Slot → Activity → Instead → Difference = λ slot act instead. record { slot = slot; act = act; instead = instead } in
+    let of : Slot → Activity → Instead
+    → Difference = λ slot act instead. record { slot = slot; act = act; instead = instead } in
     ap (λ (slot : Slot). of slot one.act one.instead) (slot_exact one.slot other.slot front.0)
     ∙ ap (λ (act : Activity). of other.slot act one.instead) (activity_exact one.act other.act front.1)
     ∙ ap (of other.slot other.act) (instead_exact one.instead other.instead parts.1)

@@ -1,5 +1,6 @@
 -- A card file against a unit file, by the bytes of both (profile).
-use Rattle.std.specs.Prelude.{◌≡◌, ◌⊎◌, ℕ, ◌+◌, ◌/◌, Bool, false, Option, Some, None, List, ◌++◌, length, map, filter, bytes_eq}
+use Rattle.std.specs.Prelude.{◌≡◌, ◌⊎◌, ℕ, ◌+◌, ◌/◌, Bool, false, Option, Some, None, List, ◌++◌, length, map, filter}
+use Rattle.std.specs.Prelude.{bytes_eq}
 use Rattle.activity_codec.specs.declared.entries.Entry.{Entry}
 use Rattle.card_files.specs.declared.vehicle.Vehicle.{Vehicle}
 use Rattle.unit_model.specs.Days.{UnitMinute}
@@ -31,8 +32,10 @@ uses_of registration vehicles = map use_of (filter (is_of registration) vehicles
 abbrev pub against : List ℕ → List Vehicle → List UnitMinute → Against
 against registration vehicles minutes = record { uses = uses_of registration vehicles; minutes = minutes }
 
--- The bytes are a unit file with an overview, and a card file; and this is the answer, of this kind, of the card's entries against the unit's minutes.
-pub record AnswersFiles {T : Type 0} (Answer : Against → List Entry → T → Type 0) (unit card : List ℕ) (told : T) : Type 0 where
+-- The bytes are a unit file with an overview, and a card file; and this is the answer, of this kind, of the card's
+-- entries against the unit's minutes.
+pub record AnswersFiles {T : Type 0} (Answer : Against → List Entry → T → Type 0) (unit card : List ℕ) (told : T) : Type
+    0 where
   pub messages : List Message
   pub file : IsUnitFile messages unit
   pub registration : List ℕ
@@ -80,7 +83,8 @@ pub record AreParts (bytes unit card : List ℕ) : Type 0 where
   pub ends : begins_message card ≡ false
 
 -- The source is a unit file followed at once by a card file; and this is the answer, of this kind.
-pub record AnswersSource {T : Type 0} (Answer : Against → List Entry → T → Type 0) (bytes : List ℕ) (told : T) : Type 0 where
+pub record AnswersSource {T : Type 0} (Answer : Against → List Entry → T → Type 0) (bytes : List ℕ) (told : T) : Type
+    0 where
   pub unit : List ℕ
   pub card : List ℕ
   pub are : AreParts bytes unit card
@@ -93,12 +97,14 @@ MatchesSource bytes matched = AnswersSource IsMatch bytes matched
 abbrev pub ComparesSource : (bytes : List ℕ) → Differences → Type 0
 ComparesSource bytes all = AnswersSource AreDifferences bytes all
 
--- The source is of another form: a message fails at this place, or the unit file that ends there has no overview, or the card file fails.
+-- The source is of another form: a message fails at this place, or the unit file that ends there has no overview, or
+-- the card file fails.
 pub record IsBadBehind (place : ℕ) (bytes : List ℕ) : Type 0 where
   pub unit : List ℕ
   pub card : List ℕ
   pub are : AreParts bytes unit card
-  pub bad : ((place ≡ length unit) × LacksOverview unit) ⊎ ((at : ℕ) × (place ≡ length unit + at) × HasOverview unit × IsBadCardFile at card)
+  pub bad : ((place ≡ length unit) × LacksOverview unit)
+      ⊎ ((at : ℕ) × (place ≡ length unit + at) × HasOverview unit × IsBadCardFile at card)
 
 abbrev pub IsBadSource : ℕ → List ℕ → Type 0
 IsBadSource place bytes = IsBadFront place bytes ⊎ IsBadBehind place bytes

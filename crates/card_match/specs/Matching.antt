@@ -1,5 +1,6 @@
 -- When the entries of a card file match the minutes of a unit file (profile).
-use Rattle.std.specs.Prelude.{◌≡◌, ℕ, ◌/◌, ◌==◌, ◌&&◌, not, nat_le, Bool, true, false, Option, Some, None, List, [], ◌∷◌, ◌++◌, if◌then◌else◌, count_by}
+use Rattle.std.specs.Prelude.{◌≡◌, ℕ, ◌/◌, ◌==◌, ◌&&◌, not, nat_le, Bool, true, false, Option, Some, None, List, []}
+use Rattle.std.specs.Prelude.{◌∷◌, ◌++◌, if◌then◌else◌, count_by}
 use Rattle.std.specs.List.{list_any, AllByRecursion}
 use Rattle.activity_codec.specs.Activity.{same_activity}
 use Rattle.activity_codec.specs.declared.entries.Entry.{Entry}
@@ -12,7 +13,8 @@ use Rattle.card_match.specs.declared.cases.Use.{Use}
 use Rattle.card_match.specs.declared.verdict.Matched.{Matched}
 use Rattle.card_match.specs.declared.verdict.Matched.TheVariants.{Yes, No}
 
--- what a card's entries are matched against: the uses of the unit's vehicle that the card tells, and the minutes of the unit file
+-- what a card's entries are matched against: the uses of the unit's vehicle that the card tells, and the minutes of the
+-- unit file
 pub record Against : Type 0 where
   pub uses : List Use
   pub minutes : List UnitMinute

@@ -33,8 +33,10 @@ place_words minute slot = codes " " ++ clock_text minute ++ codes " " ++ slot_na
 -- `match` and three lines of counts; or `differs DATE HH:MM SLOT`
 abbrev pub IsMatchText : Matched → List ℕ → Type 0
 IsMatchText (Yes tested other before) text =
-    text ≡ codes "match\n" ++ count_line (codes "tested") tested ++ count_line (codes "other") other ++ count_line (codes "before") before
-IsMatchText (No minute slot) text = (date : List ℕ) × IsDateText (day_of_minute minute) date × (text ≡ codes "differs " ++ date ++ place_words minute slot)
+    text ≡ codes "match\n" ++ count_line (codes "tested") tested ++ count_line (codes "other") other
+    ++ count_line (codes "before") before
+IsMatchText (No minute slot) text = (date : List ℕ) × IsDateText (day_of_minute minute) date
+    × (text ≡ codes "differs " ++ date ++ place_words minute slot)
 
 -- ---- all that differs
 
@@ -53,7 +55,8 @@ card_has act NoCard = activity_name act
 card_has act (Doing other) = activity_name act
 card_has act (Crew crew) = crewed act (not crew)
 
--- what the unit has: `none` where it has no such minute, `out` where no card is in the slot, its activity; with its crew where that alone differs
+-- what the unit has: `none` where it has no such minute, `out` where no card is in the slot, its activity; with its
+-- crew where that alone differs
 abbrev pub unit_has : Activity → Instead → List ℕ
 unit_has act NoMinute = codes "none"
 unit_has act NoCard = codes "out"
@@ -62,20 +65,24 @@ unit_has act (Crew crew) = crewed act crew
 
 -- `SLOT card=ACT unit=ACT`
 abbrev pub difference_words : Difference → List ℕ
-difference_words d = slot_name d.slot ++ codes " card=" ++ card_has d.act d.instead ++ codes " unit=" ++ unit_has d.act d.instead
+difference_words d = slot_name d.slot ++ codes " card=" ++ card_has d.act d.instead ++ codes " unit="
+    ++ unit_has d.act d.instead
 
 -- a line for each run: `differs DATE HH:MM-HH:MM SLOT card=ACT unit=ACT`
 abbrev pub AreRunsText : List (Line Difference) → List ℕ → Type 0
 AreRunsText [] text = text ≡ []
 AreRunsText (run ∷ runs) text =
-    (date : List ℕ) × (rest : List ℕ) × IsDateText (day_of_minute run.first) date × (text ≡ codes "differs " ++ date ++ line_text difference_words run ++ rest) × AreRunsText runs rest
+    (date : List ℕ) × (rest : List ℕ) × IsDateText (day_of_minute run.first) date
+    × (text ≡ codes "differs " ++ date ++ line_text difference_words run ++ rest) × AreRunsText runs rest
 
 -- `match` where there is no run, else a line for each; and three lines of counts
 abbrev pub AreAllText : List (Line Difference) → Counts → List ℕ → Type 0
-AreAllText [] c text = text ≡ codes "match\n" ++ count_line (codes "tested") c.tested ++ count_line (codes "other") c.other ++ count_line (codes "before") c.before
+AreAllText [] c text = text ≡ codes "match\n" ++ count_line (codes "tested") c.tested
+    ++ count_line (codes "other") c.other ++ count_line (codes "before") c.before
 AreAllText (run ∷ runs) c text =
     (front : List ℕ) × AreRunsText (run ∷ runs) front
-    × (text ≡ front ++ count_line (codes "tested") c.tested ++ count_line (codes "other") c.other ++ count_line (codes "before") c.before)
+    × (text ≡ front ++ count_line (codes "tested") c.tested ++ count_line (codes "other") c.other
+    ++ count_line (codes "before") c.before)
 
 abbrev pub IsDifferencesText : Differences → List ℕ → Type 0
 IsDifferencesText all text = AreAllText all.runs.items all.counts text

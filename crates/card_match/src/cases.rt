@@ -3,7 +3,8 @@ ghost use Rattle.std.specs.Prelude.{◌≡◌, ◌+◌, ◌<◌, ◌≤◌, ◌+
 ghost use Rattle.activity_codec.specs.declared.entries.Entry.{Entry as CardEntry};
 ghost use Rattle.file_view.specs.Histories.{entry_told, minute_told, line_minutes, minutes_on};
 ghost use Rattle.card_match.specs.Matching.{Against, is_within, is_as, state_in};
-ghost use Rattle.card_match.specs.Cases.{fresh, case_of, with_use, with_line, AreRising, minute_of, first_seen, minute_of_case, instead_seen, difference_in};
+ghost use Rattle.card_match.specs.Cases.{fresh, case_of, with_use, with_line, AreRising, minute_of, first_seen};
+ghost use Rattle.card_match.specs.Cases.{minute_of_case, instead_seen, difference_in};
 
 use crate::difference::{Difference, Instead};
 use activity_codec::{Entry, Slot};
@@ -174,7 +175,8 @@ fn earlier(cases: &[Case], minute: u32) -> usize
 fn not_later(cases: &[Case], minute: u32) -> usize
     requires { AreRising cases.now }
     ensures most { result ≤ length cases.now }
-    ensures behind { (k : ℕ) (d : Case) → result ≤ k → k < length cases.now → minute < minute_of_case (slice_index_or cases.now k d) }
+    ensures behind { (k : ℕ) (d : Case) → result ≤ k → k < length cases.now
+        → minute < minute_of_case (slice_index_or cases.now k d) }
 {
     cases.partition_point(|c| c.entry.minute <= minute)
 }
@@ -209,7 +211,8 @@ fn tell_line(cases: &mut [Case], line: Line<UnitShown>)
 pub fn tell_uses(cases: &mut [Case], uses: &[Use])
     requires { AreRising cases.old }
     ensures rising { AreRising cases.new }
-    ensures told { (a : Against) (entries : List CardEntry) → cases.old ≡ map (case_of a) entries → cases.new ≡ map (case_of (record { uses = a.uses ++ uses.now; minutes = a.minutes })) entries }
+    ensures told { (a : Against) (entries : List CardEntry) → cases.old ≡ map (case_of a) entries
+        → cases.new ≡ map (case_of (record { uses = a.uses ++ uses.now; minutes = a.minutes })) entries }
 {
     for u in uses {
         tell_use(cases, *u);
@@ -220,7 +223,12 @@ pub fn tell_uses(cases: &mut [Case], uses: &[Use])
 pub fn tell_lines(cases: &mut [Case], lines: &[Line<UnitShown>])
     requires { AreRising cases.old }
     ensures rising { AreRising cases.new }
-    ensures told { (a : Against) (entries : List CardEntry) → cases.old ≡ map (case_of a) entries → cases.new ≡ map (case_of (record { uses = a.uses; minutes = a.minutes ++ map minute_told (minutes_on lines.now) })) entries }
+    ensures told { (a : Against) (entries : List CardEntry) → cases.old ≡ map (case_of a) entries
+        → cases.new ≡ map (case_of (record {
+          uses = a.uses;
+          minutes = a.minutes
+              ++ map minute_told (minutes_on lines.now);
+        })) entries }
 {
     for line in lines {
         tell_line(cases, *line);

@@ -11,8 +11,9 @@ use crate::verdict::{Differences, find_differences, first_day};
 use std::alloc::{AllocError, Global};
 use view_model::{CardShown, Line, UnitShown};
 
-/// Compares the entries of a card's lines with the minutes of a unit's lines, by the uses of the unit's vehicle that the card tells.
-/// It takes time by the lines, the uses and the minutes that both files tell, and memory by the entries.
+/// Compares the entries of a card's lines with the minutes of a unit's lines, by the uses of the unit's vehicle that
+/// the card tells. It takes time by the lines, the uses and the minutes that both files tell, and memory by the
+/// entries.
 pub fn compare_entries(
     alloc: Global,
     uses: &[Use],
@@ -21,7 +22,9 @@ pub fn compare_entries(
 ) -> Result<Differences, AllocError>
     requires rise { Rise (map entry_told (minutes_on card.now)) }
     requires few { length (minutes_on card.now) < 2 ^ 32 }
-    ensures { IfOk result (λ all. AreDifferences (record { uses = uses.now; minutes = map minute_told (minutes_on unit.now) }) (map entry_told (minutes_on card.now)) all) }
+    ensures { IfOk result (λ all. AreDifferences
+        (record { uses = uses.now; minutes = map minute_told (minutes_on unit.now) })
+        (map entry_told (minutes_on card.now)) all) }
 {
     let mut cases = cases_of(alloc, card)?;
     answer(alloc, cases.as_mut_slice(), uses, unit)

@@ -2,7 +2,8 @@
 ghost use Rattle.std.specs.Prelude.{◌≡◌, ◌<◌, ◌≤◌, ◌^◌, Some, List, length, IfOk, IfErr};
 ghost use Rattle.message_model.specs.Messages.{Message, IsUnitFile};
 ghost use Rattle.file_view.specs.Fronts.{registration_in};
-ghost use Rattle.card_match.specs.Files.{is_of, use_of, uses_of, MatchesFiles, ComparesFiles, IsBadUnit, IsMatchFault, MatchesSource, ComparesSource, IsBadSource};
+ghost use Rattle.card_match.specs.Files.{is_of, use_of, uses_of, MatchesFiles, ComparesFiles, IsBadUnit, IsMatchFault};
+ghost use Rattle.card_match.specs.Files.{MatchesSource, ComparesSource, IsBadSource};
 ghost use Rattle.card_match.specs.Faults.{IfBadSource};
 ghost use Rattle.card_match.specs.Text.{IsDated, AreDatedRuns};
 
@@ -79,7 +80,8 @@ pub fn compare_files(alloc: Global, unit: &[u8], card: &[u8]) -> Result<Differen
 /// The registration that the first overview of a unit file tells.
 fn registration_of(unit: &[u8]) -> Result<Registration, u32>
     requires { length unit.now < 2 ^ 32 }
-    ensures told { IfOk result (λ r. (messages : List Message) × IsUnitFile messages unit.now × (registration_in messages ≡ Some r.0)) }
+    ensures told { IfOk result (λ r. (messages : List Message) × IsUnitFile messages unit.now
+        × (registration_in messages ≡ Some r.0)) }
     ensures bad { IfErr result (λ place. IsBadUnit place unit.now) }
 {
     let front = match read_front(unit) {

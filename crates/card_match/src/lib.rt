@@ -1,4 +1,5 @@
-//! Whether the entries of a card file stand in a unit file (profile): each entry in its slot, with its activity and crew.
+//! Whether the entries of a card file stand in a unit file (profile): each entry in its slot, with its activity and
+//! crew.
 #![tactic(auto)]
 
 mod cases;

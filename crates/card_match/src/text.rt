@@ -5,7 +5,8 @@ ghost use Rattle.activity_codec.specs.Names.{slot_name};
 ghost use Rattle.tacho_types.specs.Calendar.{IsDateText};
 ghost use Rattle.view_model.specs.Lines.{day_of_minute};
 ghost use Rattle.view_model.specs.Text.{clock_text, line_text};
-ghost use Rattle.card_match.specs.Text.{IsDated, IsMatchText, count_line, place_words, AreDatedRuns, difference_words, AreRunsText, IsDifferencesText};
+ghost use Rattle.card_match.specs.Text.{IsDated, IsMatchText, count_line, place_words, AreDatedRuns, difference_words};
+ghost use Rattle.card_match.specs.Text.{AreRunsText, IsDifferencesText};
 
 use crate::difference::Difference;
 use crate::verdict::{Counts, Differences, Matched};
@@ -33,7 +34,8 @@ pub fn match_text(alloc: Global, matched: Matched) -> Result<Vec<u8>, AllocError
 
 /// The text of a Yes.
 fn counts_text(alloc: Global, tested: u32, other: u32, before: u32) -> Result<Vec<u8>, AllocError>
-    ensures { IfOk result (λ text. text.items ≡ codes "match\n" ++ count_line (codes "tested") tested ++ count_line (codes "other") other ++ count_line (codes "before") before) }
+    ensures { IfOk result (λ text. text.items ≡ codes "match\n" ++ count_line (codes "tested") tested
+        ++ count_line (codes "other") other ++ count_line (codes "before") before) }
 {
     let mut text = Vec::new(alloc);
     text.extend_from_slice(b"match\n")?;
@@ -46,7 +48,8 @@ fn counts_text(alloc: Global, tested: u32, other: u32, before: u32) -> Result<Ve
 /// The text of a No.
 fn differs_text(alloc: Global, minute: u32, slot: Slot) -> Result<Vec<u8>, AllocError>
     requires { day_of_minute minute < DAYS }
-    ensures { IfOk result (λ text. (date : List ℕ) × IsDateText (day_of_minute minute) date × (text.items ≡ codes "differs " ++ date ++ place_words minute slot)) }
+    ensures { IfOk result (λ text. (date : List ℕ) × IsDateText (day_of_minute minute) date
+        × (text.items ≡ codes "differs " ++ date ++ place_words minute slot)) }
 {
     let mut text = Vec::new(alloc);
     text.extend_from_slice(b"differs ")?;
@@ -77,7 +80,8 @@ fn listed_text(
 ) -> Result<Vec<u8>, AllocError>
     requires { AreDatedRuns runs.now }
     ensures { IfOk result (λ text. (front : List ℕ) × AreRunsText runs.now front
-        × (text.items ≡ front ++ count_line (codes "tested") counts.tested ++ count_line (codes "other") counts.other ++ count_line (codes "before") counts.before)) }
+        × (text.items ≡ front ++ count_line (codes "tested") counts.tested ++ count_line (codes "other") counts.other
+        ++ count_line (codes "before") counts.before)) }
 {
     let mut text = runs_text(alloc, runs)?;
     write_count(&mut text, b"tested", counts.tested)?;

@@ -7,7 +7,8 @@ ghost use Rattle.view_model.specs.Lines.{lines_of};
 ghost use Rattle.card_match.specs.declared.difference.Difference.{Difference as How};
 ghost use Rattle.card_match.specs.Matching.{Against};
 ghost use Rattle.card_match.specs.Differences.{same_difference, AreDifferences, first_in, first_of};
-ghost use Rattle.card_match.specs.Cases.{case_of, begins_by, is_from, line_from, IsSort, counted, total, is_missed, differing};
+ghost use Rattle.card_match.specs.Cases.{case_of, begins_by, is_from, line_from, IsSort, counted, total, is_missed};
+ghost use Rattle.card_match.specs.Cases.{differing};
 
 use crate::cases::{Case, is_as};
 use crate::difference::Difference;
@@ -149,7 +150,8 @@ fn earlier_day(first: Option<u32>, line: Line<UnitShown>) -> Option<u32>
 
 /// Which of them an entry is, by what was found out about it.
 fn sort_of(case: Case, first: Option<u32>) -> Sort
-    ensures { (a : Against) (e : CardEntry) → case ≡ case_of a e → ((day : ℕ) → begins_by a.minutes day ≡ is_from first day) → IsSort a e result }
+    ensures { (a : Against) (e : CardEntry) → case ≡ case_of a e
+        → ((day : ℕ) → begins_by a.minutes day ≡ is_from first day) → IsSort a e result }
 {
     if !case.own {
         return Sort::Other;

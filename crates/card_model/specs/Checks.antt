@@ -1,5 +1,6 @@
 -- What is checked of a string of days, in order, and the place in the file of days where it first fails.
-use Rattle.std.specs.Prelude.{ℕ, zero, suc, ◌+◌, ◌-◌, ◌/◌, ◌%◌, Bool, true, false, ◌&&◌, ◌||◌, Option, Some, None, List, [], ◌∷◌, ◌++◌, map, drop, nat_eq, nat_lt, nat_le, if◌then◌else◌}
+use Rattle.std.specs.Prelude.{ℕ, zero, suc, ◌+◌, ◌-◌, ◌/◌, ◌%◌, Bool, true, false, ◌&&◌, ◌||◌, Option, Some, None, List}
+use Rattle.std.specs.Prelude.{[], ◌∷◌, ◌++◌, map, drop, nat_eq, nat_lt, nat_le, if◌then◌else◌}
 use Rattle.card_model.specs.declared.lengths.TheConstants.{DAY_LEAST, DAY_MOST, DAYS_MOST}
 use Rattle.tach_media.specs.Medium.{bytes_at}
 use Rattle.activity_codec.specs.Words.{word_minute}
@@ -39,21 +40,26 @@ is_date before date = nat_eq (date % 86400) 0 && nat_lt before date
 abbrev pub is_decimal : ℕ → Bool
 is_decimal n = nat_lt (n / 4096) 10 && nat_lt (n / 256 % 16) 10 && nat_lt (n / 16 % 16) 10 && nat_lt (n % 16) 10
 
--- The fields of a record before its words, each with its offset. So many bytes lie before it; the day before has this length and date.
+-- The fields of a record before its words, each with its offset. So many bytes lie before it; the day before has this
+-- length and date.
 abbrev pub field_checks : (size so_far before date : ℕ) → (previous len this counter : ℕ) → List Check
 field_checks size so_far before date previous len this counter =
-    check (is_len size so_far len) 2 ∷ check (is_previous so_far before previous) 0 ∷ check (is_date date this) 4 ∷ check (is_decimal counter) 8 ∷ []
+    check (is_len size so_far len) 2 ∷ check (is_previous so_far before previous) 0 ∷ check (is_date date this) 4
+    ∷ check (is_decimal counter) 8 ∷ []
 
--- The words, from this offset on. The first stands at this minute or later and below that one, each other not earlier than the one before it, and below 1440.
+-- The words, from this offset on. The first stands at this minute or later and below that one, each other not earlier
+-- than the one before it, and below 1440.
 abbrev pub word_checks : (offset from below : ℕ) → List ℕ → List Check
 word_checks offset from below [] = []
-word_checks offset from below (w ∷ ws) = check (nat_le from (word_minute w) && nat_lt (word_minute w) below) offset ∷ word_checks (offset + 2) (word_minute w) 1440 ws
+word_checks offset from below (w ∷ ws) = check (nat_le from (word_minute w) && nat_lt (word_minute w) below) offset
+    ∷ word_checks (offset + 2) (word_minute w) 1440 ws
 
 -- a record: its fields, and its words, the first of them at minute 0
 abbrev pub record_checks : (size so_far before date : ℕ) → List ℕ → List Check
 record_checks size so_far before date bytes =
     let len : ℕ = number (bytes_at bytes 2 2) in
-    field_checks size so_far before date (number (bytes_at bytes 0 2)) len (number (bytes_at bytes 4 4)) (number (bytes_at bytes 8 2))
+    field_checks size so_far before date (number (bytes_at bytes 0 2)) len (number (bytes_at bytes 4 4))
+    (number (bytes_at bytes 8 2))
     ++ word_checks 12 0 1 (words_of ((len - 12) / 2) (drop 12 bytes))
 
 -- the place in the file of days that lies so far behind the oldest day
@@ -64,8 +70,8 @@ file_place size oldest distance = 4 + spot size oldest distance
 abbrev pub placed_checks : (size oldest so_far : ℕ) → List Check → List Check
 placed_checks size oldest so_far checks = map (λ c. check c.passes (file_place size oldest (so_far + c.place))) checks
 
--- The days from so far behind the oldest on: each record, and that the next begins at the newest pointer or before it. The
--- bytes are the circle from here on; there are at most `most` days.
+-- The days from so far behind the oldest on: each record, and that the next begins at the newest pointer or before it.
+-- The bytes are the circle from here on; there are at most `most` days.
 abbrev pub day_checks : (most size oldest far so_far before date : ℕ) → List ℕ → List Check
 day_checks zero size oldest far so_far before date bytes = []
 day_checks (suc most) size oldest far so_far before date bytes =
@@ -73,7 +79,8 @@ day_checks (suc most) size oldest far so_far before date bytes =
     placed_checks size oldest so_far (record_checks size so_far before date bytes)
     ++ (elim (nat_eq so_far far) as (λ _. List Check) [
       | true ↦ []
-      | false ↦ check (nat_le (so_far + len) far) 2 ∷ day_checks most size oldest far (so_far + len) len (number (bytes_at bytes 4 4)) (turned len bytes)
+      | false ↦ check (nat_le (so_far + len) far) 2
+          ∷ day_checks most size oldest far (so_far + len) len (number (bytes_at bytes 4 4)) (turned len bytes)
     ])
 
 -- how far one place lies behind another, round the end
@@ -90,7 +97,8 @@ checks_of r x =
     let o : ℕ = oldest_pointer r x in
     let n : ℕ = newest_pointer r x in
     check (is_pointer r.size o) 0 ∷ check (is_pointer r.size n) 2
-    ∷ (elim (is_empty r x) as (λ _. List Check) [ true ↦ [] | false ↦ day_checks DAYS_MOST r.size o (distance_of r.size o n) 0 0 0 (circle_of r x) ])
+    ∷ (elim (is_empty r x) as (λ _. List Check)
+    [ true ↦ [] | false ↦ day_checks DAYS_MOST r.size o (distance_of r.size o n) 0 0 0 (circle_of r x) ])
 
 -- the place in the file of days where an image first fails, if it does
 unfoldable pub first_bad : StringShape → List ℕ → Option ℕ

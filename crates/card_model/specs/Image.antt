@@ -1,5 +1,6 @@
 -- The days that a card's flat image holds: in the file of days two pointers, and a circle of bytes.
-use Rattle.std.specs.Prelude.{◌≡◌, ◌⊎◌, ℕ, ◌+◌, ◌-◌, ◌%◌, ◌<◌, ◌≤◌, ◌^◌, List, [], ◌∷◌, ◌++◌, take, drop, nat_lt, if◌then◌else◌}
+use Rattle.std.specs.Prelude.{◌≡◌, ◌⊎◌, ℕ, ◌+◌, ◌-◌, ◌%◌, ◌<◌, ◌≤◌, ◌^◌, List, [], ◌∷◌, ◌++◌, take, drop, nat_lt}
+use Rattle.std.specs.Prelude.{if◌then◌else◌}
 use Rattle.card_layout.specs.declared.files.TheConstants.{STRING_LEAST, STRING_MOST}
 use Rattle.tach_media.specs.Medium.{bytes_at}
 use Rattle.card_model.specs.Bytes.{number}
@@ -51,7 +52,8 @@ IsPlace size from distance p = (p ≡ from + distance) ⊎ (p + size ≡ from + 
 abbrev pub spot : (size from distance : ℕ) → ℕ
 spot size from distance = if nat_lt (from + distance) size then from + distance else from + distance - size
 
--- The image holds these days: once round from the oldest pointer their records stand one after the other, the last at the newest pointer.
+-- The image holds these days: once round from the oldest pointer their records stand one after the other, the last at
+-- the newest pointer.
 pub record HoldsDays (r : StringShape) (x : List ℕ) (days : List Day) : Type 0 where
   pub oldest : IsPointer r.size (oldest_pointer r x)
   pub newest : IsPointer r.size (newest_pointer r x)

@@ -1,5 +1,6 @@
 -- The days of a string as a function of its bytes: a walk from the oldest to the newest by the lengths.
-use Rattle.std.specs.Prelude.{ℕ, zero, suc, ◌+◌, ◌-◌, ◌/◌, ◌%◌, List, [], ◌∷◌, length, take, drop, nat_lt, if◌then◌else◌}
+use Rattle.std.specs.Prelude.{ℕ, zero, suc, ◌+◌, ◌-◌, ◌/◌, ◌%◌, List, [], ◌∷◌, length, take, drop, nat_lt}
+use Rattle.std.specs.Prelude.{if◌then◌else◌}
 use Rattle.card_model.specs.declared.lengths.TheConstants.{DAYS_MOST}
 use Rattle.tach_media.specs.Medium.{bytes_at}
 use Rattle.card_model.specs.Bytes.{number, decimal}
@@ -27,7 +28,8 @@ days_in zero far bytes = []
 days_in (suc most) far bytes =
     let len : ℕ = number (bytes_at bytes 2 2) in
     let later : List Day = days_in most (far - len) (drop len bytes) in
-    if nat_lt len 14 then [] else (if nat_lt far len then day_told (take len bytes) ∷ [] else day_told (take len bytes) ∷ later)
+    if nat_lt len 14 then [] else (if nat_lt far len then day_told (take len bytes) ∷ [] else day_told (take len bytes)
+    ∷ later)
 
 -- the days of an image, where it holds days
 unfoldable pub days_of : StringShape → List ℕ → List Day

@@ -1,5 +1,6 @@
 -- The entries of a card's days, and the newest minute that an insertion ends with.
-use Rattle.std.specs.Prelude.{◌≡◌, ◌⊎◌, length, ℕ, zero, suc, ◌+◌, ◌/◌, ◌%◌, ◌<◌, ◌≤◌, max, false, Option, Some, None, List, [], ◌∷◌, ◌++◌, nat_eq, nat_le, if◌then◌else◌}
+use Rattle.std.specs.Prelude.{◌≡◌, ◌⊎◌, length, ℕ, zero, suc, ◌+◌, ◌/◌, ◌%◌, ◌<◌, ◌≤◌, max, false, Option, Some, None}
+use Rattle.std.specs.Prelude.{List, [], ◌∷◌, ◌++◌, nat_eq, nat_le, if◌then◌else◌}
 use Rattle.activity_codec.specs.declared.entries.Entry.{Entry}
 use Rattle.activity_codec.specs.Words.{word_slot, word_crew, word_act, word_absent, word_minute}
 use Rattle.card_model.specs.Days.{Day, last_word}
@@ -9,12 +10,14 @@ use Rattle.card_retention.specs.Shown.{is_open}
 -- the last word in list order that is not after a minute of the day
 abbrev pub latest : List ℕ → ℕ → Option ℕ
 latest [] t = None
-latest (w ∷ ws) t = elim (latest ws t) as (λ _. Option ℕ) [ Some v ↦ Some v | None ↦ if nat_le (word_minute w) t then Some w else None ]
+latest (w ∷ ws) t = elim (latest ws t) as (λ _. Option ℕ)
+    [ Some v ↦ Some v | None ↦ if nat_le (word_minute w) t then Some w else None ]
 
 -- the entry that a word tells of a minute, where it is not absent
 abbrev pub told_by : ℕ → Option ℕ → Option Entry
 told_by m None = None
-told_by m (Some w) = if word_absent w then None else Some (record { minute = m; slot = word_slot w; crew = word_crew w; act = word_act w })
+told_by m (Some w) = if word_absent w then None
+    else Some (record { minute = m; slot = word_slot w; crew = word_crew w; act = word_act w })
 
 -- the entry of a minute of a day, up to the mark
 abbrev pub entry_at : (mark : ℕ) → Day → ℕ → Option Entry
@@ -23,7 +26,8 @@ entry_at mark d t = if nat_le (d.date / 60 + t) mark then told_by (d.date / 60 +
 -- what so many minutes from one on tell
 abbrev pub minutes_from : (ℕ → Option Entry) → (count t : ℕ) → List Entry
 minutes_from f zero t = []
-minutes_from f (suc n) t = elim (f t) as (λ _. List Entry) [ Some e ↦ e ∷ minutes_from f n (t + 1) | None ↦ minutes_from f n (t + 1) ]
+minutes_from f (suc n) t = elim (f t) as (λ _. List Entry)
+    [ Some e ↦ e ∷ minutes_from f n (t + 1) | None ↦ minutes_from f n (t + 1) ]
 
 unfoldable pub day_entries : (mark : ℕ) → Day → List Entry
 day_entries mark d = minutes_from (entry_at mark d) 1440 0
@@ -58,10 +62,13 @@ EndsBy mark [] = Unit {0}
 EndsBy mark (d ∷ []) = word_absent (last_word d.words) ≡ false → d.date / 60 + word_minute (last_word d.words) ≤ mark
 EndsBy mark (d ∷ e ∷ ds) = EndsBy mark (e ∷ ds)
 
--- Behind an entry's word, the latest up to the mark in the mark's day, nothing follows at all, or a word of that day does, or the mark is
--- a day's last minute. (So it is where the first word behind the mark stands at the minute after it.)
+-- Behind an entry's word, the latest up to the mark in the mark's day, nothing follows at all, or a word of that day
+-- does, or the mark is a day's last minute. (So it is where the first word behind the mark stands at the minute after
+-- it.)
 abbrev pub IsChecked : (mark : ℕ) → List Day → Type 0
 IsChecked mark [] = Unit {0}
 IsChecked mark (d ∷ ds) =
-    (d.date ≡ date_of mark → word_absent (last_word (early (mark % 1440) d.words)) ≡ false → (ds ≡ [] × (early (mark % 1440) d.words ≡ d.words)) ⊎ ((length (early (mark % 1440) d.words) < length d.words) ⊎ (suc mark % 1440 ≡ 0)))
+    (d.date ≡ date_of mark → word_absent (last_word (early (mark % 1440) d.words)) ≡ false
+    → (ds ≡ [] × (early (mark % 1440) d.words ≡ d.words))
+    ⊎ ((length (early (mark % 1440) d.words) < length d.words) ⊎ (suc mark % 1440 ≡ 0)))
     × IsChecked mark ds

@@ -1,5 +1,6 @@
 -- The days that a card's entries bring, each with the number of its words.
-use Rattle.std.specs.Prelude.{ℕ, suc, ◌+◌, ◌*◌, ◌/◌, ◌%◌, Bool, false, true, not, ◌&&◌, Option, Some, None, List, [], ◌∷◌, ◌++◌, fold, nat_eq, nat_lt, if◌then◌else◌}
+use Rattle.std.specs.Prelude.{ℕ, suc, ◌+◌, ◌*◌, ◌/◌, ◌%◌, Bool, false, true, not, ◌&&◌, Option, Some, None, List, []}
+use Rattle.std.specs.Prelude.{◌∷◌, ◌++◌, fold, nat_eq, nat_lt, if◌then◌else◌}
 use Rattle.activity_codec.specs.declared.entries.Entry.{Entry}
 use Rattle.activity_codec.specs.Activity.{same_slot, same_activity}
 
@@ -38,11 +39,14 @@ same_bool false b = not b
 -- an entry goes on with the state of the minute before
 abbrev pub goes_on : Option Entry → Entry → Bool
 goes_on None e = false
-goes_on (Some p) e = nat_eq (suc p.minute) e.minute && (same_slot p.slot e.slot && (same_activity p.act e.act && same_bool p.crew e.crew))
+goes_on (Some p) e = nat_eq (suc p.minute) e.minute
+    && (same_slot p.slot e.slot && (same_activity p.act e.act && same_bool p.crew e.crew))
 
--- Behind an entry a closing word counts where the next minute lies in its day, has no word of the start and comes before the next entry.
+-- Behind an entry a closing word counts where the next minute lies in its day, has no word of the start and comes
+-- before the next entry.
 abbrev pub is_closed : (covered : ℕ) → Entry → (next : ℕ) → Bool
-is_closed covered p next = not (nat_eq (suc p.minute % 1440) 0) && (nat_lt covered (suc p.minute) && nat_lt (suc p.minute) next)
+is_closed covered p next = not (nat_eq (suc p.minute % 1440) 0)
+    && (nat_lt covered (suc p.minute) && nat_lt (suc p.minute) next)
 
 -- the days with that word, which stands in the newest
 abbrev pub closes : (covered : ℕ) → Option Entry → (next : ℕ) → List WordDay → List WordDay
@@ -55,7 +59,8 @@ first_words minute = if nat_eq (minute % 1440) 0 then 1 else 2
 
 -- the words of an entry: those that begin its day, or one where its state is new
 abbrev pub adds : Option Entry → Entry → List WordDay → List WordDay
-adds before e days = if is_newest (e.minute / 1440) days then (if goes_on before e then days else more days) else days ++ record { day = e.minute / 1440; words = first_words e.minute } ∷ []
+adds before e days = if is_newest (e.minute / 1440) days then (if goes_on before e then days else more days) else days
+    ++ record { day = e.minute / 1440; words = first_words e.minute } ∷ []
 
 -- days with their words, and the entry that came last
 pub record Counted : Type 0 where

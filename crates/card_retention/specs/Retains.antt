@@ -1,5 +1,6 @@
 -- What the stated overwriting may take of a card.
-use Rattle.std.specs.Prelude.{◌≡◌, ◌⊎◌, ℕ, ◌/◌, ◌<◌, Bool, false, ◌||◌, List, [], ◌∷◌, ◌++◌, nat_eq, nat_le, if◌then◌else◌}
+use Rattle.std.specs.Prelude.{◌≡◌, ◌⊎◌, ℕ, ◌/◌, ◌<◌, Bool, false, ◌||◌, List, [], ◌∷◌, ◌++◌, nat_eq, nat_le}
+use Rattle.std.specs.Prelude.{if◌then◌else◌}
 use Rattle.activity_codec.specs.declared.entries.Entry.{Entry}
 use Rattle.card_retention.specs.Expected.{WordDay}
 use Rattle.card_retention.specs.Shown.{Covers, IsFull, AllBefore, AllFrom}
@@ -28,8 +29,9 @@ entries_in days (e ∷ es) = if is_day (e.minute / 1440) days then e ∷ entries
 abbrev pub begun_on : ℕ → WordDay
 begun_on day = record { day = day; words = 1 }
 
--- The newest day of the string is that of the start's end mark, begun for an entry that is not kept yet: a repair leaves its first word,
--- where that mark lies on a later day than each that the string had. No expected day is that one, and no entry of all lies on it.
+-- The newest day of the string is that of the start's end mark, begun for an entry that is not kept yet: a repair
+-- leaves its first word, where that mark lies on a later day than each that the string had. No expected day is that
+-- one, and no entry of all lies on it.
 pub record HasBegun (marked : ℕ) (expected there : List WordDay) (all : List Entry) (days : List WordDay) : Type 0 where
   pub older : List WordDay
   pub newest : days ≡ older ++ begun_on marked ∷ []
@@ -38,10 +40,10 @@ pub record HasBegun (marked : ℕ) (expected there : List WordDay) (all : List E
   pub further : is_day marked expected ≡ false
   pub empty : entries_in (begun_on marked ∷ []) all ≡ []
 
--- A string of `length` bytes has these days and shows these entries of all, where the days of all are `expected`, and the start's end
--- mark was on the day `marked`. Only whole days at the old end are missing, `gone`, never the newest; the newest of these, those that
--- count as there and `bytes` together exceed the string. Each day of the string is one that counts as there, with no more words, but
--- for the day that was begun on `marked`.
+-- A string of `length` bytes has these days and shows these entries of all, where the days of all are `expected`, and
+-- the start's end mark was on the day `marked`. Only whole days at the old end are missing, `gone`, never the newest;
+-- the newest of these, those that count as there and `bytes` together exceed the string. Each day of the string is one
+-- that counts as there, with no more words, but for the day that was begun on `marked`.
 pub record CardRetains (length bytes marked : ℕ) (expected : List WordDay) (all : List Entry) (days : List WordDay)
     (shown : List Entry) : Type 0 where
   pub gone : List WordDay

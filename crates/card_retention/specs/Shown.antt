@@ -1,10 +1,12 @@
 -- Which of the expected days a string shows.
-use Rattle.std.specs.Prelude.{◌≡◌, ◌⊎◌, ℕ, suc, ◌+◌, ◌-◌, ◌*◌, ◌/◌, ◌%◌, ◌<◌, ◌≤◌, Bool, false, true, not, ◌&&◌, Option, Some, List, [], ◌∷◌, ◌++◌, map, length, nat_eq, nat_lt, if◌then◌else◌}
+use Rattle.std.specs.Prelude.{◌≡◌, ◌⊎◌, ℕ, suc, ◌+◌, ◌-◌, ◌*◌, ◌/◌, ◌%◌, ◌<◌, ◌≤◌, Bool, false, true, not, ◌&&◌, Option}
+use Rattle.std.specs.Prelude.{Some, List, [], ◌∷◌, ◌++◌, map, length, nat_eq, nat_lt, if◌then◌else◌}
 use Rattle.activity_codec.specs.declared.entries.Entry.{Entry}
 use Rattle.activity_codec.specs.Words.{slot_number, activity_number, bit, word_absent, word_minute}
 use Rattle.card_model.specs.Days.{Day, AreDays, last_word}
 use Rattle.card_model.specs.Changes.{OnNewest, date_of, with_newest, with_word, fitting, new_day, trimmed}
-use Rattle.card_retention.specs.Expected.{WordDay, size_of, size_all, more, is_newest, first_words, Counted, expected_days}
+use Rattle.card_retention.specs.Expected.{WordDay, size_of, size_all, more, is_newest, first_words, Counted}
+use Rattle.card_retention.specs.Expected.{expected_days}
 
 -- a day of the string by its number and its words
 abbrev pub size_day : Day → WordDay
@@ -60,8 +62,8 @@ abbrev pub AllIn : (oldest : ℕ) → List Entry → List WordDay → Type 0
 AllIn oldest [] days = Unit {0}
 AllIn oldest (e ∷ es) days = (oldest ≤ e.minute / 1440 → InDays (e.minute / 1440) days) × AllIn oldest es days
 
--- Of the expected days only some at the old end are missing: those before `oldest`. A day that is expected from then on and is
--- not in the string, since a repair cut it, has no entry and counts as there.
+-- Of the expected days only some at the old end are missing: those before `oldest`. A day that is expected from then on
+-- and is not in the string, since a repair cut it, has no entry and counts as there.
 pub record Shows (length : ℕ) (slack : Bound) (expected days : List WordDay) : Type 0 where
   pub gone : List WordDay
   pub there : List WordDay
@@ -143,23 +145,30 @@ pub record Rests (length : ℕ) (slack : Bound) (covered from mark : ℕ) (c : C
 
 -- the days once the closing word of a gap before an entry is written
 abbrev pub with_closing : (length w mark next : ℕ) → List Day → List Day
-with_closing length w mark next days = if is_open mark days && nat_lt (suc mark) next then with_newest (with_word w) (fitting (length - 2) days) else days
+with_closing length w mark next days = if is_open mark days && nat_lt (suc mark) next
+    then with_newest (with_word w) (fitting (length - 2) days) else days
 
--- What an entry's own words make of the days: nothing where the newest day tells its state, a word on the newest day, or a day.
+-- What an entry's own words make of the days: nothing where the newest day tells its state, a word on the newest day,
+-- or a day.
 pub data Entered (room : ℕ) (e : Entry) (days : List Day) : List Day → Type 0 where
   Same : is_newest (e.minute / 1440) (sizes days) ≡ true → Tells e days → Entered room e days days
-  Word : (w : ℕ) → is_newest (e.minute / 1440) (sizes days) ≡ true → (Tells e days → ⊥) → w / 2048 ≡ entry_state e → word_minute w ≡ e.minute % 1440 → Entered room e days (with_newest (with_word w) (fitting (room - 2) days))
-  Begun : (words : List ℕ) → is_newest (e.minute / 1440) (sizes days) ≡ false → length words ≡ first_words e.minute → last_word words / 2048 ≡ entry_state e → word_minute (last_word words) ≡ e.minute % 1440
-      → Entered room e days (fitting (room - (12 + 2 * length words)) days ++ new_day days (date_of e.minute) words ∷ [])
+  Word : (w : ℕ) → is_newest (e.minute / 1440) (sizes days) ≡ true → (Tells e days → ⊥) → w / 2048 ≡ entry_state e
+      → word_minute w ≡ e.minute % 1440 → Entered room e days (with_newest (with_word w) (fitting (room - 2) days))
+  Begun : (words : List ℕ) → is_newest (e.minute / 1440) (sizes days) ≡ false → length words ≡ first_words e.minute
+      → last_word words / 2048 ≡ entry_state e → word_minute (last_word words) ≡ e.minute % 1440
+      → Entered room e days (fitting (room - (12 + 2 * length words)) days ++ new_day days (date_of e.minute) words
+      ∷ [])
 
 -- the newest day's latest word belongs to no entry
 abbrev pub EndsAbsent : List Day → Type 0
 EndsAbsent days = OnNewest (λ d. word_absent (last_word d.words) ≡ true) days
 
--- What a repair would leave: all words, or, where words of the start that belong to no entry stand behind the mark, no more than these.
+-- What a repair would leave: all words, or, where words of the start that belong to no entry stand behind the mark, no
+-- more than these.
 pub data Sound (mark top : ℕ) (before : Option Entry) (days : List Day) : Type 0 where
   Flat : trimmed mark days ≡ days → Sound mark top before days
-  Tail : EndsAbsent days → ((n : ℕ) → Grows (owing n mark (trimmed mark days)) (sizes days)) → ((p : Entry) → before ≡ Some p → p.minute < top) → Sound mark top before days
+  Tail : EndsAbsent days → ((n : ℕ) → Grows (owing n mark (trimmed mark days)) (sizes days))
+      → ((p : Entry) → before ≡ Some p → p.minute < top) → Sound mark top before days
 
 -- between two calls of a session
 pub record Lives (length : ℕ) (slack : Bound) (covered from mark : ℕ) (c : Counted) (days : List Day) : Type 0 where

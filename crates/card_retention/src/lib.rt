@@ -1,2 +1,3 @@
-//! Which days a card's string shows after a run of calls, and which may have been overwritten: definitions over lists of days.
+//! Which days a card's string shows after a run of calls, and which may have been overwritten: definitions over lists
+//! of days.
 #![tactic(auto)]

@@ -1,5 +1,7 @@
--- What a session makes of a card's days and of its vehicle entries (profile): entry by entry, and by the word that closes.
-use Rattle.std.specs.Prelude.{ℕ, suc, ◌+◌, ◌-◌, ◌*◌, ◌/◌, ◌%◌, min, Bool, true, false, ◌&&◌, Option, Some, None, Result, Ok, Err, List, [], ◌∷◌, ◌++◌, length, bytes_eq, nat_eq, if◌then◌else◌}
+-- What a session makes of a card's days and of its vehicle entries (profile): entry by entry, and by the word that
+-- closes.
+use Rattle.std.specs.Prelude.{ℕ, suc, ◌+◌, ◌-◌, ◌*◌, ◌/◌, ◌%◌, min, Bool, true, false, ◌&&◌, Option, Some, None, Result}
+use Rattle.std.specs.Prelude.{Ok, Err, List, [], ◌∷◌, ◌++◌, length, bytes_eq, nat_eq, if◌then◌else◌}
 use Rattle.activity_codec.specs.declared.values.Activity.{Activity}
 use Rattle.activity_codec.specs.declared.values.Activity.TheVariants.{Rest}
 use Rattle.activity_codec.specs.declared.values.Slot.TheVariants.{Driver}
@@ -33,15 +35,18 @@ latest_of (d ∷ e ∷ ds) = latest_of (e ∷ ds)
 
 -- the word that closes at a minute of the day: not inserted, unknown, of the slot of the latest word
 abbrev pub closing_word : (minute : ℕ) → Activity → (latest : ℕ) → ℕ
-closing_word minute act latest = word_of (record { slot = word_slot latest; crew_or_known = false; absent = true; act = act; minute = minute % 1440 })
+closing_word minute act latest = word_of
+    (record { slot = word_slot latest; crew_or_known = false; absent = true; act = act; minute = minute % 1440 })
 
 -- the days with a word more on the newest, for which the oldest go as they must
 abbrev pub with_change : (size w : ℕ) → List Day → List Day
 with_change size w days = with_newest (with_word w) (fitting (size - 2) days)
 
--- the closing word at the minute after the mark, where the latest word is an entry's and that minute lies in the newest day
+-- the closing word at the minute after the mark, where the latest word is an entry's and that minute lies in the newest
+-- day
 abbrev pub closed_days : (size mark : ℕ) → Activity → List Day → List Day
-closed_days size mark act days = if is_open mark days then with_change size (closing_word (suc mark) act (latest_of days)) days else days
+closed_days size mark act days = if is_open mark days
+    then with_change size (closing_word (suc mark) act (latest_of days)) days else days
 
 -- before an entry it stands only where the entry does not come at once
 abbrev pub gap_closed : (size mark next : ℕ) → List Day → List Day
@@ -49,7 +54,13 @@ gap_closed size mark next days = with_closing size (closing_word (suc mark) Rest
 
 -- the word of an entry
 abbrev pub entry_word : Entry → ℕ
-entry_word e = word_of (record { slot = e.slot; crew_or_known = e.crew; absent = false; act = e.act; minute = e.minute % 1440 })
+entry_word e = word_of (record {
+  slot = e.slot;
+  crew_or_known = e.crew;
+  absent = false;
+  act = e.act;
+  minute = e.minute % 1440;
+})
 
 -- the word that begins a day before its first entry: the driver's slot, not inserted, unknown, rest
 abbrev pub bare_word : ℕ
@@ -65,7 +76,8 @@ tells_state e days = nat_eq (latest_of days / 2048) (entry_state e)
 
 -- the days with the day of an entry, for which the oldest go as they must
 abbrev pub with_new_day : (size : ℕ) → Entry → List Day → List Day
-with_new_day size e days = fitting (size - (12 + 2 * length (day_words e))) days ++ new_day days (date_of e.minute) (day_words e) ∷ []
+with_new_day size e days = fitting (size - (12 + 2 * length (day_words e))) days
+    ++ new_day days (date_of e.minute) (day_words e) ∷ []
 
 -- the days with an entry: as they are where the newest day tells its state, else with a word more, or with its day
 abbrev pub entered_days : (size : ℕ) → Entry → List Day → List Day
@@ -107,7 +119,8 @@ begun_vehicle registration odometer minute counter =
 
 -- the newest vehicle entry goes on where it has this registration and begins in the minute's day
 abbrev pub goes_on_in : Registration → (minute : ℕ) → Vehicle → Bool
-goes_on_in registration minute v = bytes_eq v.registration.0 registration.0 && nat_eq (v.first_use.0 / 86400) (minute / 1440)
+goes_on_in registration minute v = bytes_eq v.registration.0 registration.0
+    && nat_eq (v.first_use.0 / 86400) (minute / 1440)
 
 -- the newest vehicle entry with another odometer at its end and another last use
 abbrev pub used_until : (odometer seconds : ℕ) → Vehicle → Vehicle
@@ -151,5 +164,8 @@ with_entry size registration odometer more b e =
 abbrev pub closed : (size : ℕ) → Activity → Book → Book
 closed size act b =
     if is_open (mark_of b) b.days
-    then record { days = closed_days size (mark_of b) act b.days; vehicles = last_used (60 * suc (mark_of b)) b.vehicles }
+    then record {
+      days = closed_days size (mark_of b) act b.days;
+      vehicles = last_used (60 * suc (mark_of b)) b.vehicles;
+    }
     else b

@@ -1,5 +1,7 @@
--- What an entry by hand makes of a card, and what is left of it at each moment (profile): one word behind all words of the card.
-use Rattle.std.specs.Prelude.{◌≡◌, ◌⊎◌, ℕ, ◌+◌, ◌-◌, ◌*◌, ◌/◌, ◌%◌, ◌<◌, List, [], ◌∷◌, ◌++◌, length, nat_eq, if◌then◌else◌}
+-- What an entry by hand makes of a card, and what is left of it at each moment (profile): one word behind all words of
+-- the card.
+use Rattle.std.specs.Prelude.{◌≡◌, ◌⊎◌, ℕ, ◌+◌, ◌-◌, ◌*◌, ◌/◌, ◌%◌, ◌<◌, List, [], ◌∷◌, ◌++◌, length, nat_eq}
+use Rattle.std.specs.Prelude.{if◌then◌else◌}
 use Rattle.card_model.specs.Days.{Day}
 use Rattle.card_model.specs.Changes.{Remain, IsNext, date_of, fitting, new_day}
 use Rattle.card_retention.specs.Expected.{is_newest}
@@ -20,11 +22,13 @@ words_from minute w = if nat_eq (minute % 1440) 0 then w ∷ [] else bare_word �
 -- the days with the day of a minute, for which the oldest go as they must
 abbrev pub with_day_from : (size minute w : ℕ) → List Day → List Day
 with_day_from size minute w days =
-    fitting (size - (12 + 2 * length (words_from minute w))) days ++ new_day days (date_of minute) (words_from minute w) ∷ []
+    fitting (size - (12 + 2 * length (words_from minute w))) days ++ new_day days (date_of minute) (words_from minute w)
+    ∷ []
 
 -- THE DAYS WITH A WORD AT A MINUTE: on the newest day, where it is the minute's; else with that day
 abbrev pub with_word_at : (size minute w : ℕ) → List Day → List Day
-with_word_at size minute w days = if is_newest (minute / 1440) (sizes days) then with_change size w days else with_day_from size minute w days
+with_word_at size minute w days = if is_newest (minute / 1440) (sizes days) then with_change size w days
+    else with_day_from size minute w days
 
 -- how many bytes it adds
 abbrev pub word_len : (minute w : ℕ) → List Day → ℕ
@@ -37,7 +41,8 @@ by_hand size e b = record { days = with_word_at size e.minute (manual_word e) b.
 -- A moment of it: no more of the oldest days are gone than must be for the word; or it stands there.
 abbrev pub IsByHandMoment : (size : ℕ) → Manual → Book → List Day → Vehicles → Type 0
 IsByHandMoment size e b days vehicles =
-    (Remain (size - word_len e.minute (manual_word e) b.days) b.days days ⊎ (days ≡ with_word_at size e.minute (manual_word e) b.days)) × (vehicles ≡ b.vehicles)
+    (Remain (size - word_len e.minute (manual_word e) b.days) b.days days
+    ⊎ (days ≡ with_word_at size e.minute (manual_word e) b.days)) × (vehicles ≡ b.vehicles)
 
 -- after an entry by hand: its word is on the card, and nothing else has changed
 pub record IsCardByHand (s next : Session) (e : Manual) (x y : List ℕ) : Type 0 where
@@ -63,4 +68,5 @@ with_day_in size minute w b = record { days = with_day_from size minute w b.days
 
 abbrev pub IsBeforeDayFrom : (size minute w : ℕ) → Book → List Day → Vehicles → Type 0
 IsBeforeDayFrom size minute w b days vehicles =
-    (Remain (size - (12 + 2 * length (words_from minute w))) b.days days ⊎ (days ≡ with_day_from size minute w b.days)) × (vehicles ≡ b.vehicles)
+    (Remain (size - (12 + 2 * length (words_from minute w))) b.days days ⊎ (days ≡ with_day_from size minute w b.days))
+    × (vehicles ≡ b.vehicles)

@@ -20,8 +20,8 @@ use Rattle.card_session.specs.Vehicles.{Vehicles}
 abbrev pub days_and_vehicles : Application → ℕ
 days_and_vehicles app = 4 + (day_string app).size + ring_size (vehicle_ring app)
 
--- Outside the days and the vehicle entries nothing differs; the string holds its days, the pointer of the vehicle entries is an
--- index; and the days and the vehicle entries are so.
+-- Outside the days and the vehicle entries nothing differs; the string holds its days, the pointer of the vehicle
+-- entries is an index; and the days and the vehicle entries are so.
 pub record IsCard (app : Application) (P : List Day → Vehicles → Type 0) (x c : List ℕ) : Type 0 where
   pub outside : SameOutside (day_string app).base (days_and_vehicles app) x c
   pub holds : HoldsDays (day_string app) c (book_of app c).days
@@ -35,12 +35,15 @@ grown (Some before) odometer = odometer - before.0
 
 -- after a keep: the entry is on the card, and nothing else has changed but its distance and its vehicles
 pub record IsCardKept (s next : Session) (e : Entry) (odometer : ℕ) (x y : List ℕ) : Type 0 where
-  pub card : IsCard s.application (IsBook (with_entry s.application.activity s.registration odometer (grown s.odometer odometer) (book_of s.application x) e)) x y
+  pub card : IsCard s.application (IsBook
+      (with_entry s.application.activity s.registration odometer (grown s.odometer odometer) (book_of s.application x)
+      e)) x y
   pub knows : IsSession next y
 
 -- a moment of a keep
 pub record IsCardKeeping (s : Session) (e : Entry) (odometer : ℕ) (x c : List ℕ) : Type 0 where
-  pub card : IsCard s.application (IsKeepMoment s.application.activity s.registration odometer (grown s.odometer odometer) e (book_of s.application x)) x c
+  pub card : IsCard s.application (IsKeepMoment s.application.activity s.registration odometer
+      (grown s.odometer odometer) e (book_of s.application x)) x c
 
 -- the session time is 0
 abbrev pub ended : Application → List ℕ → List ℕ
@@ -50,7 +53,8 @@ ended app x = put (place_of app (file 0x0507)) (0 ∷ 0 ∷ 0 ∷ 0 ∷ []) x
 abbrev pub MayEnd : Application → List ℕ → Type 0
 MayEnd app x = IsValid app (ended app x)
 
--- After a withdrawal: the closing word and the end mark at it, where the word is to be written, and behind them the session time.
+-- After a withdrawal: the closing word and the end mark at it, where the word is to be written, and behind them the
+-- session time.
 pub record IsCardClosed (s : Session) (act : Activity) (x y : List ℕ) : Type 0 where
   pub before : List ℕ
   pub card : IsCard s.application (IsBook (closed s.application.activity act (book_of s.application x))) x before
@@ -58,4 +62,5 @@ pub record IsCardClosed (s : Session) (act : Activity) (x y : List ℕ) : Type 0
 
 -- a moment of it
 abbrev pub IsCardClosing : Session → Activity → List ℕ → List ℕ → Type 0
-IsCardClosing s act x c = IsCard s.application (IsCloseMoment s.application.activity act (book_of s.application x)) x c ⊎ IsCardClosed s act x c
+IsCardClosing s act x c = IsCard s.application (IsCloseMoment s.application.activity act (book_of s.application x)) x c
+    ⊎ IsCardClosed s act x c

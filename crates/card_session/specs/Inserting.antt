@@ -1,5 +1,6 @@
 -- What an insertion makes of a card, and what is left of it at each moment (profile).
-use Rattle.std.specs.Prelude.{◌≡◌, ◌≢◌, ◌⊎◌, ℕ, ◌+◌, ◌/◌, ◌<◌, List, [], ◌∷◌, length, nat_eq, nat_lt, All, if◌then◌else◌}
+use Rattle.std.specs.Prelude.{◌≡◌, ◌≢◌, ◌⊎◌, ℕ, ◌+◌, ◌/◌, ◌<◌, List, [], ◌∷◌, length, nat_eq, nat_lt, All}
+use Rattle.std.specs.Prelude.{if◌then◌else◌}
 use Rattle.activity_codec.specs.declared.values.Activity.TheVariants.{Rest}
 use Rattle.activity_codec.specs.declared.entries.Entry.{Entry}
 use Rattle.card_layout.specs.declared.files.Application.{Application}
@@ -16,7 +17,8 @@ use Rattle.card_image.specs.Fields.{file, current_use, session_time}
 use Rattle.card_session.specs.declared.words.TheConstants.{LATEST_MINUTE}
 use Rattle.card_session.specs.Vehicles.{Vehicles}
 use Rattle.card_session.specs.Books.{Book, mark_of, with_entry, closed}
-use Rattle.card_session.specs.Sessions.{Session, KnowsCard, IsSession, IsOpenBook, EndsStrictly, MayKeep, newest_in, book_of}
+use Rattle.card_session.specs.Sessions.{Session, KnowsCard, IsSession, IsOpenBook, EndsStrictly, MayKeep, newest_in}
+use Rattle.card_session.specs.Sessions.{book_of}
 use Rattle.card_session.specs.Moments.{IsBook, IsKeepMoment, IsCloseMoment}
 use Rattle.card_session.specs.Cards.{IsCard}
 
@@ -54,12 +56,14 @@ with_cut minute b = record { days = trimmed minute b.days; vehicles = b.vehicles
 
 -- a moment of it: of the days only some of those later than the minute's day are gone
 abbrev pub IsCutting : (minute : ℕ) → Book → List Day → Vehicles → Type 0
-IsCutting minute b days vehicles = (Shorter (date_of minute) b.days days ⊎ (days ≡ trimmed minute b.days)) × (vehicles ≡ b.vehicles)
+IsCutting minute b days vehicles = (Shorter (date_of minute) b.days days ⊎ (days ≡ trimmed minute b.days))
+    × (vehicles ≡ b.vehicles)
 
 -- ENTRIES in their order, none of which adds a distance
 abbrev pub with_owed : (size : ℕ) → Registration → (odometer : ℕ) → List Entry → Book → Book
 with_owed size registration odometer [] b = b
-with_owed size registration odometer (e ∷ es) b = with_owed size registration odometer es (with_entry size registration odometer 0 b e)
+with_owed size registration odometer (e ∷ es) b = with_owed size registration odometer es
+    (with_entry size registration odometer 0 b e)
 
 -- no word and no mark reaches the first of them
 abbrev pub IsBeforeAll : List Entry → Book → Type 0
@@ -69,7 +73,8 @@ IsBeforeAll es b = IsOpenBook b × Follow (newest_in b) es
 abbrev pub IsReplaying : (size : ℕ) → Registration → (odometer : ℕ) → List Entry → Book → List Day → Vehicles → Type 0
 IsReplaying size registration odometer [] b days vehicles = IsBook b days vehicles
 IsReplaying size registration odometer (e ∷ es) b days vehicles =
-    IsKeepMoment size registration odometer 0 e b days vehicles ⊎ IsReplaying size registration odometer es (with_entry size registration odometer 0 b e) days vehicles
+    IsKeepMoment size registration odometer 0 e b days vehicles
+    ⊎ IsReplaying size registration odometer es (with_entry size registration odometer 0 b e) days vehicles
 
 -- the words of the newest day that a cut at the end mark leaves increase
 abbrev pub EndsCut : Book → Type 0
@@ -77,11 +82,14 @@ EndsCut b = EndsStrictly (trimmed (mark_of b) b.days)
 
 -- THE REPAIR: the cut at the end mark, and the entries that the card lacks
 abbrev pub repaired : (size : ℕ) → Registration → (odometer : ℕ) → (owed : List Entry) → Book → Book
-repaired size registration odometer owed b = with_owed size registration odometer (lacked (mark_of b) owed) (with_cut (mark_of b) b)
+repaired size registration odometer owed b = with_owed size registration odometer (lacked (mark_of b) owed)
+    (with_cut (mark_of b) b)
 
-abbrev pub IsRepairMoment : (size : ℕ) → Registration → (odometer : ℕ) → (owed : List Entry) → Book → List Day → Vehicles → Type 0
+abbrev pub IsRepairMoment : (size : ℕ) → Registration → (odometer : ℕ) → (owed : List Entry) → Book → List Day
+    → Vehicles → Type 0
 IsRepairMoment size registration odometer owed b days vehicles =
-    IsCutting (mark_of b) b days vehicles ⊎ IsReplaying size registration odometer (lacked (mark_of b) owed) (with_cut (mark_of b) b) days vehicles
+    IsCutting (mark_of b) b days vehicles
+    ⊎ IsReplaying size registration odometer (lacked (mark_of b) owed) (with_cut (mark_of b) b) days vehicles
 
 -- ---- of a card: its steps, each as it is done and at its moments
 
@@ -98,21 +106,30 @@ abbrev pub IsStill : Application → List ℕ → List ℕ → Type 0
 IsStill app x c = IsCard app (IsBook (book_of app x)) x c
 
 abbrev pub IsRepaired : Application → Registration → (odometer : ℕ) → (owed : List Entry) → List ℕ → List ℕ → Type 0
-IsRepaired app registration odometer owed x y = IsCard app (IsBook (repaired app.activity registration odometer owed (book_of app x))) x y
+IsRepaired app registration odometer owed x y = IsCard app
+    (IsBook (repaired app.activity registration odometer owed (book_of app x))) x y
 
 abbrev pub IsRepairing : Application → Registration → (odometer : ℕ) → (owed : List Entry) → List ℕ → List ℕ → Type 0
-IsRepairing app registration odometer owed x c = IsCard app (IsRepairMoment app.activity registration odometer owed (book_of app x)) x c
+IsRepairing app registration odometer owed x c = IsCard app
+    (IsRepairMoment app.activity registration odometer owed (book_of app x)) x c
 
--- The event of a session that was not closed (Appendix 1, EventFaultType 06): from that session's begin to now, with its vehicle.
+-- The event of a session that was not closed (Appendix 1, EventFaultType 06): from that session's begin to now, with
+-- its vehicle.
 abbrev pub unclosed : CurrentUse → (now : ℕ) → CardEvent
-unclosed current now = record { kind = 6; begin = current.session; end = record { 0 = now }; registration = current.registration }
+unclosed current now = record {
+  kind = 6;
+  begin = current.session;
+  end = record { 0 = now };
+  registration = current.registration;
+}
 
 -- it is noted unless one with that begin is there
 abbrev pub HoldsUnclosed : Application → List ℕ → Type 0
 HoldsUnclosed app x = HoldsEvent app 6 (session_time app x) x
 
 abbrev pub IsNoted : Application → (now : ℕ) → List ℕ → List ℕ → Type 0
-IsNoted app now x y = (HoldsUnclosed app x × (y ≡ x)) ⊎ ((HoldsUnclosed app x → ⊥) × IsEventNoted app (unclosed (current_use app x) now) x y)
+IsNoted app now x y = (HoldsUnclosed app x × (y ≡ x))
+    ⊎ ((HoldsUnclosed app x → ⊥) × IsEventNoted app (unclosed (current_use app x) now) x y)
 
 abbrev pub IsNoting : Application → (now : ℕ) → List ℕ → List ℕ → Type 0
 IsNoting app now x c = (HoldsUnclosed app x → ⊥) × IsNotingEvent app (unclosed (current_use app x) now) x c
@@ -148,7 +165,8 @@ IsOpened app registration now x y = y ≡ timed app now (registered app registra
 
 abbrev pub IsOpening : Application → Registration → (now : ℕ) → List ℕ → List ℕ → Type 0
 IsOpening app registration now x c =
-    IsPartlyWritten (place_of app (file 0x0507) + 4) registration.0 x c ⊎ ((c ≡ registered app registration x) ⊎ IsOpened app registration now x c)
+    IsPartlyWritten (place_of app (file 0x0507) + 4) registration.0 x c
+    ⊎ ((c ≡ registered app registration x) ⊎ IsOpened app registration now x c)
 
 -- ---- parts of it, of a card that a session knows
 
@@ -160,20 +178,28 @@ pub record Mends (s : Session) (current : CurrentUse) (x : List ℕ) : Type 0 wh
   pub mark : mark_of (book_of s.application x) < LATEST_MINUTE
 
 -- it is repaired, the event is noted, and a closing word may follow
-abbrev pub IsSessionMended : (s next : Session) → CurrentUse → (odometer : ℕ) → (owed : List Entry) → (now : ℕ) → List ℕ → List ℕ → Type 0
+abbrev pub IsSessionMended : (s next : Session) → CurrentUse → (odometer : ℕ) → (owed : List Entry) → (now : ℕ) → List ℕ
+    → List ℕ → Type 0
 IsSessionMended s next current odometer owed now x y = Mends s current x
-    → Both (IsStill s.application) (Both (IsRepaired s.application s.registration odometer owed) (IsNoted s.application now)) x y × KnowsCard next y × MayShut (book_of next.application y)
+    → Both (IsStill s.application) (Both (IsRepaired s.application s.registration odometer owed)
+    (IsNoted s.application now)) x y × KnowsCard next y × MayShut (book_of next.application y)
 
-abbrev pub IsMendMoment : Session → CurrentUse → (odometer : ℕ) → (owed : List Entry) → (now : ℕ) → List ℕ → List ℕ → Type 0
+abbrev pub IsMendMoment : Session → CurrentUse → (odometer : ℕ) → (owed : List Entry) → (now : ℕ) → List ℕ → List ℕ
+    → Type 0
 IsMendMoment s current odometer owed now x c = Mends s current x
-    → During (IsStill s.application) (IsStill s.application) (During (IsRepairing s.application s.registration odometer owed) (IsRepaired s.application s.registration odometer owed) (IsNoting s.application now)) x c
+    → During (IsStill s.application) (IsStill s.application)
+    (During (IsRepairing s.application s.registration odometer owed)
+    (IsRepaired s.application s.registration odometer owed) (IsNoting s.application now)) x c
 
--- the closing word is written where it must be, and then one of these is done; the session knows the card, and a word may follow
+-- the closing word is written where it must be, and then one of these is done; the session knows the card, and a word
+-- may follow
 abbrev pub IsShutThen : (s next : Session) → (S : List ℕ → List ℕ → Type 0) → List ℕ → List ℕ → Type 0
-IsShutThen s next S x y = KnowsCard s x → MayShut (book_of s.application x) → Both (IsShut s.application) S x y × KnowsCard next y × IsOpenBook (book_of next.application y)
+IsShutThen s next S x y = KnowsCard s x → MayShut (book_of s.application x)
+    → Both (IsShut s.application) S x y × KnowsCard next y × IsOpenBook (book_of next.application y)
 
 abbrev pub IsShutThenMoment : Session → (R : List ℕ → List ℕ → Type 0) → List ℕ → List ℕ → Type 0
-IsShutThenMoment s R x c = KnowsCard s x → MayShut (book_of s.application x) → During (IsShutting s.application) (IsShut s.application) R x c
+IsShutThenMoment s R x c = KnowsCard s x → MayShut (book_of s.application x)
+    → During (IsShutting s.application) (IsShut s.application) R x c
 
 -- the session that was left open is ended, and another opened
 abbrev pub IsReopened : Application → Registration → (now : ℕ) → List ℕ → List ℕ → Type 0
@@ -185,11 +211,13 @@ IsReopening app registration now = During (IsEnding app) (IsEnded app) (IsOpenin
 -- the same of a card without a session, whose drop is ended first
 abbrev pub IsStarted : (s next : Session) → (now : ℕ) → List ℕ → List ℕ → Type 0
 IsStarted s next now x y = KnowsCard s x → MayShut (book_of s.application x)
-    → Both (IsStill s.application) (Both (IsShut s.application) (IsOpened s.application s.registration now)) x y × KnowsCard next y × IsOpenBook (book_of next.application y)
+    → Both (IsStill s.application) (Both (IsShut s.application) (IsOpened s.application s.registration now)) x y
+    × KnowsCard next y × IsOpenBook (book_of next.application y)
 
 abbrev pub IsStartMoment : Session → (now : ℕ) → List ℕ → List ℕ → Type 0
 IsStartMoment s now x c = KnowsCard s x → MayShut (book_of s.application x)
-    → During (IsStill s.application) (IsStill s.application) (During (IsShutting s.application) (IsShut s.application) (IsOpening s.application s.registration now)) x c
+    → During (IsStill s.application) (IsStill s.application)
+    (During (IsShutting s.application) (IsShut s.application) (IsOpening s.application s.registration now)) x c
 
 -- ---- an insertion, whole
 
@@ -198,14 +226,18 @@ abbrev pub InsertsClosed : Application → Registration → (now : ℕ) → List
 InsertsClosed app registration now = Both (IsStill app) (Both (IsShut app) (IsOpened app registration now))
 
 abbrev pub InsertingClosed : Application → Registration → (now : ℕ) → List ℕ → List ℕ → Type 0
-InsertingClosed app registration now = During (IsStill app) (IsStill app) (During (IsShutting app) (IsShut app) (IsOpening app registration now))
+InsertingClosed app registration now = During (IsStill app) (IsStill app)
+    (During (IsShutting app) (IsShut app) (IsOpening app registration now))
 
 -- of one whose session was left open: the session time stays until all entries that it lacked are on it
-abbrev pub InsertsOpen : Application → Registration → (odometer : ℕ) → (owed : List Entry) → (now : ℕ) → List ℕ → List ℕ → Type 0
+abbrev pub InsertsOpen : Application → Registration → (odometer : ℕ) → (owed : List Entry) → (now : ℕ) → List ℕ → List ℕ
+    → Type 0
 InsertsOpen app registration odometer owed now =
-    Both (IsStill app) (Both (IsRepaired app registration odometer owed) (Both (IsNoted app now) (Both (IsShut app) (Both (IsEnded app) (IsOpened app registration now)))))
+    Both (IsStill app) (Both (IsRepaired app registration odometer owed)
+    (Both (IsNoted app now) (Both (IsShut app) (Both (IsEnded app) (IsOpened app registration now)))))
 
-abbrev pub InsertingOpen : Application → Registration → (odometer : ℕ) → (owed : List Entry) → (now : ℕ) → List ℕ → List ℕ → Type 0
+abbrev pub InsertingOpen : Application → Registration → (odometer : ℕ) → (owed : List Entry) → (now : ℕ) → List ℕ
+    → List ℕ → Type 0
 InsertingOpen app registration odometer owed now =
     During (IsStill app) (IsStill app)
     (During (IsRepairing app registration odometer owed) (IsRepaired app registration odometer owed)
@@ -213,14 +245,18 @@ InsertingOpen app registration odometer owed now =
     (During (IsShutting app) (IsShut app) (During (IsEnding app) (IsEnded app) (IsOpening app registration now)))))
 
 -- what an insertion leaves of a card
-abbrev pub IsCardInserted : Application → Registration → (odometer : ℕ) → (owed : List Entry) → (now : ℕ) → List ℕ → List ℕ → Type 0
+abbrev pub IsCardInserted : Application → Registration → (odometer : ℕ) → (owed : List Entry) → (now : ℕ) → List ℕ
+    → List ℕ → Type 0
 IsCardInserted app registration odometer owed now x y =
-    ((session_time app x ≡ 0) × InsertsClosed app registration now x y) ⊎ ((session_time app x ≢ 0) × InsertsOpen app registration odometer owed now x y)
+    ((session_time app x ≡ 0) × InsertsClosed app registration now x y)
+    ⊎ ((session_time app x ≢ 0) × InsertsOpen app registration odometer owed now x y)
 
 -- and a moment of it
-abbrev pub IsCardInserting : Application → Registration → (odometer : ℕ) → (owed : List Entry) → (now : ℕ) → List ℕ → List ℕ → Type 0
+abbrev pub IsCardInserting : Application → Registration → (odometer : ℕ) → (owed : List Entry) → (now : ℕ) → List ℕ
+    → List ℕ → Type 0
 IsCardInserting app registration odometer owed now x c =
-    ((session_time app x ≡ 0) × InsertingClosed app registration now x c) ⊎ ((session_time app x ≢ 0) × InsertingOpen app registration odometer owed now x c)
+    ((session_time app x ≡ 0) × InsertingClosed app registration now x c)
+    ⊎ ((session_time app x ≢ 0) × InsertingOpen app registration odometer owed now x c)
 
 -- a card that is accepted, as a session over it knows it: of this current use
 pub record Takes (s : Session) (current : CurrentUse) (x : List ℕ) : Type 0 where
@@ -230,8 +266,11 @@ pub record Takes (s : Session) (current : CurrentUse) (x : List ℕ) : Type 0 wh
   pub ready : session_time s.application x ≡ 0 → IsOpenBook (book_of s.application x)
   pub strict : session_time s.application x ≢ 0 → EndsCut (book_of s.application x)
 
-abbrev pub IsTaken : (s next : Session) → CurrentUse → (odometer : ℕ) → (owed : List Entry) → (now : ℕ) → List ℕ → List ℕ → Type 0
-IsTaken s next current odometer owed now x y = Takes s current x → IsCardInserted s.application s.registration odometer owed now x y × IsSession next y
+abbrev pub IsTaken : (s next : Session) → CurrentUse → (odometer : ℕ) → (owed : List Entry) → (now : ℕ) → List ℕ
+    → List ℕ → Type 0
+IsTaken s next current odometer owed now x y = Takes s current x
+    → IsCardInserted s.application s.registration odometer owed now x y × IsSession next y
 
 abbrev pub IsTaking : Session → CurrentUse → (odometer : ℕ) → (owed : List Entry) → (now : ℕ) → List ℕ → List ℕ → Type 0
-IsTaking s current odometer owed now x c = Takes s current x → IsCardInserting s.application s.registration odometer owed now x c
+IsTaking s current odometer owed now x c = Takes s current x
+    → IsCardInserting s.application s.registration odometer owed now x c

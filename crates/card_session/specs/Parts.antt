@@ -1,5 +1,6 @@
 -- What the parts of a session's calls do, each after it and at each of its moments.
-use Rattle.std.specs.Prelude.{◌≡◌, ◌≢◌, ◌⊎◌, ℕ, ◌+◌, ◌-◌, ◌*◌, ◌<◌, Bool, false, Option, Some, None, option_map, List, [], length, IfSome}
+use Rattle.std.specs.Prelude.{◌≡◌, ◌≢◌, ◌⊎◌, ℕ, ◌+◌, ◌-◌, ◌*◌, ◌<◌, Bool, false, Option, Some, None, option_map, List}
+use Rattle.std.specs.Prelude.{[], length, IfSome}
 use Rattle.activity_codec.specs.declared.entries.Entry.{Entry}
 use Rattle.tach_media.specs.Medium.{State, LeavesOnly, HasCause}
 use Rattle.card_session.specs.Vehicles.{Vehicles, with_room, with_vehicle}
@@ -8,7 +9,9 @@ use Rattle.card_model.specs.Changes.{Remain, OnNewest, TakesWord, IsNext, date_o
 use Rattle.card_retention.specs.Entries.{newest_word}
 use Rattle.tacho_types.specs.declared.texts.Registration.{Registration}
 use Rattle.card_days.specs.Steps.{IsIdle}
-use Rattle.card_session.specs.Books.{Book, mark_of, with_change, with_new_day, day_words, gap_closed, entered_days, travelled, used, vehicles_with, with_entry, measured_to, last_used, begun_vehicle, vehicle_counter}
+use Rattle.card_session.specs.Books.{Book, mark_of, with_change, with_new_day, day_words, gap_closed, entered_days}
+use Rattle.card_session.specs.Books.{travelled, used, vehicles_with, with_entry, measured_to, last_used, begun_vehicle}
+use Rattle.card_session.specs.Books.{vehicle_counter}
 use Rattle.card_session.specs.Sessions.{Session, KnowsCard, IsOpenBook, EndsStrictly, newest_in, book_of}
 use Rattle.card_session.specs.Moments.{IsBook, IsBeforeGap, IsBeforeWords, IsBeforeUse}
 use Rattle.card_session.specs.Cards.{IsCard}
@@ -21,11 +24,13 @@ pub record DoesPart (old new : State) (failed : Bool) (S R : List ℕ → List �
 
 -- of a card that is known, and whose book is such a one, it makes this book, which then is known
 abbrev pub IsPartDone : (s next : Session) → (Book → Type 0) → (Book → Book) → List ℕ → List ℕ → Type 0
-IsPartDone s next P f x y = KnowsCard s x → P (book_of s.application x) → IsCard s.application (IsBook (f (book_of s.application x))) x y × KnowsCard next y
+IsPartDone s next P f x y = KnowsCard s x → P (book_of s.application x)
+    → IsCard s.application (IsBook (f (book_of s.application x))) x y × KnowsCard next y
 
 -- a moment of it
 abbrev pub IsPartMoment : Session → (Book → Type 0) → (Book → List Day → Vehicles → Type 0) → List ℕ → List ℕ → Type 0
-IsPartMoment s P Q x c = KnowsCard s x → P (book_of s.application x) → IsCard s.application (Q (book_of s.application x)) x c
+IsPartMoment s P Q x c = KnowsCard s x → P (book_of s.application x)
+    → IsCard s.application (Q (book_of s.application x)) x c
 
 -- beside the days nothing that a session keeps has changed
 pub record HasSame (s next : Session) : Type 0 where
@@ -47,7 +52,8 @@ with_some size (Some w) b = record { days = with_change size w b.days; vehicles 
 
 abbrev pub IsAdding : (size : ℕ) → Option ℕ → Book → List Day → Vehicles → Type 0
 IsAdding size None b days vehicles = (days ≡ b.days) × (vehicles ≡ b.vehicles)
-IsAdding size (Some w) b days vehicles = (Remain (size - 2) b.days days ⊎ (days ≡ with_change size w b.days)) × (vehicles ≡ b.vehicles)
+IsAdding size (Some w) b days vehicles = (Remain (size - 2) b.days days ⊎ (days ≡ with_change size w b.days))
+    × (vehicles ≡ b.vehicles)
 
 -- CLOSE THE GAP before a minute: no word and no mark reaches it
 abbrev pub IsBeforeGapOf : (minute : ℕ) → Book → Type 0
@@ -57,7 +63,8 @@ abbrev pub with_gap_closed : (size minute : ℕ) → Book → Book
 with_gap_closed size minute b = record { days = gap_closed size (mark_of b) minute b.days; vehicles = b.vehicles }
 
 abbrev pub IsClosingGap : (size minute : ℕ) → Book → List Day → Vehicles → Type 0
-IsClosingGap size minute b days vehicles = (IsBeforeGap size (mark_of b) minute b.days days ⊎ (days ≡ gap_closed size (mark_of b) minute b.days)) × (vehicles ≡ b.vehicles)
+IsClosingGap size minute b days vehicles = (IsBeforeGap size (mark_of b) minute b.days days
+    ⊎ (days ≡ gap_closed size (mark_of b) minute b.days)) × (vehicles ≡ b.vehicles)
 
 -- BEGIN THE DAY of an entry
 abbrev pub BeginsDay : Entry → Book → Type 0
@@ -67,7 +74,8 @@ abbrev pub with_day : (size : ℕ) → Entry → Book → Book
 with_day size e b = record { days = with_new_day size e b.days; vehicles = b.vehicles }
 
 abbrev pub IsBeforeDay : (size : ℕ) → Entry → Book → List Day → Vehicles → Type 0
-IsBeforeDay size e b days vehicles = (Remain (size - (12 + 2 * length (day_words e))) b.days days ⊎ (days ≡ with_new_day size e b.days)) × (vehicles ≡ b.vehicles)
+IsBeforeDay size e b days vehicles = (Remain (size - (12 + 2 * length (day_words e))) b.days days
+    ⊎ (days ≡ with_new_day size e b.days)) × (vehicles ≡ b.vehicles)
 
 -- AN ENTRY'S WORDS: no word reaches its minute
 abbrev pub IsBeforeEntry : Entry → Book → Type 0
@@ -77,7 +85,8 @@ abbrev pub with_entry_words : (size : ℕ) → Entry → Book → Book
 with_entry_words size e b = record { days = entered_days size e b.days; vehicles = b.vehicles }
 
 abbrev pub IsWriting : (size : ℕ) → Entry → Book → List Day → Vehicles → Type 0
-IsWriting size e b days vehicles = (IsBeforeWords size e b.days days ⊎ (days ≡ entered_days size e b.days)) × (vehicles ≡ b.vehicles)
+IsWriting size e b days vehicles = (IsBeforeWords size e b.days days ⊎ (days ≡ entered_days size e b.days))
+    × (vehicles ≡ b.vehicles)
 
 -- THE DISTANCE of the newest day
 abbrev pub HasDay : Book → Type 0
@@ -94,18 +103,24 @@ abbrev pub AnyBook : Book → Type 0
 AnyBook b = Unit {0}
 
 abbrev pub with_use : Registration → (odometer minute : ℕ) → Book → Book
-with_use registration odometer minute b = record { days = b.days; vehicles = vehicles_with registration odometer minute b.vehicles }
+with_use registration odometer minute b = record {
+  days = b.days;
+  vehicles = vehicles_with registration odometer minute
+      b.vehicles;
+}
 
 abbrev pub IsUsing : Registration → (odometer minute : ℕ) → Book → List Day → Vehicles → Type 0
 IsUsing registration odometer minute b days vehicles =
-    (days ≡ b.days) × (IsBeforeUse registration odometer minute b.vehicles vehicles ⊎ (vehicles ≡ vehicles_with registration odometer minute b.vehicles))
+    (days ≡ b.days) × (IsBeforeUse registration odometer minute b.vehicles vehicles
+    ⊎ (vehicles ≡ vehicles_with registration odometer minute b.vehicles))
 
 -- one of its fields: the odometer value at its end, or the last use
 abbrev pub with_measured : (odometer : ℕ) → Book → Book
 with_measured odometer b = record { days = b.days; vehicles = measured_to odometer b.vehicles }
 
 abbrev pub IsSettingOdometer : (odometer : ℕ) → Book → List Day → Vehicles → Type 0
-IsSettingOdometer odometer b days vehicles = (days ≡ b.days) × ((vehicles ≡ b.vehicles) ⊎ (vehicles ≡ measured_to odometer b.vehicles))
+IsSettingOdometer odometer b days vehicles = (days ≡ b.days)
+    × ((vehicles ≡ b.vehicles) ⊎ (vehicles ≡ measured_to odometer b.vehicles))
 
 abbrev pub with_last_use : (seconds : ℕ) → Book → Book
 with_last_use seconds b = record { days = b.days; vehicles = last_used seconds b.vehicles }
@@ -115,18 +130,25 @@ abbrev pub used_session : (seconds : ℕ) → Session → Session
 used_session seconds s = record s { vehicle = option_map (used seconds) s.vehicle }
 
 abbrev pub IsSettingUse : (seconds : ℕ) → Book → List Day → Vehicles → Type 0
-IsSettingUse seconds b days vehicles = (days ≡ b.days) × ((vehicles ≡ b.vehicles) ⊎ (vehicles ≡ last_used seconds b.vehicles))
+IsSettingUse seconds b days vehicles = (days ≡ b.days)
+    × ((vehicles ≡ b.vehicles) ⊎ (vehicles ≡ last_used seconds b.vehicles))
 
 -- or a new one
 abbrev pub with_new_use : Registration → (odometer minute : ℕ) → Book → Book
 with_new_use registration odometer minute b =
-    record { days = b.days; vehicles = with_vehicle (begun_vehicle registration odometer minute (vehicle_counter b.vehicles.newest)) b.vehicles }
+    record {
+      days = b.days;
+      vehicles = with_vehicle
+          (begun_vehicle registration odometer minute (vehicle_counter b.vehicles.newest)) b.vehicles;
+    }
 
 abbrev pub IsAddingUse : Registration → (odometer minute : ℕ) → Book → List Day → Vehicles → Type 0
 IsAddingUse registration odometer minute b days vehicles =
     (days ≡ b.days)
     × ((vehicles ≡ b.vehicles)
-    ⊎ ((vehicles ≡ with_room b.vehicles) ⊎ (vehicles ≡ with_vehicle (begun_vehicle registration odometer minute (vehicle_counter b.vehicles.newest)) b.vehicles)))
+    ⊎ ((vehicles ≡ with_room b.vehicles)
+    ⊎ (vehicles ≡ with_vehicle (begun_vehicle registration odometer minute (vehicle_counter b.vehicles.newest))
+    b.vehicles)))
 
 -- beside the newest vehicle entry nothing that a session keeps has changed
 pub record SameButVehicle (s t : Session) : Type 0 where

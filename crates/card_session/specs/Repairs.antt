@@ -1,4 +1,5 @@
--- What a card shows, by the stated overwriting, of the entries that an insertion replays, and its newest minute with them.
+-- What a card shows, by the stated overwriting, of the entries that an insertion replays, and its newest minute with
+-- them.
 use Rattle.std.specs.Prelude.{◌≡◌, ◌⊎◌, ℕ, ◌/◌, ◌<◌, false, Some, List, [], ◌∷◌, ◌++◌}
 use Rattle.activity_codec.specs.declared.entries.Entry.{Entry}
 use Rattle.card_layout.specs.declared.files.Application.{Application}
@@ -31,14 +32,16 @@ abbrev pub with_entries : (covered : ℕ) → Counted → List Entry → Counted
 with_entries covered c [] = c
 with_entries covered c (e ∷ es) = with_entries covered (with_entry covered c e) es
 
--- Days with an end mark, of entries that were lacked behind another: the first of them are there, the mark is that of the last of these,
--- and once a repair has cut the days to it they are those that the overwriting leaves of all so far.
-pub record HasFirst (size : ℕ) (slack : Bound) (covered next mark : ℕ) (c : Counted) (es : List Entry) (now : ℕ) (days : List Day) : Type 0 where
+-- Days with an end mark, of entries that were lacked behind another: the first of them are there, the mark is that of
+-- the last of these, and once a repair has cut the days to it they are those that the overwriting leaves of all so far.
+pub record HasFirst (size : ℕ) (slack : Bound) (covered next mark : ℕ) (c : Counted) (es : List Entry) (now : ℕ)
+    (days : List Day) : Type 0 where
   pub done : List Entry
   pub rest : List Entry
   pub split : es ≡ done ++ rest
   pub behind : now ≡ mark_behind mark done
-  pub shows : Rests size (and_entries slack done) covered (first_minute next rest) now (with_entries covered c done) (trimmed now days)
+  pub shows : Rests size (and_entries slack done) covered (first_minute next rest) now (with_entries covered c done)
+      (trimmed now days)
 
 -- the first entry's day, where the days that a cut leaves do not have it, is later than that of the end mark
 abbrev pub BeginsLater : (mark : ℕ) → List Entry → List Day → Type 0
@@ -50,15 +53,19 @@ abbrev pub lacked_by : Application → List ℕ → List Entry → List Entry
 lacked_by app x owed = lacked (end_mark app x) owed
 
 -- a card shows the first of those that another lacked
-abbrev pub ShowsFirst : Application → (slack : Bound) → (covered next : ℕ) → Counted → (owed : List Entry) → List ℕ → List ℕ → Type 0
-ShowsFirst app slack covered next c owed x y = HasFirst app.activity slack covered next (end_mark app x) c (lacked_by app x owed) (end_mark app y) (card_days app y)
+abbrev pub ShowsFirst : Application → (slack : Bound) → (covered next : ℕ) → Counted → (owed : List Entry) → List ℕ
+    → List ℕ → Type 0
+ShowsFirst app slack covered next c owed x y = HasFirst app.activity slack covered next (end_mark app x) c
+    (lacked_by app x owed) (end_mark app y) (card_days app y)
 
 -- or all of them, whatever is kept next
-abbrev pub ShowsOwed : Application → (slack : Bound) → (covered next : ℕ) → Counted → (owed : List Entry) → List ℕ → List ℕ → Type 0
-ShowsOwed app slack covered next c owed x y = DaysFollowOverwriting app (and_entries slack (lacked_by app x owed)) covered next (with_entries covered c (lacked_by app x owed)) y
+abbrev pub ShowsOwed : Application → (slack : Bound) → (covered next : ℕ) → Counted → (owed : List Entry) → List ℕ
+    → List ℕ → Type 0
+ShowsOwed app slack covered next c owed x y = DaysFollowOverwriting app (and_entries slack (lacked_by app x owed))
+    covered next (with_entries covered c (lacked_by app x owed)) y
 
--- Days with an end mark show, behind the entries of before, the first of those that were lacked behind another, and the mark is that of
--- the last of these.
+-- Days with an end mark show, behind the entries of before, the first of those that were lacked behind another, and the
+-- mark is that of the last of these.
 pub record HasShown (mark : ℕ) (all es : List Entry) (now : ℕ) (days : List Day) : Type 0 where
   pub done : List Entry
   pub rest : List Entry
@@ -74,8 +81,8 @@ abbrev pub newest_behind : (newest : ℕ) → List Entry → ℕ
 newest_behind newest [] = newest
 newest_behind newest (e ∷ es) = newest_behind (closed_at (Some e)) es
 
--- With the first of the entries that were lacked behind an end mark the newest minute is the one behind the last of these. The end mark
--- is that of the last of these, or, once all are there, the newest minute.
+-- With the first of the entries that were lacked behind an end mark the newest minute is the one behind the last of
+-- these. The end mark is that of the last of these, or, once all are there, the newest minute.
 pub record NewestSoFar (mark was : ℕ) (es : List Entry) (now is : ℕ) : Type 0 where
   pub done : List Entry
   pub rest : List Entry

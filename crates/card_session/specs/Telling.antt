@@ -1,5 +1,6 @@
 -- What a session writes, by the end of the string as it is kept.
-use Rattle.std.specs.Prelude.{ℕ, suc, ◌+◌, ◌/◌, Bool, false, not, ◌&&◌, Option, Some, None, nat_eq, nat_lt, if◌then◌else◌}
+use Rattle.std.specs.Prelude.{ℕ, suc, ◌+◌, ◌/◌, Bool, false, not, ◌&&◌, Option, Some, None, nat_eq, nat_lt}
+use Rattle.std.specs.Prelude.{if◌then◌else◌}
 use Rattle.activity_codec.specs.declared.values.Activity.{Activity}
 use Rattle.activity_codec.specs.declared.values.Activity.TheVariants.{Rest}
 use Rattle.activity_codec.specs.declared.entries.Entry.{Entry}
@@ -8,7 +9,8 @@ use Rattle.card_model.specs.Changes.{date_of}
 use Rattle.card_days.specs.declared.head.Tail.{Tail}
 use Rattle.card_session.specs.Books.{closing_word, entry_word}
 
--- The word that closes at the minute after the mark, where the latest word is an entry's and that minute lies in the newest day.
+-- The word that closes at the minute after the mark, where the latest word is an entry's and that minute lies in the
+-- newest day.
 abbrev pub closing_at : (mark : ℕ) → Activity → Option Tail → Option ℕ
 closing_at mark act None = None
 closing_at mark act (Some t) =

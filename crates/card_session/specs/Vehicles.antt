@@ -1,20 +1,22 @@
 -- The vehicle entries of a card, all of them, in their order; and how one changes, or a new one comes (profile).
-use Rattle.std.specs.Prelude.{ℕ, Bool, true, false, Option, Some, None, option_map, List, [], ◌∷◌, ◌++◌, map, if◌then◌else◌}
+use Rattle.std.specs.Prelude.{ℕ, Bool, true, false, Option, Some, None, option_map, List, [], ◌∷◌, ◌++◌, map}
+use Rattle.std.specs.Prelude.{if◌then◌else◌}
 use Rattle.card_layout.specs.declared.files.Application.{Application}
 use Rattle.card_files.specs.declared.vehicle.Vehicle.{Vehicle}
 use Rattle.card_files.specs.Vehicles.{vehicle_of}
 use Rattle.gated_ring.specs.Ring.{is_there, entry_at, order, taken}
 use Rattle.card_image.specs.Fields.{vehicle_ring, newest_vehicle, last_use_of}
 
--- THE VEHICLE ENTRIES OF A CARD: the newest one; and the places of its ring, from the one that the next entry takes round to the one before it,
--- None where no entry stands.
+-- THE VEHICLE ENTRIES OF A CARD: the newest one; and the places of its ring, from the one that the next entry takes
+-- round to the one before it, None where no entry stands.
 pub record Vehicles : Type 0 where
   pub newest : Option Vehicle
   pub ring : List (Option Vehicle)
 
 -- what stands at a place of an image's ring, and all of them
 abbrev pub standing_at : Application → List ℕ → ℕ → Option Vehicle
-standing_at app x i = if is_there (vehicle_ring app) x i then Some (vehicle_of (entry_at (vehicle_ring app) x i)) else None
+standing_at app x i = if is_there (vehicle_ring app) x i then Some (vehicle_of (entry_at (vehicle_ring app) x i))
+    else None
 
 unfoldable pub ring_round : Application → List ℕ → List (Option Vehicle)
 ring_round app x = map (standing_at app x) (order (vehicle_ring app) (taken (vehicle_ring app) x))

@@ -1,11 +1,13 @@
-//! Entries by hand of a session (profile): each is one word of the card, behind all its words, before the session's first keep.
+//! Entries by hand of a session (profile): each is one word of the card, behind all its words, before the session's
+//! first keep.
 ghost use Rattle.std.specs.Prelude.{◌≡◌, ◌≤◌, ◌<◌, ◌+◌, OnOk, Some, IfSome, is_err};
 ghost use Rattle.tach_media.specs.Medium.{LeavesOnly, HasCause};
 ghost use Rattle.hand_model.specs.Manual.{manual_word};
 ghost use Rattle.card_session.specs.declared.words.TheConstants.{LATEST_MINUTE};
 ghost use Rattle.card_session.specs.Sessions.{IsSession, IsValue, MayKeep};
 ghost use Rattle.card_session.specs.Parts.{DoesPart, IsPartDone, IsPartMoment, HasSame, TakesSome, with_some, IsAdding};
-ghost use Rattle.card_session.specs.ByHand.{IsCardByHand, IsCardEntering, IsByHandMoment, IsBeforeWordAt, BeginsFrom, with_day_in, IsBeforeDayFrom, by_hand};
+ghost use Rattle.card_session.specs.ByHand.{IsCardByHand, IsCardEntering, IsByHandMoment, IsBeforeWordAt, BeginsFrom};
+ghost use Rattle.card_session.specs.ByHand.{with_day_in, IsBeforeDayFrom, by_hand};
 
 use crate::session::CardSession;
 use crate::words::{DAY_MINUTES, bare_word, is_newest_day};
@@ -16,17 +18,21 @@ use tach_media::{Failed, Medium};
 use tacho_types::TimeReal;
 
 impl CardSession {
-    /// Writes an entry by hand, which is later than all words of the card and than its end mark. That stays, so no minute of the
-    /// card changes: the entry counts once the end mark is moved behind it.
+    /// Writes an entry by hand, which is later than all words of the card and than its end mark. That stays, so no
+    /// minute of the card changes: the entry counts once the end mark is moved behind it.
     pub fn enter_by_hand<M: Medium>(&mut self, port: &mut M, entry: &Manual) -> Result<(), Failed>
         requires card { MayKeep self.old.application (M.state port.old) }
         requires later { self.old.minute < entry.now.minute }
         requires first { 1440 ≤ entry.now.minute }
         requires last { entry.now.minute ≤ LATEST_MINUTE }
-        ensures same { (self.new.application ≡ self.old.application) × (self.new.registration ≡ self.old.registration) × (self.new.odometer ≡ self.old.odometer) }
+        ensures same { (self.new.application ≡ self.old.application) × (self.new.registration ≡ self.old.registration)
+            × (self.new.odometer ≡ self.old.odometer) }
         ensures last { OnOk result (self.new.minute ≡ entry.now.minute) }
-        ensures entered { OnOk result (IfSome (M.state port.old).image (λ x. IfSome (M.state port.new).image (λ y. IsSession self.old x → IsCardByHand self.old self.new entry.now x y))) }
-        ensures moments { LeavesOnly (M.state port.old) (M.state port.new) (λ x c. IsSession self.old x → IsCardEntering self.old entry.now x c) }
+        ensures entered { OnOk result (IfSome (M.state port.old).image
+            (λ x. IfSome (M.state port.new).image
+            (λ y. IsSession self.old x → IsCardByHand self.old self.new entry.now x y))) }
+        ensures moments { LeavesOnly (M.state port.old) (M.state port.new)
+            (λ x c. IsSession self.old x → IsCardEntering self.old entry.now x c) }
         ensures cause { HasCause (M.state port.old) (M.state port.new) (is_err result) }
         ensures most { (M.state port.new).clock ≤ (M.state port.old).clock + 9 }
     {
@@ -42,7 +48,11 @@ impl CardSession {
         requires last { entry.now.minute ≤ LATEST_MINUTE }
         ensures value { IsValue self.old }
         ensures same { HasSame self.old self.new }
-        ensures part { DoesPart (M.state port.old) (M.state port.new) (is_err result) (IsPartDone self.old self.new (IsBeforeWordAt entry.now.minute) (by_hand self.old.application.activity entry.now)) (IsPartMoment self.old (IsBeforeWordAt entry.now.minute) (IsByHandMoment self.old.application.activity entry.now)) }
+        ensures part { DoesPart (M.state port.old) (M.state port.new) (is_err result)
+            (IsPartDone self.old self.new (IsBeforeWordAt entry.now.minute)
+            (by_hand self.old.application.activity entry.now))
+            (IsPartMoment self.old (IsBeforeWordAt entry.now.minute)
+            (IsByHandMoment self.old.application.activity entry.now)) }
         ensures called { HasCause (M.state port.old) (M.state port.new) (is_err result) }
         ensures most { (M.state port.new).clock ≤ (M.state port.old).clock + 9 }
     {
@@ -58,7 +68,11 @@ impl CardSession {
     fn append_by_hand<M: Medium>(&mut self, port: &mut M, entry: &Manual) -> Result<(), Failed>
         requires card { MayKeep self.old.application (M.state port.old) }
         ensures same { HasSame self.old self.new }
-        ensures part { DoesPart (M.state port.old) (M.state port.new) (is_err result) (IsPartDone self.old self.new (TakesSome (Some (manual_word entry.now))) (with_some self.old.application.activity (Some (manual_word entry.now)))) (IsPartMoment self.old (TakesSome (Some (manual_word entry.now))) (IsAdding self.old.application.activity (Some (manual_word entry.now)))) }
+        ensures part { DoesPart (M.state port.old) (M.state port.new) (is_err result)
+            (IsPartDone self.old self.new (TakesSome (Some (manual_word entry.now)))
+            (with_some self.old.application.activity (Some (manual_word entry.now))))
+            (IsPartMoment self.old (TakesSome (Some (manual_word entry.now)))
+            (IsAdding self.old.application.activity (Some (manual_word entry.now)))) }
         ensures called { HasCause (M.state port.old) (M.state port.new) (is_err result) }
         ensures most { (M.state port.new).clock ≤ (M.state port.old).clock + 6 }
     {
@@ -70,7 +84,11 @@ impl CardSession {
         requires card { MayKeep self.old.application (M.state port.old) }
         requires last { entry.now.minute ≤ LATEST_MINUTE }
         ensures same { HasSame self.old self.new }
-        ensures part { DoesPart (M.state port.old) (M.state port.new) (is_err result) (IsPartDone self.old self.new (BeginsFrom entry.now.minute (manual_word entry.now)) (with_day_in self.old.application.activity entry.now.minute (manual_word entry.now))) (IsPartMoment self.old (BeginsFrom entry.now.minute (manual_word entry.now)) (IsBeforeDayFrom self.old.application.activity entry.now.minute (manual_word entry.now))) }
+        ensures part { DoesPart (M.state port.old) (M.state port.new) (is_err result)
+            (IsPartDone self.old self.new (BeginsFrom entry.now.minute (manual_word entry.now))
+            (with_day_in self.old.application.activity entry.now.minute (manual_word entry.now)))
+            (IsPartMoment self.old (BeginsFrom entry.now.minute (manual_word entry.now))
+            (IsBeforeDayFrom self.old.application.activity entry.now.minute (manual_word entry.now))) }
         ensures called { HasCause (M.state port.old) (M.state port.new) (is_err result) }
         ensures most { (M.state port.new).clock ≤ (M.state port.old).clock + 9 }
     {

@@ -1,11 +1,13 @@
-//! The insertion of a driver card (profile): it is judged, what a session left that was not closed is repaired, and a session is
-//! opened.
-ghost use Rattle.std.specs.Prelude.{min, max, false, ◌≡◌, ◌≢◌, ◌⊎◌, ◌≤◌, ◌<◌, ◌+◌, ◌*◌, ◌/◌, ◌^◌, length, All, Some, None, List, ℕ, IfOk, IfErr, IfSome, IfNone, IsOk, OnOk, is_err, option_map};
+//! The insertion of a driver card (profile): it is judged, what a session left that was not closed is repaired, and a
+//! session is opened.
+ghost use Rattle.std.specs.Prelude.{min, max, false, ◌≡◌, ◌≢◌, ◌⊎◌, ◌≤◌, ◌<◌, ◌+◌, ◌*◌, ◌/◌, ◌^◌, length, All, Some};
+ghost use Rattle.std.specs.Prelude.{None, List, ℕ, IfOk, IfErr, IfSome, IfNone, IsOk, OnOk, is_err, option_map};
 ghost use Rattle.activity_codec.specs.declared.values.Activity.TheVariants.{Rest};
 ghost use Rattle.card_layout.specs.Application.{IsApplication};
 ghost use Rattle.card_layout.specs.Files.{place_of};
 ghost use Rattle.card_layout.specs.declared.files.Application.{Application};
-ghost use Rattle.tach_media.specs.Medium.{LeavesOnly, Unchanged, Reads, HasCause, IsPartlyWritten, IsSettled, last_count};
+ghost use Rattle.tach_media.specs.Medium.{LeavesOnly, Unchanged, Reads, HasCause, IsPartlyWritten, IsSettled};
+ghost use Rattle.tach_media.specs.Medium.{last_count};
 ghost use Rattle.card_model.specs.declared.lengths.TheConstants.{DAYS_MOST};
 ghost use Rattle.card_model.specs.Changes.{trimmed};
 ghost use Rattle.card_image.specs.Fields.{file, last_use_of, current_use, session_time, end_mark};
@@ -16,11 +18,17 @@ ghost use Rattle.card_validity.specs.Judged.{TellsSizes, IsKnown};
 ghost use Rattle.card_session.specs.Books.{mark_of, closed};
 ghost use Rattle.card_session.specs.declared.words.TheConstants.{LATEST_MINUTE};
 ghost use Rattle.card_session.specs.Telling.{minute_told};
-ghost use Rattle.card_session.specs.Sessions.{IsSession, IsOpenBook, IsValue, KnowsCard, EndsStrictly, MayKeep, book_of};
+ghost use Rattle.card_session.specs.Sessions.{IsSession, IsOpenBook, IsValue, KnowsCard, EndsStrictly, MayKeep};
+ghost use Rattle.card_session.specs.Sessions.{book_of};
 ghost use Rattle.card_session.specs.Moments.{IsBook, IsCloseMoment};
 ghost use Rattle.card_session.specs.Cards.{IsCard};
 ghost use Rattle.card_session.specs.Parts.{DoesPart, IsPartDone, IsPartMoment, HasSame, AnyBook};
-ghost use Rattle.card_session.specs.Inserting.{AreOwed, Follow, MayInsert, lacked, with_cut, IsCutting, with_owed, IsBeforeAll, IsReplaying, MayShut, EndsCut, IsSessionMended, IsMendMoment, IsShutThen, IsShutThenMoment, IsReopened, IsReopening, IsStarted, IsStartMoment, IsTaken, IsTaking, replayed_count, repaired, IsRepairMoment, IsNoted, IsNoting, timed, registered, IsOpening, IsCardInserted, IsCardInserting};
+ghost use Rattle.card_session.specs.Inserting.{AreOwed, Follow, MayInsert, lacked, with_cut, IsCutting, with_owed};
+ghost use Rattle.card_session.specs.Inserting.{IsBeforeAll, IsReplaying, MayShut, EndsCut, IsSessionMended};
+ghost use Rattle.card_session.specs.Inserting.{IsMendMoment, IsShutThen, IsShutThenMoment, IsReopened, IsReopening};
+ghost use Rattle.card_session.specs.Inserting.{IsStarted, IsStartMoment, IsTaken, IsTaking, replayed_count, repaired};
+ghost use Rattle.card_session.specs.Inserting.{IsRepairMoment, IsNoted, IsNoting, timed, registered, IsOpening};
+ghost use Rattle.card_session.specs.Inserting.{IsCardInserted, IsCardInserting};
 
 use crate::session::{CardSession, Kept, newest_minute, session_place};
 use crate::vehicle_use::last_use;
@@ -48,7 +56,8 @@ impl CardSession {
     fn finish_drop<M: Medium>(&mut self, port: &mut M) -> Result<(), Failed>
         requires card { MayKeep self.old.application (M.state port.old) }
         ensures same { HasSame self.old self.new }
-        ensures part { DoesPart (M.state port.old) (M.state port.new) (is_err result) (IsPartDone self.old self.new AnyBook (λ b. b)) (IsPartMoment self.old AnyBook IsBook) }
+        ensures part { DoesPart (M.state port.old) (M.state port.new) (is_err result)
+            (IsPartDone self.old self.new AnyBook (λ b. b)) (IsPartMoment self.old AnyBook IsBook) }
         ensures most { (M.state port.new).clock ≤ (M.state port.old).clock + 1 }
     {
         self.days.finish_drop(port)
@@ -59,7 +68,9 @@ impl CardSession {
         requires card { MayKeep self.old.application (M.state port.old) }
         ensures same { HasSame self.old self.new }
         ensures value { IsValue self.new }
-        ensures part { DoesPart (M.state port.old) (M.state port.new) (is_err result) (IsPartDone self.old self.new AnyBook (with_cut minute)) (IsPartMoment self.old AnyBook (IsCutting minute)) }
+        ensures part { DoesPart (M.state port.old) (M.state port.new) (is_err result)
+            (IsPartDone self.old self.new AnyBook (with_cut minute))
+            (IsPartMoment self.old AnyBook (IsCutting minute)) }
         ensures most { (M.state port.new).clock ≤ (M.state port.old).clock + (DAYS_MOST + 1) }
     {
         self.days.trim(port, minute)
@@ -76,9 +87,17 @@ impl CardSession {
         requires value { IsValue self.old }
         requires minutes { All (λ e. (1440 ≤ e.minute) × (e.minute ≤ LATEST_MINUTE)) entries.now }
         requires fits { odometer.0 < 2 ^ 24 }
-        ensures same { (self.new.application ≡ self.old.application) × (self.new.registration ≡ self.old.registration) × (self.new.odometer ≡ self.old.odometer) }
-        ensures part { DoesPart (M.state port.old) (M.state port.new) (is_err result) (IsPartDone self.old self.new (IsBeforeAll entries.now) (with_owed self.old.application.activity self.old.registration odometer.0 entries.now)) (IsPartMoment self.old (IsBeforeAll entries.now) (IsReplaying self.old.application.activity self.old.registration odometer.0 entries.now)) }
-        ensures open { OnOk result (IfSome (M.state port.old).image (λ x. KnowsCard self.old x → IsBeforeAll entries.now (book_of self.old.application x) → IsOpenBook (with_owed self.old.application.activity self.old.registration odometer.0 entries.now (book_of self.old.application x)))) }
+        ensures same { (self.new.application ≡ self.old.application) × (self.new.registration ≡ self.old.registration)
+            × (self.new.odometer ≡ self.old.odometer) }
+        ensures part { DoesPart (M.state port.old) (M.state port.new) (is_err result)
+            (IsPartDone self.old self.new (IsBeforeAll entries.now)
+            (with_owed self.old.application.activity self.old.registration odometer.0 entries.now))
+            (IsPartMoment self.old (IsBeforeAll entries.now)
+            (IsReplaying self.old.application.activity self.old.registration odometer.0 entries.now)) }
+        ensures open { OnOk result (IfSome (M.state port.old).image
+            (λ x. KnowsCard self.old x → IsBeforeAll entries.now (book_of self.old.application x)
+            → IsOpenBook (with_owed self.old.application.activity self.old.registration odometer.0 entries.now
+            (book_of self.old.application x)))) }
         ensures most { (M.state port.new).clock ≤ (M.state port.old).clock + 17 * length entries.now }
     {
         for entry in entries {
@@ -91,8 +110,8 @@ impl CardSession {
         Ok(())
     }
 
-    // Repairs a card whose session was left open: cuts its days at the end mark, and replays the owed entries that it lacks. It
-    // gives their number.
+    // Repairs a card whose session was left open: cuts its days at the end mark, and replays the owed entries that it
+    // lacks. It gives their number.
     fn repair<M: Medium>(
         &mut self,
         port: &mut M,
@@ -104,9 +123,17 @@ impl CardSession {
         requires minutes { All (λ e. (1440 ≤ e.minute) × (e.minute ≤ LATEST_MINUTE)) owed.now }
         requires few { length owed.now ≤ 4 }
         requires fits { odometer.0 < 2 ^ 24 }
-        ensures same { (self.new.application ≡ self.old.application) × (self.new.registration ≡ self.old.registration) × (self.new.odometer ≡ self.old.odometer) }
-        ensures part { DoesPart (M.state port.old) (M.state port.new) (is_err result) (IsPartDone self.old self.new EndsCut (repaired self.old.application.activity self.old.registration odometer.0 owed.now)) (IsPartMoment self.old EndsCut (IsRepairMoment self.old.application.activity self.old.registration odometer.0 owed.now)) }
-        ensures open { OnOk result (IfSome (M.state port.old).image (λ x. KnowsCard self.old x → EndsCut (book_of self.old.application x) → IsOpenBook (repaired self.old.application.activity self.old.registration odometer.0 owed.now (book_of self.old.application x)))) }
+        ensures same { (self.new.application ≡ self.old.application) × (self.new.registration ≡ self.old.registration)
+            × (self.new.odometer ≡ self.old.odometer) }
+        ensures part { DoesPart (M.state port.old) (M.state port.new) (is_err result)
+            (IsPartDone self.old self.new EndsCut
+            (repaired self.old.application.activity self.old.registration odometer.0 owed.now))
+            (IsPartMoment self.old EndsCut (IsRepairMoment self.old.application.activity self.old.registration
+            odometer.0 owed.now)) }
+        ensures open { OnOk result (IfSome (M.state port.old).image
+            (λ x. KnowsCard self.old x → EndsCut (book_of self.old.application x)
+            → IsOpenBook (repaired self.old.application.activity self.old.registration odometer.0 owed.now
+            (book_of self.old.application x)))) }
         ensures count { IfOk result (λ n. n ≡ length (lacked (last_use_of self.old.vehicle / 60) owed.now)) }
         ensures most { (M.state port.new).clock ≤ (M.state port.old).clock + (DAYS_MOST + 69) }
     {
@@ -132,8 +159,11 @@ impl CardSession {
     fn shut<M: Medium>(&mut self, port: &mut M) -> Result<(), Failed>
         requires card { MayKeep self.old.application (M.state port.old) }
         ensures value { IsValue self.old }
-        ensures same { (self.new.application ≡ self.old.application) × (self.new.registration ≡ self.old.registration) × (self.new.odometer ≡ self.old.odometer) }
-        ensures part { DoesPart (M.state port.old) (M.state port.new) (is_err result) (IsPartDone self.old self.new MayShut (closed self.old.application.activity Rest)) (IsPartMoment self.old MayShut (IsCloseMoment self.old.application.activity Rest)) }
+        ensures same { (self.new.application ≡ self.old.application) × (self.new.registration ≡ self.old.registration)
+            × (self.new.odometer ≡ self.old.odometer) }
+        ensures part { DoesPart (M.state port.old) (M.state port.new) (is_err result)
+            (IsPartDone self.old self.new MayShut (closed self.old.application.activity Rest))
+            (IsPartMoment self.old MayShut (IsCloseMoment self.old.application.activity Rest)) }
         ensures most { (M.state port.new).clock ≤ (M.state port.old).clock + 7 }
     {
         let mark = self.mark();
@@ -153,8 +183,10 @@ impl CardSession {
     // Writes the session time.
     fn set_session<M: Medium>(&self, port: &mut M, seconds: u32) -> Result<(), Failed>
         requires card { MayInsert self.now.application (M.state port.old) }
-        ensures written { OnOk result ((M.state port.new).image ≡ option_map (timed self.now.application seconds) (M.state port.old).image) }
-        ensures moments { LeavesOnly (M.state port.old) (M.state port.new) (λ x c. (c ≡ x) ⊎ (c ≡ timed self.now.application seconds x)) }
+        ensures written { OnOk result ((M.state port.new).image ≡ option_map (timed self.now.application seconds)
+            (M.state port.old).image) }
+        ensures moments { LeavesOnly (M.state port.old) (M.state port.new)
+            (λ x c. (c ≡ x) ⊎ (c ≡ timed self.now.application seconds x)) }
         ensures value { IsValue self.now }
         ensures settled { OnOk result ((M.state port.new).clock < last_count → IsSettled (M.state port.new)) }
         ensures cause { HasCause (M.state port.old) (M.state port.new) (is_err result) }
@@ -168,8 +200,10 @@ impl CardSession {
     // Writes the registration of the vehicle, behind the session time.
     fn set_registration<M: Medium>(&self, port: &mut M) -> Result<(), Failed>
         requires card { MayInsert self.now.application (M.state port.old) }
-        ensures written { OnOk result ((M.state port.new).image ≡ option_map (registered self.now.application self.now.registration) (M.state port.old).image) }
-        ensures moments { LeavesOnly (M.state port.old) (M.state port.new) (IsPartlyWritten (place_of self.now.application (file 0x0507) + 4) self.now.registration.0) }
+        ensures written { OnOk result ((M.state port.new).image ≡ option_map
+            (registered self.now.application self.now.registration) (M.state port.old).image) }
+        ensures moments { LeavesOnly (M.state port.old) (M.state port.new)
+            (IsPartlyWritten (place_of self.now.application (file 0x0507) + 4) self.now.registration.0) }
         ensures value { IsValue self.now }
         ensures long { length self.now.registration.0 ≡ 15 }
         ensures cause { HasCause (M.state port.old) (M.state port.new) (is_err result) }
@@ -184,8 +218,11 @@ impl CardSession {
     // Opens the session: the registration, and behind it the session time, which is the commit.
     fn open<M: Medium>(&self, port: &mut M, now: TimeReal) -> Result<(), Failed>
         requires card { MayInsert self.now.application (M.state port.old) }
-        ensures written { OnOk result ((M.state port.new).image ≡ option_map (λ x. timed self.now.application now.0 (registered self.now.application self.now.registration x)) (M.state port.old).image) }
-        ensures moments { LeavesOnly (M.state port.old) (M.state port.new) (IsOpening self.now.application self.now.registration now.0) }
+        ensures written { OnOk result ((M.state port.new).image ≡ option_map
+            (λ x. timed self.now.application now.0 (registered self.now.application self.now.registration x))
+            (M.state port.old).image) }
+        ensures moments { LeavesOnly (M.state port.old) (M.state port.new)
+            (IsOpening self.now.application self.now.registration now.0) }
         ensures value { IsValue self.now }
         ensures long { length self.now.registration.0 ≡ 15 }
         ensures settled { OnOk result ((M.state port.new).clock < last_count → IsSettled (M.state port.new)) }
@@ -196,8 +233,8 @@ impl CardSession {
         self.set_session(port, now.0)
     }
 
-    // Ends a drop that was cut short, repairs a card whose session was left open, of which this was the current use, and notes the
-    // event. It gives the number of the entries that were replayed.
+    // Ends a drop that was cut short, repairs a card whose session was left open, of which this was the current use,
+    // and notes the event. It gives the number of the entries that were replayed.
     fn mend<M: Medium>(
         &mut self,
         port: &mut M,
@@ -212,8 +249,11 @@ impl CardSession {
         requires minutes { All (λ e. (1440 ≤ e.minute) × (e.minute < LATEST_MINUTE)) owed.now }
         requires few { length owed.now ≤ 4 }
         requires fits { odometer.0 < 2 ^ 24 }
-        ensures same { (self.new.application ≡ self.old.application) × (self.new.registration ≡ self.old.registration) × (self.new.odometer ≡ self.old.odometer) }
-        ensures part { DoesPart (M.state port.old) (M.state port.new) (is_err result) (IsSessionMended self.old self.new current.now odometer.0 owed.now now.0) (IsMendMoment self.old current.now odometer.0 owed.now now.0) }
+        ensures same { (self.new.application ≡ self.old.application) × (self.new.registration ≡ self.old.registration)
+            × (self.new.odometer ≡ self.old.odometer) }
+        ensures part { DoesPart (M.state port.old) (M.state port.new) (is_err result)
+            (IsSessionMended self.old self.new current.now odometer.0 owed.now now.0)
+            (IsMendMoment self.old current.now odometer.0 owed.now now.0) }
         ensures count { IfOk result (λ n. n ≡ length (lacked (last_use_of self.old.vehicle / 60) owed.now)) }
         ensures most { (M.state port.new).clock ≤ (M.state port.old).clock + (DAYS_MOST + 74) }
     {
@@ -226,8 +266,11 @@ impl CardSession {
     // Closes the words of a card that is repaired, ends the session that was left open, and opens the new one.
     fn renew<M: Medium>(&mut self, port: &mut M, now: TimeReal) -> Result<(), Failed>
         requires card { MayInsert self.old.application (M.state port.old) }
-        ensures same { (self.new.application ≡ self.old.application) × (self.new.registration ≡ self.old.registration) × (self.new.odometer ≡ self.old.odometer) }
-        ensures part { DoesPart (M.state port.old) (M.state port.new) (is_err result) (IsShutThen self.old self.new (IsReopened self.old.application self.old.registration now.0)) (IsShutThenMoment self.old (IsReopening self.old.application self.old.registration now.0)) }
+        ensures same { (self.new.application ≡ self.old.application) × (self.new.registration ≡ self.old.registration)
+            × (self.new.odometer ≡ self.old.odometer) }
+        ensures part { DoesPart (M.state port.old) (M.state port.new) (is_err result)
+            (IsShutThen self.old self.new (IsReopened self.old.application self.old.registration now.0))
+            (IsShutThenMoment self.old (IsReopening self.old.application self.old.registration now.0)) }
         ensures settled { OnOk result ((M.state port.new).clock < last_count → IsSettled (M.state port.new)) }
         ensures called { HasCause (M.state port.old) (M.state port.new) (is_err result) }
         ensures most { (M.state port.new).clock ≤ (M.state port.old).clock + 10 }
@@ -240,8 +283,10 @@ impl CardSession {
     // Closes the words of a card without a session, and opens one.
     fn start<M: Medium>(&mut self, port: &mut M, now: TimeReal) -> Result<(), Failed>
         requires card { MayInsert self.old.application (M.state port.old) }
-        ensures same { (self.new.application ≡ self.old.application) × (self.new.registration ≡ self.old.registration) × (self.new.odometer ≡ self.old.odometer) }
-        ensures part { DoesPart (M.state port.old) (M.state port.new) (is_err result) (IsStarted self.old self.new now.0) (IsStartMoment self.old now.0) }
+        ensures same { (self.new.application ≡ self.old.application) × (self.new.registration ≡ self.old.registration)
+            × (self.new.odometer ≡ self.old.odometer) }
+        ensures part { DoesPart (M.state port.old) (M.state port.new) (is_err result)
+            (IsStarted self.old self.new now.0) (IsStartMoment self.old now.0) }
         ensures settled { OnOk result ((M.state port.new).clock < last_count → IsSettled (M.state port.new)) }
         ensures called { HasCause (M.state port.old) (M.state port.new) (is_err result) }
         ensures most { (M.state port.new).clock ≤ (M.state port.old).clock + 10 }
@@ -251,8 +296,8 @@ impl CardSession {
         self.open(port, now)
     }
 
-    // Repairs a card of this current use where its session was left open, and opens a session. It gives the number of the entries
-    // that were replayed.
+    // Repairs a card of this current use where its session was left open, and opens a session. It gives the number of
+    // the entries that were replayed.
     fn take_over<M: Medium>(
         &mut self,
         port: &mut M,
@@ -266,10 +311,14 @@ impl CardSession {
         requires minutes { All (λ e. (1440 ≤ e.minute) × (e.minute < LATEST_MINUTE)) owed.now }
         requires few { length owed.now ≤ 4 }
         requires fits { odometer.0 < 2 ^ 24 }
-        ensures same { (self.new.application ≡ self.old.application) × (self.new.registration ≡ self.old.registration) × (self.new.odometer ≡ self.old.odometer) }
-        ensures part { DoesPart (M.state port.old) (M.state port.new) (is_err result) (IsTaken self.old self.new current.now odometer.0 owed.now now.0) (IsTaking self.old current.now odometer.0 owed.now now.0) }
+        ensures same { (self.new.application ≡ self.old.application) × (self.new.registration ≡ self.old.registration)
+            × (self.new.odometer ≡ self.old.odometer) }
+        ensures part { DoesPart (M.state port.old) (M.state port.new) (is_err result)
+            (IsTaken self.old self.new current.now odometer.0 owed.now now.0)
+            (IsTaking self.old current.now odometer.0 owed.now now.0) }
         ensures few { IfOk result (λ n. n ≤ length owed.now) }
-        ensures count { IfOk result (λ n. n ≡ replayed_count current.now.session.0 (last_use_of self.old.vehicle / 60) owed.now) }
+        ensures count { IfOk result (λ n. n
+            ≡ replayed_count current.now.session.0 (last_use_of self.old.vehicle / 60) owed.now) }
         ensures settled { OnOk result ((M.state port.new).clock < last_count → IsSettled (M.state port.new)) }
         ensures called { HasCause (M.state port.old) (M.state port.new) (is_err result) }
         ensures most { (M.state port.new).clock ≤ (M.state port.old).clock + (DAYS_MOST + 84) }
@@ -287,14 +336,16 @@ impl CardSession {
 
     // Takes the newest minute anew, of the days and the vehicle as they are.
     fn recount(&mut self)
-        ensures same { (self.new.application ≡ self.old.application) × (self.new.registration ≡ self.old.registration) × (self.new.odometer ≡ self.old.odometer) }
-        ensures session { (x : List ℕ) → KnowsCard self.old x → IsOpenBook (book_of self.old.application x) → IsSession self.new x }
+        ensures same { (self.new.application ≡ self.old.application) × (self.new.registration ≡ self.old.registration)
+            × (self.new.odometer ≡ self.old.odometer) }
+        ensures session { (x : List ℕ) → KnowsCard self.old x → IsOpenBook (book_of self.old.application x)
+            → IsSession self.new x }
     {
         self.minute = newest_minute(&self.vehicle, self.days.tail());
     }
 
-    /// Inserts a card of these sizes: judges it, repairs what a session left that was not closed, with the owed entries that the
-    /// card lacks, and opens a session of the vehicle with this registration.
+    /// Inserts a card of these sizes: judges it, repairs what a session left that was not closed, with the owed entries
+    /// that the card lacks, and opens a session of the vehicle with this registration.
     ///
     /// # Errors
     ///
@@ -318,18 +369,31 @@ impl CardSession {
         requires last { now.0 / 60 < LATEST_MINUTE }
         requires fits { odometer.0 < 2 ^ 24 }
         requires owed { AreOwed now.0 owed.now.items }
-        ensures inserted { IfOk result (λ i. IfSome (M.state port.old).image (λ x. IfSome (M.state port.new).image (IsCardInserted app.now registration.now odometer.0 owed.now.items now.0 x))) }
-        ensures session { IfOk result (λ i. IfSome (M.state port.old).image (λ x. IfSome (M.state port.new).image (IsSession i.session))) }
-        ensures value { IfOk result (λ i. (i.session.application ≡ app.now) × (i.session.registration ≡ registration.now) × (i.session.odometer ≡ None)) }
-        ensures accepted { IfOk result (λ i. IfSome (M.state port.old).image (λ x. IsValid app.now x × ((card_view app.now x).stored ≤ now.0))) }
+        ensures inserted { IfOk result (λ i. IfSome (M.state port.old).image
+            (λ x. IfSome (M.state port.new).image
+            (IsCardInserted app.now registration.now odometer.0 owed.now.items now.0 x))) }
+        ensures session { IfOk result (λ i. IfSome (M.state port.old).image
+            (λ x. IfSome (M.state port.new).image (IsSession i.session))) }
+        ensures value { IfOk result (λ i. (i.session.application ≡ app.now)
+            × (i.session.registration ≡ registration.now) × (i.session.odometer ≡ None)) }
+        ensures accepted { IfOk result (λ i. IfSome (M.state port.old).image
+            (λ x. IsValid app.now x × ((card_view app.now x).stored ≤ now.0))) }
         ensures few { IfOk result (λ i. i.replayed ≤ length owed.now.items) }
-        ensures replayed { IfOk result (λ i. IfSome (M.state port.old).image (λ x. i.replayed ≡ replayed_count (session_time app.now x) (end_mark app.now x) owed.now.items)) }
-        ensures bad { IfErr result (λ fault. IfNotValid fault (λ fid place. IfSome (M.state port.old).image (λ x. first_bad_file app.now x ≡ Some (fid, place)))) }
-        ensures late { IfErr result (λ fault. IfTimeOverlap fault (λ stored at. (at ≡ now.0) × (now.0 < stored) × IfSome (M.state port.old).image (λ x. IsValid app.now x × (stored ≡ (card_view app.now x).stored)))) }
-        ensures refused { IfErr result (λ fault. IfNotValid fault (λ fid place. Reads (M.state port.old) (M.state port.new) false)) }
-        ensures refused_late { IfErr result (λ fault. IfTimeOverlap fault (λ stored at. Reads (M.state port.old) (M.state port.new) false)) }
-        ensures moments { LeavesOnly (M.state port.old) (M.state port.new) (IsCardInserting app.now registration.now odometer.0 owed.now.items now.0) }
-        ensures in_time { LeavesOnly (M.state port.old) (M.state port.new) Unchanged ⊎ IfSome (M.state port.old).image (λ x. (card_view app.now x).stored ≤ now.0) }
+        ensures replayed { IfOk result (λ i. IfSome (M.state port.old).image
+            (λ x. i.replayed ≡ replayed_count (session_time app.now x) (end_mark app.now x) owed.now.items)) }
+        ensures bad { IfErr result (λ fault. IfNotValid fault (λ fid place. IfSome (M.state port.old).image
+            (λ x. first_bad_file app.now x ≡ Some (fid, place)))) }
+        ensures late { IfErr result (λ fault.
+            IfTimeOverlap fault (λ stored at. (at ≡ now.0) × (now.0 < stored)
+            × IfSome (M.state port.old).image (λ x. IsValid app.now x × (stored ≡ (card_view app.now x).stored)))) }
+        ensures refused { IfErr result (λ fault. IfNotValid fault
+            (λ fid place. Reads (M.state port.old) (M.state port.new) false)) }
+        ensures refused_late { IfErr result (λ fault. IfTimeOverlap fault
+            (λ stored at. Reads (M.state port.old) (M.state port.new) false)) }
+        ensures moments { LeavesOnly (M.state port.old) (M.state port.new)
+            (IsCardInserting app.now registration.now odometer.0 owed.now.items now.0) }
+        ensures in_time { LeavesOnly (M.state port.old) (M.state port.new) Unchanged
+            ⊎ IfSome (M.state port.old).image (λ x. (card_view app.now x).stored ≤ now.0) }
         ensures settled { IsOk result → (M.state port.new).clock < last_count → IsSettled (M.state port.new) }
         ensures cause { HasCause (M.state port.old) (M.state port.new) (has_failed result) }
         ensures most { (M.state port.new).clock ≤ (M.state port.old).clock + (DAYS_MOST + 84) }
@@ -366,8 +430,8 @@ fn word_second(tail: Option<Tail>) -> u32
     }
 }
 
-// No second before this one may be recorded on a card: when its newest vehicle was last used, or, where no session is open,
-// its newest word's if that is later.
+// No second before this one may be recorded on a card: when its newest vehicle was last used, or, where no session is
+// open, its newest word's if that is later.
 fn stored(judged: &Judged) -> u32
     ensures stored { (app : Application) (x : List ℕ) → IsKnown app x judged.now → result ≡ (card_view app x).stored }
     ensures used { last_use_of judged.now.vehicle ≤ result }
@@ -401,8 +465,10 @@ fn note_unclosed<M: Medium>(
     requires sizes { IsApplication app.now }
     requires card { MayInsert app.now (M.state port.old) }
     requires open { current.now.session.0 ≢ 0 }
-    ensures noted { OnOk result (IfSome (M.state port.old).image (λ x. IfSome (M.state port.new).image (λ y. current.now ≡ current_use app.now x → IsNoted app.now now.0 x y))) }
-    ensures moments { LeavesOnly (M.state port.old) (M.state port.new) (λ x c. current.now ≡ current_use app.now x → IsNoting app.now now.0 x c) }
+    ensures noted { OnOk result (IfSome (M.state port.old).image
+        (λ x. IfSome (M.state port.new).image (λ y. current.now ≡ current_use app.now x → IsNoted app.now now.0 x y))) }
+    ensures moments { LeavesOnly (M.state port.old) (M.state port.new)
+        (λ x c. current.now ≡ current_use app.now x → IsNoting app.now now.0 x c) }
     ensures cause { HasCause (M.state port.old) (M.state port.new) (is_err result) }
     ensures most { (M.state port.new).clock ≤ (M.state port.old).clock + 4 }
 {

@@ -1,5 +1,5 @@
-//! Sessions of driver cards (profile): an insertion opens one and repairs what the one before left, a keep brings a card a
-//! minute, and a withdrawal closes its session. A session is a value that knows no card; each call is lent one.
+//! Sessions of driver cards (profile): an insertion opens one and repairs what the one before left, a keep brings a
+//! card a minute, and a withdrawal closes its session. A session is a value that knows no card; each call is lent one.
 #![tactic(auto)]
 
 mod by_hand;

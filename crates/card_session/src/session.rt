@@ -1,6 +1,7 @@
-//! A session of a driver card in a slot (profile): its keeping and its withdrawal. A session is a value that knows no card; each
-//! call is lent the card.
-ghost use Rattle.std.specs.Prelude.{◌≡◌, ◌⊎◌, ◌≤◌, ◌<◌, ◌+◌, ◌*◌, ◌/◌, ◌^◌, true, false, Some, None, List, ℕ, IfSome, IfNone, OnOk, is_err, max};
+//! A session of a driver card in a slot (profile): its keeping and its withdrawal. A session is a value that knows no
+//! card; each call is lent the card.
+ghost use Rattle.std.specs.Prelude.{◌≡◌, ◌⊎◌, ◌≤◌, ◌<◌, ◌+◌, ◌*◌, ◌/◌, ◌^◌, true, false, Some, None, List, ℕ, IfSome};
+ghost use Rattle.std.specs.Prelude.{IfNone, OnOk, is_err, max};
 ghost use Rattle.card_layout.specs.Application.{IsApplication};
 ghost use Rattle.tach_media.specs.Medium.{LeavesOnly, HasCause, IsSettled, last_count};
 ghost use Rattle.card_days.specs.Held.{tail_of};
@@ -14,7 +15,12 @@ ghost use Rattle.card_layout.specs.Files.{place_of};
 ghost use Rattle.card_session.specs.Sessions.{IsSession, IsValue, IsOpenBook, KnowsCard, MayKeep, MayClose, book_of};
 ghost use Rattle.card_session.specs.Moments.{IsBook, IsKeepMoment, IsCloseMoment};
 ghost use Rattle.card_session.specs.Cards.{IsCard, IsCardKept, IsCardKeeping, IsCardClosed, IsCardClosing, grown};
-ghost use Rattle.card_session.specs.Parts.{DoesPart, IsPartDone, IsPartMoment, HasSame, TakesSome, with_some, IsAdding, BeginsDay, with_day, IsBeforeDay, IsBeforeEntry, with_entry_words, IsWriting, IsBeforeGapOf, with_gap_closed, IsClosingGap, HasDay, with_more, IsTravelling, with_use, IsUsing, AnyBook, with_measured, IsSettingOdometer, with_last_use, IsSettingUse, used_session, with_new_use, IsAddingUse, SameButVehicle, entered};
+ghost use Rattle.card_session.specs.Parts.{DoesPart, IsPartDone, IsPartMoment, HasSame, TakesSome, with_some, IsAdding};
+ghost use Rattle.card_session.specs.Parts.{BeginsDay, with_day, IsBeforeDay, IsBeforeEntry, with_entry_words};
+ghost use Rattle.card_session.specs.Parts.{IsWriting, IsBeforeGapOf, with_gap_closed, IsClosingGap, HasDay, with_more};
+ghost use Rattle.card_session.specs.Parts.{IsTravelling, with_use, IsUsing, AnyBook, with_measured, IsSettingOdometer};
+ghost use Rattle.card_session.specs.Parts.{with_last_use, IsSettingUse, used_session, with_new_use, IsAddingUse};
+ghost use Rattle.card_session.specs.Parts.{SameButVehicle, entered};
 
 use crate::vehicle_use::{begun, counter_behind, goes_on, last_use, measured, used};
 use crate::words::{
@@ -37,8 +43,8 @@ pub struct Kept {
     pub odometer: Odometer,
 }
 
-/// What is kept of an accepted card between two calls: where it keeps its days and its vehicles, the end of its string, and
-/// its newest vehicle entry.
+/// What is kept of an accepted card between two calls: where it keeps its days and its vehicles, the end of its string,
+/// and its newest vehicle entry.
 #[derive(Drop)]
 pub struct CardSession {
     pub(crate) application: Application,
@@ -58,9 +64,28 @@ impl Model for CardSession {
 
     ghost Value = { Session };
 
-    ghost view = { λ s. record { application = s.application; days = s.days; vehicles = s.vehicles; newest = s.newest; vehicle = s.vehicle; registration = s.registration; minute = s.minute; odometer = s.odometer } };
+    ghost view = { λ s. record {
+      application = s.application;
+      days = s.days;
+      vehicles = s.vehicles;
+      newest = s.newest;
+      vehicle = s.vehicle;
+      registration = s.registration;
+      minute = s.minute;
+      odometer = s.odometer;
+    } };
 
-    ghost invariant = { λ s. IsValue (record { application = s.application; days = s.days; vehicles = s.vehicles; newest = s.newest; vehicle = s.vehicle; registration = s.registration; minute = s.minute; odometer = s.odometer }) };
+    ghost invariant = { λ s. IsValue
+        (record {
+          application = s.application;
+          days = s.days;
+          vehicles = s.vehicles;
+          newest = s.newest;
+          vehicle = s.vehicle;
+          registration = s.registration;
+          minute = s.minute;
+          odometer = s.odometer;
+        }) };
 }
 
 /// Where the last odometer value and the last use stand in a vehicle entry.
@@ -69,8 +94,8 @@ const ODOMETER_END: u32 = 3;
 const LAST_USE: u32 = 10;
 
 impl CardSession {
-    /// A session over a card that was judged: where it keeps its days and its vehicles, its newest vehicle entry with its index,
-    /// and the registration of the vehicle that it is in.
+    /// A session over a card that was judged: where it keeps its days and its vehicles, its newest vehicle entry with
+    /// its index, and the registration of the vehicle that it is in.
     pub fn over(
         application: Application,
         days: Days,
@@ -84,7 +109,16 @@ impl CardSession {
         requires vehicles { vehicles ≡ vehicle_ring application }
         requires newest { IfSome newest (λ i. i < application.vehicles) }
         requires mark { last_use_of vehicle / 60 ≤ LATEST_MINUTE }
-        ensures { result ≡ record { application = application; days = days; vehicles = vehicles; newest = newest; vehicle = vehicle; registration = registration; minute = max (last_use_of vehicle / 60) (minute_told (tail_of days)); odometer = None } }
+        ensures { result ≡ record {
+          application = application;
+          days = days;
+          vehicles = vehicles;
+          newest = newest;
+          vehicle = vehicle;
+          registration = registration;
+          minute = max (last_use_of vehicle / 60) (minute_told (tail_of days));
+          odometer = None;
+        } }
     {
         let minute = newest_minute(&vehicle, days.tail());
         CardSession {
@@ -125,9 +159,13 @@ impl CardSession {
     pub(crate) fn add<M: Medium>(&mut self, port: &mut M, word: Option<u16>) -> Result<(), Failed>
         requires card { MayKeep self.old.application (M.state port.old) }
         ensures same { HasSame self.old self.new }
-        ensures part { DoesPart (M.state port.old) (M.state port.new) (is_err result) (IsPartDone self.old self.new (TakesSome word) (with_some self.old.application.activity word)) (IsPartMoment self.old (TakesSome word) (IsAdding self.old.application.activity word)) }
-        ensures most { (M.state port.new).clock ≤ (M.state port.old).clock + (2 + 2 * most_drops self.old.days.shape.size self.old.days.tail.used 2) }
-        ensures room { OnOk result ((M.state port.new).clock + 2 * most_drops self.old.days.shape.size self.new.days.tail.used 16 ≤ (M.state port.old).clock + 6) }
+        ensures part { DoesPart (M.state port.old) (M.state port.new) (is_err result)
+            (IsPartDone self.old self.new (TakesSome word) (with_some self.old.application.activity word))
+            (IsPartMoment self.old (TakesSome word) (IsAdding self.old.application.activity word)) }
+        ensures most { (M.state port.new).clock
+            ≤ (M.state port.old).clock + (2 + 2 * most_drops self.old.days.shape.size self.old.days.tail.used 2) }
+        ensures room { OnOk result ((M.state port.new).clock
+            + 2 * most_drops self.old.days.shape.size self.new.days.tail.used 16 ≤ (M.state port.old).clock + 6) }
     {
         match word {
             None => Ok(()),
@@ -140,9 +178,12 @@ impl CardSession {
         requires card { MayKeep self.old.application (M.state port.old) }
         ensures value { IsValue self.old }
         ensures same { HasSame self.old self.new }
-        ensures part { DoesPart (M.state port.old) (M.state port.new) (is_err result) (IsPartDone self.old self.new (IsBeforeGapOf minute) (with_gap_closed self.old.application.activity minute)) (IsPartMoment self.old (IsBeforeGapOf minute) (IsClosingGap self.old.application.activity minute)) }
+        ensures part { DoesPart (M.state port.old) (M.state port.new) (is_err result)
+            (IsPartDone self.old self.new (IsBeforeGapOf minute) (with_gap_closed self.old.application.activity minute))
+            (IsPartMoment self.old (IsBeforeGapOf minute) (IsClosingGap self.old.application.activity minute)) }
         ensures most { (M.state port.new).clock ≤ (M.state port.old).clock + 6 }
-        ensures room { OnOk result ((M.state port.new).clock + 2 * most_drops self.old.days.shape.size self.new.days.tail.used 16 ≤ (M.state port.old).clock + 6) }
+        ensures room { OnOk result ((M.state port.new).clock
+            + 2 * most_drops self.old.days.shape.size self.new.days.tail.used 16 ≤ (M.state port.old).clock + 6) }
     {
         let word = gap_word(self.days.tail(), self.mark(), minute);
         self.add(port, word)
@@ -153,8 +194,11 @@ impl CardSession {
         requires card { MayKeep self.old.application (M.state port.old) }
         requires last { entry.now.minute ≤ LATEST_MINUTE }
         ensures same { HasSame self.old self.new }
-        ensures part { DoesPart (M.state port.old) (M.state port.new) (is_err result) (IsPartDone self.old self.new (BeginsDay entry.now) (with_day self.old.application.activity entry.now)) (IsPartMoment self.old (BeginsDay entry.now) (IsBeforeDay self.old.application.activity entry.now)) }
-        ensures most { (M.state port.new).clock ≤ (M.state port.old).clock + (5 + 2 * most_drops self.old.days.shape.size self.old.days.tail.used 16) }
+        ensures part { DoesPart (M.state port.old) (M.state port.new) (is_err result)
+            (IsPartDone self.old self.new (BeginsDay entry.now) (with_day self.old.application.activity entry.now))
+            (IsPartMoment self.old (BeginsDay entry.now) (IsBeforeDay self.old.application.activity entry.now)) }
+        ensures most { (M.state port.new).clock
+            ≤ (M.state port.old).clock + (5 + 2 * most_drops self.old.days.shape.size self.old.days.tail.used 16) }
     {
         let date = TimeReal(date_of(entry.minute));
         let word = entry_word(entry);
@@ -172,8 +216,12 @@ impl CardSession {
         requires last { entry.now.minute ≤ LATEST_MINUTE }
         ensures value { IsValue self.old }
         ensures same { HasSame self.old self.new }
-        ensures part { DoesPart (M.state port.old) (M.state port.new) (is_err result) (IsPartDone self.old self.new (IsBeforeEntry entry.now) (with_entry_words self.old.application.activity entry.now)) (IsPartMoment self.old (IsBeforeEntry entry.now) (IsWriting self.old.application.activity entry.now)) }
-        ensures most { (M.state port.new).clock ≤ (M.state port.old).clock + (5 + 2 * most_drops self.old.days.shape.size self.old.days.tail.used 16) }
+        ensures part { DoesPart (M.state port.old) (M.state port.new) (is_err result)
+            (IsPartDone self.old self.new (IsBeforeEntry entry.now)
+            (with_entry_words self.old.application.activity entry.now))
+            (IsPartMoment self.old (IsBeforeEntry entry.now) (IsWriting self.old.application.activity entry.now)) }
+        ensures most { (M.state port.new).clock
+            ≤ (M.state port.old).clock + (5 + 2 * most_drops self.old.days.shape.size self.old.days.tail.used 16) }
     {
         let tail = self.days.tail();
         if is_newest_day(tail, entry.minute) {
@@ -188,7 +236,8 @@ impl CardSession {
         requires card { MayKeep self.old.application (M.state port.old) }
         requires fits { km < 2 ^ 24 }
         ensures same { HasSame self.old self.new }
-        ensures part { DoesPart (M.state port.old) (M.state port.new) (is_err result) (IsPartDone self.old self.new HasDay (with_more km)) (IsPartMoment self.old HasDay (IsTravelling km)) }
+        ensures part { DoesPart (M.state port.old) (M.state port.new) (is_err result)
+            (IsPartDone self.old self.new HasDay (with_more km)) (IsPartMoment self.old HasDay (IsTravelling km)) }
         ensures most { (M.state port.new).clock ≤ (M.state port.old).clock + 1 }
     {
         let km = distance(self.days.tail(), km);
@@ -202,7 +251,10 @@ impl CardSession {
         requires last { kept.now.entry.minute ≤ LATEST_MINUTE }
         requires fits { kept.now.odometer.0 < 2 ^ 24 }
         ensures same { SameButVehicle self.old self.new }
-        ensures part { DoesPart (M.state port.old) (M.state port.new) (is_err result) (IsPartDone self.old self.new AnyBook (with_use self.old.registration kept.now.odometer.0 kept.now.entry.minute)) (IsPartMoment self.old AnyBook (IsUsing self.old.registration kept.now.odometer.0 kept.now.entry.minute)) }
+        ensures part { DoesPart (M.state port.old) (M.state port.new) (is_err result)
+            (IsPartDone self.old self.new AnyBook
+            (with_use self.old.registration kept.now.odometer.0 kept.now.entry.minute))
+            (IsPartMoment self.old AnyBook (IsUsing self.old.registration kept.now.odometer.0 kept.now.entry.minute)) }
         ensures settled { OnOk result ((M.state port.new).clock < last_count → IsSettled (M.state port.new)) }
         ensures called { HasCause (M.state port.old) (M.state port.new) (is_err result) }
         ensures most { (M.state port.new).clock ≤ (M.state port.old).clock + 5 }
@@ -218,7 +270,8 @@ impl CardSession {
         ensures newest { IfSome result (λ p. self.now.newest ≡ Some p.0) }
         ensures vehicle { IfSome result (λ p. self.now.vehicle ≡ Some p.1) }
         ensures on { IfSome result (λ p. goes_on_in self.now.registration minute p.1 ≡ true) }
-        ensures none { IfNone result ((self.now.newest ≡ None) ⊎ (goes_on_with self.now.registration minute self.now.vehicle ≡ false)) }
+        ensures none { IfNone result ((self.now.newest ≡ None)
+            ⊎ (goes_on_with self.now.registration minute self.now.vehicle ≡ false)) }
     {
         let index = self.newest?;
         let vehicle = self.vehicle?;
@@ -244,7 +297,10 @@ impl CardSession {
         requires last { kept.now.entry.minute ≤ LATEST_MINUTE }
         requires fits { kept.now.odometer.0 < 2 ^ 24 }
         ensures same { SameButVehicle self.old self.new }
-        ensures part { DoesPart (M.state port.old) (M.state port.new) (is_err result) (IsPartDone self.old self.new AnyBook (with_use self.old.registration kept.now.odometer.0 kept.now.entry.minute)) (IsPartMoment self.old AnyBook (IsUsing self.old.registration kept.now.odometer.0 kept.now.entry.minute)) }
+        ensures part { DoesPart (M.state port.old) (M.state port.new) (is_err result)
+            (IsPartDone self.old self.new AnyBook
+            (with_use self.old.registration kept.now.odometer.0 kept.now.entry.minute))
+            (IsPartMoment self.old AnyBook (IsUsing self.old.registration kept.now.odometer.0 kept.now.entry.minute)) }
         ensures settled { OnOk result ((M.state port.new).clock < last_count → IsSettled (M.state port.new)) }
         ensures called { HasCause (M.state port.old) (M.state port.new) (is_err result) }
         ensures most { (M.state port.new).clock ≤ (M.state port.old).clock + 2 }
@@ -269,7 +325,9 @@ impl CardSession {
         ensures same { SameButVehicle self.old self.new }
         ensures newest { self.new.newest ≡ self.old.newest }
         ensures vehicle { OnOk result (self.new.vehicle ≡ Some (measured odometer.0 vehicle)) }
-        ensures part { DoesPart (M.state port.old) (M.state port.new) (is_err result) (IsPartDone self.old self.new AnyBook (with_measured odometer.0)) (IsPartMoment self.old AnyBook (IsSettingOdometer odometer.0)) }
+        ensures part { DoesPart (M.state port.old) (M.state port.new) (is_err result)
+            (IsPartDone self.old self.new AnyBook (with_measured odometer.0))
+            (IsPartMoment self.old AnyBook (IsSettingOdometer odometer.0)) }
         ensures called { HasCause (M.state port.old) (M.state port.new) (is_err result) }
         ensures most { (M.state port.new).clock ≤ (M.state port.old).clock + 1 }
     {
@@ -294,7 +352,9 @@ impl CardSession {
         requires last { seconds / 60 ≤ LATEST_MINUTE }
         ensures same { SameButVehicle self.old self.new }
         ensures newest { self.new.newest ≡ self.old.newest }
-        ensures part { DoesPart (M.state port.old) (M.state port.new) (is_err result) (IsPartDone self.old self.new AnyBook (with_last_use seconds)) (IsPartMoment self.old AnyBook (IsSettingUse seconds)) }
+        ensures part { DoesPart (M.state port.old) (M.state port.new) (is_err result)
+            (IsPartDone self.old self.new AnyBook (with_last_use seconds))
+            (IsPartMoment self.old AnyBook (IsSettingUse seconds)) }
         ensures settled { OnOk result ((M.state port.new).clock < last_count → IsSettled (M.state port.new)) }
         ensures called { HasCause (M.state port.old) (M.state port.new) (is_err result) }
         ensures most { (M.state port.new).clock ≤ (M.state port.old).clock + 1 }
@@ -313,7 +373,11 @@ impl CardSession {
         requires last { kept.now.entry.minute ≤ LATEST_MINUTE }
         requires fits { kept.now.odometer.0 < 2 ^ 24 }
         ensures same { SameButVehicle self.old self.new }
-        ensures part { DoesPart (M.state port.old) (M.state port.new) (is_err result) (IsPartDone self.old self.new AnyBook (with_new_use self.old.registration kept.now.odometer.0 kept.now.entry.minute)) (IsPartMoment self.old AnyBook (IsAddingUse self.old.registration kept.now.odometer.0 kept.now.entry.minute)) }
+        ensures part { DoesPart (M.state port.old) (M.state port.new) (is_err result)
+            (IsPartDone self.old self.new AnyBook
+            (with_new_use self.old.registration kept.now.odometer.0 kept.now.entry.minute))
+            (IsPartMoment self.old AnyBook (IsAddingUse self.old.registration kept.now.odometer.0
+            kept.now.entry.minute)) }
         ensures settled { OnOk result ((M.state port.new).clock < last_count → IsSettled (M.state port.new)) }
         ensures called { HasCause (M.state port.old) (M.state port.new) (is_err result) }
         ensures most { (M.state port.new).clock ≤ (M.state port.old).clock + 5 }
@@ -341,8 +405,13 @@ impl CardSession {
         requires fits { kept.now.odometer.0 < 2 ^ 24 }
         requires growth { km < 2 ^ 24 }
         ensures value { IsValue self.old }
-        ensures same { (self.new.application ≡ self.old.application) × (self.new.registration ≡ self.old.registration) × (self.new.odometer ≡ self.old.odometer) }
-        ensures part { DoesPart (M.state port.old) (M.state port.new) (is_err result) (IsPartDone self.old self.new (IsBeforeGapOf kept.now.entry.minute) (entered self.old.application.activity self.old.registration kept.now.odometer.0 km kept.now.entry)) (IsPartMoment self.old (IsBeforeGapOf kept.now.entry.minute) (IsKeepMoment self.old.application.activity self.old.registration kept.now.odometer.0 km kept.now.entry)) }
+        ensures same { (self.new.application ≡ self.old.application) × (self.new.registration ≡ self.old.registration)
+            × (self.new.odometer ≡ self.old.odometer) }
+        ensures part { DoesPart (M.state port.old) (M.state port.new) (is_err result)
+            (IsPartDone self.old self.new (IsBeforeGapOf kept.now.entry.minute)
+            (entered self.old.application.activity self.old.registration kept.now.odometer.0 km kept.now.entry))
+            (IsPartMoment self.old (IsBeforeGapOf kept.now.entry.minute)
+            (IsKeepMoment self.old.application.activity self.old.registration kept.now.odometer.0 km kept.now.entry)) }
         ensures settled { OnOk result ((M.state port.new).clock < last_count → IsSettled (M.state port.new)) }
         ensures called { HasCause (M.state port.old) (M.state port.new) (is_err result) }
         ensures most { (M.state port.new).clock ≤ (M.state port.old).clock + 17 }
@@ -358,7 +427,11 @@ impl CardSession {
         requires card { MayKeep self.old.application (M.state port.old) }
         ensures value { IsValue self.old }
         ensures same { self.new.application ≡ self.old.application }
-        ensures part { DoesPart (M.state port.old) (M.state port.new) (is_err result) (λ x y. KnowsCard self.old x → IsOpenBook (book_of self.old.application x) → IsCard self.old.application (IsBook (closed self.old.application.activity act (book_of self.old.application x))) x y) (IsPartMoment self.old IsOpenBook (IsCloseMoment self.old.application.activity act)) }
+        ensures part { DoesPart (M.state port.old) (M.state port.new) (is_err result)
+            (λ x y. KnowsCard self.old x → IsOpenBook (book_of self.old.application x)
+            → IsCard self.old.application (IsBook
+            (closed self.old.application.activity act (book_of self.old.application x))) x y)
+            (IsPartMoment self.old IsOpenBook (IsCloseMoment self.old.application.activity act)) }
         ensures most { (M.state port.new).clock ≤ (M.state port.old).clock + 7 }
     {
         let mark = self.mark();
@@ -383,7 +456,9 @@ impl CardSession {
         requires newest { self.old.newest ≡ Some index }
         requires fits { seconds < 2 ^ 32 }
         ensures same { self.new.application ≡ self.old.application }
-        ensures part { DoesPart (M.state port.old) (M.state port.new) (is_err result) (IsPartDone self.old (used_session seconds self.old) AnyBook (with_last_use seconds)) (IsPartMoment self.old AnyBook (IsSettingUse seconds)) }
+        ensures part { DoesPart (M.state port.old) (M.state port.new) (is_err result)
+            (IsPartDone self.old (used_session seconds self.old) AnyBook (with_last_use seconds))
+            (IsPartMoment self.old AnyBook (IsSettingUse seconds)) }
         ensures most { (M.state port.new).clock ≤ (M.state port.old).clock + 1 }
     {
         let mut bytes = [0; TimeReal::SIZE];
@@ -394,8 +469,11 @@ impl CardSession {
     /// Withdraws the card: the closing word with the selected activity, and the end of the session.
     pub fn close<M: Medium>(mut self, port: &mut M, selected: Pick) -> Result<(), Failed>
         requires card { MayClose self.application (M.state port.old) }
-        ensures closed { OnOk result (IfSome (M.state port.old).image (λ x. IfSome (M.state port.new).image (λ y. IsSession self x → IsCardClosed self (activity_of selected) x y))) }
-        ensures moments { LeavesOnly (M.state port.old) (M.state port.new) (λ x c. IsSession self x → IsCardClosing self (activity_of selected) x c) }
+        ensures closed { OnOk result (IfSome (M.state port.old).image
+            (λ x. IfSome (M.state port.new).image
+            (λ y. IsSession self x → IsCardClosed self (activity_of selected) x y))) }
+        ensures moments { LeavesOnly (M.state port.old) (M.state port.new)
+            (λ x c. IsSession self x → IsCardClosing self (activity_of selected) x c) }
         ensures settled { OnOk result ((M.state port.new).clock < last_count → IsSettled (M.state port.new)) }
         ensures cause { HasCause (M.state port.old) (M.state port.new) (is_err result) }
         ensures most { (M.state port.new).clock ≤ (M.state port.old).clock + 8 }
@@ -404,8 +482,8 @@ impl CardSession {
         port.write_at(session_place(&self.application), &[0; TimeReal::SIZE])
     }
 
-    /// Keeps a minute on the card: its word where the state is new, the distance, and last the use of the vehicle, which is
-    /// the commit.
+    /// Keeps a minute on the card: its word where the state is new, the distance, and last the use of the vehicle,
+    /// which is the commit.
     pub fn keep<M: Medium>(&mut self, port: &mut M, kept: &Kept) -> Result<(), Failed>
         requires card { MayKeep self.old.application (M.state port.old) }
         requires later { self.old.minute < kept.now.entry.minute }
@@ -413,9 +491,13 @@ impl CardSession {
         requires last { kept.now.entry.minute ≤ LATEST_MINUTE }
         requires fits { kept.now.odometer.0 < 2 ^ 24 }
         ensures same { (self.new.application ≡ self.old.application) × (self.new.registration ≡ self.old.registration) }
-        ensures last { OnOk result ((self.new.minute ≡ kept.now.entry.minute) × (self.new.odometer ≡ Some kept.now.odometer)) }
-        ensures kept { OnOk result (IfSome (M.state port.old).image (λ x. IfSome (M.state port.new).image (λ y. IsSession self.old x → IsCardKept self.old self.new kept.now.entry kept.now.odometer.0 x y))) }
-        ensures moments { LeavesOnly (M.state port.old) (M.state port.new) (λ x c. IsSession self.old x → IsCardKeeping self.old kept.now.entry kept.now.odometer.0 x c) }
+        ensures last { OnOk result ((self.new.minute ≡ kept.now.entry.minute)
+            × (self.new.odometer ≡ Some kept.now.odometer)) }
+        ensures kept { OnOk result (IfSome (M.state port.old).image
+            (λ x. IfSome (M.state port.new).image
+            (λ y. IsSession self.old x → IsCardKept self.old self.new kept.now.entry kept.now.odometer.0 x y))) }
+        ensures moments { LeavesOnly (M.state port.old) (M.state port.new)
+            (λ x c. IsSession self.old x → IsCardKeeping self.old kept.now.entry kept.now.odometer.0 x c) }
         ensures settled { OnOk result ((M.state port.new).clock < last_count → IsSettled (M.state port.new)) }
         ensures cause { HasCause (M.state port.old) (M.state port.new) (is_err result) }
         ensures most { (M.state port.new).clock ≤ (M.state port.old).clock + 17 }

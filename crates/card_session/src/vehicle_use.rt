@@ -1,4 +1,5 @@
-//! What a session writes of the use of a vehicle (Annex IB, Appendix 1, CardVehicleRecord; when an entry goes on: profile).
+//! What a session writes of the use of a vehicle (Annex IB, Appendix 1, CardVehicleRecord; when an entry goes on:
+//! profile).
 ghost use Rattle.std.specs.Prelude.{◌≡◌, ◌*◌, ◌≤◌};
 ghost use Rattle.card_session.specs.Books.{goes_on_in, next_count, vehicle_counter, begun_vehicle, measured, used};
 ghost use Rattle.card_image.specs.Fields.{last_use_of};
@@ -26,7 +27,8 @@ pub fn goes_on(vehicle: &Vehicle, registration: &Registration, minute: u32) -> b
         && vehicle.first_use.0 / DAY_SECONDS == minute / DAY_MINUTES
 }
 
-/// The counter behind that of the newest vehicle entry: 1 without one, or where that is not decimal; 9999 is followed by 0.
+/// The counter behind that of the newest vehicle entry: 1 without one, or where that is not decimal; 9999 is followed
+/// by 0.
 pub fn counter_behind(newest: &Option<Vehicle>) -> [u8; 2]
     ensures { result ≡ vehicle_counter newest.now }
 {

@@ -1,5 +1,7 @@
--- What the calls on the two slots so far say of the cards: where each sits, when it left, and in which minutes it was present (profile).
-use Rattle.std.specs.Prelude.{◌≡◌, ℕ, ◌+◌, ◌/◌, Bool, false, not, ◌&&◌, Option, Some, None, List, [], ◌∷◌, ◌++◌, find, fold, nat_eq, nat_lt, is_some, option_map, if◌then◌else◌}
+-- What the calls on the two slots so far say of the cards: where each sits, when it left, and in which minutes it was
+-- present (profile).
+use Rattle.std.specs.Prelude.{◌≡◌, ℕ, ◌+◌, ◌/◌, Bool, false, not, ◌&&◌, Option, Some, None, List, [], ◌∷◌, ◌++◌, find}
+use Rattle.std.specs.Prelude.{fold, nat_eq, nat_lt, is_some, option_map, if◌then◌else◌}
 use Rattle.std.specs.List.{list_any}
 use Rattle.activity_codec.specs.declared.values.Slot.{Slot}
 use Rattle.activity_codec.specs.declared.values.Slot.TheVariants.{Driver, CoDriver}
@@ -10,8 +12,8 @@ use Rattle.card_slots.specs.declared.seats.Seat.{Seat}
 use Rattle.card_slots.specs.declared.seats.Present.{Present}
 use Rattle.card_slots.specs.declared.seats.Ended.{Ended}
 
--- a card is put into a slot, accepted where its newest minute is told; the card of a slot is taken out in a second; power is lost
--- in a second; a minute ends
+-- a card is put into a slot, accepted where its newest minute is told; the card of a slot is taken out in a second;
+-- power is lost in a second; a minute ends
 pub data SlotCall : Type 0 where
   Put : Slot → Card → Option ℕ → SlotCall
   Take : Slot → ℕ → SlotCall
@@ -51,7 +53,8 @@ abbrev pub powerless : Option Seat → Option Seat
 powerless None = None
 powerless (Some seat) = Some (record { card = seat.card; newest = None })
 
--- the slots as a run log has them, with the newest minute in the place of the second of acceptance, which no refusal looks at
+-- the slots as a run log has them, with the newest minute in the place of the second of acceptance, which no refusal
+-- looks at
 abbrev pub sitting_of : Option Seat → Option Sitting
 sitting_of None = None
 sitting_of (Some seat) = Some (record { card = seat.card; accepted = seat.newest })
@@ -95,7 +98,8 @@ is_earlier (Some newest) minute = nat_lt newest minute
 -- the card that sits in a slot at the end of a minute, where it is present in it
 abbrev pub present_of : (Card → ℕ → Bool) → ℕ → Option Seat → Option Card
 present_of left minute None = None
-present_of left minute (Some seat) = if is_earlier seat.newest minute && not (left seat.card minute) then Some seat.card else None
+present_of left minute (Some seat) = if is_earlier seat.newest minute && not (left seat.card minute) then Some seat.card
+    else None
 
 -- a minute ends with these cards present
 abbrev pub ending : (Card → ℕ → Bool) → ℕ → Seats → Ended
@@ -105,7 +109,8 @@ ending left minute seats = record {
 }
 
 abbrev pub after_call : Table → SlotCall → Table
-after_call t (Put slot card newest) = record t { seats = with_seat t.seats slot (Some (record { card = card; newest = newest })) }
+after_call t (Put slot card newest) = record
+    t { seats = with_seat t.seats slot (Some (record { card = card; newest = newest })) }
 after_call t (Take slot second) = record {
   minute = second / 60;
   seats = with_seat t.seats slot None;

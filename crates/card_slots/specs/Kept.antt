@@ -1,5 +1,6 @@
 -- What is kept of the calls on the two slots.
-use Rattle.std.specs.Prelude.{◌≡◌, ◌⊎◌, ℕ, ◌+◌, ◌/◌, ◌≤◌, ◌<◌, Bool, true, false, Option, Some, None, IfSome, List, [], ◌∷◌, nat_eq, take, All}
+use Rattle.std.specs.Prelude.{◌≡◌, ◌⊎◌, ℕ, ◌+◌, ◌/◌, ◌≤◌, ◌<◌, Bool, true, false, Option, Some, None, IfSome, List, []}
+use Rattle.std.specs.Prelude.{◌∷◌, nat_eq, take, All}
 use Rattle.activity_codec.specs.declared.values.Slot.{Slot}
 use Rattle.activity_codec.specs.declared.values.Slot.TheVariants.{Driver, CoDriver}
 use Rattle.trace_model.specs.declared.Card.{Card}
@@ -9,10 +10,11 @@ use Rattle.card_slots.specs.declared.seats.Seat.{Seat}
 use Rattle.card_slots.specs.declared.seats.Ended.{Ended}
 use Rattle.card_slots.specs.declared.seats.Present.{Present}
 use Rattle.card_slots.specs.declared.seats.Lefts.{Lefts}
-use Rattle.card_slots.specs.Calls.{SlotCall, Seats, Table, seat_in, with_seat, is_card, powerless, has_left, ending, table_of}
+use Rattle.card_slots.specs.Calls.{SlotCall, Seats, Table, seat_in, with_seat, is_card, powerless, has_left, ending}
+use Rattle.card_slots.specs.Calls.{table_of}
 
--- the minute before which no call speaks any more, the slots, the minute of each card's last leaving, and the last four minutes
--- that ended, the newest first
+-- the minute before which no call speaks any more, the slots, the minute of each card's last leaving, and the last four
+-- minutes that ended, the newest first
 pub record Kept : Type 0 where
   pub minute : ℕ
   pub seats : Seats
@@ -51,7 +53,10 @@ pub record IsFree (seats : Seats) (slot : Slot) (card : Card) : Type 0 where
   pub elsewhere : is_card (seat_in seats (other_slot slot)) card ≡ false
 
 abbrev pub put_in : Slot → Card → Option ℕ → Kept → Kept
-put_in slot card newest kept = record kept { seats = with_seat kept.seats slot (Some (record { card = card; newest = newest })) }
+put_in slot card newest kept = record kept {
+  seats = with_seat kept.seats slot
+      (Some (record { card = card; newest = newest }));
+}
 
 abbrev pub taken : Slot → ℕ → Kept → Kept
 taken slot second kept = record {
@@ -98,8 +103,8 @@ abbrev pub left_of : Lefts → Card → Option ℕ
 left_of left A = left.a
 left_of left B = left.b
 
--- A card that was present in a slot in a minute, and did not leave since, sits there, and its newest minute at its acceptance was
--- earlier.
+-- A card that was present in a slot in a minute, and did not leave since, sits there, and its newest minute at its
+-- acceptance was earlier.
 abbrev pub SitsSince : Kept → Slot → (minute : ℕ) → Option Card → Type 0
 SitsSince kept slot minute None = Unit {0}
 SitsSince kept slot minute (Some card) =

@@ -1,4 +1,5 @@
-//! The two card slots of a unit (profile): which card is where, which action they refuse, and which card was present in a minute.
+//! The two card slots of a unit (profile): which card is where, which action they refuse, and which card was present in
+//! a minute.
 #![tactic(auto)]
 
 mod laws;

@@ -1,11 +1,14 @@
 //! The two slots, call by call.
-ghost use Rattle.std.specs.Prelude.{◌≡◌, ℕ, ◌+◌, ◌/◌, ◌≤◌, Bool, true, false, Option, Some, None, List, [], ◌∷◌, ◌++◌, is_some, take};
+ghost use Rattle.std.specs.Prelude.{◌≡◌, ℕ, ◌+◌, ◌/◌, ◌≤◌, Bool, true, false, Option, Some, None, List, [], ◌∷◌, ◌++◌};
+ghost use Rattle.std.specs.Prelude.{is_some, take};
 ghost use Rattle.std.specs.Result.{result_err};
 ghost use Rattle.activity_codec.specs.declared.values.Pick.{Pick};
 ghost use Rattle.trace_model.specs.declared.Action.TheVariants.{Insert, Withdraw, Tear, Place, Manual};
 ghost use Rattle.log_model.specs.Slots.{refusal, other_slot};
-ghost use Rattle.card_slots.specs.Calls.{SlotCall, Put, Take, CutAt, EndMinute, seat_in, with_seat, card_in, is_card, has_accepted, powerless, logged, ending, ended_in, present_in, present_by};
-ghost use Rattle.card_slots.specs.Kept.{Kept, SlotsRemember, KnowsNewest, SitStill, IsFree, left_in, with_left, put_in, taken, cut_off, minute_ended, nothing_yet};
+ghost use Rattle.card_slots.specs.Calls.{SlotCall, Put, Take, CutAt, EndMinute, seat_in, with_seat, card_in, is_card};
+ghost use Rattle.card_slots.specs.Calls.{has_accepted, powerless, logged, ending, ended_in, present_in, present_by};
+ghost use Rattle.card_slots.specs.Kept.{Kept, SlotsRemember, KnowsNewest, SitStill, IsFree, left_in, with_left, put_in};
+ghost use Rattle.card_slots.specs.Kept.{taken, cut_off, minute_ended, nothing_yet};
 
 use crate::seats::{Ended, Lefts, Present, Seat, is_same};
 use activity_codec::Slot;
@@ -17,10 +20,11 @@ use trace_model::Card;
 /// So many minutes that have ended are kept: as long as one may be undecided.
 const PAST: usize = 4;
 
-/// The two card slots: which card sits in which, whether it is accepted, and which cards were present in the last minutes.
+/// The two card slots: which card sits in which, whether it is accepted, and which cards were present in the last
+/// minutes.
 ///
-/// A card is present in a slot in a minute if it sits there, accepted, at the minute's end, did not leave a slot or lose power
-/// in that minute, and the minute is later than its newest one at its acceptance (profile).
+/// A card is present in a slot in a minute if it sits there, accepted, at the minute's end, did not leave a slot or
+/// lose power in that minute, and the minute is later than its newest one at its acceptance (profile).
 #[derive(Drop)]
 pub struct Slots {
     /// No call speaks of an earlier minute any more.
@@ -37,7 +41,12 @@ impl Model for Slots {
 
     ghost Value = { Kept };
 
-    ghost view = { λ s. record { minute = s.minute; seats = record { driver = s.driver; codriver = s.codriver }; left = s.left; past = s.past.items } };
+    ghost view = { λ s. record {
+      minute = s.minute;
+      seats = record { driver = s.driver; codriver = s.codriver };
+      left = s.left;
+      past = s.past.items;
+    } };
 }
 
 impl Slots {
@@ -56,8 +65,8 @@ impl Slots {
         }
     }
 
-    /// Whether a card may be put into a slot: `Occupied` where that holds a card, else `Elsewhere` where the other slot holds
-    /// this one.
+    /// Whether a card may be put into a slot: `Occupied` where that holds a card, else `Elsewhere` where the other slot
+    /// holds this one.
     pub fn may_insert(&self, slot: Slot, card: Card) -> Result<(), SlotFault>
         ensures answer { (speed : ℕ) → result_err result ≡ refusal (logged self.now.seats) speed (Insert slot card) }
     {
@@ -70,8 +79,8 @@ impl Slots {
         Ok(())
     }
 
-    /// Whether the card of a slot may be withdrawn at this speed in km/h: `Empty` where there is none, else `Moving` where the
-    /// speed is above 0.
+    /// Whether the card of a slot may be withdrawn at this speed in km/h: `Empty` where there is none, else `Moving`
+    /// where the speed is above 0.
     pub fn may_withdraw(&self, slot: Slot, speed: u8) -> Result<(), SlotFault>
         ensures answer { result_err result ≡ refusal (logged self.now.seats) speed (Withdraw slot) }
     {
@@ -97,7 +106,8 @@ impl Slots {
 
     /// Whether a place can be noted for a slot: `NoCard` where it has no accepted card.
     pub fn may_note(&self, slot: Slot) -> Result<(), SlotFault>
-        ensures answer { (speed : ℕ) (ending : Bool) (country region : ℕ) → result_err result ≡ refusal (logged self.now.seats) speed (Place slot ending country region) }
+        ensures answer { (speed : ℕ) (ending : Bool) (country region : ℕ)
+            → result_err result ≡ refusal (logged self.now.seats) speed (Place slot ending country region) }
     {
         if is_accepted(self.seat(slot)) {
             Ok(())
@@ -106,10 +116,11 @@ impl Slots {
         }
     }
 
-    /// Whether an entry by hand may be made for a slot at this speed in km/h, by the slots: `NoCard` where it has no accepted
-    /// card, else `Moving` where the speed is above 0.
+    /// Whether an entry by hand may be made for a slot at this speed in km/h, by the slots: `NoCard` where it has no
+    /// accepted card, else `Moving` where the speed is above 0.
     pub fn may_enter(&self, slot: Slot, speed: u8) -> Result<(), SlotFault>
-        ensures answer { (pick : Pick) (minute : ℕ) → result_err result ≡ refusal (logged self.now.seats) speed (Manual slot pick minute) }
+        ensures answer { (pick : Pick) (minute : ℕ)
+            → result_err result ≡ refusal (logged self.now.seats) speed (Manual slot pick minute) }
     {
         if !is_accepted(self.seat(slot)) {
             return Err(SlotFault::NoCard(slot));
@@ -129,11 +140,12 @@ impl Slots {
 
     /// A card is in a slot from now on; accepted, where its newest minute is given.
     ///
-    /// The slot is empty, or holds this card, not accepted; the other slot does not hold it. So a card can be put in before it
-    /// is judged, and once more when it is accepted.
+    /// The slot is empty, or holds this card, not accepted; the other slot does not hold it. So a card can be put in
+    /// before it is judged, and once more when it is accepted.
     pub fn put(&mut self, slot: Slot, card: Card, newest_minute: Option<u32>)
         requires free { IsFree self.old.seats slot card }
-        ensures stands { (calls : List SlotCall) → SlotsRemember self.old calls → SlotsRemember self.new (calls ++ Put slot card newest_minute ∷ []) }
+        ensures stands { (calls : List SlotCall) → SlotsRemember self.old calls
+            → SlotsRemember self.new (calls ++ Put slot card newest_minute ∷ []) }
         ensures kept { self.new ≡ put_in slot card newest_minute self.old }
         ensures newest { KnowsNewest self.old → KnowsNewest self.new }
     {
@@ -150,7 +162,8 @@ impl Slots {
     pub fn take(&mut self, slot: Slot, second: u32)
         requires card { is_some (seat_in self.old.seats slot) ≡ true }
         requires minute { self.old.minute ≤ second / 60 }
-        ensures stands { (calls : List SlotCall) → SlotsRemember self.old calls → SlotsRemember self.new (calls ++ Take slot second ∷ []) }
+        ensures stands { (calls : List SlotCall) → SlotsRemember self.old calls
+            → SlotsRemember self.new (calls ++ Take slot second ∷ []) }
         ensures kept { self.new ≡ taken slot second self.old }
         ensures newest { KnowsNewest self.old → KnowsNewest self.new }
     {
@@ -163,7 +176,8 @@ impl Slots {
     /// The second's minute has not ended, and is not earlier than that of a second given before.
     pub fn cut(&mut self, second: u32)
         requires minute { self.old.minute ≤ second / 60 }
-        ensures stands { (calls : List SlotCall) → SlotsRemember self.old calls → SlotsRemember self.new (calls ++ CutAt second ∷ []) }
+        ensures stands { (calls : List SlotCall) → SlotsRemember self.old calls
+            → SlotsRemember self.new (calls ++ CutAt second ∷ []) }
         ensures kept { self.new ≡ cut_off second self.old }
         ensures newest { KnowsNewest self.old → KnowsNewest self.new }
     {
@@ -180,18 +194,20 @@ impl Slots {
     /// It is later than the last one that ended, and not earlier than that of a second given before.
     pub fn end_minute(&mut self, minute: u32)
         requires minute { self.old.minute ≤ minute }
-        ensures stands { (calls : List SlotCall) → SlotsRemember self.old calls → SlotsRemember self.new (calls ++ EndMinute minute ∷ []) }
+        ensures stands { (calls : List SlotCall) → SlotsRemember self.old calls
+            → SlotsRemember self.new (calls ++ EndMinute minute ∷ []) }
         ensures kept { self.new ≡ minute_ended minute self.old }
         ensures newest { KnowsNewest self.old → KnowsNewest self.new }
     {
         self.remember(self.ending(minute));
     }
 
-    /// The cards that were present in a minute, one of the last four that ended. A card among them that did not leave since
-    /// sits in its slot still, and told an earlier minute as its newest one at its acceptance.
+    /// The cards that were present in a minute, one of the last four that ended. A card among them that did not leave
+    /// since sits in its slot still, and told an earlier minute as its newest one at its acceptance.
     pub fn present(&self, minute: u32) -> Present
         requires ended { is_some (present_in self.now.past minute) ≡ true }
-        ensures present { (calls : List SlotCall) → SlotsRemember self.now calls → Some result ≡ present_by calls minute }
+        ensures present { (calls : List SlotCall) → SlotsRemember self.now calls
+            → Some result ≡ present_by calls minute }
         ensures kept { Some result ≡ present_in self.now.past minute }
         ensures newest { KnowsNewest self.now → SitStill self.now minute result }
     {
@@ -220,7 +236,12 @@ impl Slots {
 
     /// The card of a slot, if there is one, leaves in a minute.
     fn leave(&mut self, seat: Option<Seat>, minute: u32)
-        ensures { self.new ≡ record { minute = minute; seats = self.old.seats; left = with_left minute seat self.old.left; past = self.old.past } }
+        ensures { self.new ≡ record {
+          minute = minute;
+          seats = self.old.seats;
+          left = with_left minute seat self.old.left;
+          past = self.old.past;
+        } }
     {
         self.left = self.left.with(seat, minute);
         self.minute = minute as u64;
@@ -241,7 +262,13 @@ impl Slots {
 
     /// One more minute has ended.
     fn remember(&mut self, ended: Ended)
-        ensures { self.new ≡ record { minute = ended.minute + 1; seats = self.old.seats; left = self.old.left; past = ended ∷ take 3 self.old.past } }
+        ensures { self.new ≡ record {
+          minute = ended.minute
+              + 1;
+          seats = self.old.seats;
+          left = self.old.left;
+          past = ended ∷ take 3 self.old.past;
+        } }
     {
         self.past.truncate(PAST - 1);
         self.past.insert(0, ended);

@@ -13,23 +13,28 @@ use Rattle.card_image.specs.View.{card_view}
 use Rattle.card_session.specs.Books.{bare_word}
 use Rattle.card_session.specs.Overwriting.{DaysFollowOverwriting, ShowsEntries, TellsNoLater}
 
--- In a session: of all entries so far the card shows those whose days it has, and keeps the rule of overwriting where the next one is
--- not earlier than `from`; behind the end mark no minute tells one, but where the closing word is still to come.
-pub record StringFollowsEntries (app : Application) (slack : Bound) (covered from : ℕ) (c : Counted) (all : List Entry) (x : List ℕ) : Type 0 where
+-- In a session: of all entries so far the card shows those whose days it has, and keeps the rule of overwriting where
+-- the next one is not earlier than `from`; behind the end mark no minute tells one, but where the closing word is still
+-- to come.
+pub record StringFollowsEntries (app : Application) (slack : Bound) (covered from : ℕ) (c : Counted) (all : List Entry)
+    (x : List ℕ) : Type 0 where
   pub lives : DaysFollowOverwriting app slack covered from c x
   pub until : AllUpTo (end_mark app x) all
   pub lists : ShowsEntries app all x
   pub silent : TellsNoLater app x
 
 -- Of days that were broken off at an end mark: the same of what a repair leaves.
-pub record BrokeOf (size : ℕ) (slack : Bound) (covered from mark : ℕ) (c : Counted) (all : List Entry) (days : List Day) : Type 0 where
+pub record BrokeOf (size : ℕ) (slack : Bound) (covered from mark : ℕ) (c : Counted) (all : List Entry)
+    (days : List Day) : Type 0 where
   pub rests : Rests size slack covered from mark c (trimmed mark days)
   pub until : AllUpTo mark all
   pub lists : entries_up_to mark days ≡ entries_in (sizes (trimmed mark days)) all
 
--- Or the first entry's keep was broken off on the day of the end mark, where that is later than each day that the string had: a repair
--- leaves these, and that day with its first word. No expected day is as late, and no entry is on it.
-pub record BegunOf (size : ℕ) (slack : Bound) (covered from mark : ℕ) (c : Counted) (all : List Entry) (days : List Day) : Type 0 where
+-- Or the first entry's keep was broken off on the day of the end mark, where that is later than each day that the
+-- string had: a repair leaves these, and that day with its first word. No expected day is as late, and no entry is on
+-- it.
+pub record BegunOf (size : ℕ) (slack : Bound) (covered from mark : ℕ) (c : Counted) (all : List Entry)
+    (days : List Day) : Type 0 where
   pub older : List Day
   pub young : Day
   pub is : trimmed mark days ≡ older ++ young ∷ []
@@ -49,14 +54,16 @@ Broke app slack covered from c all x = BrokeOf app.activity slack covered from (
 abbrev pub Begun : Application → (slack : Bound) → (covered from : ℕ) → Counted → (all : List Entry) → List ℕ → Type 0
 Begun app slack covered from c all x = BegunOf app.activity slack covered from (end_mark app x) c all (card_days app x)
 
--- No expected day reaches that of the end mark, and no entry is on it: so it is at the start of a card whose newest day is earlier.
+-- No expected day reaches that of the end mark, and no entry is on it: so it is at the start of a card whose newest day
+-- is earlier.
 abbrev pub IsFresh : Application → Counted → (all : List Entry) → List ℕ → Type 0
 IsFresh app c all x =
     AllBefore (end_mark app x / 1440) c.days × (entries_in (begun_on (end_mark app x / 1440) ∷ []) all ≡ [])
 
--- What is stated of it: the days that count on the card keep the rule, where the next entry is not earlier than `n`; and the day of each
--- of these first ones, from the oldest on, is there.
-abbrev pub IsStated : Application → (slack : Bound) → (covered marked : ℕ) → Counted → (first all : List Entry) → (n : ℕ) → List ℕ → Type 0
+-- What is stated of it: the days that count on the card keep the rule, where the next entry is not earlier than `n`;
+-- and the day of each of these first ones, from the oldest on, is there.
+abbrev pub IsStated : Application → (slack : Bound) → (covered marked : ℕ) → Counted → (first all : List Entry)
+    → (n : ℕ) → List ℕ → Type 0
 IsStated app slack covered marked c first all n x =
     (r : CardRetains app.activity slack.bytes marked (expected_days covered n c) all (card_view app x).held.days
     (card_view app x).held.entries)

@@ -16,8 +16,9 @@ pub record EntryKept : Type 0 where
   pub odometer : ℕ
   pub km : ℕ
 
--- WHAT A SESSION DOES: it keeps an entry; it closes the words of the last one with an activity, where its minute has room for that, and moves
--- the end mark there; or, where another session was left open, it cuts the days at the end mark.
+-- WHAT A SESSION DOES: it keeps an entry; it closes the words of the last one with an activity, where its minute has
+-- room for that, and moves the end mark there; or, where another session was left open, it cuts the days at the end
+-- mark.
 pub data Deed : Type 0 where
   Keep : EntryKept → Deed
   Close : Activity → Deed
@@ -72,14 +73,16 @@ AreNext (Broken (Keep k) ∷ ss) (e ∷ all) = (k.entry ≡ e) × AreNext ss (e 
 AreNext (Broken (Close act) ∷ ss) all = AreNext ss all
 AreNext (Broken Cut ∷ ss) all = AreNext ss all
 
--- by keeps of exactly these entries, in their order, with closings and cuts between them; and of all these entries no keep was begun but that of the next
+-- by keeps of exactly these entries, in their order, with closings and cuts between them; and of all these entries no
+-- keep was begun but that of the next
 pub record IsMadeOf (size : ℕ) (start : Book) (more all : List Entry) (b : Book) : Type 0 where
   pub steps : List Step
   pub kept : kept_in steps ≡ more
   pub next : AreNext steps all
   pub made : MadeBy size steps start b
 
--- THE DAYS of a card, with their words and distances, AND ITS VEHICLE ENTRIES, all of them, are those that the keeps of these entries make of
--- an image at the start, with those that were broken off, each of the next of all that it is to have.
+-- THE DAYS of a card, with their words and distances, AND ITS VEHICLE ENTRIES, all of them, are those that the keeps of
+-- these entries make of an image at the start, with those that were broken off, each of the next of all that it is to
+-- have.
 pub record IsMade (app : Application) (image : List ℕ) (more all : List Entry) (x : List ℕ) : Type 0 where
   pub deeds : IsMadeOf app.activity (book_of app image) more all (book_of app x)

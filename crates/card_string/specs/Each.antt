@@ -8,12 +8,15 @@ use Rattle.card_image.specs.Own.{own_sizes, own_view, KeepsOf}
 use Rattle.card_session.specs.Sessions.{book_of}
 use Rattle.card_string.specs.Since.{all_since, HoldsSince}
 
--- of the entries that came since the start, those up to a card's end mark are kept with its own, but for what the overwriting took
+-- of the entries that came since the start, those up to a card's end mark are kept with its own, but for what the
+-- overwriting took
 abbrev pub KeepsSince : (image : List ℕ) → (brought : List Entry) → List ℕ → Type 0
-KeepsSince image brought x = KeepsOf image (all_since image (filter (λ e. nat_le e.minute (own_view x).mark) brought)) (own_view x).held
+KeepsSince image brought x = KeepsOf image (all_since image (filter (λ e. nat_le e.minute (own_view x).mark) brought))
+    (own_view x).held
 
 -- EACH IMAGE that a stop may leave now stands so, and each that it might have left since this clock kept them.
-pub record EachHolds (app : Application) (image : List ℕ) (brought : List Entry) (next began : ℕ) (card : State) : Type 0 where
+pub record EachHolds (app : Application) (image : List ℕ) (brought : List Entry) (next began : ℕ) (card : State) : Type
+    0 where
   pub now : (x : List ℕ) → card.may_leave x → (own_sizes x ≡ app) × HoldsSince app image brought next x
   pub since : (x : List ℕ) → card.left_since began x → (own_sizes x ≡ app) × KeepsSince image brought x
 

@@ -1,5 +1,5 @@
--- How a card's string stands since an image of it at the start: with its own entries, those that came since and are on it, and those that it
--- lacks (profile).
+-- How a card's string stands since an image of it at the start: with its own entries, those that came since and are on
+-- it, and those that it lacks (profile).
 use Rattle.std.specs.Prelude.{◌≡◌, ◌⊎◌, ℕ, ◌*◌, ◌/◌, ◌<◌, ◌≤◌, true, false, List, [], ◌∷◌, ◌++◌, nat_le, if◌then◌else◌}
 use Rattle.activity_codec.specs.declared.entries.Entry.{Entry}
 use Rattle.activity_codec.specs.declared.values.Activity.TheVariants.{Rest}
@@ -29,44 +29,55 @@ pub record IsByEntries (slack : Bound) (mark : ℕ) (c : Counted) (all : List En
 abbrev pub day_marks : (mark : ℕ) → List WordDay → List Entry
 day_marks mark [] = []
 day_marks mark (d ∷ ds) =
-    if nat_le d.day (mark / 1440) then record { minute = d.day * 1440; slot = Driver; crew = false; act = Rest } ∷ day_marks mark ds
+    if nat_le d.day (mark / 1440) then record { minute = d.day * 1440; slot = Driver; crew = false; act = Rest }
+    ∷ day_marks mark ds
     else day_marks mark ds
 
--- of a card whose image was this at the start, with these entries more: all entries, those with its days of the start, and the days
+-- of a card whose image was this at the start, with these entries more: all entries, those with its days of the start,
+-- and the days
 abbrev pub all_since : (image : List ℕ) → (more : List Entry) → List Entry
 all_since image more = (own_view image).held.entries ++ more
 
 abbrev pub bound_since : (image : List ℕ) → (more : List Entry) → Bound
-bound_since image more = record { bytes = 16; all = day_marks (own_view image).mark (own_view image).held.days ++ all_since image more }
+bound_since image more = record {
+  bytes = 16;
+  all = day_marks (own_view image).mark (own_view image).held.days
+      ++ all_since image more;
+}
 
 abbrev pub counted_since : (image : List ℕ) → (more : List Entry) → Counted
 counted_since image more = counted (own_covered image) (counted_view (own_view image)) more
 
--- what ties them to the end mark, which lies on the start's day or on one that counts; and days and newest vehicle are made of the start's
--- by the keeps of these entries, and by those that were broken off, each of the next of all
+-- what ties them to the end mark, which lies on the start's day or on one that counts; and days and newest vehicle are
+-- made of the start's by the keeps of these entries, and by those that were broken off, each of the next of all
 pub record IsTied (app : Application) (image : List ℕ) (more all : List Entry) (x : List ℕ) : Type 0 where
   pub told : IsByEntries (bound_since image more) (end_mark app x) (counted_since image more) (all_since image more)
-  pub day : (end_mark app x / 1440 ≡ (own_view image).mark / 1440) ⊎ InDays (end_mark app x / 1440) (counted_since image more).days
+  pub day : (end_mark app x / 1440 ≡ (own_view image).mark / 1440)
+      ⊎ InDays (end_mark app x / 1440) (counted_since image more).days
   pub made : IsMade app image more all x
 
 -- The days go on with them, where the next entry is not earlier than `next`.
 pub record GoesSince (app : Application) (image : List ℕ) (more : List Entry) (next : ℕ) (x : List ℕ) : Type 0 where
   pub from : ℕ
   pub later : from ≤ next
-  pub goes : StringFollowsEntries app (bound_since image more) (own_covered image) from (counted_since image more) (all_since image more) x
+  pub goes : StringFollowsEntries app (bound_since image more) (own_covered image) from (counted_since image more)
+      (all_since image more) x
   pub tied : IsTied app image more more x
 
 -- A session was broken off, and these are the next entries.
-pub record BrokeSince (app : Application) (image : List ℕ) (more rest : List Entry) (next : ℕ) (x : List ℕ) : Type 0 where
+pub record BrokeSince (app : Application) (image : List ℕ) (more rest : List Entry) (next : ℕ) (x : List ℕ) : Type
+    0 where
   pub session : 0 < session_time app x
   pub from : ℕ
   pub later : from ≤ first_minute next rest
-  pub left : Broke app (bound_since image more) (own_covered image) from (counted_since image more) (all_since image more) x
-      ⊎ (Begun app (bound_since image more) (own_covered image) from (counted_since image more) (all_since image more) x × IsOnDay (end_mark app x) rest)
+  pub left : Broke app (bound_since image more) (own_covered image) from (counted_since image more)
+      (all_since image more) x
+      ⊎ (Begun app (bound_since image more) (own_covered image) from (counted_since image more) (all_since image more) x
+      × IsOnDay (end_mark app x) rest)
   pub tied : IsTied app image more (more ++ rest) x
 
--- IN ANY CASE: of the entries that came since the first are on the card, and the others, which it lacks, are later than its end mark. No
--- further one comes earlier than `next`.
+-- IN ANY CASE: of the entries that came since the first are on the card, and the others, which it lacks, are later than
+-- its end mark. No further one comes earlier than `next`.
 pub record HoldsSince (app : Application) (image : List ℕ) (brought : List Entry) (next : ℕ) (x : List ℕ) : Type 0 where
   pub more : List Entry
   pub rest : List Entry

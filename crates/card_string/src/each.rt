@@ -21,38 +21,66 @@ ghost use Rattle.card_string.specs.Each.{EachHolds, LeavesString};
 
 use tach_media::Chip;
 
-/// Over a keep each image of a card stands so, and each since the start keeps its entries: the one that is kept was lacked before.
+/// Over a keep each image of a card stands so, and each since the start keeps its entries: the one that is kept was
+/// lacked before.
 pub fn a_keep_keeps_each_image<C: Chip, D: Chip>(before: &C, after: &D)
-    ensures { (s : Session) (image : List ℕ) (done es : List Entry) (e : Entry) (odometer n next began : ℕ) → IsApplication s.application → own_sizes image ≡ s.application → began ≤ (C.state before.now).clock →
+    ensures { (s : Session) (image : List ℕ) (done es : List Entry) (e : Entry) (odometer n next began : ℕ)
+        → IsApplication s.application → own_sizes image ≡ s.application → began ≤ (C.state before.now).clock →
         s.minute < e.minute → n ≤ e.minute → Follow e.minute es → e.minute < next →
-        ((x : List ℕ) → (C.state before.now).image ≡ Some x → IsSession s x × (0 < session_time s.application x) × GoesSince s.application image done n x) →
-        LeavesOnly (C.state before.now) (D.state after.now) (IsCardKeeping s e odometer) → EachHolds s.application image (done ++ e ∷ es) next began (C.state before.now) → EachHolds s.application image (done ++ e ∷ es) next began (D.state after.now) }
+        ((x : List ℕ) → (C.state before.now).image ≡ Some x
+        → IsSession s x × (0 < session_time s.application x) × GoesSince s.application image done n x) →
+        LeavesOnly (C.state before.now) (D.state after.now) (IsCardKeeping s e odometer)
+        → EachHolds s.application image (done ++ e ∷ es) next began (C.state before.now)
+        → EachHolds s.application image (done ++ e ∷ es) next began (D.state after.now) }
 {}
 
 /// So it is over a withdrawal.
 pub fn a_withdrawal_keeps_each_image<C: Chip, D: Chip>(before: &C, after: &D)
-    ensures { (s : Session) (act : Activity) (image : List ℕ) (done : List Entry) (n m next began : ℕ) → IsApplication s.application → own_sizes image ≡ s.application → began ≤ (C.state before.now).clock → n ≤ next → m ≤ next →
-        ((x : List ℕ) → (C.state before.now).image ≡ Some x → (image_size_of s.application ≤ length x) × IsSession s x × (0 < session_time s.application x) × (newest_minute (end_mark s.application x) (card_days s.application x) < next) × GoesSince s.application image done n x) →
-        LeavesOnly (C.state before.now) (D.state after.now) (IsCardClosing s act) → EachHolds s.application image done m began (C.state before.now) → EachHolds s.application image done next began (D.state after.now) }
+    ensures { (s : Session) (act : Activity) (image : List ℕ) (done : List Entry) (n m next began : ℕ)
+        → IsApplication s.application → own_sizes image ≡ s.application → began ≤ (C.state before.now).clock → n ≤ next
+        → m ≤ next →
+        ((x : List ℕ) → (C.state before.now).image ≡ Some x
+        → (image_size_of s.application ≤ length x) × IsSession s x × (0 < session_time s.application x)
+        × (newest_minute (end_mark s.application x) (card_days s.application x) < next)
+        × GoesSince s.application image done n x) →
+        LeavesOnly (C.state before.now) (D.state after.now) (IsCardClosing s act)
+        → EachHolds s.application image done m began (C.state before.now)
+        → EachHolds s.application image done next began (D.state after.now) }
 {}
 
 /// So it is over an insertion that is given what the card lacks, where its session was left open.
 pub fn an_insertion_keeps_each_image<C: Chip, D: Chip>(before: &C, after: &D)
-    ensures { (app : Application) (registration : Registration) (odometer now : ℕ) (owed : List Entry) (image : List ℕ) (brought : List Entry) (n next began : ℕ) → IsApplication app → own_sizes image ≡ app → began ≤ (C.state before.now).clock → n ≤ next →
+    ensures { (app : Application) (registration : Registration) (odometer now : ℕ) (owed : List Entry) (image : List ℕ)
+        (brought : List Entry) (n next began : ℕ) → IsApplication app → own_sizes image ≡ app
+        → began ≤ (C.state before.now).clock → n ≤ next →
         length registration.0 ≡ 15 → AreOwed now owed →
-        ((x : List ℕ) → (C.state before.now).image ≡ Some x → (image_size_of app ≤ length x) × IsValid app x × (0 < session_time app x →
-        (newest_behind (card_view app x).newest (lacked_by app x owed) < next) × ((done : List Entry) × AllUpTo (end_mark app x) done × (brought ≡ done ++ lacked_by app x owed))) ×
-        (session_time app x ≡ 0 → AllUpTo (end_mark app x) brought × (newest_minute (end_mark app x) (card_days app x) < next))) →
-        LeavesOnly (C.state before.now) (D.state after.now) (IsCardInserting app registration odometer owed now) → EachHolds app image brought n began (C.state before.now) → EachHolds app image brought next began (D.state after.now) }
+        ((x : List ℕ) → (C.state before.now).image ≡ Some x
+        → (image_size_of app ≤ length x) × IsValid app x × (0 < session_time app x →
+        (newest_behind (card_view app x).newest (lacked_by app x owed) < next)
+        × ((done : List Entry) × AllUpTo (end_mark app x) done × (brought ≡ done ++ lacked_by app x owed))) ×
+        (session_time app x ≡ 0 → AllUpTo (end_mark app x) brought
+        × (newest_minute (end_mark app x) (card_days app x) < next))) →
+        LeavesOnly (C.state before.now) (D.state after.now) (IsCardInserting app registration odometer owed now)
+        → EachHolds app image brought n began (C.state before.now)
+        → EachHolds app image brought next began (D.state after.now) }
 {}
 
-/// So it is over a write beside the string, as of an event or a place, and where nothing is written; and with further entries that each
-/// image since the start lacks.
+/// So it is over a write beside the string, as of an event or a place, and where nothing is written; and with further
+/// entries that each image since the start lacks.
 pub fn a_write_beside_keeps_each_image<C: Chip, D: Chip>(before: &C, after: &D)
-    ensures beside { (app : Application) (image : List ℕ) (brought : List Entry) (n next began : ℕ) → IsApplication app → own_sizes image ≡ app → began ≤ (C.state before.now).clock → n ≤ next →
-        LeavesOnly (C.state before.now) (D.state after.now) (LeavesString app) → EachHolds app image brought n began (C.state before.now) → EachHolds app image brought next began (D.state after.now) }
-    ensures read { (app : Application) (image : List ℕ) (brought : List Entry) (n next began : ℕ) → IsApplication app → own_sizes image ≡ app → began ≤ (C.state before.now).clock → n ≤ next →
-        LeavesOnly (C.state before.now) (D.state after.now) Unchanged → EachHolds app image brought n began (C.state before.now) → EachHolds app image brought next began (D.state after.now) }
-    ensures brought { (app : Application) (image : List ℕ) (brought es : List Entry) (m n next began : ℕ) → Follow m (brought ++ es) → n ≤ first_minute next es → ((x : List ℕ) → (C.state before.now).left_since began x → Follow (own_view x).mark es) →
-        EachHolds app image brought n began (C.state before.now) → EachHolds app image (brought ++ es) next began (C.state before.now) }
+    ensures beside { (app : Application) (image : List ℕ) (brought : List Entry) (n next began : ℕ) → IsApplication app
+        → own_sizes image ≡ app → began ≤ (C.state before.now).clock → n ≤ next →
+        LeavesOnly (C.state before.now) (D.state after.now) (LeavesString app)
+        → EachHolds app image brought n began (C.state before.now)
+        → EachHolds app image brought next began (D.state after.now) }
+    ensures read { (app : Application) (image : List ℕ) (brought : List Entry) (n next began : ℕ) → IsApplication app
+        → own_sizes image ≡ app → began ≤ (C.state before.now).clock → n ≤ next →
+        LeavesOnly (C.state before.now) (D.state after.now) Unchanged
+        → EachHolds app image brought n began (C.state before.now)
+        → EachHolds app image brought next began (D.state after.now) }
+    ensures brought { (app : Application) (image : List ℕ) (brought es : List Entry) (m n next began : ℕ)
+        → Follow m (brought ++ es) → n ≤ first_minute next es
+        → ((x : List ℕ) → (C.state before.now).left_since began x → Follow (own_view x).mark es) →
+        EachHolds app image brought n began (C.state before.now)
+        → EachHolds app image (brought ++ es) next began (C.state before.now) }
 {}

@@ -1,5 +1,6 @@
-//! What a card's calls say of its string of days, as the rule of overwriting says it (profile): definitions (specs/) of what is
-//! carried of a string in a session and where one was broken off, and laws that a keep goes on with it at each of its moments.
+//! What a card's calls say of its string of days, as the rule of overwriting says it (profile): definitions (specs/) of
+//! what is carried of a string in a session and where one was broken off, and laws that a keep goes on with it at each
+//! of its moments.
 #![tactic(auto)]
 
 mod each;

@@ -11,13 +11,15 @@ use Rattle.tach_media.specs.Medium.{bytes_at}
 use Rattle.gated_ring.specs.Ring.{PointsInside, IsNewest}
 use Rattle.card_days.specs.Held.{Knows}
 use Rattle.card_retention.specs.Entries.{newest_word}
-use Rattle.card_image.specs.Fields.{file, file_bytes, day_string, vehicle_ring, newest_vehicle, end_mark, session_time, current_use, card_days, card_number}
+use Rattle.card_image.specs.Fields.{file, file_bytes, day_string, vehicle_ring, newest_vehicle, end_mark, session_time}
+use Rattle.card_image.specs.Fields.{current_use, card_days, card_number}
 use Rattle.card_image.specs.View.{counting}
 use Rattle.card_image.specs.Judging.{file_checks, first_bad_of, IsValid}
 use Rattle.card_validity.specs.declared.files.Judged.{Judged}
 use Rattle.card_validity.specs.declared.looking.CardLook.{CardLook}
 
--- The first file that fails behind Application_Identification, with the place: what is judged of a card whose sizes are known.
+-- The first file that fails behind Application_Identification, with the place: what is judged of a card whose sizes are
+-- known.
 abbrev pub first_bad_behind : Application → List ℕ → Option (Fid × ℕ)
 first_bad_behind app x = first_bad_of (drop 1 (file_checks app x))
 
@@ -25,9 +27,11 @@ first_bad_behind app x = first_bad_of (drop 1 (file_checks app x))
 abbrev pub TellsSizes : Application → List ℕ → Type 0
 TellsSizes app x = first_bad_field (file_bytes app 0x0501 x) ≡ None
 
--- The files that are judged stand in a copy as in the image: they lie one after the other, from the days to the current use.
+-- The files that are judged stand in a copy as in the image: they lie one after the other, from the days to the current
+-- use.
 abbrev pub IsCopy : Application → (x z : List ℕ) → Type 0
-IsCopy app x z = let from = place_of app (file 0x0504) in let len = place_of app (file 0x0508) - from in bytes_at z from len ≡ bytes_at x from len
+IsCopy app x z = let from = place_of app (file 0x0504) in let len = place_of app (file 0x0508) - from in bytes_at z from
+    len ≡ bytes_at x from len
 
 -- what is known of a card that passed: its days, its vehicles, the newest of them, and the current use
 pub record IsKnown (app : Application) (x : List ℕ) (j : Judged) : Type 0 where
@@ -51,15 +55,16 @@ pub record IsJudged (app : Application) (x : List ℕ) (j : Judged) : Type 0 whe
   pub valid : IsValid app x
   pub known : IsKnown app x j
 
--- The fields of Identification (Appendix 1, CardIdentification and DriverCardHolderIdentification): issuing state, number, authority, issue,
--- begin and end of validity, surname, first names, birth date, language.
+-- The fields of Identification (Appendix 1, CardIdentification and DriverCardHolderIdentification): issuing state,
+-- number, authority, issue, begin and end of validity, surname, first names, birth date, language.
 abbrev pub identification_widths : List ℕ
 identification_widths = 1 ∷ 16 ∷ 36 ∷ 4 ∷ 4 ∷ 4 ∷ 36 ∷ 36 ∷ 4 ∷ 2 ∷ []
 
 abbrev pub identification_field : Application → List ℕ → ℕ → List ℕ
 identification_field app x k = field_at identification_widths k (file_bytes app 0x0520 x)
 
--- What a valid card tells. Its newest minute is the later of its end mark and its newest word's minute, of the days that count.
+-- What a valid card tells. Its newest minute is the later of its end mark and its newest word's minute, of the days
+-- that count.
 pub record IsLook (app : Application) (x : List ℕ) (l : CardLook) : Type 0 where
   pub valid : IsValid app x
   pub number : l.number ≡ card_number_of (card_number app x)
@@ -67,5 +72,6 @@ pub record IsLook (app : Application) (x : List ℕ) (l : CardLook) : Type 0 whe
   pub first : l.first.0 ≡ identification_field app x 7
   pub expiry : l.expiry ≡ time_of (identification_field app x 5)
   pub session : l.session ≡ session_time app x
-  pub newest_minute : l.newest_minute ≡ max (end_mark app x) (newest_word (counting (session_time app x) (end_mark app x) (card_days app x)))
+  pub newest_minute : l.newest_minute
+      ≡ max (end_mark app x) (newest_word (counting (session_time app x) (end_mark app x) (card_days app x)))
   pub previous : l.previous ≡ newest_vehicle app x

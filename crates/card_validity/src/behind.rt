@@ -116,8 +116,8 @@ impl Behind {
         }
     }
 
-    /// The place of the first word behind the mark that is bad: one of an entry, and the first one also where it leaves open
-    /// what was open at the mark.
+    /// The place of the first word behind the mark that is bad: one of an entry, and the first one also where it leaves
+    /// open what was open at the mark.
     pub fn answer(&self) -> Option<u32>
         ensures { result ≡ answer_by self.now.unclosed self.now.first self.now.bad }
     {

@@ -1,5 +1,6 @@
 //! The files of a card whose image lies in memory.
-ghost use Rattle.std.specs.Prelude.{◌≡◌, ◌≤◌, ◌<◌, ◌+◌, ◌^◌, length, Some, None, IfOk, IfErr, IfSome, IfNone, IsTrue, IsFalse};
+ghost use Rattle.std.specs.Prelude.{◌≡◌, ◌≤◌, ◌<◌, ◌+◌, ◌^◌, length, Some, None, IfOk, IfErr, IfSome, IfNone, IsTrue};
+ghost use Rattle.std.specs.Prelude.{IsFalse};
 ghost use Rattle.card_layout.specs.Application.{IsApplication};
 ghost use Rattle.card_layout.specs.Files.{image_size_of};
 ghost use Rattle.gated_ring.specs.Ring.{pointer, PointsInside, IsNewest, entry_at};
@@ -8,7 +9,8 @@ ghost use Rattle.card_model.specs.Image.{oldest_pointer};
 ghost use Rattle.card_model.specs.Walk.{days_of};
 ghost use Rattle.card_days.specs.Held.{Knows};
 ghost use Rattle.card_files.specs.Vehicles.{vehicle_of};
-ghost use Rattle.card_image.specs.Fields.{day_string, vehicle_ring, place_ring, newest_vehicle, current_use, last_use_of};
+ghost use Rattle.card_image.specs.Fields.{day_string, vehicle_ring, place_ring, newest_vehicle, current_use};
+ghost use Rattle.card_image.specs.Fields.{last_use_of};
 ghost use Rattle.card_validity.specs.Judged.{first_bad_behind, IsSized, IsKnown};
 
 use crate::BadFile;
@@ -22,8 +24,8 @@ use gated_ring::{Ring, RingFault};
 use tach_media::SliceMedium;
 use tacho_types::TimeReal;
 
-/// What is known of a card that passed: its days, its vehicle entries, the newest of them, and its current use, in which the
-/// session time is 0 where no session is open. It knows no card.
+/// What is known of a card that passed: its days, its vehicle entries, the newest of them, and its current use, in
+/// which the session time is 0 where no session is open. It knows no card.
 #[derive(Drop)]
 pub struct Judged {
     pub days: Days,

@@ -1,5 +1,5 @@
-//! The judging of a driver card as an insertion finds it (profile): its string of days, its rings and its words, in their
-//! order, each with the place at which it first fails; and what an accepted card tells.
+//! The judging of a driver card as an insertion finds it (profile): its string of days, its rings and its words, in
+//! their order, each with the place at which it first fails; and what an accepted card tells.
 #![tactic(auto)]
 
 mod behind;

@@ -62,8 +62,8 @@ fn read_files<M: Medium>(port: &mut M, app: &Application, room: &mut [u8]) -> Re
     port.read_at(from, &mut room[from as usize..end as usize])
 }
 
-/// Judges a card of these sizes, which are those that its image tells where it tells one. It writes nothing, and reads the
-/// files that it judges once, whole.
+/// Judges a card of these sizes, which are those that its image tells where it tells one. It writes nothing, and reads
+/// the files that it judges once, whole.
 ///
 /// # Errors
 ///
@@ -75,7 +75,8 @@ pub fn judge<M: Medium>(port: &mut M, app: &Application) -> Result<Judged, Inser
     requires told { IfSome (M.state port.old).image (TellsSizes app.now) }
     ensures sized { IfOk result (IsSized app.now) }
     ensures judged { IfOk result (λ j. IfSome (M.state port.old).image (λ x. IsJudged app.now x j)) }
-    ensures bad { IfErr result (λ fault. IfNotValid fault (λ fid place. IfSome (M.state port.old).image (λ x. first_bad_file app.now x ≡ Some (fid, place)))) }
+    ensures bad { IfErr result (λ fault. IfNotValid fault (λ fid place. IfSome (M.state port.old).image
+        (λ x. first_bad_file app.now x ≡ Some (fid, place)))) }
     ensures in_time { IfErr result (λ fault. IfTimeOverlap fault (λ stored now. ⊥)) }
     ensures reads { Reads (M.state port.old) (M.state port.new) (has_failed result) }
 {
@@ -89,7 +90,9 @@ pub fn judge<M: Medium>(port: &mut M, app: &Application) -> Result<Judged, Inser
 
 // The newest minute of a card, of the days that count.
 fn newest_minute(judged: &Judged) -> u32
-    ensures { (app : Application) (x : List ℕ) → IsKnown app x judged.now → result ≡ max (end_mark app x) (newest_word (counting (session_time app x) (end_mark app x) (card_days app x))) }
+    ensures { (app : Application) (x : List ℕ) → IsKnown app x judged.now
+        → result ≡ max (end_mark app x) (newest_word
+        (counting (session_time app x) (end_mark app x) (card_days app x))) }
 {
     let mark = last_use(&judged.vehicle).0 / 60;
     let session = judged.current.session.0;
@@ -123,7 +126,8 @@ pub fn look<M: Medium>(port: &mut M, app: &Application) -> Result<CardLook, Inse
     requires fits { image_size_of app.now ≤ (M.state port.old).size }
     requires told { IfSome (M.state port.old).image (TellsSizes app.now) }
     ensures look { IfOk result (λ l. IfSome (M.state port.old).image (λ x. IsLook app.now x l)) }
-    ensures bad { IfErr result (λ fault. IfNotValid fault (λ fid place. IfSome (M.state port.old).image (λ x. first_bad_file app.now x ≡ Some (fid, place)))) }
+    ensures bad { IfErr result (λ fault. IfNotValid fault (λ fid place. IfSome (M.state port.old).image
+        (λ x. first_bad_file app.now x ≡ Some (fid, place)))) }
     ensures in_time { IfErr result (λ fault. IfTimeOverlap fault (λ stored now. ⊥)) }
     ensures reads { Reads (M.state port.old) (M.state port.new) (has_failed result) }
 {

@@ -35,7 +35,8 @@ pub fn word(days: &Days, image: &[u8], head: &DayHead, index: u16) -> u16
     requires known { IsInMemory days.now.shape image.now }
     requires place { head.now.place < 4 + days.now.shape.size }
     requires there { index < head.now.words }
-    ensures { (d : Day) → IsAt days.now.shape image.now head.now.place d → index < length d.words → result ≡ slice_index d.words index }
+    ensures { (d : Day) → IsAt days.now.shape image.now head.now.place d → index < length d.words
+        → result ≡ slice_index d.words index }
 {
     let mut slice = SliceMedium::new(image);
     days.word(&mut slice, head, index).unwrap()

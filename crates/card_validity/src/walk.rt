@@ -51,8 +51,10 @@ fn see_words(
     requires mark { mark ≤ LAST_MINUTE }
     requires place { met.now.head.place < days.now.shape.size }
     requires near { met.now.so_far ≤ STRING_MOST }
-    ensures { (older : List Day) (d : Day) → IsMet days.now.shape image.now older d met.now → (ws : List PlacedWord) → IsBehind mark ws behind
-        → IsBehind mark (ws ++ words_placed days.now.shape.size (oldest_pointer days.now.shape image.now) (met.now.so_far + 12) d.date d.words) result }
+    ensures { (older : List Day) (d : Day) → IsMet days.now.shape image.now older d met.now → (ws : List PlacedWord)
+        → IsBehind mark ws behind
+        → IsBehind mark (ws ++ words_placed days.now.shape.size (oldest_pointer days.now.shape image.now)
+        (met.now.so_far + 12) d.date d.words) result }
 {
     let mut seen = behind;
     for index in 0..met.head.words {
@@ -87,7 +89,9 @@ impl Walked {
         requires mark { mark ≤ LAST_MINUTE }
         requires place { met.head.place < days.now.shape.size }
         requires near { met.so_far ≤ STRING_MOST }
-        ensures { (older : List Day) (d : Day) → IsMet days.now.shape image.now older d met → HasMet days.now.shape image.now mark older self → HasMet days.now.shape image.now mark (older ++ d ∷ []) result }
+        ensures { (older : List Day) (d : Day) → IsMet days.now.shape image.now older d met
+            → HasMet days.now.shape image.now mark older self
+            → HasMet days.now.shape image.now mark (older ++ d ∷ []) result }
     {
         let behind = see_words(self.behind, days, image, round, mark, &met);
         let late = is_later_day(met.head.date.0, mark);

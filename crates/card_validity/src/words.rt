@@ -21,7 +21,8 @@ use card_days::Days;
 /// No minute of a word is later.
 const ANY_MINUTE: u16 = 2047;
 
-// The place of the first word of a day, among those up to a minute of the day, that is not later than the one before it.
+// The place of the first word of a day, among those up to a minute of the day, that is not later than the one before
+// it.
 fn first_not_later(days: &Days, image: &[u8], round: &Round, met: &Met, limit: u16) -> Option<u32>
     requires known { IsInMemory days.now.shape image.now }
     requires size { round.now.size ≡ days.now.shape.size }
@@ -29,7 +30,10 @@ fn first_not_later(days: &Days, image: &[u8], round: &Round, met: &Met, limit: u
     requires short { round.now.oldest < 2 ^ 24 }
     requires place { met.now.head.place < days.now.shape.size }
     requires near { met.now.so_far ≤ STRING_MOST }
-    ensures { (older : List Day) (d : Day) → IsMet days.now.shape image.now older d met.now → result ≡ first_failing (rising_checks (words_placed days.now.shape.size (oldest_pointer days.now.shape image.now) (met.now.so_far + 12) d.date (early limit d.words))) }
+    ensures { (older : List Day) (d : Day) → IsMet days.now.shape image.now older d met.now
+        → result ≡ first_failing (rising_checks
+        (words_placed days.now.shape.size (oldest_pointer days.now.shape image.now) (met.now.so_far + 12) d.date
+        (early limit d.words))) }
 {
     let mut before = None;
     for index in 0..met.head.words {
@@ -55,8 +59,8 @@ fn is_later(before: Option<u16>, minute: u16) -> bool
     }
 }
 
-/// The place in the file of days of the first word that an insertion finds bad: where no session is open, of those behind
-/// the end mark; then of the newest day up to the mark; and where no session is open, of the newest day.
+/// The place in the file of days of the first word that an insertion finds bad: where no session is open, of those
+/// behind the end mark; then of the newest day up to the mark; and where no session is open, of the newest day.
 pub fn first_bad_word(
     days: &Days,
     image: &[u8],
@@ -69,7 +73,8 @@ pub fn first_bad_word(
     requires oldest { round.now.oldest ≡ oldest_pointer days.now.shape image.now }
     requires short { round.now.oldest < 2 ^ 24 }
     requires mark { mark ≤ LAST_MINUTE }
-    ensures { result ≡ first_failing (word_checks days.now.shape.size (oldest_pointer days.now.shape image.now) mark session (days_of days.now.shape image.now)) }
+    ensures { result ≡ first_failing (word_checks days.now.shape.size (oldest_pointer days.now.shape image.now) mark
+        session (days_of days.now.shape image.now)) }
 {
     let walked = walk(days, image, round, mark);
     let cut = first_of_cut(days, image, round, mark, walked.cut);
@@ -98,7 +103,8 @@ fn first_of_newest(days: &Days, image: &[u8], round: &Round, newest: Option<Met>
     requires oldest { round.now.oldest ≡ oldest_pointer days.now.shape image.now }
     requires short { round.now.oldest < 2 ^ 24 }
     requires newest { IsLastOf days.now.shape image.now (days_of days.now.shape image.now) newest }
-    ensures { result ≡ first_failing (newest_rises days.now.shape.size (oldest_pointer days.now.shape image.now) 0 (days_of days.now.shape image.now)) }
+    ensures { result ≡ first_failing (newest_rises days.now.shape.size (oldest_pointer days.now.shape image.now) 0
+        (days_of days.now.shape image.now)) }
 {
     match newest {
         None => None,
@@ -120,7 +126,8 @@ fn first_of_cut(
     requires short { round.now.oldest < 2 ^ 24 }
     requires mark { mark ≤ LAST_MINUTE }
     requires cut { IsLastOf days.now.shape image.now (until (date_of mark) (days_of days.now.shape image.now)) cut }
-    ensures { result ≡ first_failing (newest_rises days.now.shape.size (oldest_pointer days.now.shape image.now) 0 (trimmed mark (days_of days.now.shape image.now))) }
+    ensures { result ≡ first_failing (newest_rises days.now.shape.size (oldest_pointer days.now.shape image.now) 0
+        (trimmed mark (days_of days.now.shape image.now))) }
 {
     match cut {
         None => None,

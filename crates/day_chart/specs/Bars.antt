@@ -9,9 +9,11 @@ use Rattle.day_totals.specs.Text.{duration_text}
 
 -- without a card: no fill, grey dashes, as high as the activity
 abbrev pub pale : Activity → List ℕ
-pale Driving = codes " y=\"2\" height=\"24\" fill=\"none\" stroke=\"#777\" stroke-width=\"0.6\" stroke-dasharray=\"2 2\""
+pale Driving = codes
+    " y=\"2\" height=\"24\" fill=\"none\" stroke=\"#777\" stroke-width=\"0.6\" stroke-dasharray=\"2 2\""
 pale Work = codes " y=\"8\" height=\"18\" fill=\"none\" stroke=\"#777\" stroke-width=\"0.6\" stroke-dasharray=\"2 2\""
-pale Available = codes " y=\"14\" height=\"12\" fill=\"none\" stroke=\"#777\" stroke-width=\"0.6\" stroke-dasharray=\"2 2\""
+pale Available = codes
+    " y=\"14\" height=\"12\" fill=\"none\" stroke=\"#777\" stroke-width=\"0.6\" stroke-dasharray=\"2 2\""
 pale Rest = codes " y=\"20\" height=\"6\" fill=\"none\" stroke=\"#777\" stroke-width=\"0.6\" stroke-dasharray=\"2 2\""
 
 -- with a card: blue, orange with stripes, yellow with dots, white
@@ -23,7 +25,8 @@ bold Rest = codes " y=\"20\" height=\"6\" fill=\"#fff\" stroke=\"#000\" stroke-w
 
 -- how a bar looks: minutes that were not recorded are a grey block
 abbrev pub look : Seen → List ℕ
-look seen = if seen.known then (if seen.present then bold seen.act else pale seen.act) else codes " y=\"2\" height=\"24\" fill=\"#ddd\""
+look seen = if seen.known then (if seen.present then bold seen.act else pale seen.act)
+    else codes " y=\"2\" height=\"24\" fill=\"#ddd\""
 
 -- the half of a number, `37` or `37.5`
 abbrev pub point_five : ℕ → List ℕ
@@ -35,12 +38,14 @@ half_text n = decimal (n / 2) ++ point_five n
 -- what a bar says: `2010-03-01 07:15-11:44 driver drive, crew`
 abbrev pub title_text : (date name : List ℕ) → Line Seen → List ℕ
 title_text date name bar =
-    date ++ codes " " ++ duration_text (bar.first % 1440) ++ codes "-" ++ duration_text (bar.last % 1440) ++ codes " " ++ name ++ codes " " ++ seen_words bar.shown
+    date ++ codes " " ++ duration_text (bar.first % 1440) ++ codes "-" ++ duration_text (bar.last % 1440) ++ codes " "
+    ++ name ++ codes " " ++ seen_words bar.shown
 
 -- A BAR: two minutes are one unit wide, and the day begins at 60
 abbrev pub bar_text : (date name : List ℕ) → Line Seen → List ℕ
 bar_text date name bar =
-    codes "<rect x=\"" ++ half_text (120 + bar.first % 1440) ++ codes "\" width=\"" ++ half_text (bar.last + 1 - bar.first) ++ codes "\"" ++ look bar.shown
+    codes "<rect x=\"" ++ half_text (120 + bar.first % 1440) ++ codes "\" width=\""
+    ++ half_text (bar.last + 1 - bar.first) ++ codes "\"" ++ look bar.shown
     ++ codes "><title>" ++ title_text date name bar ++ codes "</title></rect>\n"
 
 -- bars, one after the other

@@ -20,31 +20,38 @@ sums_text minutes =
     codes "<use xlink:href=\"#signs\"/><text x=\"800\" y=\"23\" font-size=\"9\">" ++ duration_text (total Drive minutes)
     ++ codes "</text><text x=\"849\" y=\"23\" font-size=\"9\">" ++ duration_text (total Work minutes)
     ++ codes "</text><text x=\"898\" y=\"23\" font-size=\"9\">" ++ duration_text (total Available minutes)
-    ++ codes "</text><text x=\"947\" y=\"23\" font-size=\"9\">" ++ duration_text (total Rest minutes) ++ codes "</text>\n"
+    ++ codes "</text><text x=\"947\" y=\"23\" font-size=\"9\">" ++ duration_text (total Rest minutes)
+    ++ codes "</text>\n"
 
 -- A LANE: the slot's name, its bars, and the totals of its minutes with a card
 abbrev pub lane_text : (date name : List ℕ) → List (Viewed Seen) → List ℕ
 lane_text date name minutes =
-    codes "<text x=\"54\" y=\"24\" text-anchor=\"end\" font-size=\"9\">" ++ name ++ codes "</text>\n" ++ bars_text date name (bars_of minutes) ++ sums_text minutes
+    codes "<text x=\"54\" y=\"24\" text-anchor=\"end\" font-size=\"9\">" ++ name ++ codes "</text>\n"
+    ++ bars_text date name (bars_of minutes) ++ sums_text minutes
 
 -- where a band stands, and its date
 abbrev pub band_head : (top : ℕ) → (date : List ℕ) → List ℕ
 band_head top date =
-    codes "<g transform=\"translate(0 " ++ decimal top ++ codes ")\"><text x=\"60\" y=\"-3\" font-weight=\"bold\" font-size=\"10\">" ++ date ++ codes "</text>\n"
+    codes "<g transform=\"translate(0 " ++ decimal top
+    ++ codes ")\"><text x=\"60\" y=\"-3\" font-weight=\"bold\" font-size=\"10\">" ++ date ++ codes "</text>\n"
 
 -- the band of a day of a unit: two lanes and the axis
 abbrev pub unit_band : List Gap → (place : ℕ) → (date : List ℕ) → List (Viewed UnitShown) → List ℕ
 unit_band gaps place date minutes =
-    band_head (66 + 92 * place) date ++ lane_text date (codes "driver") (map (slot_seen gaps Driver) minutes) ++ codes "<g transform=\"translate(0 30)\">\n"
-    ++ lane_text date (codes "codriver") (map (slot_seen gaps CoDriver) minutes) ++ codes "<use xlink:href=\"#axis\"/></g></g>\n"
+    band_head (66 + 92 * place) date ++ lane_text date (codes "driver") (map (slot_seen gaps Driver) minutes)
+    ++ codes "<g transform=\"translate(0 30)\">\n"
+    ++ lane_text date (codes "codriver") (map (slot_seen gaps CoDriver) minutes)
+    ++ codes "<use xlink:href=\"#axis\"/></g></g>\n"
 
 -- the band of a day of a card: one lane and the axis
 abbrev pub card_band : (place : ℕ) → (date : List ℕ) → List (Viewed CardShown) → List ℕ
 card_band place date minutes =
-    band_head (66 + 62 * place) date ++ lane_text date (codes "holder") (map card_seen minutes) ++ codes "<use xlink:href=\"#axis\"/></g>\n"
+    band_head (66 + 62 * place) date ++ lane_text date (codes "holder") (map card_seen minutes)
+    ++ codes "<use xlink:href=\"#axis\"/></g>\n"
 
 -- THE PICTURE of a unit's minutes, and of a card's: a band a day, in their order, and the totals as its text
-pub record IsUnitChart (gaps : List Gap) (totals : List ℕ) (minutes : List (Viewed UnitShown)) (text : List ℕ) : Type 0 where
+pub record IsUnitChart (gaps : List Gap) (totals : List ℕ) (minutes : List (Viewed UnitShown)) (text : List ℕ) : Type
+    0 where
   pub bands : List ℕ
   pub each : AreEach (unit_band gaps) 0 (days_of minutes) bands
   pub framed : text ≡ frame_text (80 + 92 * length (days_of minutes)) totals bands

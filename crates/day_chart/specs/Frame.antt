@@ -49,4 +49,5 @@ legend_rest = codes "<rect x=\"384\" y=\"34\" width=\"20\" height=\"6\" fill=\"#
 unfoldable pub frame_text : (height : ℕ) → (totals bands : List ℕ) → List ℕ
 frame_text height totals bands =
     opening ++ decimal height ++ box ++ decimal height ++ titling ++ totals
-    ++ patterns ++ drive_sign ++ other_signs ++ lane_signs ++ axis ++ hours ++ legend_bars ++ legend_rest ++ bands ++ codes "</svg>\n"
+    ++ patterns ++ drive_sign ++ other_signs ++ lane_signs ++ axis ++ hours ++ legend_bars ++ legend_rest ++ bands
+    ++ codes "</svg>\n"

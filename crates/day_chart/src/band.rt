@@ -34,7 +34,8 @@ pub(crate) fn write_lane(
     bars: &[Line<Seen>],
 ) -> Result<(), AllocError>
     requires { length (minutes_on bars.now) ≤ 1440 }
-    ensures { (minutes : List (ViewedMinute MinuteSeen)) → bars.now ≡ bars_of minutes → OnOk result (text.new.items ≡ text.old.items ++ lane_text date.now name.now minutes) }
+    ensures { (minutes : List (ViewedMinute MinuteSeen)) → bars.now ≡ bars_of minutes
+        → OnOk result (text.new.items ≡ text.old.items ++ lane_text date.now name.now minutes) }
 {
     text.extend_from_slice(b"<text x=\"54\" y=\"24\" text-anchor=\"end\" font-size=\"9\">")?;
     text.extend_from_slice(name)?;

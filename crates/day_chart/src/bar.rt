@@ -12,7 +12,8 @@ use std::alloc::AllocError;
 use view_model::Line;
 use view_text::Shown;
 
-/// How a bar looks: its height by the activity, its fill too; pale and dashed without a card, and grey where it is unknown.
+/// How a bar looks: its height by the activity, its fill too; pale and dashed without a card, and grey where it is
+/// unknown.
 fn look(seen: Seen) -> &'static [u8]
     ensures { result.now ≡ look seen }
 {

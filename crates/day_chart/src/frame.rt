@@ -1,6 +1,7 @@
 //! The frame of the picture: its size, its text, what it draws with, and its legend.
 ghost use Rattle.std.specs.Prelude.{◌≡◌, ◌++◌, IfOk, OnOk, decimal};
-ghost use Rattle.day_chart.specs.Frame.{frame_text, opening, box, titling, patterns, drive_sign, other_signs, lane_signs, axis, hours, legend_bars, legend_rest};
+ghost use Rattle.day_chart.specs.Frame.{frame_text, opening, box, titling, patterns, drive_sign, other_signs};
+ghost use Rattle.day_chart.specs.Frame.{lane_signs, axis, hours, legend_bars, legend_rest};
 
 use itoa::Buffer;
 use std::alloc::{AllocError, Global};
@@ -33,7 +34,8 @@ pub(crate) fn framed(
 
 /// Adds what the bands draw with, and the legend.
 fn write_drawn(text: &mut Vec<u8>) -> Result<(), AllocError>
-    ensures { OnOk result (text.new.items ≡ text.old.items ++ patterns ++ drive_sign ++ other_signs ++ lane_signs ++ axis ++ hours ++ legend_bars ++ legend_rest) }
+    ensures { OnOk result (text.new.items ≡ text.old.items ++ patterns ++ drive_sign ++ other_signs ++ lane_signs
+        ++ axis ++ hours ++ legend_bars ++ legend_rest) }
 {
     text.extend_from_slice(
         b"</desc>\n<defs>\n<pattern id=\"available\" width=\"4\" height=\"4\" patternUnits=\"userSpaceOnUse\"><rect width=\"4\" height=\"4\" fill=\"#f0e442\"/><circle cx=\"2\" cy=\"2\" r=\"0.8\" fill=\"#000\"/></pattern>\n<pattern id=\"work\" width=\"4\" height=\"4\" patternUnits=\"userSpaceOnUse\" patternTransform=\"rotate(45)\"><rect width=\"4\" height=\"4\" fill=\"#e69f00\"/><rect width=\"1.2\" height=\"4\" fill=\"#000\"/></pattern>\n",

@@ -1,5 +1,6 @@
 -- What is counted of the minutes of a day (profile).
-use Rattle.std.specs.Prelude.{◌≡◌, ℕ, ◌+◌, ◌-◌, ◌==◌, ◌&&◌, ◌||◌, not, Bool, true, Option, option_map, find, if◌then◌else◌, List, [], ◌∷◌, codes, count_by}
+use Rattle.std.specs.Prelude.{◌≡◌, ℕ, ◌+◌, ◌-◌, ◌==◌, ◌&&◌, ◌||◌, not, Bool, true, Option, option_map, find}
+use Rattle.std.specs.Prelude.{if◌then◌else◌, List, [], ◌∷◌, codes, count_by}
 use Rattle.activity_codec.specs.declared.values.Activity.{Activity}
 use Rattle.activity_codec.specs.declared.values.Activity.TheVariants as activity
 use Rattle.activity_codec.specs.Activity.{same_activity}
@@ -14,7 +15,8 @@ use Rattle.day_totals.specs.declared.figures.Figure.TheVariants.{Drive, Work, Av
 abbrev pub is_with_card : Activity → Seen → Bool
 is_with_card act seen = seen.present && same_activity seen.act act
 
--- WHAT COUNTS IN A FIGURE: an activity with a card in the slot; a minute that was not recorded; a minute with a card in the slot
+-- WHAT COUNTS IN A FIGURE: an activity with a card in the slot; a minute that was not recorded; a minute with a card in
+-- the slot
 abbrev pub counts : Figure → Seen → Bool
 counts Drive seen = is_with_card activity.Driving seen
 counts Work seen = is_with_card activity.Work seen

@@ -27,7 +27,8 @@ abbrev pub distance_text : Option ℕ → List ℕ
 distance_text None = codes " km -\n"
 distance_text (Some km) = codes " km " ++ decimal km ++ codes "\n"
 
--- what stands behind the date: ` driver drive 07:35 work 02:10 available 00:30 rest 11:55 unknown 00:00 in 22:10 km 412`
+-- what stands behind the date: ` driver drive 07:35 work 02:10 available 00:30 rest 11:55 unknown 00:00 in 22:10 km
+-- 412`
 abbrev pub totals_text : (name : List ℕ) → List (Viewed Seen) → Option ℕ → List ℕ
 totals_text name minutes km =
     codes " " ++ name ++ figure_text Drive minutes ++ figure_text Work minutes ++ figure_text Available minutes
@@ -37,14 +38,18 @@ totals_text name minutes km =
 abbrev pub unit_day_text : List Gap → List Distance → (date : List ℕ) → List (Viewed UnitShown) → List ℕ
 unit_day_text gaps distances date minutes =
     date ++ totals_text (codes "driver") (map (slot_seen gaps Driver) minutes) (distance_on distances (day_of minutes))
-    ++ date ++ totals_text (codes "codriver") (map (slot_seen gaps CoDriver) minutes) (distance_on distances (day_of minutes))
+    ++ date ++ totals_text (codes "codriver") (map (slot_seen gaps CoDriver) minutes)
+    (distance_on distances (day_of minutes))
 
 abbrev pub card_day_text : List Distance → (date : List ℕ) → List (Viewed CardShown) → List ℕ
-card_day_text distances date minutes = date ++ totals_text (codes "holder") (map card_seen minutes) (distance_on distances (day_of minutes))
+card_day_text distances date minutes = date
+    ++ totals_text (codes "holder") (map card_seen minutes) (distance_on distances (day_of minutes))
 
 -- THE TOTALS of a unit's minutes, and of a card's, day by day
 unfoldable pub IsUnitTotals : List Gap → List Distance → List (Viewed UnitShown) → List ℕ → Type 0
-IsUnitTotals gaps distances minutes text = AreEach (λ place date day. unit_day_text gaps distances date day) 0 (days_of minutes) text
+IsUnitTotals gaps distances minutes text = AreEach (λ place date day. unit_day_text gaps distances date day) 0
+    (days_of minutes) text
 
 unfoldable pub IsCardTotals : List Distance → List (Viewed CardShown) → List ℕ → Type 0
-IsCardTotals distances minutes text = AreEach (λ place date day. card_day_text distances date day) 0 (days_of minutes) text
+IsCardTotals distances minutes text = AreEach (λ place date day. card_day_text distances date day) 0 (days_of minutes)
+    text

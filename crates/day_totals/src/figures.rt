@@ -7,7 +7,8 @@ use activity_codec::Activity;
 use slot_bars::Seen;
 use view_model::Line;
 
-/// What is counted: an activity with a card in the slot, minutes that were not recorded, or minutes with a card in the slot.
+/// What is counted: an activity with a card in the slot, minutes that were not recorded, or minutes with a card in the
+/// slot.
 #[derive(Clone, Copy, Debug, PartialEq, Eq)]
 pub enum Figure {
     Drive,

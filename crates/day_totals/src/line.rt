@@ -18,7 +18,8 @@ pub(crate) fn write_totals(
     km: Option<u32>,
 ) -> Result<(), AllocError>
     requires { length (minutes_on bars.now) ≤ 1440 }
-    ensures { OnOk result (text.new.items ≡ text.old.items ++ date.now ++ totals_text name.now (minutes_on bars.now) km) }
+    ensures { OnOk result (text.new.items ≡ text.old.items ++ date.now
+        ++ totals_text name.now (minutes_on bars.now) km) }
 {
     text.extend_from_slice(date)?;
     text.extend_from_slice(b" ")?;

@@ -1,5 +1,6 @@
 -- What becomes of a card that is put in (profile).
-use Rattle.std.specs.Prelude.{◌≡◌, ◌⊎◌, ℕ, ◌<◌, ◌≤◌, Bool, true, false, Option, Some, None, IfSome, IfOk, IfErr, IsOk, Result, Ok, Err, List, length}
+use Rattle.std.specs.Prelude.{◌≡◌, ◌⊎◌, ℕ, ◌<◌, ◌≤◌, Bool, true, false, Option, Some, None, IfSome, IfOk, IfErr, IsOk}
+use Rattle.std.specs.Prelude.{Result, Ok, Err, List, length}
 use Rattle.activity_codec.specs.declared.entries.Entry.{Entry}
 use Rattle.tach_media.specs.Medium.{State, HasCause, LeavesOnly, Reads, Unchanged, IsSettled, last_count}
 use Rattle.tacho_types.specs.declared.texts.Registration.{Registration}
@@ -64,9 +65,10 @@ pub record IsRead (old new : State) (failed called : Bool) : Type 0 where
   -- where no call was made it works as it did
   pub rests : called ≡ false → old.works ≡ true → HasCause old new false
 
--- A CARD THAT IS ACCEPTED, of these images of unit and card before and of the card after it: it told this, was valid and of no later
--- time, the entries that were owed to it are on it, so many of them new, and the session knows it.
-pub record IsAccepted (app : Application) (registration : Registration) (odometer now : ℕ) (unit before after : Option (List ℕ))
+-- A CARD THAT IS ACCEPTED, of these images of unit and card before and of the card after it: it told this, was valid
+-- and of no later time, the entries that were owed to it are on it, so many of them new, and the session knows it.
+pub record IsAccepted (app : Application) (registration : Registration) (odometer now : ℕ)
+    (unit before after : Option (List ℕ))
     (look : CardLook) (owed : List Entry) (session : Session) (replayed : ℕ) : Type 0 where
   pub looked : IfSome before (λ x. IsLook app x look)
   pub valid : IfSome before (λ x. IsValid app x × ((card_view app x).stored ≤ now))
@@ -84,38 +86,49 @@ pub record IsAccepted (app : Application) (registration : Registration) (odomete
 abbrev pub IsRefused : Application → (now : ℕ) → (before after : State) → NotEntered → Type 0
 IsRefused app now before after UnitFailed = Reads before after false
 IsRefused app now before after CardFailed = Unit {0}
-IsRefused app now before after (NotValid fid place) = Reads before after false × IfSome before.image (λ x. first_bad_file app x ≡ Some (fid, place))
+IsRefused app now before after (NotValid fid place) = Reads before after false
+    × IfSome before.image (λ x. first_bad_file app x ≡ Some (fid, place))
 IsRefused app now before after (TimeOverlap stored at) =
-    Reads before after false × (at ≡ now) × (now < stored) × IfSome before.image (λ x. IsValid app x × (stored ≡ (card_view app x).stored))
+    Reads before after false × (at ≡ now) × (now < stored)
+    × IfSome before.image (λ x. IsValid app x × (stored ≡ (card_view app x).stored))
 
 -- A card that was written told of no later time.
 abbrev pub IsInTime : Application → (now : ℕ) → (before after : State) → Type 0
-IsInTime app now before after = LeavesOnly before after Unchanged ⊎ IfSome before.image (λ x. (card_view app x).stored ≤ now)
+IsInTime app now before after = LeavesOnly before after Unchanged
+    ⊎ IfSome before.image (λ x. (card_view app x).stored ≤ now)
 
 -- PUT IN: at each moment, too, what the card's images are by those of unit and card before.
-pub record IsEntering (app : Application) (registration : Registration) (odometer now : ℕ) (unit_old unit_new card_old card_new : State)
+pub record IsEntering (app : Application) (registration : Registration) (odometer now : ℕ)
+    (unit_old unit_new card_old card_new : State)
     (r : Result Entered NotEntered) : Type 0 where
   pub unit : IsRead unit_old unit_new (unit_failed r) (unit_called r)
-  pub accepted : IfOk r (λ e. IsAccepted app registration odometer now unit_old.image card_old.image card_new.image e.look e.owed.items e.session e.replayed)
+  pub accepted : IfOk r (λ e. IsAccepted app registration odometer now unit_old.image card_old.image card_new.image
+      e.look e.owed.items e.session e.replayed)
   pub refused : IfErr r (IsRefused app now card_old card_new)
-  pub moments : IfSome unit_old.image (λ u. LeavesOnly card_old card_new (λ x c. IsCardInserting app registration odometer (owed_on app u x) now x c))
+  pub moments : IfSome unit_old.image (λ u. LeavesOnly card_old card_new
+      (λ x c. IsCardInserting app registration odometer (owed_on app u x) now x c))
   -- the card was only read, or both devices worked when its insertion began, and it was valid
-  pub begun : LeavesOnly card_old card_new Unchanged ⊎ ((unit_new.works ≡ true) × (card_old.works ≡ true) × (unit_new.image ≡ unit_old.image)
+  pub begun : LeavesOnly card_old card_new Unchanged
+      ⊎ ((unit_new.works ≡ true) × (card_old.works ≡ true) × (unit_new.image ≡ unit_old.image)
       × IfSome unit_old.image (λ u. IfSome card_old.image (λ x. IsValid app x × AreOwed now (owed_on app u x))))
   pub settled : IsOk r → card_new.clock < last_count → IsSettled card_new
   pub cause : HasCause card_old card_new (card_failed r)
 
 -- the same of a card that told this, and of these entries
-pub record IsInsertedWith (app : Application) (registration : Registration) (odometer now : ℕ) (es : List Entry) (look : CardLook)
+pub record IsInsertedWith (app : Application) (registration : Registration) (odometer now : ℕ) (es : List Entry)
+    (look : CardLook)
     (card_old card_new : State) (r : Result Entered NotEntered) : Type 0 where
   pub unit : unit_failed r ≡ false
   pub looked : IfOk r (λ e. (e.look ≡ look) × (e.owed.items ≡ es))
   pub valid : IfOk r (λ e. IfSome card_old.image (λ x. IsValid app x × ((card_view app x).stored ≤ now)))
-  pub inserted : IfOk r (λ e. IfSome card_old.image (λ x. IfSome card_new.image (IsCardInserted app registration odometer es now x)))
-  pub number : IfOk r (λ e. IfSome card_old.image (λ x. e.replayed ≡ replayed_count (session_time app x) (end_mark app x) es))
+  pub inserted : IfOk r (λ e. IfSome card_old.image
+      (λ x. IfSome card_new.image (IsCardInserted app registration odometer es now x)))
+  pub number : IfOk r (λ e. IfSome card_old.image
+      (λ x. e.replayed ≡ replayed_count (session_time app x) (end_mark app x) es))
   pub few : IfOk r (λ e. e.replayed ≤ length es)
   pub knows : IfOk r (λ e. IfSome card_old.image (λ x. IfSome card_new.image (IsSession e.session)))
-  pub values : IfOk r (λ e. (e.session.application ≡ app) × (e.session.registration ≡ registration) × (e.session.odometer ≡ None))
+  pub values : IfOk r (λ e. (e.session.application ≡ app) × (e.session.registration ≡ registration)
+      × (e.session.odometer ≡ None))
   pub refused : IfErr r (IsRefused app now card_old card_new)
   pub moments : LeavesOnly card_old card_new (IsCardInserting app registration odometer es now)
   pub settled : IsOk r → card_new.clock < last_count → IsSettled card_new

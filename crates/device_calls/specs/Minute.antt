@@ -1,4 +1,5 @@
--- A minute is kept by the unit and both cards (profile): what is carried from one minute to the next, and what a minute says.
+-- A minute is kept by the unit and both cards (profile): what is carried from one minute to the next, and what a minute
+-- says.
 use Rattle.std.specs.Prelude.{◌≡◌, ◌⊎◌, ℕ, suc, ◌<◌, ◌≤◌, Option, None, IfSome, List, [], ◌∷◌, ◌++◌, option_to_list}
 use Rattle.activity_codec.specs.declared.entries.Entry.{Entry}
 use Rattle.trace_model.specs.declared.Card.{Card}
@@ -41,9 +42,10 @@ known_after k i clock =
       marks = k.marks ++ record { device = Recorder; minute = i.minute; clock = clock } ∷ [];
     }
 
--- BETWEEN TWO MINUTES, while the unit has power: nothing is owed to a card that is accepted and in its slot, and each card stands as it
--- does.
-pub record AreBetween (k : Known) (c d : Card) (number_c number_d : List ℕ) (y z : Standing) (unit first second : State) : Type 0 where
+-- BETWEEN TWO MINUTES, while the unit has power: nothing is owed to a card that is accepted and in its slot, and each
+-- card stands as it does.
+pub record AreBetween (k : Known) (c d : Card) (number_c number_d : List ℕ) (y z : Standing)
+    (unit first second : State) : Type 0 where
   pub holds : UnitFollowsBook (once_mended k.started) k.due k.book k.marks unit
   pub none : k.book.maybe ≡ None
   pub two : d ≡ other c
@@ -55,7 +57,8 @@ pub record AreBetween (k : Known) (c d : Card) (number_c number_d : List ℕ) (y
   pub other_rule : CardHolds k.both d k.book z [] [] unit second
 
 -- A minute may come next, and says these entries on the cards: one on a card only where that is present.
-pub record SaysBoth (k : Known) (c d : Card) (i : HistoryMinute) (m : KeptMinute) (e f : Option Entry) (y z : Standing) : Type 0 where
+pub record SaysBoth (k : Known) (c d : Card) (i : HistoryMinute) (m : KeptMinute) (e f : Option Entry)
+    (y z : Standing) : Type 0 where
   pub same : kept_minute m ≡ seen_by_unit i
   pub late : k.due ≤ i.minute
   pub first : on_card c i ≡ option_to_list e
@@ -64,14 +67,16 @@ pub record SaysBoth (k : Known) (c d : Card) (i : HistoryMinute) (m : KeptMinute
   pub second_present : IfSome f (λ f. IsPresent (opened k.both d).start z f.minute)
 
 -- The unit has the minute, and these entries of it are owed to the cards.
-pub record AreOwed (k : Known) (c d : Card) (e f : Option Entry) (y z : Standing) (unit first second : State) : Type 0 where
+pub record AreOwed (k : Known) (c d : Card) (e f : Option Entry) (y z : Standing) (unit first second : State) : Type
+    0 where
   pub holds : UnitFollowsBook (once_mended k.started) k.due k.book k.marks unit
   pub none : k.book.maybe ≡ None
   pub one_rule : CardHolds k.both c k.book y [] (option_to_list e) unit first
   pub other_rule : CardHolds k.both d k.book z [] (option_to_list f) unit second
 
 -- all of them where the unit failed, while this is the history
-pub record AreDark (k : Known) (c d : Card) (y z : Standing) (due : ℕ) (b : Book) (unit first second : State) : Type 0 where
+pub record AreDark (k : Known) (c d : Card) (y z : Standing) (due : ℕ) (b : Book) (unit first second : State) : Type
+    0 where
   pub holds : UnitFollowsBook k.started due b k.marks unit
   pub one_rule : CardRests k.both c b y unit first
   pub other_rule : CardRests k.both d b z unit second
@@ -79,7 +84,8 @@ pub record AreDark (k : Known) (c d : Card) (y z : Standing) (due : ℕ) (b : Bo
 -- the minute was not begun, or was
 abbrev pub AreCutOff : Known → (c d : Card) → HistoryMinute → (y z : Standing) → (unit first second : State) → Type 0
 AreCutOff k c d i y z unit first second =
-    AreDark k c d y z k.due k.book unit first second ⊎ AreDark k c d y z (suc i.minute) (broken i k.book) unit first second
+    AreDark k c d y z k.due k.book unit first second
+    ⊎ AreDark k c d y z (suc i.minute) (broken i k.book) unit first second
 
 -- ---- a card that sits in its slot
 
@@ -104,7 +110,8 @@ and_kept w e =
 
 -- the day of each entry that may come, where it is new, is later than that of the end mark, or none so far is as late
 abbrev pub IsClear : Session → Carry → List ℕ → Type 0
-IsClear t w x = (e : Entry) → t.minute < e.minute → BeginsBehind t.application e x ⊎ IsFresh t.application w.counted w.all x
+IsClear t w x = (e : Entry) → t.minute < e.minute
+    → BeginsBehind t.application e x ⊎ IsFresh t.application w.counted w.all x
 
 -- The card is in its slot with this session, and its string is carried so.
 pub record IsSitting (t : Session) (w : Carry) (card : State) : Type 0 where

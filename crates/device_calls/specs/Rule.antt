@@ -17,8 +17,8 @@ use Rattle.device_rule.specs.Rules.{Standing, In, Out, CardDark, CardRule}
 use Rattle.unit_rule.specs.Rule.{Started, once_mended}
 use Rattle.unit_rule.specs.Marks.{UnitFollowsBook}
 
--- A card as the opening found it: its number, what it brings, and the clock. A card that is not valid may be named by any list that is no
--- card's number: no row is its own then.
+-- A card as the opening found it: its number, what it brings, and the clock. A card that is not valid may be named by
+-- any list that is no card's number: no row is its own then.
 pub record Opened : Type 0 where
   pub number : List ℕ
   pub start : CardStart
@@ -71,9 +71,11 @@ pub record IsCommitted (r : Both) (c : Card) (b : Book) (i : HistoryMinute) (s :
   pub dark : CardRests r c (broken i b) s unit card
 
 -- the unit and its marks after that
-pub record IsHeldUp (s : Started) (b : Book) (marks : List Mark) (i : HistoryMinute) (failed : Bool) (unit : State) : Type 0 where
+pub record IsHeldUp (s : Started) (b : Book) (marks : List Mark) (i : HistoryMinute) (failed : Bool)
+    (unit : State) : Type 0 where
   pub lit : failed ≡ false → unit.clock < last_count →
-      UnitFollowsBook (once_mended s) (suc i.minute) (kept i b) (marks ++ record { device = Recorder; minute = i.minute; clock = unit.clock } ∷ []) unit
+      UnitFollowsBook (once_mended s) (suc i.minute) (kept i b)
+      (marks ++ record { device = Recorder; minute = i.minute; clock = unit.clock } ∷ []) unit
   pub dark : UnitFollowsBook s (suc i.minute) (broken i b) marks unit
 
 -- and after a mend: a unit that works is mended
@@ -82,7 +84,8 @@ pub record IsHeldMended (s : Started) (due : ℕ) (b : Book) (marks : List Mark)
   pub dark : UnitFollowsBook s due b marks unit
 
 -- after a card's row was begun it is accepted, where that failed it is not yet
-pub record IsRowTaken (r : Both) (c : Card) (b : Book) (session newest : ℕ) (failed : Bool) (unit card : State) : Type 0 where
+pub record IsRowTaken (r : Both) (c : Card) (b : Book) (session newest : ℕ) (failed : Bool) (unit card : State) : Type
+    0 where
   pub lit : failed ≡ false → CardHolds r c b (In session newest) [] [] unit card
   pub dark : CardRests r c b Out unit card
 

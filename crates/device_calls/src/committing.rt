@@ -47,18 +47,35 @@ pub fn commit<M: Medium, C: Chip, D: Chip>(
     ensures notes { OnOk result ((journal.new.kept ≡ kept.now.minute) × (journal.new.odometer ≡ kept.now.odometer.0)) }
     ensures same { OnErr result (journal.new ≡ journal.old) }
     ensures agrees { OnOk result (IfSome (M.state unit.new).image (Agrees journal.new)) }
-    ensures holds { (s : Started) (due : ℕ) (b : Book) (marks : List Mark) (i : HistoryMinute) → kept_minute kept.now ≡ seen_by_unit i → UnitFollowsBook (once_mended s) due b marks (M.state unit.old) → b.maybe ≡ None → due ≤ i.minute
+    ensures holds { (s : Started) (due : ℕ) (b : Book) (marks : List Mark) (i : HistoryMinute)
+        → kept_minute kept.now ≡ seen_by_unit i → UnitFollowsBook (once_mended s) due b marks (M.state unit.old)
+        → b.maybe ≡ None → due ≤ i.minute
         → IsHeldUp s b marks i (is_err result) (M.state unit.new) }
-    ensures first { (r : Both) (c : Card) (s : Started) (due : ℕ) (b : Book) (marks : List Mark) (i : HistoryMinute) (z : Standing) → kept_minute kept.now ≡ seen_by_unit i → UnitFollowsBook s due b marks (M.state unit.old) → b.maybe ≡ None → due ≤ i.minute
-        → CardHolds r c b z (on_card c i) [] (M.state unit.old) (C.state first.now) → Fits c (opened r c).start z i → IsCommitted r c b i z (is_err result) (M.state unit.new) (C.state first.now) }
-    ensures second { (r : Both) (c : Card) (s : Started) (due : ℕ) (b : Book) (marks : List Mark) (i : HistoryMinute) (z : Standing) → kept_minute kept.now ≡ seen_by_unit i → UnitFollowsBook s due b marks (M.state unit.old) → b.maybe ≡ None → due ≤ i.minute
-        → CardHolds r c b z (on_card c i) [] (M.state unit.old) (D.state second.now) → Fits c (opened r c).start z i → IsCommitted r c b i z (is_err result) (M.state unit.new) (D.state second.now) }
-    ensures views { (a b : List ℕ) (i : HistoryMinute) → kept_minute kept.now ≡ seen_by_unit i → LeavesViews (of_unit a b (M.state unit.old)) (of_unit a b (M.state unit.new)) (IsKeeping KeepsMinute GivesUpDay i) }
-    ensures travelled { (start : ℕ) (g : Travel) (leg : ℕ) (s : Started) (due : ℕ) (b : Book) (marks : List Mark) (i : HistoryMinute) → kept_minute kept.now ≡ seen_by_unit i → UnitFollowsBook s due b marks (M.state unit.old) → b.maybe ≡ None → due ≤ i.minute
-        → HasTravelled start b g (M.state unit.old) → kept.now.odometer.0 ≡ odometer_by (odometer_after start g.before) leg → HasGone start b g i leg (is_err result) (M.state unit.new) }
-    ensures moments { LeavesOnly (M.state unit.old) (M.state unit.new) (IsKeepingImage (kept_minute kept.now) kept.now.odometer.0) }
-    ensures keeps { (t : ℕ) (x : List ℕ) → t ≤ (M.state unit.old).clock → (M.state unit.old).left_since t x → (M.state unit.new).left_since t x }
-    ensures rows { (r : ℕ) (n : List ℕ) → IfSome (M.state unit.old).image (IsRowAt r n) → OnOk result (IfSome (M.state unit.new).image (IsRowAt r n)) }
+    ensures first { (r : Both) (c : Card) (s : Started) (due : ℕ) (b : Book) (marks : List Mark) (i : HistoryMinute)
+        (z : Standing) → kept_minute kept.now ≡ seen_by_unit i → UnitFollowsBook s due b marks (M.state unit.old)
+        → b.maybe ≡ None → due ≤ i.minute
+        → CardHolds r c b z (on_card c i) [] (M.state unit.old) (C.state first.now) → Fits c (opened r c).start z i
+        → IsCommitted r c b i z (is_err result) (M.state unit.new) (C.state first.now) }
+    ensures second { (r : Both) (c : Card) (s : Started) (due : ℕ) (b : Book) (marks : List Mark) (i : HistoryMinute)
+        (z : Standing) → kept_minute kept.now ≡ seen_by_unit i → UnitFollowsBook s due b marks (M.state unit.old)
+        → b.maybe ≡ None → due ≤ i.minute
+        → CardHolds r c b z (on_card c i) [] (M.state unit.old) (D.state second.now) → Fits c (opened r c).start z i
+        → IsCommitted r c b i z (is_err result) (M.state unit.new) (D.state second.now) }
+    ensures views { (a b : List ℕ) (i : HistoryMinute) → kept_minute kept.now ≡ seen_by_unit i
+        → LeavesViews (of_unit a b (M.state unit.old)) (of_unit a b (M.state unit.new))
+        (IsKeeping KeepsMinute GivesUpDay i) }
+    ensures travelled { (start : ℕ) (g : Travel) (leg : ℕ) (s : Started) (due : ℕ) (b : Book) (marks : List Mark)
+        (i : HistoryMinute) → kept_minute kept.now ≡ seen_by_unit i → UnitFollowsBook s due b marks (M.state unit.old)
+        → b.maybe ≡ None → due ≤ i.minute
+        → HasTravelled start b g (M.state unit.old)
+        → kept.now.odometer.0 ≡ odometer_by (odometer_after start g.before) leg
+        → HasGone start b g i leg (is_err result) (M.state unit.new) }
+    ensures moments { LeavesOnly (M.state unit.old) (M.state unit.new)
+        (IsKeepingImage (kept_minute kept.now) kept.now.odometer.0) }
+    ensures keeps { (t : ℕ) (x : List ℕ) → t ≤ (M.state unit.old).clock → (M.state unit.old).left_since t x
+        → (M.state unit.new).left_since t x }
+    ensures rows { (r : ℕ) (n : List ℕ) → IfSome (M.state unit.old).image (IsRowAt r n)
+        → OnOk result (IfSome (M.state unit.new).image (IsRowAt r n)) }
     ensures clock { (M.state unit.old).clock ≤ (M.state unit.new).clock }
     ensures tells { is_some (M.state unit.new).image ≡ is_some (M.state unit.old).image }
     ensures cause { HasCause (M.state unit.old) (M.state unit.new) (is_err result) }

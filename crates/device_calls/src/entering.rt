@@ -1,5 +1,6 @@
 //! A card is put into a slot.
-ghost use Rattle.std.specs.Prelude.{◌≡◌, ◌<◌, ◌≤◌, ◌+◌, ◌/◌, ◌^◌, ℕ, length, true, false, None, List, [], IfOk, IfSome, is_some, option_map};
+ghost use Rattle.std.specs.Prelude.{◌≡◌, ◌<◌, ◌≤◌, ◌+◌, ◌/◌, ◌^◌, ℕ, length, true, false, None, List, [], IfOk, IfSome};
+ghost use Rattle.std.specs.Prelude.{is_some, option_map};
 ghost use Rattle.activity_codec.specs.declared.entries.Entry.{Entry};
 ghost use Rattle.tach_media.specs.Medium.{LeavesOnly};
 ghost use Rattle.tacho_types.specs.CardNumber.{card_number_bytes};
@@ -32,8 +33,8 @@ use tacho_types::{FullCardNumber, Odometer, Registration, TimeReal};
 use trace_model::Card;
 use unit_minutes::Journal;
 
-/// A card that was put in and is accepted: what it told before, the entries that were owed to it, its session, how many of these
-/// entries were put on it, which are the last ones, and which row of the unit is to be its.
+/// A card that was put in and is accepted: what it told before, the entries that were owed to it, its session, how many
+/// of these entries were put on it, which are the last ones, and which row of the unit is to be its.
 #[derive(Drop)]
 pub struct Entered {
     pub look: CardLook,
@@ -86,7 +87,8 @@ fn insert_by<C: Medium>(
     requires last { now.0 / 60 < LATEST_MINUTE }
     requires fits { odometer.0 < 2 ^ 24 }
     requires owed { AreOwed now.0 owed.items }
-    ensures inserted { IsInsertedWith app.now registration.now odometer.0 now.0 owed.items look (C.state card.old) (C.state card.new) result }
+    ensures inserted { IsInsertedWith app.now registration.now odometer.0 now.0 owed.items look (C.state card.old)
+        (C.state card.new) result }
     ensures row { IfOk result (λ e. e.row ≡ row) }
     ensures leaves { LeavesOnly (C.state card.old) (C.state card.new) Anything }
     ensures in_time { IsInTime app.now now.0 (C.state card.old) (C.state card.new) }
@@ -126,8 +128,10 @@ fn enter_as<M: Medium, C: Medium>(
     requires works { (C.state card.old).works ≡ true }
     requires last { now.0 / 60 < LATEST_MINUTE }
     requires fits { odometer.0 < 2 ^ 24 }
-    ensures enters { IsEntering app.now registration.now odometer.0 now.0 (M.state unit.old) (M.state unit.new) (C.state card.old) (C.state card.new) result }
-    ensures row { IfOk result (λ e. IfSome (M.state unit.old).image (IsRowFor e.row (card_number_bytes e.look.number) (option_map (λ s. card_number_bytes s.now) spared.entry))) }
+    ensures enters { IsEntering app.now registration.now odometer.0 now.0 (M.state unit.old) (M.state unit.new)
+        (C.state card.old) (C.state card.new) result }
+    ensures row { IfOk result (λ e. IfSome (M.state unit.old).image (IsRowFor e.row (card_number_bytes e.look.number)
+        (option_map (λ s. card_number_bytes s.now) spared.entry))) }
     ensures low { IfOk result (λ e. e.row < 8) }
     ensures leaves { LeavesOnly (C.state card.old) (C.state card.new) Anything }
     ensures in_time { IsInTime app.now now.0 (C.state card.old) (C.state card.new) }
@@ -167,8 +171,10 @@ fn enter_by<M: Medium, C: Medium>(
     requires told { IfSome (C.state card.old).image (TellsSizes app.now) }
     requires last { now.0 / 60 < LATEST_MINUTE }
     requires fits { odometer.0 < 2 ^ 24 }
-    ensures enters { IsEntering app.now registration.now odometer.0 now.0 (M.state unit.old) (M.state unit.new) (C.state card.old) (C.state card.new) result }
-    ensures row { IfOk result (λ e. IfSome (M.state unit.old).image (IsRowFor e.row (card_number_bytes e.look.number) (option_map (λ s. card_number_bytes s.now) spared.entry))) }
+    ensures enters { IsEntering app.now registration.now odometer.0 now.0 (M.state unit.old) (M.state unit.new)
+        (C.state card.old) (C.state card.new) result }
+    ensures row { IfOk result (λ e. IfSome (M.state unit.old).image (IsRowFor e.row (card_number_bytes e.look.number)
+        (option_map (λ s. card_number_bytes s.now) spared.entry))) }
     ensures low { IfOk result (λ e. e.row < 8) }
     ensures leaves { LeavesOnly (C.state card.old) (C.state card.new) Anything }
     ensures in_time { IsInTime app.now now.0 (C.state card.old) (C.state card.new) }
@@ -198,14 +204,14 @@ fn length_of(registration: &Registration) -> usize
     bytes.len()
 }
 
-/// Puts in a card of these sizes: it is judged, the entries that the unit owes to it are put on it, and a session is opened. The
-/// row of its number is told, while the row of the number that is spared is another's, and not begun yet: that comes behind the note of the
-/// insertion (`begin`).
+/// Puts in a card of these sizes: it is judged, the entries that the unit owes to it are put on it, and a session is
+/// opened. The row of its number is told, while the row of the number that is spared is another's, and not begun yet:
+/// that comes behind the note of the insertion (`begin`).
 ///
 /// # Errors
 ///
-/// 1. `NotValid` exactly where the card is not valid, and `TimeOverlap` exactly where it is valid and its stored time is later
-///    than now. Nothing was written then.
+/// 1. `NotValid` exactly where the card is not valid, and `TimeOverlap` exactly where it is valid and its stored time
+///    is later than now. Nothing was written then.
 /// 2. `UnitFailed` and `CardFailed` where a call on that device failed.
 pub fn enter<M: Medium, C: Chip, D: Chip>(
     unit: &mut M,
@@ -226,16 +232,29 @@ pub fn enter<M: Medium, C: Chip, D: Chip>(
     requires told { IfSome (C.state card.old).image (TellsSizes app) }
     requires last { now.0 / 60 < LATEST_MINUTE }
     requires fits { odometer.0 < 2 ^ 24 }
-    ensures enters { IsEntering app registration.now odometer.0 now.0 (M.state unit.old) (M.state unit.new) (C.state card.old) (C.state card.new) result }
-    ensures row { IfOk result (λ e. IfSome (M.state unit.old).image (IsRowFor e.row (card_number_bytes e.look.number) (option_map (λ s. card_number_bytes s.now) spared.entry))) }
+    ensures enters { IsEntering app registration.now odometer.0 now.0 (M.state unit.old) (M.state unit.new)
+        (C.state card.old) (C.state card.new) result }
+    ensures row { IfOk result (λ e. IfSome (M.state unit.old).image (IsRowFor e.row (card_number_bytes e.look.number)
+        (option_map (λ s. card_number_bytes s.now) spared.entry))) }
     ensures low { IfOk result (λ e. e.row < 8) }
-    ensures holds { (s : Started) (due : ℕ) (b : Book) (marks : List Mark) → UnitFollowsBook s due b marks (M.state unit.old) → UnitFollowsBook s due b marks (M.state unit.new) }
-    ensures other { (r : Both) (b : Book) (z : Standing) (m d : List Entry) → CardHolds r (other which) b z m d (M.state unit.old) (D.state others.now) → CardHolds r (other which) b z m d (M.state unit.new) (D.state others.now) }
-    ensures mine { (r : Both) (s : Started) (due : ℕ) (b : Book) (marks : List Mark) → UnitFollowsBook s due b marks (M.state unit.old) → b.maybe ≡ None → due ≤ now.0 / 60 → is_some (M.state unit.old).image ≡ true → is_some (C.state card.old).image ≡ true
-        → IfSome (C.state card.old).image (IsAsked r which app) → CardHolds r which b Out [] [] (M.state unit.old) (C.state card.old) → CardHolds r which b Out [] [] (M.state unit.new) (C.state card.new) }
-    ensures entered { (r : Both) (s : Started) (due : ℕ) (b : Book) (marks : List Mark) → UnitFollowsBook s due b marks (M.state unit.old) → b.maybe ≡ None → due ≤ now.0 / 60 → is_some (M.state unit.old).image ≡ true → is_some (C.state card.old).image ≡ true
-        → IfSome (C.state card.old).image (IsAsked r which app) → CardHolds r which b Out [] [] (M.state unit.old) (C.state card.old)
-        → IfOk result (λ e. IsEntered (opened r which).start (opened r which).began now.0 e.session.minute (card_seen (C.state card.new))) }
+    ensures holds { (s : Started) (due : ℕ) (b : Book) (marks : List Mark)
+        → UnitFollowsBook s due b marks (M.state unit.old) → UnitFollowsBook s due b marks (M.state unit.new) }
+    ensures other { (r : Both) (b : Book) (z : Standing) (m d : List Entry)
+        → CardHolds r (other which) b z m d (M.state unit.old) (D.state others.now)
+        → CardHolds r (other which) b z m d (M.state unit.new) (D.state others.now) }
+    ensures mine { (r : Both) (s : Started) (due : ℕ) (b : Book) (marks : List Mark)
+        → UnitFollowsBook s due b marks (M.state unit.old) → b.maybe ≡ None → due ≤ now.0 / 60
+        → is_some (M.state unit.old).image ≡ true → is_some (C.state card.old).image ≡ true
+        → IfSome (C.state card.old).image (IsAsked r which app)
+        → CardHolds r which b Out [] [] (M.state unit.old) (C.state card.old)
+        → CardHolds r which b Out [] [] (M.state unit.new) (C.state card.new) }
+    ensures entered { (r : Both) (s : Started) (due : ℕ) (b : Book) (marks : List Mark)
+        → UnitFollowsBook s due b marks (M.state unit.old) → b.maybe ≡ None → due ≤ now.0 / 60
+        → is_some (M.state unit.old).image ≡ true → is_some (C.state card.old).image ≡ true
+        → IfSome (C.state card.old).image (IsAsked r which app)
+        → CardHolds r which b Out [] [] (M.state unit.old) (C.state card.old)
+        → IfOk result (λ e. IsEntered (opened r which).start (opened r which).began now.0 e.session.minute
+        (card_seen (C.state card.new))) }
     ensures unit { IsUnit (M.state unit.new) }
     ensures agrees { unit_failed result ≡ false → IfSome (M.state unit.new).image (Agrees journal.now) }
     ensures leaves { LeavesOnly (C.state card.old) (C.state card.new) Anything }

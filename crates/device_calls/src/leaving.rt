@@ -20,7 +20,8 @@ use card_session::CardSession;
 use tach_media::{Chip, Failed, Medium};
 use trace_model::Card;
 
-/// Takes out an accepted card whose minutes are kept: its words are closed with what is selected then, and its session ends.
+/// Takes out an accepted card whose minutes are kept: its words are closed with what is selected then, and its session
+/// ends.
 ///
 /// # Errors
 ///
@@ -36,10 +37,16 @@ pub fn leave<M: Medium, C: Chip>(
     requires port { IsPort app None (C.card card.old) (C.state card.old) }
     requires sizes { session.application ≡ app }
     ensures port { IsPort app None (C.card card.new) (C.state card.new) }
-    ensures closed { OnOk result (IfSome (C.state card.old).image (λ x. IfSome (C.state card.new).image (λ y. IsSession session x → IsCardClosed session (activity_of selected) x y))) }
-    ensures moments { LeavesOnly (C.state card.old) (C.state card.new) (λ x c. IsSession session x → IsCardClosing session (activity_of selected) x c) }
-    ensures rule { (r : Both) (s : Started) (due : ℕ) (b : Book) (marks : List Mark) (time newest : ℕ) → is_some (M.state unit.now).image ≡ true → UnitFollowsBook s due b marks (M.state unit.now) → b.maybe ≡ None
-        → IfSome (C.state card.old).image (λ x. (own_sizes x ≡ app) × IsSession session x) → CardHolds r which b (In time newest) [] [] (M.state unit.now) (C.state card.old) → CardHolds r which b Out [] [] (M.state unit.now) (C.state card.new) }
+    ensures closed { OnOk result (IfSome (C.state card.old).image
+        (λ x. IfSome (C.state card.new).image
+        (λ y. IsSession session x → IsCardClosed session (activity_of selected) x y))) }
+    ensures moments { LeavesOnly (C.state card.old) (C.state card.new)
+        (λ x c. IsSession session x → IsCardClosing session (activity_of selected) x c) }
+    ensures rule { (r : Both) (s : Started) (due : ℕ) (b : Book) (marks : List Mark) (time newest : ℕ)
+        → is_some (M.state unit.now).image ≡ true → UnitFollowsBook s due b marks (M.state unit.now) → b.maybe ≡ None
+        → IfSome (C.state card.old).image (λ x. (own_sizes x ≡ app) × IsSession session x)
+        → CardHolds r which b (In time newest) [] [] (M.state unit.now) (C.state card.old)
+        → CardHolds r which b Out [] [] (M.state unit.now) (C.state card.new) }
     ensures settled { OnOk result ((C.state card.new).clock < last_count → IsSettled (C.state card.new)) }
     ensures cause { HasCause (C.state card.old) (C.state card.new) (is_err result) }
     ensures most { (C.state card.new).clock ≤ (C.state card.old).clock + 8 }

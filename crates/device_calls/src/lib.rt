@@ -1,10 +1,10 @@
-//! The steps of a run on its devices (profile): one call on a device each, over one unit and the cards, with what it leaves of
-//! the rules that join them. They know no trace and no log.
+//! The steps of a run on its devices (profile): one call on a device each, over one unit and the cards, with what it
+//! leaves of the rules that join them. They know no trace and no log.
 //!
 //! When a card was last used, as the calls on it leave that (profile): the time at the start, or a whole minute. Laws.
 //!
-//! Calls on a card in a slot that are no steps of the joint rule (profile): it is judged, and an event or a place is noted on it. Each makes
-//! a port of its own over the card and lets it go.
+//! Calls on a card in a slot that are no steps of the joint rule (profile): it is judged, and an event or a place is
+//! noted on it. Each makes a port of its own over the card and lets it go.
 #![tactic(auto)]
 
 // steps

@@ -35,10 +35,16 @@ pub fn mend<M: Medium, C: Chip, D: Chip>(
     ensures notes { OnOk result (journal.new ≡ notes_mended journal.old) }
     ensures same { OnErr result (journal.new ≡ journal.old) }
     ensures agrees { OnOk result (IfSome (M.state unit.new).image (Agrees journal.new)) }
-    ensures holds { (s : Started) (due : ℕ) (b : Book) (marks : List Mark) → UnitFollowsBook s due b marks (M.state unit.old) → IsHeldMended s due b marks (M.state unit.new) }
-    ensures first { (r : Both) (c : Card) (b : Book) (z : Standing) → CardRests r c b z (M.state unit.old) (C.state first.now) → IsTakenUp r c b z (is_err result) (M.state unit.new) (C.state first.now) }
-    ensures second { (r : Both) (c : Card) (b : Book) (z : Standing) → CardRests r c b z (M.state unit.old) (D.state second.now) → IsTakenUp r c b z (is_err result) (M.state unit.new) (D.state second.now) }
-    ensures views { (a b : List ℕ) → LeavesViews (of_unit a b (M.state unit.old)) (of_unit a b (M.state unit.new)) IsMending }
+    ensures holds { (s : Started) (due : ℕ) (b : Book) (marks : List Mark)
+        → UnitFollowsBook s due b marks (M.state unit.old) → IsHeldMended s due b marks (M.state unit.new) }
+    ensures first { (r : Both) (c : Card) (b : Book) (z : Standing)
+        → CardRests r c b z (M.state unit.old) (C.state first.now)
+        → IsTakenUp r c b z (is_err result) (M.state unit.new) (C.state first.now) }
+    ensures second { (r : Both) (c : Card) (b : Book) (z : Standing)
+        → CardRests r c b z (M.state unit.old) (D.state second.now)
+        → IsTakenUp r c b z (is_err result) (M.state unit.new) (D.state second.now) }
+    ensures views { (a b : List ℕ)
+        → LeavesViews (of_unit a b (M.state unit.old)) (of_unit a b (M.state unit.new)) IsMending }
     ensures moments { LeavesOnly (M.state unit.old) (M.state unit.new) (IsMendingImage journal.old) }
     ensures clock { (M.state unit.old).clock ≤ (M.state unit.new).clock }
     ensures tells { is_some (M.state unit.new).image ≡ is_some (M.state unit.old).image }

@@ -1,5 +1,6 @@
 //! A card keeps its entry of a minute that the unit has.
-ghost use Rattle.std.specs.Prelude.{◌≡◌, ◌≤◌, ◌<◌, ◌+◌, ◌^◌, ℕ, suc, true, Some, None, List, [], ◌∷◌, ◌++◌, OnOk, IfSome, is_some, is_err};
+ghost use Rattle.std.specs.Prelude.{◌≡◌, ◌≤◌, ◌<◌, ◌+◌, ◌^◌, ℕ, suc, true, Some, None, List, [], ◌∷◌, ◌++◌, OnOk};
+ghost use Rattle.std.specs.Prelude.{IfSome, is_some, is_err};
 ghost use Rattle.activity_codec.specs.declared.entries.Entry.{Entry};
 ghost use Rattle.tach_media.specs.Medium.{HasCause, LeavesOnly, IsSettled, last_count};
 ghost use Rattle.card_retention.specs.Expected.{Counted, with_entry};
@@ -37,18 +38,30 @@ fn keep_by<M: Medium, C: Medium>(
     requires first { 1440 ≤ kept.now.entry.minute }
     requires last { kept.now.entry.minute ≤ LATEST_MINUTE }
     requires fits { kept.now.odometer.0 < 2 ^ 24 }
-    ensures same { (session.new.application ≡ session.old.application) × (session.new.registration ≡ session.old.registration) }
-    ensures last { OnOk result ((session.new.minute ≡ kept.now.entry.minute) × (session.new.odometer ≡ Some kept.now.odometer)) }
-    ensures kept { OnOk result (IfSome (C.state card.old).image (λ x. IfSome (C.state card.new).image (λ y. IsSession session.old x → IsCardKept session.old session.new kept.now.entry kept.now.odometer.0 x y))) }
-    ensures moments { LeavesOnly (C.state card.old) (C.state card.new) (λ x c. IsSession session.old x → IsCardKeeping session.old kept.now.entry kept.now.odometer.0 x c) }
-    ensures shown { (slack : Bound) (covered from : ℕ) (c : Counted) (all : List Entry) → LeavesOnly (C.state card.old) (C.state card.new)
-        (λ x y. CardMayTake session.old slack covered from c all kept.now.entry x → IsKeepShown session.old.application slack covered c all kept.now.entry x y) }
-    ensures done { (slack : Bound) (covered from : ℕ) (c : Counted) (all : List Entry) → OnOk result (IfSome (C.state card.old).image (λ x. IfSome (C.state card.new).image (λ y.
-        CardMayTake session.old slack covered from c all kept.now.entry x → IsDone session.old.application slack covered c all kept.now.entry x y
-        × SessionKnowsCard session.new (and_entry slack kept.now.entry) covered (suc kept.now.entry.minute) (with_entry covered c kept.now.entry) (all ++ kept.now.entry ∷ []) y))) }
-    ensures rule { (r : Both) (s : Started) (due : ℕ) (b : Book) (marks : List Mark) (time : ℕ) (slack : Bound) (covered from : ℕ) (c : Counted) (all : List Entry)
+    ensures same { (session.new.application ≡ session.old.application)
+        × (session.new.registration ≡ session.old.registration) }
+    ensures last { OnOk result ((session.new.minute ≡ kept.now.entry.minute)
+        × (session.new.odometer ≡ Some kept.now.odometer)) }
+    ensures kept { OnOk result (IfSome (C.state card.old).image
+        (λ x. IfSome (C.state card.new).image
+        (λ y. IsSession session.old x → IsCardKept session.old session.new kept.now.entry kept.now.odometer.0 x y))) }
+    ensures moments { LeavesOnly (C.state card.old) (C.state card.new)
+        (λ x c. IsSession session.old x → IsCardKeeping session.old kept.now.entry kept.now.odometer.0 x c) }
+    ensures shown { (slack : Bound) (covered from : ℕ) (c : Counted) (all : List Entry)
+        → LeavesOnly (C.state card.old) (C.state card.new)
+        (λ x y. CardMayTake session.old slack covered from c all kept.now.entry x
+        → IsKeepShown session.old.application slack covered c all kept.now.entry x y) }
+    ensures done { (slack : Bound) (covered from : ℕ) (c : Counted) (all : List Entry)
+        → OnOk result (IfSome (C.state card.old).image (λ x. IfSome (C.state card.new).image (λ y.
+        CardMayTake session.old slack covered from c all kept.now.entry x
+        → IsDone session.old.application slack covered c all kept.now.entry x y
+        × SessionKnowsCard session.new (and_entry slack kept.now.entry) covered (suc kept.now.entry.minute)
+        (with_entry covered c kept.now.entry) (all ++ kept.now.entry ∷ []) y))) }
+    ensures rule { (r : Both) (s : Started) (due : ℕ) (b : Book) (marks : List Mark) (time : ℕ) (slack : Bound)
+        (covered from : ℕ) (c : Counted) (all : List Entry)
         → is_some (M.state unit.now).image ≡ true → UnitFollowsBook s due b marks (M.state unit.now) → b.maybe ≡ None
-        → CardHolds r which b (In time session.old.minute) [] (kept.now.entry ∷ []) (M.state unit.now) (C.state card.old) → (opened r which).start.word < kept.now.entry.minute
+        → CardHolds r which b (In time session.old.minute) [] (kept.now.entry ∷ []) (M.state unit.now)
+        (C.state card.old) → (opened r which).start.word < kept.now.entry.minute
         → IfSome (C.state card.old).image (CardMayTake session.old slack covered from c all kept.now.entry)
         → IsOnItsCard r which b time kept.now.entry (is_err result) (M.state unit.now) (C.state card.new) }
     ensures leaves { LeavesOnly (C.state card.old) (C.state card.new) Anything }
@@ -78,18 +91,30 @@ pub fn keep_on_card<M: Medium, C: Chip>(
     requires first { 1440 ≤ kept.now.entry.minute }
     requires last { kept.now.entry.minute ≤ LATEST_MINUTE }
     requires fits { kept.now.odometer.0 < 2 ^ 24 }
-    ensures same { (session.new.application ≡ session.old.application) × (session.new.registration ≡ session.old.registration) }
-    ensures last { OnOk result ((session.new.minute ≡ kept.now.entry.minute) × (session.new.odometer ≡ Some kept.now.odometer)) }
-    ensures kept { OnOk result (IfSome (C.state card.old).image (λ x. IfSome (C.state card.new).image (λ y. IsSession session.old x → IsCardKept session.old session.new kept.now.entry kept.now.odometer.0 x y))) }
-    ensures moments { LeavesOnly (C.state card.old) (C.state card.new) (λ x c. IsSession session.old x → IsCardKeeping session.old kept.now.entry kept.now.odometer.0 x c) }
-    ensures shown { (slack : Bound) (covered from : ℕ) (c : Counted) (all : List Entry) → LeavesOnly (C.state card.old) (C.state card.new)
-        (λ x y. CardMayTake session.old slack covered from c all kept.now.entry x → IsKeepShown session.old.application slack covered c all kept.now.entry x y) }
-    ensures done { (slack : Bound) (covered from : ℕ) (c : Counted) (all : List Entry) → OnOk result (IfSome (C.state card.old).image (λ x. IfSome (C.state card.new).image (λ y.
-        CardMayTake session.old slack covered from c all kept.now.entry x → IsDone session.old.application slack covered c all kept.now.entry x y
-        × SessionKnowsCard session.new (and_entry slack kept.now.entry) covered (suc kept.now.entry.minute) (with_entry covered c kept.now.entry) (all ++ kept.now.entry ∷ []) y))) }
-    ensures rule { (r : Both) (s : Started) (due : ℕ) (b : Book) (marks : List Mark) (time : ℕ) (slack : Bound) (covered from : ℕ) (c : Counted) (all : List Entry)
+    ensures same { (session.new.application ≡ session.old.application)
+        × (session.new.registration ≡ session.old.registration) }
+    ensures last { OnOk result ((session.new.minute ≡ kept.now.entry.minute)
+        × (session.new.odometer ≡ Some kept.now.odometer)) }
+    ensures kept { OnOk result (IfSome (C.state card.old).image
+        (λ x. IfSome (C.state card.new).image
+        (λ y. IsSession session.old x → IsCardKept session.old session.new kept.now.entry kept.now.odometer.0 x y))) }
+    ensures moments { LeavesOnly (C.state card.old) (C.state card.new)
+        (λ x c. IsSession session.old x → IsCardKeeping session.old kept.now.entry kept.now.odometer.0 x c) }
+    ensures shown { (slack : Bound) (covered from : ℕ) (c : Counted) (all : List Entry)
+        → LeavesOnly (C.state card.old) (C.state card.new)
+        (λ x y. CardMayTake session.old slack covered from c all kept.now.entry x
+        → IsKeepShown session.old.application slack covered c all kept.now.entry x y) }
+    ensures done { (slack : Bound) (covered from : ℕ) (c : Counted) (all : List Entry)
+        → OnOk result (IfSome (C.state card.old).image (λ x. IfSome (C.state card.new).image (λ y.
+        CardMayTake session.old slack covered from c all kept.now.entry x
+        → IsDone session.old.application slack covered c all kept.now.entry x y
+        × SessionKnowsCard session.new (and_entry slack kept.now.entry) covered (suc kept.now.entry.minute)
+        (with_entry covered c kept.now.entry) (all ++ kept.now.entry ∷ []) y))) }
+    ensures rule { (r : Both) (s : Started) (due : ℕ) (b : Book) (marks : List Mark) (time : ℕ) (slack : Bound)
+        (covered from : ℕ) (c : Counted) (all : List Entry)
         → is_some (M.state unit.now).image ≡ true → UnitFollowsBook s due b marks (M.state unit.now) → b.maybe ≡ None
-        → CardHolds r which b (In time session.old.minute) [] (kept.now.entry ∷ []) (M.state unit.now) (C.state card.old) → (opened r which).start.word < kept.now.entry.minute
+        → CardHolds r which b (In time session.old.minute) [] (kept.now.entry ∷ []) (M.state unit.now)
+        (C.state card.old) → (opened r which).start.word < kept.now.entry.minute
         → IfSome (C.state card.old).image (CardMayTake session.old slack covered from c all kept.now.entry)
         → IsOnItsCard r which b time kept.now.entry (is_err result) (M.state unit.now) (C.state card.new) }
     ensures port { IsPort app None (C.card card.new) (C.state card.new) }

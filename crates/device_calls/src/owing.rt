@@ -23,8 +23,8 @@ use tacho_types::FullCardNumber;
 use trace_model::Card;
 use unit_minutes::Journal;
 
-/// Puts the entry of the minute that comes next among those that are owed to a card which was accepted, in the slot or torn out
-/// since. The row of its number is the one at this index: nothing is read.
+/// Puts the entry of the minute that comes next among those that are owed to a card which was accepted, in the slot or
+/// torn out since. The row of its number is the one at this index: nothing is read.
 ///
 /// # Errors
 ///
@@ -46,19 +46,33 @@ pub fn owe<M: Medium, C: Chip, D: Chip>(
     ensures unit { IsUnit (M.state unit.new) }
     ensures same { journal.new ≡ journal.old }
     ensures agrees { OnOk result (IfSome (M.state unit.new).image (Agrees journal.old)) }
-    ensures holds { (s : Started) (due : ℕ) (b : Book) (marks : List Mark) → IsCards s (card_number_bytes number.now) → UnitFollowsBook s due b marks (M.state unit.old) → UnitFollowsBook s due b marks (M.state unit.new) }
-    ensures mine { (r : Both) (s : Started) (due : ℕ) (b : Book) (marks : List Mark) (z : Standing) → card_number_bytes number.now ≡ number_of r which → UnitFollowsBook s due b marks (M.state unit.old)
-        → due ≤ entry.now.minute → 1440 ≤ entry.now.minute → IsPresent (opened r which).start z entry.now.minute → CardHolds r which b z [] [] (M.state unit.old) (C.state mine.now)
+    ensures holds { (s : Started) (due : ℕ) (b : Book) (marks : List Mark) → IsCards s (card_number_bytes number.now)
+        → UnitFollowsBook s due b marks (M.state unit.old) → UnitFollowsBook s due b marks (M.state unit.new) }
+    ensures mine { (r : Both) (s : Started) (due : ℕ) (b : Book) (marks : List Mark) (z : Standing)
+        → card_number_bytes number.now ≡ number_of r which → UnitFollowsBook s due b marks (M.state unit.old)
+        → due ≤ entry.now.minute → 1440 ≤ entry.now.minute → IsPresent (opened r which).start z entry.now.minute
+        → CardHolds r which b z [] [] (M.state unit.old) (C.state mine.now)
         → IsKeptUp r which b z (entry.now ∷ []) [] (is_err result) (M.state unit.new) (C.state mine.now) }
-    ensures views { (r : Both) (s : Started) (due : ℕ) (b : Book) (marks : List Mark) (z : Standing) → card_number_bytes number.now ≡ number_of r which → UnitFollowsBook s due b marks (M.state unit.old) → due ≤ entry.now.minute → 1440 ≤ entry.now.minute → CardHolds r which b z [] [] (M.state unit.old) (C.state mine.now)
+    ensures views { (r : Both) (s : Started) (due : ℕ) (b : Book) (marks : List Mark) (z : Standing)
+        → card_number_bytes number.now ≡ number_of r which → UnitFollowsBook s due b marks (M.state unit.old)
+        → due ≤ entry.now.minute → 1440 ≤ entry.now.minute
+        → CardHolds r which b z [] [] (M.state unit.old) (C.state mine.now)
         → LeavesViews (unit_seen r (M.state unit.old)) (unit_seen r (M.state unit.new)) (IsPutting which entry.now) }
-    ensures other { (r : Both) (s : Started) (due : ℕ) (b : Book) (marks : List Mark) (y z : Standing) (m d : List Entry) → card_number_bytes number.now ≡ number_of r which → UnitFollowsBook s due b marks (M.state unit.old)
-        → due ≤ entry.now.minute → 1440 ≤ entry.now.minute → CardHolds r which b y [] [] (M.state unit.old) (C.state mine.now) → CardHolds r (other which) b z m d (M.state unit.old) (D.state others.now)
+    ensures other { (r : Both) (s : Started) (due : ℕ) (b : Book) (marks : List Mark) (y z : Standing)
+        (m d : List Entry) → card_number_bytes number.now ≡ number_of r which
+        → UnitFollowsBook s due b marks (M.state unit.old)
+        → due ≤ entry.now.minute → 1440 ≤ entry.now.minute
+        → CardHolds r which b y [] [] (M.state unit.old) (C.state mine.now)
+        → CardHolds r (other which) b z m d (M.state unit.old) (D.state others.now)
         → IsKeptUp r (other which) b z m d (is_err result) (M.state unit.new) (D.state others.now) }
-    ensures travelled { (start : ℕ) (b : Book) (g : Travel) → HasTravelled start b g (M.state unit.old) → HasTravelled start b g (M.state unit.new) }
-    ensures moments { LeavesOnly (M.state unit.old) (M.state unit.new) (IsPuttingRow (card_number_bytes number.now) entry.now) }
-    ensures keeps { (t : ℕ) (x : List ℕ) → t ≤ (M.state unit.old).clock → (M.state unit.old).left_since t x → (M.state unit.new).left_since t x }
-    ensures rows { (r : ℕ) (n : List ℕ) → IfSome (M.state unit.old).image (IsRowAt r n) → OnOk result (IfSome (M.state unit.new).image (IsRowAt r n)) }
+    ensures travelled { (start : ℕ) (b : Book) (g : Travel) → HasTravelled start b g (M.state unit.old)
+        → HasTravelled start b g (M.state unit.new) }
+    ensures moments { LeavesOnly (M.state unit.old) (M.state unit.new)
+        (IsPuttingRow (card_number_bytes number.now) entry.now) }
+    ensures keeps { (t : ℕ) (x : List ℕ) → t ≤ (M.state unit.old).clock → (M.state unit.old).left_since t x
+        → (M.state unit.new).left_since t x }
+    ensures rows { (r : ℕ) (n : List ℕ) → IfSome (M.state unit.old).image (IsRowAt r n)
+        → OnOk result (IfSome (M.state unit.new).image (IsRowAt r n)) }
     ensures clock { (M.state unit.old).clock ≤ (M.state unit.new).clock }
     ensures tells { is_some (M.state unit.new).image ≡ is_some (M.state unit.old).image }
     ensures cause { HasCause (M.state unit.old) (M.state unit.new) (is_err result) }

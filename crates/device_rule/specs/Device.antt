@@ -18,7 +18,8 @@ seen {V} view s = record {
   works = s.works;
 }
 
--- what joins these meanings: a device that works leaves one view only, and this moment is one of those since an earlier one
+-- what joins these meanings: a device that works leaves one view only, and this moment is one of those since an earlier
+-- one
 pub record CoherentViews {V : Type 0} (s : Seen V) : Type 0 where
   pub one : (v w : V) → s.works ≡ true → s.may_leave v → s.may_leave w → v ≡ w
   pub counts_now : (t : ℕ) (v : V) → t ≤ s.clock → s.may_leave v → s.left_since t v
@@ -27,7 +28,8 @@ pub record CoherentViews {V : Type 0} (s : Seen V) : Type 0 where
 -- a stop in the run leaves a view so related to one from before it, or one that it might have left before
 pub record LeavesViews {V : Type 0} (old new : Seen V) (R : V → V → Type 0) : Type 0 where
   pub later : old.clock ≤ new.clock
-  pub since : (t : ℕ) (w : V) → t ≤ old.clock → new.left_since t w → old.left_since t w ⊎ ((v : V) × old.may_leave v × R v w)
+  pub since : (t : ℕ) (w : V) → t ≤ old.clock → new.left_since t w
+      → old.left_since t w ⊎ ((v : V) × old.may_leave v × R v w)
   pub now : (w : V) → new.may_leave w → old.may_leave w ⊎ ((v : V) × old.may_leave v × R v w)
 
 -- the run has ended well: what the device leaves now is so related to a view from before

@@ -12,7 +12,12 @@ seat_state seat = record { act = seat.act; present = is_some seat.card }
 
 -- a minute of the history as the unit holds it
 abbrev pub seen_by_unit : HistoryMinute → UnitMinute
-seen_by_unit i = record { minute = i.minute; driver = seat_state i.driver; codriver = seat_state i.codriver; crew = is_crew i }
+seen_by_unit i = record {
+  minute = i.minute;
+  driver = seat_state i.driver;
+  codriver = seat_state i.codriver;
+  crew = is_crew i;
+}
 
 -- the days at the start, filled with these minutes
 abbrev pub filled_with : List ShownDay → List HistoryMinute → List ShownDay

@@ -1,5 +1,6 @@
 -- The rules between two calls: of the unit, of each card, and of the pair.
-use Rattle.std.specs.Prelude.{◌≡◌, ◌⊎◌, ℕ, suc, ◌+◌, ◌/◌, max, ◌<◌, ◌≤◌, true, Option, Some, None, List, [], ◌∷◌, ◌++◌, All, option_to_list}
+use Rattle.std.specs.Prelude.{◌≡◌, ◌⊎◌, ℕ, suc, ◌+◌, ◌/◌, max, ◌<◌, ◌≤◌, true, Option, Some, None, List, [], ◌∷◌, ◌++◌}
+use Rattle.std.specs.Prelude.{All, option_to_list}
 use Rattle.activity_codec.specs.declared.entries.Entry.{Entry}
 use Rattle.trace_model.specs.declared.Card.{Card}
 use Rattle.history_model.specs.Minutes.{HistoryMinute, card_history, on_card, up_to}
@@ -11,8 +12,8 @@ use Rattle.device_rule.specs.Views.{UnitView, row, owed, newest_with, beyond, ne
 use Rattle.device_rule.specs.Device.{Seen}
 use Rattle.history_model.specs.Book.{Book, all, IsReached, IsNext, IsMark, Ordered}
 
--- UNIT. An image shows the start and all minutes up to its mark, among them the sure ones, but for days given up; the minute
--- that comes next may have taken one.
+-- UNIT. An image shows the start and all minutes up to its mark, among them the sure ones, but for days given up; the
+-- minute that comes next may have taken one.
 pub record Shows (Fills : Option HistoryMinute → List HistoryMinute → List ShownDay → Type 0)
     (first : ℕ) (b : Book) (u : UnitView) : Type 0 where
   pub next : Option HistoryMinute
@@ -73,24 +74,27 @@ since (Torn session at floor) newest = at
 abbrev pub comes_from : CardStart → Standing → List Entry → CardView → ℕ
 comes_from start s due x = next_of (suc (max start.word (since s (newest_with x due)))) due
 
--- What is asked of `Keeps`, which says that a string keeps these entries where the next one is not earlier than a minute. It keeps
--- them where the next one is later too, and the string goes on with entries that are added.
+-- What is asked of `Keeps`, which says that a string keeps these entries where the next one is not earlier than a
+-- minute. It keeps them where the next one is later too, and the string goes on with entries that are added.
 pub record EntriesGoOn (Keeps : ℕ → List Entry → Held → Type 0)
     (Adds : ℕ → Held → List Entry → Held → Type 0) : Type 0 where
   pub later : (next n : ℕ) (full : List Entry) (x : Held) → next ≤ n → Keeps next full x → Keeps n full x
   pub added : (next : ℕ) (full taken : List Entry) (x y : Held) → Keeps (next_of next taken) full x →
       Adds next x taken y → Keeps next (full ++ taken) y
 
--- What is asked of what is stated of a card, `Retains`, beside `Keeps`: entries that are owed, and come next, count as there. They
--- rise, and are later than the words at the start and than the end mark, which none of the others is behind.
-abbrev pub OwedCounts : CardStart → (Keeps : ℕ → List Entry → Held → Type 0) → (Retains : List Entry → Held → Type 0) → Type 0
+-- What is asked of what is stated of a card, `Retains`, beside `Keeps`: entries that are owed, and come next, count as
+-- there. They rise, and are later than the words at the start and than the end mark, which none of the others is
+-- behind.
+abbrev pub OwedCounts : CardStart → (Keeps : ℕ → List Entry → Held → Type 0) → (Retains : List Entry → Held → Type 0)
+    → Type 0
 OwedCounts start Keeps Retains = (next mark : ℕ) (more due : List Entry) (x : Held) → start.mark ≤ mark →
     All (λ e. e.minute ≤ mark) (start.entries ++ more) → All (λ e. mark < e.minute) due →
     All (λ e. start.word < e.minute) due → Rise due → Keeps (next_of next due) (start.entries ++ more) x →
     Retains (start.entries ++ (more ++ due)) (record x { entries = x.entries ++ due })
 
 -- what a card brings, of the views at the opening
-pub record Brings (Keeps : ℕ → List Entry → Held → Type 0) (c : Card) (start : CardStart) (u : UnitView) (x : CardView) : Type 0 where
+pub record Brings (Keeps : ℕ → List Entry → Held → Type 0) (c : Card) (start : CardStart) (u : UnitView)
+    (x : CardView) : Type 0 where
   pub entries : start.entries ≡ x.held.entries
   pub owed : start.owed ≡ owed c u x
   pub mark : start.mark ≡ x.mark
@@ -136,7 +140,8 @@ abbrev pub NoLater : (began newest : ℕ) → Seen CardView → Type 0
 NoLater began newest card = (x : CardView) → card.left_since began x → x.mark ≤ newest
 
 -- an accepted card: no word of it is later than the start's and the newest minute
-pub record IsIn (c : Card) (start : CardStart) (session newest : ℕ) (due : List Entry) (u : UnitView) (x : CardView) : Type 0 where
+pub record IsIn (c : Card) (start : CardStart) (session newest : ℕ) (due : List Entry) (u : UnitView)
+    (x : CardView) : Type 0 where
   pub open_ : IsOpen c session newest 0 u x
   pub due_ : owed c u x ≡ due
   pub words : x.word ≤ max start.word x.newest
@@ -162,14 +167,17 @@ pub record IsEntered (start : CardStart) (began now newest : ℕ) (card : Seen C
 abbrev pub IsPresent : CardStart → Standing → ℕ → Type 0
 IsPresent start Out m = ⊥
 IsPresent start (In session newest) m = (start.word < m) × (newest < m) × (session / 60 ≤ m)
-IsPresent start (Torn session newest floor) m = (start.word < m) × (newest < m) × (session / 60 ≤ m) × (floor ≤ m) × (m < floor + 4)
+IsPresent start (Torn session newest floor) m = (start.word < m) × (newest < m) × (session / 60 ≤ m) × (floor ≤ m)
+    × (m < floor + 4)
 
 -- a minute says something on a card only where it is present
 abbrev pub Fits : Card → CardStart → Standing → HistoryMinute → Type 0
 Fits c start s i = (on_card c i ≡ []) ⊎ IsPresent start s i.minute
 
--- an image of a card since the start: what it has is a front of what is expected, and what it lacks is later than its end mark
-pub record Had (c : Card) (start : CardStart) (Keeps : ℕ → List Entry → Held → Type 0) (b : Book) (x : CardView) : Type 0 where
+-- an image of a card since the start: what it has is a front of what is expected, and what it lacks is later than its
+-- end mark
+pub record Had (c : Card) (start : CardStart) (Keeps : ℕ → List Entry → Held → Type 0) (b : Book) (x : CardView) : Type
+    0 where
   pub more : List Entry
   pub rest : List Entry
   pub next : ℕ

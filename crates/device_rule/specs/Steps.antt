@@ -1,5 +1,6 @@
 -- What each kind of step leaves, at its end and at each moment: R old new.
-use Rattle.std.specs.Prelude.{◌≡◌, ◌⊎◌, ℕ, suc, ◌%◌, max, ◌<◌, ◌≤◌, not, List, [], ◌∷◌, ◌++◌, filter, nat_eq, nat_le, nat_lt, if◌then◌else◌, take, drop, All}
+use Rattle.std.specs.Prelude.{◌≡◌, ◌⊎◌, ℕ, suc, ◌%◌, max, ◌<◌, ◌≤◌, not, List, [], ◌∷◌, ◌++◌, filter, nat_eq, nat_le}
+use Rattle.std.specs.Prelude.{nat_lt, if◌then◌else◌, take, drop, All}
 use Rattle.activity_codec.specs.declared.entries.Entry.{Entry}
 use Rattle.trace_model.specs.declared.Card.{Card}
 use Rattle.history_model.specs.Minutes.{HistoryMinute}
@@ -14,19 +15,22 @@ pub record SameRows (u v : UnitView) : Type 0 where
   pub row_b : v.row_b ≡ u.row_b
 
 -- KEEP of the unit: the mark tells which side of the commit it is
-pub record IsKept (Adds : HistoryMinute → List ShownDay → List ShownDay → Type 0) (i : HistoryMinute) (u v : UnitView) : Type 0 where
+pub record IsKept (Adds : HistoryMinute → List ShownDay → List ShownDay → Type 0) (i : HistoryMinute)
+    (u v : UnitView) : Type 0 where
   pub rows : SameRows u v
   pub last : v.last ≡ i.minute
   pub days : Adds i u.days v.days
 
 -- before it the oldest day may be given up for the minute
-pub record IsUnkept (Gives : HistoryMinute → List ShownDay → List ShownDay → Type 0) (i : HistoryMinute) (u v : UnitView) : Type 0 where
+pub record IsUnkept (Gives : HistoryMinute → List ShownDay → List ShownDay → Type 0) (i : HistoryMinute)
+    (u v : UnitView) : Type 0 where
   pub rows : SameRows u v
   pub last : v.last ≡ u.last
   pub days : (v.days ≡ u.days) ⊎ Gives i u.days v.days
 
 -- at each moment one or the other
-abbrev pub IsKeeping : (Adds Gives : HistoryMinute → List ShownDay → List ShownDay → Type 0) → HistoryMinute → UnitView → UnitView → Type 0
+abbrev pub IsKeeping : (Adds Gives : HistoryMinute → List ShownDay → List ShownDay → Type 0) → HistoryMinute → UnitView
+    → UnitView → Type 0
 IsKeeping Adds Gives i u v = IsUnkept Gives i u v ⊎ IsKept Adds i u v
 
 -- a row without the cell of an entry's place
@@ -45,8 +49,8 @@ IsPutting c e u v = (v ≡ u) ⊎ ((v ≡ with_row c (cleared e (row c u)) u) �
 abbrev pub UnitOwes : Card → Entry → UnitView → UnitView → Type 0
 UnitOwes c e u v = v ≡ with_row c (owing e (row c u)) u
 
--- BEGIN_OWED: the minutes stay and the other card's row is spared; of the own one nothing is said before the end, since a
--- number may have two rows
+-- BEGIN_OWED: the minutes stay and the other card's row is spared; of the own one nothing is said before the end, since
+-- a number may have two rows
 pub record IsBeginning (c : Card) (u v : UnitView) : Type 0 where
   pub days : v.days ≡ u.days
   pub last : v.last ≡ u.last
@@ -81,9 +85,10 @@ replayed given x = if nat_lt 0 x.session then filter (λ e. nat_lt x.mark e.minu
 abbrev pub IsTrimming : CardView → CardView → Type 0
 IsTrimming x y = (y.word ≤ y.newest) ⊎ ((x.session ≡ 0) × (y.word ≤ x.word) × (y.newest ≡ x.newest))
 
--- INSERT: of what it brings the first n are on the card; those, and no other, are not later than the end mark. Behind all of them
--- an entry may come that is later than the newest minute that it answers.
-pub record IsInserting (Adds : ℕ → Held → List Entry → Held → Type 0) (given : List Entry) (now : ℕ) (x y : CardView) : Type 0 where
+-- INSERT: of what it brings the first n are on the card; those, and no other, are not later than the end mark. Behind
+-- all of them an entry may come that is later than the newest minute that it answers.
+pub record IsInserting (Adds : ℕ → Held → List Entry → Held → Type 0) (given : List Entry) (now : ℕ)
+    (x y : CardView) : Type 0 where
   pub count : ℕ
   pub held : (next : ℕ) → max (beyond x) (newest_with x (replayed given x)) < next →
       Adds (next_of next (drop count (replayed given x))) x.held (take count (replayed given x)) y.held
@@ -103,8 +108,8 @@ pub record IsInserted (Adds : ℕ → Held → List Entry → Held → Type 0)
   pub words : IsTrimming x y
   pub answered : newest ≡ max (beyond x) (newest_with x (replayed given x))
 
--- KEEP of a card: the end mark tells which side of the commit it is. Before it the oldest days may have gone for the entry, so that
--- words later than the end mark are those that count for the newest minute.
+-- KEEP of a card: the end mark tells which side of the commit it is. Before it the oldest days may have gone for the
+-- entry, so that words later than the end mark are those that count for the newest minute.
 pub record IsOnCard (Adds : ℕ → Held → List Entry → Held → Type 0) (e : Entry) (x y : CardView) : Type 0 where
   pub session : y.session ≡ x.session
   pub side : ((y.mark ≡ x.mark) × Adds e.minute x.held [] y.held × (max x.word y.newest ≡ max x.word x.newest))

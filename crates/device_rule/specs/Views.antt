@@ -10,8 +10,8 @@ use Rattle.unit_owed.specs.Owed.{Row, row_view}
 use Rattle.card_image.specs.View.{CardView}
 use Rattle.history_model.specs.Presence.{closed_at}
 
--- what a unit's image shows: its recorded days, its last-kept minute, and the rows of both cards; session 0 and no cells where
--- a number has no row
+-- what a unit's image shows: its recorded days, its last-kept minute, and the rows of both cards; session 0 and no
+-- cells where a number has no row
 pub record UnitView : Type 0 where
   pub days : List ShownDay
   pub last : ℕ
@@ -42,8 +42,8 @@ abbrev pub with_row : Card → Row → UnitView → UnitView
 with_row A r u = record u { row_a = r }
 with_row B r u = record u { row_b = r }
 
--- a minute counts that is not one of the first day, not earlier than the session's, later than the card's end mark, and not
--- later than the last-kept one
+-- a minute counts that is not one of the first day, not earlier than the session's, later than the card's end mark, and
+-- not later than the last-kept one
 abbrev pub counts : (from mark last : ℕ) → ℕ → Bool
 counts from mark last m = nat_le 1440 m && (nat_le from m && (nat_lt mark m && nat_le m last))
 

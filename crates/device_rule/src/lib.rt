@@ -1,5 +1,6 @@
-//! The rules that join a unit and its cards between two calls (profile), over what their images show: definitions (specs/) of
-//! the views, of the rules, and of what each kind of step leaves, with the laws that each step keeps the rules (proofs/).
+//! The rules that join a unit and its cards between two calls (profile), over what their images show: definitions
+//! (specs/) of the views, of the rules, and of what each kind of step leaves, with the laws that each step keeps the
+//! rules (proofs/).
 #![tactic(auto)]
 
 mod laws;

@@ -1,11 +1,13 @@
 -- What a unit tells of itself, by its image (profile).
-use Rattle.std.specs.Prelude.{◌≡◌, ℕ, ◌+◌, ◌*◌, ◌-◌, ◌==◌, if◌then◌else◌, Option, Some, None, option_map, Result, Ok, Err, List, length, map, slice_get, slice_index, nat_eq}
+use Rattle.std.specs.Prelude.{◌≡◌, ℕ, ◌+◌, ◌*◌, ◌-◌, ◌==◌, if◌then◌else◌, Option, Some, None, option_map, Result, Ok}
+use Rattle.std.specs.Prelude.{Err, List, length, map, slice_get, slice_index, nat_eq}
 use Rattle.std.specs.Cmp.Lexicographic.{pointwise}
 use Rattle.std.specs.List.{range_with_len}
 use Rattle.tach_media.specs.Medium.{bytes_at}
 use Rattle.gated_ring.specs.Ring.{number_at}
 use Rattle.tacho_types.specs.CardNumber.{card_number_of}
-use Rattle.unit_model.specs.declared.layout.TheConstants.{VIN, REGISTRATION, SPEED_LIMIT, OWED, OWED_ROWS, OWED_ROW_SIZE, ROW_SESSION, ROW_NUMBER}
+use Rattle.unit_model.specs.declared.layout.TheConstants.{VIN, REGISTRATION, SPEED_LIMIT, OWED, OWED_ROWS}
+use Rattle.unit_model.specs.declared.layout.TheConstants.{OWED_ROW_SIZE, ROW_SESSION, ROW_NUMBER}
 use Rattle.unit_model.specs.Decoding.{Decodes, first_bad_place}
 use Rattle.unit_model.specs.Image.{last_kept, odometer_at, recorded, recorded_indices, slot_date}
 use Rattle.unit_model.specs.Versions.{version_of, rule_of}
@@ -49,12 +51,15 @@ row_number x r = bytes_at x (row_place r + ROW_NUMBER.place) ROW_NUMBER.size
 
 -- a row of this session, which is empty where that is 0
 abbrev pub owed_by : (session : ℕ) → (number : List ℕ) → (minutes : ℕ) → Option OwedTo
-owed_by session number minutes = if session == 0 then None else Some (record { card = card_number_of number; minutes = minutes })
+owed_by session number minutes = if session == 0 then None
+    else Some (record { card = card_number_of number; minutes = minutes })
 
--- how a card of a number is asked: a card that was seen tells its session and its newest minute; of any other all of the row's session is owed
+-- how a card of a number is asked: a card that was seen tells its session and its newest minute; of any other all of
+-- the row's session is owed
 abbrev pub asked_of : Option CardSeen → (number : List ℕ) → Question → Question
 asked_of None number other = other
-asked_of (Some card) number other = if pointwise nat_eq card.number number then record { session = card.session; after = card.newest } else other
+asked_of (Some card) number other = if pointwise nat_eq card.number number
+    then record { session = card.session; after = card.newest } else other
 
 abbrev pub asked : CardsSeen → (number : List ℕ) → (session : ℕ) → Question
 asked seen number session = asked_of seen.a number (asked_of seen.b number (record { session = session; after = 0 }))
@@ -65,7 +70,8 @@ minutes_owed x number question = length (owed_to x number question.session quest
 
 -- WHAT A ROW TELLS: the card, and how many minutes are owed to it
 abbrev pub owed_in : CardsSeen → List ℕ → ℕ → Option OwedTo
-owed_in seen x r = owed_by (row_session x r) (row_number x r) (minutes_owed x (row_number x r) (asked seen (row_number x r) (row_session x r)))
+owed_in seen x r = owed_by (row_session x r) (row_number x r)
+    (minutes_owed x (row_number x r) (asked seen (row_number x r) (row_session x r)))
 
 -- WHAT A UNIT TELLS OF ITSELF, where these cards were seen
 abbrev pub unit_told : CardsSeen → List ℕ → UnitTold

@@ -23,7 +23,8 @@ abbrev pub day_value : Option ℕ → Value
 day_value None = value.Nothing
 day_value (Some second) = dated (value.Day (second / 86400))
 
--- THE EARLIEST `start` OF A NEXT TRACE: the first second of the minute behind the last-kept one, of those with which a trace may begin
+-- THE EARLIEST `start` OF A NEXT TRACE: the first second of the minute behind the last-kept one, of those with which a
+-- trace may begin
 abbrev pub start_by : ℕ → Value
 start_by start = if nat_lt LAST_START start then value.Nothing else value.Count start
 

@@ -26,8 +26,8 @@ pub enum CardFault {
 ///
 /// # Errors
 ///
-/// `Failed` where the card failed, `BadField` where a field of Application_Identification is out of its range, and `BadFile` where the
-/// card is not valid.
+/// `Failed` where the card failed, `BadField` where a field of Application_Identification is out of its range, and
+/// `BadFile` where the card is not valid.
 pub fn card_state<C: Chip>(card: &mut C) -> Result<CardLook, CardFault>
     requires { LARGEST_IMAGE ≤ (C.state card.old).size }
     ensures told { IfSome (C.state card.old).image (TellsCard result) }

@@ -1,4 +1,5 @@
-//! What a unit and a card tell of themselves, and the lines that are printed of that (profile). They are read, and never written.
+//! What a unit and a card tell of themselves, and the lines that are printed of that (profile). They are read, and
+//! never written.
 #![tactic(auto)]
 
 mod card;

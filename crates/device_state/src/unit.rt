@@ -61,8 +61,8 @@ pub struct UnitTold {
     pub owed: [Option<OwedTo>; 8],
 }
 
-/// Reads what a unit tells of itself, and what it owes to cards: to one that was looked at what that lacks. It writes nothing, and takes no
-/// memory.
+/// Reads what a unit tells of itself, and what it owes to cards: to one that was looked at what that lacks. It writes
+/// nothing, and takes no memory.
 ///
 /// # Errors
 ///
@@ -163,7 +163,8 @@ fn read_owed<M: Medium>(
     requires unit { IsUnit (M.state unit.old) }
     requires works { (M.state unit.old).works ≡ true }
     requires kept { IfSome (M.state unit.old).image (λ x. kept ≡ last_kept x) }
-    ensures owed { IfOk result (λ rows. IfSome (M.state unit.old).image (λ x. rows ≡ map (owed_in seen.now x) (range_with_len 0 OWED_ROWS))) }
+    ensures owed { IfOk result (λ rows. IfSome (M.state unit.old).image (λ x. rows ≡ map (owed_in seen.now x)
+        (range_with_len 0 OWED_ROWS))) }
     ensures reads { Reads (M.state unit.old) (M.state unit.new) (is_err result) }
 {
     let mut rows = [None; OWED_ROWS as usize];
@@ -196,7 +197,8 @@ fn read_row<M: Medium>(
     Ok(owed_by(session, &number, entries.len() as u32))
 }
 
-/// How a card of a number is asked whose row has this session time: by what was seen of it, or else for all of that session.
+/// How a card of a number is asked whose row has this session time: by what was seen of it, or else for all of that
+/// session.
 fn asked(seen: &CardsSeen, number: &[u8], session: u32) -> Question
     ensures { result ≡ asked seen.now number.now session }
 {

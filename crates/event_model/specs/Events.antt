@@ -1,5 +1,8 @@
--- The events and faults of a run, by type, from its seconds and its run log (Annex IB, section III.12; the moments: profile).
-use Rattle.std.specs.Prelude.{◌≡◌, ℕ, zero, suc, ◌==◌, Bool, true, false, not, ◌&&◌, Option, Some, None, List, [], ◌∷◌, ◌++◌, take, map, filter, length, nat_lt, slice_get, if◌then◌else◌, is_some, option_map, option_to_list, fold, flat_map}
+-- The events and faults of a run, by type, from its seconds and its run log (Annex IB, section III.12; the moments:
+-- profile).
+use Rattle.std.specs.Prelude.{◌≡◌, ℕ, zero, suc, ◌==◌, Bool, true, false, not, ◌&&◌, Option, Some, None, List, [], ◌∷◌}
+use Rattle.std.specs.Prelude.{◌++◌, take, map, filter, length, nat_lt, slice_get, if◌then◌else◌, is_some, option_map}
+use Rattle.std.specs.Prelude.{option_to_list, fold, flat_map}
 use Rattle.std.specs.List.{AllByRecursion, filter_map, list_any}
 use Rattle.activity_codec.specs.declared.values.Slot.{Slot}
 use Rattle.activity_codec.specs.declared.values.Slot.TheVariants.{Driver, CoDriver}
@@ -11,8 +14,11 @@ use Rattle.log_model.specs.declared.lines.Verdict.{Verdict}
 use Rattle.log_model.specs.declared.lines.Verdict.TheVariants.{Accepted, NotValid, TimeOverlap}
 use Rattle.log_model.specs.Log.{RunLog, Phase, In, Keeping, same_phase, kept_after, is_torn_in, is_accepting}
 use Rattle.log_model.specs.Slots.{Slots, Sitting, in_slot, other_slot, is_accepted, refusal}
-use Rattle.log_model.specs.Course.{Course, Visit, ToldSecond, Before, both_told, unmoved, fresh, all_acted, answered, second_told, before_next, not_begun}
-use Rattle.event_model.specs.declared.kinds.TheConstants.{CARD_NOT_VALID, TIME_OVERLAP, DRIVING_WITHOUT_CARD, INSERTION_WHILE_DRIVING, SESSION_NOT_CLOSED, OVER_SPEEDING, POWER_INTERRUPTION, CARD_FAULT}
+use Rattle.log_model.specs.Course.{Course, Visit, ToldSecond, Before, both_told, unmoved, fresh, all_acted, answered}
+use Rattle.log_model.specs.Course.{second_told, before_next, not_begun}
+use Rattle.event_model.specs.declared.kinds.TheConstants.{CARD_NOT_VALID, TIME_OVERLAP, DRIVING_WITHOUT_CARD}
+use Rattle.event_model.specs.declared.kinds.TheConstants.{INSERTION_WHILE_DRIVING, SESSION_NOT_CLOSED, OVER_SPEEDING}
+use Rattle.event_model.specs.declared.kinds.TheConstants.{POWER_INTERRUPTION, CARD_FAULT}
 use Rattle.event_model.specs.declared.entries.Over.{Over}
 use Rattle.event_model.specs.declared.entries.Span.{Span}
 use Rattle.event_model.specs.Runs.{ended_runs}
@@ -23,8 +29,8 @@ pub record Crew : Type 0 where
   pub driver : Option Card
   pub codriver : Option Card
 
--- an event or a fault: its type, its first and last second, the highest and the average speed of an over speeding (else 0), and the
--- cards at its begin and at its end
+-- an event or a fault: its type, its first and last second, the highest and the average speed of an over speeding (else
+-- 0), and the cards at its begin and at its end
 pub record Event : Type 0 where
   pub kind : ℕ
   pub begin : ℕ
@@ -56,10 +62,12 @@ course_by log before s n =
 -- the slots as an action with n before it has moved the cards, before any device is called
 abbrev pub moved_by_action : RunLog → Before → TraceSecond → ℕ → Option Action → Slots
 moved_by_action log before s n None = (course_by log before s n).slots
-moved_by_action log before s n (Some a) = (answered n (refusal (course_by log before s n).slots s.speed a) a (course_by log before s n)).slots
+moved_by_action log before s n (Some a) = (answered n (refusal (course_by log before s n).slots s.speed a) a
+    (course_by log before s n)).slots
 
--- a second as its events see it: as it went, its speed, the slots after its first n actions, those as action n has moved the cards
--- (before action 1: as the second began), and those in the second itself, behind all actions and before the keeping
+-- a second as its events see it: as it went, its speed, the slots after its first n actions, those as action n has
+-- moved the cards (before action 1: as the second began), and those in the second itself, behind all actions and before
+-- the keeping
 pub record Seen : Type 0 where
   pub told : ToldSecond
   pub after : ℕ → Slots
@@ -84,7 +92,11 @@ pub record Watched : Type 0 where
   pub before : Before
 
 abbrev pub watched_on : RunLog → Watched → TraceSecond → Watched
-watched_on log w s = record { seen = w.seen ++ seen_by log w.before s ∷ []; before = before_next w.before (second_told log w.before s) }
+watched_on log w s = record {
+  seen = w.seen ++ seen_by log w.before s
+      ∷ [];
+  before = before_next w.before (second_told log w.before s);
+}
 
 -- the seconds of a trace as their events see them
 unfoldable pub seen_of : RunLog → List TraceSecond → List Seen
@@ -140,23 +152,34 @@ speed_second x = record { number = number_of x; speed = x.told.second.speed }
 abbrev pub over_event : List Seen → Option Event
 over_event [] = None
 over_event (x ∷ run) =
-    option_map {T = Over} {U = Event} (λ over. run_event OVER_SPEEDING over.most over.average x run) (over_of (map speed_second (x ∷ run)))
+    option_map {T = Over} {U = Event} (λ over. run_event OVER_SPEEDING over.most over.average x run)
+    (over_of (map speed_second (x ∷ run)))
 
 -- over speeding: the runs of more than 60 seconds above the limit in a span that have ended in it
 abbrev pub over_events : (limit : ℕ) → RunLog → List TraceSecond → List Event
 over_events limit log ss =
-    flat_map (λ span. filter_map over_event (ended_runs (λ x. is_above limit (speed_second x)) span)) (seen_spans (seen_of log ss))
+    flat_map (λ span. filter_map over_event (ended_runs (λ x. is_above limit (speed_second x)) span))
+    (seen_spans (seen_of log ss))
 
 -- an event that is noted with these cards at both ends
 abbrev pub noted_with : (kind begin end : ℕ) → Crew → Event
-noted_with kind begin end crew = record { kind = kind; begin = begin; end = end; most = 0; average = 0; at_begin = crew; at_end = crew }
+noted_with kind begin end crew = record {
+  kind = kind;
+  begin = begin;
+  end = end;
+  most = 0;
+  average = 0;
+  at_begin = crew;
+  at_end = crew;
+}
 
 -- the last second of a span, 0 without one
 abbrev pub last_number : List Seen → ℕ
 last_number span = fold (λ last x. number_of x) 0 span
 
--- What no log tells of tears: whether a card that was accepted at a power-on was torn out as the interruption was noted on it, by second and
--- slot; and whether of two cards that were torn out in one action the driver's was the first, by second and actions begun.
+-- What no log tells of tears: whether a card that was accepted at a power-on was torn out as the interruption was noted
+-- on it, by second and slot; and whether of two cards that were torn out in one action the driver's was the first, by
+-- second and actions begun.
 pub record Tearing : Type 0 where
   pub by_gap : ℕ → Slot → Bool
   pub driver_first : ℕ → ℕ → Bool
@@ -172,18 +195,21 @@ first_card (f ∷ found) = Some f.0.card
 
 -- the card of a slot that was accepted at a moment
 abbrev pub accepted_at : Seen → Phase → Slot → Option Card
-accepted_at x p slot = first_card (filter (λ f. same_phase f.0.phase p && (same_slot f.0.slot slot && is_accepting f.1)) x.told.course.found)
+accepted_at x p slot = first_card (filter (λ f. same_phase f.0.phase p && (same_slot f.0.slot slot && is_accepting f.1))
+    x.told.course.found)
 
 -- the accepted card of a slot at a power-on, once both were judged and before the interruption is noted
 abbrev pub standing : Tearing → Seen → Slot → Option Card
-standing t x slot = if torn_at x (In 0) slot && not (t.by_gap (number_of x) slot) then None else accepted_at x (In 0) slot
+standing t x slot = if torn_at x (In 0) slot && not (t.by_gap (number_of x) slot) then None
+    else accepted_at x (In 0) slot
 
 -- the interruption before a span that begins with this second: its cards are those accepted by then
 abbrev pub gap_event : Tearing → RunLog → List Seen → List Seen → List Event
 gap_event t log span [] = []
 gap_event t log span (x ∷ next) =
     option_to_list
-    (option_map {T = Span} {U = Event} (λ gap. noted_with POWER_INTERRUPTION gap.begin gap.end (record { driver = standing t x Driver; codriver = standing t x CoDriver }))
+    (option_map {T = Span} {U = Event} (λ gap. noted_with POWER_INTERRUPTION gap.begin gap.end
+    (record { driver = standing t x Driver; codriver = standing t x CoDriver }))
     (gap_of (kept_after log (last_number span)) (number_of x)))
 
 abbrev pub gaps_between : Tearing → RunLog → List (List Seen) → List Event
@@ -204,9 +230,11 @@ beside_judged t x Keeping slot = None
 
 -- the cards once one was judged: it counts as accepted where it is
 abbrev pub crew_judged : Tearing → Seen → Visit → Option Card → Crew
-crew_judged t x v own = with_card v.slot own (with_card (other_slot v.slot) (beside_judged t x v.phase v.slot) (record { driver = None; codriver = None }))
+crew_judged t x v own = with_card v.slot own
+    (with_card (other_slot v.slot) (beside_judged t x v.phase v.slot) (record { driver = None; codriver = None }))
 
--- events of a type that a judged card brings in a second; `session` is the session time that was found open on the card, 0 without
+-- events of a type that a judged card brings in a second; `session` is the session time that was found open on the
+-- card, 0 without
 abbrev pub found_events : (kind : ℕ) → (session : ℕ) → Tearing → Seen → Visit → Verdict → List Event
 found_events kind session t x v (NotValid fid place) =
     if kind == CARD_NOT_VALID then noted_with kind (number_of x) (number_of x) (crew_judged t x v None) ∷ [] else []
@@ -221,19 +249,21 @@ found_events kind session t x v (Accepted replayed) =
 -- those of all cards that were judged, where `sessions` tells the session time found open by second and visit
 abbrev pub judged_events : (kind : ℕ) → (sessions : ℕ → Visit → ℕ) → Tearing → RunLog → List TraceSecond → List Event
 judged_events kind sessions t log ss =
-    flat_map (λ x. flat_map (λ f. found_events kind (sessions (number_of x) f.0) t x f.0 f.1) x.told.course.found) (seen_of log ss)
+    flat_map (λ x. flat_map (λ f. found_events kind (sessions (number_of x) f.0) t x f.0 f.1) x.told.course.found)
+    (seen_of log ss)
 
 -- whether the card of this slot was the first of two that were torn out in an action
 abbrev pub is_first : Tearing → ℕ → ℕ → Slot → Bool
 is_first t u n Driver = t.driver_first u n
 is_first t u n CoDriver = not (t.driver_first u n)
 
--- The card beside, when a card is torn out. At a power-on: as it is judged, the co-driver's is not accepted before; as the interruption is
--- noted, both are, the driver's before the co-driver's. In an action: that as the cards were moved, unless it was torn out first. In the
--- keeping: the driver's comes before the co-driver's.
+-- The card beside, when a card is torn out. At a power-on: as it is judged, the co-driver's is not accepted before; as
+-- the interruption is noted, both are, the driver's before the co-driver's. In an action: that as the cards were moved,
+-- unless it was torn out first. In the keeping: the driver's comes before the co-driver's.
 abbrev pub beside_torn : Tearing → RunLog → Seen → Phase → Slot → Option Card
 beside_torn t log x (In zero) Driver = if t.by_gap (number_of x) Driver then standing t x CoDriver else None
-beside_torn t log x (In zero) CoDriver = if t.by_gap (number_of x) CoDriver then accepted_card (x.after 0).driver else standing t x Driver
+beside_torn t log x (In zero) CoDriver = if t.by_gap (number_of x) CoDriver then accepted_card (x.after 0).driver
+    else standing t x Driver
 beside_torn t log x (In (suc n)) slot =
     if torn_at x (In (suc n)) (other_slot slot) && not (is_first t (number_of x) (suc n) slot) then None
     else accepted_card (in_slot (x.within (suc n)) (other_slot slot))
@@ -247,8 +277,8 @@ fault_of t log x v =
     noted_with CARD_FAULT (number_of x) (number_of x)
     (with_card (other_slot v.slot) (beside_torn t log x v.phase v.slot) (record { driver = None; codriver = None }))
 
--- of two cards that were torn out at a moment the co-driver's was the first: at a power-on as it was judged, before the driver's was as the
--- interruption was noted
+-- of two cards that were torn out at a moment the co-driver's was the first: at a power-on as it was judged, before the
+-- driver's was as the interruption was noted
 abbrev pub is_codriver_first : Tearing → Seen → Phase → Bool
 is_codriver_first t x (In zero) = t.by_gap (number_of x) Driver && not (t.by_gap (number_of x) CoDriver)
 is_codriver_first t x (In (suc n)) = not (t.driver_first (number_of x) (suc n))
@@ -259,7 +289,8 @@ abbrev pub torn_in_turn : Tearing → Seen → List Visit → List Visit
 torn_in_turn t x [] = []
 torn_in_turn t x (v ∷ []) = v ∷ []
 torn_in_turn t x (v ∷ w ∷ later) =
-    if same_phase v.phase w.phase && is_codriver_first t x v.phase then w ∷ v ∷ torn_in_turn t x later else v ∷ torn_in_turn t x (w ∷ later)
+    if same_phase v.phase w.phase && is_codriver_first t x v.phase then w ∷ v ∷ torn_in_turn t x later else v
+    ∷ torn_in_turn t x (w ∷ later)
 
 -- faults of cards: each tear by a failed call
 abbrev pub fault_events : Tearing → RunLog → List TraceSecond → List Event
@@ -272,11 +303,14 @@ entered_at x p slot = list_any (λ v. same_phase v.phase p && same_slot v.slot s
 -- A choice fits these seconds.
 pub record AreTorn (t : Tearing) (seen : List Seen) : Type 0 where
   -- at rest nothing but the interruption is noted on a card that was accepted at a power-on
-  pub still : AllByRecursion (λ x. (slot : Slot) → x.told.second.speed ≡ 0 → torn_at x (In 0) slot ≡ true → is_some (accepted_at x (In 0) slot) ≡ true → t.by_gap (number_of x) slot ≡ true) seen
+  pub still : AllByRecursion (λ x. (slot : Slot) → x.told.second.speed ≡ 0 → torn_at x (In 0) slot ≡ true
+      → is_some (accepted_at x (In 0) slot) ≡ true → t.by_gap (number_of x) slot ≡ true) seen
   -- and it is noted on accepted cards alone
-  pub before : AllByRecursion (λ x. (slot : Slot) → accepted_at x (In 0) slot ≡ None → t.by_gap (number_of x) slot ≡ false) seen
+  pub before : AllByRecursion (λ x. (slot : Slot) → accepted_at x (In 0) slot ≡ None
+      → t.by_gap (number_of x) slot ≡ false) seen
   -- what an insertion settles is kept on the card beside before its own card is called
-  pub put_in : AllByRecursion (λ x. (n : ℕ) (slot : Slot) → entered_at x (In (suc n)) slot ≡ true → is_first t (number_of x) (suc n) slot ≡ false) seen
+  pub put_in : AllByRecursion (λ x. (n : ℕ) (slot : Slot) → entered_at x (In (suc n)) slot ≡ true
+      → is_first t (number_of x) (suc n) slot ≡ false) seen
 
 -- the events of a type in a run, in order of time
 abbrev pub events_of : (kind limit : ℕ) → (sessions : ℕ → Visit → ℕ) → Tearing → RunLog → List TraceSecond → List Event

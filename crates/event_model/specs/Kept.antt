@@ -1,5 +1,6 @@
 -- Which events of a type are kept, of those that came so far, in their order (Annex IB, section III.12).
-use Rattle.std.specs.Prelude.{◌≡◌, ◌⊎◌, ℕ, ◌/◌, ◌==◌, ◌<◌, ◌≤◌, not, true, Option, Some, List, ◌++◌, length, filter, find, fold, nat_le, All, IsPermutation}
+use Rattle.std.specs.Prelude.{◌≡◌, ◌⊎◌, ℕ, ◌/◌, ◌==◌, ◌<◌, ◌≤◌, not, true, Option, Some, List, ◌++◌, length, filter}
+use Rattle.std.specs.Prelude.{find, fold, nat_le, All, IsPermutation}
 use Rattle.std.specs.List.{list_any, list_all}
 use Rattle.event_model.specs.declared.kinds.Purpose.{Purpose}
 use Rattle.event_model.specs.declared.entries.Held.{Held}
@@ -21,10 +22,11 @@ on_day day events = filter (λ h. h.begin / 86400 == day) events
 
 -- the best of a day: the first of those that measure most
 abbrev pub best_of : Purpose → List Held → Option Held
-best_of purpose events = find (λ h. list_all (λ other. nat_le (measure purpose other) (measure purpose h)) events) events
+best_of purpose events = find (λ h. list_all (λ other. nat_le (measure purpose other) (measure purpose h)) events)
+    events
 
--- The best of each of the last days is kept: one a day; each event that came is of such a day, or of an earlier one than all of
--- them, where there is no more room.
+-- The best of each of the last days is kept: one a day; each event that came is of such a day, or of an earlier one
+-- than all of them, where there is no more room.
 pub record KeepsDays (purpose : Purpose) (room : ℕ) (all kept : List Held) : Type 0 where
   pub best : All (λ h. best_of purpose (on_day (h.begin / 86400) all) ≡ Some h) kept
   pub one : (day : ℕ) → length (on_day day kept) ≤ 1

@@ -2,7 +2,9 @@
 use Rattle.std.specs.Prelude.{ℕ, ◌==◌, ◌||◌, Bool, true, false, if◌then◌else◌}
 use Rattle.event_model.specs.declared.kinds.Purpose.{Purpose}
 use Rattle.event_model.specs.declared.kinds.Purpose.TheVariants.{MostRecent, Longest, Last, HighestAverage}
-use Rattle.event_model.specs.declared.kinds.TheConstants.{CARD_NOT_VALID, TIME_OVERLAP, DRIVING_WITHOUT_CARD, INSERTION_WHILE_DRIVING, SESSION_NOT_CLOSED, OVER_SPEEDING, POWER_INTERRUPTION, CARD_FAULT, EVENT_PLACES, FAULT_PLACES}
+use Rattle.event_model.specs.declared.kinds.TheConstants.{CARD_NOT_VALID, TIME_OVERLAP, DRIVING_WITHOUT_CARD}
+use Rattle.event_model.specs.declared.kinds.TheConstants.{INSERTION_WHILE_DRIVING, SESSION_NOT_CLOSED, OVER_SPEEDING}
+use Rattle.event_model.specs.declared.kinds.TheConstants.{POWER_INTERRUPTION, CARD_FAULT, EVENT_PLACES, FAULT_PLACES}
 
 -- a type of which the unit keeps events
 abbrev pub is_event : ℕ → Bool
@@ -10,8 +12,8 @@ is_event kind =
     kind == CARD_NOT_VALID || kind == TIME_OVERLAP || kind == DRIVING_WITHOUT_CARD || kind == INSERTION_WHILE_DRIVING
     || kind == SESSION_NOT_CLOSED || kind == OVER_SPEEDING || kind == POWER_INTERRUPTION
 
--- driving without a card and power interruptions by their length, insertions while driving the last, over speedings by their
--- average, all others the most recent
+-- driving without a card and power interruptions by their length, insertions while driving the last, over speedings by
+-- their average, all others the most recent
 abbrev pub purpose_of : ℕ → Purpose
 purpose_of kind =
     if kind == DRIVING_WITHOUT_CARD || kind == POWER_INTERRUPTION then Longest

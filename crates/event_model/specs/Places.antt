@@ -1,12 +1,14 @@
 -- Which place an event takes among the held ones of its type (Annex IB, section III.12; the order of equals: profile).
-use Rattle.std.specs.Prelude.{ℕ, ◌+◌, ◌-◌, ◌/◌, ◌==◌, min, not, ◌&&◌, Bool, Option, Some, None, List, slice_index_or, slice_set, position, nat_lt, nat_le, if◌then◌else◌}
+use Rattle.std.specs.Prelude.{ℕ, ◌+◌, ◌-◌, ◌/◌, ◌==◌, min, not, ◌&&◌, Bool, Option, Some, None, List, slice_index_or}
+use Rattle.std.specs.Prelude.{slice_set, position, nat_lt, nat_le, if◌then◌else◌}
 use Rattle.std.specs.List.{list_all}
 use Rattle.event_model.specs.declared.kinds.Purpose.{Purpose}
 use Rattle.event_model.specs.declared.kinds.Purpose.TheVariants.{MostRecent, Longest, Last, HighestAverage}
 use Rattle.event_model.specs.declared.entries.Held.{Held}
 use Rattle.event_model.specs.Kinds.{purpose_of, is_by_day}
 
--- The lowest place of the earliest begin: an empty place has begin 0, so it goes first. On a card each event takes this place.
+-- The lowest place of the earliest begin: an empty place has begin 0, so it goes first. On a card each event takes this
+-- place.
 abbrev pub earliest : {T : Type 0} → (begin_of : T → ℕ) → List T → Option ℕ
 earliest begin_of xs = position (λ x. list_all (λ y. nat_le (begin_of x) (begin_of y)) xs) xs
 
@@ -29,7 +31,8 @@ is_of_day day held = not (held.begin == 0) && (held.begin / 86400 == day)
 
 -- the place of the event of the same day, where a type keeps one a day
 abbrev pub day_place : ℕ → List Held → Held → Option ℕ
-day_place kind held event = if is_by_day (purpose_of kind) then position (is_of_day (event.begin / 86400)) held else None
+day_place kind held event = if is_by_day (purpose_of kind) then position (is_of_day (event.begin / 86400)) held
+    else None
 
 -- by what the events of a day are measured
 abbrev pub measure : Purpose → Held → ℕ

@@ -13,8 +13,8 @@ last_run passes xs = fold (run_with passes) [] xs
 abbrev pub ended_by : {T : Type 0} → (T → Bool) → List T → T → List (List T)
 ended_by passes run x = if passes x then [] else run ∷ []
 
--- behind this run: what stands before each one that does not pass the test, back to the last such one; what stands behind the last
--- of them has not ended
+-- behind this run: what stands before each one that does not pass the test, back to the last such one; what stands
+-- behind the last of them has not ended
 abbrev pub runs_behind : {T : Type 0} → (T → Bool) → List T → List T → List (List T)
 runs_behind passes run [] = []
 runs_behind passes run (x ∷ xs) = ended_by passes run x ++ runs_behind passes (run_with passes run x) xs

@@ -1,5 +1,7 @@
--- Over speeding, driving without a card and power interruptions, by the seconds of a power span (Annex IB, section III.12).
-use Rattle.std.specs.Prelude.{◌≡◌, ℕ, zero, suc, ◌+◌, ◌*◌, ◌/◌, ◌==◌, max, Bool, Option, Some, None, List, [], ◌∷◌, length, map, sum, fold, nat_lt, if◌then◌else◌}
+-- Over speeding, driving without a card and power interruptions, by the seconds of a power span (Annex IB, section
+-- III.12).
+use Rattle.std.specs.Prelude.{◌≡◌, ℕ, zero, suc, ◌+◌, ◌*◌, ◌/◌, ◌==◌, max, Bool, Option, Some, None, List, [], ◌∷◌}
+use Rattle.std.specs.Prelude.{length, map, sum, fold, nat_lt, if◌then◌else◌}
 use Rattle.std.specs.List.{filter_map}
 use Rattle.event_model.specs.declared.entries.Over.{Over}
 use Rattle.event_model.specs.declared.entries.Span.{Span}
@@ -38,8 +40,8 @@ numbers run = map (λ s. s.number) run
 abbrev pub speeds : List SpeedSecond → List ℕ
 speeds run = map (λ s. s.speed) run
 
--- an over speeding is a run of more than 60 seconds above the limit: its first and last second, the highest speed, and the
--- average, rounded down
+-- an over speeding is a run of more than 60 seconds above the limit: its first and last second, the highest speed, and
+-- the average, rounded down
 abbrev pub over_of : List SpeedSecond → Option Over
 over_of run =
     if nat_lt 60 (length run)

@@ -1,5 +1,5 @@
-//! Events and faults of a unit (Annex IB, section III.12; Appendix 1, EventFaultType): which are told of a run, and which are
-//! kept. Small types, and definitions over whole lists (specs/).
+//! Events and faults of a unit (Annex IB, section III.12; Appendix 1, EventFaultType): which are told of a run, and
+//! which are kept. Small types, and definitions over whole lists (specs/).
 #![tactic(auto)]
 
 mod entries;

@@ -1,5 +1,6 @@
 -- What is counted of the run above the limit that goes on.
-use Rattle.std.specs.Prelude.{◌≡◌, ℕ, ◌+◌, ◌-◌, ◌*◌, ◌/◌, ◌==◌, ◌<◌, max, Option, Some, None, List, length, sum, fold, nat_lt, if◌then◌else◌}
+use Rattle.std.specs.Prelude.{◌≡◌, ℕ, ◌+◌, ◌-◌, ◌*◌, ◌/◌, ◌==◌, ◌<◌, max, Option, Some, None, List, length, sum, fold}
+use Rattle.std.specs.Prelude.{nat_lt, if◌then◌else◌}
 use Rattle.event_model.specs.declared.entries.Over.{Over}
 use Rattle.event_model.specs.Runs.{last_run}
 use Rattle.event_model.specs.Spans.{SpeedSecond, InARow, first_of, is_above, numbers, speeds}
@@ -35,7 +36,13 @@ grown second n speed run = record {
 abbrev pub over_in : Fast → Option Over
 over_in run =
     if nat_lt 60 run.seconds
-    then Some (record { begin = run.begin; end = run.begin + run.seconds - 1; most = run.most; average = run.sum / run.seconds })
+    then Some (record {
+      begin = run.begin;
+      end = run.begin
+          + run.seconds - 1;
+      most = run.most;
+      average = run.sum / run.seconds;
+    })
     else None
 
 -- a second is the one after the run's last, where one goes on

@@ -6,7 +6,8 @@ ghost use Rattle.event_rules.specs.Bare.{Bare, CountsDriverSeconds, IsNext, no_r
 use event_model::Span;
 use std::marker::Model;
 
-/// The runs of a power span's moving seconds without an accepted card in the driver slot. It keeps two counts and no second.
+/// The runs of a power span's moving seconds without an accepted card in the driver slot. It keeps two counts and no
+/// second.
 #[derive(Drop)]
 pub struct NoCardRun {
     /// The first second of the run that goes on.
@@ -38,29 +39,34 @@ impl NoCardRun {
         }
     }
 
-    /// Feeds a second; `bare` is whether it is a moving one without an accepted card in the driver slot. The run that ended
-    /// with the second before, if there is one.
+    /// Feeds a second; `bare` is whether it is a moving one without an accepted card in the driver slot. The run that
+    /// ended with the second before, if there is one.
     ///
     /// It is the second after the one that was fed before, where there is one.
     pub fn feed(&mut self, second: u32, bare: bool) -> Option<Span>
         requires next { IsNext self.old second }
-        ensures fed { (seconds : List DriverSecond) → CountsDriverSeconds self.old seconds → CountsDriverSeconds self.new (seconds ++ all_bare second 1 bare) }
-        ensures given { (seconds : List DriverSecond) → CountsDriverSeconds self.old seconds → bares_of (seconds ++ all_bare second 1 bare) ≡ bares_of seconds ++ option_to_list result }
+        ensures fed { (seconds : List DriverSecond) → CountsDriverSeconds self.old seconds
+            → CountsDriverSeconds self.new (seconds ++ all_bare second 1 bare) }
+        ensures given { (seconds : List DriverSecond) → CountsDriverSeconds self.old seconds
+            → bares_of (seconds ++ all_bare second 1 bare) ≡ bares_of seconds ++ option_to_list result }
         ensures next { IsNext self.new (second + 1) }
     {
         self.feed_run(second, 1, bare)
     }
 
-    /// Feeds `n` seconds, one at least, that are all bare, or none of them, from `second` on: as so many calls of `feed`, with
-    /// no loop. The run that ended with the second before the first, if there is one.
+    /// Feeds `n` seconds, one at least, that are all bare, or none of them, from `second` on: as so many calls of
+    /// `feed`, with no loop. The run that ended with the second before the first, if there is one.
     ///
-    /// The last of them is at most 4294967295, and `second` is the one after the one that was fed before, where there is one.
+    /// The last of them is at most 4294967295, and `second` is the one after the one that was fed before, where there
+    /// is one.
     pub fn feed_run(&mut self, second: u32, n: u32, bare: bool) -> Option<Span>
         requires some { 0 < n }
         requires fits { second + n ≤ 2 ^ 32 }
         requires next { IsNext self.old second }
-        ensures fed { (seconds : List DriverSecond) → CountsDriverSeconds self.old seconds → CountsDriverSeconds self.new (seconds ++ all_bare second n bare) }
-        ensures given { (seconds : List DriverSecond) → CountsDriverSeconds self.old seconds → bares_of (seconds ++ all_bare second n bare) ≡ bares_of seconds ++ option_to_list result }
+        ensures fed { (seconds : List DriverSecond) → CountsDriverSeconds self.old seconds
+            → CountsDriverSeconds self.new (seconds ++ all_bare second n bare) }
+        ensures given { (seconds : List DriverSecond) → CountsDriverSeconds self.old seconds
+            → bares_of (seconds ++ all_bare second n bare) ≡ bares_of seconds ++ option_to_list result }
         ensures next { IsNext self.new (second + n) }
     {
         if bare {
@@ -119,8 +125,8 @@ fn run_of(begin: u32, seconds: u64) -> Option<Span>
     })
 }
 
-/// The interruption of power where minute `kept` was the last one that was kept, and power is back at second `now`: from the
-/// begin of the next minute on. `None` exactly where none was kept (`kept` is 0).
+/// The interruption of power where minute `kept` was the last one that was kept, and power is back at second `now`:
+/// from the begin of the next minute on. `None` exactly where none was kept (`kept` is 0).
 ///
 /// The minute of `now` is later than `kept`.
 pub fn power_gap(kept: u32, now: u32) -> Option<Span>

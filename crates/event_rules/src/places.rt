@@ -27,8 +27,8 @@ pub fn purpose_of(kind: u8) -> Purpose
 
 /// The place that an event takes among the held ones of its type, at most 255; `None` where it is not kept.
 ///
-/// Of types that keep one event a day: the place of the event of its day where that measures less, and none where it does not.
-/// Else an empty place, else that of the earliest begin, where the event begins later; of equals the lowest.
+/// Of types that keep one event a day: the place of the event of its day where that measures less, and none where it
+/// does not. Else an empty place, else that of the earliest begin, where the event begins later; of equals the lowest.
 pub fn place_for(kind: u8, held: &[Held], event: &Held) -> Option<u8>
     requires { length held.now ≤ 255 }
     ensures { result ≡ place_of kind held.now event.now }
@@ -44,8 +44,8 @@ pub fn place_for(kind: u8, held: &[Held], event: &Held) -> Option<u8>
     }
 }
 
-/// The place of the event of the same day, where a type keeps one a day and has one: it counts the event as similar, whether
-/// the event takes its place or not.
+/// The place of the event of the same day, where a type keeps one a day and has one: it counts the event as similar,
+/// whether the event takes its place or not.
 pub fn day_place(kind: u8, held: &[Held], event: &Held) -> Option<u8>
     requires { length held.now ≤ 255 }
     ensures place { result ≡ places.day_place kind held.now event.now }

@@ -1,5 +1,6 @@
 //! Over speeding (Annex IB, section III.12).
-ghost use Rattle.std.specs.Prelude.{◌^◌, ◌≡◌, ◌+◌, ◌*◌, ◌/◌, ◌==◌, ◌≤◌, ◌<◌, List, [], ◌++◌, option_to_list, if◌then◌else◌, nat_lt};
+ghost use Rattle.std.specs.Prelude.{◌^◌, ◌≡◌, ◌+◌, ◌*◌, ◌/◌, ◌==◌, ◌≤◌, ◌<◌, List, [], ◌++◌, option_to_list};
+ghost use Rattle.std.specs.Prelude.{if◌then◌else◌, nat_lt};
 ghost use Rattle.event_model.specs.Spans.{SpeedSecond, overs_of, at_speed};
 ghost use Rattle.event_rules.specs.Speeding.{Speeding, CountsSpeedSeconds, IsNext, no_run, grown, over_in};
 
@@ -9,8 +10,8 @@ use std::marker::Model;
 /// An over speeding is longer than this, in seconds.
 const SECONDS: u64 = 60;
 
-/// The run of seconds above the limit that goes on: its first second, how many seconds it has, the sum of their speeds and the
-/// highest of them. No run has no seconds.
+/// The run of seconds above the limit that goes on: its first second, how many seconds it has, the sum of their speeds
+/// and the highest of them. No run has no seconds.
 #[derive(Clone, Copy, Debug, Default, PartialEq, Eq)]
 pub struct Fast {
     pub begin: u32,
@@ -78,7 +79,8 @@ fn average(sum: u64, seconds: u64) -> u8
     (sum / seconds) as u8
 }
 
-/// The over speedings of a power span: each run of more than 60 seconds above the limit. It keeps a few counts and no second.
+/// The over speedings of a power span: each run of more than 60 seconds above the limit. It keeps a few counts and no
+/// second.
 #[derive(Drop)]
 pub struct Overspeed {
     limit: u8,
@@ -113,24 +115,31 @@ impl Overspeed {
     /// It is the second after the one that was fed before, where there is one.
     pub fn feed(&mut self, second: u32, speed: u8) -> Option<Over>
         requires next { IsNext self.old.run second }
-        ensures fed { (seconds : List SpeedSecond) → CountsSpeedSeconds self.old seconds → CountsSpeedSeconds self.new (seconds ++ at_speed second 1 speed) }
-        ensures given { (seconds : List SpeedSecond) → CountsSpeedSeconds self.old seconds → overs_of self.old.limit (seconds ++ at_speed second 1 speed) ≡ overs_of self.old.limit seconds ++ option_to_list result }
+        ensures fed { (seconds : List SpeedSecond) → CountsSpeedSeconds self.old seconds
+            → CountsSpeedSeconds self.new (seconds ++ at_speed second 1 speed) }
+        ensures given { (seconds : List SpeedSecond) → CountsSpeedSeconds self.old seconds
+            → overs_of self.old.limit (seconds ++ at_speed second 1 speed) ≡ overs_of self.old.limit seconds
+            ++ option_to_list result }
         ensures limit { self.new.limit ≡ self.old.limit }
         ensures next { IsNext self.new.run (second + 1) }
     {
         self.feed_run(second, 1, speed)
     }
 
-    /// Feeds `n` seconds, one at least, at one speed, from `second` on: as so many calls of `feed`, with no loop. The over
-    /// speeding that ended with the second before the first, if there is one: no later one of them can end one.
+    /// Feeds `n` seconds, one at least, at one speed, from `second` on: as so many calls of `feed`, with no loop. The
+    /// over speeding that ended with the second before the first, if there is one: no later one of them can end one.
     ///
-    /// The last of them is at most 4294967295, and `second` is the one after the one that was fed before, where there is one.
+    /// The last of them is at most 4294967295, and `second` is the one after the one that was fed before, where there
+    /// is one.
     pub fn feed_run(&mut self, second: u32, n: u32, speed: u8) -> Option<Over>
         requires some { 0 < n }
         requires fits { second + n ≤ 2 ^ 32 }
         requires next { IsNext self.old.run second }
-        ensures fed { (seconds : List SpeedSecond) → CountsSpeedSeconds self.old seconds → CountsSpeedSeconds self.new (seconds ++ at_speed second n speed) }
-        ensures given { (seconds : List SpeedSecond) → CountsSpeedSeconds self.old seconds → overs_of self.old.limit (seconds ++ at_speed second n speed) ≡ overs_of self.old.limit seconds ++ option_to_list result }
+        ensures fed { (seconds : List SpeedSecond) → CountsSpeedSeconds self.old seconds
+            → CountsSpeedSeconds self.new (seconds ++ at_speed second n speed) }
+        ensures given { (seconds : List SpeedSecond) → CountsSpeedSeconds self.old seconds
+            → overs_of self.old.limit (seconds ++ at_speed second n speed) ≡ overs_of self.old.limit seconds
+            ++ option_to_list result }
         ensures limit { self.new.limit ≡ self.old.limit }
         ensures next { IsNext self.new.run (second + n) }
     {

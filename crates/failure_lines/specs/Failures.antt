@@ -1,5 +1,6 @@
 -- What is told of the failed calls of a run (profile).
-use Rattle.std.specs.Prelude.{◌≡◌, ℕ, ◌+◌, ◌/◌, ◌%◌, ◌==◌, Bool, true, false, List, [], ◌∷◌, ◌++◌, codes, decimal, count_by, if◌then◌else◌}
+use Rattle.std.specs.Prelude.{◌≡◌, ℕ, ◌+◌, ◌/◌, ◌%◌, ◌==◌, Bool, true, false, List, [], ◌∷◌, ◌++◌, codes, decimal}
+use Rattle.std.specs.Prelude.{count_by, if◌then◌else◌}
 use Rattle.activity_codec.specs.Names.{slot_name}
 use Rattle.log_model.specs.declared.lines.Break.{Break}
 use Rattle.log_model.specs.declared.lines.Break.TheVariants.{Cut, Tear}
@@ -11,19 +12,23 @@ two_digits n = (48 + n / 10) ∷ (48 + n % 10) ∷ []
 
 -- the time of day of a second, as `06:12:03`
 abbrev pub seconds_text : ℕ → List ℕ
-seconds_text second = two_digits (second % 86400 / 3600) ++ codes ":" ++ two_digits (second % 3600 / 60) ++ codes ":" ++ two_digits (second % 60)
+seconds_text second = two_digits (second % 86400 / 3600) ++ codes ":" ++ two_digits (second % 3600 / 60) ++ codes ":"
+    ++ two_digits (second % 60)
 
 -- a line: `WHO failed at 2010-03-01 06:12:03: WHAT`
 abbrev pub IsFailureText : (who : List ℕ) → (second : ℕ) → (what : List ℕ) → List ℕ → Type 0
 IsFailureText who second what text =
-    (date : List ℕ) × IsDateText (second / 86400) date × (text ≡ who ++ codes " failed at " ++ date ++ codes " " ++ seconds_text second ++ codes ": " ++ what ++ codes "\n")
+    (date : List ℕ) × IsDateText (second / 86400) date
+    × (text ≡ who ++ codes " failed at " ++ date ++ codes " " ++ seconds_text second ++ codes ": " ++ what
+    ++ codes "\n")
 
 -- the line of a break that a failed call made; nothing of any other
 abbrev pub IsBreakLine : Break → List ℕ → Type 0
 IsBreakLine (Cut second kept false begun) text = text ≡ []
 IsBreakLine (Cut second kept true begun) text = IsFailureText (codes "unit") second (codes "power is cut") text
 IsBreakLine (Tear second slot false begun late) text = text ≡ []
-IsBreakLine (Tear second slot true begun late) text = IsFailureText (slot_name slot ++ codes " card") second (codes "it is torn out") text
+IsBreakLine (Tear second slot true begun late) text = IsFailureText (slot_name slot ++ codes " card") second
+    (codes "it is torn out") text
 
 -- and of several, in their order
 abbrev pub AreTold : List Break → List ℕ → Type 0
@@ -41,4 +46,5 @@ last_line n = if n == 0 then [] else codes "breaks by failed calls " ++ decimal 
 
 -- WHAT IS TOLD of a run with these breaks
 abbrev pub IsFailuresText : List Break → List ℕ → Type 0
-IsFailuresText breaks text = (lines : List ℕ) × AreTold breaks lines × (text ≡ lines ++ last_line (count_by is_failed breaks))
+IsFailuresText breaks text = (lines : List ℕ) × AreTold breaks lines
+    × (text ≡ lines ++ last_line (count_by is_failed breaks))

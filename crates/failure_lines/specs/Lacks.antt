@@ -13,7 +13,8 @@ missing_name SynchronisedFolders = codes "synchronised folders"
 
 -- a line: `unit: no locks in its file system`
 abbrev pub missing_line : Device → Missing → List ℕ
-missing_line device missing = device_name device ++ codes ": no " ++ missing_name missing ++ codes " in its file system\n"
+missing_line device missing = device_name device ++ codes ": no " ++ missing_name missing
+    ++ codes " in its file system\n"
 
 -- WHAT IS TOLD of the unit and the cards: one line, of the first of them that lacks something; nothing where none does
 abbrev pub missing_text : (unit card_a card_b : Option Missing) → List ℕ

@@ -9,8 +9,8 @@ use arrayvec::ArrayVec;
 use run_model::Device;
 use tach_media::{Failed, Missing, Sink, put_all};
 
-/// Writes one line of what the file system lacks: of the unit, else of the first card, else of the second one; nothing where none of them
-/// lacks anything.
+/// Writes one line of what the file system lacks: of the unit, else of the first card, else of the second one; nothing
+/// where none of them lacks anything.
 ///
 /// # Errors
 ///

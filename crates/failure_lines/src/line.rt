@@ -2,7 +2,8 @@
 ghost use Rattle.std.specs.Prelude.{◌≡◌, ◌+◌, ◌<◌, ◌≤◌, ◌++◌, length, codes};
 ghost use Rattle.arrayvec.specs.ArrayVec.{array_vec_len};
 ghost use Rattle.activity_codec.specs.Names.{slot_name};
-ghost use Rattle.failure_lines.specs.Failures.{IsBreakLine, IsFailureText, is_failed, last_line, seconds_text, two_digits};
+ghost use Rattle.failure_lines.specs.Failures.{IsBreakLine, IsFailureText, is_failed, last_line, seconds_text};
+ghost use Rattle.failure_lines.specs.Failures.{two_digits};
 
 use activity_codec::Slot;
 use arrayvec::ArrayVec;

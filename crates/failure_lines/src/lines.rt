@@ -8,13 +8,15 @@ use log_model::Break;
 use run_outcome::Lines;
 use tach_media::{Failed, Sink, put_all};
 
-/// Writes a line for each break that a failed call made, in their order, and behind them how many there are; nothing where there is none.
+/// Writes a line for each break that a failed call made, in their order, and behind them how many there are; nothing
+/// where there is none.
 ///
 /// # Errors
 ///
 /// `Failed` where the sink failed.
 pub fn put_failures<K: Sink>(sink: &mut K, breaks: &Lines<Break>) -> Result<(), Failed>
-    ensures { OnOk result ((text : List ℕ) × IsFailuresText breaks.now.items text × Appends (K.held sink.old) (K.held sink.new) text) }
+    ensures { OnOk result ((text : List ℕ) × IsFailuresText breaks.now.items text
+        × Appends (K.held sink.old) (K.held sink.new) text) }
 {
     let failed = put_lines(sink, breaks)?;
     put_all(sink, last_line(failed).as_slice())?;
@@ -23,7 +25,8 @@ pub fn put_failures<K: Sink>(sink: &mut K, breaks: &Lines<Break>) -> Result<(), 
 
 /// Writes these lines, and answers how many there are.
 fn put_lines<K: Sink>(sink: &mut K, breaks: &Lines<Break>) -> Result<usize, Failed>
-    ensures { IfOk result (λ failed. (failed ≡ count_by is_failed breaks.now.items) × ((text : List ℕ) × AreTold breaks.now.items text × Appends (K.held sink.old) (K.held sink.new) text)) }
+    ensures { IfOk result (λ failed. (failed ≡ count_by is_failed breaks.now.items)
+        × ((text : List ℕ) × AreTold breaks.now.items text × Appends (K.held sink.old) (K.held sink.new) text)) }
 {
     let mut failed = 0;
     for i in 0..breaks.len() {

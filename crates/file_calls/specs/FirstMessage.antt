@@ -13,14 +13,17 @@ abbrev pub first_message : List DayMessage → (day : ℕ) → Option DayMessage
 first_message [] day = None
 first_message (m ∷ ms) day = if m.date / 86400 == day then Some m else first_message ms day
 
--- what a message tells of a minute of its day; nothing, where that is not shown, since it is later than the time of the first overview
+-- what a message tells of a minute of its day; nothing, where that is not shown, since it is later than the time of the
+-- first overview
 abbrev pub minute_by : (now : Option ℕ) → (minute : ℕ) → Option DayMessage → Option UnitMinute
 minute_by now minute None = None
-minute_by now minute (Some m) = if nat_lt (minute % 1440) (minutes_of_day m.date now) then Some (minute_of (told_day m) (minute % 1440)) else None
+minute_by now minute (Some m) = if nat_lt (minute % 1440) (minutes_of_day m.date now)
+    then Some (minute_of (told_day m) (minute % 1440)) else None
 
 -- what the messages of a file tell of a minute: the first one of its day does
 abbrev pub minute_by_message : List Message → (minute : ℕ) → Option UnitMinute
-minute_by_message messages minute = minute_by (time_in messages) minute (first_message (days_told messages) (minute / 1440))
+minute_by_message messages minute = minute_by (time_in messages) minute
+    (first_message (days_told messages) (minute / 1440))
 
 -- a message is of this day
 abbrev pub has_message : List Message → (day : ℕ) → Bool

@@ -18,7 +18,8 @@ pub trait CardEntries {
     // the entries, in their order
     ghost entries: { Self → List CardEntry };
 
-    /// How many there are. Of entries that rise, as those of each file do, that is exact; of others at most what 32 bits count.
+    /// How many there are. Of entries that rise, as those of each file do, that is exact; of others at most what 32
+    /// bits count.
     fn count(&self) -> u32
         ensures count { result ≡ min (length (entries self.now)) u32.MAX }
         ensures all { Rise (entries self.now) → result ≡ length (entries self.now) };

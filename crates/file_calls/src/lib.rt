@@ -1,5 +1,6 @@
-//! Single questions to a unit file and to a card file (profile): what the unit shows of a minute, its first day, its registration; how many
-//! entries the card has, one of them, its vehicle entries. And laws: a match has one answer, and the first message of a day counts.
+//! Single questions to a unit file and to a card file (profile): what the unit shows of a minute, its first day, its
+//! registration; how many entries the card has, one of them, its vehicle entries. And laws: a match has one answer, and
+//! the first message of a day counts.
 #![tactic(auto)]
 
 mod card;

@@ -25,7 +25,8 @@ pub trait UnitMinutes {
     // the minutes, in the file's order
     ghost minutes: { Self → List ToldMinute };
 
-    /// What is shown of the minute with a number, by the first message of its day; `None` exactly where the file has no such minute.
+    /// What is shown of the minute with a number, by the first message of its day; `None` exactly where the file has no
+    /// such minute.
     fn at(&self, minute: u32) -> Option<UnitMinute>
         ensures { result ≡ shown_at (minutes self.now) minute };
 
@@ -56,7 +57,8 @@ impl UnitMinutes for UnitHistory {
 pub fn registration(b: &[u8]) -> Option<Registration>
     requires short { length b.now < 2 ^ 32 }
     requires file { (messages : List FileMessage) × IsUnitFile messages b.now }
-    ensures { (messages : List FileMessage) → IsUnitFile messages b.now → registration_bytes result ≡ registration_in messages }
+    ensures { (messages : List FileMessage) → IsUnitFile messages b.now
+        → registration_bytes result ≡ registration_in messages }
 {
     match read_front(b) {
         Ok(front) => front.registration,

@@ -24,4 +24,5 @@ pub record ShowsByHand (bytes : List ℕ) (told : List Manual) : Type 0 where
 
 -- the entry by hand that a word tells of a day with this date, where it is not behind the mark
 abbrev pub hand_up_to : (mark date word : ℕ) → List Manual
-hand_up_to mark date word = if is_by_hand word && nat_le (date / 60 + word_minute word) mark then tells_by_hand date word ∷ [] else []
+hand_up_to mark date word = if is_by_hand word && nat_le (date / 60 + word_minute word) mark
+    then tells_by_hand date word ∷ [] else []

@@ -1,8 +1,10 @@
 -- A unit file at the front of bytes: its messages go on as long as the next byte is 76.
-use Rattle.std.specs.Prelude.{◌≡◌, ◌⊎◌, ℕ, ◌<◌, ◌==◌, Bool, true, false, Option, Some, None, option_map, List, [], ◌∷◌, ◌++◌, length, map, drop, All}
+use Rattle.std.specs.Prelude.{◌≡◌, ◌⊎◌, ℕ, ◌<◌, ◌==◌, Bool, true, false, Option, Some, None, option_map, List, [], ◌∷◌}
+use Rattle.std.specs.Prelude.{◌++◌, length, map, drop, All}
 use Rattle.card_layout.specs.Fields.{joined}
 use Rattle.tacho_types.specs.declared.texts.Registration.{Registration}
-use Rattle.message_model.specs.Messages.{Message, AnOverview, ADay, AnEventList, ASpeedList, ATechnical, message_bytes, IsMessage}
+use Rattle.message_model.specs.Messages.{Message, AnOverview, ADay, AnEventList, ASpeedList, ATechnical, message_bytes}
+use Rattle.message_model.specs.Messages.{IsMessage}
 use Rattle.file_view.specs.UnitFiles.{HasNoMessage}
 use Rattle.file_view.specs.declared.front.FrontRead.{FrontRead}
 
@@ -36,8 +38,8 @@ pub record IsFront (bytes : List ℕ) (front : FrontRead) : Type 0 where
   pub leads : Leads bytes messages front
   pub ends : begins_message (drop front.end bytes) ≡ false
 
--- No unit file stands at the front: this is the place of the first message that is not in its grammar, though it begins with 76 or
--- is the first.
+-- No unit file stands at the front: this is the place of the first message that is not in its grammar, though it begins
+-- with 76 or is the first.
 pub record IsBadFront (place : ℕ) (bytes : List ℕ) : Type 0 where
   pub messages : List Message
   pub rest : List ℕ

@@ -12,7 +12,10 @@ use Rattle.tacho_types.specs.declared.calendar.TheConstants.{DAYS}
 
 -- what the view of a unit shows of a minute, and the minute that is shown so
 abbrev pub minute_shown : UnitMinute → Viewed UnitShown
-minute_shown m = record { minute = m.minute; shown = record { driver = m.driver; codriver = m.codriver; crew = m.crew } }
+minute_shown m = record {
+  minute = m.minute;
+  shown = record { driver = m.driver; codriver = m.codriver; crew = m.crew };
+}
 
 abbrev pub minute_told : Viewed UnitShown → UnitMinute
 minute_told v = record { minute = v.minute; driver = v.shown.driver; codriver = v.shown.codriver; crew = v.shown.crew }
@@ -23,7 +26,8 @@ entry_told v = record { minute = v.minute; slot = v.shown.slot; crew = v.shown.c
 
 -- the minutes of a line, and of lines
 abbrev pub line_minutes : {X : Type 0} → Line X → List (Viewed X)
-line_minutes line = map (λ m. record { minute = m; shown = line.shown }) (range_with_len line.first (line.last + 1 - line.first))
+line_minutes line = map (λ m. record { minute = m; shown = line.shown })
+    (range_with_len line.first (line.last + 1 - line.first))
 
 abbrev pub minutes_on : {X : Type 0} → List (Line X) → List (Viewed X)
 minutes_on [] = []

@@ -39,11 +39,13 @@ SizesAre None entries = values_of 0x0501 entries ≡ []
 SizesAre (Some app) entries = AreSizes app entries
 
 -- the value of a file was found at this place, if it was found
-abbrev pub PartIs : (fid : ℕ) (len : Application → ℕ) (good : Option Application → List ℕ → Bool) → Option Application → Option ℕ → List ℕ → List FileEntry → Type 0
+abbrev pub PartIs : (fid : ℕ) (len : Application → ℕ) (good : Option Application → List ℕ → Bool) → Option Application
+    → Option ℕ → List ℕ → List FileEntry → Type 0
 PartIs fid len good app None bytes entries = values_of fid entries ≡ []
 PartIs fid len good None (Some place) bytes entries = ⊥
 PartIs fid len good (Some app) (Some place) bytes entries =
-    (values_of fid entries ≡ bytes_at bytes place (len app) ∷ []) × (good (Some app) (bytes_at bytes place (len app)) ≡ true) × (place + len app ≤ length bytes)
+    (values_of fid entries ≡ bytes_at bytes place (len app) ∷ [])
+    × (good (Some app) (bytes_at bytes place (len app)) ≡ true) × (place + len app ≤ length bytes)
 
 abbrev pub days_size : Application → ℕ
 days_size app = 4 + app.activity

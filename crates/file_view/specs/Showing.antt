@@ -40,7 +40,8 @@ pub record TellsHeads (bytes : List ℕ) (heads : List DayHead) : Type 0 where
 -- the entry that a change tells of a minute, if it tells one
 abbrev pub entry_of : ℕ → Option Change → List Entry
 entry_of minute None = []
-entry_of minute (Some c) = if c.absent then [] else record { minute = minute; slot = c.slot; crew = c.crew_or_known; act = c.act } ∷ []
+entry_of minute (Some c) = if c.absent then []
+    else record { minute = minute; slot = c.slot; crew = c.crew_or_known; act = c.act } ∷ []
 
 -- and where the minute is not behind the mark
 abbrev pub entry_up_to : (mark minute : ℕ) → Option Change → List Entry

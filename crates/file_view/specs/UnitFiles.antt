@@ -2,7 +2,8 @@
 use Rattle.std.specs.Prelude.{◌≡◌, ◌≢◌, ℕ, List, [], ◌∷◌, ◌++◌, length, map, All, flat_map}
 use Rattle.card_layout.specs.Fields.{joined}
 use Rattle.unit_model.specs.Days.{UnitMinute}
-use Rattle.message_model.specs.Messages.{Message, AnOverview, ADay, AnEventList, ASpeedList, ATechnical, DayMessage, message_bytes, IsMessage}
+use Rattle.message_model.specs.Messages.{Message, AnOverview, ADay, AnEventList, ASpeedList, ATechnical, DayMessage}
+use Rattle.message_model.specs.Messages.{message_bytes, IsMessage}
 use Rattle.message_model.specs.Showing.{time_in, told_day, day_minutes}
 use Rattle.file_view.specs.CardFiles.{newest}
 
@@ -10,7 +11,8 @@ use Rattle.file_view.specs.CardFiles.{newest}
 abbrev pub HasNoMessage : List ℕ → Type 0
 HasNoMessage bytes = (m : Message) (more : List ℕ) → IsMessage m → bytes ≢ message_bytes m ++ more
 
--- The bytes are no unit file, and this is the place of the first message that is not in its grammar, 0 where there is no byte.
+-- The bytes are no unit file, and this is the place of the first message that is not in its grammar, 0 where there is
+-- no byte.
 pub record IsBadUnitFile (place : ℕ) (bytes : List ℕ) : Type 0 where
   -- the messages before the place
   pub messages : List Message

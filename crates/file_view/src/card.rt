@@ -1,5 +1,6 @@
 //! The entries that a card file shows.
-ghost use Rattle.std.specs.Prelude.{◌≡◌, ◌+◌, ◌*◌, ◌≤◌, ◌<◌, ◌++◌, ◌^◌, ℕ, List, [], Some, None, length, map, true, IfOk, IfErr, OnOk, option_map};
+ghost use Rattle.std.specs.Prelude.{◌≡◌, ◌+◌, ◌*◌, ◌≤◌, ◌<◌, ◌++◌, ◌^◌, ℕ, List, [], Some, None, length, map, true};
+ghost use Rattle.std.specs.Prelude.{IfOk, IfErr, OnOk, option_map};
 ghost use Rattle.std.specs.List.{AllByRecursion};
 ghost use Rattle.activity_codec.specs.declared.entries.Entry.{Entry as CardEntry};
 ghost use Rattle.activity_codec.specs.Words.{change_of};
@@ -75,13 +76,13 @@ impl CardHistory {
     }
 }
 
-/// The entries of a card file: the minutes in which the card was in a slot, up to the end mark (Appendix 7, 3.4; Appendix 1,
-/// CardDriverActivity; the end mark: profile). Each is later than the one before it.
+/// The entries of a card file: the minutes in which the card was in a slot, up to the end mark (Appendix 7, 3.4;
+/// Appendix 1, CardDriverActivity; the end mark: profile). Each is later than the one before it.
 ///
 /// # Errors
 ///
-/// 1. `BadFile` exactly where the bytes are no card file, with the place of the first entry that is not in its grammar, or
-///    their length where a needed entry is missing.
+/// 1. `BadFile` exactly where the bytes are no card file, with the place of the first entry that is not in its grammar,
+///    or their length where a needed entry is missing.
 /// 2. `Memory`.
 pub fn read_card_file(alloc: Global, b: &[u8]) -> Result<CardHistory, ViewFault>
     requires { length b.now < 2 ^ 32 }
@@ -121,8 +122,8 @@ pub fn read_card(alloc: Global, b: &[u8]) -> Result<CardRead, ViewFault>
     })
 }
 
-/// The entries of the newest `n` days of a card file's string, also of days behind the end mark and of days without an entry,
-/// which show none; of all days where there are fewer. It refuses as `read_card_file` does.
+/// The entries of the newest `n` days of a card file's string, also of days behind the end mark and of days without an
+/// entry, which show none; of all days where there are fewer. It refuses as `read_card_file` does.
 pub fn last_days(alloc: Global, b: &[u8], n: u32) -> Result<CardHistory, ViewFault>
     requires { length b.now < 2 ^ 32 }
     ensures entries { IfOk result (λ h. ShowsCardFile (Some n) b.now h) }
@@ -173,7 +174,9 @@ fn read_days(alloc: Global, b: &[u8], last: Option<u32>) -> Result<CardHistory, 
 fn string_heads(alloc: Global, b: &[u8], parts: Parts) -> Result<Vec<DayHead>, AllocError>
     requires short { length b.now < 2 ^ 32 }
     requires parts { AreParts b.now parts }
-    ensures { IfOk result (λ heads. heads.items ≡ heads_of (string_alone parts.app) (days_part b.now parts) (days_of (string_alone parts.app) (days_part b.now parts))) }
+    ensures { IfOk result (λ heads. heads.items
+        ≡ heads_of (string_alone parts.app) (days_part b.now parts)
+        (days_of (string_alone parts.app) (days_part b.now parts))) }
 {
     let file = part(b, parts.days, days_len(parts.app));
     let Some(string) = load_days(file) else {
@@ -193,7 +196,8 @@ fn card_lines(
     requires short { length b.now < 2 ^ 32 }
     requires parts { AreParts b.now parts }
     ensures lines { IfOk result (λ lines. AreLines same_card lines.items) }
-    ensures entries { IfOk result (λ lines. map entry_told (minutes_on lines.items) ≡ entries_told last parts.app (days_part b.now parts) (vehicles_part b.now parts)) }
+    ensures entries { IfOk result (λ lines. map entry_told (minutes_on lines.items)
+        ≡ entries_told last parts.app (days_part b.now parts) (vehicles_part b.now parts)) }
     ensures rise { IfOk result (λ lines. Rise (map entry_told (minutes_on lines.items))) }
 {
     let file = part(b, parts.days, days_len(parts.app));
@@ -256,7 +260,8 @@ fn add_day(
     requires alone { string.now.shape.base ≡ 0 }
     requires short { length file.now < 2 ^ 32 }
     requires place { head.now.place < 4 + string.now.shape.size }
-    ensures { (d : Day) (before : List CardEntry) → IsDayAt string.now.shape file.now head.now d → lines.old.items ≡ lines_of same_card (map entry_shown before)
+    ensures { (d : Day) (before : List CardEntry) → IsDayAt string.now.shape file.now head.now d
+        → lines.old.items ≡ lines_of same_card (map entry_shown before)
         → OnOk result (lines.new.items ≡ lines_of same_card (map entry_shown (before ++ day_entries mark d))) }
 {
     let words = words_of(string, file, head);
@@ -275,7 +280,8 @@ fn add_told(
     change: Option<Change>,
 ) -> Result<(), AllocError>
     ensures { (before : List CardEntry) → lines.old.items ≡ lines_of same_card (map entry_shown before)
-        → OnOk result (lines.new.items ≡ lines_of same_card (map entry_shown (before ++ entry_up_to mark minute change))) }
+        → OnOk result (lines.new.items
+        ≡ lines_of same_card (map entry_shown (before ++ entry_up_to mark minute change))) }
 {
     let change = match change {
         Some(change) => change,

@@ -1,13 +1,14 @@
 //! Which change of a day decides each of its minutes.
-ghost use Rattle.std.specs.Prelude.{◌≡◌, ◌⊎◌, ◌<◌, ◌≤◌, ℕ, List, [], ◌∷◌, None, Some, option_map, length, slice_index_or};
+ghost use Rattle.std.specs.Prelude.{◌≡◌, ◌⊎◌, ◌<◌, ◌≤◌, ℕ, List, [], ◌∷◌, None, Some, option_map, length};
+ghost use Rattle.std.specs.Prelude.{slice_index_or};
 
 use activity_codec::{Change, decode_change};
 
 /// How many minutes a day has.
 pub const DAY: usize = 1440;
 
-/// The changes that decide the minutes of a day, as they come from the last one to the first: a minute is decided by the
-/// last change, in the order of the day's words, that is not later.
+/// The changes that decide the minutes of a day, as they come from the last one to the first: a minute is decided by
+/// the last change, in the order of the day's words, that is not later.
 #[derive(Drop)]
 pub struct DayWords {
     changes: [Option<Change>; 1440],
@@ -33,7 +34,8 @@ impl DayWords {
 
     /// One word more, which stands before those that came. One whose minute is no minute of a day is passed over.
     pub fn put_word(&mut self, word: u16)
-        ensures { (words : List ℕ) → word_minute word < 1440 → Decides self.old words → Decides self.new (word ∷ words) }
+        ensures { (words : List ℕ) → word_minute word < 1440 → Decides self.old words
+            → Decides self.new (word ∷ words) }
     {
         match decode_change(word) {
             Ok(change) => self.put(change),
@@ -43,7 +45,8 @@ impl DayWords {
 
     /// One change more, which stands before those that came.
     fn put(&mut self, change: Change)
-        ensures { (word : ℕ) (words : List ℕ) → change ≡ change_of word → Decides self.old words → Decides self.new (word ∷ words) }
+        ensures { (word : ℕ) (words : List ℕ) → change ≡ change_of word → Decides self.old words
+            → Decides self.new (word ∷ words) }
     {
         let minute = change.minute as usize;
         if minute >= self.from {
@@ -67,7 +70,8 @@ fn fill(changes: &mut [Option<Change>], from: usize, to: usize, change: Change)
     requires order { from ≤ to }
     requires inside { to ≤ length changes.old }
     ensures inside { (t : ℕ) → from ≤ t → t < to → slice_index_or changes.new t None ≡ Some change }
-    ensures outside { (t : ℕ) → (t < from) ⊎ (to ≤ t) → slice_index_or changes.new t None ≡ slice_index_or changes.old t None }
+    ensures outside { (t : ℕ) → (t < from) ⊎ (to ≤ t)
+        → slice_index_or changes.new t None ≡ slice_index_or changes.old t None }
 {
     for t in from..to {
         changes[t] = Some(change);

@@ -3,8 +3,8 @@ use std::alloc::AllocError;
 /// Why a file was not read.
 #[derive(Clone, Copy, Debug, PartialEq, Eq)]
 pub enum ViewFault {
-    /// The bytes are no file of this kind. The place of the first message or entry that is not in its grammar, in bytes from
-    /// the front, or the file's length where a needed entry is missing.
+    /// The bytes are no file of this kind. The place of the first message or entry that is not in its grammar, in bytes
+    /// from the front, or the file's length where a needed entry is missing.
     BadFile(u32),
     /// Out of memory.
     Memory,

@@ -3,7 +3,8 @@ ghost use Rattle.std.specs.Prelude.{◌≡◌, ◌+◌, ◌<◌, ◌≤◌, ◌+
 ghost use Rattle.message_model.specs.Messages.{Message as FileMessage};
 ghost use Rattle.unit_messages.specs.Reading.{BeginsWith, request_of};
 ghost use Rattle.file_view.specs.UnitFiles.{HasNoMessage};
-ghost use Rattle.file_view.specs.Fronts.{Leads, IsFront, IsBadFront, begins_message, registration_in, registration_bytes, first_registration};
+ghost use Rattle.file_view.specs.Fronts.{Leads, IsFront, IsBadFront, begins_message, registration_in};
+ghost use Rattle.file_view.specs.Fronts.{registration_bytes, first_registration};
 
 use tacho_types::Registration;
 use unit_messages::{Request, overview, read_message};
@@ -59,7 +60,8 @@ fn message_behind(b: &[u8], front: FrontRead) -> Result<FrontRead, u32>
     requires inside { front.end ≤ length b.now }
     requires short { length b.now < 2 ^ 32 }
     ensures inside { IfOk result (λ more. (front.end < more.end) × (more.end ≤ length b.now)) }
-    ensures more { (before : List FileMessage) → Leads b.now before front → IfOk result (λ more. (m : FileMessage) × Leads b.now (before ++ m ∷ []) more) }
+    ensures more { (before : List FileMessage) → Leads b.now before front
+        → IfOk result (λ more. (m : FileMessage) × Leads b.now (before ++ m ∷ []) more) }
     ensures bad { IfErr result (λ place. (place ≡ front.end) × HasNoMessage (drop front.end b.now)) }
 {
     let rest = &b[front.end..];
@@ -80,7 +82,8 @@ fn registration_behind(
     request: Request,
 ) -> Option<Registration>
     requires { (m : FileMessage) × BeginsWith m rest.now × (request ≡ request_of m) }
-    ensures { (m : FileMessage) → BeginsWith m rest.now → request ≡ request_of m → registration_bytes result ≡ first_registration (registration_bytes known) (registration_in (m ∷ [])) }
+    ensures { (m : FileMessage) → BeginsWith m rest.now → request ≡ request_of m
+        → registration_bytes result ≡ first_registration (registration_bytes known) (registration_in (m ∷ [])) }
 {
     if known.is_some() {
         return known;

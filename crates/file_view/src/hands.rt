@@ -22,8 +22,9 @@ use hand_model::told_by_hand;
 use std::alloc::{AllocError, Global};
 use tacho_types::DAYS;
 
-/// The entries by hand of a card file, in the order of its words, up to the end mark: what its driver has told of the time without the
-/// card (Annex IB, section III, manual entries; Appendix 1, ActivityChangeInfo; the end mark: profile).
+/// The entries by hand of a card file, in the order of its words, up to the end mark: what its driver has told of the
+/// time without the card (Annex IB, section III, manual entries; Appendix 1, ActivityChangeInfo; the end mark:
+/// profile).
 ///
 /// # Errors
 ///
@@ -46,7 +47,8 @@ pub fn by_hand(alloc: Global, b: &[u8]) -> Result<Vec<Manual>, ViewFault>
 fn hands_in(alloc: Global, b: &[u8], parts: Parts) -> Result<Vec<Manual>, AllocError>
     requires short { length b.now < 2 ^ 32 }
     requires parts { AreParts b.now parts }
-    ensures told { IfOk result (λ list. list.items ≡ hands_told parts.app (days_part b.now parts) (vehicles_part b.now parts)) }
+    ensures told { IfOk result (λ list. list.items
+        ≡ hands_told parts.app (days_part b.now parts) (vehicles_part b.now parts)) }
     ensures low { IfOk result (λ list. AllByRecursion (λ e. day_of_minute e.minute < DAYS) list.items) }
 {
     let file = part(b, parts.days, days_len(parts.app));
@@ -74,7 +76,8 @@ fn add_words(
     requires alone { string.now.shape.base ≡ 0 }
     requires short { length file.now < 2 ^ 32 }
     requires place { head.now.place < 4 + string.now.shape.size }
-    ensures { (d : Day) → IsDayAt string.now.shape file.now head.now d → OnOk result (list.new.items ≡ list.old.items ++ words_by_hand mark d.date d.words) }
+    ensures { (d : Day) → IsDayAt string.now.shape file.now head.now d
+        → OnOk result (list.new.items ≡ list.old.items ++ words_by_hand mark d.date d.words) }
 {
     for i in 0..head.words {
         add_word(list, mark, head.date.0, word(string, file, head, i))?;

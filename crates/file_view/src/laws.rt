@@ -13,5 +13,6 @@ pub fn a_card_file_does_not_fail()
 
 /// A unit file fails at no place.
 pub fn a_unit_file_does_not_fail()
-    ensures { (messages : List Message) (bytes : List ℕ) (place : ℕ) → IsUnitFile messages bytes → IsBadUnitFile place bytes → ⊥ }
+    ensures { (messages : List Message) (bytes : List ℕ) (place : ℕ) → IsUnitFile messages bytes
+        → IsBadUnitFile place bytes → ⊥ }
 {}

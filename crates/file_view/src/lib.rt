@@ -1,5 +1,5 @@
-//! What a unit file and a card file show (Annex IB, Appendix 7): the unit's minutes and the card's entries, and their view
-//! text (profile). A file outside its grammar is refused with the place of what is wrong.
+//! What a unit file and a card file show (Annex IB, Appendix 7): the unit's minutes and the card's entries, and their
+//! view text (profile). A file outside its grammar is refused with the place of what is wrong.
 #![tactic(auto)]
 
 mod card;

@@ -1,5 +1,6 @@
 //! The files of a card file that its view needs.
-ghost use Rattle.std.specs.Prelude.{◌≡◌, ◌+◌, ◌≤◌, ◌-◌, ◌%◌, true, false, ◌<◌, ◌^◌, ◌++◌, ◌∷◌, ◌&&◌, not, is_some, List, [], Some, None, length, IfOk, IfErr, IfSome, IfNone};
+ghost use Rattle.std.specs.Prelude.{◌≡◌, ◌+◌, ◌≤◌, ◌-◌, ◌%◌, true, false, ◌<◌, ◌^◌, ◌++◌, ◌∷◌, ◌&&◌, not, is_some};
+ghost use Rattle.std.specs.Prelude.{List, [], Some, None, length, IfOk, IfErr, IfSome, IfNone};
 ghost use Rattle.std.specs.Bool.{OnTrue};
 ghost use Rattle.std.specs.Option.{ForSome};
 ghost use Rattle.card_layout.specs.Application.{IsApplication, application_of};
@@ -10,7 +11,8 @@ ghost use Rattle.card_model.specs.Walk.{days_of};
 ghost use Rattle.card_days.specs.Held.{Knows};
 ghost use Rattle.card_image.specs.CardFile.{FileEntry};
 ghost use Rattle.file_view.specs.CardFiles.{may_follow, lacks, are_sizes, are_days, are_vehicles, IsBadCardFile};
-ghost use Rattle.file_view.specs.Reading.{FoundInFile, told_at, value_at, days_size, vehicles_size, AreParts, ArePartsOf};
+ghost use Rattle.file_view.specs.Reading.{FoundInFile, told_at, value_at, days_size, vehicles_size, AreParts};
+ghost use Rattle.file_view.specs.Reading.{ArePartsOf};
 
 use crate::entry::{EntryAt, part};
 use byteorder::{BigEndian, ByteOrder};
@@ -22,7 +24,8 @@ use tach_media::SliceMedium;
 /// How many bytes Application_Identification has.
 const SIZES: usize = 10;
 
-/// What a view needs of a card file: the card's sizes, and where the string of days and the vehicle entries begin in it.
+/// What a view needs of a card file: the card's sizes, and where the string of days and the vehicle entries begin in
+/// it.
 #[derive(Clone, Copy, Debug, PartialEq, Eq)]
 pub struct Parts {
     pub app: Application,
@@ -74,8 +77,10 @@ impl Found {
         requires inside { entry.place + entry.len ≤ length b.now }
         requires short { length b.now < 2 ^ 32 }
         ensures sound { ForSome self.new.app IsApplication }
-        ensures follows { (before : List FileEntry) → FoundInFile b.now self.old before → result ≡ may_follow before (told_at b.now entry) }
-        ensures taken { (before : List FileEntry) → FoundInFile b.now self.old before → OnTrue result (FoundInFile b.now self.new (before ++ told_at b.now entry ∷ [])) }
+        ensures follows { (before : List FileEntry) → FoundInFile b.now self.old before
+            → result ≡ may_follow before (told_at b.now entry) }
+        ensures taken { (before : List FileEntry) → FoundInFile b.now self.old before
+            → OnTrue result (FoundInFile b.now self.new (before ++ told_at b.now entry ∷ [])) }
     {
         if entry.kind != 0 {
             return true;
@@ -156,7 +161,8 @@ impl Found {
     /// The parts, where all were found.
     fn whole(&self) -> Option<Parts>
         ensures some { IfSome result (ArePartsOf self.now) }
-        ensures none { IfNone result ((is_some self.now.app && (is_some self.now.days && is_some self.now.vehicles)) ≡ false) }
+        ensures none { IfNone result ((is_some self.now.app && (is_some self.now.days && is_some self.now.vehicles))
+            ≡ false) }
     {
         let app = self.app?;
         let days = self.days?;
@@ -201,8 +207,10 @@ pub fn load_days(value: &[u8]) -> Option<Days>
     requires low { 4 + STRING_LEAST ≤ length value.now }
     requires high { length value.now ≤ 4 + STRING_MOST }
     ensures shape { IfSome result (λ days. IsStringShape days.shape) }
-    ensures some { IfSome result (λ days. (days.shape ≡ record { base = 0; size = length value.now - 4 }) × Knows days value.now (days_of (record { base = 0; size = length value.now - 4 }) value.now)) }
-    ensures none { IfNone result (is_some (first_bad (record { base = 0; size = length value.now - 4 }) value.now) ≡ true) }
+    ensures some { IfSome result (λ days. (days.shape ≡ record { base = 0; size = length value.now - 4 })
+        × Knows days value.now (days_of (record { base = 0; size = length value.now - 4 }) value.now)) }
+    ensures none { IfNone result (is_some (first_bad (record { base = 0; size = length value.now - 4 }) value.now)
+        ≡ true) }
 {
     let len = value.len() as u32;
     let mut medium = SliceMedium::new(value);

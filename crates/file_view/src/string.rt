@@ -1,5 +1,6 @@
 //! The days of a card's string, which stands alone in a slice.
-ghost use Rattle.std.specs.Prelude.{◌≡◌, ◌+◌, ◌*◌, ◌≤◌, ◌<◌, ◌^◌, ℕ, List, [], Some, length, IfOk, IfSome, slice_get, slice_index};
+ghost use Rattle.std.specs.Prelude.{◌≡◌, ◌+◌, ◌*◌, ◌≤◌, ◌<◌, ◌^◌, ℕ, List, [], Some, length, IfOk, IfSome, slice_get};
+ghost use Rattle.std.specs.Prelude.{slice_index};
 ghost use Rattle.card_model.specs.Days.{Day};
 ghost use Rattle.card_model.specs.Image.{HoldsDays, IsAt, IsStringShape};
 ghost use Rattle.card_model.specs.Walk.{days_of};
@@ -19,7 +20,8 @@ pub fn heads(alloc: Global, string: &Days, file: &[u8]) -> Result<Vec<DayHead>, 
     requires short { length file.now < 2 ^ 32 }
     requires shape { IsStringShape string.now.shape }
     requires holds { HoldsDays string.now.shape file.now (days_of string.now.shape file.now) }
-    ensures { IfOk result (λ heads. heads.items ≡ heads_of string.now.shape file.now (days_of string.now.shape file.now)) }
+    ensures { IfOk result (λ heads. heads.items
+        ≡ heads_of string.now.shape file.now (days_of string.now.shape file.now)) }
 {
     let mut heads = Vec::new(alloc);
     let mut next = first_head(string, file);
@@ -35,7 +37,8 @@ fn first_head(string: &Days, file: &[u8]) -> Option<DayHead>
     requires fits { 4 + string.now.shape.size ≤ length file.now }
     requires alone { string.now.shape.base ≡ 0 }
     requires short { length file.now < 2 ^ 32 }
-    ensures first { (days : List Day) → HoldsDays string.now.shape file.now days → result ≡ slice_get (heads_of string.now.shape file.now days) 0 }
+    ensures first { (days : List Day) → HoldsDays string.now.shape file.now days
+        → result ≡ slice_get (heads_of string.now.shape file.now days) 0 }
     ensures place { IfSome result (λ h. h.place < string.now.shape.size) }
 {
     let mut medium = SliceMedium::new(file);
@@ -68,7 +71,8 @@ pub fn word(string: &Days, file: &[u8], head: &DayHead, index: u16) -> u16
     requires short { length file.now < 2 ^ 32 }
     requires place { head.now.place < 4 + string.now.shape.size }
     requires there { index < head.now.words }
-    ensures { (d : Day) → IsAt string.now.shape file.now head.now.place d → index < length d.words → result ≡ slice_index d.words index }
+    ensures { (d : Day) → IsAt string.now.shape file.now head.now.place d → index < length d.words
+        → result ≡ slice_index d.words index }
 {
     let mut medium = SliceMedium::new(file);
     match string.word(&mut medium, head, index) {

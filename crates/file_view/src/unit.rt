@@ -1,7 +1,9 @@
 //! The minutes that a unit file shows.
-ghost use Rattle.std.specs.Prelude.{◌≡◌, ◌+◌, ◌*◌, ◌≤◌, ◌<◌, ◌++◌, ◌∷◌, ◌^◌, ℕ, List, [], Some, None, length, map, drop, if◌then◌else◌, ◌==◌, ◌/◌, ◌%◌, IfOk, IfErr, OnOk, option_map};
+ghost use Rattle.std.specs.Prelude.{◌≡◌, ◌+◌, ◌*◌, ◌≤◌, ◌<◌, ◌++◌, ◌∷◌, ◌^◌, ℕ, List, [], Some, None, length, map};
+ghost use Rattle.std.specs.Prelude.{drop, if◌then◌else◌, ◌==◌, ◌/◌, ◌%◌, IfOk, IfErr, OnOk, option_map};
 ghost use Rattle.activity_codec.specs.Words.{word_minute};
-ghost use Rattle.message_model.specs.Messages.{Message as FileMessage, AnOverview, ADay, Overview as FileOverview, DayMessage, IsUnitFile};
+ghost use Rattle.message_model.specs.Messages.{Message as FileMessage, AnOverview, ADay, Overview as FileOverview};
+ghost use Rattle.message_model.specs.Messages.{DayMessage, IsUnitFile};
 ghost use Rattle.message_model.specs.Showing.{day_minutes, told_day};
 ghost use Rattle.unit_model.specs.Days.{UnitMinute};
 ghost use Rattle.unit_messages.specs.Reading.{BeginsWith, request_of};
@@ -11,7 +13,8 @@ ghost use Rattle.file_view.specs.Deciding.{Decides};
 ghost use Rattle.file_view.specs.Faults.{IfBadFile};
 ghost use Rattle.file_view.specs.Histories.{AreLines, minutes_on, minute_told, minute_shown};
 ghost use Rattle.file_view.specs.UnitFiles.{IsBadUnitFile, HasNoMessage};
-ghost use Rattle.file_view.specs.UnitShowing.{ShowsUnitFile, AreTold, IsTaken, minutes_told, IsStoredAt, SlotsDecide, slot_words, state_by, crew_by, minutes_of_day, first_time};
+ghost use Rattle.file_view.specs.UnitShowing.{ShowsUnitFile, AreTold, IsTaken, minutes_told, IsStoredAt, SlotsDecide};
+ghost use Rattle.file_view.specs.UnitShowing.{slot_words, state_by, crew_by, minutes_of_day, first_time};
 
 use crate::ViewFault;
 use crate::card::first_of;
@@ -61,13 +64,13 @@ impl UnitHistory {
     }
 }
 
-/// The minutes of a unit file: for each message of a day, in order, all minutes of its day, or those up to the minute of the
-/// first overview's time where that lies in the day (Appendix 7, 2.2.6; the cut: profile).
+/// The minutes of a unit file: for each message of a day, in order, all minutes of its day, or those up to the minute
+/// of the first overview's time where that lies in the day (Appendix 7, 2.2.6; the cut: profile).
 ///
 /// # Errors
 ///
-/// 1. `BadFile` exactly where the bytes are no unit file, with the place of the first message that is not in its grammar, 0
-///    where there is no byte.
+/// 1. `BadFile` exactly where the bytes are no unit file, with the place of the first message that is not in its
+///    grammar, 0 where there is no byte.
 /// 2. `Memory`.
 pub fn read_download(alloc: Global, b: &[u8]) -> Result<UnitHistory, ViewFault>
     requires { length b.now < 2 ^ 32 }
@@ -114,7 +117,8 @@ fn unit_lines(
 ) -> Result<Vec<Line<UnitShown>>, AllocError>
     requires { (messages : List FileMessage) × AreTold b.now messages told.now }
     ensures lines { IfOk result (λ lines. AreLines same_unit lines.items) }
-    ensures minutes { (messages : List FileMessage) → AreTold b.now messages told.now → IfOk result (λ lines. map minute_told (minutes_on lines.items) ≡ minutes_told last messages) }
+    ensures minutes { (messages : List FileMessage) → AreTold b.now messages told.now
+        → IfOk result (λ lines. map minute_told (minutes_on lines.items) ≡ minutes_told last messages) }
 {
     let mut lines = Vec::new(alloc);
     let time = told.time;
@@ -145,7 +149,8 @@ impl Told {
     /// Reads a unit file, one message after another.
     fn read(alloc: Global, b: &[u8]) -> Result<Told, ViewFault>
         requires { length b.now < 2 ^ 32 }
-        ensures told { IfOk result (λ told. (messages : List FileMessage) × IsUnitFile messages b.now × AreTold b.now messages told) }
+        ensures told { IfOk result (λ told. (messages : List FileMessage) × IsUnitFile messages b.now
+            × AreTold b.now messages told) }
         ensures bad { IfErr result (λ fault. IfBadFile fault (λ place. IsBadUnitFile place b.now)) }
     {
         let mut told = Told {
@@ -169,7 +174,8 @@ impl Told {
     fn take_at(&mut self, b: &[u8], place: usize) -> Result<usize, ViewFault>
         requires inside { place ≤ length b.now }
         requires short { length b.now < 2 ^ 32 }
-        ensures taken { (before : List FileMessage) → AreTold b.now before self.old → IfOk result (λ end. IsTaken b.now before place end self.new) }
+        ensures taken { (before : List FileMessage) → AreTold b.now before self.old
+            → IfOk result (λ end. IsTaken b.now before place end self.new) }
         ensures bad { IfErr result (λ fault. IfBadFile fault (λ at. (at ≡ place) × HasNoMessage (drop place b.now))) }
     {
         let read = match read_message(&b[place..]) {
@@ -184,7 +190,8 @@ impl Told {
     fn take(&mut self, b: &[u8], place: usize, request: Request) -> Result<(), AllocError>
         requires inside { place ≤ length b.now }
         requires begins { (m : FileMessage) × BeginsWith m (drop place b.now) × (request ≡ request_of m) }
-        ensures { (m : FileMessage) (before : List FileMessage) → BeginsWith m (drop place b.now) → request ≡ request_of m → AreTold b.now before self.old
+        ensures { (m : FileMessage) (before : List FileMessage) → BeginsWith m (drop place b.now)
+            → request ≡ request_of m → AreTold b.now before self.old
             → OnOk result (AreTold b.now (before ++ m ∷ []) self.new) }
     {
         match request {
@@ -203,7 +210,8 @@ impl Told {
     fn take_time(&mut self, rest: &[u8])
         requires { (m : FileOverview) × BeginsWith (AnOverview m) rest.now }
         ensures days { self.new.days ≡ self.old.days }
-        ensures time { (m : FileOverview) → BeginsWith (AnOverview m) rest.now → self.new.time ≡ first_time self.old.time (Some m.now) }
+        ensures time { (m : FileOverview) → BeginsWith (AnOverview m) rest.now
+            → self.new.time ≡ first_time self.old.time (Some m.now) }
     {
         if self.time.is_some() {
             return;
@@ -218,7 +226,8 @@ impl Told {
         requires begins { (m : DayMessage) × BeginsWith (ADay m) (drop place b.now) }
         ensures time { self.new.time ≡ self.old.time }
         ensures day { (m : DayMessage) → BeginsWith (ADay m) (drop place b.now) → date ≡ m.date
-            → OnOk result ((day : DayAt) × IsStoredAt b.now day m × (self.new.days.items ≡ self.old.days.items ++ day ∷ [])) }
+            → OnOk result ((day : DayAt) × IsStoredAt b.now day m
+            × (self.new.days.items ≡ self.old.days.items ++ day ∷ [])) }
     {
         let found = day_words(&b[place..]);
         let day = DayAt {
@@ -239,8 +248,10 @@ fn add_day(
     time: Option<u32>,
 ) -> Result<(), AllocError>
     requires { (m : DayMessage) × IsStoredAt b.now day m }
-    ensures { (m : DayMessage) (before : List UnitMinute) → IsStoredAt b.now day m → lines.old.items ≡ lines_of same_unit (map minute_shown before)
-        → OnOk result (lines.new.items ≡ lines_of same_unit (map minute_shown (before ++ day_minutes time (told_day m)))) }
+    ensures { (m : DayMessage) (before : List UnitMinute) → IsStoredAt b.now day m
+        → lines.old.items ≡ lines_of same_unit (map minute_shown before)
+        → OnOk result (lines.new.items
+        ≡ lines_of same_unit (map minute_shown (before ++ day_minutes time (told_day m)))) }
 {
     let words = words_of(b, day);
     let first = day.date / 60;
@@ -289,7 +300,8 @@ impl SlotWords {
 
     /// One word more, which stands before those that came.
     fn put_word(&mut self, word: u16)
-        ensures { (words : List ℕ) → word_minute word < 1440 → SlotsDecide self.old words → SlotsDecide self.new (word ∷ words) }
+        ensures { (words : List ℕ) → word_minute word < 1440 → SlotsDecide self.old words
+            → SlotsDecide self.new (word ∷ words) }
     {
         if word < CODRIVER {
             self.driver.put_word(word);
@@ -316,7 +328,10 @@ fn words_of(b: &[u8], day: DayAt) -> SlotWords
 
 /// What is shown of a minute by the changes that decide it; CREW is that of the driver's.
 fn minute_of(minute: u32, driver: Option<Change>, codriver: Option<Change>) -> Viewed<UnitShown>
-    ensures { result ≡ record { minute = minute; shown = record { driver = state_by driver; codriver = state_by codriver; crew = crew_by driver } } }
+    ensures { result ≡ record {
+      minute = minute;
+      shown = record { driver = state_by driver; codriver = state_by codriver; crew = crew_by driver };
+    } }
 {
     let crew = match driver {
         Some(change) => change.crew_or_known,

@@ -36,7 +36,8 @@ pub fn vehicles_in(
 /// The index behind the pointer's, round the end of so many.
 fn next_of(value: &[u8], count: usize) -> usize
     requires pointer { 2 ≤ length value.now }
-    ensures { (app : Sizes) → count ≡ app.vehicles → are_vehicles (Some app) value.now ≡ true → result ≡ next (vehicles_alone app) (pointer (vehicles_alone app) value.now) × (result ≤ count) }
+    ensures { (app : Sizes) → count ≡ app.vehicles → are_vehicles (Some app) value.now ≡ true
+        → result ≡ next (vehicles_alone app) (pointer (vehicles_alone app) value.now) × (result ≤ count) }
 {
     let pointer = BigEndian::read_u16(part(value, 0, 2)) as usize;
     if pointer + 1 == count { 0 } else { pointer + 1 }
@@ -50,7 +51,8 @@ fn add_vehicles(
     to: usize,
 ) -> Result<(), AllocError>
     requires { 2 + 31 * to ≤ length value.now }
-    ensures { (app : Sizes) → OnOk result (all.new.items ≡ all.old.items ++ map (vehicle_in app value.now) (filter (is_there (vehicles_alone app) value.now) (range_with_len from (to - from)))) }
+    ensures { (app : Sizes) → OnOk result (all.new.items ≡ all.old.items ++ map (vehicle_in app value.now)
+        (filter (is_there (vehicles_alone app) value.now) (range_with_len from (to - from)))) }
 {
     for i in from..to {
         let place = 2 + Vehicle::SIZE * i;

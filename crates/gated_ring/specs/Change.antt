@@ -1,11 +1,15 @@
 -- What the calls on a ring leave of it, after them and at each moment.
-use Rattle.std.specs.Prelude.{◌≡◌, ◌≢◌, ◌⊎◌, ℕ, ◌+◌, ◌-◌, ◌<◌, List, [], ◌∷◌, ◌++◌, map, replicate, if◌then◌else◌, ◌==◌, true, false}
+use Rattle.std.specs.Prelude.{◌≡◌, ◌≢◌, ◌⊎◌, ℕ, ◌+◌, ◌-◌, ◌<◌, List, [], ◌∷◌, ◌++◌, map, replicate, if◌then◌else◌, ◌==◌}
+use Rattle.std.specs.Prelude.{true, false}
 use Rattle.tach_media.specs.Medium.{put, SameOutside}
-use Rattle.gated_ring.specs.Ring.{Shape, size_of, place_of, gate_of, pointer, PointsInside, is_there, entry_at, next, indices, ring_list, indices_with, indices_without, taken, staying, with_head, IsDense, newest_of}
+use Rattle.gated_ring.specs.Ring.{Shape, size_of, place_of, gate_of, pointer, PointsInside, is_there, entry_at, next}
+use Rattle.gated_ring.specs.Ring.{indices, ring_list, indices_with, indices_without, taken, staying, with_head, IsDense}
+use Rattle.gated_ring.specs.Ring.{newest_of}
 
 -- the entries of other indices are the same in both images
 abbrev pub SameOthers : Shape → ℕ → List ℕ → List ℕ → Type 0
-SameOthers r i x c = (j : ℕ) → j < r.count → j ≢ i → (entry_at r c j ≡ entry_at r x j) × (is_there r c j ≡ is_there r x j)
+SameOthers r i x c = (j : ℕ) → j < r.count → j ≢ i
+    → (entry_at r c j ≡ entry_at r x j) × (is_there r c j ≡ is_there r x j)
 
 -- the list without its first entry where that stood at the index that is taken; no entry is there
 pub record IsShortened (r : Shape) (x c : List ℕ) : Type 0 where
@@ -34,8 +38,8 @@ shut_writes r x i = if is_there r x i then 1 else 0
 abbrev pub pointer_writes : (last i : ℕ) → ℕ
 pointer_writes last i = if last == i then 0 else 1
 
--- How many writes add an entry whose head is written at once: its gate is shut, the bytes before the gate and behind it, the
--- pointer, and the gate is opened.
+-- How many writes add an entry whose head is written at once: its gate is shut, the bytes before the gate and behind
+-- it, the pointer, and the gate is opened.
 abbrev pub adding_writes : Shape → List ℕ → ℕ
 adding_writes r x = shut_writes r x (taken r x) + (3 + pointer_writes (pointer r x) (taken r x))
 
@@ -72,7 +76,8 @@ pub record IsReplaced (r : Shape) (i : ℕ) (head x y : List ℕ) : Type 0 where
   pub entry : entry_at r y i ≡ with_head r x i head
   pub pointer_is : pointer r y ≡ pointer r x
   pub indices_are : PointsInside r x → indices r y ≡ indices_with r x i
-  pub list_is : PointsInside r x → ring_list r y ≡ map (λ j. if j == i then with_head r x i head else entry_at r x j) (indices_with r x i)
+  pub list_is : PointsInside r x
+      → ring_list r y ≡ map (λ j. if j == i then with_head r x i head else entry_at r x j) (indices_with r x i)
 
 -- one entry is not there
 pub record IsAbsent (r : Shape) (i : ℕ) (x c : List ℕ) : Type 0 where
@@ -103,7 +108,8 @@ pub record IsSet (r : Shape) (i offset : ℕ) (bytes x y : List ℕ) : Type 0 wh
   pub entry : entry_at r y i ≡ put offset bytes (entry_at r x i)
   pub pointer_is : pointer r y ≡ pointer r x
   pub indices_are : PointsInside r x → indices r y ≡ indices r x
-  pub list_is : PointsInside r x → ring_list r y ≡ map (λ j. if j == i then put offset bytes (entry_at r x i) else entry_at r x j) (indices r x)
+  pub list_is : PointsInside r x
+      → ring_list r y ≡ map (λ j. if j == i then put offset bytes (entry_at r x i) else entry_at r x j) (indices r x)
 
 -- a write of a few bytes is whole or absent
 abbrev pub OrUnwritten : (List ℕ → List ℕ → Type 0) → List ℕ → List ℕ → Type 0

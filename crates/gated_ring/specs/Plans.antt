@@ -1,5 +1,6 @@
 -- The writes of the calls on a ring, in their order.
-use Rattle.std.specs.Prelude.{ℕ, ◌+◌, ◌-◌, Bool, List, [], ◌∷◌, ◌++◌, length, take, drop, replicate, if◌then◌else◌, ◌==◌}
+use Rattle.std.specs.Prelude.{ℕ, ◌+◌, ◌-◌, Bool, List, [], ◌∷◌, ◌++◌, length, take, drop, replicate, if◌then◌else◌}
+use Rattle.std.specs.Prelude.{◌==◌}
 use Rattle.std.specs.Int.{to_be_bytes, w32}
 use Rattle.tach_media.specs.Plan.{Piece, piece}
 use Rattle.gated_ring.specs.declared.room.Room.{Room}
@@ -15,7 +16,8 @@ shut_pieces r i used = if used then piece (gate_of r i) (replicate 4 0) ∷ [] e
 
 -- its bytes before the gate, and those behind it
 abbrev pub body_pieces : Shape → (i : ℕ) → (head : List ℕ) → List Piece
-body_pieces r i head = some_piece (place_of r i) (take r.gate head) ++ some_piece (gate_of r i + 4) (drop (r.gate + 4) head)
+body_pieces r i head = some_piece (place_of r i) (take r.gate head)
+    ++ some_piece (gate_of r i + 4) (drop (r.gate + 4) head)
 
 -- the pointer, where it differs
 abbrev pub pointer_bytes : Shape → ℕ → List ℕ
@@ -31,7 +33,8 @@ gate_pieces r i head = piece (gate_of r i) (gate_bytes r head) ∷ []
 -- a new entry: its gate is shut, its bytes beside the gate, the pointer, its gate
 abbrev pub placing_pieces : Shape → Room → (head : List ℕ) → List Piece
 placing_pieces r room head =
-    shut_pieces r room.index room.used ++ (body_pieces r room.index head ++ (pointer_pieces r room.last room.index ++ gate_pieces r room.index head))
+    shut_pieces r room.index room.used
+    ++ (body_pieces r room.index head ++ (pointer_pieces r room.last room.index ++ gate_pieces r room.index head))
 
 -- where an image has room for it
 abbrev pub room_in : Shape → List ℕ → Room

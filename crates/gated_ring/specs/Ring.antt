@@ -1,10 +1,13 @@
--- A ring of entries inside an image: a pointer, and behind it places of one width. An entry is there where its gate is not 0.
-use Rattle.std.specs.Prelude.{◌≡◌, ◌⊎◌, ℕ, ◌+◌, ◌-◌, ◌*◌, ◌^◌, ◌<◌, ◌≤◌, Bool, not, ◌||◌, List, [], ◌∷◌, ◌++◌, length, drop, map, filter, if◌then◌else◌, ◌==◌, true, Option, Some, None}
+-- A ring of entries inside an image: a pointer, and behind it places of one width. An entry is there where its gate is
+-- not 0.
+use Rattle.std.specs.Prelude.{◌≡◌, ◌⊎◌, ℕ, ◌+◌, ◌-◌, ◌*◌, ◌^◌, ◌<◌, ◌≤◌, Bool, not, ◌||◌, List, [], ◌∷◌, ◌++◌, length}
+use Rattle.std.specs.Prelude.{drop, map, filter, if◌then◌else◌, ◌==◌, true, Option, Some, None}
 use Rattle.std.specs.List.{range_with_len}
 pub use Rattle.card_layout.specs.Images.{number_at}
 use Rattle.tach_media.specs.Medium.{State, bytes_at}
 
--- where a ring begins, how wide an entry is, how many places there are, how wide the pointer is, and where the gate stands in an entry
+-- where a ring begins, how wide an entry is, how many places there are, how wide the pointer is, and where the gate
+-- stands in an entry
 pub record Shape : Type 0 where
   pub base : ℕ
   pub width : ℕ
@@ -114,7 +117,8 @@ gate_number r head = number_at head r.gate 4
 abbrev pub up_to : Shape → ℕ → ℕ → List ℕ
 up_to r i n = drop (r.count - n) (order r (next r i))
 
--- the entries that are there stand one after the other, round the end, and the last of them stands here, at the pointer's index or at the one before it
+-- the entries that are there stand one after the other, round the end, and the last of them stands here, at the
+-- pointer's index or at the one before it
 pub record IsRun (r : Shape) (x : List ℕ) (last : ℕ) : Type 0 where
   pub below : last < r.count
   pub at_pointer : (last ≡ pointer r x) ⊎ (next r last ≡ pointer r x)

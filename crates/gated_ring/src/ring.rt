@@ -1,10 +1,15 @@
-ghost use Rattle.std.specs.Prelude.{◌≡◌, ◌≢◌, ◌≤◌, ◌<◌, ◌+◌, ◌^◌, min, length, take, drop, IfOk, OnOk, IfSome, is_err, true, IsTrue, IsFalse, IfErr, IsOk, ◌⊎◌, ◌*◌, ◌-◌};
+ghost use Rattle.std.specs.Prelude.{◌≡◌, ◌≢◌, ◌≤◌, ◌<◌, ◌+◌, ◌^◌, min, length, take, drop, IfOk, OnOk, IfSome, is_err};
+ghost use Rattle.std.specs.Prelude.{true, IsTrue, IsFalse, IfErr, IsOk, ◌⊎◌, ◌*◌, ◌-◌};
 ghost use Rattle.std.specs.List.{range_with_len};
-ghost use Rattle.tach_media.specs.Medium.{bytes_at, LeavesOnly, Reads, HasCause, LiesInside, IsSettled, Rose, last_count};
+ghost use Rattle.tach_media.specs.Medium.{bytes_at, LeavesOnly, Reads, HasCause, LiesInside, IsSettled, Rose};
+ghost use Rattle.tach_media.specs.Medium.{last_count};
 ghost use Rattle.tach_media.specs.Plan.{PutsAll, PutsBy, more};
-ghost use Rattle.gated_ring.specs.Ring.{IsShape, FitsIn, size_of, is_pointer_width, place_of, gate_of, gate_bytes, gate_number, is_there, IsNewest, pointer, PointsInside, number_at, next, taken};
-ghost use Rattle.gated_ring.specs.Change.{adding_writes, replacing_writes, IsAdding, IsAdded, IsReplaced, IsReplacingEntry, IsClosed, IsSet, OrUnwritten};
-ghost use Rattle.gated_ring.specs.Plans.{some_piece, shut_pieces, body_pieces, pointer_pieces, gate_pieces, placing_pieces, adding_pieces, exchanging_pieces, replacing_pieces};
+ghost use Rattle.gated_ring.specs.Ring.{IsShape, FitsIn, size_of, is_pointer_width, place_of, gate_of, gate_bytes};
+ghost use Rattle.gated_ring.specs.Ring.{gate_number, is_there, IsNewest, pointer, PointsInside, number_at, next, taken};
+ghost use Rattle.gated_ring.specs.Change.{adding_writes, replacing_writes, IsAdding, IsAdded, IsReplaced};
+ghost use Rattle.gated_ring.specs.Change.{IsReplacingEntry, IsClosed, IsSet, OrUnwritten};
+ghost use Rattle.gated_ring.specs.Plans.{some_piece, shut_pieces, body_pieces, pointer_pieces, gate_pieces};
+ghost use Rattle.gated_ring.specs.Plans.{placing_pieces, adding_pieces, exchanging_pieces, replacing_pieces};
 ghost use Rattle.gated_ring.specs.Searching.{IsNewestOf};
 
 use crate::{RingFault, Room};
@@ -18,8 +23,8 @@ use tach_media::{Failed, Medium, Plan, put_pieces, read_number};
 /// The list of a ring goes from the index after the pointer round to the pointer, through the entries that are there.
 ///
 /// The medium handed to a call has the size that it had at loading. What the calls say of the entries holds where the
-/// pointer is below the count, as [`Ring::load`] has found it and each call leaves it; of a ring from [`Ring::at`] the caller
-/// knows so.
+/// pointer is below the count, as [`Ring::load`] has found it and each call leaves it; of a ring from [`Ring::at`] the
+/// caller knows so.
 #[derive(Debug, PartialEq, Eq, Clone, Copy)]
 pub struct Ring {
     base: u32,
@@ -34,25 +39,44 @@ impl Model for Ring {
 
     ghost Value = { Shape };
 
-    ghost view = { λ r. record { base = r.base; width = r.width; count = r.count; pointer_width = r.pointer_width; gate = r.gate } };
+    ghost view = { λ r. record {
+      base = r.base;
+      width = r.width;
+      count = r.count;
+      pointer_width = r.pointer_width;
+      gate = r.gate;
+    } };
 
-    ghost invariant = { λ r. IsShape (record { base = r.base; width = r.width; count = r.count; pointer_width = r.pointer_width; gate = r.gate }) };
+    ghost invariant = { λ r. IsShape
+        (record { base = r.base; width = r.width; count = r.count; pointer_width = r.pointer_width; gate = r.gate }) };
 
-    ghost inverse = { λ s. record { base = s.base; width = s.width; count = s.count; pointer_width = s.pointer_width; gate = s.gate } };
+    ghost inverse = { λ s. record {
+      base = s.base;
+      width = s.width;
+      count = s.count;
+      pointer_width = s.pointer_width;
+      gate = s.gate;
+    } };
 }
 
 impl Ring {
     ghost use Rattle.gated_ring.specs.Loading.{IfBadPointer, ReadsPointer, has_failed};
 
-    /// The ring that [`Ring::load`] gives where the pointer is below `count`, without a read: of a ring that has no pointer, and
-    /// of one in an image that is known to be sound.
+    /// The ring that [`Ring::load`] gives where the pointer is below `count`, without a read: of a ring that has no
+    /// pointer, and of one in an image that is known to be sound.
     pub fn at(base: u32, width: u32, count: u32, pointer_width: u8, gate: u32) -> Ring
         requires short { base + (pointer_width + count * width) < 2 ^ 32 }
         requires some { 0 < count }
         requires pointer { IsTrue (is_pointer_width pointer_width) }
         requires holds { 0 < pointer_width → count ≤ 256 ^ pointer_width }
         requires gate { gate + 4 ≤ width }
-        ensures { result ≡ record { base = base; width = width; count = count; pointer_width = pointer_width; gate = gate } }
+        ensures { result ≡ record {
+          base = base;
+          width = width;
+          count = count;
+          pointer_width = pointer_width;
+          gate = gate;
+        } }
     {
         Ring {
             base,
@@ -63,8 +87,8 @@ impl Ring {
         }
     }
 
-    /// Loads a ring at `base`, of `count` entries of `width` bytes behind a pointer of `pointer_width` bytes, which is 0
-    /// where the ring has no pointer, or 1, 2 or 4. The gate stands at `gate` in each entry.
+    /// Loads a ring at `base`, of `count` entries of `width` bytes behind a pointer of `pointer_width` bytes, which is
+    /// 0 where the ring has no pointer, or 1, 2 or 4. The gate stands at `gate` in each entry.
     ///
     /// # Errors
     ///
@@ -83,9 +107,11 @@ impl Ring {
         requires pointer { IsTrue (is_pointer_width pointer_width) }
         requires holds { 0 < pointer_width → count ≤ 256 ^ pointer_width }
         requires gate { gate + 4 ≤ width }
-        ensures ok { IfOk result (λ ring. ring ≡ record { base = base; width = width; count = count; pointer_width = pointer_width; gate = gate }) }
+        ensures ok { IfOk result (λ ring. ring
+            ≡ record { base = base; width = width; count = count; pointer_width = pointer_width; gate = gate }) }
         ensures known { IfOk result (λ ring. IfSome (M.state medium.old).image (PointsInside ring)) }
-        ensures bad { IfErr result (λ fault. IfBadPointer fault (λ v. (count ≤ v) × IfSome (M.state medium.old).image (λ x. number_at x base pointer_width ≡ v))) }
+        ensures bad { IfErr result (λ fault. IfBadPointer fault (λ v. (count ≤ v) × IfSome (M.state medium.old).image
+            (λ x. number_at x base pointer_width ≡ v))) }
         ensures without { pointer_width ≡ 0 → IsOk result }
         ensures reads { ReadsPointer pointer_width (M.state medium.old) (M.state medium.new) (has_failed result) }
     {
@@ -139,7 +165,8 @@ impl Ring {
     fn gate<M: Medium>(&self, medium: &mut M, index: u32) -> Result<u32, Failed>
         requires fits { FitsIn self.now (M.state medium.old) }
         requires index { index < self.now.count }
-        ensures value { IfOk result (λ n. IfSome (M.state medium.old).image (λ x. n ≡ number_at x (gate_of self.now index) 4)) }
+        ensures value { IfOk result (λ n. IfSome (M.state medium.old).image (λ x. n ≡ number_at x
+            (gate_of self.now index) 4)) }
         ensures shape { IsShape self.now }
         ensures reads { Reads (M.state medium.old) (M.state medium.new) (is_err result) }
     {
@@ -149,7 +176,8 @@ impl Ring {
     // The pointer. One past the end is read as 0.
     fn last<M: Medium>(&self, medium: &mut M) -> Result<u32, Failed>
         requires fits { FitsIn self.now (M.state medium.old) }
-        ensures last { IfOk result (λ last. IfSome (M.state medium.old).image (λ x. PointsInside self.now x → last ≡ pointer self.now x)) }
+        ensures last { IfOk result (λ last. IfSome (M.state medium.old).image (λ x. PointsInside self.now x → last
+            ≡ pointer self.now x)) }
         ensures below { IfOk result (λ last. last < self.now.count) }
         ensures shape { IsShape self.now }
         ensures reads { Reads (M.state medium.old) (M.state medium.new) (is_err result) }
@@ -161,8 +189,10 @@ impl Ring {
     // The pointer and the index that the next entry takes.
     fn choose<M: Medium>(&self, medium: &mut M) -> Result<(u32, u32), Failed>
         requires fits { FitsIn self.now (M.state medium.old) }
-        ensures last { IfOk result (λ found. IfSome (M.state medium.old).image (λ x. PointsInside self.now x → found.0 ≡ pointer self.now x)) }
-        ensures index { IfOk result (λ found. IfSome (M.state medium.old).image (λ x. PointsInside self.now x → found.1 ≡ taken self.now x)) }
+        ensures last { IfOk result (λ found. IfSome (M.state medium.old).image (λ x. PointsInside self.now x → found.0
+            ≡ pointer self.now x)) }
+        ensures index { IfOk result (λ found.
+            IfSome (M.state medium.old).image (λ x. PointsInside self.now x → found.1 ≡ taken self.now x)) }
         ensures below { IfOk result (λ found. found.1 < self.now.count) }
         ensures shape { IsShape self.now }
         ensures reads { Reads (M.state medium.old) (M.state medium.new) (is_err result) }
@@ -176,9 +206,12 @@ impl Ring {
     /// Reads where the next entry goes: the pointer's own index where no entry is there, else the next.
     pub fn room<M: Medium>(&self, medium: &mut M) -> Result<Room, Failed>
         requires fits { FitsIn self.now (M.state medium.old) }
-        ensures last { IfOk result (λ room. IfSome (M.state medium.old).image (λ x. PointsInside self.now x → room.last ≡ pointer self.now x)) }
-        ensures index { IfOk result (λ room. IfSome (M.state medium.old).image (λ x. PointsInside self.now x → room.index ≡ taken self.now x)) }
-        ensures used { IfOk result (λ room. IfSome (M.state medium.old).image (λ x. room.used ≡ is_there self.now x room.index)) }
+        ensures last { IfOk result (λ room. IfSome (M.state medium.old).image (λ x. PointsInside self.now x → room.last
+            ≡ pointer self.now x)) }
+        ensures index { IfOk result (λ room. IfSome (M.state medium.old).image (λ x. PointsInside self.now x
+            → room.index ≡ taken self.now x)) }
+        ensures used { IfOk result (λ room. IfSome (M.state medium.old).image (λ x. room.used ≡ is_there self.now x
+            room.index)) }
         ensures below { IfOk result (λ room. room.index < self.now.count) }
         ensures shape { IsShape self.now }
         ensures reads { Reads (M.state medium.old) (M.state medium.new) (is_err result) }
@@ -301,9 +334,9 @@ impl Ring {
         plan.put(self.gate_place(index), self.gate_bytes(head));
     }
 
-    /// Adds the writes of a new entry, which begins with `head`, to a plan: its gate is shut where an entry is there, its
-    /// bytes beside the gate, the pointer where it differs, its gate. They are those of [`Ring::add`] where the room is that of
-    /// the image.
+    /// Adds the writes of a new entry, which begins with `head`, to a plan: its gate is shut where an entry is there,
+    /// its bytes beside the gate, the pointer where it differs, its gate. They are those of [`Ring::add`] where the
+    /// room is that of the image.
     pub fn plan_entry<const N: usize, const B: usize>(
         &self,
         plan: &mut Plan<N, B>,
@@ -337,7 +370,8 @@ impl Ring {
         requires gate { self.now.gate + 4 ≤ length head.now }
         requires width { length head.now ≤ self.now.width }
         requires short { length head.now ≤ 254 }
-        ensures puts { PutsAll (M.state medium.old) (M.state medium.new) (is_err result) (placing_pieces self.now room.now head.now) }
+        ensures puts { PutsAll (M.state medium.old) (M.state medium.new) (is_err result)
+            (placing_pieces self.now room.now head.now) }
     {
         let end = self.place_of(room.index) + head.len() as u32;
         let mut plan = Plan::<5, 254>::new(self.base, end);
@@ -359,7 +393,8 @@ impl Ring {
         requires gate { self.now.gate + 4 ≤ length head.now }
         requires width { length head.now ≤ self.now.width }
         requires short { length head.now ≤ 254 }
-        ensures puts { PutsAll (M.state medium.old) (M.state medium.new) (is_err result) (exchanging_pieces self.now index used head.now) }
+        ensures puts { PutsAll (M.state medium.old) (M.state medium.new) (is_err result)
+            (exchanging_pieces self.now index used head.now) }
         ensures shape { IsShape self.now }
     {
         let place = self.place_of(index);
@@ -370,8 +405,9 @@ impl Ring {
         put_pieces(medium, &plan)
     }
 
-    /// Adds the newest entry, which begins with `head`, of at most 254 bytes, and answers its index: the pointer's own where
-    /// no entry is there, else the next. What the place has behind a head that is shorter than the entry stays as it was.
+    /// Adds the newest entry, which begins with `head`, of at most 254 bytes, and answers its index: the pointer's own
+    /// where no entry is there, else the next. What the place has behind a head that is shorter than the entry stays as
+    /// it was.
     ///
     /// The gate is shut first and opened last, so a stop at a moment of the call leaves the list before, that list
     /// without the entry whose place is taken, or the new list.
@@ -384,24 +420,29 @@ impl Ring {
         requires short { length head.now ≤ 254 }
         requires open { gate_number self.old head.now ≢ 0 }
         ensures shape { self.new ≡ self.old }
-        ensures index { IfOk result (λ index. IfSome (M.state medium.old).image (λ x. PointsInside self.old x → index ≡ taken self.old x)) }
+        ensures index { IfOk result (λ index.
+            IfSome (M.state medium.old).image (λ x. PointsInside self.old x → index ≡ taken self.old x)) }
         ensures below { IfOk result (λ index. index < self.old.count) }
-        ensures puts { IfSome (M.state medium.old).image (PointsInside self.old) → PutsBy (M.state medium.old) (M.state medium.new) (is_err result) 1 5 (adding_pieces self.old head.now) }
-        ensures added { OnOk result (IfSome (M.state medium.old).image (λ x. IfSome (M.state medium.new).image (IsAdded self.old head.now x))) }
+        ensures puts { IfSome (M.state medium.old).image (PointsInside self.old)
+            → PutsBy (M.state medium.old) (M.state medium.new) (is_err result) 1 5 (adding_pieces self.old head.now) }
+        ensures added { OnOk result (IfSome (M.state medium.old).image
+            (λ x. IfSome (M.state medium.new).image (IsAdded self.old head.now x))) }
         ensures moments { LeavesOnly (M.state medium.old) (M.state medium.new) (IsAdding self.old head.now) }
         ensures settled { OnOk result ((M.state medium.new).clock < last_count → IsSettled (M.state medium.new)) }
         ensures clock { OnOk result (Rose (M.state medium.old).clock (M.state medium.new).clock) }
         ensures cause { HasCause (M.state medium.old) (M.state medium.new) (is_err result) }
         ensures most { (M.state medium.new).clock ≤ (M.state medium.old).clock + 5 }
-        ensures writes { IfSome (M.state medium.old).image (λ x. PointsInside self.old x → (M.state medium.new).clock ≤ (M.state medium.old).clock + adding_writes self.old x) }
+        ensures writes { IfSome (M.state medium.old).image
+            (λ x. PointsInside self.old x
+            → (M.state medium.new).clock ≤ (M.state medium.old).clock + adding_writes self.old x) }
     {
         let room = self.room(medium)?;
         self.place(medium, &room, head)?;
         Ok(room.index)
     }
 
-    /// Replaces an entry, there or not, by one that begins with `head`, of at most 254 bytes. What the place has behind a
-    /// head that is shorter than the entry stays as it was.
+    /// Replaces an entry, there or not, by one that begins with `head`, of at most 254 bytes. What the place has behind
+    /// a head that is shorter than the entry stays as it was.
     ///
     /// A stop at a moment of the call leaves the entry as it was, none, or the new one.
     pub fn put_at<M: Medium>(
@@ -418,14 +459,18 @@ impl Ring {
         requires short { length head.now ≤ 254 }
         requires open { gate_number self.old head.now ≢ 0 }
         ensures shape { self.new ≡ self.old }
-        ensures puts { PutsBy (M.state medium.old) (M.state medium.new) (is_err result) 1 4 (replacing_pieces self.old index head.now) }
-        ensures replaced { OnOk result (IfSome (M.state medium.old).image (λ x. IfSome (M.state medium.new).image (IsReplaced self.old index head.now x))) }
-        ensures moments { LeavesOnly (M.state medium.old) (M.state medium.new) (IsReplacingEntry self.old index head.now) }
+        ensures puts { PutsBy (M.state medium.old) (M.state medium.new) (is_err result) 1 4
+            (replacing_pieces self.old index head.now) }
+        ensures replaced { OnOk result (IfSome (M.state medium.old).image
+            (λ x. IfSome (M.state medium.new).image (IsReplaced self.old index head.now x))) }
+        ensures moments { LeavesOnly (M.state medium.old) (M.state medium.new)
+            (IsReplacingEntry self.old index head.now) }
         ensures settled { OnOk result ((M.state medium.new).clock < last_count → IsSettled (M.state medium.new)) }
         ensures clock { OnOk result (Rose (M.state medium.old).clock (M.state medium.new).clock) }
         ensures cause { HasCause (M.state medium.old) (M.state medium.new) (is_err result) }
         ensures most { (M.state medium.new).clock ≤ (M.state medium.old).clock + 4 }
-        ensures writes { IfSome (M.state medium.old).image (λ x. (M.state medium.new).clock ≤ (M.state medium.old).clock + replacing_writes self.old x index) }
+        ensures writes { IfSome (M.state medium.old).image
+            (λ x. (M.state medium.new).clock ≤ (M.state medium.old).clock + replacing_writes self.old x index) }
     {
         let gate = self.gate(medium, index)?;
         self.exchange(medium, index, gate != 0, head)
@@ -437,7 +482,8 @@ impl Ring {
         requires writable { LiesInside (M.state medium.old).writable (gate_of self.old index) 4 }
         requires index { index < self.old.count }
         ensures shape { self.new ≡ self.old }
-        ensures closed { OnOk result (IfSome (M.state medium.old).image (λ x. IfSome (M.state medium.new).image (IsClosed self.old index x))) }
+        ensures closed { OnOk result (IfSome (M.state medium.old).image
+            (λ x. IfSome (M.state medium.new).image (IsClosed self.old index x))) }
         ensures moments { LeavesOnly (M.state medium.old) (M.state medium.new) (OrUnwritten (IsClosed self.old index)) }
         ensures settled { OnOk result ((M.state medium.new).clock < last_count → IsSettled (M.state medium.new)) }
         ensures clock { OnOk result (Rose (M.state medium.old).clock (M.state medium.new).clock) }
@@ -447,7 +493,8 @@ impl Ring {
         medium.write_at(self.gate_place(index), &[0; 4])
     }
 
-    /// Writes 1 to 4 bytes of an entry, at `offset` in it and beside its gate. A stop leaves all of them written or none.
+    /// Writes 1 to 4 bytes of an entry, at `offset` in it and beside its gate. A stop leaves all of them written or
+    /// none.
     pub fn set_small<M: Medium>(
         &mut self,
         medium: &mut M,
@@ -456,15 +503,18 @@ impl Ring {
         bytes: &[u8],
     ) -> Result<(), Failed>
         requires fits { FitsIn self.old (M.state medium.old) }
-        requires writable { LiesInside (M.state medium.old).writable (place_of self.old index + offset) (length bytes.now) }
+        requires writable { LiesInside (M.state medium.old).writable (place_of self.old index + offset)
+            (length bytes.now) }
         requires index { index < self.old.count }
         requires some { 0 < length bytes.now }
         requires few { length bytes.now ≤ 4 }
         requires width { offset + length bytes.now ≤ self.old.width }
         requires apart { (offset + length bytes.now ≤ self.old.gate) ⊎ (self.old.gate + 4 ≤ offset) }
         ensures shape { self.new ≡ self.old }
-        ensures set { OnOk result (IfSome (M.state medium.old).image (λ x. IfSome (M.state medium.new).image (IsSet self.old index offset bytes.now x))) }
-        ensures moments { LeavesOnly (M.state medium.old) (M.state medium.new) (OrUnwritten (IsSet self.old index offset bytes.now)) }
+        ensures set { OnOk result (IfSome (M.state medium.old).image
+            (λ x. IfSome (M.state medium.new).image (IsSet self.old index offset bytes.now x))) }
+        ensures moments { LeavesOnly (M.state medium.old) (M.state medium.new)
+            (OrUnwritten (IsSet self.old index offset bytes.now)) }
         ensures settled { OnOk result ((M.state medium.new).clock < last_count → IsSettled (M.state medium.new)) }
         ensures clock { OnOk result (Rose (M.state medium.old).clock (M.state medium.new).clock) }
         ensures cause { HasCause (M.state medium.old) (M.state medium.new) (is_err result) }
@@ -485,7 +535,8 @@ impl Ring {
         requires order { from ≤ to }
         requires below { to ≤ self.now.count }
         ensures below { IfOk result (λ newest. IfSome newest (λ index. index < self.now.count)) }
-        ensures newest { IfOk result (λ newest. IfSome (M.state medium.old).image (λ x. IsNewestOf self.now x (range_with_len from (to - from)) newest)) }
+        ensures newest { IfOk result (λ newest.
+            IfSome (M.state medium.old).image (λ x. IsNewestOf self.now x (range_with_len from (to - from)) newest)) }
         ensures reads { Reads (M.state medium.old) (M.state medium.new) (is_err result) }
     {
         let mut index = to;
@@ -503,7 +554,8 @@ impl Ring {
         requires fits { FitsIn self.now (M.state medium.old) }
         requires pointer { 0 < self.now.pointer_width }
         ensures below { IfOk result (λ newest. IfSome newest (λ index. index < self.now.count)) }
-        ensures newest { IfOk result (λ newest. IfSome (M.state medium.old).image (λ x. PointsInside self.now x → IsNewest self.now x newest)) }
+        ensures newest { IfOk result (λ newest.
+            IfSome (M.state medium.old).image (λ x. PointsInside self.now x → IsNewest self.now x newest)) }
         ensures reads { Reads (M.state medium.old) (M.state medium.new) (is_err result) }
     {
         let last = self.last(medium)?;
@@ -523,8 +575,11 @@ impl Ring {
         requires fits { FitsIn self.now (M.state medium.old) }
         requires index { index < self.now.count }
         requires width { length out.old ≤ self.now.width }
-        ensures there { IfOk result (λ there. IfSome (M.state medium.old).image (λ x. there ≡ is_there self.now x index)) }
-        ensures bytes { IfOk result (λ there. IsTrue there → IfSome (M.state medium.old).image (λ x. out.new ≡ bytes_at x (place_of self.now index) (length out.old))) }
+        ensures there { IfOk result (λ there.
+            IfSome (M.state medium.old).image (λ x. there ≡ is_there self.now x index)) }
+        ensures bytes { IfOk result (λ there. IsTrue there
+            → IfSome (M.state medium.old).image (λ x. out.new ≡ bytes_at x (place_of self.now index)
+            (length out.old))) }
         ensures none { IfOk result (λ there. IsFalse there → out.new ≡ out.old) }
         ensures reads { Reads (M.state medium.old) (M.state medium.new) (is_err result) }
     {

@@ -11,7 +11,8 @@ use Rattle.hand_model.specs.Manual.{is_by_hand, tells_by_hand}
 abbrev pub words_by_hand : (mark date : ℕ) → List ℕ → List Manual
 words_by_hand mark date [] = []
 words_by_hand mark date (w ∷ ws) =
-    if is_by_hand w && nat_le (date / 60 + word_minute w) mark then tells_by_hand date w ∷ words_by_hand mark date ws else words_by_hand mark date ws
+    if is_by_hand w && nat_le (date / 60 + word_minute w) mark then tells_by_hand date w ∷ words_by_hand mark date ws
+    else words_by_hand mark date ws
 
 -- of days, in their order
 abbrev pub by_hand_up_to : (mark : ℕ) → List Day → List Manual

@@ -1,5 +1,6 @@
 -- What a session holds of entries by hand before its first keep, and which further one it takes (profile).
-use Rattle.std.specs.Prelude.{ℕ, ◌-◌, ◌&&◌, max, Option, Some, None, List, length, slice_get, nat_lt, nat_le, if◌then◌else◌}
+use Rattle.std.specs.Prelude.{ℕ, ◌-◌, ◌&&◌, max, Option, Some, None, List, length, slice_get, nat_lt, nat_le}
+use Rattle.std.specs.Prelude.{if◌then◌else◌}
 use Rattle.activity_codec.specs.declared.entries.Manual.{Manual}
 use Rattle.hand_model.specs.declared.held.EnterFault.{EnterFault}
 use Rattle.hand_model.specs.declared.held.EnterFault.TheVariants.{Begun, NotFree, Full}

@@ -5,7 +5,13 @@ use Rattle.activity_codec.specs.declared.entries.Manual.{Manual}
 
 -- the word of an entry by hand
 abbrev pub manual_word : Manual → ℕ
-manual_word e = word_of (record { slot = e.slot; crew_or_known = true; absent = true; act = e.act; minute = e.minute % 1440 })
+manual_word e = word_of (record {
+  slot = e.slot;
+  crew_or_known = true;
+  absent = true;
+  act = e.act;
+  minute = e.minute % 1440;
+})
 
 -- a word is that of an entry by hand
 abbrev pub is_by_hand : ℕ → Bool

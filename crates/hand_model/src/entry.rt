@@ -18,8 +18,8 @@ pub fn manual_word(entry: &Manual) -> u16
     })
 }
 
-/// The entry by hand that a word tells of a day with this date, in seconds, if it tells one. One whose minute is no minute of a day tells
-/// none.
+/// The entry by hand that a word tells of a day with this date, in seconds, if it tells one. One whose minute is no
+/// minute of a day tells none.
 pub fn told_by_hand(date: u32, word: u16) -> Option<Manual>
     ensures { word_minute word < 1440 → result ≡ (if is_by_hand word then Some (tells_by_hand date word) else None) }
 {

@@ -15,8 +15,8 @@ pub const MOST: usize = 8;
 pub enum EnterFault {
     /// It has kept a minute already: the first such.
     Begun(u32),
-    /// The minute is not later than the first of these, or not earlier than the second: the newest minute of the card and of
-    /// the entries by hand, and the minute of the insertion.
+    /// The minute is not later than the first of these, or not earlier than the second: the newest minute of the card
+    /// and of the entries by hand, and the minute of the insertion.
     NotFree(u32, u32),
     /// It holds so many already.
     Full(u8),

@@ -1,5 +1,5 @@
-//! Entries by hand: what a driver tells at an insertion of the time without the card (Annex IB, section III, manual entries;
-//! Appendix 1, ActivityChangeInfo). The words that tell them on a card, and which of them a card shows.
+//! Entries by hand: what a driver tells at an insertion of the time without the card (Annex IB, section III, manual
+//! entries; Appendix 1, ActivityChangeInfo). The words that tell them on a card, and which of them a card shows.
 #![tactic(auto)]
 
 mod entry;

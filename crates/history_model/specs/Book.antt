@@ -56,7 +56,8 @@ pub record IsFork (past lost : List HistoryMinute) : Type 0 where
   pub parts : lost ≡ front ++ tail
   pub earlier : (i j : HistoryMinute) → Contains tail i → Contains rest j → i.minute < j.minute
 
--- all minutes, also with a lost one, rise, are later than the start's last and earlier than the next that may be decided
+-- all minutes, also with a lost one, rise, are later than the start's last and earlier than the next that may be
+-- decided
 pub record Ordered (first due : ℕ) (b : Book) : Type 0 where
   pub begins : first < due
   pub now : Between first due (all b)
@@ -66,7 +67,8 @@ pub record Ordered (first due : ℕ) (b : Book) : Type 0 where
 -- the book follows the history (`minutes`) and the histories with a lost minute (`lost`) of the seconds so far
 pub record Follows (minutes : List HistoryMinute) (with_lost : List (List HistoryMinute)) (b : Book) : Type 0 where
   pub front : (rest : List HistoryMinute) × (minutes ≡ all b ++ rest)
-  pub each : (past : List HistoryMinute) → Contains b.lost past → ((rest : List HistoryMinute) × (minutes ≡ past ++ rest))
+  pub each : (past : List HistoryMinute) → Contains b.lost past
+      → ((rest : List HistoryMinute) × (minutes ≡ past ++ rest))
       ⊎ Contains with_lost past
 
 -- a mark: the one at the start, or one of these minutes

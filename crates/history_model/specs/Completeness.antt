@@ -1,4 +1,5 @@
--- What is acknowledged: each decided minute, and each entry of a card, but where a call failed or a card was torn out (profile).
+-- What is acknowledged: each decided minute, and each entry of a card, but where a call failed or a card was torn out
+-- (profile).
 use Rattle.std.specs.Prelude.{◌≡◌, ◌⊎◌, ℕ, ◌+◌, ◌*◌, ◌-◌, ◌≤◌, true, List, Contains, map, nat_eq, if◌then◌else◌}
 use Rattle.activity_codec.specs.declared.entries.Entry.{Entry}
 use Rattle.trace_model.specs.declared.Card.{Card}
@@ -36,18 +37,21 @@ TornIn card t = (v : Visit) × (v.card ≡ card) × (Contains t.course.torn v �
 
 -- or in one from this second on and up to another
 abbrev pub TornBetween : List ToldSecond → Card → (from to : ℕ) → Type 0
-TornBetween told card from to = (t : ToldSecond) × Contains told t × (from ≤ t.second.number) × (t.second.number ≤ to) × TornIn card t
+TornBetween told card from to = (t : ToldSecond) × Contains told t × (from ≤ t.second.number) × (t.second.number ≤ to)
+    × TornIn card t
 
 -- a failed call made a cut in the last of these seconds, or the card was torn out or pulled out in one of them
 abbrev pub BrokenIn : RunLog → List ToldSecond → Card → (from to : ℕ) → Type 0
 BrokenIn log told card from to = FailedCutIn log to ⊎ TornBetween told card from to
 
--- A decided minute is acknowledged by the unit, and its entries by the cards: but where a call failed in the second that decided it, or
--- the card was torn out or pulled out since the minute's end. An `off` line excuses nothing.
-pub record IsComplete (rule : Rule) (start : Start) (log : RunLog) (told : List ToldSecond) (marks : List Mark) : Type 0 where
+-- A decided minute is acknowledged by the unit, and its entries by the cards: but where a call failed in the second
+-- that decided it, or the card was torn out or pulled out since the minute's end. An `off` line excuses nothing.
+pub record IsComplete (rule : Rule) (start : Start) (log : RunLog) (told : List ToldSecond) (marks : List Mark) : Type
+    0 where
   pub unit : (span : List ToldSecond) (d : Minute) → Contains (spans_of told) span → Contains (decided_of rule span) d →
       IsMarked marks Recorder d.minute ⊎ FailedCutIn log (deciding_of rule (settlings_of span) d.minute)
-  pub card : (span : List ToldSecond) (d : Minute) (i : HistoryMinute) (card : Card) (e : Entry) → Contains (spans_of told) span →
+  pub card : (span : List ToldSecond) (d : Minute) (i : HistoryMinute) (card : Card) (e : Entry)
+      → Contains (spans_of told) span →
       Contains (decided_of rule span) d →
       Contains (unit_history rule start log told) i → i.minute ≡ d.minute → Contains (on_card card i) e →
       IsMarked marks (device_of card) i.minute

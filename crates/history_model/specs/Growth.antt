@@ -1,5 +1,6 @@
 -- How the history grows from one second to the next (profile).
-use Rattle.std.specs.Prelude.{◌≡◌, ℕ, ◌+◌, ◌≤◌, Bool, true, false, Option, Some, List, [], ◌∷◌, ◌++◌, length, nat_lt, unwrap_or}
+use Rattle.std.specs.Prelude.{◌≡◌, ℕ, ◌+◌, ◌≤◌, Bool, true, false, Option, Some, List, [], ◌∷◌, ◌++◌, length, nat_lt}
+use Rattle.std.specs.Prelude.{unwrap_or}
 use Rattle.activity_codec.specs.declared.values.Slot.{Slot}
 use Rattle.activity_codec.specs.declared.values.Pick.{Pick}
 use Rattle.minute_model.specs.declared.Rule.{Rule}
@@ -15,7 +16,13 @@ use Rattle.history_model.specs.History.{settlings_of, cut_second, limit_by, any_
 -- a power span as the rules of minutes see it
 abbrev pub as_span : Rule → List ToldSecond → Span
 as_span rule span =
-    record { rule = rule; first = first_in span; seconds = seconds_in span; pending = []; settlings = settlings_of span }
+    record {
+      rule = rule;
+      first = first_in span;
+      seconds = seconds_in span;
+      pending = [];
+      settlings = settlings_of span;
+    }
 
 -- a settling at the next second, where there is one
 abbrev pub settled_where : Bool → Span → Span
@@ -51,7 +58,8 @@ SameLimits log later [] = Unit {0}
 SameLimits log later (span ∷ spans) =
     (any_long spans ≡ true → closed_limit later span spans ≡ closed_limit log span spans) × SameLimits log later spans
 
--- the last of these spans that has more than one second ends with a cut, after which this minute was found to be the last kept one
+-- the last of these spans that has more than one second ends with a cut, after which this minute was found to be the
+-- last kept one
 pub record EndsAtLimit (log : RunLog) (k : ℕ) (spans : List (List ToldSecond)) : Type 0 where
   pub before : List (List ToldSecond)
   pub span : List ToldSecond

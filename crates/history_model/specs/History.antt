@@ -1,5 +1,6 @@
 -- The unit history of a run: the decided minutes of its spans, each up to the limit of its cut (profile).
-use Rattle.std.specs.Prelude.{ℕ, Bool, Option, Some, None, List, [], ◌∷◌, ◌++◌, map, length, filter, find, nat_lt, if◌then◌else◌, option_to_list}
+use Rattle.std.specs.Prelude.{ℕ, Bool, Option, Some, None, List, [], ◌∷◌, ◌++◌, map, length, filter, find, nat_lt}
+use Rattle.std.specs.Prelude.{if◌then◌else◌, option_to_list}
 use Rattle.std.specs.List.{list_any}
 use Rattle.activity_codec.specs.declared.values.Slot.TheVariants.{Driver, CoDriver}
 use Rattle.minute_model.specs.declared.Rule.{Rule}
@@ -67,7 +68,8 @@ lost_minute None past = None
 lost_minute (Some k) past = find (λ i. nat_lt k i.minute) past
 
 -- the history of these spans, each up to its limit, where these minutes came before them
-abbrev pub history_by : Rule → Start → (List ToldSecond → List (List ToldSecond) → Option ℕ) → List ToldSecond → List HistoryMinute →
+abbrev pub history_by : Rule → Start → (List ToldSecond → List (List ToldSecond) → Option ℕ) → List ToldSecond
+    → List HistoryMinute →
     List (List ToldSecond) → List HistoryMinute
 history_by rule start limit told past [] = []
 history_by rule start limit told past (span ∷ later) =
@@ -79,7 +81,8 @@ unfoldable pub unit_history : Rule → Start → RunLog → List ToldSecond → 
 unit_history rule start log told = history_by rule start (limit_of log) told [] (spans_of told)
 
 -- a front of the history with the lost minute of a cut, for each of these spans that has one
-abbrev pub lost_by : Rule → Start → (List ToldSecond → List (List ToldSecond) → Option ℕ) → List ToldSecond → List HistoryMinute →
+abbrev pub lost_by : Rule → Start → (List ToldSecond → List (List ToldSecond) → Option ℕ) → List ToldSecond
+    → List HistoryMinute →
     List (List ToldSecond) → List (List HistoryMinute)
 lost_by rule start limit told past [] = []
 lost_by rule start limit told past (span ∷ later) =

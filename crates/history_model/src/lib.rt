@@ -1,5 +1,5 @@
-//! The history of a run (profile): its decided minutes with the cards that were present in them, up to the limits of its
-//! cuts, and what a unit and a card are to hold of it, as definitions (specs/) with their laws.
+//! The history of a run (profile): its decided minutes with the cards that were present in them, up to the limits of
+//! its cuts, and what a unit and a card are to hold of it, as definitions (specs/) with their laws.
 #![tactic(auto)]
 
 mod laws;

@@ -4,7 +4,8 @@ use Rattle.std.specs.List.{list_all}
 use Rattle.std.specs.Fmt.{decimal}
 use Rattle.byteorder.specs.Endian.{big_number}
 use Rattle.hex.specs.Hex.{encode_lower}
-use Rattle.json.specs.Json.{Json, null, number, string, array, object, Items, no_items, item, Members, no_members, member}
+use Rattle.json.specs.Json.{Json, null, number, string, array, object, Items, no_items, item, Members, no_members}
+use Rattle.json.specs.Json.{member}
 use Rattle.json_fields.specs.declared.fields.Form.{Form}
 use Rattle.json_fields.specs.declared.fields.Form.TheVariants.{Number, Bytes}
 use Rattle.json_fields.specs.declared.fields.Field.{Field}
@@ -33,7 +34,8 @@ width_of_record (f ∷ fs) = f.width + width_of_record fs
 -- the fields of a record, each under its name
 abbrev pub members_shown : List Field → List ℕ → Members
 members_shown [] bytes = no_members
-members_shown (f ∷ fs) bytes = member (name_text f.name) (value_shown f.form (take f.width bytes)) (members_shown fs (drop f.width bytes))
+members_shown (f ∷ fs) bytes = member (name_text f.name) (value_shown f.form (take f.width bytes))
+    (members_shown fs (drop f.width bytes))
 
 -- A RECORD AS JSON
 abbrev pub record_shown : List Field → List ℕ → Json
@@ -50,7 +52,8 @@ entry_shown fields bytes = if are_zeros bytes then null else record_shown fields
 -- so many entries, one after the other
 unfoldable pub items_shown : ℕ → List Field → List ℕ → Items
 items_shown zero fields bytes = no_items
-items_shown (suc n) fields bytes = item (entry_shown fields (take (width_of_record fields) bytes)) (items_shown n fields (drop (width_of_record fields) bytes))
+items_shown (suc n) fields bytes = item (entry_shown fields (take (width_of_record fields) bytes))
+    (items_shown n fields (drop (width_of_record fields) bytes))
 
 abbrev pub records_shown : ℕ → List Field → List ℕ → Json
 records_shown n fields bytes = array (items_shown n fields bytes)

@@ -2,7 +2,8 @@ ghost use Rattle.std.specs.Prelude.{◌≡◌, ◌++◌, ◌*◌, ◌≤◌, OnO
 ghost use Rattle.json.specs.Tree.{json_tokens};
 ghost use Rattle.json.specs.Json.{string};
 ghost use Rattle.hex.specs.Hex.{encode_lower};
-ghost use Rattle.json_fields.specs.Shown.{value_shown, record_shown, records_shown, entry_shown, are_zeros, width_of_record, CanShow, AreFields};
+ghost use Rattle.json_fields.specs.Shown.{value_shown, record_shown, records_shown, entry_shown, are_zeros};
+ghost use Rattle.json_fields.specs.Shown.{width_of_record, CanShow, AreFields};
 
 use crate::names::Name;
 use byteorder::{BigEndian, ByteOrder};
@@ -86,7 +87,8 @@ pub fn write_records(
     requires table { AreFields fields.now }
     requires width { width ≡ width_of_record fields.now }
     requires sized { count * width ≤ length bytes.now }
-    ensures { OnOk result (writer.new.tokens ≡ writer.old.tokens ++ json_tokens (records_shown count fields.now bytes.now)) }
+    ensures { OnOk result (writer.new.tokens ≡ writer.old.tokens
+        ++ json_tokens (records_shown count fields.now bytes.now)) }
 {
     writer.begin_array()?;
     let mut rest = bytes;

@@ -1,4 +1,5 @@
--- A run of a unit on the link: where it stands after what was heard, and the bytes that go out for the bytes that come in.
+-- A run of a unit on the link: where it stands after what was heard, and the bytes that go out for the bytes that come
+-- in.
 use Rattle.std.specs.Prelude.{ℕ, Option, List, [], ◌∷◌, map}
 use Rattle.std.specs.List.{concat}
 use Rattle.link_model.specs.declared.request.Request.{Request}
@@ -31,4 +32,5 @@ line_after messages line bytes = record {
 
 -- the bytes of the frames that go out for these bytes
 abbrev pub answers_from : (Request → Option (List ℕ)) → Line → List ℕ → List ℕ
-answers_from messages line bytes = concat (map (written_to side.Loader) (run_from messages line.state (heard_in side.Unit line.kept bytes)))
+answers_from messages line bytes = concat
+    (map (written_to side.Loader) (run_from messages line.state (heard_in side.Unit line.kept bytes)))

@@ -1,5 +1,6 @@
 -- What is sent of a message, of which a part was read.
-use Rattle.std.specs.Prelude.{◌≡◌, ℕ, ◌+◌, ◌-◌, ◌/◌, ◌%◌, Option, Some, None, option_map, List, [], ◌∷◌, length, take, drop}
+use Rattle.std.specs.Prelude.{◌≡◌, ℕ, ◌+◌, ◌-◌, ◌/◌, ◌%◌, Option, Some, None, option_map, List, [], ◌∷◌, length, take}
+use Rattle.std.specs.Prelude.{drop}
 use Rattle.link_model.specs.declared.request.Request.{Request}
 use Rattle.link_model.specs.Answers.{Sending, Reply, answers, number_of}
 use Rattle.link_frames.specs.declared.sending.Reply.{Reply as CodeReply}
@@ -21,4 +22,5 @@ pub record IsPart (content : Option (List ℕ)) (from : ℕ) (told : Option ℕ)
 
 -- an answer with a piece of a message, with these bytes of it
 abbrev pub sends_piece : Request → (counter : ℕ) → List ℕ → Reply
-sends_piece request counter bytes = answers (0x76 ∷ number_of request ∷ counter / 256 ∷ counter % 256 ∷ bytes) (Sending request counter)
+sends_piece request counter bytes = answers (0x76 ∷ number_of request ∷ counter / 256 ∷ counter % 256 ∷ bytes)
+    (Sending request counter)

@@ -1,9 +1,11 @@
 //! What one byte does, as plain work on the bytes that were kept.
-ghost use Rattle.std.specs.Prelude.{◌≡◌, ◌<◌, ◌≤◌, ◌+◌, ◌-◌, ◌%◌, ◌==◌, ◌++◌, ◌∷◌, [], IsTrue, IfSome, IfNone, true, length, sum, map, take, option_map, option_to_list};
+ghost use Rattle.std.specs.Prelude.{◌≡◌, ◌<◌, ◌≤◌, ◌+◌, ◌-◌, ◌%◌, ◌==◌, ◌++◌, ◌∷◌, [], IsTrue, IfSome, IfNone, true};
+ghost use Rattle.std.specs.Prelude.{length, sum, map, take, option_map, option_to_list};
 ghost use Rattle.link_frames.specs.declared.hearing.TheConstants.{KEPT};
 ghost use Rattle.std.specs.Bool.{OnFalse, OnTrue};
 ghost use Rattle.link_model.specs.Frames.{second, third};
-ghost use Rattle.link_model.specs.Hearing.{starts, looks_right, size_of, is_kept, header_size, heard_at_last, after_byte, heard_in, kept_after};
+ghost use Rattle.link_model.specs.Hearing.{starts, looks_right, size_of, is_kept, header_size, heard_at_last};
+ghost use Rattle.link_model.specs.Hearing.{after_byte, heard_in, kept_after};
 ghost use Rattle.link_frames.specs.Seen.{meant};
 
 use crate::frame::{Frame, Seen};

@@ -9,20 +9,23 @@ ghost use Rattle.link_frames.specs.Running.{Line, state_after, fresh_line, line_
 /// A run goes on where it stands: the answers to more frames follow those to the frames before.
 pub fn a_run_goes_on()
     ensures { (messages : Request → Option (List ℕ)) (state : LinkState) (seen more : List Heard) →
-        run_from messages state (seen ++ more) ≡ run_from messages state seen ++ run_from messages (state_after messages state seen) more }
+        run_from messages state (seen ++ more) ≡ run_from messages state seen
+        ++ run_from messages (state_after messages state seen) more }
 {}
 
 /// A line goes on where it stands: the answers to more bytes follow those to the bytes before.
 pub fn a_line_goes_on()
     ensures answers { (messages : Request → Option (List ℕ)) (line : Line) (bytes more : List ℕ) →
-        answers_from messages line (bytes ++ more) ≡ answers_from messages line bytes ++ answers_from messages (line_after messages line bytes) more }
+        answers_from messages line (bytes ++ more) ≡ answers_from messages line bytes
+        ++ answers_from messages (line_after messages line bytes) more }
     ensures stands { (messages : Request → Option (List ℕ)) (line : Line) (bytes more : List ℕ) →
         line_after messages line (bytes ++ more) ≡ line_after messages (line_after messages line bytes) more }
 {}
 
 /// The answers of a fresh line are the frames that go out by the table, one after the other.
 pub fn a_fresh_line_answers_by_the_table()
-    ensures { (messages : Request → Option (List ℕ)) (bytes : List ℕ) → answers_from messages fresh_line bytes ≡ concat (frames_out messages Idle bytes) }
+    ensures { (messages : Request → Option (List ℕ)) (bytes : List ℕ)
+        → answers_from messages fresh_line bytes ≡ concat (frames_out messages Idle bytes) }
 {}
 
 /// Of whatever length, and whatever bytes are read, they are the part of some message.

@@ -1,9 +1,9 @@
-//! Frames of the link between a unit and what downloads it (Annex IB, Appendix 7): written with their sums, and heard from
-//! a stream of bytes that comes in any pieces. Nothing here takes memory from the heap.
+//! Frames of the link between a unit and what downloads it (Annex IB, Appendix 7): written with their sums, and heard
+//! from a stream of bytes that comes in any pieces. Nothing here takes memory from the heap.
 //!
-//! The table of answers of a unit on the link (Annex IB, Appendix 7), as plain work on values: what a session does about a
-//! frame, and what it sends of a message of which a part was read. No unit is asked here, and nothing takes memory from the
-//! heap.
+//! The table of answers of a unit on the link (Annex IB, Appendix 7), as plain work on values: what a session does
+//! about a frame, and what it sends of a message of which a part was read. No unit is asked here, and nothing takes
+//! memory from the heap.
 #![tactic(auto)]
 
 // frames

@@ -1,4 +1,5 @@
-ghost use Rattle.std.specs.Prelude.{◌≡◌, ◌≤◌, ◌-◌, ◌++◌, ℕ, List, [], length, take, drop, IfSome, IfNone, option_map, option_to_list, true};
+ghost use Rattle.std.specs.Prelude.{◌≡◌, ◌≤◌, ◌-◌, ◌++◌, ℕ, List, [], length, take, drop, IfSome, IfNone, option_map};
+ghost use Rattle.std.specs.Prelude.{option_to_list, true};
 ghost use Rattle.link_model.specs.Frames.{Heard, IsUnfinished, Stream};
 ghost use Rattle.link_model.specs.Hearing.{heard_in, kept_after};
 ghost use Rattle.link_frames.specs.Seen.{meant};
@@ -9,8 +10,8 @@ use arrayvec::ArrayVec;
 use link_model::End;
 use std::marker::Model;
 
-/// Hears the frames in a stream of bytes, which may come in any pieces. A byte at which no frame can begin is passed over,
-/// and a frame with a wrong sum is taken whole.
+/// Hears the frames in a stream of bytes, which may come in any pieces. A byte at which no frame can begin is passed
+/// over, and a frame with a wrong sum is taken whole.
 #[derive(Drop)]
 pub struct Scanner {
     end: End,
@@ -46,12 +47,19 @@ impl Scanner {
         // Where no frame ends in the bytes, all are taken.
         ensures all { IfNone result.1 (result.0 ≡ length bytes.now) }
         // A frame ends at the last byte that was taken, and none before.
-        ensures heard { heard_in self.old.end self.old.kept (take result.0 bytes.now) ≡ option_to_list (option_map meant result.1) }
+        ensures heard { heard_in self.old.end self.old.kept (take result.0 bytes.now)
+            ≡ option_to_list (option_map meant result.1) }
         ensures first { heard_in self.old.end self.old.kept (take (result.0 - 1) bytes.now) ≡ [] }
-        ensures kept { self.new ≡ record { end = self.old.end; kept = kept_after self.old.end self.old.kept (take result.0 bytes.now) } }
-        // However the stream goes on: what is heard now, and then what is heard of the rest, is what the whole stream holds.
-        ensures stream { (more : List ℕ) (seen : List Heard) (rest : List ℕ) → Stream self.old.end (self.new.kept ++ (drop result.0 bytes.now ++ more)) seen rest
-            → Stream self.old.end (self.old.kept ++ (bytes.now ++ more)) (option_to_list (option_map meant result.1) ++ seen) rest }
+        ensures kept { self.new ≡ record {
+          end = self.old.end;
+          kept = kept_after self.old.end self.old.kept (take result.0 bytes.now);
+        } }
+        // However the stream goes on: what is heard now, and then what is heard of the rest, is what the whole stream
+        // holds.
+        ensures stream { (more : List ℕ) (seen : List Heard) (rest : List ℕ)
+            → Stream self.old.end (self.new.kept ++ (drop result.0 bytes.now ++ more)) seen rest
+            → Stream self.old.end (self.old.kept ++ (bytes.now ++ more))
+            (option_to_list (option_map meant result.1) ++ seen) rest }
         // What is kept is the beginning of a frame.
         ensures unfinished { IsUnfinished self.new.end self.new.kept }
     {

@@ -23,10 +23,12 @@ pub struct Reply {
     pub standing: Standing,
 }
 
-/// The answer to a request of a message, of which the first part was read. The length is the message's, with 76 and its number.
+/// The answer to a request of a message, of which the first part was read. The length is the message's, with 76 and its
+/// number.
 pub fn begun(request: Request, standing: Standing, told: Option<u32>, bytes: &[u8]) -> Reply
     requires { length bytes.now ≤ MOST }
-    ensures { (content : Option (List ℕ)) → IsPart content 2 told bytes.now → reply_of result ≡ begins (state_of standing) request content }
+    ensures { (content : Option (List ℕ)) → IsPart content 2 told bytes.now
+        → reply_of result ≡ begins (state_of standing) request content }
 {
     let Some(len) = told else {
         return refused(standing, TRANSFER);
@@ -43,7 +45,8 @@ pub fn begun(request: Request, standing: Standing, told: Option<u32>, bytes: &[u
 /// The answer to an acknowledged piece that asks for a piece, of which the bytes were read.
 pub fn sent_on(request: Request, counter: u16, code: u16, told: Option<u32>, bytes: &[u8]) -> Reply
     requires { length bytes.now ≤ MOST }
-    ensures { (content : Option (List ℕ)) → IsPart content (2 + PIECE * (code - 1)) told bytes.now → reply_of result ≡ sends_on request counter content code }
+    ensures { (content : Option (List ℕ)) → IsPart content (2 + PIECE * (code - 1)) told bytes.now
+        → reply_of result ≡ sends_on request counter content code }
 {
     let Some(len) = told else {
         return refused(Standing::Sending(request, counter), ACKNOWLEDGE);

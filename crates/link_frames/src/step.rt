@@ -41,7 +41,8 @@ pub struct Check {
 
 /// The step where this service is refused with this code: the session stands as it stood.
 pub fn refused(standing: Standing, service: u8, code: u8) -> Step
-    ensures performs { (messages : Asked → Option (List ℕ)) → performed messages result ≡ refuses (state_of standing) service code }
+    ensures performs { (messages : Asked → Option (List ℕ))
+        → performed messages result ≡ refuses (state_of standing) service code }
     ensures asks { asks result ≡ false }
 {
     Step::Answer(Frame::new(&[0x7F, service, code]), standing)
@@ -49,7 +50,9 @@ pub fn refused(standing: Standing, service: u8, code: u8) -> Step
 
 /// The first check that fails refuses; where none does, the step.
 pub fn checked(standing: Standing, service: u8, checks: &[Check], step: Step) -> Step
-    ensures performs { (messages : Asked → Option (List ℕ)) → performed messages result ≡ checked (state_of standing) service (map check_of checks.now) (performed messages step) }
+    ensures performs { (messages : Asked → Option (List ℕ))
+        → performed messages result ≡ checked (state_of standing) service (map check_of checks.now)
+        (performed messages step) }
     ensures asks { asks result ≡ (asks step && all_hold (map check_of checks.now)) }
 {
     if let Some(code) = failing(checks) {

@@ -1,8 +1,11 @@
-//! The table of answers (Annex IB, Appendix 7; the numbers of the refusals' codes, and which check gives which: profile). Each
-//! service has its checks as one list in their order; the first that fails refuses.
-ghost use Rattle.std.specs.Prelude.{◌≡◌, ℕ, ◌<◌, ◌≤◌, ◌%◌, ◌==◌, ◌&&◌, if◌then◌else◌, bytes_eq, false, ◌∷◌, [], slice_index, length, List, Option};
+//! The table of answers (Annex IB, Appendix 7; the numbers of the refusals' codes, and which check gives which:
+//! profile). Each service has its checks as one list in their order; the first that fails refuses.
+ghost use Rattle.std.specs.Prelude.{◌≡◌, ℕ, ◌<◌, ◌≤◌, ◌%◌, ◌==◌, ◌&&◌, if◌then◌else◌, bytes_eq, false, ◌∷◌, []};
+ghost use Rattle.std.specs.Prelude.{slice_index, length, List, Option};
 ghost use Rattle.link_model.specs.declared.request.Request.{Request as Asked};
-ghost use Rattle.link_model.specs.Answers.{Idle, Started, Diagnostic, Upload, check, checked, is_diagnostic, is_upload, upload_request, answered, idle, active, served, transfer, acknowledge, acknowledge_checks, after_piece, day_in, request_in, code_in, answers};
+ghost use Rattle.link_model.specs.Answers.{Idle, Started, Diagnostic, Upload, check, checked, is_diagnostic, is_upload};
+ghost use Rattle.link_model.specs.Answers.{upload_request, answered, idle, active, served, transfer, acknowledge};
+ghost use Rattle.link_model.specs.Answers.{acknowledge_checks, after_piece, day_in, request_in, code_in, answers};
 ghost use Rattle.link_frames.specs.Seen.{meant};
 ghost use Rattle.link_frames.specs.Steps.{state_of, performed, asks, all_hold};
 ghost use Rattle.link_frames.specs.Asking.{asks_unit, asks_active, asks_by, asks_message, asks_piece};
@@ -60,7 +63,8 @@ const UPLOAD_REQUEST: [u8; 10] = [0x35, 0x00, 0x00, 0x00, 0x00, 0x00, 0xFF, 0xFF
 
 /// What a session does that stands so, about what it hears.
 pub fn step_of(standing: Standing, seen: &Seen) -> Step
-    ensures performs { (messages : Asked → Option (List ℕ)) → performed messages result ≡ answered messages (state_of standing) (meant seen.now) }
+    ensures performs { (messages : Asked → Option (List ℕ))
+        → performed messages result ≡ answered messages (state_of standing) (meant seen.now) }
     ensures asks { asks result ≡ asks_unit (state_of standing) (meant seen.now) }
 {
     match standing {
@@ -82,7 +86,8 @@ fn idle(seen: &Seen) -> Step
 }
 
 fn started() -> Step
-    ensures performs { (messages : Asked → Option (List ℕ)) → performed messages result ≡ answers (0xC1 ∷ 0xEA ∷ 0x8F ∷ []) Started }
+    ensures performs { (messages : Asked → Option (List ℕ))
+        → performed messages result ≡ answers (0xC1 ∷ 0xEA ∷ 0x8F ∷ []) Started }
     ensures asks { asks result ≡ false }
 {
     Step::Answer(Frame::new(&[0xC1, 0xEA, 0x8F]), Standing::Started)
@@ -90,7 +95,8 @@ fn started() -> Step
 
 // Elsewhere a wrong sum is refused.
 fn active(standing: Standing, seen: &Seen) -> Step
-    ensures performs { (messages : Asked → Option (List ℕ)) → performed messages result ≡ active messages (state_of standing) (meant seen.now) }
+    ensures performs { (messages : Asked → Option (List ℕ))
+        → performed messages result ≡ active messages (state_of standing) (meant seen.now) }
     ensures asks { asks result ≡ asks_active (state_of standing) (meant seen.now) }
 {
     match seen {
@@ -101,7 +107,8 @@ fn active(standing: Standing, seen: &Seen) -> Step
 
 // The table, by the service.
 fn served(standing: Standing, bytes: &[u8]) -> Step
-    ensures performs { (messages : Asked → Option (List ℕ)) → performed messages result ≡ served messages (state_of standing) bytes.now }
+    ensures performs { (messages : Asked → Option (List ℕ))
+        → performed messages result ≡ served messages (state_of standing) bytes.now }
     ensures asks { asks result ≡ asks_by (state_of standing) bytes.now }
 {
     let service = byte_at(bytes, 0);
@@ -132,7 +139,8 @@ fn served(standing: Standing, bytes: &[u8]) -> Step
 // The start of communication.
 fn start_communication(standing: Standing, bytes: &[u8]) -> Step
     ensures performs { (messages : Asked → Option (List ℕ)) → performed messages result
-        ≡ checked (state_of standing) 0x81 (check (length bytes.now == 1) 0x13 ∷ []) (answers (0xC1 ∷ 0xEA ∷ 0x8F ∷ []) Started) }
+        ≡ checked (state_of standing) 0x81 (check (length bytes.now == 1) 0x13 ∷ [])
+        (answers (0xC1 ∷ 0xEA ∷ 0x8F ∷ []) Started) }
     ensures asks { asks result ≡ false }
 {
     checked(standing, START, &[of(bytes.len() == 1, LENGTH)], started())
@@ -151,7 +159,8 @@ fn stop_communication(standing: Standing, bytes: &[u8]) -> Step
 // The start of the diagnostic service.
 fn start_diagnostic(standing: Standing, bytes: &[u8]) -> Step
     ensures performs { (messages : Asked → Option (List ℕ)) → performed messages result
-        ≡ checked (state_of standing) 0x10 (check (length bytes.now == 2) 0x13 ∷ check (slice_index bytes.now 1 == 0x81) 0x12 ∷ []) (answers (0x50 ∷ 0x81 ∷ []) Diagnostic) }
+        ≡ checked (state_of standing) 0x10 (check (length bytes.now == 2) 0x13 ∷ check (slice_index bytes.now 1 == 0x81)
+        0x12 ∷ []) (answers (0x50 ∷ 0x81 ∷ []) Diagnostic) }
     ensures asks { asks result ≡ false }
 {
     let checks = [
@@ -169,7 +178,8 @@ fn start_diagnostic(standing: Standing, bytes: &[u8]) -> Step
 // A request of an upload, of all data.
 fn request_upload(standing: Standing, bytes: &[u8]) -> Step
     ensures performs { (messages : Asked → Option (List ℕ)) → performed messages result
-        ≡ checked (state_of standing) 0x35 (check (length bytes.now == 10) 0x13 ∷ check (is_diagnostic (state_of standing)) 0x22 ∷ check (bytes_eq bytes.now upload_request) 0x50 ∷ [])
+        ≡ checked (state_of standing) 0x35 (check (length bytes.now == 10) 0x13 ∷ check
+        (is_diagnostic (state_of standing)) 0x22 ∷ check (bytes_eq bytes.now upload_request) 0x50 ∷ [])
         (answers (0x75 ∷ 0x00 ∷ 0xFF ∷ []) Upload) }
     ensures asks { asks result ≡ false }
 {
@@ -189,7 +199,8 @@ fn request_upload(standing: Standing, bytes: &[u8]) -> Step
 // The exit from the transfer.
 fn exit_transfer(standing: Standing, bytes: &[u8]) -> Step
     ensures performs { (messages : Asked → Option (List ℕ)) → performed messages result
-        ≡ checked (state_of standing) 0x37 (check (length bytes.now == 1) 0x13 ∷ check (is_upload (state_of standing)) 0x22 ∷ []) (answers (0x77 ∷ []) Diagnostic) }
+        ≡ checked (state_of standing) 0x37 (check (length bytes.now == 1) 0x13 ∷ check (is_upload (state_of standing))
+        0x22 ∷ []) (answers (0x77 ∷ []) Diagnostic) }
     ensures asks { asks result ≡ false }
 {
     let checks = [
@@ -206,7 +217,8 @@ fn exit_transfer(standing: Standing, bytes: &[u8]) -> Step
 
 // A request of a message.
 fn transfer_data(standing: Standing, bytes: &[u8]) -> Step
-    ensures performs { (messages : Asked → Option (List ℕ)) → performed messages result ≡ transfer messages (state_of standing) bytes.now }
+    ensures performs { (messages : Asked → Option (List ℕ))
+        → performed messages result ≡ transfer messages (state_of standing) bytes.now }
     ensures asks { asks result ≡ asks_message (state_of standing) bytes.now }
 {
     let number = byte_at(bytes, 1);
@@ -278,8 +290,10 @@ fn day_in(bytes: &[u8]) -> u32
 
 // An acknowledged piece.
 fn acknowledge_piece(standing: Standing, bytes: &[u8]) -> Step
-    ensures performs { (messages : Asked → Option (List ℕ)) → performed messages result ≡ acknowledge messages (state_of standing) bytes.now }
-    ensures asks { asks result ≡ (asks_piece (state_of standing) (code_in bytes.now) && all_hold (acknowledge_checks (state_of standing) bytes.now)) }
+    ensures performs { (messages : Asked → Option (List ℕ))
+        → performed messages result ≡ acknowledge messages (state_of standing) bytes.now }
+    ensures asks { asks result ≡ (asks_piece (state_of standing) (code_in bytes.now)
+        && all_hold (acknowledge_checks (state_of standing) bytes.now)) }
 {
     let checks = [
         of(bytes.len() == 4, LENGTH),
@@ -303,7 +317,8 @@ fn code_in(bytes: &[u8]) -> u16
 
 // Behind a piece: the end of the transfer, the next piece, or the same one again.
 fn after_piece(standing: Standing, code: u16) -> Step
-    ensures performs { (messages : Asked → Option (List ℕ)) → performed messages result ≡ after_piece messages (state_of standing) code }
+    ensures performs { (messages : Asked → Option (List ℕ))
+        → performed messages result ≡ after_piece messages (state_of standing) code }
     ensures asks { asks result ≡ asks_piece (state_of standing) code }
 {
     let Standing::Sending(request, counter) = standing else {
@@ -325,7 +340,8 @@ fn after_piece(standing: Standing, code: u16) -> Step
 fn answer(bytes: &[u8], standing: Standing) -> Step
     requires some { 0 < length bytes.now }
     requires few { length bytes.now ≤ 255 }
-    ensures performs { (messages : Asked → Option (List ℕ)) → performed messages result ≡ answers bytes.now (state_of standing) }
+    ensures performs { (messages : Asked → Option (List ℕ))
+        → performed messages result ≡ answers bytes.now (state_of standing) }
     ensures asks { asks result ≡ false }
 {
     Step::Answer(Frame::new(bytes), standing)

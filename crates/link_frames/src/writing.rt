@@ -8,7 +8,8 @@ use crate::hearing::{addresses, sum_of};
 use arrayvec::ArrayVec;
 use link_model::End;
 
-/// Writes a frame from this side to the other, with its sum. The start of communication goes to the unit in the short form.
+/// Writes a frame from this side to the other, with its sum. The start of communication goes to the unit in the short
+/// form.
 pub fn write_frame(from: End, frame: &Frame) -> ArrayVec<u8, 260>
     ensures bytes { result.items ≡ written_to (other from) frame.now }
     // The other side hears this frame of it, and nothing else.

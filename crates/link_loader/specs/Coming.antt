@@ -1,10 +1,13 @@
--- What a frame is that comes to the loader, by its bytes (Annex IB, Appendix 7; the length that marks the last piece: profile).
-use Rattle.std.specs.Prelude.{◌≡◌, ℕ, ◌≤◌, ◌==◌, ◌&&◌, nat_le, nat_lt, Bool, if◌then◌else◌, List, [], ◌∷◌, length, slice_index, bytes_eq}
+-- What a frame is that comes to the loader, by its bytes (Annex IB, Appendix 7; the length that marks the last piece:
+-- profile).
+use Rattle.std.specs.Prelude.{◌≡◌, ℕ, ◌≤◌, ◌==◌, ◌&&◌, nat_le, nat_lt, Bool, if◌then◌else◌, List, [], ◌∷◌, length}
+use Rattle.std.specs.Prelude.{slice_index, bytes_eq}
 use Rattle.link_model.specs.declared.request.Request.{Request}
 use Rattle.link_model.specs.Answers.{number_of}
 use Rattle.unit_messages.specs.Joining.{counter_in}
 use Rattle.link_loader.specs.declared.stage.Stage.{Stage}
-use Rattle.link_loader.specs.declared.stage.Stage.TheVariants.{Start, Diagnostic, Upload, Asked, Acknowledged, Exit, Stop, Finished}
+use Rattle.link_loader.specs.declared.stage.Stage.TheVariants.{Start, Diagnostic, Upload, Asked, Acknowledged, Exit}
+use Rattle.link_loader.specs.declared.stage.Stage.TheVariants.{Stop, Finished}
 use Rattle.link_loader.specs.declared.kind.Kind.{Kind}
 use Rattle.link_loader.specs.declared.kind.Kind.TheVariants.{Negative, Broken, Agreed, Piece, Single, Other}
 
@@ -47,7 +50,8 @@ kind_at Finished frame = Other
 
 -- what a frame is, at a stage
 abbrev pub kind_of : Stage → List ℕ → Kind
-kind_of stage frame = if is_negative frame then Negative (slice_index frame 1) (slice_index frame 2) else kind_at stage frame
+kind_of stage frame = if is_negative frame then Negative (slice_index frame 1) (slice_index frame 2)
+    else kind_at stage frame
 
 -- a piece has a counter, which is the wanted one
 abbrev pub IsInOrder : (wanted : ℕ) → List ℕ → Kind → Type 0

@@ -1,5 +1,6 @@
 -- A download, frame after frame: where it stands, what a frame finishes, and when one is refused.
-use Rattle.std.specs.Prelude.{◌≡◌, ◌⊎◌, ℕ, ◌==◌, true, if◌then◌else◌, List, [], ◌++◌, length, drop, Option, Some, None, option_map, is_some}
+use Rattle.std.specs.Prelude.{◌≡◌, ◌⊎◌, ℕ, ◌==◌, true, if◌then◌else◌, List, [], ◌++◌, length, drop, Option, Some, None}
+use Rattle.std.specs.Prelude.{option_map, is_some}
 use Rattle.std.specs.Io.KnownBytes.{Keeps}
 use Rattle.tach_media.specs.Streams.{AppendsFront}
 use Rattle.link_model.specs.declared.request.Request.{Request}
@@ -46,11 +47,16 @@ with_piece bytes frame = begun_with bytes frame ++ drop 4 frame
 -- a piece that another one follows has 255 bytes, and the next one is acknowledged by its counter
 abbrev pub continued : Loading → Request → (frame : List ℕ) → Loading
 continued now request frame =
-    record { stage = Acknowledged request (next_counter (counter_at now.stage)); end = now.end; bytes = with_piece now.bytes frame }
+    record {
+      stage = Acknowledged request (next_counter (counter_at now.stage));
+      end = now.end;
+      bytes = with_piece now.bytes frame;
+    }
 
 -- behind a frame of this kind that neither finishes a message nor is refused
 abbrev pub goes_on_by : Loading → (frame : List ℕ) → Kind → Option Loading
-goes_on_by now frame (Negative service code) = option_map (at_stage now.end) (passed_over now.end now.stage service code)
+goes_on_by now frame (Negative service code) = option_map (at_stage now.end)
+    (passed_over now.end now.stage service code)
 goes_on_by now frame Agreed = Some (at_stage now.end (behind_answer now.stage))
 goes_on_by now frame (Piece request) = if length frame == 255 then Some (continued now request frame) else None
 goes_on_by now frame kind = None
@@ -93,16 +99,20 @@ after_message now m = at_stage (end_told now.end m) (behind_message now.end m)
 -- A frame that is taken: it finishes no message, and nothing goes out; or it finishes one, whose bytes go out.
 abbrev pub Takes : (old : Loading) → (frame : List ℕ) → (new : Loading) → (out : List ℕ) → Type 0
 Takes old frame new out =
-    ((goes_on old frame ≡ Some new) × (out ≡ [])) ⊎ ((m : Message) × Finishes old frame m × (new ≡ after_message old m) × (out ≡ message_bytes m))
+    ((goes_on old frame ≡ Some new) × (out ≡ []))
+    ⊎ ((m : Message) × Finishes old frame m × (new ≡ after_message old m) × (out ≡ message_bytes m))
 
--- A frame is unexpected where it is of no kind that can be taken, or closes what is no message of the one that was asked for.
+-- A frame is unexpected where it is of no kind that can be taken, or closes what is no message of the one that was
+-- asked for.
 abbrev pub IsUnexpected : Loading → (frame : List ℕ) → Type 0
 IsUnexpected now frame =
-    (kind_of now.stage frame ≡ Other) ⊎ ((is_some (closed now frame) ≡ true) × ((m : Message) → Finishes now frame m → ⊥))
+    (kind_of now.stage frame ≡ Other)
+    ⊎ ((is_some (closed now frame) ≡ true) × ((m : Message) → Finishes now frame m → ⊥))
 
 -- a frame is refused so
 abbrev pub IsRefused : Loading → (frame : List ℕ) → LoadFault → Type 0
-IsRefused now frame (faults.Negative service code) = (kind_of now.stage frame ≡ Negative service code) × (passed_over now.end now.stage service code ≡ None)
+IsRefused now frame (faults.Negative service code) = (kind_of now.stage frame ≡ Negative service code)
+    × (passed_over now.end now.stage service code ≡ None)
 IsRefused now frame faults.Unexpected = IsUnexpected now frame
 IsRefused now frame (faults.Broken wanted counter) = kind_of now.stage frame ≡ Broken wanted counter
 IsRefused now frame faults.WriteFault = (m : Message) × Finishes now frame m
@@ -113,15 +123,18 @@ abbrev pub left_by : LoadFault → Loading → Loading
 left_by faults.Memory now = now
 left_by fault now = over now
 
--- What a sink holds after a refusal: what it held; and where it failed, behind that a front of the message that was finished.
+-- What a sink holds after a refusal: what it held; and where it failed, behind that a front of the message that was
+-- finished.
 abbrev pub LeavesSink : Loading → (frame : List ℕ) → LoadFault → (old new : Option (List ℕ)) → Type 0
-LeavesSink now frame faults.WriteFault old new = (m : Message) × Finishes now frame m × AppendsFront old new (message_bytes m)
+LeavesSink now frame faults.WriteFault old new = (m : Message) × Finishes now frame m
+    × AppendsFront old new (message_bytes m)
 LeavesSink now frame fault old new = Keeps old new
 
 -- why a message that was closed does not go out
 abbrev pub IsNotPut : Request → (bytes : List ℕ) → LoadFault → (old new : Option (List ℕ)) → Type 0
 IsNotPut request bytes faults.Unexpected old new = AnswersNone request bytes × Keeps old new
-IsNotPut request bytes faults.WriteFault old new = (m : Message) × IsAnswer request bytes m × AppendsFront old new (message_bytes m)
+IsNotPut request bytes faults.WriteFault old new = (m : Message) × IsAnswer request bytes m
+    × AppendsFront old new (message_bytes m)
 IsNotPut request bytes fault old new = ⊥
 
 -- the counter that a joiner wants is the one that is wanted at the stage

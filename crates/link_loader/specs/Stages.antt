@@ -1,13 +1,15 @@
--- The loader's side of a download (Annex IB, Appendix 7): what it sends at each stage, and what it asks for next. That the next day
--- is asked for up to the period's end, and detailed speed whether there is any or not, is profile.
-use Rattle.std.specs.Prelude.{ℕ, ◌+◌, ◌/◌, ◌%◌, ◌==◌, ◌&&◌, ◌||◌, nat_le, nat_lt, if◌then◌else◌, List, [], ◌∷◌, Option, Some, None}
+-- The loader's side of a download (Annex IB, Appendix 7): what it sends at each stage, and what it asks for next. That
+-- the next day is asked for up to the period's end, and detailed speed whether there is any or not, is profile.
+use Rattle.std.specs.Prelude.{ℕ, ◌+◌, ◌/◌, ◌%◌, ◌==◌, ◌&&◌, ◌||◌, nat_le, nat_lt, if◌then◌else◌, List, [], ◌∷◌, Option}
+use Rattle.std.specs.Prelude.{Some, None}
 use Rattle.byteorder.specs.Endian.{big_bytes}
 use Rattle.link_model.specs.declared.request.Request.{Request}
 use Rattle.link_model.specs.declared.request.Request.TheVariants.{Overview, Day, Events, Speed, Technical}
 use Rattle.link_model.specs.Answers.{number_of, upload_request}
 use Rattle.message_model.specs.Messages.{Message, AnOverview, ADay, AnEventList, ASpeedList, ATechnical}
 use Rattle.link_loader.specs.declared.stage.Stage.{Stage}
-use Rattle.link_loader.specs.declared.stage.Stage.TheVariants.{Start, Diagnostic, Upload, Asked, Acknowledged, Exit, Stop, Finished}
+use Rattle.link_loader.specs.declared.stage.Stage.TheVariants.{Start, Diagnostic, Upload, Asked, Acknowledged, Exit}
+use Rattle.link_loader.specs.declared.stage.Stage.TheVariants.{Stop, Finished}
 
 -- a request names its message by the number, and a day by its first second too
 abbrev pub request_bytes : Request → List ℕ

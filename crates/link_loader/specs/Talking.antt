@@ -35,7 +35,8 @@ pub record Exchanges (messages : Request → Option (List ℕ)) (old : Talk) (fr
 -- exchanges one after the other, by the frames that the unit answers
 abbrev pub Talks : (Request → Option (List ℕ)) → (frames : List (List ℕ)) → Talk → Talk → Type 0
 Talks messages [] old new = new ≡ old
-Talks messages (frame ∷ frames) old new = (mid : Talk) × Exchanges messages old frame mid × Talks messages frames mid new
+Talks messages (frame ∷ frames) old new = (mid : Talk) × Exchanges messages old frame mid
+    × Talks messages frames mid new
 
 -- each of these days is a day's first second, and begins by this one
 abbrev pub AreDays : (end : ℕ) → List StoredDay → Type 0
@@ -48,8 +49,8 @@ pub record IsUnitImage (x : List ℕ) : Type 0 where
   pub bytes : IsBytes x
   pub decodes : Decodes x
 
--- What a download needs of an image: its days follow one another, begin at a day's first second and by the unit's time, which four
--- bytes hold; its messages are of the grammar, and none is longer than the longest of a unit.
+-- What a download needs of an image: its days follow one another, begin at a day's first second and by the unit's time,
+-- which four bytes hold; its messages are of the grammar, and none is longer than the longest of a unit.
 pub record CanBeLoaded (x : List ℕ) : Type 0 where
   pub follow : Follow 0 (sent_days x)
   pub days : AreDays (60 * last_kept x) (sent_days x)

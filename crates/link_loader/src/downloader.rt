@@ -1,4 +1,5 @@
-ghost use Rattle.std.specs.Prelude.{◌≡◌, ◌≤◌, ◌<◌, ◌+◌, ◌↔◌, ◌⊎◌, ℕ, List, length, Some, None, IfNone, IfOk, OnOk, IfErr, OnErr, IsErrOf};
+ghost use Rattle.std.specs.Prelude.{◌≡◌, ◌≤◌, ◌<◌, ◌+◌, ◌↔◌, ◌⊎◌, ℕ, List, length, Some, None, IfNone, IfOk, OnOk};
+ghost use Rattle.std.specs.Prelude.{IfErr, OnErr, IsErrOf};
 ghost use Rattle.std.specs.Io.KnownBytes.{Appends};
 ghost use Rattle.tach_media.specs.Medium.{Rose};
 ghost use Rattle.message_model.specs.Messages.{Message, message_bytes};
@@ -6,7 +7,8 @@ ghost use Rattle.unit_messages.specs.declared.joining.TheConstants.{LONGEST};
 ghost use Rattle.unit_messages.specs.Joining.{wanted, counter_in};
 ghost use Rattle.link_loader.specs.Stages.{sent_at, passed_over, behind_answer, counter_at, next_counter};
 ghost use Rattle.link_loader.specs.Coming.{kind_of, IsInOrder};
-ghost use Rattle.link_loader.specs.Loading.{begun, over, at_stage, after_message, continued, with_piece, Takes, IsAnswer, IsNotPut, IsRefused, IsUnexpected, left_by, LeavesSink};
+ghost use Rattle.link_loader.specs.Loading.{begun, over, at_stage, after_message, continued, with_piece, Takes};
+ghost use Rattle.link_loader.specs.Loading.{IsAnswer, IsNotPut, IsRefused, IsUnexpected, left_by, LeavesSink};
 
 use crate::fault::LoadFault;
 use crate::kind::{FULL, Kind, kind_of};
@@ -19,7 +21,8 @@ use std::marker::Model;
 use tach_media::{Memory, Sink};
 use unit_messages::Joiner;
 
-/// The loader's side of a download: it says which frame to send, takes the answer, and puts each finished message into a sink.
+/// The loader's side of a download: it says which frame to send, takes the answer, and puts each finished message into
+/// a sink.
 #[derive(Drop)]
 pub struct Downloader {
     stage: Stage,
@@ -32,7 +35,10 @@ impl Model for Downloader {
 
     ghost Value = { Load };
 
-    ghost view = { λ d. record { loading = record { stage = d.stage; end = d.end; bytes = d.joiner.bytes }; room = d.joiner.room } };
+    ghost view = { λ d. record {
+      loading = record { stage = d.stage; end = d.end; bytes = d.joiner.bytes };
+      room = d.joiner.room;
+    } };
 
     ghost invariant = { λ d. CounterIsWanted d.stage d.joiner };
 }
@@ -49,7 +55,8 @@ impl Downloader {
         }
     }
 
-    /// The frame to send: the next request, or the acknowledgement of a piece; `None` exactly where the download is over.
+    /// The frame to send: the next request, or the acknowledgement of a piece; `None` exactly where the download is
+    /// over.
     pub fn next(&self) -> Option<Frame>
         ensures sent { result ≡ sent_at self.now.loading.stage }
         ensures none { IfNone result (self.now.loading.stage ≡ Stage.Finished) }
@@ -75,25 +82,33 @@ impl Downloader {
     ///
     /// # Errors
     ///
-    /// `Negative` for a negative answer that is not passed over, `Broken` for a piece out of its order, `Unexpected` for what is no
-    /// answer to the frame that was sent, and `WriteFault` where the sink failed: the download is over. `Memory`: it is as it was.
+    /// `Negative` for a negative answer that is not passed over, `Broken` for a piece out of its order, `Unexpected`
+    /// for what is no answer to the frame that was sent, and `WriteFault` where the sink failed: the download is over.
+    /// `Memory`: it is as it was.
     pub fn take<K: Sink>(&mut self, frame: &Frame, sink: &mut K) -> Result<(), LoadFault>
         // The frame is taken, and what it finishes is in the sink, behind what that held.
-        ensures taken { OnOk result ((out : List ℕ) × Takes self.old.loading frame.now self.new.loading out × Appends (K.held sink.old) (K.held sink.new) out) }
+        ensures taken { OnOk result ((out : List ℕ) × Takes self.old.loading frame.now self.new.loading out
+            × Appends (K.held sink.old) (K.held sink.new) out) }
         ensures refused { IfErr result (IsRefused self.old.loading frame.now) }
         ensures left { IfErr result (λ fault. self.new.loading ≡ left_by fault self.old.loading) }
         ensures same { IsErrOf result LoadFault.Memory → self.new ≡ self.old }
-        ensures sink { IfErr result (λ fault. LeavesSink self.old.loading frame.now fault (K.held sink.old) (K.held sink.new)) }
+        ensures sink { IfErr result (λ fault.
+            LeavesSink self.old.loading frame.now fault (K.held sink.old) (K.held sink.new)) }
         ensures later { K.faults sink.old ≤ K.faults sink.new }
         ensures cause { IsErrOf result LoadFault.WriteFault → Rose (K.faults sink.old) (K.faults sink.new) }
         ensures room { self.old.room ≤ self.new.room }
         // Memory is wanted only where there is no room for the bytes with the piece.
-        ensures enough { IsErrOf result LoadFault.Memory → self.old.room < length (with_piece self.old.loading.bytes frame.now) }
+        ensures enough { IsErrOf result LoadFault.Memory
+            → self.old.room < length (with_piece self.old.loading.bytes frame.now) }
         // Exactly where such a frame comes, but for want of memory at a piece.
         ensures negative { (service code : ℕ) → (IsErrOf result (LoadFault.Negative service code))
-            ↔ ((kind_of self.old.loading.stage frame.now ≡ Kind.Negative service code) × (passed_over self.old.loading.end self.old.loading.stage service code ≡ None)) }
-        ensures broken { (wanted counter : ℕ) → (IsErrOf result (LoadFault.Broken wanted counter)) ↔ (kind_of self.old.loading.stage frame.now ≡ Kind.Broken wanted counter) }
-        ensures unexpected { IsUnexpected self.old.loading frame.now → (IsErrOf result LoadFault.Unexpected) ⊎ (IsErrOf result LoadFault.Memory) }
+            ↔ ((kind_of self.old.loading.stage frame.now ≡ Kind.Negative service code)
+            × (passed_over self.old.loading.end self.old.loading.stage service code ≡ None)) }
+        ensures broken { (wanted counter : ℕ)
+            → (IsErrOf result (LoadFault.Broken wanted counter))
+            ↔ (kind_of self.old.loading.stage frame.now ≡ Kind.Broken wanted counter) }
+        ensures unexpected { IsUnexpected self.old.loading frame.now
+            → (IsErrOf result LoadFault.Unexpected) ⊎ (IsErrOf result LoadFault.Memory) }
     {
         let kind = kind_of(self.stage, frame.bytes());
         self.take_kind(kind, frame, sink)
@@ -108,15 +123,18 @@ impl Downloader {
     ) -> Result<(), LoadFault>
         requires kind { kind ≡ kind_of self.old.loading.stage frame.now }
         requires order { IsInOrder (counter_at self.old.loading.stage) frame.now kind }
-        ensures taken { OnOk result ((out : List ℕ) × Takes self.old.loading frame.now self.new.loading out × Appends (K.held sink.old) (K.held sink.new) out) }
+        ensures taken { OnOk result ((out : List ℕ) × Takes self.old.loading frame.now self.new.loading out
+            × Appends (K.held sink.old) (K.held sink.new) out) }
         ensures refused { IfErr result (IsRefused self.old.loading frame.now) }
         ensures left { IfErr result (λ fault. self.new.loading ≡ left_by fault self.old.loading) }
         ensures same { IsErrOf result LoadFault.Memory → self.new ≡ self.old }
-        ensures sink { IfErr result (λ fault. LeavesSink self.old.loading frame.now fault (K.held sink.old) (K.held sink.new)) }
+        ensures sink { IfErr result (λ fault.
+            LeavesSink self.old.loading frame.now fault (K.held sink.old) (K.held sink.new)) }
         ensures later { K.faults sink.old ≤ K.faults sink.new }
         ensures cause { IsErrOf result LoadFault.WriteFault → Rose (K.faults sink.old) (K.faults sink.new) }
         ensures room { self.old.room ≤ self.new.room }
-        ensures enough { IsErrOf result LoadFault.Memory → self.old.room < length (with_piece self.old.loading.bytes frame.now) }
+        ensures enough { IsErrOf result LoadFault.Memory
+            → self.old.room < length (with_piece self.old.loading.bytes frame.now) }
     {
         match kind {
             Kind::Negative(service, code) => self.pass_over(service, code),
@@ -148,8 +166,12 @@ impl Downloader {
 
     // A negative answer, which may be passed over.
     fn pass_over(&mut self, service: u8, code: u8) -> Result<(), LoadFault>
-        ensures passed { OnOk result ((stage : Stage) × (passed_over self.old.loading.end self.old.loading.stage service code ≡ Some stage) × (self.new.loading ≡ at_stage self.old.loading.end stage)) }
-        ensures refused { IfErr result (λ fault. (fault ≡ LoadFault.Negative service code) × (passed_over self.old.loading.end self.old.loading.stage service code ≡ None) × (self.new.loading ≡ over self.old.loading)) }
+        ensures passed { OnOk result ((stage : Stage)
+            × (passed_over self.old.loading.end self.old.loading.stage service code ≡ Some stage)
+            × (self.new.loading ≡ at_stage self.old.loading.end stage)) }
+        ensures refused { IfErr result (λ fault. (fault ≡ LoadFault.Negative service code)
+            × (passed_over self.old.loading.end self.old.loading.stage service code ≡ None)
+            × (self.new.loading ≡ over self.old.loading)) }
         ensures room { self.new.room ≡ self.old.room }
     {
         let Some(stage) = passed_over(self.end, self.stage, service, code) else {
@@ -162,7 +184,10 @@ impl Downloader {
 
     // The positive answer to what asks for no message came.
     fn agree(&mut self)
-        ensures { self.new ≡ record { loading = at_stage self.old.loading.end (behind_answer self.old.loading.stage); room = self.old.room } }
+        ensures { self.new ≡ record {
+          loading = at_stage self.old.loading.end (behind_answer self.old.loading.stage);
+          room = self.old.room;
+        } }
     {
         let stage = behind_answer(self.stage);
         self.go_to(stage);
@@ -177,15 +202,18 @@ impl Downloader {
     ) -> Result<(), LoadFault>
         requires kind { kind_of self.old.loading.stage frame.now ≡ Kind.Piece request }
         requires order { IsInOrder (counter_at self.old.loading.stage) frame.now (Kind.Piece request) }
-        ensures taken { OnOk result ((out : List ℕ) × Takes self.old.loading frame.now self.new.loading out × Appends (K.held sink.old) (K.held sink.new) out) }
+        ensures taken { OnOk result ((out : List ℕ) × Takes self.old.loading frame.now self.new.loading out
+            × Appends (K.held sink.old) (K.held sink.new) out) }
         ensures refused { IfErr result (IsRefused self.old.loading frame.now) }
         ensures left { IfErr result (λ fault. self.new.loading ≡ left_by fault self.old.loading) }
         ensures same { IsErrOf result LoadFault.Memory → self.new ≡ self.old }
-        ensures sink { IfErr result (λ fault. LeavesSink self.old.loading frame.now fault (K.held sink.old) (K.held sink.new)) }
+        ensures sink { IfErr result (λ fault.
+            LeavesSink self.old.loading frame.now fault (K.held sink.old) (K.held sink.new)) }
         ensures later { K.faults sink.old ≤ K.faults sink.new }
         ensures cause { IsErrOf result LoadFault.WriteFault → Rose (K.faults sink.old) (K.faults sink.new) }
         ensures room { self.old.room ≤ self.new.room }
-        ensures enough { IsErrOf result LoadFault.Memory → self.old.room < length (with_piece self.old.loading.bytes frame.now) }
+        ensures enough { IsErrOf result LoadFault.Memory
+            → self.old.room < length (with_piece self.old.loading.bytes frame.now) }
     {
         match self.add_piece(request, frame) {
             Ok(_) => {
@@ -215,8 +243,11 @@ impl Downloader {
 
     // All pieces of a message have come.
     fn finish_joined<K: Sink>(&mut self, request: Request, sink: &mut K) -> Result<(), LoadFault>
-        ensures put { OnOk result ((m : Message) × IsAnswer request self.old.loading.bytes m × (self.new.loading ≡ after_message self.old.loading m) × Appends (K.held sink.old) (K.held sink.new) (message_bytes m)) }
-        ensures not { IfErr result (λ fault. IsNotPut request self.old.loading.bytes fault (K.held sink.old) (K.held sink.new)) }
+        ensures put { OnOk result ((m : Message) × IsAnswer request self.old.loading.bytes m
+            × (self.new.loading ≡ after_message self.old.loading m)
+            × Appends (K.held sink.old) (K.held sink.new) (message_bytes m)) }
+        ensures not { IfErr result (λ fault. IsNotPut request self.old.loading.bytes fault (K.held sink.old) (K.held
+            sink.new)) }
         ensures over { OnErr result (self.new.loading ≡ over self.old.loading) }
         ensures later { K.faults sink.old ≤ K.faults sink.new }
         ensures cause { IsErrOf result LoadFault.WriteFault → Rose (K.faults sink.old) (K.faults sink.new) }
@@ -233,7 +264,9 @@ impl Downloader {
         bytes: &[u8],
         sink: &mut K,
     ) -> Result<(), LoadFault>
-        ensures put { OnOk result ((m : Message) × IsAnswer request bytes.now m × (self.new.loading ≡ after_message self.old.loading m) × Appends (K.held sink.old) (K.held sink.new) (message_bytes m)) }
+        ensures put { OnOk result ((m : Message) × IsAnswer request bytes.now m
+            × (self.new.loading ≡ after_message self.old.loading m)
+            × Appends (K.held sink.old) (K.held sink.new) (message_bytes m)) }
         ensures not { IfErr result (λ fault. IsNotPut request bytes.now fault (K.held sink.old) (K.held sink.new)) }
         ensures over { OnErr result (self.new.loading ≡ over self.old.loading) }
         ensures later { K.faults sink.old ≤ K.faults sink.new }

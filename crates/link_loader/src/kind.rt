@@ -3,7 +3,8 @@ ghost use Rattle.std.specs.Prelude.{◌≡◌, ◌≤◌, ℕ, List, length};
 ghost use Rattle.link_model.specs.Answers.{number_of};
 ghost use Rattle.unit_messages.specs.Joining.{counter_in};
 ghost use Rattle.link_loader.specs.Stages.{counter_at};
-ghost use Rattle.link_loader.specs.Coming.{begins_as, piece_kind, request_kind, acknowledgement_kind, answer_kind, kind_at, kind_of, IsInOrder};
+ghost use Rattle.link_loader.specs.Coming.{begins_as, piece_kind, request_kind, acknowledgement_kind, answer_kind};
+ghost use Rattle.link_loader.specs.Coming.{kind_at, kind_of, IsInOrder};
 
 use crate::stage::{MESSAGE, Stage};
 use link_model::{Request, number_of};

@@ -17,15 +17,20 @@ pub fn a_units_image_can_be_loaded()
     ensures file { (x : List ℕ) → IsUnitImage x → IsUnitFile (messages_of x) (unit_file x) }
 {}
 
-/// Against a unit that answers by the table, over the messages of its image, a download goes on until it is finished; what is put
-/// out is the unit's file then, and a front of it before. It never joins more bytes than it makes room for.
+/// Against a unit that answers by the table, over the messages of its image, a download goes on until it is finished;
+/// what is put out is the unit's file then, and a front of it before. It never joins more bytes than it makes room for.
 pub fn a_finished_download_is_the_units_file()
-    ensures file { (x : List ℕ) (frames : List (List ℕ)) (talk : Talk) → IsUnitImage x → Talks (content_sent x) frames fresh_talk talk →
+    ensures file { (x : List ℕ) (frames : List (List ℕ)) (talk : Talk) → IsUnitImage x
+        → Talks (content_sent x) frames fresh_talk talk →
         talk.loader.stage ≡ stages.Finished → talk.out ≡ unit_file x }
-    ensures front { (x : List ℕ) (frames : List (List ℕ)) (talk : Talk) → IsUnitImage x → Talks (content_sent x) frames fresh_talk talk →
+    ensures front { (x : List ℕ) (frames : List (List ℕ)) (talk : Talk) → IsUnitImage x
+        → Talks (content_sent x) frames fresh_talk talk →
         (rest : List ℕ) × (talk.out ++ rest ≡ unit_file x) }
-    ensures goes_on { (x : List ℕ) (frames : List (List ℕ)) (talk : Talk) → IsUnitImage x → Talks (content_sent x) frames fresh_talk talk →
-        talk.loader.stage ≢ stages.Finished → (frame : List ℕ) × (new : Talk) × Exchanges (content_sent x) talk frame new }
-    ensures room { (x : List ℕ) (frames : List (List ℕ)) (talk : Talk) (frame : List ℕ) (new : Talk) → IsUnitImage x → Talks (content_sent x) frames fresh_talk talk →
+    ensures goes_on { (x : List ℕ) (frames : List (List ℕ)) (talk : Talk) → IsUnitImage x
+        → Talks (content_sent x) frames fresh_talk talk →
+        talk.loader.stage ≢ stages.Finished
+        → (frame : List ℕ) × (new : Talk) × Exchanges (content_sent x) talk frame new }
+    ensures room { (x : List ℕ) (frames : List (List ℕ)) (talk : Talk) (frame : List ℕ) (new : Talk) → IsUnitImage x
+        → Talks (content_sent x) frames fresh_talk talk →
         Exchanges (content_sent x) talk frame new → length (with_piece talk.loader.bytes frame) ≤ LONGEST }
 {}

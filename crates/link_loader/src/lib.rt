@@ -1,5 +1,5 @@
-//! The loader's side of a download (Annex IB, Appendix 7): what it sends, and what it does about each frame that comes. The
-//! finished messages go to a sink, which then has a unit file.
+//! The loader's side of a download (Annex IB, Appendix 7): what it sends, and what it does about each frame that comes.
+//! The finished messages go to a sink, which then has a unit file.
 #![tactic(auto)]
 
 mod downloader;

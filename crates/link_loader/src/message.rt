@@ -1,5 +1,6 @@
 //! A message of which all bytes have come: judged by the grammar, and put out.
-ghost use Rattle.std.specs.Prelude.{◌≡◌, ◌≤◌, ◌≢◌, ℕ, List, length, true, false, IfOk, IfErr, IfSome, IfNone, IsErrOf, Result};
+ghost use Rattle.std.specs.Prelude.{◌≡◌, ◌≤◌, ◌≢◌, ℕ, List, length, true, false, IfOk, IfErr, IfSome, IfNone, IsErrOf};
+ghost use Rattle.std.specs.Prelude.{Result};
 ghost use Rattle.std.specs.Io.KnownBytes.{Appends};
 ghost use Rattle.tach_media.specs.Medium.{Rose};
 ghost use Rattle.message_model.specs.Messages.{Message, message_bytes};
@@ -17,14 +18,16 @@ use unit_messages::{overview, read_message};
 ///
 /// # Errors
 ///
-/// `Unexpected` exactly where the bytes are no message that answers the request, and `WriteFault` where the sink failed.
+/// `Unexpected` exactly where the bytes are no message that answers the request, and `WriteFault` where the sink
+/// failed.
 pub fn put_message<K: Sink>(
     sink: &mut K,
     request: Request,
     end: u32,
     bytes: &[u8],
 ) -> Result<Next, LoadFault>
-    ensures put { IfOk result (λ next. (m : Message) × IsAnswer request bytes.now m × (next ≡ next_of end m) × Appends (K.held sink.old) (K.held sink.new) (message_bytes m)) }
+    ensures put { IfOk result (λ next. (m : Message) × IsAnswer request bytes.now m × (next ≡ next_of end m)
+        × Appends (K.held sink.old) (K.held sink.new) (message_bytes m)) }
     ensures first { IfOk result (λ next. counter_at next.stage ≡ 1) }
     ensures not { IfErr result (λ fault. IsNotPut request bytes.now fault (K.held sink.old) (K.held sink.new)) }
     ensures later { K.faults sink.old ≤ K.faults sink.new }

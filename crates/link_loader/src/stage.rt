@@ -1,7 +1,8 @@
 //! What is sent at each stage of a download, and what comes next.
 ghost use Rattle.std.specs.Prelude.{◌≡◌, ◌<◌, ◌≤◌, length, IfSome};
 ghost use Rattle.byteorder.specs.Endian.{big_bytes};
-ghost use Rattle.link_loader.specs.Stages.{sent_at, request_bytes, acknowledgement, first_day, next_day, behind_lack, passed_over, behind_answer, counter_at};
+ghost use Rattle.link_loader.specs.Stages.{sent_at, request_bytes, acknowledgement, first_day, next_day, behind_lack};
+ghost use Rattle.link_loader.specs.Stages.{passed_over, behind_answer, counter_at};
 
 use link_frames::Frame;
 use link_model::Request;

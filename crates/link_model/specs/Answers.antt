@@ -1,6 +1,8 @@
--- What a unit answers on the link (Appendix 7), by one table of checks in their order. The numbers of the codes, and which
--- check gives which, are this project's profile.
-use Rattle.std.specs.Prelude.{ℕ, zero, suc, ◌+◌, ◌-◌, ◌*◌, ◌/◌, ◌%◌, ◌<◌, ◌≤◌, ◌==◌, ◌&&◌, ◌||◌, nat_le, Bool, true, false, if◌then◌else◌, List, [], ◌∷◌, ◌++◌, length, take, drop, slice_index, bytes_eq, Option, Some, None, IfSome, is_some, option_to_list, map}
+-- What a unit answers on the link (Appendix 7), by one table of checks in their order. The numbers of the codes, and
+-- which check gives which, are this project's profile.
+use Rattle.std.specs.Prelude.{ℕ, zero, suc, ◌+◌, ◌-◌, ◌*◌, ◌/◌, ◌%◌, ◌<◌, ◌≤◌, ◌==◌, ◌&&◌, ◌||◌, nat_le, Bool, true}
+use Rattle.std.specs.Prelude.{false, if◌then◌else◌, List, [], ◌∷◌, ◌++◌, length, take, drop, slice_index, bytes_eq}
+use Rattle.std.specs.Prelude.{Option, Some, None, IfSome, is_some, option_to_list, map}
 use Rattle.link_model.specs.declared.side.End.TheVariants as side
 use Rattle.link_model.specs.declared.lengths.TheConstants.{FRAME_MOST, WHOLE_MOST, PIECE_MOST}
 use Rattle.link_model.specs.declared.request.Request.{Request}
@@ -47,7 +49,8 @@ check holds code = record { holds = holds; code = code }
 -- the first check that fails refuses; where none does, the reply
 abbrev pub checked : LinkState → ℕ → List Check → Reply → Reply
 checked state service [] reply = reply
-checked state service (c ∷ checks) reply = if c.holds then checked state service checks reply else refuses state service c.code
+checked state service (c ∷ checks) reply = if c.holds then checked state service checks reply
+    else refuses state service c.code
 
 -- uploads are allowed, asked for or not; and messages may be asked for
 abbrev pub is_diagnostic : LinkState → Bool
@@ -75,7 +78,8 @@ number_of Technical = 5
 
 -- the four bytes of a day, the highest first
 abbrev pub day_in : List ℕ → ℕ
-day_in bytes = ((slice_index bytes 2 * 256 + slice_index bytes 3) * 256 + slice_index bytes 4) * 256 + slice_index bytes 5
+day_in bytes = ((slice_index bytes 2 * 256 + slice_index bytes 3) * 256 + slice_index bytes 4) * 256
+    + slice_index bytes 5
 
 -- the request that these bytes make, behind its checks
 abbrev pub request_in : List ℕ → Request
@@ -87,8 +91,8 @@ request_in bytes =
 abbrev pub upload_request : List ℕ
 upload_request = 0x35 ∷ 0x00 ∷ 0x00 ∷ 0x00 ∷ 0x00 ∷ 0x00 ∷ 0xFF ∷ 0xFF ∷ 0xFF ∷ 0xFF ∷ []
 
--- The bytes of a message that go in its piece of this counter, from 1 on: as many as a piece has room for, in the last piece
--- fewer, none where nothing is left.
+-- The bytes of a message that go in its piece of this counter, from 1 on: as many as a piece has room for, in the last
+-- piece fewer, none where nothing is left.
 abbrev pub cut : List ℕ → ℕ → List ℕ
 cut content counter = take PIECE_MOST (drop (PIECE_MOST * (counter - 1)) content)
 
@@ -107,7 +111,8 @@ has_piece content counter = nat_le (PIECE_MOST * (counter - 1)) (length content)
 -- a message that has room in one frame, behind its number, goes whole, a longer one in pieces
 abbrev pub begins_to_send : Request → List ℕ → Reply
 begins_to_send request content =
-    if nat_le (length content) WHOLE_MOST then answers (0x76 ∷ number_of request ∷ content) Upload else answers (piece request content 1) (Sending request 1)
+    if nat_le (length content) WHOLE_MOST then answers (0x76 ∷ number_of request ∷ content) Upload
+    else answers (piece request content 1) (Sending request 1)
 
 abbrev pub begins_if_any : Request → Option (List ℕ) → LinkState → Reply
 begins_if_any request None state = silent state
@@ -128,9 +133,11 @@ transfer_checks messages state bytes =
 -- a request of a message; what stands behind the number in each message, where there is one
 abbrev pub transfer : (Request → Option (List ℕ)) → LinkState → List ℕ → Reply
 transfer messages state bytes =
-    checked state 0x36 (transfer_checks messages state bytes) (begins_if_any (request_in bytes) (messages (request_in bytes)) state)
+    checked state 0x36 (transfer_checks messages state bytes)
+    (begins_if_any (request_in bytes) (messages (request_in bytes)) state)
 
--- an acknowledged piece: FFFF ends the transfer, the next counter asks for the next piece, the same one for the same again
+-- an acknowledged piece: FFFF ends the transfer, the next counter asks for the next piece, the same one for the same
+-- again
 abbrev pub sends_on : Request → ℕ → Option (List ℕ) → ℕ → Reply
 sends_on request counter None code = refuses (Sending request counter) 0x83 0xFA
 sends_on request counter (Some content) code =
@@ -144,28 +151,36 @@ code_in bytes = slice_index bytes 2 * 256 + slice_index bytes 3
 abbrev pub after_piece : (Request → Option (List ℕ)) → LinkState → ℕ → Reply
 after_piece messages (Sending request counter) code =
     if code == 0xFFFF then silent Upload
-    else checked (Sending request counter) 0x83 (check (code == counter + 1 || code == counter) 0x31 ∷ []) (sends_on request counter (messages request) code)
+    else checked (Sending request counter) 0x83 (check (code == counter + 1 || code == counter) 0x31 ∷ [])
+    (sends_on request counter (messages request) code)
 after_piece messages state code = silent state
 
 abbrev pub acknowledge_checks : LinkState → List ℕ → List Check
-acknowledge_checks state bytes = check (length bytes == 4) 0x13 ∷ check (slice_index bytes 1 == 0x76) 0x12 ∷ check (is_sending state) 0x22 ∷ []
+acknowledge_checks state bytes = check (length bytes == 4) 0x13 ∷ check (slice_index bytes 1 == 0x76) 0x12
+    ∷ check (is_sending state) 0x22 ∷ []
 
 abbrev pub acknowledge : (Request → Option (List ℕ)) → LinkState → List ℕ → Reply
-acknowledge messages state bytes = checked state 0x83 (acknowledge_checks state bytes) (after_piece messages state (code_in bytes))
+acknowledge messages state bytes = checked state 0x83 (acknowledge_checks state bytes)
+    (after_piece messages state (code_in bytes))
 
 -- The table, by the first byte: the service.
 abbrev pub served : (Request → Option (List ℕ)) → LinkState → List ℕ → Reply
 served messages state bytes =
-    if slice_index bytes 0 == 0x81 then checked state 0x81 (check (length bytes == 1) 0x13 ∷ []) (answers (0xC1 ∷ 0xEA ∷ 0x8F ∷ []) Started)
-    else if slice_index bytes 0 == 0x82 then checked state 0x82 (check (length bytes == 1) 0x13 ∷ []) (answers (0xC2 ∷ []) Idle)
+    if slice_index bytes 0 == 0x81
+    then checked state 0x81 (check (length bytes == 1) 0x13 ∷ []) (answers (0xC1 ∷ 0xEA ∷ 0x8F ∷ []) Started)
+    else if slice_index bytes 0 == 0x82
+    then checked state 0x82 (check (length bytes == 1) 0x13 ∷ []) (answers (0xC2 ∷ []) Idle)
     else if slice_index bytes 0 == 0x10 then
-    checked state 0x10 (check (length bytes == 2) 0x13 ∷ check (slice_index bytes 1 == 0x81) 0x12 ∷ []) (answers (0x50 ∷ 0x81 ∷ []) Diagnostic)
+    checked state 0x10 (check (length bytes == 2) 0x13 ∷ check (slice_index bytes 1 == 0x81) 0x12 ∷ [])
+    (answers (0x50 ∷ 0x81 ∷ []) Diagnostic)
     else if slice_index bytes 0 == 0x35 then
-    checked state 0x35 (check (length bytes == 10) 0x13 ∷ check (is_diagnostic state) 0x22 ∷ check (bytes_eq bytes upload_request) 0x50 ∷ [])
+    checked state 0x35 (check (length bytes == 10) 0x13 ∷ check (is_diagnostic state) 0x22
+    ∷ check (bytes_eq bytes upload_request) 0x50 ∷ [])
     (answers (0x75 ∷ 0x00 ∷ 0xFF ∷ []) Upload)
     else if slice_index bytes 0 == 0x36 then transfer messages state bytes
     else if slice_index bytes 0 == 0x37 then
-    checked state 0x37 (check (length bytes == 1) 0x13 ∷ check (is_upload state) 0x22 ∷ []) (answers (0x77 ∷ []) Diagnostic)
+    checked state 0x37 (check (length bytes == 1) 0x13 ∷ check (is_upload state) 0x22 ∷ [])
+    (answers (0x77 ∷ []) Diagnostic)
     else if slice_index bytes 0 == 0x83 then acknowledge messages state bytes
     else refuses state (slice_index bytes 0) 0x11
 
@@ -185,7 +200,8 @@ answered messages state heard = active messages state heard
 -- the answers to what is heard, one after the other, from a state on
 abbrev pub run_from : (Request → Option (List ℕ)) → LinkState → List Heard → List (List ℕ)
 run_from messages state [] = []
-run_from messages state (heard ∷ seen) = option_to_list (answered messages state heard).answer ++ run_from messages (answered messages state heard).state seen
+run_from messages state (heard ∷ seen) = option_to_list (answered messages state heard).answer
+    ++ run_from messages (answered messages state heard).state seen
 
 -- the frames that go out for the bytes that come in
 abbrev pub frames_out : (Request → Option (List ℕ)) → LinkState → List ℕ → List (List ℕ)

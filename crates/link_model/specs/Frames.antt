@@ -50,7 +50,8 @@ judged byte front body last = if last == sum front % 256 then Right body else Wr
 
 -- what is heard of a frame: its data where the last byte is the sum of all earlier ones modulo 256
 abbrev pub heard_of : End → Shape → Heard
-heard_of end shape = judged (slice_index (body_of shape) 0) (header end shape ++ body_of shape) (body_of shape) (last_of shape)
+heard_of end shape = judged (slice_index (body_of shape) 0) (header end shape ++ body_of shape) (body_of shape)
+    (last_of shape)
 
 -- the bytes begin with a frame
 pub record BeginsFrame (end : End) (bytes : List ℕ) : Type 0 where
@@ -72,13 +73,15 @@ pub data Part : Type 0 where
   Framed : Shape → Part
   Passed : ℕ → Part
 
--- The stream is these parts, and then the beginning of a frame. A byte is passed over only where neither a frame nor the
--- beginning of one stands.
+-- The stream is these parts, and then the beginning of a frame. A byte is passed over only where neither a frame nor
+-- the beginning of one stands.
 abbrev pub IsRead : End → List Part → List ℕ → List ℕ → Type 0
 IsRead end [] bytes rest = (bytes ≡ rest) × IsUnfinished end bytes
-IsRead end (Framed shape ∷ parts) bytes rest = (more : List ℕ) × IsShape end shape × (bytes ≡ spelled end shape ++ more) × IsRead end parts more rest
+IsRead end (Framed shape ∷ parts) bytes rest = (more : List ℕ) × IsShape end shape × (bytes ≡ spelled end shape ++ more)
+    × IsRead end parts more rest
 IsRead end (Passed byte ∷ parts) bytes rest =
-    (more : List ℕ) × (bytes ≡ byte ∷ more) × (BeginsFrame end bytes → ⊥) × (IsUnfinished end bytes → ⊥) × IsRead end parts more rest
+    (more : List ℕ) × (bytes ≡ byte ∷ more) × (BeginsFrame end bytes → ⊥) × (IsUnfinished end bytes → ⊥)
+    × IsRead end parts more rest
 
 -- what is heard of the frames among these parts
 abbrev pub heard_in_parts : End → List Part → List Heard

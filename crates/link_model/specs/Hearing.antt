@@ -1,5 +1,6 @@
 -- Hearing byte after byte: what is kept of a frame that has begun, and what is heard at its last byte.
-use Rattle.std.specs.Prelude.{ℕ, ◌+◌, ◌==◌, ◌&&◌, ◌||◌, not, nat_lt, Bool, true, if◌then◌else◌, List, [], ◌∷◌, ◌++◌, length, drop, slice_index, Option, Some, None, option_to_list}
+use Rattle.std.specs.Prelude.{ℕ, ◌+◌, ◌==◌, ◌&&◌, ◌||◌, not, nat_lt, Bool, true, if◌then◌else◌, List, [], ◌∷◌, ◌++◌}
+use Rattle.std.specs.Prelude.{length, drop, slice_index, Option, Some, None, option_to_list}
 use Rattle.link_model.specs.declared.side.End.{End}
 use Rattle.link_model.specs.declared.side.End.TheVariants as side
 use Rattle.link_model.specs.Frames.{Heard, judged, second, third}
@@ -15,7 +16,8 @@ looks_right end [] = true
 looks_right end (a ∷ []) = starts end a
 looks_right end (a ∷ b ∷ []) = starts end a && b == second end
 looks_right end (a ∷ b ∷ c ∷ []) = starts end a && b == second end && c == third end
-looks_right end (a ∷ b ∷ c ∷ d ∷ more) = starts end a && b == second end && c == third end && (a == 0x81 || not (d == 0))
+looks_right end (a ∷ b ∷ c ∷ d ∷ more) = starts end a && b == second end && c == third end
+    && (a == 0x81 || not (d == 0))
 
 -- how many bytes the frame has that begins so; none has fewer than five
 abbrev pub size_of : List ℕ → ℕ
@@ -47,13 +49,15 @@ heard_at_last kept byte = judged (slice_index kept (header_size kept)) kept (dro
 abbrev pub after_byte : End → List ℕ → ℕ → Ear
 after_byte end kept byte =
     if not (looks_right end (kept ++ byte ∷ [])) then record { kept = anew end byte; heard = None }
-    else if length (kept ++ byte ∷ []) == size_of (kept ++ byte ∷ []) then record { kept = []; heard = Some (heard_at_last kept byte) }
+    else if length (kept ++ byte ∷ []) == size_of (kept ++ byte ∷ [])
+    then record { kept = []; heard = Some (heard_at_last kept byte) }
     else record { kept = kept ++ byte ∷ []; heard = None }
 
 -- what is heard in these bytes, and what is kept after them
 abbrev pub heard_in : End → List ℕ → List ℕ → List Heard
 heard_in end kept [] = []
-heard_in end kept (byte ∷ bytes) = option_to_list (after_byte end kept byte).heard ++ heard_in end (after_byte end kept byte).kept bytes
+heard_in end kept (byte ∷ bytes) = option_to_list (after_byte end kept byte).heard
+    ++ heard_in end (after_byte end kept byte).kept bytes
 
 abbrev pub kept_after : End → List ℕ → List ℕ → List ℕ
 kept_after end kept [] = kept
@@ -62,4 +66,5 @@ kept_after end kept (byte ∷ bytes) = kept_after end (after_byte end kept byte)
 -- the same of a stream in pieces, one after the other
 abbrev pub heard_in_pieces : End → List ℕ → List (List ℕ) → List Heard
 heard_in_pieces end kept [] = []
-heard_in_pieces end kept (piece ∷ pieces) = heard_in end kept piece ++ heard_in_pieces end (kept_after end kept piece) pieces
+heard_in_pieces end kept (piece ∷ pieces) = heard_in end kept piece
+    ++ heard_in_pieces end (kept_after end kept piece) pieces

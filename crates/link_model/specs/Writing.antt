@@ -23,5 +23,6 @@ start_of_communication = with_sum (0x81 ∷ 0xEE ∷ 0xF0 ∷ 0x81 ∷ [])
 
 -- a frame with this data, written to this side
 abbrev pub written_to : End → List ℕ → List ℕ
-written_to side.Unit body = if length body == 1 && slice_index body 0 == 0x81 then start_of_communication else written_long side.Unit body
+written_to side.Unit body = if length body == 1 && slice_index body 0 == 0x81 then start_of_communication
+    else written_long side.Unit body
 written_to side.Loader body = written_long side.Loader body

@@ -2,7 +2,8 @@
 ghost use Rattle.std.specs.Prelude.{◌≡◌};
 ghost use Rattle.link_model.specs.Answers.{number_of};
 
-/// What a downloader asks of a unit: the overview, the activities of a day, events and faults, detailed speed, technical data.
+/// What a downloader asks of a unit: the overview, the activities of a day, events and faults, detailed speed,
+/// technical data.
 #[derive(Clone, Copy, Debug, PartialEq, Eq)]
 pub enum Request {
     Overview,

@@ -21,18 +21,23 @@ TellsMore (Some before) None asks = ⊥
 TellsMore (Some before) (Some now) asks = now ≡ before ++ asks
 
 -- a read before which the sink stood so
-abbrev pub Asks : {E : Type 0} → (before now : Option (List Asking)) → (held : Option (List ℕ)) → Result ℕ E → (buf : List ℕ) → Type 0
+abbrev pub Asks : {E : Type 0} → (before now : Option (List Asking)) → (held : Option (List ℕ)) → Result ℕ E
+    → (buf : List ℕ) → Type 0
 Asks before now held result buf = MatchResult result
     (λ n. TellsMore before now (record { held = held; came = take n buf } ∷ []))
     (λ _. TellsMore before now (record { held = held; came = [] } ∷ []))
 
--- BEFORE EACH READ all that had come was answered: `Answered came held sunk` says which answers take the sink from `held` to `sunk`
-abbrev pub AreAnsweredBefore : (Answered : List ℕ → (held sunk : Option (List ℕ)) → Type 0) → (came : List ℕ) → (held : Option (List ℕ)) → List Asking → Type 0
+-- BEFORE EACH READ all that had come was answered: `Answered came held sunk` says which answers take the sink from
+-- `held` to `sunk`
+abbrev pub AreAnsweredBefore : (Answered : List ℕ → (held sunk : Option (List ℕ)) → Type 0) → (came : List ℕ)
+    → (held : Option (List ℕ)) → List Asking → Type 0
 AreAnsweredBefore Answered came held [] = ⊤
-AreAnsweredBefore Answered came held (ask ∷ asks) = Answered came held ask.held × AreAnsweredBefore Answered (came ++ ask.came) held asks
+AreAnsweredBefore Answered came held (ask ∷ asks) = Answered came held ask.held
+    × AreAnsweredBefore Answered (came ++ ask.came) held asks
 
 -- The reads of a service: they gave what came from the source, and before each of them all that had come was answered.
-pub record AnswersInTime (Answered : List ℕ → (held sunk : Option (List ℕ)) → Type 0) (left unread held : Option (List ℕ)) (before now : Option (List Asking)) : Type 0 where
+pub record AnswersInTime (Answered : List ℕ → (held sunk : Option (List ℕ)) → Type 0)
+    (left unread held : Option (List ℕ)) (before now : Option (List Asking)) : Type 0 where
   pub asks : List Asking
   pub told : TellsMore before now asks
   pub consumed : Consumes left unread (given asks)

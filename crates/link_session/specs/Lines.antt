@@ -28,13 +28,15 @@ abbrev pub bytes_of : Spelling → List (List ℕ) → List ℕ
 bytes_of spelling answers = concat (map (spelled spelling) answers)
 
 -- after these were heard the unit stands so, and the sink has taken the answers
-pub record IsAnswered (spelling : Spelling) (messages : Request → Option (List ℕ)) (before : LinkState) (seen : List Heard) (after : LinkState) (held sunk : Option (List ℕ)) : Type 0 where
+pub record IsAnswered (spelling : Spelling) (messages : Request → Option (List ℕ)) (before : LinkState)
+    (seen : List Heard) (after : LinkState) (held sunk : Option (List ℕ)) : Type 0 where
   pub stands : after ≡ state_after messages before seen
   pub sent : Appends held sunk (bytes_of spelling (run_from messages before seen))
 
--- The unit ended the answers at a frame that was heard, whose answer hangs on it: what was heard before was answered, and nothing
--- else went to the sink.
-pub record StopsAsking (spelling : Spelling) (messages : Request → Option (List ℕ)) (state : LinkState) (seen : List Heard) (held sunk : Option (List ℕ)) : Type 0 where
+-- The unit ended the answers at a frame that was heard, whose answer hangs on it: what was heard before was answered,
+-- and nothing else went to the sink.
+pub record StopsAsking (spelling : Spelling) (messages : Request → Option (List ℕ)) (state : LinkState)
+    (seen : List Heard) (held sunk : Option (List ℕ)) : Type 0 where
   pub before : List Heard
   pub asking : Heard
   pub behind : List Heard

@@ -21,31 +21,40 @@ use Rattle.link_session.specs.declared.service.TheConstants.{MOST}
 abbrev pub answers_to : (Request → Option (List ℕ)) → List ℕ → List ℕ
 answers_to messages bytes = concat (frames_out messages Idle bytes)
 
--- What went to the sink for what was heard, where the sink or the unit ended the answers: a front of them; or those to the frames
--- before one whose answer hangs on the unit.
-abbrev pub Stops : Spelling → ServeFault → (Request → Option (List ℕ)) → LinkState → List Heard → (held sunk : Option (List ℕ)) → Type 0
+-- What went to the sink for what was heard, where the sink or the unit ended the answers: a front of them; or those to
+-- the frames before one whose answer hangs on the unit.
+abbrev pub Stops : Spelling → ServeFault → (Request → Option (List ℕ)) → LinkState → List Heard
+    → (held sunk : Option (List ℕ)) → Type 0
 Stops spelling ReadFault messages state seen held sunk = ⊥
-Stops spelling WriteFault messages state seen held sunk = AppendsFront held sunk (bytes_of spelling (run_from messages state seen))
+Stops spelling WriteFault messages state seen held sunk = AppendsFront held sunk
+    (bytes_of spelling (run_from messages state seen))
 Stops spelling Failed messages state seen held sunk = StopsAsking spelling messages state seen held sunk
 Stops spelling (BadUnit place) messages state seen held sunk = StopsAsking spelling messages state seen held sunk
 Stops spelling TooLong messages state seen held sunk = ⊥
 
 -- the same for bytes of which so many may come: of more the first alone are answered
-abbrev pub StopsWithin : Spelling → ServeFault → (Request → Option (List ℕ)) → LinkState → (kept : List ℕ) → (left : ℕ) → List ℕ → (held sunk : Option (List ℕ)) → Type 0
+abbrev pub StopsWithin : Spelling → ServeFault → (Request → Option (List ℕ)) → LinkState → (kept : List ℕ) → (left : ℕ)
+    → List ℕ → (held sunk : Option (List ℕ)) → Type 0
 StopsWithin spelling TooLong messages state kept left bytes held sunk =
-    (left < length bytes) × Appends held sunk (bytes_of spelling (run_from messages state (heard_in side.Unit kept (take left bytes))))
-StopsWithin spelling fault messages state kept left bytes held sunk = Stops spelling fault messages state (heard_in side.Unit kept (take left bytes)) held sunk
+    (left < length bytes) × Appends held sunk
+    (bytes_of spelling (run_from messages state (heard_in side.Unit kept (take left bytes))))
+StopsWithin spelling fault messages state kept left bytes held sunk = Stops spelling fault messages state
+    (heard_in side.Unit kept (take left bytes)) held sunk
 
--- What went to the sink for bytes that came: their answers; the answers to the first 16777216 where more came; less where the sink
--- or the unit ended the service, and then because of these bytes.
-abbrev pub Sends : {T : Type 0} → Result T ServeFault → (Request → Option (List ℕ)) → (came : List ℕ) → (held sunk : Option (List ℕ)) → Type 0
+-- What went to the sink for bytes that came: their answers; the answers to the first 16777216 where more came; less
+-- where the sink or the unit ended the service, and then because of these bytes.
+abbrev pub Sends : {T : Type 0} → Result T ServeFault → (Request → Option (List ℕ)) → (came : List ℕ)
+    → (held sunk : Option (List ℕ)) → Type 0
 Sends (Ok done) messages came held sunk = (length came ≤ MOST) × Appends held sunk (answers_to messages came)
 Sends (Err ReadFault) messages came held sunk = (length came ≤ MOST) × Appends held sunk (answers_to messages came)
-Sends (Err TooLong) messages came held sunk = (MOST < length came) × Appends held sunk (answers_to messages (take MOST came))
-Sends (Err fault) messages came held sunk = Stops Bytes fault messages Idle (heard_in side.Unit [] (take MOST came)) held sunk
+Sends (Err TooLong) messages came held sunk = (MOST < length came)
+    × Appends held sunk (answers_to messages (take MOST came))
+Sends (Err fault) messages came held sunk = Stops Bytes fault messages Idle (heard_in side.Unit [] (take MOST came))
+    held sunk
 
 -- The bytes that came from the source, and what went to the sink for them.
-pub record IsServed {T : Type 0} (result : Result T ServeFault) (messages : Request → Option (List ℕ)) (left unread held sunk : Option (List ℕ)) : Type 0 where
+pub record IsServed {T : Type 0} (result : Result T ServeFault) (messages : Request → Option (List ℕ))
+    (left unread held sunk : Option (List ℕ)) : Type 0 where
   pub came : List ℕ
   pub consumed : Consumes left unread came
   pub sends : Sends result messages came held sunk

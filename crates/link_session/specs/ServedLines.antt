@@ -1,5 +1,6 @@
 -- How a service of lines ends.
-use Rattle.std.specs.Prelude.{◌≡◌, ◌≢◌, ◌⊎◌, ℕ, ◌+◌, ◌<◌, ◌≤◌, Bool, true, false, Option, Some, None, IfSome, List, [], ◌∷◌, ◌++◌, length, take, Result, Ok, Err}
+use Rattle.std.specs.Prelude.{◌≡◌, ◌≢◌, ◌⊎◌, ℕ, ◌+◌, ◌<◌, ◌≤◌, Bool, true, false, Option, Some, None, IfSome, List, []}
+use Rattle.std.specs.Prelude.{◌∷◌, ◌++◌, length, take, Result, Ok, Err}
 use Rattle.std.specs.Io.KnownBytes.{Appends, Consumes, IsAtEnd}
 use Rattle.text_fields.specs.Pieces.{pieces}
 use Rattle.text_fields.specs.Lines.{line_bytes}
@@ -34,7 +35,8 @@ abbrev pub lines_to : (Request → Option (List ℕ)) → List ℕ → List ℕ
 lines_to messages bytes = bytes_of HexLines (run_from messages Idle (heard_in side.Unit [] bytes))
 
 -- These lines spell bytes, and the sink took the answers to them.
-pub record AreAnswered (messages : Request → Option (List ℕ)) (lines : List (List ℕ)) (held sunk : Option (List ℕ)) : Type 0 where
+pub record AreAnswered (messages : Request → Option (List ℕ)) (lines : List (List ℕ))
+    (held sunk : Option (List ℕ)) : Type 0 where
   pub bytes : List ℕ
   pub spell : bytes_in lines ≡ Some bytes
   pub sent : Appends held sunk (lines_to messages bytes)
@@ -44,7 +46,8 @@ pub record StandsAt (text : List ℕ) (before : List (List ℕ)) (line : List �
   pub lines : pieces 10 text ≡ before ++ line ∷ behind
 
 -- all lines of a text but the last, which no LF has ended, were answered
-pub record WholeAnswered (messages : Request → Option (List ℕ)) (text : List ℕ) (held sunk : Option (List ℕ)) : Type 0 where
+pub record WholeAnswered (messages : Request → Option (List ℕ)) (text : List ℕ) (held sunk : Option (List ℕ)) : Type
+    0 where
   pub before : List (List ℕ)
   pub last : List ℕ
   pub stands : StandsAt text before last []
@@ -61,7 +64,8 @@ pub record StopsAtLine (P : List ℕ → Type 0) (text : List ℕ) : Type 0 wher
   pub stops : P bytes
 
 -- a line of this number spells no bytes, and has ended: by LF, or with the source; those before it were answered
-pub record IsBadLine (number : ℕ) (messages : Request → Option (List ℕ)) (text : List ℕ) (unread held sunk : Option (List ℕ)) : Type 0 where
+pub record IsBadLine (number : ℕ) (messages : Request → Option (List ℕ)) (text : List ℕ)
+    (unread held sunk : Option (List ℕ)) : Type 0 where
   pub before : List (List ℕ)
   pub line : List ℕ
   pub behind : List (List ℕ)
@@ -79,19 +83,25 @@ pub record IsOutAt (messages : Request → Option (List ℕ)) (text : List ℕ) 
   pub stands : StandsAt text before line behind
   pub answered : AreAnswered messages before held sunk
 
--- What went to the sink for a text that came: the answers to all of its lines; or to the whole ones, or to those before the one at
--- which the service ended.
-abbrev pub LinesSend : {T : Type 0} → Result T LinesFault → (Request → Option (List ℕ)) → (came : List ℕ) → (unread held sunk : Option (List ℕ)) → Type 0
-LinesSend (Ok done) messages came unread held sunk = (length came ≤ MOST) × AreAnswered messages (pieces 10 came) held sunk
-LinesSend (Err (Ended ReadFault)) messages came unread held sunk = (length came ≤ MOST) × WholeAnswered messages came held sunk
-LinesSend (Err (Ended TooLong)) messages came unread held sunk = (MOST < length came) × WholeAnswered messages (take MOST came) held sunk
+-- What went to the sink for a text that came: the answers to all of its lines; or to the whole ones, or to those before
+-- the one at which the service ended.
+abbrev pub LinesSend : {T : Type 0} → Result T LinesFault → (Request → Option (List ℕ)) → (came : List ℕ)
+    → (unread held sunk : Option (List ℕ)) → Type 0
+LinesSend (Ok done) messages came unread held sunk = (length came ≤ MOST)
+    × AreAnswered messages (pieces 10 came) held sunk
+LinesSend (Err (Ended ReadFault)) messages came unread held sunk = (length came ≤ MOST)
+    × WholeAnswered messages came held sunk
+LinesSend (Err (Ended TooLong)) messages came unread held sunk = (MOST < length came)
+    × WholeAnswered messages (take MOST came) held sunk
 LinesSend (Err (Ended fault)) messages came unread held sunk =
     StopsAtLine (λ bytes. Stops HexLines fault messages Idle (heard_in side.Unit [] bytes) held sunk) (take MOST came)
-LinesSend (Err (BadLine number)) messages came unread held sunk = IsBadLine number messages (take MOST came) unread held sunk
+LinesSend (Err (BadLine number)) messages came unread held sunk = IsBadLine number messages (take MOST came) unread held
+    sunk
 LinesSend (Err Memory) messages came unread held sunk = IsOutAt messages (take MOST came) held sunk
 
 -- The text that came from the source, and what went to the sink for it.
-pub record AreServed {T : Type 0} (result : Result T LinesFault) (messages : Request → Option (List ℕ)) (left unread held sunk : Option (List ℕ)) : Type 0 where
+pub record AreServed {T : Type 0} (result : Result T LinesFault) (messages : Request → Option (List ℕ))
+    (left unread held sunk : Option (List ℕ)) : Type 0 where
   pub came : List ℕ
   pub consumed : Consumes left unread came
   pub sends : LinesSend result messages came unread held sunk
@@ -111,34 +121,41 @@ abbrev pub have_failed : {T : Type 0} → Result T LinesFault → Bool
 have_failed (Err (Ended Failed)) = true
 have_failed _ = false
 
--- From where the unit stood these lines have ended, of which so many were whole before: they spell bytes, the frames in them were
--- answered, this stands behind them, and these lines behind that.
-pub record AreHeard (all rest : List (List ℕ)) (whole : ℕ) (kept : List ℕ) (state : LinkState) (text : List ℕ) (reached : ℕ) (scanner : Scan) (after : LinkState) (image held sunk : Option (List ℕ)) : Type 0 where
+-- From where the unit stood these lines have ended, of which so many were whole before: they spell bytes, the frames in
+-- them were answered, this stands behind them, and these lines behind that.
+pub record AreHeard (all rest : List (List ℕ)) (whole : ℕ) (kept : List ℕ) (state : LinkState) (text : List ℕ)
+    (reached : ℕ) (scanner : Scan) (after : LinkState) (image held sunk : Option (List ℕ)) : Type 0 where
   pub ended : List (List ℕ)
   pub bytes : List ℕ
   pub stands : all ≡ ended ++ text ∷ rest
   pub spell : bytes_in ended ≡ Some bytes
   pub count : reached ≡ whole + length ended
   pub hears : scanner ≡ listening (kept_after side.Unit kept bytes)
-  pub answered : IfSome image (λ x. IsAnswered HexLines (content_sent x) state (heard_in side.Unit kept bytes) after held sunk)
+  pub answered : IfSome image (λ x. IsAnswered HexLines (content_sent x) state (heard_in side.Unit kept bytes) after
+      held sunk)
 
 -- a line spells bytes, and the frames in them were answered
-pub record IsHeard (line kept : List ℕ) (state : LinkState) (scanner : Scan) (after : LinkState) (image held sunk : Option (List ℕ)) : Type 0 where
+pub record IsHeard (line kept : List ℕ) (state : LinkState) (scanner : Scan) (after : LinkState)
+    (image held sunk : Option (List ℕ)) : Type 0 where
   pub bytes : List ℕ
   pub spell : line_bytes line ≡ Some bytes
   pub hears : scanner ≡ listening (kept_after side.Unit kept bytes)
-  pub answered : IfSome image (λ x. IsAnswered HexLines (content_sent x) state (heard_in side.Unit kept bytes) after held sunk)
+  pub answered : IfSome image (λ x. IsAnswered HexLines (content_sent x) state (heard_in side.Unit kept bytes) after
+      held sunk)
 
 -- a line spells bytes, and the sink or the unit ended the service at the frames in them
-pub record StopsInLine (fault : ServeFault) (messages : Request → Option (List ℕ)) (state : LinkState) (kept line : List ℕ) (held sunk : Option (List ℕ)) : Type 0 where
+pub record StopsInLine (fault : ServeFault) (messages : Request → Option (List ℕ)) (state : LinkState)
+    (kept line : List ℕ) (held sunk : Option (List ℕ)) : Type 0 where
   pub bytes : List ℕ
   pub spell : line_bytes line ≡ Some bytes
   pub stops : Stops HexLines fault messages state (heard_in side.Unit kept bytes) held sunk
 
 -- why a service ends at a line of this number
-abbrev pub StopsAt : LinesFault → (Request → Option (List ℕ)) → LinkState → (kept line : List ℕ) → (number : ℕ) → (held sunk : Option (List ℕ)) → Type 0
+abbrev pub StopsAt : LinesFault → (Request → Option (List ℕ)) → LinkState → (kept line : List ℕ) → (number : ℕ)
+    → (held sunk : Option (List ℕ)) → Type 0
 StopsAt (Ended fault) messages state kept line number held sunk = StopsInLine fault messages state kept line held sunk
-StopsAt (BadLine found) messages state kept line number held sunk = (found ≡ number) × (line_bytes line ≡ None) × (sunk ≡ held)
+StopsAt (BadLine found) messages state kept line number held sunk = (found ≡ number) × (line_bytes line ≡ None)
+    × (sunk ≡ held)
 StopsAt Memory messages state kept line number held sunk = sunk ≡ held
 
 -- where it ends for its spelling, the line has ended
@@ -147,8 +164,11 @@ EndedWhere (Ended fault) P = Unit {0}
 EndedWhere (BadLine found) P = P
 EndedWhere Memory P = Unit {0}
 
--- From where the unit stood a service ended at one of these lines: those before it spell bytes, and the frames in them were answered.
-pub record StopsAmong (fault : LinesFault) (source : Type 0) (all : List (List ℕ)) (messages : Request → Option (List ℕ)) (whole : ℕ) (kept : List ℕ) (state : LinkState) (held sunk : Option (List ℕ)) : Type 0 where
+-- From where the unit stood a service ended at one of these lines: those before it spell bytes, and the frames in them
+-- were answered.
+pub record StopsAmong (fault : LinesFault) (source : Type 0) (all : List (List ℕ))
+    (messages : Request → Option (List ℕ)) (whole : ℕ) (kept : List ℕ) (state : LinkState)
+    (held sunk : Option (List ℕ)) : Type 0 where
   pub before : List (List ℕ)
   pub line : List ℕ
   pub behind : List (List ℕ)

@@ -9,8 +9,8 @@ use Rattle.unit_messages.specs.Outlines.{Outlines}
 use Rattle.link_session.specs.declared.asking.AnswerFault.{AnswerFault}
 use Rattle.link_session.specs.declared.asking.AnswerFault.TheVariants.{Failed, BadUnit}
 
--- where the session stands; the notes of its unit's journal, from when it was judged on; and the outline of the message that was
--- asked for last
+-- where the session stands; the notes of its unit's journal, from when it was judged on; and the outline of the message
+-- that was asked for last
 pub record SessionView : Type 0 where
   pub state : LinkState
   pub journal : Option Notes
@@ -23,8 +23,8 @@ fresh state = record { state = state; journal = None; outline = None }
 abbrev pub is_judged : SessionView → Bool
 is_judged s = is_some s.journal
 
--- What a session has found of its unit is still so: an image that it was judged by, or any that these notes and this outline fit.
--- Whoever writes nothing to the unit keeps it.
+-- What a session has found of its unit is still so: an image that it was judged by, or any that these notes and this
+-- outline fit. Whoever writes nothing to the unit keeps it.
 pub record KnowsUnit (journal : Option Notes) (outline : Option Plan) (x : List ℕ) : Type 0 where
   pub decodes : is_some journal ≡ true → Decodes x
   pub notes : IfSome journal (λ j. AreRight j x)

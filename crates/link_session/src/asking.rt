@@ -1,6 +1,7 @@
 //! The part of an answer that asks the unit.
 ghost use Rattle.unit_model.specs.declared.layout.TheConstants.{IMAGE_SIZE};
-ghost use Rattle.std.specs.Prelude.{◌≡◌, ℕ, ◌≤◌, true, false, IfOk, OnOk, IfErr, IfSome, is_none, Some, List, Option, is_err};
+ghost use Rattle.std.specs.Prelude.{◌≡◌, ℕ, ◌≤◌, true, false, IfOk, OnOk, IfErr, IfSome, is_none, Some, List, Option};
+ghost use Rattle.std.specs.Prelude.{is_err};
 ghost use Rattle.link_model.specs.declared.request.Request.{Request as Asked};
 ghost use Rattle.message_model.specs.Sending.{content_sent};
 ghost use Rattle.unit_model.specs.Decoding.{Decodes, first_bad_place};
@@ -37,8 +38,8 @@ impl From<Failed> for AnswerFault {
     }
 }
 
-/// A part of a message that was read: the message's length, with 76 and its number, where there is such a message; the bytes; and
-/// the message's outline.
+/// A part of a message that was read: the message's length, with 76 and its number, where there is such a message; the
+/// bytes; and the message's outline.
 #[derive(Drop)]
 pub struct Part {
     pub told: Option<u32>,
@@ -51,7 +52,8 @@ pub fn judge<M: Medium>(unit: &mut M) -> Result<Journal, AnswerFault>
     requires unit { (M.state unit.old).size ≡ IMAGE_SIZE }
     ensures right { IfOk result (λ journal. IfSome (M.state unit.old).image (AreRight journal)) }
     ensures decodes { OnOk result (IfSome (M.state unit.old).image Decodes) }
-    ensures bad { IfErr result (λ fault. IfBadUnit fault (λ p. IfSome (M.state unit.old).image (λ x. first_bad_place x ≡ Some p))) }
+    ensures bad { IfErr result (λ fault. IfBadUnit fault (λ p. IfSome (M.state unit.old).image
+        (λ x. first_bad_place x ≡ Some p))) }
     ensures reads { Reads (M.state unit.old) (M.state unit.new) (has_failed result) }
 {
     match Journal::load(unit) {
@@ -74,9 +76,12 @@ pub fn part_of<M: Medium>(
     requires right { IfSome (M.state unit.old).image (AreRight journal.now) }
     requires known { IfSome (M.state unit.old).image (λ x. IfSome known.now (λ o. Outlines o x)) }
     requires from { 2 ≤ from }
-    ensures told { IfOk result (λ part. IfSome (M.state unit.old).image (λ x. IsPart (content_sent x request.now) from part.told part.bytes.items)) }
-    ensures possible { IfOk result (λ part. (content : Option (List ℕ)) × IsPart content from part.told part.bytes.items) }
-    ensures outline { IfOk result (λ part. IfSome (M.state unit.old).image (λ x. IfSome part.outline (λ o. Outlines o x))) }
+    ensures told { IfOk result (λ part. IfSome (M.state unit.old).image (λ x. IsPart (content_sent x request.now) from
+        part.told part.bytes.items)) }
+    ensures possible { IfOk result (λ part. (content : Option (List ℕ)) × IsPart content from part.told
+        part.bytes.items) }
+    ensures outline { IfOk result (λ part.
+        IfSome (M.state unit.old).image (λ x. IfSome part.outline (λ o. Outlines o x))) }
     ensures reads { ReadsIfAny (M.state unit.old) (M.state unit.new) (is_err result) }
 {
     let outline = outline_of(journal, unit, known, request)?;

@@ -1,5 +1,6 @@
 ghost use Rattle.unit_model.specs.declared.layout.TheConstants.{IMAGE_SIZE};
-ghost use Rattle.std.specs.Prelude.{◌≡◌, ℕ, ◌≤◌, ◌<◌, [], ◌∷◌, IfOk, OnOk, OnErr, IfErr, IfSome, Some, List, length, take};
+ghost use Rattle.std.specs.Prelude.{◌≡◌, ℕ, ◌≤◌, ◌<◌, [], ◌∷◌, IfOk, OnOk, OnErr, IfErr, IfSome, Some, List, length};
+ghost use Rattle.std.specs.Prelude.{take};
 ghost use Rattle.tach_media.specs.Medium.{Rose};
 ghost use Rattle.link_model.specs.declared.side.End.TheVariants as side;
 ghost use Rattle.link_model.specs.Hearing.{heard_in, kept_after};
@@ -57,13 +58,19 @@ impl Line {
         requires unit { (U.state unit.old).size ≡ IMAGE_SIZE }
         requires listens { self.old.scanner ≡ listening self.old.scanner.kept }
         requires knows { IfSome (U.state unit.old).image (Knows self.old.session) }
-        ensures kept { OnOk result (self.new.scanner ≡ listening (kept_after side.Unit self.old.scanner.kept bytes.now)) }
+        ensures kept { OnOk result (self.new.scanner
+            ≡ listening (kept_after side.Unit self.old.scanner.kept bytes.now)) }
         ensures answered { OnOk result (IfSome (U.state unit.old).image (λ x.
-            IsAnswered spelling (content_sent x) self.old.session.state (heard_in side.Unit self.old.scanner.kept bytes.now) self.new.session.state (K.held sink.old) (K.held sink.new))) }
+            IsAnswered spelling (content_sent x) self.old.session.state
+            (heard_in side.Unit self.old.scanner.kept bytes.now) self.new.session.state (K.held sink.old)
+            (K.held sink.new))) }
         ensures knows { OnOk result (IfSome (U.state unit.old).image (Knows self.new.session)) }
         ensures stops { IfErr result (λ fault. IfSome (U.state unit.old).image (λ x.
-            Stops spelling fault (content_sent x) self.old.session.state (heard_in side.Unit self.old.scanner.kept bytes.now) (K.held sink.old) (K.held sink.new))) }
-        ensures cause { IfErr result (λ fault. IsCaused fault ⊥ (Rose (K.faults sink.old) (K.faults sink.new)) (λ p. IfSome (U.state unit.old).image (λ x. first_bad_place x ≡ Some p))) }
+            Stops spelling fault (content_sent x) self.old.session.state
+            (heard_in side.Unit self.old.scanner.kept bytes.now) (K.held sink.old) (K.held sink.new))) }
+        ensures cause { IfErr result (λ fault.
+            IsCaused fault ⊥ (Rose (K.faults sink.old) (K.faults sink.new))
+            (λ p. IfSome (U.state unit.old).image (λ x. first_bad_place x ≡ Some p))) }
         ensures counts { K.faults sink.old ≤ K.faults sink.new }
         ensures unit { ReadsIfAny (U.state unit.old) (U.state unit.new) (has_failed result) }
     {
@@ -87,13 +94,19 @@ impl Line {
         requires listens { self.old.scanner ≡ listening self.old.scanner.kept }
         requires knows { IfSome (U.state unit.old).image (Knows self.old.session) }
         ensures few { OnOk result (length bytes.now ≤ left) }
-        ensures kept { OnOk result (self.new.scanner ≡ listening (kept_after side.Unit self.old.scanner.kept bytes.now)) }
+        ensures kept { OnOk result (self.new.scanner
+            ≡ listening (kept_after side.Unit self.old.scanner.kept bytes.now)) }
         ensures answered { OnOk result (IfSome (U.state unit.old).image (λ x.
-            IsAnswered spelling (content_sent x) self.old.session.state (heard_in side.Unit self.old.scanner.kept bytes.now) self.new.session.state (K.held sink.old) (K.held sink.new))) }
+            IsAnswered spelling (content_sent x) self.old.session.state
+            (heard_in side.Unit self.old.scanner.kept bytes.now) self.new.session.state (K.held sink.old)
+            (K.held sink.new))) }
         ensures knows { OnOk result (IfSome (U.state unit.old).image (Knows self.new.session)) }
         ensures stops { IfErr result (λ fault. IfSome (U.state unit.old).image (λ x.
-            StopsWithin spelling fault (content_sent x) self.old.session.state self.old.scanner.kept left bytes.now (K.held sink.old) (K.held sink.new))) }
-        ensures cause { IfErr result (λ fault. IsCaused fault ⊥ (Rose (K.faults sink.old) (K.faults sink.new)) (λ p. IfSome (U.state unit.old).image (λ x. first_bad_place x ≡ Some p))) }
+            StopsWithin spelling fault (content_sent x) self.old.session.state self.old.scanner.kept left bytes.now
+            (K.held sink.old) (K.held sink.new))) }
+        ensures cause { IfErr result (λ fault.
+            IsCaused fault ⊥ (Rose (K.faults sink.old) (K.faults sink.new))
+            (λ p. IfSome (U.state unit.old).image (λ x. first_bad_place x ≡ Some p))) }
         ensures counts { K.faults sink.old ≤ K.faults sink.new }
         ensures unit { ReadsIfAny (U.state unit.old) (U.state unit.new) (has_failed result) }
     {
@@ -117,13 +130,19 @@ impl Line {
         requires listens { self.old.scanner ≡ listening self.old.scanner.kept }
         requires knows { IfSome (U.state unit.old).image (Knows self.old.session) }
         ensures taken { IfOk result (λ n. (0 < n) × (n ≤ length bytes.now)) }
-        ensures kept { IfOk result (λ n. self.new.scanner ≡ listening (kept_after side.Unit self.old.scanner.kept (take n bytes.now))) }
+        ensures kept { IfOk result (λ n. self.new.scanner
+            ≡ listening (kept_after side.Unit self.old.scanner.kept (take n bytes.now))) }
         ensures answered { IfOk result (λ n. IfSome (U.state unit.old).image (λ x.
-            IsAnswered spelling (content_sent x) self.old.session.state (heard_in side.Unit self.old.scanner.kept (take n bytes.now)) self.new.session.state (K.held sink.old) (K.held sink.new))) }
+            IsAnswered spelling (content_sent x) self.old.session.state
+            (heard_in side.Unit self.old.scanner.kept (take n bytes.now)) self.new.session.state (K.held sink.old)
+            (K.held sink.new))) }
         ensures knows { OnOk result (IfSome (U.state unit.old).image (Knows self.new.session)) }
         ensures stops { IfErr result (λ fault. IfSome (U.state unit.old).image (λ x.
-            Stops spelling fault (content_sent x) self.old.session.state (heard_in side.Unit self.old.scanner.kept bytes.now) (K.held sink.old) (K.held sink.new))) }
-        ensures cause { IfErr result (λ fault. IsCaused fault ⊥ (Rose (K.faults sink.old) (K.faults sink.new)) (λ p. IfSome (U.state unit.old).image (λ x. first_bad_place x ≡ Some p))) }
+            Stops spelling fault (content_sent x) self.old.session.state
+            (heard_in side.Unit self.old.scanner.kept bytes.now) (K.held sink.old) (K.held sink.new))) }
+        ensures cause { IfErr result (λ fault.
+            IsCaused fault ⊥ (Rose (K.faults sink.old) (K.faults sink.new))
+            (λ p. IfSome (U.state unit.old).image (λ x. first_bad_place x ≡ Some p))) }
         ensures counts { K.faults sink.old ≤ K.faults sink.new }
         ensures unit { ReadsIfAny (U.state unit.old) (U.state unit.new) (has_failed result) }
     {
@@ -147,11 +166,15 @@ fn answer_frame<K: Sink, U: Medium>(
     requires unit { (U.state unit.old).size ≡ IMAGE_SIZE }
     requires knows { IfSome (U.state unit.old).image (Knows session.old) }
     ensures answered { OnOk result (IfSome (U.state unit.old).image (λ x.
-        IsAnswered spelling (content_sent x) session.old.state (meant seen.now ∷ []) session.new.state (K.held sink.old) (K.held sink.new))) }
+        IsAnswered spelling (content_sent x) session.old.state (meant seen.now ∷ []) session.new.state (K.held sink.old)
+        (K.held sink.new))) }
     ensures knows { OnOk result (IfSome (U.state unit.old).image (Knows session.new)) }
     ensures stops { IfErr result (λ fault. IfSome (U.state unit.old).image (λ x.
-        Stops spelling fault (content_sent x) session.old.state (meant seen.now ∷ []) (K.held sink.old) (K.held sink.new))) }
-    ensures cause { IfErr result (λ fault. IsCaused fault ⊥ (Rose (K.faults sink.old) (K.faults sink.new)) (λ p. IfSome (U.state unit.old).image (λ x. first_bad_place x ≡ Some p))) }
+        Stops spelling fault (content_sent x) session.old.state (meant seen.now ∷ []) (K.held sink.old)
+        (K.held sink.new))) }
+    ensures cause { IfErr result (λ fault.
+        IsCaused fault ⊥ (Rose (K.faults sink.old) (K.faults sink.new))
+        (λ p. IfSome (U.state unit.old).image (λ x. first_bad_place x ≡ Some p))) }
     ensures counts { K.faults sink.old ≤ K.faults sink.new }
     ensures unit { ReadsIfAny (U.state unit.old) (U.state unit.new) (has_failed result) }
 {

@@ -10,7 +10,8 @@ ghost use Rattle.unit_minutes.specs.Reading.{ReadsIfAny};
 ghost use Rattle.link_session.specs.Told.{Knows, fresh};
 ghost use Rattle.link_session.specs.declared.fault.LinesFault.TheVariants.{Memory};
 ghost use Rattle.link_session.specs.Lines.{listening};
-ghost use Rattle.link_session.specs.ServedLines.{AreServed, have_failed, AreCaused, AreHeard, IsHeard, StopsAt, StopsAmong, WholeAnswered};
+ghost use Rattle.link_session.specs.ServedLines.{AreServed, have_failed, AreCaused, AreHeard, IsHeard, StopsAt};
+ghost use Rattle.link_session.specs.ServedLines.{StopsAmong, WholeAnswered};
 ghost use Rattle.link_session.specs.Asked.{AnswersInTime};
 
 use crate::fault::{LinesFault, ServeFault};
@@ -67,11 +68,16 @@ impl Lines {
         requires knows { IfSome (U.state unit.old).image (Knows self.old.line.session) }
         ensures text { OnOk result (self.new.text.items ≡ []) }
         ensures whole { OnOk result (self.new.whole ≡ self.old.whole + 1) }
-        ensures heard { OnOk result (IsHeard self.old.text.items self.old.line.scanner.kept self.old.line.session.state self.new.line.scanner self.new.line.session.state (U.state unit.old).image (K.held sink.old) (K.held sink.new)) }
+        ensures heard { OnOk result (IsHeard self.old.text.items self.old.line.scanner.kept self.old.line.session.state
+            self.new.line.scanner self.new.line.session.state (U.state unit.old).image (K.held sink.old)
+            (K.held sink.new)) }
         ensures knows { OnOk result (IfSome (U.state unit.old).image (Knows self.new.line.session)) }
         ensures stops { IfErr result (λ fault. IfSome (U.state unit.old).image (λ x.
-            StopsAt fault (content_sent x) self.old.line.session.state self.old.line.scanner.kept self.old.text.items (self.old.whole + 1) (K.held sink.old) (K.held sink.new))) }
-        ensures cause { IfErr result (λ fault. AreCaused fault ⊥ (Rose (K.faults sink.old) (K.faults sink.new)) (λ p. IfSome (U.state unit.old).image (λ x. first_bad_place x ≡ Some p))) }
+            StopsAt fault (content_sent x) self.old.line.session.state self.old.line.scanner.kept self.old.text.items
+            (self.old.whole + 1) (K.held sink.old) (K.held sink.new))) }
+        ensures cause { IfErr result (λ fault.
+            AreCaused fault ⊥ (Rose (K.faults sink.old) (K.faults sink.new))
+            (λ p. IfSome (U.state unit.old).image (λ x. first_bad_place x ≡ Some p))) }
         ensures counts { K.faults sink.old ≤ K.faults sink.new }
         ensures unit { ReadsIfAny (U.state unit.old) (U.state unit.new) (have_failed result) }
     {
@@ -103,13 +109,18 @@ impl Lines {
         requires one { pieces 10 self.old.text.items ≡ self.old.text.items ∷ [] }
         requires listens { self.old.line.scanner ≡ listening self.old.line.scanner.kept }
         requires knows { IfSome (U.state unit.old).image (Knows self.old.line.session) }
-        ensures heard { OnOk result (AreHeard (pieces 10 (self.old.text.items ++ text.now)) [] self.old.whole self.old.line.scanner.kept self.old.line.session.state
-            self.new.text.items self.new.whole self.new.line.scanner self.new.line.session.state (U.state unit.old).image (K.held sink.old) (K.held sink.new)) }
+        ensures heard { OnOk result (AreHeard (pieces 10 (self.old.text.items ++ text.now)) [] self.old.whole
+            self.old.line.scanner.kept self.old.line.session.state
+            self.new.text.items self.new.whole self.new.line.scanner self.new.line.session.state
+            (U.state unit.old).image (K.held sink.old) (K.held sink.new)) }
         ensures few { OnOk result (self.new.whole ≤ self.old.whole + length text.now) }
         ensures knows { OnOk result (IfSome (U.state unit.old).image (Knows self.new.line.session)) }
         ensures stops { IfErr result (λ fault. IfSome (U.state unit.old).image (λ x.
-            StopsAmong fault ⊥ (pieces 10 (self.old.text.items ++ text.now)) (content_sent x) self.old.whole self.old.line.scanner.kept self.old.line.session.state (K.held sink.old) (K.held sink.new))) }
-        ensures cause { IfErr result (λ fault. AreCaused fault ⊥ (Rose (K.faults sink.old) (K.faults sink.new)) (λ p. IfSome (U.state unit.old).image (λ x. first_bad_place x ≡ Some p))) }
+            StopsAmong fault ⊥ (pieces 10 (self.old.text.items ++ text.now)) (content_sent x) self.old.whole
+            self.old.line.scanner.kept self.old.line.session.state (K.held sink.old) (K.held sink.new))) }
+        ensures cause { IfErr result (λ fault.
+            AreCaused fault ⊥ (Rose (K.faults sink.old) (K.faults sink.new))
+            (λ p. IfSome (U.state unit.old).image (λ x. first_bad_place x ≡ Some p))) }
         ensures counts { K.faults sink.old ≤ K.faults sink.new }
         ensures unit { ReadsIfAny (U.state unit.old) (U.state unit.new) (have_failed result) }
     {
@@ -125,14 +136,14 @@ impl Lines {
     }
 }
 
-/// Answers the frames among the bytes that the lines of a source spell until it ends, each answer as a line: two hexadecimal digits a
-/// byte, of either case, with a single space between two bytes or none; a frame may run over lines. The unit is read, and never
-/// written. A line is kept until it ends.
+/// Answers the frames among the bytes that the lines of a source spell until it ends, each answer as a line: two
+/// hexadecimal digits a byte, of either case, with a single space between two bytes or none; a frame may run over
+/// lines. The unit is read, and never written. A line is kept until it ends.
 ///
 /// # Errors
 ///
-/// `BadLine` after the answers to the lines before it, judged at its end; `Memory` after the answers to some of them; the others as
-/// of a service of bytes, with the answers to the whole lines that came.
+/// `BadLine` after the answers to the lines before it, judged at its end; `Memory` after the answers to some of them;
+/// the others as of a service of bytes, with the answers to the whole lines that came.
 pub fn serve_lines<S: Peer<K>, K: Sink, U: Medium>(
     alloc: Global,
     source: &mut S,
@@ -144,11 +155,15 @@ pub fn serve_lines<S: Peer<K>, K: Sink, U: Medium>(
         AreServed result (content_sent x) (S.left source.old) (S.left source.new) (K.held sink.old) (K.held sink.new)) }
     // Before each read all lines that had ended were answered.
     ensures in_time { IfSome (U.state unit.old).image (λ x.
-        AnswersInTime (WholeAnswered (content_sent x)) (S.left source.old) (S.left source.new) (K.held sink.old) (S.asked source.old) (S.asked source.new)) }
+        AnswersInTime (WholeAnswered (content_sent x)) (S.left source.old) (S.left source.new) (K.held sink.old)
+        (S.asked source.old) (S.asked source.new)) }
     // At the end nothing of the source is left.
     ensures end { OnOk result (IsAtEnd (S.left source.new)) }
     // The source or the sink failed, or the unit's image has that bad place.
-    ensures cause { IfErr result (λ fault. AreCaused fault (Rose (S.faults source.old) (S.faults source.new)) (Rose (K.faults sink.old) (K.faults sink.new)) (λ p. IfSome (U.state unit.old).image (λ x. first_bad_place x ≡ Some p))) }
+    ensures cause { IfErr result (λ fault.
+        AreCaused fault (Rose (S.faults source.old) (S.faults source.new))
+        (Rose (K.faults sink.old) (K.faults sink.new))
+        (λ p. IfSome (U.state unit.old).image (λ x. first_bad_place x ≡ Some p))) }
     ensures counts { (S.faults source.old ≤ S.faults source.new) × (K.faults sink.old ≤ K.faults sink.new) }
     ensures unit { ReadsIfAny (U.state unit.old) (U.state unit.new) (have_failed result) }
 {

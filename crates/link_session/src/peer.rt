@@ -8,12 +8,13 @@ ghost use Rattle.link_session.specs.Asked.{Asking, Asks};
 use std::io::Read;
 use tach_media::{Failed, MemSource, Sink, Source, StdSource};
 
-/// A source whose other end sees the sink, as a loader that waits for the answer to what it sent. It tells what the sink held at each
-/// read, where it knows.
+/// A source whose other end sees the sink, as a loader that waits for the answer to what it sent. It tells what the
+/// sink held at each read, where it knows.
 pub trait Peer<K: Sink>: Source {
     ghost asked: { Self → Option (List Asking) };
 
-    /// Takes the next bytes, while the sink stands so. None into a `buf` that is not empty is the end. A failed call takes nothing.
+    /// Takes the next bytes, while the sink stands so. None into a `buf` that is not empty is the end. A failed call
+    /// takes nothing.
     fn read_after(&mut self, buf: &mut [u8], sink: &K) -> Result<usize, Failed>
         ensures bound { ReadsAtMost result buf.new }
         ensures bytes { ReadConsumes (Self.left self.old) (Self.left self.new) result buf.new }

@@ -16,13 +16,13 @@ use tach_media::{Medium, Sink};
 /// The most bytes that a service answers.
 pub const MOST: u32 = 16777216;
 
-/// Answers the frames among the bytes of a source until it ends: each byte of the answers goes to the sink, and nothing else. The
-/// unit is read, and never written.
+/// Answers the frames among the bytes of a source until it ends: each byte of the answers goes to the sink, and nothing
+/// else. The unit is read, and never written.
 ///
 /// # Errors
 ///
-/// `ReadFault` and `TooLong` after the answers to all bytes that came, or to the first 16777216; `WriteFault` after a front of
-/// them; `Failed` and `BadUnit` after the answers to the frames before one whose answer hangs on the unit.
+/// `ReadFault` and `TooLong` after the answers to all bytes that came, or to the first 16777216; `WriteFault` after a
+/// front of them; `Failed` and `BadUnit` after the answers to the frames before one whose answer hangs on the unit.
 pub fn serve<S: Peer<K>, K: Sink, U: Medium>(
     source: &mut S,
     sink: &mut K,
@@ -33,11 +33,14 @@ pub fn serve<S: Peer<K>, K: Sink, U: Medium>(
         IsServed result (content_sent x) (S.left source.old) (S.left source.new) (K.held sink.old) (K.held sink.new)) }
     // Before each read all that came was answered.
     ensures in_time { IfSome (U.state unit.old).image (λ x.
-        AnswersInTime (λ came held sunk. Appends held sunk (answers_to (content_sent x) came)) (S.left source.old) (S.left source.new) (K.held sink.old) (S.asked source.old) (S.asked source.new)) }
+        AnswersInTime (λ came held sunk. Appends held sunk (answers_to (content_sent x) came)) (S.left source.old)
+        (S.left source.new) (K.held sink.old) (S.asked source.old) (S.asked source.new)) }
     // At the end nothing of the source is left.
     ensures end { OnOk result (IsAtEnd (S.left source.new)) }
     // The source or the sink failed, or the unit's image has that bad place.
-    ensures cause { IfErr result (λ fault. IsCaused fault (Rose (S.faults source.old) (S.faults source.new)) (Rose (K.faults sink.old) (K.faults sink.new)) (λ p. IfSome (U.state unit.old).image (λ x. first_bad_place x ≡ Some p))) }
+    ensures cause { IfErr result (λ fault.
+        IsCaused fault (Rose (S.faults source.old) (S.faults source.new)) (Rose (K.faults sink.old) (K.faults sink.new))
+        (λ p. IfSome (U.state unit.old).image (λ x. first_bad_place x ≡ Some p))) }
     ensures counts { (S.faults source.old ≤ S.faults source.new) × (K.faults sink.old ≤ K.faults sink.new) }
     ensures unit { ReadsIfAny (U.state unit.old) (U.state unit.new) (has_failed result) }
 {

@@ -1,5 +1,6 @@
 ghost use Rattle.unit_model.specs.declared.layout.TheConstants.{IMAGE_SIZE};
-ghost use Rattle.std.specs.Prelude.{◌≡◌, ℕ, ◌≤◌, true, false, ◌||◌, IfOk, OnOk, OnErr, IfErr, IfSome, Some, List, Option, is_some};
+ghost use Rattle.std.specs.Prelude.{◌≡◌, ℕ, ◌≤◌, true, false, ◌||◌, IfOk, OnOk, OnErr, IfErr, IfSome, Some, List};
+ghost use Rattle.std.specs.Prelude.{Option, is_some};
 ghost use Rattle.link_model.specs.declared.request.Request.{Request as Asked};
 ghost use Rattle.link_model.specs.Answers.{Idle, answered, sends_on};
 ghost use Rattle.link_frames.specs.Seen.{meant};
@@ -19,8 +20,8 @@ use tach_media::Medium;
 use unit_messages::Outline;
 use unit_minutes::Journal;
 
-/// What a unit has told on the link so far, and what was found of the unit to tell it. A session judges its unit once, at the first
-/// frame whose answer hangs on it.
+/// What a unit has told on the link so far, and what was found of the unit to tell it. A session judges its unit once,
+/// at the first frame whose answer hangs on it.
 #[derive(Drop)]
 pub struct Session {
     standing: Standing,
@@ -49,13 +50,13 @@ impl Session {
         }
     }
 
-    /// Answers what is heard on the unit's side of the link, or gives no answer: by the table of answers (Annex IB, Appendix 7)
-    /// over the messages of the unit's image. Of a message no more is read than the answer holds.
+    /// Answers what is heard on the unit's side of the link, or gives no answer: by the table of answers (Annex IB,
+    /// Appendix 7) over the messages of the unit's image. Of a message no more is read than the answer holds.
     ///
     /// # Errors
     ///
-    /// `Failed` where the unit failed, and `BadUnit` with the place of the first field of its image, in order of places, that
-    /// fails. The session is as it was.
+    /// `Failed` where the unit failed, and `BadUnit` with the place of the first field of its image, in order of
+    /// places, that fails. The session is as it was.
     pub fn answer<M: Medium>(
         &mut self,
         unit: &mut M,
@@ -66,15 +67,18 @@ impl Session {
         requires knows { IfSome (M.state unit.old).image (Knows self.old) }
         // The answer, and where the session stands then, are those of the table.
         ensures answered { IfOk result (λ answer. IfSome (M.state unit.old).image (λ x.
-            record { answer = answer; state = self.new.state } ≡ answered (content_sent x) self.old.state (meant seen.now))) }
+            record { answer = answer; state = self.new.state }
+            ≡ answered (content_sent x) self.old.state (meant seen.now))) }
         // Over a unit that does not tell its image too: by the table over some messages.
         ensures possible { IfOk result (λ answer. (messages : Asked → Option (List ℕ)) ×
             (record { answer = answer; state = self.new.state } ≡ answered messages self.old.state (meant seen.now))) }
-        ensures judged { OnOk result (is_judged self.new ≡ (is_judged self.old || asks_unit self.old.state (meant seen.now))) }
+        ensures judged { OnOk result (is_judged self.new
+            ≡ (is_judged self.old || asks_unit self.old.state (meant seen.now))) }
         ensures knows { OnOk result (IfSome (M.state unit.old).image (Knows self.new)) }
         ensures same { OnErr result (self.new ≡ self.old) }
         // Only a unit that was not judged yet is refused.
-        ensures bad { IfErr result (λ fault. IfBadUnit fault (λ p. (is_judged self.old ≡ false) × IfSome (M.state unit.old).image (λ x. first_bad_place x ≡ Some p))) }
+        ensures bad { IfErr result (λ fault. IfBadUnit fault (λ p. (is_judged self.old ≡ false) × IfSome
+            (M.state unit.old).image (λ x. first_bad_place x ≡ Some p))) }
         // The unit is read only where the answer hangs on it; else it is as it was, and there is no error.
         ensures reads { ReadsIfAny (M.state unit.old) (M.state unit.new) (has_failed result) }
         ensures spared { asks_unit self.old.state (meant seen.now) ≡ false → unit.new ≡ unit.old }
@@ -91,13 +95,16 @@ impl Session {
     fn perform<M: Medium>(&mut self, unit: &mut M, step: Step) -> Result<Reply, AnswerFault>
         requires unit { (M.state unit.old).size ≡ IMAGE_SIZE }
         requires knows { IfSome (M.state unit.old).image (Knows self.old) }
-        ensures performed { IfOk result (λ reply. IfSome (M.state unit.old).image (λ x. reply_of reply ≡ performed (content_sent x) step)) }
-        ensures possible { IfOk result (λ reply. (messages : Asked → Option (List ℕ)) × (reply_of reply ≡ performed messages step)) }
+        ensures performed { IfOk result (λ reply. IfSome (M.state unit.old).image
+            (λ x. reply_of reply ≡ performed (content_sent x) step)) }
+        ensures possible { IfOk result (λ reply. (messages : Asked → Option (List ℕ))
+            × (reply_of reply ≡ performed messages step)) }
         ensures stays { OnOk result (self.new.state ≡ self.old.state) }
         ensures judged { OnOk result (is_judged self.new ≡ (is_judged self.old || asks step)) }
         ensures knows { OnOk result (IfSome (M.state unit.old).image (Knows self.new)) }
         ensures same { OnErr result (self.new ≡ self.old) }
-        ensures bad { IfErr result (λ fault. IfBadUnit fault (λ p. (is_judged self.old ≡ false) × IfSome (M.state unit.old).image (λ x. first_bad_place x ≡ Some p))) }
+        ensures bad { IfErr result (λ fault. IfBadUnit fault (λ p. (is_judged self.old ≡ false) × IfSome
+            (M.state unit.old).image (λ x. first_bad_place x ≡ Some p))) }
         ensures reads { ReadsIfAny (M.state unit.old) (M.state unit.new) (has_failed result) }
         ensures spared { asks step ≡ false → unit.new ≡ unit.old }
         ensures silent { IfErr result (λ fault. asks step ≡ true) }
@@ -125,13 +132,17 @@ impl Session {
     ) -> Result<Reply, AnswerFault>
         requires unit { (M.state unit.old).size ≡ IMAGE_SIZE }
         requires knows { IfSome (M.state unit.old).image (Knows self.old) }
-        ensures begun { IfOk result (λ reply. IfSome (M.state unit.old).image (λ x. reply_of reply ≡ begins (state_of standing) request (content_sent x request))) }
-        ensures possible { IfOk result (λ reply. (content : Option (List ℕ)) × (reply_of reply ≡ begins (state_of standing) request content)) }
+        ensures begun { IfOk result (λ reply.
+            IfSome (M.state unit.old).image (λ x. reply_of reply ≡ begins (state_of standing) request
+            (content_sent x request))) }
+        ensures possible { IfOk result (λ reply. (content : Option (List ℕ))
+            × (reply_of reply ≡ begins (state_of standing) request content)) }
         ensures stays { OnOk result (self.new.state ≡ self.old.state) }
         ensures judged { OnOk result (is_judged self.new ≡ true) }
         ensures knows { OnOk result (IfSome (M.state unit.old).image (Knows self.new)) }
         ensures same { OnErr result (self.new ≡ self.old) }
-        ensures bad { IfErr result (λ fault. IfBadUnit fault (λ p. (is_judged self.old ≡ false) × IfSome (M.state unit.old).image (λ x. first_bad_place x ≡ Some p))) }
+        ensures bad { IfErr result (λ fault. IfBadUnit fault (λ p. (is_judged self.old ≡ false) × IfSome
+            (M.state unit.old).image (λ x. first_bad_place x ≡ Some p))) }
         ensures reads { ReadsIfAny (M.state unit.old) (M.state unit.new) (has_failed result) }
     {
         let part = self.ask(unit, &request, 2)?;
@@ -148,13 +159,16 @@ impl Session {
     ) -> Result<Reply, AnswerFault>
         requires unit { (M.state unit.old).size ≡ IMAGE_SIZE }
         requires knows { IfSome (M.state unit.old).image (Knows self.old) }
-        ensures sent { IfOk result (λ reply. IfSome (M.state unit.old).image (λ x. reply_of reply ≡ sends_on request counter (content_sent x request) code)) }
-        ensures possible { IfOk result (λ reply. (content : Option (List ℕ)) × (reply_of reply ≡ sends_on request counter content code)) }
+        ensures sent { IfOk result (λ reply. IfSome (M.state unit.old).image (λ x. reply_of reply ≡ sends_on request
+            counter (content_sent x request) code)) }
+        ensures possible { IfOk result (λ reply. (content : Option (List ℕ))
+            × (reply_of reply ≡ sends_on request counter content code)) }
         ensures stays { OnOk result (self.new.state ≡ self.old.state) }
         ensures judged { OnOk result (is_judged self.new ≡ true) }
         ensures knows { OnOk result (IfSome (M.state unit.old).image (Knows self.new)) }
         ensures same { OnErr result (self.new ≡ self.old) }
-        ensures bad { IfErr result (λ fault. IfBadUnit fault (λ p. (is_judged self.old ≡ false) × IfSome (M.state unit.old).image (λ x. first_bad_place x ≡ Some p))) }
+        ensures bad { IfErr result (λ fault. IfBadUnit fault (λ p. (is_judged self.old ≡ false) × IfSome
+            (M.state unit.old).image (λ x. first_bad_place x ≡ Some p))) }
         ensures reads { ReadsIfAny (M.state unit.old) (M.state unit.new) (has_failed result) }
     {
         let place = place_of(code);
@@ -172,13 +186,16 @@ impl Session {
         requires unit { (M.state unit.old).size ≡ IMAGE_SIZE }
         requires knows { IfSome (M.state unit.old).image (Knows self.old) }
         requires from { 2 ≤ from }
-        ensures told { IfOk result (λ part. IfSome (M.state unit.old).image (λ x. IsPart (content_sent x request.now) from part.told part.bytes.items)) }
-        ensures possible { IfOk result (λ part. (content : Option (List ℕ)) × IsPart content from part.told part.bytes.items) }
+        ensures told { IfOk result (λ part. IfSome (M.state unit.old).image (λ x. IsPart (content_sent x request.now)
+            from part.told part.bytes.items)) }
+        ensures possible { IfOk result (λ part. (content : Option (List ℕ)) × IsPart content from part.told
+            part.bytes.items) }
         ensures stays { OnOk result (self.new.state ≡ self.old.state) }
         ensures judged { OnOk result (is_judged self.new ≡ true) }
         ensures knows { OnOk result (IfSome (M.state unit.old).image (Knows self.new)) }
         ensures same { OnErr result (self.new ≡ self.old) }
-        ensures bad { IfErr result (λ fault. IfBadUnit fault (λ p. (is_judged self.old ≡ false) × IfSome (M.state unit.old).image (λ x. first_bad_place x ≡ Some p))) }
+        ensures bad { IfErr result (λ fault. IfBadUnit fault (λ p. (is_judged self.old ≡ false) × IfSome
+            (M.state unit.old).image (λ x. first_bad_place x ≡ Some p))) }
         ensures reads { ReadsIfAny (M.state unit.old) (M.state unit.new) (has_failed result) }
     {
         let Some(journal) = &self.journal else {
@@ -199,13 +216,16 @@ impl Session {
         requires unit { (M.state unit.old).size ≡ IMAGE_SIZE }
         requires anew { is_judged self.old ≡ false }
         requires from { 2 ≤ from }
-        ensures told { IfOk result (λ part. IfSome (M.state unit.old).image (λ x. IsPart (content_sent x request.now) from part.told part.bytes.items)) }
-        ensures possible { IfOk result (λ part. (content : Option (List ℕ)) × IsPart content from part.told part.bytes.items) }
+        ensures told { IfOk result (λ part. IfSome (M.state unit.old).image (λ x. IsPart (content_sent x request.now)
+            from part.told part.bytes.items)) }
+        ensures possible { IfOk result (λ part. (content : Option (List ℕ)) × IsPart content from part.told
+            part.bytes.items) }
         ensures stays { OnOk result (self.new.state ≡ self.old.state) }
         ensures judged { OnOk result (is_judged self.new ≡ true) }
         ensures knows { OnOk result (IfSome (M.state unit.old).image (Knows self.new)) }
         ensures same { OnErr result (self.new ≡ self.old) }
-        ensures bad { IfErr result (λ fault. IfBadUnit fault (λ p. IfSome (M.state unit.old).image (λ x. first_bad_place x ≡ Some p))) }
+        ensures bad { IfErr result (λ fault. IfBadUnit fault (λ p. IfSome (M.state unit.old).image
+            (λ x. first_bad_place x ≡ Some p))) }
         ensures reads { ReadsIfAny (M.state unit.old) (M.state unit.new) (has_failed result) }
     {
         let journal = judge(unit)?;

@@ -1,5 +1,6 @@
 -- Each line of a run log has its cause in the run, and what happened has its line (profile).
-use Rattle.std.specs.Prelude.{◌≡◌, ◌⊎◌, ℕ, ◌+◌, ◌-◌, ◌^◌, ◌<◌, ◌≤◌, Bool, true, false, not, ◌&&◌, Option, Some, None, List, [], ◌∷◌, ◌++◌, Contains, map, filter, flat_map, length, nat_eq, if◌then◌else◌}
+use Rattle.std.specs.Prelude.{◌≡◌, ◌⊎◌, ℕ, ◌+◌, ◌-◌, ◌^◌, ◌<◌, ◌≤◌, Bool, true, false, not, ◌&&◌, Option, Some, None}
+use Rattle.std.specs.Prelude.{List, [], ◌∷◌, ◌++◌, Contains, map, filter, flat_map, length, nat_eq, if◌then◌else◌}
 use Rattle.std.specs.List.{AllByRecursion, list_any}
 use Rattle.activity_codec.specs.declared.values.Slot.{Slot}
 use Rattle.activity_codec.specs.Activity.{same_slot}
@@ -118,9 +119,11 @@ RoseBy n before now = (before + n ≤ now) ⊎ (2 ^ 64 - 1 ≤ now)
 -- a break begins no more actions than its second has; all of them in the keeping, and at an `off` line
 abbrev pub IsBegun : List TraceSecond → Break → Type 0
 IsBegun ss (Cut second kept failed begun) =
-    (s : TraceSecond) → Contains ss s → s.number ≡ second → (begun ≤ length s.actions) × (failed ≡ false → begun ≡ length s.actions)
+    (s : TraceSecond) → Contains ss s → s.number ≡ second
+    → (begun ≤ length s.actions) × (failed ≡ false → begun ≡ length s.actions)
 IsBegun ss (Tear second slot failed begun late) =
-    (s : TraceSecond) → Contains ss s → s.number ≡ second → (begun ≤ length s.actions) × (late ≡ true → begun ≡ length s.actions)
+    (s : TraceSecond) → Contains ss s → s.number ≡ second
+    → (begun ≤ length s.actions) × (late ≡ true → begun ≡ length s.actions)
 
 -- a tear before any action, and not in the keeping, is one of the power-on
 abbrev pub IsAtPowerOn : (starts : Bool) → Break → Type 0
@@ -141,20 +144,22 @@ CutBy None p = ⊥
 CutBy (Some begun) (In n) = begun ≤ n
 CutBy (Some begun) Keeping = Unit {0}
 
--- a card that entered was judged once, but where it was torn out at that moment, or a failed call had taken the power by then
+-- a card that entered was judged once, but where it was torn out at that moment, or a failed call had taken the power
+-- by then
 pub record IsJudged (log : RunLog) (t : ToldSecond) (e : Visit) : Type 0 where
   pub once : length (found_of t e) ≤ 1
   pub missing : found_of t e ≡ [] → (is_torn_in log t.second.number e.phase e.slot ≡ true)
       ⊎ CutBy (failed_cut_in log t.second.number) e.phase
 
--- the causes of a run log: `before` and `now` count the breakdowns of the devices, `IsVerdict` says what may be found of a card
--- in a second
+-- the causes of a run log: `before` and `now` count the breakdowns of the devices, `IsVerdict` says what may be found
+-- of a card in a second
 pub record HasCauses (IsVerdict : Card → ℕ → Verdict → Type 0) (before now : Device → ℕ)
     (ss : List TraceSecond) (log : RunLog) : Type 0 where
   -- refusals are exactly those of the slots, the speed and the power, each with the number of actions that had begun
   pub refused : map refusal_told log.refused ≡ refusals_of (went log ss).told
   -- a cut stands in a second with power, one in a second, and their seconds increase
-  pub cut_seconds : map second_of (filter is_cut log.breaks) ≡ map (λ t. t.second.number) (filter (λ t. t.cut) (went log ss).told)
+  pub cut_seconds : map second_of (filter is_cut log.breaks)
+      ≡ map (λ t. t.second.number) (filter (λ t. t.cut) (went log ss).told)
   -- each `off` line that meets power is a cut
   pub off_lines : map second_of (cuts false log) ≡ off_cuts (map second_of (cuts true log)) (went log ss).told
   -- any other cut is a breakdown of the unit
@@ -165,13 +170,16 @@ pub record HasCauses (IsVerdict : Card → ℕ → Verdict → Type 0) (before n
   pub failed_tears : (slot : Slot) → in_the_slot slot (flat_map places (tears true log))
       ≡ in_the_slot slot (torn_of (went log ss).told)
   pub torn_cards : (card : Card) →
-      RoseBy (length (filter (same_card card) (cards_torn (went log ss).told))) (before (device_of card)) (now (device_of card))
+      RoseBy (length (filter (same_card card) (cards_torn (went log ss).told))) (before (device_of card))
+      (now (device_of card))
   pub begun : (b : Break) → Contains log.breaks b → IsBegun ss b
   pub moments : (b : Break) → Contains log.breaks b → HasMoment (went log ss).told b
   -- breaks are in order of time, and a cut is the last of its second
   pub order : AreInTime log.breaks
   -- finds are exactly those of the cards that entered
   pub finds : map (λ f. (f.second, In f.begun, f.slot, f.verdict)) log.finds ≡ finds_of (went log ss).told
-  pub judged : (t : ToldSecond) (e : Visit) → Contains (went log ss).told t → Contains t.course.entered e → IsJudged log t e
-  pub verdicts : (t : ToldSecond) (e : Visit) (v : Verdict) → Contains (went log ss).told t → Contains t.course.found (e, v) →
+  pub judged : (t : ToldSecond) (e : Visit) → Contains (went log ss).told t → Contains t.course.entered e
+      → IsJudged log t e
+  pub verdicts : (t : ToldSecond) (e : Visit) (v : Verdict) → Contains (went log ss).told t
+      → Contains t.course.found (e, v) →
       IsVerdict e.card t.second.number v

@@ -1,5 +1,6 @@
 -- How each second of a run went, by the trace and the run log (profile).
-use Rattle.std.specs.Prelude.{ℕ, ◌+◌, ◌%◌, Bool, true, false, not, ◌&&◌, ◌||◌, Option, Some, None, List, [], ◌∷◌, ◌++◌, map, nat_eq, nat_lt, if◌then◌else◌, is_some, option_map, fold, flat_map}
+use Rattle.std.specs.Prelude.{ℕ, ◌+◌, ◌%◌, Bool, true, false, not, ◌&&◌, ◌||◌, Option, Some, None, List, [], ◌∷◌, ◌++◌}
+use Rattle.std.specs.Prelude.{map, nat_eq, nat_lt, if◌then◌else◌, is_some, option_map, fold, flat_map}
 use Rattle.std.specs.List.{list_any}
 use Rattle.activity_codec.specs.declared.values.Slot.{Slot}
 use Rattle.activity_codec.specs.declared.values.Slot.TheVariants.{Driver, CoDriver}
@@ -22,9 +23,9 @@ pub record Visit : Type 0 where
   pub slot : Slot
   pub card : Card
 
--- a second as far as it has gone: its selections, the cards that left or lost power, those that a `tear` line pulled and those
--- that a failed call tore out, those that entered and what was found of them, the refusals, each with the number of actions that
--- had begun, the refused one included, whether there was a settling, and the slots now
+-- a second as far as it has gone: its selections, the cards that left or lost power, those that a `tear` line pulled
+-- and those that a failed call tore out, those that entered and what was found of them, the refusals, each with the
+-- number of actions that had begun, the refused one included, whether there was a settling, and the slots now
 pub record Course : Type 0 where
   pub picks : List (Slot × Pick)
   pub left : List Card
@@ -92,17 +93,19 @@ moved_by n None (Tear s) slots = unmoved false
 moved_by n None (Place s ending country region) slots = unmoved false
 moved_by n None (Manual s pick minute) slots = unmoved false
 
--- what the log tells of a slot at a moment: what was found of its card where one entered, and then whether it, or one that was
--- taken out, was torn
+-- what the log tells of a slot at a moment: what was found of its card where one entered, and then whether it, or one
+-- that was taken out, was torn
 abbrev pub slot_told : RunLog → ℕ → Phase → Moved → Slot → Course → Course
 slot_told log u p moved slot c =
     let verdicts : List Verdict = if moved.enters slot then found_in log u p slot else [] in
     let seen : List (Visit × Verdict) = flat_map (λ visit. map (λ v. (visit, v)) verdicts) (visits p slot c.slots) in
     let judged : Course = record c { found = c.found ++ seen } in
-    if is_torn_in log u p slot then record (leaves slot judged) { torn = c.torn ++ (moved.leaving slot ++ visits p slot c.slots) }
+    if is_torn_in log u p slot then record
+    (leaves slot judged) { torn = c.torn ++ (moved.leaving slot ++ visits p slot c.slots) }
     else (if list_any is_accepting verdicts
     then record judged {
-      slots = with_slot c.slots slot (option_map {T = Sitting} (λ x. record x { accepted = Some u }) (in_slot c.slots slot));
+      slots = with_slot c.slots slot (option_map {T = Sitting} (λ x. record x { accepted = Some u })
+          (in_slot c.slots slot));
     }
     else judged)
 
@@ -189,7 +192,8 @@ dark_course s slots = record {
   slots = slots;
 }
 
--- a second as it went: whether the trace gave it power, whether it had power, whether that began or ended with it, and its course
+-- a second as it went: whether the trace gave it power, whether it had power, whether that began or ended with it, and
+-- its course
 pub record ToldSecond : Type 0 where
   pub second : Second
   pub given : Bool
@@ -198,8 +202,8 @@ pub record ToldSecond : Type 0 where
   pub cut : Bool
   pub course : Course
 
--- what the next second has to know of those before it: whether the last one kept its power, whether power is gone, whether the
--- trace gave the last one power, and the slots
+-- what the next second has to know of those before it: whether the last one kept its power, whether power is gone,
+-- whether the trace gave the last one power, and the slots
 pub record Before : Type 0 where
   pub running : Bool
   pub gone : Bool
@@ -235,7 +239,13 @@ second_told log before s =
 -- what the second after it has to know
 abbrev pub before_next : Before → ToldSecond → Before
 before_next before t =
-    record { running = t.lit && not t.cut; gone = t.cut || (before.gone && not t.lit); given = t.given; slots = t.course.slots }
+    record {
+      running = t.lit && not t.cut;
+      gone = t.cut
+          || (before.gone && not t.lit);
+      given = t.given;
+      slots = t.course.slots;
+    }
 
 -- the seconds so far, and what the next has to know
 pub record Went : Type 0 where
@@ -244,7 +254,8 @@ pub record Went : Type 0 where
 
 -- one second more
 abbrev pub went_on : RunLog → Went → TraceSecond → Went
-went_on log w s = let t : ToldSecond = second_told log w.before s in record { told = w.told ++ t ∷ []; before = before_next w.before t }
+went_on log w s = let t : ToldSecond = second_told log w.before s
+    in record { told = w.told ++ t ∷ []; before = before_next w.before t }
 
 -- before the first second
 abbrev pub not_begun : Went

@@ -1,5 +1,6 @@
 -- The run log: breaks, refused actions and finds, each in order of time (profile).
-use Rattle.std.specs.Prelude.{ℕ, Bool, true, false, ◌&&◌, Option, Some, None, List, [], ◌∷◌, filter, map, nat_eq, is_some, unwrap_or, if◌then◌else◌}
+use Rattle.std.specs.Prelude.{ℕ, Bool, true, false, ◌&&◌, Option, Some, None, List, [], ◌∷◌, filter, map, nat_eq}
+use Rattle.std.specs.Prelude.{is_some, unwrap_or, if◌then◌else◌}
 use Rattle.std.specs.List.{list_any}
 use Rattle.activity_codec.specs.declared.values.Slot.{Slot}
 use Rattle.activity_codec.specs.Activity.{same_slot}
@@ -61,7 +62,8 @@ phase_of begun late = if late then Keeping else In begun
 -- a tear of this slot at this moment
 abbrev pub tears_here : ℕ → Phase → Slot → Break → Bool
 tears_here u p slot (Cut second kept failed begun) = false
-tears_here u p slot (Tear second s failed begun late) = nat_eq second u && same_phase (phase_of begun late) p && same_slot s slot
+tears_here u p slot (Tear second s failed begun late) = nat_eq second u && same_phase (phase_of begun late) p
+    && same_slot s slot
 
 -- a slot's card was torn out at a moment of a second
 unfoldable pub is_torn_in : RunLog → ℕ → Phase → Slot → Bool
@@ -70,7 +72,8 @@ is_torn_in log u p slot = list_any (tears_here u p slot) log.breaks
 -- what was found of a slot's card at a moment of a second
 unfoldable pub found_in : RunLog → ℕ → Phase → Slot → List Verdict
 found_in log u p slot =
-    map (λ f. f.verdict) (filter (λ f. nat_eq f.second u && same_phase (In f.begun) p && same_slot f.slot slot) log.finds)
+    map (λ f. f.verdict) (filter (λ f. nat_eq f.second u && same_phase (In f.begun) p && same_slot f.slot slot)
+    log.finds)
 
 -- the card is accepted
 abbrev pub is_accepting : Verdict → Bool

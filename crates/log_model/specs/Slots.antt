@@ -46,9 +46,9 @@ abbrev pub is_accepted : Option Sitting → Bool
 is_accepted None = false
 is_accepted (Some sitting) = is_some sitting.accepted
 
--- Why the slots and the speed refuse an action, if they do: an insertion where the slot is not free or the other one has the card,
--- a withdrawal or a tear where it is empty, a withdrawal in motion, a place or an entry by hand where no accepted card is in the slot,
--- an entry by hand in motion.
+-- Why the slots and the speed refuse an action, if they do: an insertion where the slot is not free or the other one
+-- has the card, a withdrawal or a tear where it is empty, a withdrawal in motion, a place or an entry by hand where no
+-- accepted card is in the slot, an entry by hand in motion.
 abbrev pub refusal : Slots → (speed : ℕ) → Action → Option SlotFault
 refusal slots speed (Select slot pick) = None
 refusal slots speed (Insert slot card) =
@@ -58,7 +58,8 @@ refusal slots speed (Withdraw slot) =
     if not (is_some (in_slot slots slot)) then Some (Empty slot)
     else (if nat_lt 0 speed then Some (Moving speed) else None)
 refusal slots speed (Tear slot) = if is_some (in_slot slots slot) then None else Some (Empty slot)
-refusal slots speed (Place slot ending country region) = if is_accepted (in_slot slots slot) then None else Some (NoCard slot)
+refusal slots speed (Place slot ending country region) = if is_accepted (in_slot slots slot) then None
+    else Some (NoCard slot)
 refusal slots speed (Manual slot pick minute) =
     if not (is_accepted (in_slot slots slot)) then Some (NoCard slot)
     else (if nat_lt 0 speed then Some (Moving speed) else None)

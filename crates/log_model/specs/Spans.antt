@@ -36,9 +36,10 @@ abbrev pub AreInOrder : ℕ → List TraceSecond → Type 0
 AreInOrder number [] = Unit {0}
 AreInOrder number (s ∷ ss) = (s.number ≡ number) × AreInOrder (number + 1) ss
 
--- from one number to another: each span has a second, its seconds are numbered one after another, and it begins no earlier than
--- the one before it ends
+-- from one number to another: each span has a second, its seconds are numbered one after another, and it begins no
+-- earlier than the one before it ends
 abbrev pub AreApart : ℕ → List (List ToldSecond) → ℕ → Type 0
 AreApart from [] until = from ≤ until
 AreApart from (span ∷ spans) until =
-    (0 < length span) × (from ≤ first_in span) × AreNumbered (first_in span) (seconds_in span) × AreApart (end_in span) spans until
+    (0 < length span) × (from ≤ first_in span) × AreNumbered (first_in span) (seconds_in span)
+    × AreApart (end_in span) spans until

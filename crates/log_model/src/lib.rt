@@ -1,6 +1,6 @@
-//! What a run tells of itself (profile): its breaks, its refused actions, what its insertions found, and what its devices
-//! have acknowledged. Read with the trace, `specs/` says by these how each second went: which actions were carried out,
-//! where the cards were, when there was power, and which cause each line of the log has.
+//! What a run tells of itself (profile): its breaks, its refused actions, what its insertions found, and what its
+//! devices have acknowledged. Read with the trace, `specs/` says by these how each second went: which actions were
+//! carried out, where the cards were, when there was power, and which cause each line of the log has.
 #![tactic(auto)]
 
 mod laws;

@@ -35,8 +35,8 @@ pub enum SlotFault {
     NoPower,
     /// The session of the slot's card has kept a minute already: the first such.
     Begun(u32),
-    /// An entry by hand is not later than the newest minute of the card and of its entries by hand, or not earlier than the
-    /// insertion: that newest minute, and the minute of the insertion.
+    /// An entry by hand is not later than the newest minute of the card and of its entries by hand, or not earlier than
+    /// the insertion: that newest minute, and the minute of the insertion.
     NotFree(u32, u32),
     /// The session holds so many entries by hand already.
     Full(u8),

@@ -1,13 +1,17 @@
--- The messages of a download by their fields, and as bytes (Appendix 7, 2.2.6): numbers with their highest byte first, counts
--- followed by that many entries.
+-- The messages of a download by their fields, and as bytes (Appendix 7, 2.2.6): numbers with their highest byte first,
+-- counts followed by that many entries.
 use Rattle.std.specs.Prelude.{◌≡◌, ℕ, ◌%◌, ◌<◌, ◌^◌, List, [], ◌∷◌, ◌++◌, length, map, All}
 use Rattle.byteorder.specs.Endian.{big_bytes}
 use Rattle.card_layout.specs.Fields.{joined}
-use Rattle.unit_model.specs.declared.layout.TheConstants.{STATE_CERTIFICATE, UNIT_CERTIFICATE, VIN, REGISTRATION, IDENTIFICATION, SENSOR}
+use Rattle.unit_model.specs.declared.layout.TheConstants.{STATE_CERTIFICATE, UNIT_CERTIFICATE, VIN, REGISTRATION}
+use Rattle.unit_model.specs.declared.layout.TheConstants.{IDENTIFICATION, SENSOR}
 use Rattle.unit_model.specs.Days.{word_minute}
-use Rattle.message_model.specs.declared.sizes.TheConstants.{LAST_DOWNLOAD, LOCK, CONTROL, SIGNATURE, INSERTION, PLACE, CONDITION, FAULT, EVENT, OVER, ADJUSTMENT, SPEED_BLOCK, CALIBRATION}
+use Rattle.message_model.specs.declared.sizes.TheConstants.{LAST_DOWNLOAD, LOCK, CONTROL, SIGNATURE, INSERTION, PLACE}
+use Rattle.message_model.specs.declared.sizes.TheConstants.{CONDITION, FAULT, EVENT, OVER, ADJUSTMENT, SPEED_BLOCK}
+use Rattle.message_model.specs.declared.sizes.TheConstants.{CALIBRATION}
 
--- 01, the overview: certificates, vehicle, the unit's time, the period that can be read, cards, the last download, locks, controls
+-- 01, the overview: certificates, vehicle, the unit's time, the period that can be read, cards, the last download,
+-- locks, controls
 pub record Overview : Type 0 where
   pub state_certificate : List ℕ
   pub unit_certificate : List ℕ
@@ -32,8 +36,8 @@ pub record DayMessage : Type 0 where
   pub conditions : List (List ℕ)
   pub signature : List ℕ
 
--- 03, events and faults: faults, events, the last control of over speeding, the first over speeding and their number since, the
--- over speedings, adjustments of the time
+-- 03, events and faults: faults, events, the last control of over speeding, the first over speeding and their number
+-- since, the over speedings, adjustments of the time
 pub record EventMessage : Type 0 where
   pub faults : List (List ℕ)
   pub events : List (List ℕ)
@@ -75,19 +79,22 @@ word_bytes words = map (big_bytes 2) words
 abbrev pub overview_bytes : Overview → List ℕ
 overview_bytes m =
     joined
-    (m.state_certificate ∷ m.unit_certificate ∷ m.vin ∷ m.registration ∷ big_bytes 4 m.now ∷ big_bytes 4 m.begin ∷ big_bytes 4 m.end
+    (m.state_certificate ∷ m.unit_certificate ∷ m.vin ∷ m.registration ∷ big_bytes 4 m.now ∷ big_bytes 4 m.begin
+    ∷ big_bytes 4 m.end
     ∷ big_bytes 1 m.slot_status ∷ m.last_download ∷ counted 1 m.locks ∷ counted 1 m.controls ∷ m.signature ∷ [])
 
 abbrev pub day_bytes : DayMessage → List ℕ
 day_bytes m =
     joined
-    (big_bytes 4 m.date ∷ big_bytes 3 m.odometer ∷ counted 2 m.insertions ∷ counted 2 (word_bytes m.words) ∷ counted 1 m.places
+    (big_bytes 4 m.date ∷ big_bytes 3 m.odometer ∷ counted 2 m.insertions ∷ counted 2 (word_bytes m.words)
+    ∷ counted 1 m.places
     ∷ counted 2 m.conditions ∷ m.signature ∷ [])
 
 abbrev pub event_bytes : EventMessage → List ℕ
 event_bytes m =
     joined
-    (counted 1 m.faults ∷ counted 1 m.events ∷ big_bytes 4 m.last_control ∷ big_bytes 4 m.first_over ∷ big_bytes 1 m.over_count
+    (counted 1 m.faults ∷ counted 1 m.events ∷ big_bytes 4 m.last_control ∷ big_bytes 4 m.first_over
+    ∷ big_bytes 1 m.over_count
     ∷ counted 1 m.overs ∷ counted 1 m.adjustments ∷ m.signature ∷ [])
 
 abbrev pub speed_bytes : SpeedMessage → List ℕ
@@ -124,9 +131,11 @@ pub record AreEntries (width size : ℕ) (entries : List (List ℕ)) : Type 0 wh
 abbrev pub HasSize : ℕ → List ℕ → Type 0
 HasSize n bytes = length bytes ≡ n
 
--- the grammar: each field has its size, and each count its bytes; a day is a day's first second, and each word stands in it
+-- the grammar: each field has its size, and each count its bytes; a day is a day's first second, and each word stands
+-- in it
 pub record IsOverview (m : Overview) : Type 0 where
-  pub certificates : HasSize STATE_CERTIFICATE.size m.state_certificate × HasSize UNIT_CERTIFICATE.size m.unit_certificate
+  pub certificates : HasSize STATE_CERTIFICATE.size m.state_certificate
+      × HasSize UNIT_CERTIFICATE.size m.unit_certificate
   pub vehicle : HasSize VIN.size m.vin × HasSize REGISTRATION.size m.registration
   pub times : (m.now < 2 ^ 32) × (m.begin < 2 ^ 32) × (m.end < 2 ^ 32)
   pub status : m.slot_status < 2 ^ 8

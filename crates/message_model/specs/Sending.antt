@@ -1,17 +1,25 @@
 -- The messages that a unit sends, of its image (Appendix 7; what it puts into the fields: profile).
-use Rattle.std.specs.Prelude.{ℕ, ◌*◌, ◌/◌, ◌<◌, Bool, ◌||◌, Option, Some, None, option_map, List, [], ◌∷◌, ◌++◌, map, filter, find, replicate, nat_eq}
+use Rattle.std.specs.Prelude.{ℕ, ◌*◌, ◌/◌, ◌<◌, Bool, ◌||◌, Option, Some, None, option_map, List, [], ◌∷◌, ◌++◌, map}
+use Rattle.std.specs.Prelude.{filter, find, replicate, nat_eq}
 use Rattle.std.specs.List.{range_with_len}
 use Rattle.card_layout.specs.Images.{bytes_at}
 use Rattle.card_layout.specs.Fields.{joined}
 use Rattle.unit_model.specs.Ring.{Shape, is_there, entry_at, ring_list}
 use Rattle.unit_model.specs.declared.layout.Field.{Field}
-use Rattle.unit_model.specs.declared.layout.TheConstants.{VIN, REGISTRATION, IDENTIFICATION, SENSOR, STATE_CERTIFICATE, UNIT_CERTIFICATE, FIRST_OVER, OVER_COUNT, EVENTS, OVERS, FAULTS}
+use Rattle.unit_model.specs.declared.layout.TheConstants.{VIN, REGISTRATION, IDENTIFICATION, SENSOR, STATE_CERTIFICATE}
+use Rattle.unit_model.specs.declared.layout.TheConstants.{UNIT_CERTIFICATE, FIRST_OVER, OVER_COUNT, EVENTS, OVERS}
+use Rattle.unit_model.specs.declared.layout.TheConstants.{FAULTS}
 use Rattle.unit_model.specs.Days.{StoredDay, days_kept}
 use Rattle.unit_model.specs.Image.{number_of as number_in, last_kept, unit_days}
 use Rattle.link_model.specs.declared.request.Request.{Request}
-use Rattle.link_model.specs.declared.request.Request.TheVariants.{Overview as AskOverview, Day as AskDay, Events as AskEvents, Speed as AskSpeed, Technical as AskTechnical}
-use Rattle.message_model.specs.Records.{insertion_ring, unit_place_ring, speed_ring, insertion_time, withdrawal_time, place_time}
-use Rattle.message_model.specs.Messages.{Overview, DayMessage, EventMessage, SpeedMessage, TechnicalMessage, Message, AnOverview, ADay, AnEventList, ASpeedList, ATechnical, content_of, message_bytes}
+use Rattle.link_model.specs.declared.request.Request.TheVariants.{Overview as AskOverview, Day as AskDay}
+use Rattle.link_model.specs.declared.request.Request.TheVariants.{Events as AskEvents, Speed as AskSpeed}
+use Rattle.link_model.specs.declared.request.Request.TheVariants.{Technical as AskTechnical}
+use Rattle.message_model.specs.Records.{insertion_ring, unit_place_ring, speed_ring, insertion_time, withdrawal_time}
+use Rattle.message_model.specs.Records.{place_time}
+use Rattle.message_model.specs.Messages.{Overview, DayMessage, EventMessage, SpeedMessage, TechnicalMessage, Message}
+use Rattle.message_model.specs.Messages.{AnOverview, ADay, AnEventList, ASpeedList, ATechnical, content_of}
+use Rattle.message_model.specs.Messages.{message_bytes}
 
 -- a field's bytes
 abbrev pub field_of : Field → List ℕ → List ℕ
@@ -21,7 +29,8 @@ field_of f x = bytes_at x f.place f.size
 abbrev pub zeros : ℕ → List ℕ
 zeros n = replicate n 0
 
--- entries that stand at places of their own, without a pointer: type and purpose stand before the begin, which is not 0 where one is there
+-- entries that stand at places of their own, without a pointer: type and purpose stand before the begin, which is not 0
+-- where one is there
 abbrev pub table : (base width count : ℕ) → Shape
 table base width count = record { base = base; width = width; count = count; pointer_width = 0; gate = 2 }
 
@@ -58,7 +67,8 @@ abbrev pub period_of : (now : ℕ) → List StoredDay → ℕ × ℕ
 period_of now [] = (0, 0)
 period_of now (d ∷ ds) = (d.date, now)
 
--- the last-kept minute is the unit's time; no card, lock or control is told, and the last download and the signature are zeros
+-- the last-kept minute is the unit's time; no card, lock or control is told, and the last download and the signature
+-- are zeros
 unfoldable pub overview_of : List ℕ → Overview
 overview_of x =
     record {
@@ -112,7 +122,12 @@ speed_message_of x = record { blocks = ring_list speed_ring x; signature = zeros
 
 unfoldable pub technical_message_of : List ℕ → TechnicalMessage
 technical_message_of x =
-    record { identification = field_of IDENTIFICATION x; sensor = field_of SENSOR x; calibrations = []; signature = zeros 128 }
+    record {
+      identification = field_of IDENTIFICATION x;
+      sensor = field_of SENSOR x;
+      calibrations = [];
+      signature = zeros 128;
+    }
 
 -- the day that begins at this second, if it is recorded
 abbrev pub day_at : ℕ → List StoredDay → Option StoredDay
@@ -139,7 +154,8 @@ abbrev pub Follow : (date : ℕ) → List StoredDay → Type 0
 Follow date [] = Unit {0}
 Follow date (d ∷ ds) = (date < d.date) × Follow d.date ds
 
--- the messages of a unit's image in their order: overview, each recorded day, events and faults, detailed speed, technical data
+-- the messages of a unit's image in their order: overview, each recorded day, events and faults, detailed speed,
+-- technical data
 unfoldable pub messages_of : List ℕ → List Message
 messages_of x =
     AnOverview (overview_of x) ∷ (map (λ d. ADay (day_message_of x d)) (sent_days x)

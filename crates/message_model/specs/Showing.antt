@@ -16,8 +16,9 @@ time_in (ATechnical m ∷ ms) = time_in ms
 abbrev pub told_day : DayMessage → StoredDay
 told_day m = record { date = m.date; odometer = m.odometer; words = m.words }
 
--- all minutes of a day, or those up to the minute of the unit's time where that lies in the day; a slot without a word has rest, no
--- card, single; of several words of a slot the last in their order that is not later decides; CREW is that of the driver's word
+-- all minutes of a day, or those up to the minute of the unit's time where that lies in the day; a slot without a word
+-- has rest, no card, single; of several words of a slot the last in their order that is not later decides; CREW is that
+-- of the driver's word
 abbrev pub day_minutes : Option ℕ → StoredDay → List UnitMinute
 day_minutes None d = (shown 1440 d).minutes
 day_minutes (Some now) d = (day_shown (now / 60) d).minutes

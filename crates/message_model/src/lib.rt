@@ -1,5 +1,5 @@
-//! What a unit hands out on a download, as definitions (Annex IB, Appendix 7): the messages by their fields and as bytes, those
-//! of a unit's image, the unit file, and the minutes that a unit file shows.
+//! What a unit hands out on a download, as definitions (Annex IB, Appendix 7): the messages by their fields and as
+//! bytes, those of a unit's image, the unit file, and the minutes that a unit file shows.
 #![tactic(auto)]
 
 mod laws;

@@ -1,5 +1,5 @@
-//! The sizes of a message's records in bytes (Annex IB, Appendix 7, 2.2.6, by the types of Appendix 1). Those of the unit's own
-//! fields are its layout's.
+//! The sizes of a message's records in bytes (Annex IB, Appendix 7, 2.2.6, by the types of Appendix 1). Those of the
+//! unit's own fields are its layout's.
 
 /// The last download (VuDownloadActivityData).
 pub const LAST_DOWNLOAD: u32 = 58;

@@ -1,5 +1,6 @@
 -- The seconds at speed 0 at the end of a list, and the selections in them.
-use Rattle.std.specs.Prelude.{◌-◌, ◌==◌, nat_le, if◌then◌else◌, Bool, not, ◌&&◌, List, [], ◌∷◌, length, take, map, filter, flat_map}
+use Rattle.std.specs.Prelude.{◌-◌, ◌==◌, nat_le, if◌then◌else◌, Bool, not, ◌&&◌, List, [], ◌∷◌, length, take, map}
+use Rattle.std.specs.Prelude.{filter, flat_map}
 use Rattle.std.specs.List.{list_any, list_all}
 use Rattle.activity_codec.specs.Activity.{activity_of, same_slot, is_rest_or_available}
 use Rattle.activity_codec.specs.declared.values.Activity.{Activity}
@@ -39,7 +40,8 @@ last_pick none (pick ∷ picks) = last_pick (activity_of pick) picks
 
 -- rest or availability may still be selected for the stop that these seconds end with
 abbrev pub waits : List Second → Bool
-waits seconds = not (all_still seconds) && not (list_any is_rest_or_available (driver_picks (last_still seconds))) && nat_le (length (last_still seconds)) WAIT
+waits seconds = not (all_still seconds) && not (list_any is_rest_or_available (driver_picks (last_still seconds)))
+    && nat_le (length (last_still seconds)) WAIT
 
 -- the driver's seconds for which it may
 abbrev pub open_of : List Second → List Second

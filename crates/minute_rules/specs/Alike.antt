@@ -8,7 +8,14 @@ use Rattle.minute_rules.specs.Kept.{Kept}
 
 -- all that is kept but for the minutes before that of the next second
 abbrev pub moment_of : Kept → Moment
-moment_of kept = record { rule = kept.rule; next = kept.next; owing = kept.owing; here = kept.here; driver = kept.driver; codriver = kept.codriver }
+moment_of kept = record {
+  rule = kept.rule;
+  next = kept.next;
+  owing = kept.owing;
+  here = kept.here;
+  driver = kept.driver;
+  codriver = kept.codriver;
+}
 
 -- so much further on
 abbrev pub further : ℕ → Counted → Counted
@@ -16,7 +23,11 @@ further d counted = record counted { travelled = counted.travelled + d }
 
 -- what is kept, so many minutes later and so much further on
 abbrev pub later_by : ℕ → ℕ → Kept → Kept
-later_by minutes d kept = record kept { next = kept.next + 60 * minutes; past = map (further d) kept.past; here = further d kept.here }
+later_by minutes d kept = record kept {
+  next = kept.next + 60 * minutes;
+  past = map (further d) kept.past;
+  here = further d kept.here;
+}
 
 -- what is kept, so many minutes later at this speed
 abbrev pub later : ℕ → ℕ → Kept → Kept
@@ -24,7 +35,13 @@ later minutes speed kept = later_by minutes (60 * minutes * speed) kept
 
 -- a minute like this one, so many minutes later and so much further on
 abbrev pub minute_by : ℕ → ℕ → Minute → Minute
-minute_by minutes d m = record { minute = m.minute + minutes; driver = m.driver; codriver = m.codriver; travelled = m.travelled + d }
+minute_by minutes d m = record {
+  minute = m.minute
+      + minutes;
+  driver = m.driver;
+  codriver = m.codriver;
+  travelled = m.travelled + d;
+}
 
 -- a minute like this one, so many minutes later at this speed
 abbrev pub minute_later : ℕ → ℕ → Minute → Minute

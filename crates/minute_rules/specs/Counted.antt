@@ -60,7 +60,8 @@ moved n speed counted = record {
   travelled = counted.travelled + n * speed;
 }
 
--- so many more of the driver's seconds at speed 0: while the driver waits they are open, till the 120th second after the stop
+-- so many more of the driver's seconds at speed 0: while the driver waits they are open, till the 120th second after
+-- the stop
 abbrev pub waited : Option ℕ → Activity → ℕ → Counted → Counted
 waited None act n counted = with_driver act n counted
 waited (Some count) act n counted =
@@ -83,5 +84,7 @@ drivers_longest counted = longest_in (with_run counted.driver Work counted.open_
 
 -- the driver's class of a minute, by it and its neighbours
 abbrev pub class_by : Rule → (before this after : Counted) → Activity
-class_by Original before this after = if this.drives || (before.drives && after.drives) then Driving else drivers_longest this
-class_by Amended before this after = if is_driving (drivers_longest before) && is_driving (drivers_longest after) then Driving else drivers_longest this
+class_by Original before this after = if this.drives || (before.drives && after.drives) then Driving
+    else drivers_longest this
+class_by Amended before this after = if is_driving (drivers_longest before) && is_driving (drivers_longest after)
+    then Driving else drivers_longest this

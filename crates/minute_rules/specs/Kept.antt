@@ -1,5 +1,6 @@
 -- What is kept of a span, and how seconds change it.
-use Rattle.std.specs.Prelude.{◌≡◌, ℕ, suc, zero, ◌+◌, ◌-◌, ◌/◌, ◌%◌, ◌==◌, max, nat_lt, nat_le, if◌then◌else◌, ◌&&◌, false, Option, Some, None, List, [], ◌∷◌, ◌++◌, length, drop, map, filter, slice_index_or}
+use Rattle.std.specs.Prelude.{◌≡◌, ℕ, suc, zero, ◌+◌, ◌-◌, ◌/◌, ◌%◌, ◌==◌, max, nat_lt, nat_le, if◌then◌else◌, ◌&&◌}
+use Rattle.std.specs.Prelude.{false, Option, Some, None, List, [], ◌∷◌, ◌++◌, length, drop, map, filter, slice_index_or}
 use Rattle.activity_codec.specs.Activity.{activity_of, is_rest_or_available}
 use Rattle.activity_codec.specs.declared.values.Activity.{Activity}
 use Rattle.activity_codec.specs.declared.values.Activity.TheVariants.{Work}
@@ -16,7 +17,8 @@ use Rattle.minute_rules.specs.declared.counted.Counted.{Counted}
 use Rattle.minute_rules.specs.declared.slots.CodriverSlot.{CodriverSlot}
 use Rattle.minute_rules.specs.declared.slots.DriverSlot.{DriverSlot}
 use Rattle.minute_rules.specs.Tally.{no_run, longest_in}
-use Rattle.minute_rules.specs.Counted.{counted_of, no_second, closed, with_codriver, moved, waited, waits_on, past_waited, class_by}
+use Rattle.minute_rules.specs.Counted.{counted_of, no_second, closed, with_codriver, moved, waited, waits_on}
+use Rattle.minute_rules.specs.Counted.{past_waited, class_by}
 
 -- The rule, the number of the next second, how many minutes before its minute were not given, the minutes before it,
 -- it, and what is selected for each slot.
@@ -103,7 +105,12 @@ selected now (Some pick) = pick
 
 -- what was selected for the next second holds from now on
 abbrev pub driver_heard : DriverSlot → DriverSlot
-driver_heard slot = record { current = selected slot.current slot.picked; waiting = slot.waiting; early = None; picked = None }
+driver_heard slot = record {
+  current = selected slot.current slot.picked;
+  waiting = slot.waiting;
+  early = None;
+  picked = None;
+}
 
 abbrev pub codriver_heard : CodriverSlot → CodriverSlot
 codriver_heard slot = record { current = selected slot.current slot.picked; picked = None }
@@ -130,7 +137,8 @@ abbrev pub passed : ℕ → Kept → Kept
 passed n kept = record kept {
   next = kept.next + n;
   past = past_waited kept.driver.waiting n kept.past;
-  here = with_codriver (activity_of kept.codriver.current) n (waited kept.driver.waiting (activity_of kept.driver.current) n kept.here);
+  here = with_codriver (activity_of kept.codriver.current) n
+      (waited kept.driver.waiting (activity_of kept.driver.current) n kept.here);
   driver = waiting (waits_on kept.driver.waiting n) kept.driver;
 }
 
@@ -156,7 +164,13 @@ last_of n xs = drop (length xs - n) xs
 abbrev pub turned : Kept → Kept
 turned kept = record kept {
   past = last_of 5 (kept.past ++ kept.here ∷ []);
-  here = record { driver = no_run; open_seconds = 0; drives = false; codriver = no_run; travelled = kept.here.travelled };
+  here = record {
+    driver = no_run;
+    open_seconds = 0;
+    drives = false;
+    codriver = no_run;
+    travelled = kept.here.travelled;
+  };
 }
 
 -- what is counted of the minute so many before that of the next second
@@ -181,11 +195,14 @@ with_owing owing kept = record kept { owing = owing }
 
 -- the minute that the last second decides
 abbrev pub decided_now : Kept → List Minute
-decided_now kept = if kept.next % 60 == 0 && nat_lt (minutes_ahead kept.rule) (kept.owing + 1) then class_kept (turned kept) (kept.owing + 1) ∷ [] else []
+decided_now kept = if kept.next % 60 == 0 && nat_lt (minutes_ahead kept.rule) (kept.owing + 1)
+    then class_kept (turned kept) (kept.owing + 1) ∷ [] else []
 
 -- if the last second ended its minute, another one begins
 abbrev pub minute_ended : Kept → Kept
-minute_ended kept = if kept.next % 60 == 0 then with_owing (if nat_lt (minutes_ahead kept.rule) (kept.owing + 1) then kept.owing else kept.owing + 1) (turned kept) else kept
+minute_ended kept = if kept.next % 60 == 0
+    then with_owing (if nat_lt (minutes_ahead kept.rule) (kept.owing + 1) then kept.owing else kept.owing + 1)
+    (turned kept) else kept
 
 -- the minutes that have ended and were not given
 abbrev pub owed_from : Kept → ℕ → List Minute

@@ -13,8 +13,15 @@ no_run = record { best = Rest; best_seconds = 0; going = Rest; going_seconds = 0
 abbrev pub with_run : Tally → Activity → ℕ → Tally
 with_run tally act n =
     if n == 0 then tally
-    else if same_activity act tally.going then record { best = tally.best; best_seconds = tally.best_seconds; going = tally.going; going_seconds = tally.going_seconds + n }
-    else if nat_lt tally.going_seconds tally.best_seconds then record { best = tally.best; best_seconds = tally.best_seconds; going = act; going_seconds = n }
+    else if same_activity act tally.going
+    then record {
+      best = tally.best;
+      best_seconds = tally.best_seconds;
+      going = tally.going;
+      going_seconds = tally.going_seconds + n;
+    }
+    else if nat_lt tally.going_seconds tally.best_seconds
+    then record { best = tally.best; best_seconds = tally.best_seconds; going = act; going_seconds = n }
     else record { best = tally.going; best_seconds = tally.going_seconds; going = act; going_seconds = n }
 
 -- the activity of the longest run, the latest of equally long ones

@@ -4,7 +4,8 @@ ghost use Rattle.std.specs.List.{AllByRecursion};
 ghost use Rattle.activity_codec.specs.Activity.{is_driving};
 ghost use Rattle.std.specs.Bool.{OnFalse};
 ghost use Rattle.minute_rules.specs.Alike.{further};
-ghost use Rattle.minute_rules.specs.Counted.{Fits, closed, opened, with_driver, with_codriver, moved, waited, waits_on, past_waited, drivers_longest, class_by};
+ghost use Rattle.minute_rules.specs.Counted.{Fits, closed, opened, with_driver, with_codriver, moved, waited, waits_on};
+ghost use Rattle.minute_rules.specs.Counted.{past_waited, drivers_longest, class_by};
 
 use crate::tally::{Tally, tallies_differ};
 use activity_codec::{Activity, Steps};

@@ -2,7 +2,8 @@
 ghost use Rattle.std.specs.Prelude.{◌^◌, ◌≡◌, ◌+◌, ◌-◌, ◌*◌, ◌/◌, ◌%◌, ◌<◌, ◌≤◌, ◌++◌, map, length};
 ghost use Rattle.activity_codec.specs.Activity.{activity_of};
 ghost use Rattle.minute_model.specs.Minute.{minutes_ahead};
-ghost use Rattle.minute_model.specs.Span.{Span, activity_next, begin, fed, fed_many, picked, settled, decided_in, travelled_of, end_of};
+ghost use Rattle.minute_model.specs.Span.{Span, activity_next, begin, fed, fed_many, picked, settled, decided_in};
+ghost use Rattle.minute_model.specs.Span.{travelled_of, end_of};
 ghost use Rattle.std.specs.List.{AllByRecursion};
 ghost use Rattle.std.specs.Bool.{OnTrue, OnFalse};
 ghost use Rattle.minute_rules.specs.Alike.{later, moment_of, decided_alike};
@@ -21,8 +22,8 @@ use std::sync::ledger::{Blank, Ledger};
 /// The minutes that one call decides, in order.
 pub type Decided = ArrayVec<Minute, 3>;
 
-/// What a run of seconds at one speed decides: how many seconds they were, and minutes so many times, each time a minute later
-/// at that speed.
+/// What a run of seconds at one speed decides: how many seconds they were, and minutes so many times, each time a
+/// minute later at that speed.
 #[derive(Drop)]
 pub struct Alike {
     pub seconds: u32,
@@ -32,9 +33,9 @@ pub struct Alike {
 
 /// A span of seconds with power, so far.
 ///
-/// It gives each minute with its class as soon as it is decided: when the last of the minutes that may bear on it ends, at
-/// which nothing that may still be selected changes it, or when a card is inserted or withdrawn in a later minute (Annex
-/// IB, section III.4; the moment: profile). It keeps counts of the last minutes, and no second.
+/// It gives each minute with its class as soon as it is decided: when the last of the minutes that may bear on it ends,
+/// at which nothing that may still be selected changes it, or when a card is inserted or withdrawn in a later minute
+/// (Annex IB, section III.4; the moment: profile). It keeps counts of the last minutes, and no second.
 #[derive(Drop)]
 pub struct Minutes {
     rule: Rule,
@@ -68,15 +69,25 @@ impl Model for Minutes {
 
     ghost Value = { Kept };
 
-    ghost view = { λ m. record { rule = m.rule; next = m.next; owing = m.owing; past = m.past.items; here = m.here; driver = m.driver; codriver = m.codriver } };
+    ghost view = { λ m. record {
+      rule = m.rule;
+      next = m.next;
+      owing = m.owing;
+      past = m.past.items;
+      here = m.here;
+      driver = m.driver;
+      codriver = m.codriver;
+    } };
 
     ghost invariant = { λ m. AllByRecursion (Fits m.next) m.past.items × Fits m.next m.here × (m.owing ≤ 3) };
 }
 
 impl Minutes {
-    ghost use Rattle.minute_rules.specs.Kept.{kept_closed, ended, heard, passed, driven, run, turned, minute_ended, minute_back, owed, class_kept, decided_now};
+    ghost use Rattle.minute_rules.specs.Kept.{kept_closed, ended, heard, passed, driven, run, turned, minute_ended};
+    ghost use Rattle.minute_rules.specs.Kept.{minute_back, owed, class_kept, decided_now};
 
-    /// A span that begins at the second of this number (seconds since 1970-01-01 00:00 GMT), judged by this rule of minutes.
+    /// A span that begins at the second of this number (seconds since 1970-01-01 00:00 GMT), judged by this rule of
+    /// minutes.
     pub fn new(rule: Rule, first: u32) -> Self
         ensures span { CountsSpan result (begin rule first) }
         ensures next { result.next ≡ first }
@@ -136,7 +147,8 @@ impl Minutes {
     pub fn feed(&mut self, speed: u8) -> Decided
         requires { self.old.next < 2 ^ 32 - 1 }
         ensures fed { (span : Span) → CountsSpan self.old span → CountsSpan self.new (fed span speed) }
-        ensures given { (span : Span) → CountsSpan self.old span → decided_in (fed span speed) ≡ decided_in span ++ result.items }
+        ensures given { (span : Span) → CountsSpan self.old span
+            → decided_in (fed span speed) ≡ decided_in span ++ result.items }
         ensures next { self.new.next ≡ self.old.next + 1 }
     {
         self.feed_once::<Brand>(speed, Blank::new(1))
@@ -149,22 +161,24 @@ impl Minutes {
         requires one { blank.parts ≡ 1 }
         requires fits { self.old.next < 2 ^ 32 - 1 }
         ensures fed { (span : Span) → CountsSpan self.old span → CountsSpan self.new (fed span speed) }
-        ensures given { (span : Span) → CountsSpan self.old span → decided_in (fed span speed) ≡ decided_in span ++ result.items }
+        ensures given { (span : Span) → CountsSpan self.old span
+            → decided_in (fed span speed) ≡ decided_in span ++ result.items }
         ensures next { self.new.next ≡ self.old.next + 1 }
     {
         let mut steps = Steps::<L>::new(blank);
         self.feed_run(1, speed, &mut steps)
     }
 
-    /// Feeds the next `n` seconds, which lie in one minute, at one speed: as so many calls of `feed`, in steps that do not
-    /// grow with `n`.
+    /// Feeds the next `n` seconds, which lie in one minute, at one speed: as so many calls of `feed`, in steps that do
+    /// not grow with `n`.
     ///
     /// The number of the next second and `n` together are at most 4294967295.
     pub fn feed_run<L: Ledger>(&mut self, n: u32, speed: u8, steps: &mut Steps<L>) -> Decided
         requires fits { self.old.next + n ≤ 2 ^ 32 - 1 }
         requires minute { self.old.next % 60 + n ≤ 60 }
         ensures fed { (span : Span) → CountsSpan self.old span → CountsSpan self.new (fed_many span speed n) }
-        ensures given { (span : Span) → CountsSpan self.old span → decided_in (fed_many span speed n) ≡ decided_in span ++ result.items }
+        ensures given { (span : Span) → CountsSpan self.old span
+            → decided_in (fed_many span speed n) ≡ decided_in span ++ result.items }
         ensures next { self.new.next ≡ self.old.next + n }
         ensures cost { steps.new ≤ steps.old + 10 }
     {
@@ -175,16 +189,18 @@ impl Minutes {
         self.end_minute()
     }
 
-    /// Feeds the next seconds at one speed, some of so many: those that are left of the next second's minute; or that minute,
-    /// where it is whole, and all whole minutes behind it, where they go on alike.
+    /// Feeds the next seconds at one speed, some of so many: those that are left of the next second's minute; or that
+    /// minute, where it is whole, and all whole minutes behind it, where they go on alike.
     ///
     /// The number of the next second and `most` together are at most 4294967295.
     pub fn feed_long<L: Ledger>(&mut self, most: u32, speed: u8, steps: &mut Steps<L>) -> Alike
         requires some { 0 < most }
         requires fits { self.old.next + most ≤ 2 ^ 32 - 1 }
         ensures seconds { (0 < result.seconds) × (result.seconds ≤ most) }
-        ensures fed { (span : Span) → CountsSpan self.old span → CountsSpan self.new (fed_many span speed result.seconds) }
-        ensures given { (span : Span) → CountsSpan self.old span → decided_in (fed_many span speed result.seconds) ≡ decided_in span ++ decided_alike speed result }
+        ensures fed { (span : Span) → CountsSpan self.old span
+            → CountsSpan self.new (fed_many span speed result.seconds) }
+        ensures given { (span : Span) → CountsSpan self.old span
+            → decided_in (fed_many span speed result.seconds) ≡ decided_in span ++ decided_alike speed result }
         ensures next { self.new.next ≡ self.old.next + result.seconds }
         ensures late { AllByRecursion (λ m. m.minute + result.times ≤ 2 ^ 32 - 1) result.decided.items }
     {
@@ -202,8 +218,10 @@ impl Minutes {
         requires fits { self.old.next + n ≤ 2 ^ 32 - 1 }
         requires minute { self.old.next % 60 + n ≤ 60 }
         ensures seconds { result.seconds ≡ n }
-        ensures fed { (span : Span) → CountsSpan self.old span → CountsSpan self.new (fed_many span speed result.seconds) }
-        ensures given { (span : Span) → CountsSpan self.old span → decided_in (fed_many span speed result.seconds) ≡ decided_in span ++ decided_alike speed result }
+        ensures fed { (span : Span) → CountsSpan self.old span
+            → CountsSpan self.new (fed_many span speed result.seconds) }
+        ensures given { (span : Span) → CountsSpan self.old span
+            → decided_in (fed_many span speed result.seconds) ≡ decided_in span ++ decided_alike speed result }
         ensures next { self.new.next ≡ self.old.next + result.seconds }
         ensures late { AllByRecursion (λ m. m.minute + result.times ≤ 2 ^ 32 - 1) result.decided.items }
     {
@@ -221,8 +239,10 @@ impl Minutes {
         requires whole { self.old.next % 60 ≡ 0 }
         requires fits { self.old.next + 60 + 60 * more ≤ 2 ^ 32 - 1 }
         ensures seconds { (0 < result.seconds) × (result.seconds ≤ 60 + 60 * more) }
-        ensures fed { (span : Span) → CountsSpan self.old span → CountsSpan self.new (fed_many span speed result.seconds) }
-        ensures given { (span : Span) → CountsSpan self.old span → decided_in (fed_many span speed result.seconds) ≡ decided_in span ++ decided_alike speed result }
+        ensures fed { (span : Span) → CountsSpan self.old span
+            → CountsSpan self.new (fed_many span speed result.seconds) }
+        ensures given { (span : Span) → CountsSpan self.old span
+            → decided_in (fed_many span speed result.seconds) ≡ decided_in span ++ decided_alike speed result }
         ensures next { self.new.next ≡ self.old.next + result.seconds }
         ensures late { AllByRecursion (λ m. m.minute + result.times ≤ 2 ^ 32 - 1) result.decided.items }
     {
@@ -304,7 +324,8 @@ impl Minutes {
     /// A settling at the next second: gives the minutes before the next second's minute that were not given yet.
     pub fn settle(&mut self) -> Decided
         ensures settled { (span : Span) → CountsSpan self.old span → CountsSpan self.new (settled span) }
-        ensures given { (span : Span) → CountsSpan self.old span → decided_in (settled span) ≡ decided_in span ++ result.items }
+        ensures given { (span : Span) → CountsSpan self.old span
+            → decided_in (settled span) ≡ decided_in span ++ result.items }
         ensures next { self.new.next ≡ self.old.next }
     {
         let decided = self.owed();
@@ -357,8 +378,8 @@ impl Minutes {
         }
     }
 
-    /// What was selected for a second at speed 0: the first rest or availability within 120 seconds of the stop counts from
-    /// the stop on.
+    /// What was selected for a second at speed 0: the first rest or availability within 120 seconds of the stop counts
+    /// from the stop on.
     fn hear<L: Ledger>(&mut self, steps: &mut Steps<L>)
         ensures kept { self.new ≡ heard self.old }
         ensures cost { steps.new ≤ steps.old + 5 }
@@ -368,7 +389,8 @@ impl Minutes {
         self.codriver.hear();
     }
 
-    /// Seconds at speed 0, for which nothing is selected any more: the driver waits till the 120th second after the stop.
+    /// Seconds at speed 0, for which nothing is selected any more: the driver waits till the 120th second after the
+    /// stop.
     fn pass<L: Ledger>(&mut self, n: u32, steps: &mut Steps<L>)
         requires { self.old.next + n ≤ 2 ^ 32 - 1 }
         ensures kept { self.new ≡ passed n self.old }

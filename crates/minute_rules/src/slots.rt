@@ -31,7 +31,12 @@ pub struct CodriverSlot {
 impl DriverSlot {
     /// Selects an activity for the next second.
     pub fn select(&mut self, pick: Pick)
-        ensures { self.new ≡ record { current = self.old.current; waiting = self.old.waiting; early = early_with self.old.early pick; picked = Some pick } }
+        ensures { self.new ≡ record {
+          current = self.old.current;
+          waiting = self.old.waiting;
+          early = early_with self.old.early pick;
+          picked = Some pick;
+        } }
     {
         if self.early.is_none() {
             match pick {

@@ -10,8 +10,10 @@ use Rattle.unit_download.specs.declared.fault.DownloadFault.TheVariants.{Changed
 use Rattle.unit_download.specs.Ending.{IfBad, IsDownload}
 
 -- HOW A DOWNLOAD ENDS, of this wire and sink, over a unit that tells this image, or none.
-pub record IsDownloaded (r : Result (Unit {0}) DownloadFault) (image : Option (List ℕ)) (wire : List Passed) (held sunk : Option (List ℕ)) : Type 0 where
-  -- the wire is a run of the tables of both sides, up to where the download ended; and what they put out has gone to the sink
+pub record IsDownloaded (r : Result (Unit {0}) DownloadFault) (image : Option (List ℕ)) (wire : List Passed)
+    (held sunk : Option (List ℕ)) : Type 0 where
+  -- the wire is a run of the tables of both sides, up to where the download ended; and what they put out has gone to
+  -- the sink
   pub downloaded : IsDownload r image wire held sunk
   -- at the end the image decodes, and the sink has its file; else a front of it
   pub file : OnOk r (IfSome image (λ x. Decodes x × Appends held sunk (unit_file x)))

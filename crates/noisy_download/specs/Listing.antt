@@ -1,5 +1,7 @@
--- A download over a noisy link as it goes, and what of it is on the wire: each request when it is sent first, and each answer when it is taken.
-use Rattle.std.specs.Prelude.{◌≡◌, ℕ, ◌+◌, ◌<◌, ◌≤◌, Bool, true, false, List, [], ◌∷◌, ◌++◌, Option, Some, None, IfSome, slice_get, Result, Ok, Err}
+-- A download over a noisy link as it goes, and what of it is on the wire: each request when it is sent first, and each
+-- answer when it is taken.
+use Rattle.std.specs.Prelude.{◌≡◌, ℕ, ◌+◌, ◌<◌, ◌≤◌, Bool, true, false, List, [], ◌∷◌, ◌++◌, Option, Some, None, IfSome}
+use Rattle.std.specs.Prelude.{slice_get, Result, Ok, Err}
 use Rattle.std.specs.List.{AllByRecursion}
 use Rattle.std.specs.Io.KnownBytes.{Appends}
 use Rattle.card_layout.specs.Fields.{IsBytes}
@@ -56,35 +58,42 @@ pub record IsUnsent (w : World SessionView Load) : Type 0 where
 
 -- the wire has the exchanges that have passed, and behind them the request that is asked now where it was listed
 abbrev pub Lists : (listed : Bool) → (exchanges : List Passed) → World SessionView Load → (wire : List Passed) → Type 0
-Lists true exchanges w wire = (sent : List ℕ) × (asked w.loader.side ≡ Some sent) × (wire ≡ exchanges ++ of_loader sent ∷ [])
+Lists true exchanges w wire = (sent : List ℕ) × (asked w.loader.side ≡ Some sent)
+    × (wire ≡ exchanges ++ of_loader sent ∷ [])
 Lists false exchanges w wire = (wire ≡ exchanges) × IsUnsent w
 
 -- the request that is asked now goes to the wire, if there is one and it is not there
-abbrev pub RequestIsListed : (listed : Bool) → Option (List ℕ) → (wire : List Passed) → (now : Bool) → (grown : List Passed) → Type 0
+abbrev pub RequestIsListed : (listed : Bool) → Option (List ℕ) → (wire : List Passed) → (now : Bool)
+    → (grown : List Passed) → Type 0
 RequestIsListed true asks wire now grown = (now ≡ true) × (grown ≡ wire)
 RequestIsListed false None wire now grown = (now ≡ false) × (grown ≡ wire)
 RequestIsListed false (Some frame) wire now grown = (now ≡ true) × (grown ≡ wire ++ of_loader frame ∷ [])
 
 -- so does an answer that is brought, and the next request is not there
-abbrev pub AnswerIsListed : Option (List ℕ) → (listed : Bool) → (wire : List Passed) → (now : Bool) → (grown : List Passed) → Type 0
+abbrev pub AnswerIsListed : Option (List ℕ) → (listed : Bool) → (wire : List Passed) → (now : Bool)
+    → (grown : List Passed) → Type 0
 AnswerIsListed None listed wire now grown = (now ≡ listed) × (grown ≡ wire)
 AnswerIsListed (Some frame) listed wire now grown = (now ≡ false) × (grown ≡ wire ++ of_unit frame ∷ [])
 
 -- what an event adds to the wire
-abbrev pub IsListed : World SessionView Load → (listed : Bool) → Event → (wire : List Passed) → (now : Bool) → (grown : List Passed) → Type 0
+abbrev pub IsListed : World SessionView Load → (listed : Bool) → Event → (wire : List Passed) → (now : Bool)
+    → (grown : List Passed) → Type 0
 IsListed w listed Send wire now grown = RequestIsListed listed (frame_of (request_of asked w.loader)) wire now grown
 IsListed w listed (ToUnit place) wire now grown = (now ≡ listed) × (grown ≡ wire)
-IsListed w listed (ToLoader place) wire now grown = AnswerIsListed (brought_by w (slice_get w.answers place)) listed wire now grown
+IsListed w listed (ToLoader place) wire now grown = AnswerIsListed (brought_by w (slice_get w.answers place)) listed
+    wire now grown
 
--- A DOWNLOAD OVER A NOISY LINK AS IT GOES, over a unit that tells this image, or none: some events have passed, what the answers that
--- were taken put out has gone to the sink, and the wire has each exchange.
-pub record IsUnderway (image held : Option (List ℕ)) (w : World SessionView Load) (listed : Bool) (wire : List Passed) (sunk : Option (List ℕ)) : Type 0 where
+-- A DOWNLOAD OVER A NOISY LINK AS IT GOES, over a unit that tells this image, or none: some events have passed, what
+-- the answers that were taken put out has gone to the sink, and the wire has each exchange.
+pub record IsUnderway (image held : Option (List ℕ)) (w : World SessionView Load) (listed : Bool) (wire : List Passed)
+    (sunk : Option (List ℕ)) : Type 0 where
   pub load : Load
   pub begins : load.loading ≡ begun
   pub events : List Event
   pub took : List Taken
   pub exchanges : List Passed
-  pub passes : Passes (listing_sides image) (fresh_world (fresh Idle) (listing load [])) events (with_list w exchanges) took
+  pub passes : Passes (listing_sides image) (fresh_world (fresh Idle) (listing load [])) events (with_list w exchanges)
+      took
   pub put : Appends held sunk (puts_of took)
   pub lists : Lists listed exchanges w wire
   pub knows : IfSome image (Knows w.unit.side)
@@ -93,6 +102,7 @@ pub record IsUnderway (image held : Option (List ℕ)) (w : World SessionView Lo
   pub bytes : IfSome image IsBytes
 
 -- it goes on, or it has ended
-abbrev pub DownloadGoesOn : Result (Unit {0}) DownloadFault → (image held : Option (List ℕ)) → World SessionView Load → (listed : Bool) → (wire : List Passed) → (sunk : Option (List ℕ)) → Type 0
+abbrev pub DownloadGoesOn : Result (Unit {0}) DownloadFault → (image held : Option (List ℕ)) → World SessionView Load
+    → (listed : Bool) → (wire : List Passed) → (sunk : Option (List ℕ)) → Type 0
 DownloadGoesOn (Ok done) image held w listed wire sunk = IsUnderway image held w listed wire sunk
 DownloadGoesOn (Err fault) image held w listed wire sunk = IsDownloaded (Err fault) image wire held sunk

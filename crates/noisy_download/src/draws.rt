@@ -4,7 +4,8 @@ ghost use Rattle.noisy_download.specs.Rounds.{event_drawn, before_last};
 
 use noisy_model::Event;
 
-/// The event that a number draws: the loader's end sends; or one of the last three packets or answers comes, if there are so many.
+/// The event that a number draws: the loader's end sends; or one of the last three packets or answers comes, if there
+/// are so many.
 pub fn drawn_event(x: u32, sent: u32, answered: u32) -> Option<Event>
     ensures { result ≡ event_drawn x sent answered }
 {

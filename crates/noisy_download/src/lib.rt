@@ -1,5 +1,5 @@
-//! A unit downloaded over a link that loses, repeats and delays by numbers that are drawn (profile): the file and the wire are those of a
-//! download over a link that keeps all.
+//! A unit downloaded over a link that loses, repeats and delays by numbers that are drawn (profile): the file and the
+//! wire are those of a download over a link that keeps all.
 #![tactic(auto)]
 
 mod draws;

@@ -20,7 +20,8 @@ use tach_media::{Medium, Sink};
 use trace_text::next_drawn;
 use unit_download::{DownloadFault, Tape, Wire};
 
-/// A download over a noisy link as it goes: both ends, whether the wire has the request that is asked now, and the number drawn last.
+/// A download over a noisy link as it goes: both ends, whether the wire has the request that is asked now, and the
+/// number drawn last.
 #[derive(Drop)]
 pub struct Noisy {
     pub world: World,
@@ -28,9 +29,10 @@ pub struct Noisy {
     pub drawn: u32,
 }
 
-/// Downloads a unit over a link that loses, repeats and delays, in rounds by numbers that are drawn behind a seed. A round is up to five drawn
-/// events, then a sending, its coming to the unit's end, and the coming of the last answer. The wire has each request when it is sent first, and
-/// each answer when it is taken. The unit is read, and never written.
+/// Downloads a unit over a link that loses, repeats and delays, in rounds by numbers that are drawn behind a seed. A
+/// round is up to five drawn events, then a sending, its coming to the unit's end, and the coming of the last answer.
+/// The wire has each request when it is sent first, and each answer when it is taken. The unit is read, and never
+/// written.
 ///
 /// # Errors
 ///
@@ -85,8 +87,10 @@ impl Noisy {
     ) -> Result<(), DownloadFault>
         requires unit { (U.state unit.old).size ≡ IMAGE_SIZE }
         requires knows { IfSome (U.state unit.old).image (Knows self.old.world.unit.side) }
-        ensures goes { (held : Option (List ℕ)) → IsUnderway (U.state unit.old).image held self.old.world self.old.listed wire.old (K.held sink.old)
-            → DownloadGoesOn result (U.state unit.old).image held self.new.world self.new.listed wire.new (K.held sink.new) }
+        ensures goes { (held : Option (List ℕ))
+            → IsUnderway (U.state unit.old).image held self.old.world self.old.listed wire.old (K.held sink.old)
+            → DownloadGoesOn result (U.state unit.old).image held self.new.world self.new.listed wire.new
+            (K.held sink.new) }
         ensures knows { IfSome (U.state unit.old).image (Knows self.new.world.unit.side) }
         ensures counts { K.faults sink.old ≤ K.faults sink.new }
         ensures cause { IsErrOf result DownloadFault.WriteFault → Rose (K.faults sink.old) (K.faults sink.new) }
@@ -108,8 +112,10 @@ impl Noisy {
     ) -> Result<(), DownloadFault>
         requires unit { (U.state unit.old).size ≡ IMAGE_SIZE }
         requires knows { IfSome (U.state unit.old).image (Knows self.old.world.unit.side) }
-        ensures goes { (held : Option (List ℕ)) → IsUnderway (U.state unit.old).image held self.old.world self.old.listed wire.old (K.held sink.old)
-            → DownloadGoesOn result (U.state unit.old).image held self.new.world self.new.listed wire.new (K.held sink.new) }
+        ensures goes { (held : Option (List ℕ))
+            → IsUnderway (U.state unit.old).image held self.old.world self.old.listed wire.old (K.held sink.old)
+            → DownloadGoesOn result (U.state unit.old).image held self.new.world self.new.listed wire.new
+            (K.held sink.new) }
         ensures knows { IfSome (U.state unit.old).image (Knows self.new.world.unit.side) }
         ensures counts { K.faults sink.old ≤ K.faults sink.new }
         ensures cause { IsErrOf result DownloadFault.WriteFault → Rose (K.faults sink.old) (K.faults sink.new) }
@@ -131,8 +137,10 @@ impl Noisy {
     ) -> Result<(), DownloadFault>
         requires unit { (U.state unit.old).size ≡ IMAGE_SIZE }
         requires knows { IfSome (U.state unit.old).image (Knows self.old.world.unit.side) }
-        ensures goes { (held : Option (List ℕ)) → IsUnderway (U.state unit.old).image held self.old.world self.old.listed wire.old (K.held sink.old)
-            → DownloadGoesOn result (U.state unit.old).image held self.new.world self.new.listed wire.new (K.held sink.new) }
+        ensures goes { (held : Option (List ℕ))
+            → IsUnderway (U.state unit.old).image held self.old.world self.old.listed wire.old (K.held sink.old)
+            → DownloadGoesOn result (U.state unit.old).image held self.new.world self.new.listed wire.new
+            (K.held sink.new) }
         ensures knows { IfSome (U.state unit.old).image (Knows self.new.world.unit.side) }
         ensures counts { K.faults sink.old ≤ K.faults sink.new }
         ensures cause { IsErrOf result DownloadFault.WriteFault → Rose (K.faults sink.old) (K.faults sink.new) }
@@ -155,8 +163,10 @@ impl Noisy {
     ) -> Result<(), DownloadFault>
         requires unit { (U.state unit.old).size ≡ IMAGE_SIZE }
         requires knows { IfSome (U.state unit.old).image (Knows self.old.world.unit.side) }
-        ensures goes { (held : Option (List ℕ)) → IsUnderway (U.state unit.old).image held self.old.world self.old.listed wire.old (K.held sink.old)
-            → DownloadGoesOn result (U.state unit.old).image held self.new.world self.new.listed wire.new (K.held sink.new) }
+        ensures goes { (held : Option (List ℕ))
+            → IsUnderway (U.state unit.old).image held self.old.world self.old.listed wire.old (K.held sink.old)
+            → DownloadGoesOn result (U.state unit.old).image held self.new.world self.new.listed wire.new
+            (K.held sink.new) }
         ensures knows { IfSome (U.state unit.old).image (Knows self.new.world.unit.side) }
         ensures counts { K.faults sink.old ≤ K.faults sink.new }
         ensures cause { IsErrOf result DownloadFault.WriteFault → Rose (K.faults sink.old) (K.faults sink.new) }
@@ -172,7 +182,8 @@ impl Noisy {
     // What an event adds to the wire.
     fn list(&mut self, event: &Event, wire: &mut Wire) -> Result<(), DownloadFault>
         ensures world { self.new.world ≡ self.old.world }
-        ensures listed { OnOk result (IsListed self.old.world self.old.listed event.now wire.old self.new.listed wire.new) }
+        ensures listed { OnOk result (IsListed self.old.world self.old.listed event.now wire.old self.new.listed
+            wire.new) }
         ensures memory { IfErr result (λ fault. (fault ≡ DownloadFault.Memory) × (wire.new ≡ wire.old)) }
     {
         match *event {
@@ -185,7 +196,8 @@ impl Noisy {
     // The request that is asked now, if it is not on the wire.
     fn list_request(&mut self, wire: &mut Wire) -> Result<(), DownloadFault>
         ensures world { self.new.world ≡ self.old.world }
-        ensures listed { OnOk result (RequestIsListed self.old.listed (frame_of (request_of asked self.old.world.loader)) wire.old self.new.listed wire.new) }
+        ensures listed { OnOk result (RequestIsListed self.old.listed
+            (frame_of (request_of asked self.old.world.loader)) wire.old self.new.listed wire.new) }
         ensures memory { IfErr result (λ fault. (fault ≡ DownloadFault.Memory) × (wire.new ≡ wire.old)) }
     {
         if self.listed {
@@ -204,7 +216,9 @@ impl Noisy {
     // The answer that the packet of this place brings.
     fn list_answer(&mut self, place: u32, wire: &mut Wire) -> Result<(), DownloadFault>
         ensures world { self.new.world ≡ self.old.world }
-        ensures listed { OnOk result (AnswerIsListed (brought_by self.old.world (slice_get self.old.world.answers place)) self.old.listed wire.old self.new.listed wire.new) }
+        ensures listed { OnOk result (AnswerIsListed
+            (brought_by self.old.world (slice_get self.old.world.answers place)) self.old.listed wire.old
+            self.new.listed wire.new) }
         ensures memory { IfErr result (λ fault. (fault ≡ DownloadFault.Memory) × (wire.new ≡ wire.old)) }
     {
         let Some(frame) = self.world.brought(place) else {

@@ -1,5 +1,6 @@
 -- The two sides of a download on a noisy link: a session of the unit, and the loader's side.
-use Rattle.std.specs.Prelude.{◌≡◌, ℕ, ◌+◌, ◌||◌, Bool, true, false, length, is_none, List, [], ◌∷◌, ◌++◌, Option, Some, IfSome}
+use Rattle.std.specs.Prelude.{◌≡◌, ℕ, ◌+◌, ◌||◌, Bool, true, false, length, is_none, List, [], ◌∷◌, ◌++◌, Option, Some}
+use Rattle.std.specs.Prelude.{IfSome}
 use Rattle.unit_model.specs.declared.layout.TheConstants.{IMAGE_SIZE}
 use Rattle.std.specs.Io.KnownBytes.{Appends}
 use Rattle.link_model.specs.Frames.{Right}
@@ -16,9 +17,10 @@ use Rattle.noisy_model.specs.declared.packet.Packet.{Packet}
 use Rattle.noisy_model.specs.Ends.{Sides, LoaderEnd, Taken, TakesBy, brought}
 use Rattle.noisy_model.specs.Worlds.{World, fresh_world}
 
--- A session answers a request by its table, over the messages of the unit's image or, where it is not told, over some; and the unit was
--- judged if the answer hangs on it.
-pub record IsReply (image : Option (List ℕ)) (old : SessionView) (request : List ℕ) (answer : Option (List ℕ)) (new : SessionView) : Type 0 where
+-- A session answers a request by its table, over the messages of the unit's image or, where it is not told, over some;
+-- and the unit was judged if the answer hangs on it.
+pub record IsReply (image : Option (List ℕ)) (old : SessionView) (request : List ℕ) (answer : Option (List ℕ))
+    (new : SessionView) : Type 0 where
   pub replies : Replies image old.state request (record { answer = answer; state = new.state })
   pub judged : is_judged new ≡ (is_judged old || asks_unit old.state (Right request))
   pub knows : IfSome image (Knows new)
@@ -53,7 +55,8 @@ took_any [] = false
 took_any (t ∷ took) = true
 
 -- the loader's end takes what a packet brings, if anything, and what it puts out is in the sink, behind what that held
-pub record TakesPacket (old : LoaderEnd Load) (p : Packet) (new : LoaderEnd Load) (yes : Bool) (held sunk : Option (List ℕ)) : Type 0 where
+pub record TakesPacket (old : LoaderEnd Load) (p : Packet) (new : LoaderEnd Load) (yes : Bool)
+    (held sunk : Option (List ℕ)) : Type 0 where
   pub took : List Taken
   pub takes : TakesBy Loads old (brought asked old p) new took
   pub puts : Appends held sunk (puts_of took)
@@ -66,12 +69,14 @@ number_left fault number = number + 1
 
 -- where a refusal leaves the loader's end
 abbrev pub LeavesEnd : LoadFault → LoaderEnd Load → LoaderEnd Load → Type 0
-LeavesEnd fault old new = (new.number ≡ number_left fault old.number) × (new.side.loading ≡ left_by fault old.side.loading)
+LeavesEnd fault old new = (new.number ≡ number_left fault old.number)
+    × (new.side.loading ≡ left_by fault old.side.loading)
 
 -- where the table of a unit stands behind these requests, each heard once
 abbrev pub state_after : (Request → Option (List ℕ)) → LinkState → List (List ℕ) → LinkState
 state_after messages state [] = state
-state_after messages state (request ∷ requests) = state_after messages (answered messages state (Right request)).state requests
+state_after messages state (request ∷ requests) = state_after messages (answered messages state (Right request)).state
+    requests
 
 abbrev pub one_if_any : List ℕ → ℕ
 one_if_any [] = 0

@@ -1,5 +1,6 @@
 -- What an event leaves, well or not.
-use Rattle.std.specs.Prelude.{◌≡◌, ◌⊎◌, ◌<◌, ◌++◌, ℕ, Bool, true, false, List, [], Option, None, Some, IfSome, Result, Ok, Err, length, option_to_list, slice_get}
+use Rattle.std.specs.Prelude.{◌≡◌, ◌⊎◌, ◌<◌, ◌++◌, ℕ, Bool, true, false, List, [], Option, None, Some, IfSome, Result}
+use Rattle.std.specs.Prelude.{Ok, Err, length, option_to_list, slice_get}
 use Rattle.std.specs.Io.KnownBytes.{Appends, Keeps}
 use Rattle.link_model.specs.declared.request.Request.{Request}
 use Rattle.link_model.specs.Frames.{Right}
@@ -29,7 +30,8 @@ told_as load.WriteFault = WriteFault
 told_as load.Memory = Memory
 
 -- the loader's end was brought a frame, which it refused, or did not put out
-pub record IsRefusal (told : DownloadFault) (old : LoaderEnd Load) (p : Packet) (new : LoaderEnd Load) (held sunk : Option (List ℕ)) : Type 0 where
+pub record IsRefusal (told : DownloadFault) (old : LoaderEnd Load) (p : Packet) (new : LoaderEnd Load)
+    (held sunk : Option (List ℕ)) : Type 0 where
   pub frame : List ℕ
   pub brings : brought asked old p ≡ Some frame
   pub fault : LoadFault
@@ -47,9 +49,11 @@ pub record LacksRoom (e : LoaderEnd Load) (p : Packet) : Type 0 where
   pub long : e.side.room < length (with_piece e.side.loading.bytes frame)
 
 -- the unit's end gets the packet of a place, if there is one, and what goes back is added
-abbrev pub EndHears : (image : Option (List ℕ)) → UnitEnd SessionView → Option Packet → UnitEnd SessionView → (given now : List Packet) → Type 0
+abbrev pub EndHears : (image : Option (List ℕ)) → UnitEnd SessionView → Option Packet → UnitEnd SessionView
+    → (given now : List Packet) → Type 0
 EndHears image old None new given now = (new ≡ old) × (now ≡ given)
-EndHears image old (Some p) new given now = (answer : Option Packet) × Hears (IsReply image) old p new answer × (now ≡ given ++ option_to_list answer)
+EndHears image old (Some p) new given now = (answer : Option Packet) × Hears (IsReply image) old p new answer
+    × (now ≡ given ++ option_to_list answer)
 
 -- a new request comes to the unit's end
 pub record Requests (e : UnitEnd SessionView) (o : Option Packet) (request : List ℕ) : Type 0 where
@@ -70,11 +74,13 @@ pub record IsSilent (old : UnitEnd SessionView) (o : Option Packet) (new : UnitE
   pub none : new.kept ≡ None
 
 -- what the unit's end does about the packet of a place, and how that ends
-abbrev pub IsHearing : Result (Unit {0}) DownloadFault → (image : Option (List ℕ)) → UnitEnd SessionView → Option Packet → UnitEnd SessionView → (given now : List Packet) → Type 0
+abbrev pub IsHearing : Result (Unit {0}) DownloadFault → (image : Option (List ℕ)) → UnitEnd SessionView → Option Packet
+    → UnitEnd SessionView → (given now : List Packet) → Type 0
 IsHearing (Ok done) image old o new given now = EndHears image old o new given now × (IsSilent old o new → ⊥)
 IsHearing (Err Failed) image old o new given now = AsksUnit old o × (new ≡ old) × (now ≡ given)
 IsHearing (Err (BadUnit place)) image old o new given now =
-    AsksUnit old o × (new ≡ old) × (now ≡ given) × (is_judged old.side ≡ false) × IfSome image (λ x. first_bad_place x ≡ Some place)
+    AsksUnit old o × (new ≡ old) × (now ≡ given) × (is_judged old.side ≡ false)
+    × IfSome image (λ x. first_bad_place x ≡ Some place)
 IsHearing (Err Changed) image old o new given now = EndHears image old o new given now × IsSilent old o new
 IsHearing (Err WriteFault) image old o new given now = ⊥
 IsHearing (Err Memory) image old o new given now = (new ≡ old) × (now ≡ given)
@@ -85,9 +91,11 @@ EndTakes old None new held sunk = (new ≡ old) × Keeps held sunk
 EndTakes old (Some p) new held sunk = (yes : Bool) × TakesPacket old p new yes held sunk
 
 -- and how that ends
-abbrev pub IsTaking : Result (Unit {0}) DownloadFault → LoaderEnd Load → Option Packet → LoaderEnd Load → (held sunk : Option (List ℕ)) → Type 0
+abbrev pub IsTaking : Result (Unit {0}) DownloadFault → LoaderEnd Load → Option Packet → LoaderEnd Load
+    → (held sunk : Option (List ℕ)) → Type 0
 IsTaking (Ok done) old o new held sunk = EndTakes old o new held sunk
-IsTaking (Err Memory) old o new held sunk = (p : Packet) × (o ≡ Some p) × LacksRoom old p × (new ≡ old) × Keeps held sunk
+IsTaking (Err Memory) old o new held sunk = (p : Packet) × (o ≡ Some p) × LacksRoom old p × (new ≡ old)
+    × Keeps held sunk
 IsTaking (Err fault) old o new held sunk = (p : Packet) × (o ≡ Some p) × IsRefusal fault old p new held sunk
 
 -- the packet that comes to the unit's end, and the one that comes to the loader's
@@ -112,20 +120,23 @@ brought_by w None = None
 brought_by w (Some p) = brought asked w.loader p
 
 -- A new request came whose answer hangs on the unit, and nothing has changed.
-pub record IsUnanswered (old : World SessionView Load) (event : Event) (new : World SessionView Load) (held sunk : Option (List ℕ)) : Type 0 where
+pub record IsUnanswered (old : World SessionView Load) (event : Event) (new : World SessionView Load)
+    (held sunk : Option (List ℕ)) : Type 0 where
   pub asks : AsksUnit old.unit (to_unit old event)
   pub same : new ≡ old
   pub kept : Keeps held sunk
 
 -- The unit's session has no answer to a new request: what happens has happened, and a packet without a frame goes back.
-pub record IsSilence (image : Option (List ℕ)) (old : World SessionView Load) (event : Event) (new : World SessionView Load) (held sunk : Option (List ℕ)) : Type 0 where
+pub record IsSilence (image : Option (List ℕ)) (old : World SessionView Load) (event : Event)
+    (new : World SessionView Load) (held sunk : Option (List ℕ)) : Type 0 where
   pub happens : Happens (download_sides image) old event new []
   pub silent : IsSilent old.unit (to_unit old event) new.unit
   pub kept : Keeps held sunk
 
--- The loader's end was brought an answer that it refuses, or whose message the sink did not take whole: its number goes on, and the
--- download is over.
-pub record IsUntaken (told : DownloadFault) (old : World SessionView Load) (event : Event) (new : World SessionView Load) (held sunk : Option (List ℕ)) : Type 0 where
+-- The loader's end was brought an answer that it refuses, or whose message the sink did not take whole: its number goes
+-- on, and the download is over.
+pub record IsUntaken (told : DownloadFault) (old : World SessionView Load) (event : Event)
+    (new : World SessionView Load) (held sunk : Option (List ℕ)) : Type 0 where
   pub packet : Packet
   pub comes : to_loader old event ≡ Some packet
   pub refusal : IsRefusal told old.loader packet new.loader held sunk
@@ -133,14 +144,20 @@ pub record IsUntaken (told : DownloadFault) (old : World SessionView Load) (even
   pub answers : new.answers ≡ old.answers
   pub unit : new.unit ≡ old.unit
 
--- WHAT AN EVENT LEAVES. It happens, and what the answers that were taken put out has gone to the sink; or it ends by one of the five faults: the
--- unit failed or is bad, or memory ran out, and nothing has changed; the session has no answer, or the loader refuses what comes; the sink failed.
-abbrev pub IsStep : Result (Unit {0}) DownloadFault → (image : Option (List ℕ)) → (old : World SessionView Load) → Event → (new : World SessionView Load) → (held sunk : Option (List ℕ)) → Type 0
+-- WHAT AN EVENT LEAVES. It happens, and what the answers that were taken put out has gone to the sink; or it ends by
+-- one of the five faults: the unit failed or is bad, or memory ran out, and nothing has changed; the session has no
+-- answer, or the loader refuses what comes; the sink failed.
+abbrev pub IsStep : Result (Unit {0}) DownloadFault → (image : Option (List ℕ)) → (old : World SessionView Load) → Event
+    → (new : World SessionView Load) → (held sunk : Option (List ℕ)) → Type 0
 IsStep (Ok done) image old event new held sunk =
-    (took : List Taken) × Happens (download_sides image) old event new took × Appends held sunk (puts_of took) × (IsSilent old.unit (to_unit old event) new.unit → ⊥)
+    (took : List Taken) × Happens (download_sides image) old event new took × Appends held sunk (puts_of took)
+    × (IsSilent old.unit (to_unit old event) new.unit → ⊥)
 IsStep (Err Failed) image old event new held sunk = IsUnanswered old event new held sunk
 IsStep (Err (BadUnit place)) image old event new held sunk =
-    IsUnanswered old event new held sunk × (is_judged old.unit.side ≡ false) × IfSome image (λ x. first_bad_place x ≡ Some place)
-IsStep (Err Changed) image old event new held sunk = IsSilence image old event new held sunk ⊎ IsUntaken Changed old event new held sunk
+    IsUnanswered old event new held sunk × (is_judged old.unit.side ≡ false)
+    × IfSome image (λ x. first_bad_place x ≡ Some place)
+IsStep (Err Changed) image old event new held sunk = IsSilence image old event new held sunk
+    ⊎ IsUntaken Changed old event new held sunk
 IsStep (Err WriteFault) image old event new held sunk = IsUntaken WriteFault old event new held sunk
-IsStep (Err Memory) image old event new held sunk = (new ≡ old) × Keeps held sunk × IfSome (to_loader old event) (LacksRoom old.loader)
+IsStep (Err Memory) image old event new held sunk = (new ≡ old) × Keeps held sunk
+    × IfSome (to_loader old event) (LacksRoom old.loader)

@@ -1,5 +1,5 @@
-//! A download over a link that loses, repeats and delays: packets with numbers, the end that a unit has of such a link and the one that
-//! a loader has, and what any list of events leads to.
+//! A download over a link that loses, repeats and delays: packets with numbers, the end that a unit has of such a link
+//! and the one that a loader has, and what any list of events leads to.
 #![tactic(auto)]
 
 mod laws;

@@ -14,8 +14,8 @@ use std::alloc::Global;
 use std::marker::Model;
 use tach_media::{Memory, Sink};
 
-/// The end of a noisy link that a loader has. It sends its request with its number as often as it is told to, takes the first answer with that number,
-/// and goes on to the next.
+/// The end of a noisy link that a loader has. It sends its request with its number as often as it is told to, takes the
+/// first answer with that number, and goes on to the next.
 #[derive(Drop)]
 pub struct LoaderEnd {
     number: u64,
@@ -70,7 +70,8 @@ impl LoaderEnd {
         self.loader.reserve()
     }
 
-    /// The packet to send: the request of the download with its number; `None` where the download is over, or no number is left.
+    /// The packet to send: the request of the download with its number; `None` where the download is over, or no number
+    /// is left.
     pub fn send(&self) -> Option<Packet>
         ensures { result ≡ request_of asked self.now }
     {
@@ -102,15 +103,20 @@ impl LoaderEnd {
     ///
     /// Those of a download: the number goes on, and the download is over; but for `Memory`, where the end is as it was.
     pub fn take<K: Sink>(&mut self, packet: &Packet, sink: &mut K) -> Result<bool, LoadFault>
-        ensures taken { IfOk result (λ yes. TakesPacket self.old packet.now self.new yes (K.held sink.old) (K.held sink.new)) }
-        ensures refused { IfErr result (λ fault. (frame : List ℕ) × (brought asked self.old packet.now ≡ Some frame) × IsRefused self.old.side.loading frame fault × LeavesSink self.old.side.loading frame fault (K.held sink.old) (K.held sink.new)) }
+        ensures taken { IfOk result (λ yes. TakesPacket self.old packet.now self.new yes (K.held sink.old) (K.held
+            sink.new)) }
+        ensures refused { IfErr result (λ fault. (frame : List ℕ) × (brought asked self.old packet.now ≡ Some frame)
+            × IsRefused self.old.side.loading frame fault
+            × LeavesSink self.old.side.loading frame fault (K.held sink.old) (K.held sink.new)) }
         ensures left { IfErr result (λ fault. LeavesEnd fault self.old self.new) }
         ensures same { IsErrOf result LoadFault.Memory → self.new ≡ self.old }
         ensures later { K.faults sink.old ≤ K.faults sink.new }
         ensures cause { IsErrOf result LoadFault.WriteFault → Rose (K.faults sink.old) (K.faults sink.new) }
         ensures room { self.old.side.room ≤ self.new.side.room }
         // Memory is wanted only where there is no room for the bytes with the piece.
-        ensures enough { IsErrOf result LoadFault.Memory → (frame : List ℕ) × (brought asked self.old packet.now ≡ Some frame) × (self.old.side.room < length (with_piece self.old.side.loading.bytes frame)) }
+        ensures enough { IsErrOf result LoadFault.Memory
+            → (frame : List ℕ) × (brought asked self.old packet.now ≡ Some frame)
+            × (self.old.side.room < length (with_piece self.old.side.loading.bytes frame)) }
     {
         let Some(frame) = &packet.frame else {
             return Ok(false);

@@ -16,8 +16,8 @@ use noisy_model::Packet;
 use std::marker::Model;
 use tach_media::Medium;
 
-/// The end of a noisy link that a unit has. It answers each new request once, by a session, and the last one that comes again by the
-/// answer that it keeps.
+/// The end of a noisy link that a unit has. It answers each new request once, by a session, and the last one that comes
+/// again by the answer that it keeps.
 #[derive(Drop)]
 pub struct UnitEnd {
     last: u64,
@@ -53,13 +53,14 @@ impl UnitEnd {
         self.last
     }
 
-    /// Takes a packet that comes, and gives the packet that goes back, if any. A new request, with the number behind the last one, is
-    /// answered by the session; where that has no answer, the packet that goes back has no frame. The last one again gets the same packet
-    /// again, and the session is not asked. Any other is passed over.
+    /// Takes a packet that comes, and gives the packet that goes back, if any. A new request, with the number behind
+    /// the last one, is answered by the session; where that has no answer, the packet that goes back has no frame. The
+    /// last one again gets the same packet again, and the session is not asked. Any other is passed over.
     ///
     /// # Errors
     ///
-    /// `Failed` and `BadUnit` at a new request whose answer hangs on the unit, where it failed or is bad. The end is as it was.
+    /// `Failed` and `BadUnit` at a new request whose answer hangs on the unit, where it failed or is bad. The end is as
+    /// it was.
     pub fn take<M: Medium>(
         &mut self,
         unit: &mut M,
@@ -67,12 +68,16 @@ impl UnitEnd {
     ) -> Result<Option<Packet>, AnswerFault>
         requires unit { (M.state unit.old).size ≡ IMAGE_SIZE }
         requires knows { IfSome (M.state unit.old).image (Knows self.old.side) }
-        ensures heard { IfOk result (λ answer. Hears (IsReply (M.state unit.old).image) self.old packet.now self.new answer) }
+        ensures heard { IfOk result (λ answer.
+            Hears (IsReply (M.state unit.old).image) self.old packet.now self.new answer) }
         ensures knows { OnOk result (IfSome (M.state unit.old).image (Knows self.new.side)) }
         ensures same { OnErr result (self.new ≡ self.old) }
         // Only a new request is refused, and one whose answer hangs on the unit.
-        ensures new { OnErr result ((request : List ℕ) × (arrival_by self.old.last packet.now.number packet.now.frame ≡ New request) × (asks_unit self.old.side.state (Right request) ≡ true)) }
-        ensures bad { IfErr result (λ fault. IfBadUnit fault (λ p. (is_judged self.old.side ≡ false) × IfSome (M.state unit.old).image (λ x. first_bad_place x ≡ Some p))) }
+        ensures new { OnErr result ((request : List ℕ)
+            × (arrival_by self.old.last packet.now.number packet.now.frame ≡ New request)
+            × (asks_unit self.old.side.state (Right request) ≡ true)) }
+        ensures bad { IfErr result (λ fault. IfBadUnit fault (λ p. (is_judged self.old.side ≡ false) × IfSome
+            (M.state unit.old).image (λ x. first_bad_place x ≡ Some p))) }
         ensures reads { ReadsIfAny (M.state unit.old) (M.state unit.new) (has_failed result) }
     {
         let Some(frame) = &packet.frame else {

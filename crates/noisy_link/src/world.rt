@@ -1,5 +1,6 @@
 ghost use Rattle.unit_model.specs.declared.layout.TheConstants.{IMAGE_SIZE};
-ghost use Rattle.std.specs.Prelude.{false, ◌≡◌, ◌≤◌, ◌<◌, ◌-◌, ◌++◌, ◌==◌, ◌&&◌, not, is_none, ℕ, Some, OnOk, IfOk, IfErr, IfSome, IsErrOf, option_to_list, length, slice_get};
+ghost use Rattle.std.specs.Prelude.{false, ◌≡◌, ◌≤◌, ◌<◌, ◌-◌, ◌++◌, ◌==◌, ◌&&◌, not, is_none, ℕ, Some, OnOk, IfOk};
+ghost use Rattle.std.specs.Prelude.{IfErr, IfSome, IsErrOf, option_to_list, length, slice_get};
 ghost use Rattle.tach_media.specs.Medium.{Rose};
 ghost use Rattle.unit_minutes.specs.Reading.{ReadsIfAny};
 ghost use Rattle.unit_messages.specs.declared.joining.TheConstants.{LONGEST};
@@ -67,7 +68,8 @@ impl World {
     ///
     /// `Memory`.
     pub fn with_room(alloc: Global) -> Result<World, Memory>
-        ensures { IfOk result (λ world. (load : Load) × (load.loading ≡ begun) × (LONGEST ≤ load.room) × (world ≡ fresh_world (fresh Idle) load)) }
+        ensures { IfOk result (λ world. (load : Load) × (load.loading ≡ begun) × (LONGEST ≤ load.room)
+            × (world ≡ fresh_world (fresh Idle) load)) }
     {
         let mut loader = LoaderEnd::new(alloc);
         loader.reserve()?;
@@ -148,9 +150,9 @@ impl World {
     ///
     /// # Errors
     ///
-    /// `Failed` and `BadUnit` where a new request came whose answer hangs on the unit, and it failed or is bad, and `Memory`, as where
-    /// 2147483648 packets were sent or given: nothing has changed. `Changed` where the session has no answer to a new request, or the
-    /// loader refuses what is brought, and `WriteFault`: the event is done.
+    /// `Failed` and `BadUnit` where a new request came whose answer hangs on the unit, and it failed or is bad, and
+    /// `Memory`, as where 2147483648 packets were sent or given: nothing has changed. `Changed` where the session has
+    /// no answer to a new request, or the loader refuses what is brought, and `WriteFault`: the event is done.
     pub fn step<M: Medium, K: Sink>(
         &mut self,
         unit: &mut M,
@@ -159,7 +161,8 @@ impl World {
     ) -> Result<(), DownloadFault>
         requires unit { (M.state unit.old).size ≡ IMAGE_SIZE }
         requires knows { IfSome (M.state unit.old).image (Knows self.old.unit.side) }
-        ensures stepped { IsStep result (M.state unit.old).image self.old event.now self.new (K.held sink.old) (K.held sink.new) }
+        ensures stepped { IsStep result (M.state unit.old).image self.old event.now self.new (K.held sink.old)
+            (K.held sink.new) }
         ensures knows { IfSome (M.state unit.old).image (Knows self.new.unit.side) }
         ensures room { self.old.loader.side.room ≤ self.new.loader.side.room }
         ensures counts { K.faults sink.old ≤ K.faults sink.new }
@@ -212,7 +215,8 @@ fn come_to_unit<M: Medium>(
     requires unit { (M.state unit.old).size ≡ IMAGE_SIZE }
     requires knows { IfSome (M.state unit.old).image (Knows end.old.side) }
     requires few { length answers.old.items ≤ 2147483648 }
-    ensures heard { IsHearing result (M.state unit.old).image end.old (slice_get sent.now place) end.new answers.old.items answers.new.items }
+    ensures heard { IsHearing result (M.state unit.old).image end.old (slice_get sent.now place) end.new
+        answers.old.items answers.new.items }
     ensures knows { IfSome (M.state unit.old).image (Knows end.new.side) }
     ensures few { length answers.new.items ≤ 2147483648 }
     ensures reads { ReadsIfAny (M.state unit.old) (M.state unit.new) (has_failed result) }

@@ -1,5 +1,7 @@
--- A packet as bytes (profile): 4E, its number in eight bytes, the highest first, and the data of its frame, of which there may be none.
-use Rattle.std.specs.Prelude.{ℕ, ◌==◌, ◌&&◌, nat_le, Bool, if◌then◌else◌, List, [], ◌∷◌, ◌++◌, length, drop, slice_index, Option, Some, None}
+-- A packet as bytes (profile): 4E, its number in eight bytes, the highest first, and the data of its frame, of which
+-- there may be none.
+use Rattle.std.specs.Prelude.{ℕ, ◌==◌, ◌&&◌, nat_le, Bool, if◌then◌else◌, List, [], ◌∷◌, ◌++◌, length, drop}
+use Rattle.std.specs.Prelude.{slice_index, Option, Some, None}
 use Rattle.byteorder.specs.Endian.{big_bytes, big_number}
 use Rattle.noisy_model.specs.declared.packet.Packet.{Packet}
 
@@ -28,4 +30,5 @@ is_packet bytes = nat_le 9 (length bytes) && nat_le (length bytes) 264 && slice_
 
 -- the packet that these bytes are, if they are one
 abbrev pub packet_in : List ℕ → Option Packet
-packet_in bytes = if is_packet bytes then Some (record { number = number_in (drop 1 bytes); frame = frame_in (drop 9 bytes) }) else None
+packet_in bytes = if is_packet bytes
+    then Some (record { number = number_in (drop 1 bytes); frame = frame_in (drop 9 bytes) }) else None

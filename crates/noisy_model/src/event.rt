@@ -1,4 +1,5 @@
-/// What happens on a noisy link. What is lost is delivered never, what is repeated again and again, what is late behind others.
+/// What happens on a noisy link. What is lost is delivered never, what is repeated again and again, what is late behind
+/// others.
 #[derive(Clone, Copy, Debug, PartialEq, Eq)]
 pub enum Event {
     /// The loader's end sends.

@@ -1,5 +1,5 @@
-//! A link that loses, repeats and delays, as definitions: packets with numbers, the two ends that send and take them, and what any
-//! list of events leads to.
+//! A link that loses, repeats and delays, as definitions: packets with numbers, the two ends that send and take them,
+//! and what any list of events leads to.
 #![tactic(auto)]
 
 mod event;

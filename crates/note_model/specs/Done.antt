@@ -1,12 +1,13 @@
--- What was done in each second of a run, beside its course: the actions that were carried out, each with the slots before and after
--- it, and the slots behind the power-on and of the second itself, behind its actions (profile).
+-- What was done in each second of a run, beside its course: the actions that were carried out, each with the slots
+-- before and after it, and the slots behind the power-on and of the second itself, behind its actions (profile).
 use Rattle.std.specs.Prelude.{ℕ, ◌+◌, Bool, true, not, ◌&&◌, List, [], ◌∷◌, ◌++◌, is_some, nat_eq, if◌then◌else◌}
 use Rattle.std.specs.List.{list_any}
 use Rattle.trace_model.specs.declared.Action.{Action}
 use Rattle.trace_model.specs.Trace.{TraceSecond}
 use Rattle.log_model.specs.Log.{RunLog, In, cut_in}
 use Rattle.log_model.specs.Slots.{Slots, refusal}
-use Rattle.log_model.specs.Course.{Course, ToldSecond, Before, begins, acted, all_acted, both_told, unmoved, fresh, has_power, second_told, before_next, not_begun}
+use Rattle.log_model.specs.Course.{Course, ToldSecond, Before, begins, acted, all_acted, both_told, unmoved, fresh}
+use Rattle.log_model.specs.Course.{has_power, second_told, before_next, not_begun}
 use Rattle.log_model.specs.Causes.{cuts, second_of}
 
 -- an action that was carried out: how many of its second came before it, and the slots before and after it
@@ -20,7 +21,8 @@ pub record CarriedOut : Type 0 where
 abbrev pub carried_from : RunLog → TraceSecond → ℕ → List Action → Course → List CarriedOut
 carried_from log s n [] c = []
 carried_from log s n (a ∷ actions) c =
-    (if begins (cut_in log s.number) n && not (is_some (refusal c.slots s.speed a)) then record { before = n; action = a; slots = c.slots; after = (acted log s n a c).slots } ∷ [] else [])
+    (if begins (cut_in log s.number) n && not (is_some (refusal c.slots s.speed a))
+    then record { before = n; action = a; slots = c.slots; after = (acted log s n a c).slots } ∷ [] else [])
     ++ carried_from log s (n + 1) actions (acted log s n a c)
 
 -- a second of a run
@@ -32,14 +34,16 @@ pub record Done : Type 0 where
 
 -- the course of a second with power up to its actions: the power-on, if it is one
 abbrev pub course_powered : RunLog → Before → TraceSecond → Course
-course_powered log before s = both_told log s.number (In 0) (unmoved (not before.running)) (fresh (not before.running) before.slots)
+course_powered log before s = both_told log s.number (In 0) (unmoved (not before.running))
+    (fresh (not before.running) before.slots)
 
 abbrev pub done_by : RunLog → Before → TraceSecond → Done
 done_by log before s = record {
   told = second_told log before s;
   powered = if has_power before s then (course_powered log before s).slots else before.slots;
   carried = if has_power before s then carried_from log s 0 s.actions (course_powered log before s) else [];
-  itself = if has_power before s then (all_acted log s 0 s.actions (course_powered log before s)).slots else before.slots;
+  itself = if has_power before s then (all_acted log s 0 s.actions (course_powered log before s)).slots
+      else before.slots;
 }
 
 -- these seconds one after another, behind others

@@ -1,5 +1,6 @@
 -- The insertions, withdrawals and places that a run notes on the unit (profile).
-use Rattle.std.specs.Prelude.{ℕ, ◌+◌, Bool, not, ◌&&◌, Option, Some, None, List, [], ◌∷◌, ◌++◌, map, filter, flat_map, fold, is_some, if◌then◌else◌}
+use Rattle.std.specs.Prelude.{ℕ, ◌+◌, Bool, not, ◌&&◌, Option, Some, None, List, [], ◌∷◌, ◌++◌, map, filter, flat_map}
+use Rattle.std.specs.Prelude.{fold, is_some, if◌then◌else◌}
 use Rattle.std.specs.List.{list_any}
 use Rattle.activity_codec.specs.declared.values.Slot.{Slot}
 use Rattle.trace_model.specs.declared.Card.{Card}
@@ -54,12 +55,14 @@ noted_by log u a (Withdraw slot) =
     else map (λ card. Withdraws (record { second = u; card = card })) (accepted_card (in_slot a.slots slot))
 noted_by log u a (Tear slot) = []
 noted_by log u a (Place slot ending country region) =
-    map (λ card. Enters (record { second = u; card = card; ending = ending; country = country; region = region })) (accepted_card (in_slot a.slots slot))
+    map (λ card. Enters (record { second = u; card = card; ending = ending; country = country; region = region }))
+    (accepted_card (in_slot a.slots slot))
 noted_by log u a (Manual slot pick minute) = []
 
 -- what a second notes: the cards that its power-on accepted, then what each action notes and which cards it accepted
 abbrev pub noted_in : RunLog → Done → List Note
-noted_in log d = accepted_at d (In 0) ++ flat_map (λ a. noted_by log d.told.second.number a a.action ++ accepted_at d (In (a.before + 1))) d.carried
+noted_in log d = accepted_at d (In 0)
+    ++ flat_map (λ a. noted_by log d.told.second.number a a.action ++ accepted_at d (In (a.before + 1))) d.carried
 
 unfoldable pub notes_of : RunLog → List Done → List Note
 notes_of log done = flat_map (noted_in log) done

@@ -1,5 +1,6 @@
 -- The odometer of a run (profile): what was stored at a power-on, and the speeds since.
-use Rattle.std.specs.Prelude.{◌≡◌, ◌⊎◌, ℕ, ◌+◌, ◌*◌, ◌/◌, ◌<◌, ◌≤◌, min, Bool, false, Option, Some, None, List, [], ◌∷◌, ◌++◌, All, map, filter, sum, Contains, nat_eq, nat_lt, nat_le, if◌then◌else◌}
+use Rattle.std.specs.Prelude.{◌≡◌, ◌⊎◌, ℕ, ◌+◌, ◌*◌, ◌/◌, ◌<◌, ◌≤◌, min, Bool, false, Option, Some, None, List, [], ◌∷◌}
+use Rattle.std.specs.Prelude.{◌++◌, All, map, filter, sum, Contains, nat_eq, nat_lt, nat_le, if◌then◌else◌}
 use Rattle.std.specs.List.{list_any}
 use Rattle.minute_model.specs.declared.Rule.{Rule}
 use Rattle.minute_model.specs.declared.Minute.{Minute}
@@ -42,13 +43,14 @@ odometer_at u (s ∷ spans) = if has_second u s then odometer_before u s else od
 abbrev pub IsBeingKept : Rule → List ToldSecond → ℕ → Type 0
 IsBeingKept rule span m = cut_second (last span) ≡ Some (deciding_of rule (settlings_of span) m)
 
--- What a unit stores whose last-kept minute is this, after these spans: the start's odometer where it kept no minute since; that of
--- its last-kept minute; or that of a later minute that a cut's second was keeping.
+-- What a unit stores whose last-kept minute is this, after these spans: the start's odometer where it kept no minute
+-- since; that of its last-kept minute; or that of a later minute that a cut's second was keeping.
 pub data MayStore (rule : Rule) (start start_kept : ℕ) (spans : List SpanFrom) (kept : ℕ) : ℕ → Type 0 where
   OfStart : kept ≡ start_kept → MayStore rule start start_kept spans kept start
   OfKept : (s : SpanFrom) (d : Minute) → Contains spans s → Contains (decided_of rule s.span) d → d.minute ≡ kept →
       MayStore rule start start_kept spans kept (odometer_at_end d.minute s)
-  OfCut : (s : SpanFrom) (d : Minute) → Contains spans s → Contains (decided_of rule s.span) d → IsBeingKept rule s.span d.minute → kept < d.minute →
+  OfCut : (s : SpanFrom) (d : Minute) → Contains spans s → Contains (decided_of rule s.span) d
+      → IsBeingKept rule s.span d.minute → kept < d.minute →
       MayStore rule start start_kept spans kept (odometer_at_end d.minute s)
 
 -- what was found kept after the last of these spans; at first what was kept at the start
@@ -69,16 +71,19 @@ limited (Some k) ms = filter (λ m. nat_le m k) ms
 -- the minutes of these spans that were kept, each span's up to what was found kept after its cut
 abbrev pub minutes_kept : Rule → RunLog → List SpanFrom → List ℕ
 minutes_kept rule log [] = []
-minutes_kept rule log (s ∷ spans) = limited (limit_by log (cut_second (last s.span))) (map (λ (d : Minute). d.minute) (decided_of rule s.span)) ++ minutes_kept rule log spans
+minutes_kept rule log (s ∷ spans) = limited (limit_by log (cut_second (last s.span)))
+    (map (λ (d : Minute). d.minute) (decided_of rule s.span)) ++ minutes_kept rule log spans
 
 -- the last of some minutes, or where there is none the one before them
 pub record IsNewest (first : ℕ) (ms : List ℕ) (k : ℕ) : Type 0 where
   pub among : (k ≡ first) ⊎ Contains ms k
   pub highest : All (λ m. m ≤ k) ms
 
--- A SPAN BEGINS, behind these, with an odometer that the unit may store after some last-kept minute: the one that was found, the last of all that
--- these have kept, but where a call failed in its first second. The unit may not have been read then, and so it is not known what was kept.
-pub record BeginsFrom (rule : Rule) (log : RunLog) (start start_kept : ℕ) (earlier : List SpanFrom) (s : SpanFrom) : Type 0 where
+-- A SPAN BEGINS, behind these, with an odometer that the unit may store after some last-kept minute: the one that was
+-- found, the last of all that these have kept, but where a call failed in its first second. The unit may not have been
+-- read then, and so it is not known what was kept.
+pub record BeginsFrom (rule : Rule) (log : RunLog) (start start_kept : ℕ) (earlier : List SpanFrom)
+    (s : SpanFrom) : Type 0 where
   pub kept : ℕ
   pub found : has_failed_in log (first_in s.span) ≡ false → kept ≡ found_kept log start_kept (last_second earlier)
   pub newest : has_failed_in log (first_in s.span) ≡ false → IsNewest start_kept (minutes_kept rule log earlier) kept
@@ -91,6 +96,7 @@ HaveBases rule log start start_kept earlier (s ∷ spans) =
     BeginsFrom rule log start start_kept earlier s × HaveBases rule log start start_kept (earlier ++ s ∷ []) spans
 
 -- the power spans of a run, each with the odometer that it began with
-pub record AreSpansFrom (rule : Rule) (log : RunLog) (told : List ToldSecond) (start start_kept : ℕ) (spans : List SpanFrom) : Type 0 where
+pub record AreSpansFrom (rule : Rule) (log : RunLog) (told : List ToldSecond) (start start_kept : ℕ)
+    (spans : List SpanFrom) : Type 0 where
   pub spans_are : map (λ s. s.span) spans ≡ spans_of told
   pub bases : HaveBases rule log start start_kept [] spans

@@ -1,5 +1,6 @@
 -- What the rings of insertions and places of a unit show of a run (profile).
-use Rattle.std.specs.Prelude.{◌≡◌, ◌⊎◌, ℕ, ◌+◌, ◌≤◌, Bool, true, false, not, Option, Some, None, List, [], ◌∷◌, ◌++◌, length, filter, if◌then◌else◌}
+use Rattle.std.specs.Prelude.{◌≡◌, ◌⊎◌, ℕ, ◌+◌, ◌≤◌, Bool, true, false, not, Option, Some, None, List, [], ◌∷◌, ◌++◌}
+use Rattle.std.specs.Prelude.{length, filter, if◌then◌else◌}
 use Rattle.card_layout.specs.Fields.{field_at, number_in}
 use Rattle.activity_codec.specs.Words.{slot_number}
 use Rattle.trace_model.specs.declared.Card.{Card}
@@ -32,9 +33,10 @@ unsure_count is_sure notes = length (filter (λ n. not (is_sure n)) notes)
 abbrev pub AreNoFewer : {N : Type 0} → Shape → (N → Bool) → List N → (start x : List ℕ) → Type 0
 AreNoFewer r is_sure notes start x = length (ring_list r start) ≤ length (ring_list r x) + unsure_count is_sure notes
 
--- A ring that was dense at the start shows what it showed then and entries that stand for the notes; only where it is full, or lacks
--- one entry, are some gone at its old end, and no more than entries came, or notes are not sure.
-pub record RingShows {N : Type 0} (r : Shape) (is_sure : N → Bool) (Is : N → List ℕ → Type 0) (notes : List N) (start x : List ℕ) : Type 0 where
+-- A ring that was dense at the start shows what it showed then and entries that stand for the notes; only where it is
+-- full, or lacks one entry, are some gone at its old end, and no more than entries came, or notes are not sure.
+pub record RingShows {N : Type 0} (r : Shape) (is_sure : N → Bool) (Is : N → List ℕ → Type 0) (notes : List N)
+    (start x : List ℕ) : Type 0 where
   pub more : List (List ℕ)
   pub stand : Stand is_sure Is notes more
   pub gone : List (List ℕ)
@@ -47,8 +49,8 @@ abbrev pub kind_of : (ending : Bool) → ℕ
 kind_of ending = if ending then 1 else 0
 
 module _ (log : RunLog) (spans : List SpanFrom) (holder : Card → Holder) where
-  -- the withdrawal that an entry tells: none, or its second and odometer; of a second in which a call on the unit failed also none,
-  -- or the second alone
+  -- the withdrawal that an entry tells: none, or its second and odometer; of a second in which a call on the unit
+  -- failed also none, or the second alone
   abbrev pub TellsWithdrawal : Option ℕ → (time odometer : ℕ) → Type 0
   TellsWithdrawal None time odometer = (time ≡ 0) × (odometer ≡ 0)
   TellsWithdrawal (Some u) time odometer =
@@ -56,7 +58,8 @@ module _ (log : RunLog) (spans : List SpanFrom) (holder : Card → Holder) where
       ⊎ ((has_failed_in log u ≡ true) × ((time ≡ 0) ⊎ (time ≡ u)) × (odometer ≡ 0))
 
   -- an entry of an insertion; the previous vehicle is one that the card told
-  pub record IsInsertion (Tells : Card → (registration : List ℕ) → (time : ℕ) → Type 0) (i : InsertionNote) (e : List ℕ) : Type 0 where
+  pub record IsInsertion (Tells : Card → (registration : List ℕ) → (time : ℕ) → Type 0) (i : InsertionNote)
+      (e : List ℕ) : Type 0 where
     pub size : length e ≡ 129
     pub surname : field_at insertion_widths 0 e ≡ (holder i.accepted.card).surname
     pub first_names : field_at insertion_widths 1 e ≡ (holder i.accepted.card).first_names

@@ -1,18 +1,23 @@
--- The places of a unit's events and faults after a run (Appendix 1, VuEventRecord, VuOverSpeedingEventRecord, VuFaultRecord).
-use Rattle.std.specs.Prelude.{◌≡◌, ℕ, ◌+◌, ◌-◌, ◌*◌, Bool, true, false, Option, Some, None, option_map, List, [], ◌∷◌, length, map, slice_set, slice_index_or, replicate, nat_eq, if◌then◌else◌}
+-- The places of a unit's events and faults after a run (Appendix 1, VuEventRecord, VuOverSpeedingEventRecord,
+-- VuFaultRecord).
+use Rattle.std.specs.Prelude.{◌≡◌, ℕ, ◌+◌, ◌-◌, ◌*◌, Bool, true, false, Option, Some, None, option_map, List, [], ◌∷◌}
+use Rattle.std.specs.Prelude.{length, map, slice_set, slice_index_or, replicate, nat_eq, if◌then◌else◌}
 use Rattle.std.specs.List.{range_with_len}
 use Rattle.card_layout.specs.Images.{bytes_at}
 use Rattle.card_layout.specs.Fields.{field_at, number_in, total_width}
 use Rattle.trace_model.specs.declared.Card.{Card}
 use Rattle.unit_model.specs.Ring.{Shape, entry_at}
 use Rattle.unit_model.specs.declared.layout.TheConstants.{EVENTS, OVERS, FAULTS}
-use Rattle.event_model.specs.declared.kinds.TheConstants.{CARD_NOT_VALID, TIME_OVERLAP, DRIVING_WITHOUT_CARD, INSERTION_WHILE_DRIVING, SESSION_NOT_CLOSED, OVER_SPEEDING, CARD_FAULT, EVENT_PLACES}
+use Rattle.event_model.specs.declared.kinds.TheConstants.{CARD_NOT_VALID, TIME_OVERLAP, DRIVING_WITHOUT_CARD}
+use Rattle.event_model.specs.declared.kinds.TheConstants.{INSERTION_WHILE_DRIVING, SESSION_NOT_CLOSED, OVER_SPEEDING}
+use Rattle.event_model.specs.declared.kinds.TheConstants.{CARD_FAULT, EVENT_PLACES}
 use Rattle.event_model.specs.declared.entries.Held.{Held}
 use Rattle.event_model.specs.Kinds.{purpose_of, purpose_number, places_of}
 use Rattle.event_model.specs.Places.{day_place, place_of, similar_after}
 use Rattle.event_model.specs.Events.{Event}
 
--- type, purpose, begin, end, card numbers of driver and co-driver at begin and at end, similar events; a fault has all but the last
+-- type, purpose, begin, end, card numbers of driver and co-driver at begin and at end, similar events; a fault has all
+-- but the last
 abbrev pub event_widths : List ℕ
 event_widths = 1 ∷ 1 ∷ 4 ∷ 4 ∷ 18 ∷ 18 ∷ 18 ∷ 18 ∷ 1 ∷ []
 
@@ -25,7 +30,8 @@ over_widths = 1 ∷ 1 ∷ 4 ∷ 4 ∷ 1 ∷ 1 ∷ 18 ∷ 1 ∷ []
 
 -- how the entries of a type are laid out
 abbrev pub widths_of : ℕ → List ℕ
-widths_of kind = if nat_eq kind OVER_SPEEDING then over_widths else (if nat_eq kind CARD_FAULT then fault_widths else event_widths)
+widths_of kind = if nat_eq kind OVER_SPEEDING then over_widths
+    else (if nat_eq kind CARD_FAULT then fault_widths else event_widths)
 
 -- where the places of a type begin: those of events stand by types in this order
 abbrev pub order_of : ℕ → ℕ
@@ -38,11 +44,18 @@ order_of kind =
 abbrev pub base_of : ℕ → ℕ
 base_of kind =
     if nat_eq kind OVER_SPEEDING then OVERS.place
-    else (if nat_eq kind CARD_FAULT then FAULTS.place else EVENTS.place + order_of kind * EVENT_PLACES * total_width event_widths)
+    else (if nat_eq kind CARD_FAULT then FAULTS.place
+    else EVENTS.place + order_of kind * EVENT_PLACES * total_width event_widths)
 
 -- the places of a type
 abbrev pub table_of : ℕ → Shape
-table_of kind = record { base = base_of kind; width = total_width (widths_of kind); count = places_of kind; pointer_width = 0; gate = 2 }
+table_of kind = record {
+  base = base_of kind;
+  width = total_width (widths_of kind);
+  count = places_of kind;
+  pointer_width = 0;
+  gate = 2;
+}
 
 -- what stands at each of them, empty ones too
 unfoldable pub table_in : ℕ → List ℕ → List (List ℕ)
@@ -108,7 +121,8 @@ pub record IsEntry (number : Card → List ℕ) (e : Event) (similar : ℕ) (byt
 -- how many similar events the entry at a place counts
 abbrev pub similar_at : (kind : ℕ) → List (List ℕ) → Option ℕ → Option ℕ → Option ℕ
 similar_at kind table None place = None
-similar_at kind table (Some field) place = option_map (λ i. number_in (widths_of kind) field (slice_index_or table i [])) place
+similar_at kind table (Some field) place = option_map
+    (λ i. number_in (widths_of kind) field (slice_index_or table i [])) place
 
 -- an entry with another count: all other fields stay
 pub record HasOneMore (kind : ℕ) (similar : ℕ) (old new : List ℕ) : Type 0 where
@@ -117,20 +131,22 @@ pub record HasOneMore (kind : ℕ) (similar : ℕ) (old new : List ℕ) : Type 0
   pub counts : CountsSimilar kind similar new (similar_field kind)
 
 module _ (number : Card → List ℕ) where
-  -- An event was noted: it stands at the place that it takes, with the similar events of its day; where it takes none, the event of its
-  -- day counts one more, if one is held.
+  -- An event was noted: it stands at the place that it takes, with the similar events of its day; where it takes none,
+  -- the event of its day counts one more, if one is held.
   abbrev pub IsNotedAt : List (List ℕ) → Event → (place day : Option ℕ) → List (List ℕ) → Type 0
   IsNotedAt old e (Some i) day new =
       (bytes : List ℕ) × (new ≡ slice_set old i bytes)
       × IsEntry number e (similar_after (similar_at e.kind old (similar_field e.kind) day)) bytes
   IsNotedAt old e None (Some i) new =
       (bytes : List ℕ) × (new ≡ slice_set old i bytes)
-      × HasOneMore e.kind (similar_after (similar_at e.kind old (similar_field e.kind) (Some i))) (slice_index_or old i []) bytes
+      × HasOneMore e.kind (similar_after (similar_at e.kind old (similar_field e.kind) (Some i)))
+      (slice_index_or old i []) bytes
   IsNotedAt old e None None new = new ≡ old
 
   abbrev pub IsNoted : List (List ℕ) → Event → List (List ℕ) → Type 0
   IsNoted old e new =
-      IsNotedAt old e (place_of e.kind (map (held_in e.kind) old) (held_of e)) (day_place e.kind (map (held_in e.kind) old) (held_of e)) new
+      IsNotedAt old e (place_of e.kind (map (held_in e.kind) old) (held_of e))
+      (day_place e.kind (map (held_in e.kind) old) (held_of e)) new
 
   -- these events were noted, one after the other
   abbrev pub AreNoted : List (List ℕ) → List Event → List (List ℕ) → Type 0

@@ -1,5 +1,5 @@
-//! What a run notes on its unit beside the minutes (profile; events: Annex IB, section III.12), as definitions: odometers,
-//! insertions, withdrawals, places, events and faults, and what the unit's rings and tables show of them.
+//! What a run notes on its unit beside the minutes (profile; events: Annex IB, section III.12), as definitions:
+//! odometers, insertions, withdrawals, places, events and faults, and what the unit's rings and tables show of them.
 #![tactic(auto)]
 
 mod laws;

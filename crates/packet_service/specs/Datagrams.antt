@@ -1,5 +1,7 @@
--- Datagrams in a stream (profile): each behind its length in two bytes, the highest first, and of at most 264 bytes, as many as a packet has.
-use Rattle.std.specs.Prelude.{◌≡◌, ⊤, ℕ, zero, suc, ◌+◌, ◌*◌, ◌/◌, ◌%◌, ◌<◌, ◌≤◌, ◌==◌, nat_lt, if◌then◌else◌, List, [], ◌∷◌, ◌++◌, map, length}
+-- Datagrams in a stream (profile): each behind its length in two bytes, the highest first, and of at most 264 bytes, as
+-- many as a packet has.
+use Rattle.std.specs.Prelude.{◌≡◌, ⊤, ℕ, zero, suc, ◌+◌, ◌*◌, ◌/◌, ◌%◌, ◌<◌, ◌≤◌, ◌==◌, nat_lt, if◌then◌else◌, List, []}
+use Rattle.std.specs.Prelude.{◌∷◌, ◌++◌, map, length}
 use Rattle.std.specs.List.{AllByRecursion}
 use Rattle.card_layout.specs.Fields.{joined}
 use Rattle.packet_service.specs.declared.datagrams.Gathered.{Gathered}
@@ -18,7 +20,8 @@ stream_of datagrams = joined (map datagram datagrams)
 abbrev pub IsPart : List ℕ → Type 0
 IsPart [] = ⊤
 IsPart (high ∷ []) = high < 256
-IsPart (high ∷ low ∷ bytes) = (high < 256) × (low < 256) × (256 * high + low ≤ LONGEST) × (length bytes < 256 * high + low)
+IsPart (high ∷ low ∷ bytes) = (high < 256) × (low < 256) × (256 * high + low ≤ LONGEST)
+    × (length bytes < 256 * high + low)
 
 -- THE DATAGRAMS OF A STREAM: these, and behind them a part of the next one.
 pub record AreDatagrams (came : List ℕ) (datagrams : List (List ℕ)) (part : List ℕ) : Type 0 where

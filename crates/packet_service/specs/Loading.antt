@@ -1,5 +1,6 @@
 -- What a loader's end does about datagrams, and how its download ends.
-use Rattle.std.specs.Prelude.{◌≡◌, ◌⊎◌, ℕ, ◌+◌, ◌<◌, ◌≤◌, Bool, true, false, List, [], ◌∷◌, ◌++◌, length, take, Option, Some, None, option_to_list, Result, Ok, Err}
+use Rattle.std.specs.Prelude.{◌≡◌, ◌⊎◌, ℕ, ◌+◌, ◌<◌, ◌≤◌, Bool, true, false, List, [], ◌∷◌, ◌++◌, length, take, Option}
+use Rattle.std.specs.Prelude.{Some, None, option_to_list, Result, Ok, Err}
 use Rattle.std.specs.Io.KnownBytes.{Appends, Consumes, IsAtEnd, Keeps}
 use Rattle.tach_media.specs.Streams.{AppendsFront}
 use Rattle.link_loader.specs.declared.fault.LoadFault.{LoadFault}
@@ -13,7 +14,8 @@ use Rattle.noisy_model.specs.Packets.{packet_in}
 use Rattle.noisy_link.specs.Sides.{Loads, asked, is_over, puts_of}
 use Rattle.noisy_link.specs.Steps.{LacksRoom}
 use Rattle.packet_service.specs.declared.loading.PacketsFault.{PacketsFault}
-use Rattle.packet_service.specs.declared.loading.PacketsFault.TheVariants.{ReadFault, WriteFault, FileFault, Changed, TooLong, Ended, Memory}
+use Rattle.packet_service.specs.declared.loading.PacketsFault.TheVariants.{ReadFault, WriteFault, FileFault, Changed}
+use Rattle.packet_service.specs.declared.loading.PacketsFault.TheVariants.{TooLong, Ended, Memory}
 use Rattle.packet_service.specs.declared.serving.TheConstants.{MOST_TURNS}
 use Rattle.packet_service.specs.Datagrams.{stream_of, AreDatagrams, IsTooLong}
 use Rattle.packet_service.specs.Serving.{stream_of_packets}
@@ -40,7 +42,8 @@ TakesDatagram old (byte ∷ bytes) new took out = TakesAny old (packet_in (byte 
 abbrev pub TakesAll : LoaderEnd Load → (datagrams : List (List ℕ)) → LoaderEnd Load → List Taken → List Packet → Type 0
 TakesAll old [] new took out = (new ≡ old) × (took ≡ []) × (out ≡ [])
 TakesAll old (d ∷ datagrams) new took out =
-    (mid : LoaderEnd Load) × (first : List Taken) × (rest : List Taken) × (sent : List Packet) × (later : List Packet) × TakesDatagram old d mid first sent × TakesAll mid datagrams new rest later
+    (mid : LoaderEnd Load) × (first : List Taken) × (rest : List Taken) × (sent : List Packet) × (later : List Packet)
+    × TakesDatagram old d mid first sent × TakesAll mid datagrams new rest later
     × (took ≡ first ++ rest) × (out ≡ sent ++ later)
 
 -- what a link and a file held and hold
@@ -48,8 +51,8 @@ pub record Sinks : Type 0 where
   pub link : Option (List ℕ)
   pub file : Option (List ℕ)
 
--- From a loader's end that has begun: these datagrams came, the link has its first request and the sendings behind them, and the file what the
--- answers that were taken put out. It has room for the longest message of a unit.
+-- From a loader's end that has begun: these datagrams came, the link has its first request and the sendings behind
+-- them, and the file what the answers that were taken put out. It has room for the longest message of a unit.
 pub record AreTaken (datagrams : List (List ℕ)) (end : LoaderEnd Load) (held sunk : Sinks) : Type 0 where
   pub first : LoaderEnd Load
   pub number : first.number ≡ 1
@@ -67,7 +70,8 @@ pub record IsLoading (came part : List ℕ) (end : LoaderEnd Load) (held sunk : 
   pub cut : AreDatagrams came datagrams part
   pub taken : AreTaken datagrams end held sunk
 
--- at the last datagram that came the loader refuses its answer so, or does not put it out; nothing more goes to the link
+-- at the last datagram that came the loader refuses its answer so, or does not put it out; nothing more goes to the
+-- link
 pub record RefusesLast (fault : LoadFault) (end : LoaderEnd Load) (last : List ℕ) (held sunk : Sinks) : Type 0 where
   pub packet : Packet
   pub is : packet_in last ≡ Some packet
@@ -80,18 +84,22 @@ pub record RefusesLast (fault : LoadFault) (end : LoaderEnd Load) (last : List �
 -- why a download ends at a datagram; memory runs out only at a piece of a message that is longer than there is room for
 abbrev pub FailsAt : PacketsFault → (end : LoaderEnd Load) → (last : List ℕ) → (held sunk : Sinks) → Type 0
 FailsAt WriteFault end last held sunk =
-    (new : LoaderEnd Load) × (took : List Taken) × (out : List Packet) × TakesDatagram end last new took out × Appends held.file sunk.file (puts_of took) × AppendsFront held.link sunk.link (stream_of_packets out)
+    (new : LoaderEnd Load) × (took : List Taken) × (out : List Packet) × TakesDatagram end last new took out
+    × Appends held.file sunk.file (puts_of took) × AppendsFront held.link sunk.link (stream_of_packets out)
 FailsAt FileFault end last held sunk = RefusesLast load.WriteFault end last held sunk
 FailsAt Changed end last held sunk = (fault : LoadFault) × IsOfFrame fault × RefusesLast fault end last held sunk
-FailsAt Memory end last held sunk = (p : Packet) × (packet_in last ≡ Some p) × LacksRoom end p × (sunk.link ≡ held.link) × Keeps held.file sunk.file
+FailsAt Memory end last held sunk = (p : Packet) × (packet_in last ≡ Some p) × LacksRoom end p × (sunk.link ≡ held.link)
+    × Keeps held.file sunk.file
 FailsAt ReadFault end last held sunk = ⊥
 FailsAt TooLong end last held sunk = ⊥
 FailsAt Ended end last held sunk = ⊥
 
 -- what the loader's end does about a datagram, and how that ends
-abbrev pub IsTaken : Result (Unit {0}) PacketsFault → LoaderEnd Load → (datagram : List ℕ) → LoaderEnd Load → (held sunk : Sinks) → Type 0
+abbrev pub IsTaken : Result (Unit {0}) PacketsFault → LoaderEnd Load → (datagram : List ℕ) → LoaderEnd Load
+    → (held sunk : Sinks) → Type 0
 IsTaken (Ok done) old datagram new held sunk =
-    (took : List Taken) × (out : List Packet) × TakesDatagram old datagram new took out × Appends held.link sunk.link (stream_of_packets out) × Appends held.file sunk.file (puts_of took)
+    (took : List Taken) × (out : List Packet) × TakesDatagram old datagram new took out
+    × Appends held.link sunk.link (stream_of_packets out) × Appends held.file sunk.file (puts_of took)
 IsTaken (Err fault) old datagram new held sunk = FailsAt fault old datagram held sunk
 
 -- A download ended at the last datagram of these bytes: those before it were taken.
@@ -119,11 +127,13 @@ LoadStopsAt TooLong came held sunk = StopsLong came held sunk
 LoadStopsAt fault came held sunk = StopsTaking fault came held sunk
 
 -- what a byte leaves of a download, and what some bytes leave
-abbrev pub Loading : Result (Unit {0}) PacketsFault → (came part : List ℕ) → LoaderEnd Load → (held sunk : Sinks) → Type 0
+abbrev pub Loading : Result (Unit {0}) PacketsFault → (came part : List ℕ) → LoaderEnd Load → (held sunk : Sinks)
+    → Type 0
 Loading (Ok done) came part end held sunk = IsLoading came part end held sunk
 Loading (Err fault) came part end held sunk = LoadStopsAt fault came held sunk
 
-abbrev pub LoadingAll : Result (Unit {0}) PacketsFault → (came bytes part : List ℕ) → LoaderEnd Load → (held sunk : Sinks) → Type 0
+abbrev pub LoadingAll : Result (Unit {0}) PacketsFault → (came bytes part : List ℕ) → LoaderEnd Load
+    → (held sunk : Sinks) → Type 0
 LoadingAll (Ok done) came bytes part end held sunk = IsLoading (came ++ bytes) part end held sunk
 LoadingAll (Err fault) came bytes part end held sunk = (n : ℕ) × LoadStopsAt fault (take n (came ++ bytes)) held sunk
 
@@ -147,18 +157,22 @@ pub record IsUnbegun (held sunk : Sinks) : Type 0 where
   pub linked : AppendsFront held.link sunk.link (stream_of_packets (sent_by first))
   pub filed : sunk.file ≡ held.file
 
--- HOW A DOWNLOAD BY PACKETS ENDS. It is finished; or the source failed or ended, and all that came was taken; or it ended at a datagram; or
--- before the first one, where the link failed at the first request, or there was no room for messages and nothing went out.
+-- HOW A DOWNLOAD BY PACKETS ENDS. It is finished; or the source failed or ended, and all that came was taken; or it
+-- ended at a datagram; or before the first one, where the link failed at the first request, or there was no room for
+-- messages and nothing went out.
 abbrev pub PacketsLoad : Result (Unit {0}) PacketsFault → (came : List ℕ) → (held sunk : Sinks) → Type 0
 PacketsLoad (Ok done) came held sunk = (all : AllTaken came held sunk) × (is_over all.end.side ≡ true)
 PacketsLoad (Err ReadFault) came held sunk = AllTaken came held sunk
 PacketsLoad (Err Ended) came held sunk = AllTaken came held sunk
-PacketsLoad (Err TooLong) came held sunk = (AllTaken came held sunk × (MOST_TURNS ≤ length came)) ⊎ ((n : ℕ) × StopsLong (take n came) held sunk)
-PacketsLoad (Err WriteFault) came held sunk = IsUnbegun held sunk ⊎ ((n : ℕ) × StopsTaking WriteFault (take n came) held sunk)
+PacketsLoad (Err TooLong) came held sunk = (AllTaken came held sunk × (MOST_TURNS ≤ length came))
+    ⊎ ((n : ℕ) × StopsLong (take n came) held sunk)
+PacketsLoad (Err WriteFault) came held sunk = IsUnbegun held sunk
+    ⊎ ((n : ℕ) × StopsTaking WriteFault (take n came) held sunk)
 PacketsLoad (Err Memory) came held sunk = (sunk ≡ held) ⊎ ((n : ℕ) × StopsTaking Memory (take n came) held sunk)
 PacketsLoad (Err fault) came held sunk = (n : ℕ) × StopsTaking fault (take n came) held sunk
 
-pub record ArePacketsLoaded (r : Result (Unit {0}) PacketsFault) (left unread : Option (List ℕ)) (held sunk : Sinks) : Type 0 where
+pub record ArePacketsLoaded (r : Result (Unit {0}) PacketsFault) (left unread : Option (List ℕ))
+    (held sunk : Sinks) : Type 0 where
   pub came : List ℕ
   pub consumed : Consumes left unread came
   pub sends : PacketsLoad r came held sunk

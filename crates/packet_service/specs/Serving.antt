@@ -1,5 +1,6 @@
 -- What a unit's end answers to datagrams, and how its service ends.
-use Rattle.std.specs.Prelude.{◌≡◌, ◌⊎◌, ℕ, ◌≤◌, Bool, true, false, List, [], ◌∷◌, ◌++◌, length, take, map, Option, Some, None, IfSome, option_to_list, Result, Ok, Err}
+use Rattle.std.specs.Prelude.{◌≡◌, ◌⊎◌, ℕ, ◌≤◌, Bool, true, false, List, [], ◌∷◌, ◌++◌, length, take, map, Option, Some}
+use Rattle.std.specs.Prelude.{None, IfSome, option_to_list, Result, Ok, Err}
 use Rattle.std.specs.Io.KnownBytes.{Appends, Consumes}
 use Rattle.tach_media.specs.Streams.{AppendsFront}
 use Rattle.link_model.specs.Answers.{Idle}
@@ -24,24 +25,30 @@ abbrev pub fresh_end : UnitEnd SessionView
 fresh_end = record { last = 0; kept = None; side = fresh Idle }
 
 -- what the unit's end does about a datagram, and what goes back: one that is no packet is passed over
-abbrev pub HearsAny : (image : Option (List ℕ)) → UnitEnd SessionView → Option Packet → UnitEnd SessionView → List Packet → Type 0
+abbrev pub HearsAny : (image : Option (List ℕ)) → UnitEnd SessionView → Option Packet → UnitEnd SessionView
+    → List Packet → Type 0
 HearsAny image old None new answers = (new ≡ old) × (answers ≡ [])
-HearsAny image old (Some p) new answers = (answer : Option Packet) × Hears (IsReply image) old p new answer × (answers ≡ option_to_list answer)
+HearsAny image old (Some p) new answers = (answer : Option Packet) × Hears (IsReply image) old p new answer
+    × (answers ≡ option_to_list answer)
 
 -- THE ANSWERS to datagrams, one after the other
-abbrev pub Serves : (image : Option (List ℕ)) → UnitEnd SessionView → (datagrams : List (List ℕ)) → UnitEnd SessionView → List Packet → Type 0
+abbrev pub Serves : (image : Option (List ℕ)) → UnitEnd SessionView → (datagrams : List (List ℕ)) → UnitEnd SessionView
+    → List Packet → Type 0
 Serves image old [] new answers = (new ≡ old) × (answers ≡ [])
 Serves image old (d ∷ datagrams) new answers =
-    (mid : UnitEnd SessionView) × (first : List Packet) × (rest : List Packet) × HearsAny image old (packet_in d) mid first × Serves image mid datagrams new rest × (answers ≡ first ++ rest)
+    (mid : UnitEnd SessionView) × (first : List Packet) × (rest : List Packet)
+    × HearsAny image old (packet_in d) mid first × Serves image mid datagrams new rest × (answers ≡ first ++ rest)
 
 -- these datagrams were answered, and the sink took the answers
-pub record AreAnswered (image : Option (List ℕ)) (datagrams : List (List ℕ)) (end : UnitEnd SessionView) (held sunk : Option (List ℕ)) : Type 0 where
+pub record AreAnswered (image : Option (List ℕ)) (datagrams : List (List ℕ)) (end : UnitEnd SessionView)
+    (held sunk : Option (List ℕ)) : Type 0 where
   pub answers : List Packet
   pub serves : Serves image fresh_end datagrams end answers
   pub sent : Appends held sunk (stream_of_packets answers)
 
 -- A SERVICE AS IT GOES: of the bytes that came all whole datagrams were answered.
-pub record IsServing (image : Option (List ℕ)) (came part : List ℕ) (end : UnitEnd SessionView) (held sunk : Option (List ℕ)) : Type 0 where
+pub record IsServing (image : Option (List ℕ)) (came part : List ℕ) (end : UnitEnd SessionView)
+    (held sunk : Option (List ℕ)) : Type 0 where
   pub datagrams : List (List ℕ)
   pub cut : AreDatagrams came datagrams part
   pub answered : AreAnswered image datagrams end held sunk
@@ -82,19 +89,25 @@ StopsAt (BadUnit place) image came held sunk = StopsAsking image came held sunk
 StopsAt TooLong image came held sunk = StopsLong image came held sunk
 
 -- what a byte leaves of a service
-abbrev pub Serving : Result (Unit {0}) ServeFault → (image : Option (List ℕ)) → (came part : List ℕ) → UnitEnd SessionView → (held sunk : Option (List ℕ)) → Type 0
+abbrev pub Serving : Result (Unit {0}) ServeFault → (image : Option (List ℕ)) → (came part : List ℕ)
+    → UnitEnd SessionView → (held sunk : Option (List ℕ)) → Type 0
 Serving (Ok done) image came part end held sunk = IsServing image came part end held sunk
 Serving (Err fault) image came part end held sunk = StopsAt fault image came held sunk
 
 -- and what some bytes leave
-abbrev pub ServingAll : Result (Unit {0}) ServeFault → (image : Option (List ℕ)) → (came bytes part : List ℕ) → UnitEnd SessionView → (held sunk : Option (List ℕ)) → Type 0
+abbrev pub ServingAll : Result (Unit {0}) ServeFault → (image : Option (List ℕ)) → (came bytes part : List ℕ)
+    → UnitEnd SessionView → (held sunk : Option (List ℕ)) → Type 0
 ServingAll (Ok done) image came bytes part end held sunk = IsServing image (came ++ bytes) part end held sunk
-ServingAll (Err fault) image came bytes part end held sunk = (n : ℕ) × StopsAt fault image (take n (came ++ bytes)) held sunk
+ServingAll (Err fault) image came bytes part end held sunk = (n : ℕ)
+    × StopsAt fault image (take n (came ++ bytes)) held sunk
 
 -- what the unit's end does about a datagram, and how that ends
-abbrev pub IsHeard : Result (Unit {0}) ServeFault → (image : Option (List ℕ)) → UnitEnd SessionView → Option Packet → UnitEnd SessionView → (held sunk : Option (List ℕ)) → Type 0
-IsHeard (Ok done) image old o new held sunk = (answers : List Packet) × HearsAny image old o new answers × Appends held sunk (stream_of_packets answers)
-IsHeard (Err WriteFault) image old o new held sunk = (answers : List Packet) × HearsAny image old o new answers × AppendsFront held sunk (stream_of_packets answers)
+abbrev pub IsHeard : Result (Unit {0}) ServeFault → (image : Option (List ℕ)) → UnitEnd SessionView → Option Packet
+    → UnitEnd SessionView → (held sunk : Option (List ℕ)) → Type 0
+IsHeard (Ok done) image old o new held sunk = (answers : List Packet) × HearsAny image old o new answers
+    × Appends held sunk (stream_of_packets answers)
+IsHeard (Err WriteFault) image old o new held sunk = (answers : List Packet) × HearsAny image old o new answers
+    × AppendsFront held sunk (stream_of_packets answers)
 IsHeard (Err Failed) image old o new held sunk = AsksUnit old o × (sunk ≡ held)
 IsHeard (Err (BadUnit place)) image old o new held sunk = AsksUnit old o × (sunk ≡ held)
 IsHeard (Err ReadFault) image old o new held sunk = ⊥
@@ -106,14 +119,18 @@ pub record AllAnswered (image : Option (List ℕ)) (came : List ℕ) (held sunk 
   pub end : UnitEnd SessionView
   pub serving : IsServing image came part end held sunk
 
--- HOW A SERVICE OF PACKETS ENDS. The source ended or failed, or so many reads were made: all that came was answered; or it ended at a byte.
-abbrev pub PacketsSend : Result (Unit {0}) ServeFault → (image : Option (List ℕ)) → (came : List ℕ) → (held sunk : Option (List ℕ)) → Type 0
+-- HOW A SERVICE OF PACKETS ENDS. The source ended or failed, or so many reads were made: all that came was answered; or
+-- it ended at a byte.
+abbrev pub PacketsSend : Result (Unit {0}) ServeFault → (image : Option (List ℕ)) → (came : List ℕ)
+    → (held sunk : Option (List ℕ)) → Type 0
 PacketsSend (Ok done) image came held sunk = AllAnswered image came held sunk
 PacketsSend (Err ReadFault) image came held sunk = AllAnswered image came held sunk
-PacketsSend (Err TooLong) image came held sunk = (AllAnswered image came held sunk × (MOST_TURNS ≤ length came)) ⊎ ((n : ℕ) × StopsLong image (take n came) held sunk)
+PacketsSend (Err TooLong) image came held sunk = (AllAnswered image came held sunk × (MOST_TURNS ≤ length came))
+    ⊎ ((n : ℕ) × StopsLong image (take n came) held sunk)
 PacketsSend (Err fault) image came held sunk = (n : ℕ) × StopsAt fault image (take n came) held sunk
 
-pub record ArePacketsServed (r : Result (Unit {0}) ServeFault) (image left unread held sunk : Option (List ℕ)) : Type 0 where
+pub record ArePacketsServed (r : Result (Unit {0}) ServeFault) (image left unread held sunk : Option (List ℕ)) : Type
+    0 where
   pub came : List ℕ
   pub consumed : Consumes left unread came
   pub sends : PacketsSend r image came held sunk

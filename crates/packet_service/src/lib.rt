@@ -1,4 +1,5 @@
-//! Packets as datagrams over streams of bytes, each behind its length: a unit's end and a loader's end on two machines (profile).
+//! Packets as datagrams over streams of bytes, each behind its length: a unit's end and a loader's end on two machines
+//! (profile).
 #![tactic(auto)]
 
 mod datagrams;

@@ -5,7 +5,8 @@ ghost use Rattle.tach_media.specs.Streams.{AppendsFront};
 ghost use Rattle.link_session.specs.Asked.{AnswersInTime};
 ghost use Rattle.packet_service.specs.Serving.{stream_of_packets};
 ghost use Rattle.packet_service.specs.Datagrams.{IsPart};
-ghost use Rattle.packet_service.specs.Loading.{IsLoading, Sinks, Loading, LoadingAll, IsTaken, LinkInTime, ArePacketsLoaded, IsCaused, sent_by};
+ghost use Rattle.packet_service.specs.Loading.{IsLoading, Sinks, Loading, LoadingAll, IsTaken, LinkInTime};
+ghost use Rattle.packet_service.specs.Loading.{ArePacketsLoaded, IsCaused, sent_by};
 
 use crate::datagrams::{Gathered, Gathering};
 use crate::serving::{MOST_TURNS, put_packet};
@@ -40,25 +41,32 @@ pub struct LoaderLine {
     pub gathering: Gathering,
 }
 
-/// Downloads a unit whose end answers packets on another machine. The first request goes to the link at once; behind an answer that is taken the
-/// next one goes, and behind an empty datagram the same one again. The messages that come go to the file.
+/// Downloads a unit whose end answers packets on another machine. The first request goes to the link at once; behind an
+/// answer that is taken the next one goes, and behind an empty datagram the same one again. The messages that come go
+/// to the file.
 ///
 /// # Errors
 ///
-/// `ReadFault` and `Ended` where the source failed or ended before the download did; `WriteFault` and `FileFault` where the link or the file failed;
-/// `Changed` at an answer that the loader refuses; `TooLong` and `Memory`. The file has the messages that came, whole, but behind `FileFault` a
-/// front of the last one.
+/// `ReadFault` and `Ended` where the source failed or ended before the download did; `WriteFault` and `FileFault` where
+/// the link or the file failed; `Changed` at an answer that the loader refuses; `TooLong` and `Memory`. The file has
+/// the messages that came, whole, but behind `FileFault` a front of the last one.
 pub fn download_packets<S: Peer<K>, K: Sink, F: Sink>(
     alloc: Global,
     source: &mut S,
     link: &mut K,
     file: &mut F,
 ) -> Result<(), PacketsFault>
-    ensures loaded { ArePacketsLoaded result (S.left source.old) (S.left source.new) (record { link = K.held link.old; file = F.held file.old }) (record { link = K.held link.new; file = F.held file.new }) }
+    ensures loaded { ArePacketsLoaded result (S.left source.old) (S.left source.new)
+        (record { link = K.held link.old; file = F.held file.old })
+        (record { link = K.held link.new; file = F.held file.new }) }
     // Before each read all packets that had come were taken, and what is sent behind them was sent.
-    ensures in_time { AnswersInTime LinkInTime (S.left source.old) (S.left source.new) (K.held link.old) (S.asked source.old) (S.asked source.new) }
-    ensures cause { IfErr result (λ fault. IsCaused fault (Rose (S.faults source.old) (S.faults source.new)) (Rose (K.faults link.old) (K.faults link.new)) (Rose (F.faults file.old) (F.faults file.new))) }
-    ensures counts { (S.faults source.old ≤ S.faults source.new) × (K.faults link.old ≤ K.faults link.new) × (F.faults file.old ≤ F.faults file.new) }
+    ensures in_time { AnswersInTime LinkInTime (S.left source.old) (S.left source.new) (K.held link.old)
+        (S.asked source.old) (S.asked source.new) }
+    ensures cause { IfErr result (λ fault.
+        IsCaused fault (Rose (S.faults source.old) (S.faults source.new)) (Rose (K.faults link.old) (K.faults link.new))
+        (Rose (F.faults file.old) (F.faults file.new))) }
+    ensures counts { (S.faults source.old ≤ S.faults source.new) × (K.faults link.old ≤ K.faults link.new)
+        × (F.faults file.old ≤ F.faults file.new) }
 {
     let mut line = LoaderLine {
         end: LoaderEnd::new(alloc),
@@ -93,10 +101,15 @@ impl LoaderLine {
         file: &mut F,
     ) -> Result<(), PacketsFault>
         requires part { IsPart self.old.gathering }
-        ensures goes { (held : Sinks) (came : List ℕ) → IsLoading came self.old.gathering self.old.end held (record { link = K.held link.old; file = F.held file.old })
-            → LoadingAll result came bytes.now self.new.gathering self.new.end held (record { link = K.held link.new; file = F.held file.new }) }
+        ensures goes { (held : Sinks) (came : List ℕ)
+            → IsLoading came self.old.gathering self.old.end held
+            (record { link = K.held link.old; file = F.held file.old })
+            → LoadingAll result came bytes.now self.new.gathering self.new.end held
+            (record { link = K.held link.new; file = F.held file.new }) }
         ensures part { OnOk result (IsPart self.new.gathering) }
-        ensures cause { IfErr result (λ fault. IsCaused fault ⊥ (Rose (K.faults link.old) (K.faults link.new)) (Rose (F.faults file.old) (F.faults file.new))) }
+        ensures cause { IfErr result (λ fault.
+            IsCaused fault ⊥ (Rose (K.faults link.old) (K.faults link.new))
+            (Rose (F.faults file.old) (F.faults file.new))) }
         ensures counts { (K.faults link.old ≤ K.faults link.new) × (F.faults file.old ≤ F.faults file.new) }
     {
         for byte in bytes {
@@ -113,10 +126,15 @@ impl LoaderLine {
         file: &mut F,
     ) -> Result<(), PacketsFault>
         requires part { IsPart self.old.gathering }
-        ensures goes { (held : Sinks) (came : List ℕ) → IsLoading came self.old.gathering self.old.end held (record { link = K.held link.old; file = F.held file.old })
-            → Loading result (came ++ byte ∷ []) self.new.gathering self.new.end held (record { link = K.held link.new; file = F.held file.new }) }
+        ensures goes { (held : Sinks) (came : List ℕ)
+            → IsLoading came self.old.gathering self.old.end held
+            (record { link = K.held link.old; file = F.held file.old })
+            → Loading result (came ++ byte ∷ []) self.new.gathering self.new.end held
+            (record { link = K.held link.new; file = F.held file.new }) }
         ensures part { OnOk result (IsPart self.new.gathering) }
-        ensures cause { IfErr result (λ fault. IsCaused fault ⊥ (Rose (K.faults link.old) (K.faults link.new)) (Rose (F.faults file.old) (F.faults file.new))) }
+        ensures cause { IfErr result (λ fault.
+            IsCaused fault ⊥ (Rose (K.faults link.old) (K.faults link.new))
+            (Rose (F.faults file.old) (F.faults file.new))) }
         ensures counts { (K.faults link.old ≤ K.faults link.new) × (F.faults file.old ≤ F.faults file.new) }
     {
         match self.gathering.take(byte) {
@@ -138,9 +156,12 @@ fn hear<K: Sink, F: Sink>(
     link: &mut K,
     file: &mut F,
 ) -> Result<(), PacketsFault>
-    ensures taken { IsTaken result end.old bytes.now end.new (record { link = K.held link.old; file = F.held file.old }) (record { link = K.held link.new; file = F.held file.new }) }
+    ensures taken { IsTaken result end.old bytes.now end.new (record { link = K.held link.old; file = F.held file.old })
+        (record { link = K.held link.new; file = F.held file.new }) }
     ensures room { end.old.side.room ≤ end.new.side.room }
-    ensures cause { IfErr result (λ fault. IsCaused fault ⊥ (Rose (K.faults link.old) (K.faults link.new)) (Rose (F.faults file.old) (F.faults file.new))) }
+    ensures cause { IfErr result (λ fault.
+        IsCaused fault ⊥ (Rose (K.faults link.old) (K.faults link.new))
+        (Rose (F.faults file.old) (F.faults file.new))) }
     ensures counts { (K.faults link.old ≤ K.faults link.new) × (F.faults file.old ≤ F.faults file.new) }
 {
     if bytes.is_empty() {
@@ -167,7 +188,9 @@ fn hear<K: Sink, F: Sink>(
 // The loader's end sends, if it has anything to send.
 fn send<K: Sink>(end: &LoaderEnd, link: &mut K) -> Result<(), PacketsFault>
     ensures ok { OnOk result (Appends (K.held link.old) (K.held link.new) (stream_of_packets (sent_by end.now))) }
-    ensures err { IfErr result (λ fault. (fault ≡ PacketsFault.WriteFault) × AppendsFront (K.held link.old) (K.held link.new) (stream_of_packets (sent_by end.now)) × Rose (K.faults link.old) (K.faults link.new)) }
+    ensures err { IfErr result (λ fault. (fault ≡ PacketsFault.WriteFault)
+        × AppendsFront (K.held link.old) (K.held link.new) (stream_of_packets (sent_by end.now))
+        × Rose (K.faults link.old) (K.faults link.new)) }
     ensures counts { K.faults link.old ≤ K.faults link.new }
 {
     let Some(packet) = end.send() else {

@@ -10,7 +10,8 @@ ghost use Rattle.link_session.specs.Served.{IsCaused, has_failed};
 ghost use Rattle.link_session.specs.Asked.{AnswersInTime};
 ghost use Rattle.noisy_model.specs.Packets.{packet_bytes, packet_in};
 ghost use Rattle.packet_service.specs.Datagrams.{IsPart, datagram};
-ghost use Rattle.packet_service.specs.Serving.{IsHeard, IsServing, Serving, ServingAll, AllAnswered, ArePacketsServed, fresh_end};
+ghost use Rattle.packet_service.specs.Serving.{IsHeard, IsServing, Serving, ServingAll, AllAnswered, ArePacketsServed};
+ghost use Rattle.packet_service.specs.Serving.{fresh_end};
 
 use crate::datagrams::{Gathered, Gathering, write_datagram};
 use link_session::{AnswerFault, Peer, ServeFault};
@@ -28,26 +29,30 @@ pub struct UnitLine {
     pub gathering: Gathering,
 }
 
-/// Answers the packets of a source until it ends. Each is a datagram behind its length in two bytes, and so is each answer. What is no packet is
-/// passed over. The unit is read, and never written.
+/// Answers the packets of a source until it ends. Each is a datagram behind its length in two bytes, and so is each
+/// answer. What is no packet is passed over. The unit is read, and never written.
 ///
 /// # Errors
 ///
-/// `ReadFault` after the answers to all that came; `TooLong` at a length of more than 264, and after 4294967295 reads; `WriteFault`, `Failed` and
-/// `BadUnit` as in a service of frames.
+/// `ReadFault` after the answers to all that came; `TooLong` at a length of more than 264, and after 4294967295 reads;
+/// `WriteFault`, `Failed` and `BadUnit` as in a service of frames.
 pub fn serve_packets<S: Peer<K>, K: Sink, U: Medium>(
     source: &mut S,
     sink: &mut K,
     unit: &mut U,
 ) -> Result<(), ServeFault>
     requires unit { (U.state unit.old).size ≡ IMAGE_SIZE }
-    ensures served { ArePacketsServed result (U.state unit.old).image (S.left source.old) (S.left source.new) (K.held sink.old) (K.held sink.new) }
+    ensures served { ArePacketsServed result (U.state unit.old).image (S.left source.old) (S.left source.new)
+        (K.held sink.old) (K.held sink.new) }
     // Before each read all packets that had come were answered.
-    ensures in_time { AnswersInTime (AllAnswered (U.state unit.old).image) (S.left source.old) (S.left source.new) (K.held sink.old) (S.asked source.old) (S.asked source.new) }
+    ensures in_time { AnswersInTime (AllAnswered (U.state unit.old).image) (S.left source.old) (S.left source.new)
+        (K.held sink.old) (S.asked source.old) (S.asked source.new) }
     // At the end nothing of the source is left.
     ensures end { OnOk result (IsAtEnd (S.left source.new)) }
     // The source or the sink failed, or the unit's image has that bad place.
-    ensures cause { IfErr result (λ fault. IsCaused fault (Rose (S.faults source.old) (S.faults source.new)) (Rose (K.faults sink.old) (K.faults sink.new)) (λ p. IfSome (U.state unit.old).image (λ x. first_bad_place x ≡ Some p))) }
+    ensures cause { IfErr result (λ fault.
+        IsCaused fault (Rose (S.faults source.old) (S.faults source.new)) (Rose (K.faults sink.old) (K.faults sink.new))
+        (λ p. IfSome (U.state unit.old).image (λ x. first_bad_place x ≡ Some p))) }
     ensures counts { (S.faults source.old ≤ S.faults source.new) × (K.faults sink.old ≤ K.faults sink.new) }
     ensures unit { ReadsIfAny (U.state unit.old) (U.state unit.new) (has_failed result) }
 {
@@ -87,11 +92,15 @@ impl UnitLine {
         requires unit { (U.state unit.old).size ≡ IMAGE_SIZE }
         requires knows { IfSome (U.state unit.old).image (Knows self.old.end.side) }
         requires part { IsPart self.old.gathering }
-        ensures goes { (held : Option (List ℕ)) (came : List ℕ) → IsServing (U.state unit.old).image came self.old.gathering self.old.end held (K.held sink.old)
-            → ServingAll result (U.state unit.old).image came bytes.now self.new.gathering self.new.end held (K.held sink.new) }
+        ensures goes { (held : Option (List ℕ)) (came : List ℕ)
+            → IsServing (U.state unit.old).image came self.old.gathering self.old.end held (K.held sink.old)
+            → ServingAll result (U.state unit.old).image came bytes.now self.new.gathering self.new.end held
+            (K.held sink.new) }
         ensures knows { IfSome (U.state unit.old).image (Knows self.new.end.side) }
         ensures part { OnOk result (IsPart self.new.gathering) }
-        ensures cause { IfErr result (λ fault. IsCaused fault ⊥ (Rose (K.faults sink.old) (K.faults sink.new)) (λ p. IfSome (U.state unit.old).image (λ x. first_bad_place x ≡ Some p))) }
+        ensures cause { IfErr result (λ fault.
+            IsCaused fault ⊥ (Rose (K.faults sink.old) (K.faults sink.new))
+            (λ p. IfSome (U.state unit.old).image (λ x. first_bad_place x ≡ Some p))) }
         ensures counts { K.faults sink.old ≤ K.faults sink.new }
         ensures reads { ReadsIfAny (U.state unit.old) (U.state unit.new) (has_failed result) }
     {
@@ -111,11 +120,15 @@ impl UnitLine {
         requires unit { (U.state unit.old).size ≡ IMAGE_SIZE }
         requires knows { IfSome (U.state unit.old).image (Knows self.old.end.side) }
         requires part { IsPart self.old.gathering }
-        ensures goes { (held : Option (List ℕ)) (came : List ℕ) → IsServing (U.state unit.old).image came self.old.gathering self.old.end held (K.held sink.old)
-            → Serving result (U.state unit.old).image (came ++ byte ∷ []) self.new.gathering self.new.end held (K.held sink.new) }
+        ensures goes { (held : Option (List ℕ)) (came : List ℕ)
+            → IsServing (U.state unit.old).image came self.old.gathering self.old.end held (K.held sink.old)
+            → Serving result (U.state unit.old).image (came ++ byte ∷ []) self.new.gathering self.new.end held
+            (K.held sink.new) }
         ensures knows { IfSome (U.state unit.old).image (Knows self.new.end.side) }
         ensures part { OnOk result (IsPart self.new.gathering) }
-        ensures cause { IfErr result (λ fault. IsCaused fault ⊥ (Rose (K.faults sink.old) (K.faults sink.new)) (λ p. IfSome (U.state unit.old).image (λ x. first_bad_place x ≡ Some p))) }
+        ensures cause { IfErr result (λ fault.
+            IsCaused fault ⊥ (Rose (K.faults sink.old) (K.faults sink.new))
+            (λ p. IfSome (U.state unit.old).image (λ x. first_bad_place x ≡ Some p))) }
         ensures counts { K.faults sink.old ≤ K.faults sink.new }
         ensures reads { ReadsIfAny (U.state unit.old) (U.state unit.new) (has_failed result) }
     {
@@ -140,9 +153,12 @@ fn hear<K: Sink, U: Medium>(
 ) -> Result<(), ServeFault>
     requires unit { (U.state unit.old).size ≡ IMAGE_SIZE }
     requires knows { IfSome (U.state unit.old).image (Knows end.old.side) }
-    ensures heard { IsHeard result (U.state unit.old).image end.old (packet_in bytes.now) end.new (K.held sink.old) (K.held sink.new) }
+    ensures heard { IsHeard result (U.state unit.old).image end.old (packet_in bytes.now) end.new (K.held sink.old)
+        (K.held sink.new) }
     ensures knows { IfSome (U.state unit.old).image (Knows end.new.side) }
-    ensures cause { IfErr result (λ fault. IsCaused fault ⊥ (Rose (K.faults sink.old) (K.faults sink.new)) (λ p. IfSome (U.state unit.old).image (λ x. first_bad_place x ≡ Some p))) }
+    ensures cause { IfErr result (λ fault.
+        IsCaused fault ⊥ (Rose (K.faults sink.old) (K.faults sink.new))
+        (λ p. IfSome (U.state unit.old).image (λ x. first_bad_place x ≡ Some p))) }
     ensures counts { K.faults sink.old ≤ K.faults sink.new }
     ensures reads { ReadsIfAny (U.state unit.old) (U.state unit.new) (has_failed result) }
 {
@@ -160,7 +176,9 @@ fn hear<K: Sink, U: Medium>(
 // Sends an answer back.
 fn send_back<K: Sink>(answer: &Packet, sink: &mut K) -> Result<(), ServeFault>
     ensures ok { OnOk result (Appends (K.held sink.old) (K.held sink.new) (datagram (packet_bytes answer.now))) }
-    ensures err { IfErr result (λ fault. (fault ≡ ServeFault.WriteFault) × AppendsFront (K.held sink.old) (K.held sink.new) (datagram (packet_bytes answer.now)) × Rose (K.faults sink.old) (K.faults sink.new)) }
+    ensures err { IfErr result (λ fault. (fault ≡ ServeFault.WriteFault)
+        × AppendsFront (K.held sink.old) (K.held sink.new) (datagram (packet_bytes answer.now))
+        × Rose (K.faults sink.old) (K.faults sink.new)) }
     ensures counts { K.faults sink.old ≤ K.faults sink.new }
 {
     match put_packet(answer, sink) {

@@ -44,7 +44,8 @@ HasEntry noted a = (a.entry < insertion_ring.count) × (a.noted ≤ noted)
 
 -- an odometer value is that of now, by the minutes of a run
 abbrev pub IsOdometerNow : Run → (odometer : ℕ) → Type 0
-IsOdometerNow run odometer = (span : Span) → CountsSpan run.minutes span → odometer ≡ odometer_by run.keeper.odometer (travelled_of span)
+IsOdometerNow run odometer = (span : Span) → CountsSpan run.minutes span
+    → odometer ≡ odometer_by run.keeper.odometer (travelled_of span)
 
 -- a card enters now: it is this one, in this slot, at this moment and speed, and the odometer is that of now
 pub record IsEnteringNow (slot : Slot) (card : Card) (at : Moment) (speed : ℕ) (run : Run) (e : Entering) : Type 0 where
@@ -54,8 +55,8 @@ pub record IsEnteringNow (slot : Slot) (card : Card) (at : Moment) (speed : ℕ)
   pub speed_is : e.speed ≡ speed
   pub odometer : IsOdometerNow run e.odometer.0
 
--- A CARD WAS ACCEPTED OR TURNED AWAY: of the run the keeper and the number of insertions have changed, and so have the lines, by the way
--- that it entered.
+-- A CARD WAS ACCEPTED OR TURNED AWAY: of the run the keeper and the number of insertions have changed, and so have the
+-- lines, by the way that it entered.
 pub record IsAccepted (e : Entering) (old new : Run) (before after : Outcome) : Type 0 where
   pub way : Way
   pub only : new ≡ record old { keeper = new.keeper; noted = new.noted }
@@ -64,7 +65,8 @@ pub record IsAccepted (e : Entering) (old new : Run) (before after : Outcome) : 
 -- the card of a slot, if there is one, was accepted or turned away
 abbrev pub IsAnew : Option Card → Slot → Moment → (speed : ℕ) → (old new : Run) → (before after : Outcome) → Type 0
 IsAnew None slot at speed old new before after = (new ≡ old) × (after ≡ before)
-IsAnew (Some card) slot at speed old new before after = (e : Entering) × IsEnteringNow slot card at speed old e × IsAccepted e old new before after
+IsAnew (Some card) slot at speed old new before after = (e : Entering) × IsEnteringNow slot card at speed old e
+    × IsAccepted e old new before after
 
 -- the card of a slot, if there is one, is not accepted
 abbrev pub IsBare : Option Seat → Type 0
@@ -75,7 +77,8 @@ abbrev pub put_run : Slot → Card → Run → Run
 put_run slot card run = with_cabin (with_card_in slot card run.keeper.cabin) run
 
 -- A CARD WAS PUT INTO A SLOT: the minutes before are kept, and then it is accepted or turned away.
-pub record IsInsertedBehind (slot : Slot) (card : Card) (at : Moment) (speed : ℕ) (old new : Run) (before after : Outcome) : Type 0 where
+pub record IsInsertedBehind (slot : Slot) (card : Card) (at : Moment) (speed : ℕ) (old new : Run)
+    (before after : Outcome) : Type 0 where
   pub between : Run
   pub told : Outcome
   pub settled_first : IsSettled at false (put_run slot card old) between before told
@@ -84,6 +87,8 @@ pub record IsInsertedBehind (slot : Slot) (card : Card) (at : Moment) (speed : �
   pub accepted : IsAccepted entering between new told after
 
 -- or the unit failed as they were kept
-abbrev pub IsInserted : Slot → Card → Moment → (speed : ℕ) → (failed : Bool) → (old new : Run) → (before after : Outcome) → Type 0
+abbrev pub IsInserted : Slot → Card → Moment → (speed : ℕ) → (failed : Bool) → (old new : Run)
+    → (before after : Outcome) → Type 0
 IsInserted slot card at speed failed old new before after =
-    ((failed ≡ true) × IsSettled at true (put_run slot card old) new before after) ⊎ IsInsertedBehind slot card at speed old new before after
+    ((failed ≡ true) × IsSettled at true (put_run slot card old) new before after)
+    ⊎ IsInsertedBehind slot card at speed old new before after

@@ -35,7 +35,8 @@ abbrev pub refusal_lines : Option SlotFault → (second begun : ℕ) → List Re
 refusal_lines None second begun = []
 refusal_lines (Some fault) second begun = record { second = second; fault = fault; begun = begun } ∷ []
 
--- THE REFUSALS of an action: each in a second without power; none in one in which power was lost; else what slots and speed refuse
+-- THE REFUSALS of an action: each in a second without power; none in one in which power was lost; else what slots and
+-- speed refuse
 abbrev pub refused_by : (has_power lit : Bool) → Seats → (speed : ℕ) → Action → Option SlotFault
 refused_by false lit seats speed action = Some NoPower
 refused_by true false seats speed action = None
@@ -43,7 +44,8 @@ refused_by true true seats speed action = refusal (logged seats) speed action
 
 -- of a selection: nothing but the minutes has changed, which have one selection more for the next second
 abbrev pub IsSelected : Action → (old new : Run) → Type 0
-IsSelected (Select slot pick) old new = (new ≡ record old { minutes = new.minutes }) × ((span : Span) → CountsSpan old.minutes span → CountsSpan new.minutes (picked span slot pick))
+IsSelected (Select slot pick) old new = (new ≡ record old { minutes = new.minutes })
+    × ((span : Span) → CountsSpan old.minutes span → CountsSpan new.minutes (picked span slot pick))
 IsSelected (Insert slot card) old new = Unit {0}
 IsSelected (Withdraw slot) old new = Unit {0}
 IsSelected (Tear slot) old new = Unit {0}
@@ -70,17 +72,25 @@ pub record StaysIn (old new : Run) : Type 0 where
 abbrev pub moment_of : (begun : ℕ) → Run → Moment
 moment_of begun run = record { second = run.next; begun = begun; late = false }
 
--- AN ACTION IS CARRIED OUT at a moment: a selection changes the minutes alone; a card is put in, withdrawn or pulled out; a place is noted; an
--- entry by hand that slots and speed let pass changes nothing
-abbrev pub IsDone : Action → Moment → (speed : ℕ) → (failed : Bool) → (old new : Run) → (before after : Outcome) → Type 0
-IsDone (Select slot pick) at speed failed old new before after = (failed ≡ false) × IsSelected (Select slot pick) old new × (after ≡ before)
-IsDone (Insert slot card) at speed failed old new before after = IsInserted slot card at speed failed old new before after
-IsDone (Withdraw slot) at speed failed old new before after = IsWithdrawn (card_in (seat_in old.keeper.cabin.slots.seats slot)) slot at failed old new before after
-IsDone (Tear slot) at speed failed old new before after = let card = card_in (seat_in old.keeper.cabin.slots.seats slot) in
-    (failed ≡ false) × (new ≡ pulled_run card at.second old) × (after ≡ record before { breaks = with_lines (pulled_breaks card slot at) before.breaks })
+-- AN ACTION IS CARRIED OUT at a moment: a selection changes the minutes alone; a card is put in, withdrawn or pulled
+-- out; a place is noted; an entry by hand that slots and speed let pass changes nothing
+abbrev pub IsDone : Action → Moment → (speed : ℕ) → (failed : Bool) → (old new : Run) → (before after : Outcome)
+    → Type 0
+IsDone (Select slot pick) at speed failed old new before after = (failed ≡ false)
+    × IsSelected (Select slot pick) old new × (after ≡ before)
+IsDone (Insert slot card) at speed failed old new before after = IsInserted slot card at speed failed old new before
+    after
+IsDone (Withdraw slot) at speed failed old new before after = IsWithdrawn
+    (card_in (seat_in old.keeper.cabin.slots.seats slot)) slot at failed old new before after
+IsDone (Tear slot) at speed failed old new before after = let card = card_in (seat_in old.keeper.cabin.slots.seats slot)
+    in
+    (failed ≡ false) × (new ≡ pulled_run card at.second old)
+    × (after ≡ record before { breaks = with_lines (pulled_breaks card slot at) before.breaks })
 IsDone (Place slot ending country region) at speed failed old new before after =
-    (fell : Bool) × IsPlaced (card_in (seat_in old.keeper.cabin.slots.seats slot)) slot at old new before.breaks after.breaks fell × (after ≡ record before { breaks = after.breaks })
-IsDone (Manual slot pick minute) at speed failed old new before after = (failed ≡ false) × (new ≡ old) × (after ≡ before)
+    (fell : Bool) × IsPlaced (card_in (seat_in old.keeper.cabin.slots.seats slot)) slot at old new before.breaks
+    after.breaks fell × (after ≡ record before { breaks = after.breaks })
+IsDone (Manual slot pick minute) at speed failed old new before after = (failed ≡ false) × (new ≡ old)
+    × (after ≡ before)
 
 -- the run and the outcome behind an action: where the unit failed in it, power was lost in its second
 abbrev pub cut_where : (failed : Bool) → Run → Run
@@ -100,27 +110,40 @@ pub record IsCarriedOut (action : Action) (begun speed : ℕ) (old new : Run) (b
   pub outcome : after ≡ cut_breaks failed between.next begun told
 
 -- one that is refused is told so, and changes nothing else
-abbrev pub IsActedBy : Option SlotFault → Action → (begun speed : ℕ) → (old new : Run) → (before after : Outcome) → Type 0
+abbrev pub IsActedBy : Option SlotFault → Action → (begun speed : ℕ) → (old new : Run) → (before after : Outcome)
+    → Type 0
 IsActedBy None action begun speed old new before after = IsCarriedOut action begun speed old new before after
-IsActedBy (Some fault) action begun speed old new before after = (new ≡ old) × (after ≡ record before { refused = with_lines (record { second = old.next; fault = fault; begun = begun } ∷ []) before.refused })
+IsActedBy (Some fault) action begun speed old new before after = (new ≡ old)
+    × (after ≡ record before {
+      refused = with_lines (record { second = old.next; fault = fault; begun = begun } ∷ [])
+          before.refused;
+    })
 
--- AN ACTION of a second: refused without power; passed over where power was lost in the second; else refused by slots and speed, or carried out
-abbrev pub IsActed : (has_power lit : Bool) → Action → (begun speed : ℕ) → (old new : Run) → (before after : Outcome) → Type 0
-IsActed false lit action begun speed old new before after = IsActedBy (Some NoPower) action begun speed old new before after
+-- AN ACTION of a second: refused without power; passed over where power was lost in the second; else refused by slots
+-- and speed, or carried out
+abbrev pub IsActed : (has_power lit : Bool) → Action → (begun speed : ℕ) → (old new : Run) → (before after : Outcome)
+    → Type 0
+IsActed false lit action begun speed old new before after = IsActedBy (Some NoPower) action begun speed old new before
+    after
 IsActed true false action begun speed old new before after = (new ≡ old) × (after ≡ before)
-IsActed true true action begun speed old new before after = IsActedBy (refusal (logged old.keeper.cabin.slots.seats) speed action) action begun speed old new before after
+IsActed true true action begun speed old new before after = IsActedBy
+    (refusal (logged old.keeper.cabin.slots.seats) speed action) action begun speed old new before after
 
 -- an item of a second
-abbrev pub IsItemActed : Item → (has_power lit : Bool) → (begun speed : ℕ) → (old new : Run) → (before after : Outcome) → Type 0
+abbrev pub IsItemActed : Item → (has_power lit : Bool) → (begun speed : ℕ) → (old new : Run) → (before after : Outcome)
+    → Type 0
 IsItemActed (Driven seconds driven) has_power lit begun speed old new before after = (new ≡ old) × (after ≡ before)
 IsItemActed (Off seconds) has_power lit begun speed old new before after = (new ≡ old) × (after ≡ before)
-IsItemActed (Act action) has_power lit begun speed old new before after = IsActed has_power lit action begun speed old new before after
+IsItemActed (Act action) has_power lit begun speed old new before after = IsActed has_power lit action begun speed old
+    new before after
 
 -- THE ACTIONS of a second, one after another, behind so many before them
-abbrev pub AreActed : (has_power : Bool) → (speed number : ℕ) → List Item → (old new : Run) → (before after : Outcome) → Type 0
+abbrev pub AreActed : (has_power : Bool) → (speed number : ℕ) → List Item → (old new : Run) → (before after : Outcome)
+    → Type 0
 AreActed has_power speed number [] old new before after = (new ≡ old) × (after ≡ before)
 AreActed has_power speed number (item ∷ items) old new before after = (mid : Run) × (told : Outcome)
-    × IsItemActed item has_power (is_lit old.power) (min (number + 1) largest_number) speed old mid before told × AreActed has_power speed (number + 1) items mid new told after
+    × IsItemActed item has_power (is_lit old.power) (min (number + 1) largest_number) speed old mid before told
+    × AreActed has_power speed (number + 1) items mid new told after
 
 -- no device is called: it is refused, or a selection, or a card is pulled out, or an entry by hand
 abbrev pub CallsNone : Option SlotFault → Action → Type 0

@@ -1,4 +1,5 @@
--- THE EVENTS OF A RUN ON ITS CARDS: what every image that a stop may leave of a card shows of them at its end (profile).
+-- THE EVENTS OF A RUN ON ITS CARDS: what every image that a stop may leave of a card shows of them at its end
+-- (profile).
 use Rattle.std.specs.Prelude.{◌≡◌, ℕ, List}
 use Rattle.trace_model.specs.declared.Card.{Card}
 use Rattle.tach_media.specs.Medium.{State}
@@ -12,14 +13,16 @@ use Rattle.run_promise.specs.Whole.{NothingFailed}
 use Rattle.run_note_record.specs.Uses.{vehicle_of, uses_on, use_left}
 use Rattle.run_acts.specs.OnCards.{accepted_on, ShowsOn, AreUses}
 
--- A CARD SHOWS ITS EVENTS: at each of its acceptances a use was found on it, which an image of it told that it might have left since a clock; and each
--- image that it may leave shows, of each type whose events are sure, those that it had at the start with those of the run, noted one after another.
--- Where no call failed these uses are the current one of its image at the start and those that its insertions have left, and each image tells the last.
+-- A CARD SHOWS ITS EVENTS: at each of its acceptances a use was found on it, which an image of it told that it might
+-- have left since a clock; and each image that it may leave shows, of each type whose events are sure, those that it
+-- had at the start with those of the run, noted one after another. Where no call failed these uses are the current one
+-- of its image at the start and those that its insertions have left, and each image tells the last.
 pub record CardShowsEvents (r : Recording) (c : Card) (since : ℕ) (card : State) : Type 0 where
   pub uses : List CurrentUse
   pub are : AreUses (card.left_since since) uses (accepted_on c (seen_of r.log r.trace))
   pub exact : NothingFailed r.log → uses ≡ uses_on r c
-  pub left : NothingFailed r.log → (x : List ℕ) → card.may_leave x → current_use (own_sizes (card_image r c)) x ≡ use_left r c
+  pub left : NothingFailed r.log → (x : List ℕ) → card.may_leave x
+      → current_use (own_sizes (card_image r c)) x ≡ use_left r c
   pub shows : ShowsOn c (vehicle_of r.unit) uses (own_sizes (card_image r c)) (card_image r c) r.log r.trace card
 
 -- so does one that was valid

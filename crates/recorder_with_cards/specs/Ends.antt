@@ -36,7 +36,14 @@ pub record BeginAs (unit card_a card_b : List ℕ) (began : Devices) : Type 0 wh
 
 -- a run on devices with these images, by the rule of the unit's, with these seconds and this log
 abbrev pub recorded_with : (unit card_a card_b : List ℕ) → List TraceSecond → RunLog → Recording
-recorded_with unit card_a card_b trace log = record { rule = rule_of unit; unit = unit; card_a = card_a; card_b = card_b; trace = trace; log = log }
+recorded_with unit card_a card_b trace log = record {
+  rule = rule_of unit;
+  unit = unit;
+  card_a = card_a;
+  card_b = card_b;
+  trace = trace;
+  log = log;
+}
 
 -- the run of a trace, as its outcome tells it
 abbrev pub recording_of : (unit card_a card_b : List ℕ) → (start : ℕ) → List Item → Outcome → Recording
@@ -55,28 +62,33 @@ origin_of unit card_a card_b start began = record {
   breakdowns = breakdowns_of began;
 }
 
--- THE IMAGES WITH WHICH A RUN MAY BEGIN: the unit's decodes, the first second is in a later minute than its last-kept one, and the cards that
--- are valid have two numbers.
+-- THE IMAGES WITH WHICH A RUN MAY BEGIN: the unit's decodes, the first second is in a later minute than its last-kept
+-- one, and the cards that are valid have two numbers.
 pub record MayRecord (unit card_a card_b : List ℕ) (start : ℕ) : Type 0 where
   pub decodes : Decodes unit
   pub later : last_kept unit < start / 60
   pub numbers : IsOwnValid card_a → IsOwnValid card_b → own_number card_a ≢ own_number card_b
 
--- WHAT A STOP MAY LEAVE BEGINS A RUN: with whichever images one might have left of the unit and the cards since a run began, each at a moment of its
--- own, a run may begin in any minute later than that unit's last-kept one.
+-- WHAT A STOP MAY LEAVE BEGINS A RUN: with whichever images one might have left of the unit and the cards since a run
+-- began, each at a moment of its own, a run may begin in any minute later than that unit's last-kept one.
 abbrev pub BeginsAgain : (began now : Devices) → Type 0
-BeginsAgain began now = (unit card_a card_b : List ℕ) → now.unit.left_since began.unit.clock unit → now.card_a.left_since began.card_a.clock card_a → now.card_b.left_since began.card_b.clock card_b
+BeginsAgain began now = (unit card_a card_b : List ℕ) → now.unit.left_since began.unit.clock unit
+    → now.card_a.left_since began.card_a.clock card_a → now.card_b.left_since began.card_b.clock card_b
     → (start : ℕ) → last_kept unit < start / 60 → MayRecord unit card_a card_b start
 
--- WHAT A RUN PROMISES that was recorded: it could begin (`may`); the crash-safety theorem, causes and completeness hold of it (`ends`); every image that a
--- stop may leave of the unit shows its auxiliary records: events and faults, insertions with their withdrawals, places, and the odometer (`side`); every
--- image of a card that was valid has been written so (`written`), and where no call failed each of these shows exactly what its stays in the slots make of
--- it (`stays`). What was found kept after its cuts was so (`kept`), and the last-kept minute of each image of the unit is that of the last minute which it
--- shows (`last`). Rings that were dense stay dense (`dense`); each valid card stays its holder's, with all that no call writes (`holders`), and shows the
--- places that were entered by it (`places`) and its events of the run (`cards`). The owed rows of every image of the unit since the start stand as they stood, or were taken for one
--- of the two cards, and what is owed to any other card stays (`rows`). Where the ring of detailed speed was dense, every image that a stop may leave of the unit carries the
--- blocks of the run (`speeds`). And with whatever a stop might have left a run may begin again (`again`).
-pub record EndsTrace (unit card_a card_b : List ℕ) (start : ℕ) (items : List Item) (out : Outcome) (began now : Devices) : Type 0 where
+-- WHAT A RUN PROMISES that was recorded: it could begin (`may`); the crash-safety theorem, causes and completeness hold
+-- of it (`ends`); every image that a stop may leave of the unit shows its auxiliary records: events and faults,
+-- insertions with their withdrawals, places, and the odometer (`side`); every image of a card that was valid has been
+-- written so (`written`), and where no call failed each of these shows exactly what its stays in the slots make of it
+-- (`stays`). What was found kept after its cuts was so (`kept`), and the last-kept minute of each image of the unit is
+-- that of the last minute which it shows (`last`). Rings that were dense stay dense (`dense`); each valid card stays
+-- its holder's, with all that no call writes (`holders`), and shows the places that were entered by it (`places`) and
+-- its events of the run (`cards`). The owed rows of every image of the unit since the start stand as they stood, or
+-- were taken for one of the two cards, and what is owed to any other card stays (`rows`). Where the ring of detailed
+-- speed was dense, every image that a stop may leave of the unit carries the blocks of the run (`speeds`). And with
+-- whatever a stop might have left a run may begin again (`again`).
+pub record EndsTrace (unit card_a card_b : List ℕ) (start : ℕ) (items : List Item) (out : Outcome)
+    (began now : Devices) : Type 0 where
   pub may : MayRecord unit card_a card_b start
   pub ends : EndsRun (recording_of unit card_a card_b start items out) out.marks.items began now
   pub side : ShowTheSide (recording_of unit card_a card_b start items out) began now
@@ -92,7 +104,8 @@ pub record EndsTrace (unit card_a card_b : List ℕ) (start : ℕ) (items : List
   pub speeds : CarriesItsSpeeds (recording_of unit card_a card_b start items out) began now
   pub again : BeginsAgain began now
 
--- OR IT WAS KEPT FROM BEING RECORDED: by these images, or a call that has failed in the opening; each device is as it was.
+-- OR IT WAS KEPT FROM BEING RECORDED: by these images, or a call that has failed in the opening; each device is as it
+-- was.
 pub record IsKeptFrom (unit card_a card_b : List ℕ) (start : ℕ) (began now : Devices) (fault : RunFault) : Type 0 where
   pub cause : IsRefusedAs (opened_with unit card_a card_b) start began now fault
   pub same_unit : IsAsItWas began.unit now.unit

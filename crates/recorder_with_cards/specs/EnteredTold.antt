@@ -1,7 +1,8 @@
 -- Which events the unit notes of a card that enters (Annex IB, section III.12).
 use Rattle.std.specs.Prelude.{ℕ, ◌^◌, ◌<◌, List, [], ◌∷◌, ◌++◌, nat_eq, nat_lt, if◌then◌else◌}
 use Rattle.trace_model.specs.declared.Card.{Card}
-use Rattle.event_model.specs.declared.kinds.TheConstants.{CARD_NOT_VALID, TIME_OVERLAP, INSERTION_WHILE_DRIVING, SESSION_NOT_CLOSED, CARD_FAULT}
+use Rattle.event_model.specs.declared.kinds.TheConstants.{CARD_NOT_VALID, TIME_OVERLAP, INSERTION_WHILE_DRIVING}
+use Rattle.event_model.specs.declared.kinds.TheConstants.{SESSION_NOT_CLOSED, CARD_FAULT}
 use Rattle.event_model.specs.Events.{Event, Crew, noted_with}
 pub use Rattle.run_acts.specs.NotedEvents.{NoteTellsEvent, AreUnsure}
 use Rattle.run_crew.specs.declared.cabin.Cabin.{Cabin}
@@ -22,22 +23,26 @@ TellEvents number (Tells v ∷ notes) (e ∷ events) = NoteTellsEvent number e v
 
 -- that the vehicle moved, and that the session from another second was not closed: 0 is none
 abbrev pub moving_events : (speed second : ℕ) → Crew → List Event
-moving_events speed second crew = if nat_lt 0 speed then noted_with INSERTION_WHILE_DRIVING second second crew ∷ [] else []
+moving_events speed second crew = if nat_lt 0 speed then noted_with INSERTION_WHILE_DRIVING second second crew ∷ []
+    else []
 
 abbrev pub unclosed_events : (session second : ℕ) → Crew → List Event
-unclosed_events session second crew = if nat_eq session 0 then [] else noted_with SESSION_NOT_CLOSED session second crew ∷ []
+unclosed_events session second crew = if nat_eq session 0 then [] else noted_with SESSION_NOT_CLOSED session second crew
+    ∷ []
 
--- THE EVENTS of a card that ended so, in the order in which they are noted: with the cards that were accepted before, those with its own,
--- and those that are left where it was torn out
+-- THE EVENTS of a card that ended so, in the order in which they are noted: with the cards that were accepted before,
+-- those with its own, and those that are left where it was torn out
 abbrev pub events_by : Ending → (speed second : ℕ) → (before accepted left : Crew) → List Event
 events_by (Unfit fid place) speed second before accepted left = noted_with CARD_NOT_VALID second second before ∷ []
 events_by (Ahead stored) speed second before accepted left = noted_with TIME_OVERLAP second stored before ∷ []
 events_by Fell speed second before accepted left = noted_with CARD_FAULT second second left ∷ []
 events_by Unasked speed second before accepted left = []
 events_by (Unnoted entered clock) speed second before accepted left = []
-events_by (Seated entered clock entry) speed second before accepted left = moving_events speed second accepted ++ unclosed_events entered.look.session second accepted
+events_by (Seated entered clock entry) speed second before accepted left = moving_events speed second accepted
+    ++ unclosed_events entered.look.session second accepted
 events_by (Lost entered clock entry) speed second before accepted left =
-    moving_events speed second accepted ++ noted_with CARD_FAULT second second left ∷ unclosed_events entered.look.session second accepted
+    moving_events speed second accepted ++ noted_with CARD_FAULT second second left
+    ∷ unclosed_events entered.look.session second accepted
 
 -- the cabin in which the events of an accepted card are noted: it is seated
 abbrev pub cabin_of : Ending → Entering → (noted : ℕ) → Cabin → Cabin
@@ -46,7 +51,8 @@ cabin_of (Ahead stored) e noted cabin = cabin
 cabin_of Fell e noted cabin = cabin
 cabin_of Unasked e noted cabin = cabin
 cabin_of (Unnoted entered clock) e noted cabin = cabin
-cabin_of (Seated entered clock entry) e noted cabin = seated entered.look entered.session entered.row entry noted e cabin
+cabin_of (Seated entered clock entry) e noted cabin = seated entered.look entered.session entered.row entry noted e
+    cabin
 cabin_of (Lost entered clock entry) e noted cabin = seated entered.look entered.session entered.row entry noted e cabin
 
 -- the time that an ending tells fits its field
@@ -59,8 +65,10 @@ IsLow (Unnoted entered clock) = Unit {0}
 IsLow (Seated entered clock entry) = entered.look.session < 2 ^ 32
 IsLow (Lost entered clock entry) = entered.look.session < 2 ^ 32
 
--- these are the numbers of the cards in that cabin: before the card was judged, as it is seated, and once it is torn out
-pub record AreNamed (number : Card → List ℕ) (ending : Ending) (e : Entering) (noted : ℕ) (cabin : Cabin) (before accepted left : Crew) : Type 0 where
+-- these are the numbers of the cards in that cabin: before the card was judged, as it is seated, and once it is torn
+-- out
+pub record AreNamed (number : Card → List ℕ) (ending : Ending) (e : Entering) (noted : ℕ) (cabin : Cabin)
+    (before accepted left : Crew) : Type 0 where
   pub at_first : IsCrewOf number before (crew_of cabin)
   pub with_it : IsCrewOf number accepted (crew_of (cabin_of ending e noted cabin))
   pub without_it : IsCrewOf number left (crew_of (torn_out e.which e.at.second (cabin_of ending e noted cabin)))

@@ -25,15 +25,18 @@ has_seconds (Off seconds) = true
 has_seconds (Act action) = false
 
 -- A RUN WENT ON by so many seconds, or a power-on has refused the unit: no failed call does.
-pub record HasGone (result : Result (Unit {0}) RunFault) (seconds : ℕ) (old new : Run) (after : Outcome) (unit : State) (chip_a chip_b : CardState) (a b : State) : Type 0 where
+pub record HasGone (result : Result (Unit {0}) RunFault) (seconds : ℕ) (old new : Run) (after : Outcome) (unit : State)
+    (chip_a chip_b : CardState) (a b : State) : Type 0 where
   pub late : IfErr result IsFoundLater
   pub going : OnOk result (IsBetweenSeconds new unit chip_a chip_b a b)
   pub next : OnOk result (new.next ≡ old.next + seconds)
   pub unfound : OnOk result (new.unfound ≤ length after.breaks.items)
   pub is_unit : IsUnit unit
 
--- A RUN IS REFUSED: by the opening, for one of its causes, with each device as it was and no line told; or later by a unit that was read anew at
--- a power-on.
-abbrev pub IsRefusedBy : (start : ℕ) → (before after : Outcome) → (unit unit_after a a_after b b_after : State) → RunFault → Type 0
+-- A RUN IS REFUSED: by the opening, for one of its causes, with each device as it was and no line told; or later by a
+-- unit that was read anew at a power-on.
+abbrev pub IsRefusedBy : (start : ℕ) → (before after : Outcome) → (unit unit_after a a_after b b_after : State)
+    → RunFault → Type 0
 IsRefusedBy start before after unit unit_after a a_after b b_after fault =
-    (IsRefused start (devices unit a b) (devices unit_after a_after b_after) fault × IsAsItWas unit unit_after × IsAsItWas a a_after × IsAsItWas b b_after × (after ≡ before)) ⊎ IsFoundLater fault
+    (IsRefused start (devices unit a b) (devices unit_after a_after b_after) fault × IsAsItWas unit unit_after
+    × IsAsItWas a a_after × IsAsItWas b b_after × (after ≡ before)) ⊎ IsFoundLater fault

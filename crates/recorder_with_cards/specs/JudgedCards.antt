@@ -31,41 +31,58 @@ use Rattle.recorder_with_cards.specs.JudgedRings.{TellsHere}
 
 -- a type of which an insertion at this speed notes no event
 abbrev pub NotesNone : (kind speed : ℕ) → Type 0
-NotesNone kind speed = ((kind == SESSION_NOT_CLOSED) ≡ false) × ((kind == INSERTION_WHILE_DRIVING && nat_lt 0 speed) ≡ false)
+NotesNone kind speed = ((kind == SESSION_NOT_CLOSED) ≡ false)
+    × ((kind == INSERTION_WHILE_DRIVING && nat_lt 0 speed) ≡ false)
 
--- A CARD OF WHICH THIS WAS FOUND in a second: at its acceptance an image of it told a use, which where no call failed by this log is one more of these;
--- where no call failed each image shows the events that come of it; and of the types of which none is noted it shows those of before, whatever failed.
-pub record BringsNow (o : Origin) (c : Card) (second speed : ℕ) (clear : Type 0) (verdicts : List Verdict) (log : RunLog) (was found : List CurrentUse) (d e : Devices) : Type 0 where
+-- A CARD OF WHICH THIS WAS FOUND in a second: at its acceptance an image of it told a use, which where no call failed
+-- by this log is one more of these; where no call failed each image shows the events that come of it; and of the types
+-- of which none is noted it shows those of before, whatever failed.
+pub record BringsNow (o : Origin) (c : Card) (second speed : ℕ) (clear : Type 0) (verdicts : List Verdict)
+    (log : RunLog) (was found : List CurrentUse) (d e : Devices) : Type 0 where
   pub uses : List CurrentUse
   pub exact : NothingFailed log → found ≡ was ++ uses
   pub are : AreUses (images_in o e c) uses (accepts second verdicts)
   pub notes : (y : List ℕ) → (card_of e c).may_leave y → (x : List ℕ) × (card_of d c).may_leave x
-      × (clear → (kind : ℕ) → events_in (sizes_in o c) kind y ≡ all_noted (events_in (sizes_in o c) kind x) (events_by kind [] (movings c (vehicle_in o) speed (accepts second verdicts)) (unclosed_by uses (accepts second verdicts))))
+      × (clear → (kind : ℕ) → events_in (sizes_in o c) kind y
+      ≡ all_noted (events_in (sizes_in o c) kind x)
+      (events_by kind [] (movings c (vehicle_in o) speed (accepts second verdicts))
+      (unclosed_by uses (accepts second verdicts))))
       × ((kind : ℕ) → NotesNone kind speed → events_in (sizes_in o c) kind y ≡ events_in (sizes_in o c) kind x)
 
 -- the uses that were found on a card by a log of this second, which began by another
 abbrev pub uses_then : Origin → (began : RunLog) → List TraceSecond → TraceSecond → Card → Outcome → List CurrentUse
 uses_then o began done s c out = uses_in o c (notes_now began done (log_of out) s)
 
--- A CARD WAS JUDGED in a second, behind so many of its actions: what it brings this card, and none other; its lines are of that second, and tell
--- nothing of earlier moments, nor of a cut, nor of a find in the other slot.
-pub record IsJudgedOnCards (failed : Bool) (o : Origin) (began : RunLog) (done : List TraceSecond) (s : TraceSecond) (n : ℕ) (slot : Slot) (card : Card) (before after : Outcome) (d e : Devices) : Type 0 where
+-- A CARD WAS JUDGED in a second, behind so many of its actions: what it brings this card, and none other; its lines are
+-- of that second, and tell nothing of earlier moments, nor of a cut, nor of a find in the other slot.
+pub record IsJudgedOnCards (failed : Bool) (o : Origin) (began : RunLog) (done : List TraceSecond) (s : TraceSecond)
+    (n : ℕ) (slot : Slot) (card : Card) (before after : Outcome) (d e : Devices) : Type 0 where
   pub own : (c : Card) → IsOwnValid (card_image o.recording c) → same_card card c ≡ true →
-      BringsNow o c s.number s.speed ((failed ≡ false) × (is_torn_in (log_of after) s.number (In n) slot ≡ false)) (found_in (log_of after) s.number (In n) slot) (log_of after) (uses_then o began done s c before) (uses_then o began done s c after) d e
-  pub beside : (c : Card) → IsOwnValid (card_image o.recording c) → same_card card c ≡ false → StillShows (sizes_in o c) (card_of d c) (card_of e c)
-  pub others : found_in (log_of after) s.number (In n) (other_slot slot) ≡ found_in (log_of before) s.number (In n) (other_slot slot)
-  pub still : NothingFailed (log_of after) → (c : Card) → same_card card c ≡ false → uses_then o began done s c after ≡ uses_then o began done s c before
+      BringsNow o c s.number s.speed ((failed ≡ false) × (is_torn_in (log_of after) s.number (In n) slot ≡ false))
+      (found_in (log_of after) s.number (In n) slot) (log_of after) (uses_then o began done s c before)
+      (uses_then o began done s c after) d e
+  pub beside : (c : Card) → IsOwnValid (card_image o.recording c) → same_card card c ≡ false
+      → StillShows (sizes_in o c) (card_of d c) (card_of e c)
+  pub others : found_in (log_of after) s.number (In n) (other_slot slot)
+      ≡ found_in (log_of before) s.number (In n) (other_slot slot)
+  pub still : NothingFailed (log_of after) → (c : Card) → same_card card c ≡ false
+      → uses_then o began done s c after ≡ uses_then o began done s c before
   pub here : TellsHere (log_of before) (log_of after) s.number
   pub cut : cut_in (log_of after) s.number ≡ cut_in (log_of before) s.number
   pub same : (m : ℕ) → n ≡ suc m → TellSameTo (log_of before) (log_of after) s.number m
   pub left : HaveLeftMore o d e
 
 -- A CARD IS JUDGED that is the next.
-abbrev pub CardsJudged : Slot → Card → Moment → (speed : ℕ) → (failed : Bool) → (old : Run) → (before after : Outcome) → (d e : Devices) → Type 0
-CardsJudged slot card at speed failed old before after d e = (o : Origin) (done : List TraceSecond) (s : TraceSecond) (n : ℕ) (waits fewer : List Visit) → at ≡ moment_in s n → s.speed ≡ speed →
-    (next : RunNext o done s n waits fewer old before d slot card) → old.keeper.memory.registration ≡ vehicle_in o → HaveTime e → IsJudgedOnCards failed o next.goes.within.b.run.log done s n slot card before after d e
+abbrev pub CardsJudged : Slot → Card → Moment → (speed : ℕ) → (failed : Bool) → (old : Run) → (before after : Outcome)
+    → (d e : Devices) → Type 0
+CardsJudged slot card at speed failed old before after d e = (o : Origin) (done : List TraceSecond) (s : TraceSecond)
+    (n : ℕ) (waits fewer : List Visit) → at ≡ moment_in s n → s.speed ≡ speed →
+    (next : RunNext o done s n waits fewer old before d slot card) → old.keeper.memory.registration ≡ vehicle_in o
+    → HaveTime e → IsJudgedOnCards failed o next.goes.within.b.run.log done s n slot card before after d e
 
 -- the card of a slot, if there is one
-abbrev pub CardsAnew : Option Card → Slot → Moment → (speed : ℕ) → (failed : Bool) → (old : Run) → (before after : Outcome) → (d e : Devices) → Type 0
+abbrev pub CardsAnew : Option Card → Slot → Moment → (speed : ℕ) → (failed : Bool) → (old : Run)
+    → (before after : Outcome) → (d e : Devices) → Type 0
 CardsAnew None slot at speed failed old before after d e = Unit {0}
-CardsAnew (Some card) slot at speed failed old before after d e = CardsJudged slot card at speed failed old before after d e
+CardsAnew (Some card) slot at speed failed old before after d e = CardsJudged slot card at speed failed old before after
+    d e

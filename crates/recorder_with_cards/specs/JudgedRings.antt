@@ -1,6 +1,7 @@
--- What a card that is judged makes of the rings of a run with cards, over devices that tell their images (profile): its insertion is noted where it
--- is accepted, in an action and at a power-on alike.
-use Rattle.std.specs.Prelude.{◌≡◌, ◌⊎◌, ℕ, suc, ◌≤◌, Bool, true, false, Option, Some, None, option_map, List, [], ◌∷◌, ◌++◌, length, filter}
+-- What a card that is judged makes of the rings of a run with cards, over devices that tell their images (profile): its
+-- insertion is noted where it is accepted, in an action and at a power-on alike.
+use Rattle.std.specs.Prelude.{◌≡◌, ◌⊎◌, ℕ, suc, ◌≤◌, Bool, true, false, Option, Some, None, option_map, List, [], ◌∷◌}
+use Rattle.std.specs.Prelude.{◌++◌, length, filter}
 use Rattle.std.specs.List.{AllByRecursion}
 use Rattle.activity_codec.specs.declared.values.Slot.{Slot}
 use Rattle.trace_model.specs.declared.Card.{Card}
@@ -21,7 +22,8 @@ use Rattle.run_rings.specs.Notes.{TellSameTo}
 use Rattle.run_outcome.specs.declared.outcome.Outcome.{Outcome}
 use Rattle.run_promise.specs.Origin.{Origin}
 use Rattle.run_promise.specs.Beside.{HaveLeftMore}
-use Rattle.run_note_record.specs.Ringed.{Seating, one_behind, StaysInRings, WritesRing, IsInsertionIn, IsAddedAt, MayBeAdded, Since, since_in}
+use Rattle.run_note_record.specs.Ringed.{Seating, one_behind, StaysInRings, WritesRing, IsInsertionIn, IsAddedAt}
+use Rattle.run_note_record.specs.Ringed.{MayBeAdded, Since, since_in}
 use Rattle.run_note_record.specs.OnCards.{PlacesStay}
 use Rattle.run_note_record.specs.RingsSoFar.{AreFewer}
 use Rattle.run_minutes.specs.declared.keeper.Moment.{Moment}
@@ -33,13 +35,16 @@ use Rattle.run_acts.specs.RunRinged.{seats_of}
 use Rattle.recorder_with_cards.specs.Judged.{moment_in, RunNext}
 
 -- ITS INSERTION, in bytes: so it is told, whatever lines come since
-pub record IsInsertionNow (o : Since) (a : Acceptance) (spans : List SpanFrom) (e : Devices) (head : List ℕ) : Type 0 where
+pub record IsInsertionNow (o : Since) (a : Acceptance) (spans : List SpanFrom) (e : Devices) (head : List ℕ) : Type
+    0 where
   pub long : length head ≡ insertion_ring.width
   pub is : (log : RunLog) → IsInsertionIn o log spans e (record { accepted = a; withdrawn = None }) head
 
 -- where the insertions stand with one more, of this card at this index
 abbrev pub AreSeatedWith : Card → (index : ℕ) → (seats now : Card → Option Seating) → Type 0
-AreSeatedWith card index seats now = (c : Card) → ((same_card card c ≡ false) × (now c ≡ option_map one_behind (seats c))) ⊎ ((same_card card c ≡ true) × (now c ≡ Some (record { index = index; behind = 0 })))
+AreSeatedWith card index seats now = (c : Card)
+    → ((same_card card c ≡ false) × (now c ≡ option_map one_behind (seats c)))
+    ⊎ ((same_card card c ≡ true) × (now c ≡ Some (record { index = index; behind = 0 })))
 
 -- NOTHING WAS FOUND, or it is turned away, and no ring is written;
 pub record PassesInRings (verdicts : List Verdict) (seats fewer : Card → Option Seating) (d e : Devices) : Type 0 where
@@ -48,7 +53,8 @@ pub record PassesInRings (verdicts : List Verdict) (seats fewer : Card → Optio
   pub fewer_sit : AreFewer seats fewer
 
 -- or it is accepted, and its insertion is added at an index;
-pub record InsertsInRings (o : Since) (a : Acceptance) (verdicts : List Verdict) (spans : List SpanFrom) (seats fewer : Card → Option Seating) (d e : Devices) : Type 0 where
+pub record InsertsInRings (o : Since) (a : Acceptance) (verdicts : List Verdict) (spans : List SpanFrom)
+    (seats fewer : Card → Option Seating) (d e : Devices) : Type 0 where
   pub verdict : Verdict
   pub found : verdicts ≡ verdict ∷ []
   pub accepting : is_accepting verdict ≡ true
@@ -61,7 +67,8 @@ pub record InsertsInRings (o : Since) (a : Acceptance) (verdicts : List Verdict)
   pub fewer_sit : AreFewer now fewer
 
 -- or the unit failed in that, and it may be added.
-pub record MayInsertInRings (o : Since) (a : Acceptance) (verdicts : List Verdict) (spans : List SpanFrom) (d e : Devices) : Type 0 where
+pub record MayInsertInRings (o : Since) (a : Acceptance) (verdicts : List Verdict) (spans : List SpanFrom)
+    (d e : Devices) : Type 0 where
   pub verdict : Verdict
   pub found : verdicts ≡ verdict ∷ []
   pub accepting : is_accepting verdict ≡ true
@@ -69,20 +76,28 @@ pub record MayInsertInRings (o : Since) (a : Acceptance) (verdicts : List Verdic
   pub inserts : IsInsertionNow o a spans e head
   pub writes : WritesRing (MayBeAdded insertion_ring head) d e
 
-abbrev pub JudgedInRings : (failed : Bool) → Since → Acceptance → List Verdict → List SpanFrom → (seats fewer : Card → Option Seating) → (d e : Devices) → Type 0
-JudgedInRings false o a verdicts spans seats fewer d e = PassesInRings verdicts seats fewer d e ⊎ InsertsInRings o a verdicts spans seats fewer d e
-JudgedInRings true o a verdicts spans seats fewer d e = ((filter is_accepting verdicts ≡ []) × StaysInRings d e) ⊎ MayInsertInRings o a verdicts spans d e
+abbrev pub JudgedInRings : (failed : Bool) → Since → Acceptance → List Verdict → List SpanFrom
+    → (seats fewer : Card → Option Seating) → (d e : Devices) → Type 0
+JudgedInRings false o a verdicts spans seats fewer d e = PassesInRings verdicts seats fewer d e
+    ⊎ InsertsInRings o a verdicts spans seats fewer d e
+JudgedInRings true o a verdicts spans seats fewer d e = ((filter is_accepting verdicts ≡ []) × StaysInRings d e)
+    ⊎ MayInsertInRings o a verdicts spans d e
 
 -- LINES OF A SECOND are told, and no others
 pub record TellsHere (log later : RunLog) (u : ℕ) : Type 0 where
-  pub breaks : (more : List Break) × (later.breaks ≡ log.breaks ++ more) × AllByRecursion (λ (b : Break). second_of b ≡ u) more
+  pub breaks : (more : List Break) × (later.breaks ≡ log.breaks ++ more)
+      × AllByRecursion (λ (b : Break). second_of b ≡ u) more
   pub finds : (more : List Find) × (later.finds ≡ log.finds ++ more) × AllByRecursion (λ (f : Find). f.second ≡ u) more
 
--- A CARD WAS JUDGED in a second, behind so many of its actions: so its rings are written; its lines are of that second, and tell nothing of earlier
--- moments, nor of a cut, nor of a find in the other slot; and no more insertions were noted than finds are told.
-pub record IsJudgedInRings (failed : Bool) (o : Since) (s : TraceSecond) (n : ℕ) (slot : Slot) (card : Card) (spans : List SpanFrom) (old new : Run) (before after : Outcome) (d e : Devices) : Type 0 where
-  pub rings : JudgedInRings failed o (record { second = s.number; slot = slot; card = card }) (found_in (log_of after) s.number (In n) slot) spans (seats_of old) (seats_of new) d e
-  pub others : found_in (log_of after) s.number (In n) (other_slot slot) ≡ found_in (log_of before) s.number (In n) (other_slot slot)
+-- A CARD WAS JUDGED in a second, behind so many of its actions: so its rings are written; its lines are of that second,
+-- and tell nothing of earlier moments, nor of a cut, nor of a find in the other slot; and no more insertions were noted
+-- than finds are told.
+pub record IsJudgedInRings (failed : Bool) (o : Since) (s : TraceSecond) (n : ℕ) (slot : Slot) (card : Card)
+    (spans : List SpanFrom) (old new : Run) (before after : Outcome) (d e : Devices) : Type 0 where
+  pub rings : JudgedInRings failed o (record { second = s.number; slot = slot; card = card })
+      (found_in (log_of after) s.number (In n) slot) spans (seats_of old) (seats_of new) d e
+  pub others : found_in (log_of after) s.number (In n) (other_slot slot)
+      ≡ found_in (log_of before) s.number (In n) (other_slot slot)
   pub here : TellsHere (log_of before) (log_of after) s.number
   pub cut : cut_in (log_of after) s.number ≡ cut_in (log_of before) s.number
   pub same : (m : ℕ) → n ≡ suc m → TellSameTo (log_of before) (log_of after) s.number m
@@ -92,18 +107,27 @@ pub record IsJudgedInRings (failed : Bool) (o : Since) (s : TraceSecond) (n : �
   pub counted : new.noted ≤ length (log_of after).finds
 
 -- ACCEPT, where the odometer of its insertion is that of these spans
-abbrev pub RingsEntering : Slot → Card → Moment → (odometer : ℕ) → (failed : Bool) → (old new : Run) → (before after : Outcome) → (d e : Devices) → Type 0
-RingsEntering slot card at odometer failed old new before after d e = (o : Origin) (done : List TraceSecond) (s : TraceSecond) (n : ℕ) (waits fewer : List Visit) → at ≡ moment_in s n →
-    (next : RunNext o done s n waits fewer old before d slot card) → (spans : List SpanFrom) → odometer ≡ odometer_at s.number spans → old.noted ≤ length (log_of before).finds → HaveTime e →
+abbrev pub RingsEntering : Slot → Card → Moment → (odometer : ℕ) → (failed : Bool) → (old new : Run)
+    → (before after : Outcome) → (d e : Devices) → Type 0
+RingsEntering slot card at odometer failed old new before after d e = (o : Origin) (done : List TraceSecond)
+    (s : TraceSecond) (n : ℕ) (waits fewer : List Visit) → at ≡ moment_in s n →
+    (next : RunNext o done s n waits fewer old before d slot card) → (spans : List SpanFrom)
+    → odometer ≡ odometer_at s.number spans → old.noted ≤ length (log_of before).finds → HaveTime e →
     IsJudgedInRings failed (since_in o next.goes.within.b.run.log done s) s n slot card spans old new before after d e
 
 -- A CARD IS JUDGED that is the next, where the odometer of now is that of these spans.
-abbrev pub RingsJudged : Slot → Card → Moment → (failed : Bool) → (old new : Run) → (before after : Outcome) → (d e : Devices) → Type 0
-RingsJudged slot card at failed old new before after d e = (o : Origin) (done : List TraceSecond) (s : TraceSecond) (n : ℕ) (waits fewer : List Visit) → at ≡ moment_in s n →
-    (next : RunNext o done s n waits fewer old before d slot card) → (spans : List SpanFrom) → odometer_by old.keeper.odometer (travelled_of next.goes.within.sp) ≡ odometer_at s.number spans → old.noted ≤ length (log_of before).finds → HaveTime e →
+abbrev pub RingsJudged : Slot → Card → Moment → (failed : Bool) → (old new : Run) → (before after : Outcome)
+    → (d e : Devices) → Type 0
+RingsJudged slot card at failed old new before after d e = (o : Origin) (done : List TraceSecond) (s : TraceSecond)
+    (n : ℕ) (waits fewer : List Visit) → at ≡ moment_in s n →
+    (next : RunNext o done s n waits fewer old before d slot card) → (spans : List SpanFrom)
+    → odometer_by old.keeper.odometer (travelled_of next.goes.within.sp) ≡ odometer_at s.number spans
+    → old.noted ≤ length (log_of before).finds → HaveTime e →
     IsJudgedInRings failed (since_in o next.goes.within.b.run.log done s) s n slot card spans old new before after d e
 
 -- the card of a slot, if there is one
-abbrev pub RingsJudgedAnew : Option Card → Slot → Moment → (failed : Bool) → (old new : Run) → (before after : Outcome) → (d e : Devices) → Type 0
+abbrev pub RingsJudgedAnew : Option Card → Slot → Moment → (failed : Bool) → (old new : Run) → (before after : Outcome)
+    → (d e : Devices) → Type 0
 RingsJudgedAnew None slot at failed old new before after d e = Unit {0}
-RingsJudgedAnew (Some card) slot at failed old new before after d e = RingsJudged slot card at failed old new before after d e
+RingsJudgedAnew (Some card) slot at failed old new before after d e = RingsJudged slot card at failed old new before
+    after d e

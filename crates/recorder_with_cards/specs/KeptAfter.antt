@@ -15,16 +15,18 @@ use Rattle.safety_model.specs.Recording.{Recording, told_of}
 abbrev pub WasKept : (unit : List ℕ → Type 0) → ℕ → Type 0
 WasKept unit k = (x : List ℕ) × unit x × (last_kept x ≡ k)
 
--- After the cut of a second it was found what was kept, by a span behind it; or that is 0, and in the first second of each span behind it a call
--- failed: none has loaded the unit.
+-- After the cut of a second it was found what was kept, by a span behind it; or that is 0, and in the first second of
+-- each span behind it a call failed: none has loaded the unit.
 abbrev pub IsFoundAfter : (unit : List ℕ → Type 0) → RunLog → (later : List (List ToldSecond)) → (second : ℕ) → Type 0
 IsFoundAfter unit log later u = (WasKept unit (kept_after log u) × (0 < length later))
-    ⊎ ((kept_after log u ≡ 0) × AllByRecursion (λ (span : List ToldSecond). has_failed_in log (first_in span) ≡ true) later)
+    ⊎ ((kept_after log u ≡ 0) × AllByRecursion (λ (span : List ToldSecond). has_failed_in log (first_in span) ≡ true)
+    later)
 
 -- so it is after each span that ended with a cut
 abbrev pub AreFoundAfter : (unit : List ℕ → Type 0) → RunLog → (spans : List (List ToldSecond)) → Type 0
 AreFoundAfter unit log [] = Unit {0}
-AreFoundAfter unit log (span ∷ later) = IfSome (cut_second (last span)) (IsFoundAfter unit log later) × AreFoundAfter unit log later
+AreFoundAfter unit log (span ∷ later) = IfSome (cut_second (last span)) (IsFoundAfter unit log later)
+    × AreFoundAfter unit log later
 
 -- WHAT WAS KEPT AFTER CUTS was found so, by the images that the unit might have left since the start.
 abbrev pub TellsKept : Recording → (since : ℕ) → (unit : State) → Type 0

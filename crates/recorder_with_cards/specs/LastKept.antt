@@ -9,11 +9,15 @@ use Rattle.history_model.specs.Minutes.{HistoryMinute}
 use Rattle.history_model.specs.Book.{IsMark}
 use Rattle.safety_model.specs.Unit.{UnitSafe, marks_of}
 
--- THE LAST-KEPT MINUTE of each image that the unit might have left since a clock is the start's, or that of one of the minutes which it shows by the
--- crash-safety theorem, and none of these is later; and behind an acknowledgement, which came no earlier, no image has an earlier one.
-pub record TellsLast {start : List ShownDay} {past : List HistoryMinute} {lost : List (List HistoryMinute)} {marks : List Mark} {since : ℕ} {unit : State}
+-- THE LAST-KEPT MINUTE of each image that the unit might have left since a clock is the start's, or that of one of the
+-- minutes which it shows by the crash-safety theorem, and none of these is later; and behind an acknowledgement, which
+-- came no earlier, no image has an earlier one.
+pub record TellsLast {start : List ShownDay} {past : List HistoryMinute} {lost : List (List HistoryMinute)}
+    {marks : List Mark} {since : ℕ} {unit : State}
     (first : ℕ) (safe : UnitSafe start past lost marks since unit) : Type 0 where
   pub last : (x : List ℕ) (left : unit.left_since since x) → IsMark first (safe.minutes x left).some (last_kept x)
-  pub until : (x : List ℕ) (left : unit.left_since since x) → All (λ i. i.minute ≤ last_kept x) (safe.minutes x left).some
+  pub until : (x : List ℕ) (left : unit.left_since since x)
+      → All (λ i. i.minute ≤ last_kept x) (safe.minutes x left).some
   pub began : (m : Mark) → Contains (marks_of Recorder marks) m → since ≤ m.clock
-  pub held : (m : Mark) → Contains (marks_of Recorder marks) m → (x : List ℕ) → unit.left_since m.clock x → m.minute ≤ last_kept x
+  pub held : (m : Mark) → Contains (marks_of Recorder marks) m → (x : List ℕ) → unit.left_since m.clock x
+      → m.minute ≤ last_kept x

@@ -1,5 +1,5 @@
--- What a run in which no call failed leaves on its cards (profile): exactly what their stays in the slots make of them, one for each acceptance
--- that the log tells, withdrawn where the run notes that, and nowhere else.
+-- What a run in which no call failed leaves on its cards (profile): exactly what their stays in the slots make of them,
+-- one for each acceptance that the log tells, withdrawn where the run notes that, and nowhere else.
 use Rattle.log_model.specs.declared.lines.Find.{Find}
 use Rattle.std.specs.Prelude.{◌≡◌, ◌⊎◌, ◌+◌, ◌*◌, IfSome, List, [], All}
 use Rattle.std.specs.List.{AllByRecursion}
@@ -22,7 +22,8 @@ use Rattle.unit_model.specs.Image.{odometer_at}
 use Rattle.card_session.specs.declared.session.Kept.{Kept}
 use Rattle.run_acts.specs.Closings.{spells_of}
 use Rattle.run_acts.specs.Truths.{past_of, IsOdometerBefore, IsOdometerBehind, IsWordIn, IsLineOf}
-use Rattle.run_acts.specs.Stays.{Stay, TellsBefores, registration_in, acceptances_told, spells, AreMerged, ShowsStays, start_shown, AreOwed, judged_told, judged_in, AreJudged}
+use Rattle.run_acts.specs.Stays.{Stay, TellsBefores, registration_in, acceptances_told, spells, AreMerged, ShowsStays}
+use Rattle.run_acts.specs.Stays.{start_shown, AreOwed, judged_told, judged_in, AreJudged}
 use Rattle.run_acts.specs.Owed.{IsOwed}
 
 -- A STAY WAS CLOSED with the word of its slot, where it was, in the second of its withdrawal
@@ -33,31 +34,36 @@ IsClosedSo r s = IfSome s.closed (λ x. IsWordIn r.rule (past_of r.log r.trace) 
 abbrev pub IsCountedSo : Recording → Stay → Type 0
 IsCountedSo r s =
     IsOdometerBefore r.rule (odometer_at r.unit) (past_of r.log r.trace).spans s.found.second s.odometer
-    × AllByRecursion (λ (k : Kept). IsOdometerBehind r.rule (odometer_at r.unit) (past_of r.log r.trace).spans (60 * k.entry.minute + 59) k.odometer.0) s.kepts
+    × AllByRecursion (λ (k : Kept). IsOdometerBehind r.rule (odometer_at r.unit) (past_of r.log r.trace).spans
+    (60 * k.entry.minute + 59) k.odometer.0) s.kepts
 
 -- EACH ENTRY that was owed at it has its mark
 abbrev pub IsAcknowledgedSo : List Mark → Card → Stay → Type 0
 IsAcknowledgedSo marks c s = All (λ (e : Entry). IsMarked marks (device_of c) e.minute) s.owed
 
--- THE STAYS OF A RUN's cards, in the vehicle that the unit's image says.
--- EACH LINE of the log that accepts a card, or tells that it stores a later time, is, in its order, the next of the one card's or of the other's
--- (`judged`): of its stays, each with the lines before it, and of those since the last. Only a card that was valid has any (`only`). By each line of a
--- stay its card was accepted, in a second that is not earlier than the stored time of what it showed by then, with as many entries owed as the line
--- tells; and by each of the others it was turned away, in a second that is earlier than that time, which the line tells (`verdicts`). Each of them is of the
--- action that puts the card in the slot, or of a power-on (`entered`).
--- EACH IMAGE that a stop may leave of a card has exactly those days, with their words and distances, and those vehicle entries, all of them, that its
--- stays make of its image at the start: in each it was inserted, kept its minutes, each with so many km as the odometer has grown since the one before,
--- and was withdrawn with an activity, or was not; and a session that was left open was cut at its end mark, and got the entries that the card lacked, as
--- the next stay began (`shows`).
--- THE VEHICLE BEFORE of each insertion, as every image that a stop may leave of the unit tells it, is the newest vehicle entry of what the card's stays
--- before it make of its image at the start: in the order in which the log tells the acceptances, one entry each, the oldest giving way (`befores`).
--- THEY ARE EXACTLY THE INSERTIONS of the card that the run notes, each of that second and slot, in their order; and those were withdrawn of which the run
--- notes a withdrawal, in its second, and no other (`closed`). The card was withdrawn with the activity that the slot has as the first action behind its acceptance
--- withdraws from it: by the seconds of the power span before its second and what the actions before it select (`words`).
--- THE ODOMETERS are those of the run: what the unit's image says at the start, with the whole kilometres of each power span before, and of the span so far.
--- WHAT WAS OWED AT EACH, in order, is all that the unit had of the card, at the start and by the minutes since, that is later than the end mark of what the
--- card showed by then, and nothing else: of the minutes since, only those behind whose end a `tear` line pulled this card out before they were decided, or,
--- where the second of the acceptance decides them, in that second and before it (`owes`). Each entry of that has a mark of the card (`acknowledged`).
+-- THE STAYS OF A RUN's cards, in the vehicle that the unit's image says. EACH LINE of the log that accepts a card, or
+-- tells that it stores a later time, is, in its order, the next of the one card's or of the other's (`judged`): of its
+-- stays, each with the lines before it, and of those since the last. Only a card that was valid has any (`only`). By
+-- each line of a stay its card was accepted, in a second that is not earlier than the stored time of what it showed by
+-- then, with as many entries owed as the line tells; and by each of the others it was turned away, in a second that is
+-- earlier than that time, which the line tells (`verdicts`). Each of them is of the action that puts the card in the
+-- slot, or of a power-on (`entered`). EACH IMAGE that a stop may leave of a card has exactly those days, with their
+-- words and distances, and those vehicle entries, all of them, that its stays make of its image at the start: in each
+-- it was inserted, kept its minutes, each with so many km as the odometer has grown since the one before, and was
+-- withdrawn with an activity, or was not; and a session that was left open was cut at its end mark, and got the entries
+-- that the card lacked, as the next stay began (`shows`). THE VEHICLE BEFORE of each insertion, as every image that a
+-- stop may leave of the unit tells it, is the newest vehicle entry of what the card's stays before it make of its image
+-- at the start: in the order in which the log tells the acceptances, one entry each, the oldest giving way (`befores`).
+-- THEY ARE EXACTLY THE INSERTIONS of the card that the run notes, each of that second and slot, in their order; and
+-- those were withdrawn of which the run notes a withdrawal, in its second, and no other (`closed`). The card was
+-- withdrawn with the activity that the slot has as the first action behind its acceptance withdraws from it: by the
+-- seconds of the power span before its second and what the actions before it select (`words`). THE ODOMETERS are those
+-- of the run: what the unit's image says at the start, with the whole kilometres of each power span before, and of the
+-- span so far. WHAT WAS OWED AT EACH, in order, is all that the unit had of the card, at the start and by the minutes
+-- since, that is later than the end mark of what the card showed by then, and nothing else: of the minutes since, only
+-- those behind whose end a `tear` line pulled this card out before they were decided, or, where the second of the
+-- acceptance decides them, in that second and before it (`owes`). Each entry of that has a mark of the card
+-- (`acknowledged`).
 pub record LeaveStays (r : Recording) (marks : List Mark) (now : Devices) : Type 0 where
   pub vehicle : Registration
   pub says : vehicle.0 ≡ registration_in r.unit
@@ -66,13 +72,17 @@ pub record LeaveStays (r : Recording) (marks : List Mark) (now : Devices) : Type
   pub only : (c : Card) → ((stays c ≡ []) × (since c ≡ [])) ⊎ IsOwnValid (card_image r c)
   pub judged : AreMerged (judged_told r.log) (judged_in (stays A) (since A)) (judged_in (stays B) (since B))
   pub entered : (c : Card) → AllByRecursion (IsLineOf r.trace c) (judged_in (stays c) (since c))
-  pub verdicts : (c : Card) → IsOwnValid (card_image r c) → AreJudged vehicle (own_sizes (card_image r c)).activity (stays c) (since c) (start_shown (card_image r c))
+  pub verdicts : (c : Card) → IsOwnValid (card_image r c)
+      → AreJudged vehicle (own_sizes (card_image r c)).activity (stays c) (since c) (start_shown (card_image r c))
   pub shows : (c : Card) → IsOwnValid (card_image r c) → ShowsStays vehicle (card_image r c) (stays c) (card_of now c)
-  pub befores : TellsBefores (IsDense insertion_ring r.unit) r.unit (acceptances_told r.log) vehicle (card_image r) stays now.unit
-  pub closed : (c : Card) → IsOwnValid (card_image r c) → spells (stays c) ≡ spells_of c (notes_of r.log (done_of r.log r.trace))
+  pub befores : TellsBefores (IsDense insertion_ring r.unit) r.unit (acceptances_told r.log) vehicle (card_image r)
+      stays now.unit
+  pub closed : (c : Card) → IsOwnValid (card_image r c)
+      → spells (stays c) ≡ spells_of c (notes_of r.log (done_of r.log r.trace))
   pub words : (c : Card) → AllByRecursion (IsClosedSo r) (stays c)
   pub odometers : (c : Card) → AllByRecursion (IsCountedSo r) (stays c)
-  pub owes : (c : Card) → AreOwed (IsOwed r.rule (start_of r) r.log r.trace c (brought r c).owed) vehicle (own_sizes (card_image r c)).activity (stays c) (start_shown (card_image r c))
+  pub owes : (c : Card) → AreOwed (IsOwed r.rule (start_of r) r.log r.trace c (brought r c).owed) vehicle
+      (own_sizes (card_image r c)).activity (stays c) (start_shown (card_image r c))
   pub acknowledged : (c : Card) → AllByRecursion (IsAcknowledgedSo marks c) (stays c)
 
 -- so it is where no call failed

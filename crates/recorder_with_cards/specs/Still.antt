@@ -1,4 +1,5 @@
--- What a run with cards leaves as it was (profile): a ring of the unit that is dense, and the holder of a card with all that no call writes.
+-- What a run with cards leaves as it was (profile): a ring of the unit that is dense, and the holder of a card with all
+-- that no call writes.
 use Rattle.std.specs.Prelude.{List, ℕ}
 use Rattle.trace_model.specs.declared.Card.{Card}
 use Rattle.tach_media.specs.Medium.{State}
@@ -18,10 +19,11 @@ pub record StayDense (r : Recording) (now : Devices) : Type 0 where
   pub insertions : StaysDense insertion_ring r.unit now
   pub places : StaysDense unit_place_ring r.unit now
 
--- each image that a card might have left since a clock has the number and the file Identification of the start, and all else
--- that no call of a run writes, byte for byte, where the image at the start was valid
+-- each image that a card might have left since a clock has the number and the file Identification of the start, and all
+-- else that no call of a run writes, byte for byte, where the image at the start was valid
 abbrev pub KeepsHolder : Recording → Card → (since : ℕ) → State → Type 0
-KeepsHolder r c since card = IsOwnValid (card_image r c) → (x : List ℕ) → card.left_since since x → HasSameHolder (card_image r c) x
+KeepsHolder r c since card = IsOwnValid (card_image r c) → (x : List ℕ) → card.left_since since x
+    → HasSameHolder (card_image r c) x
 
 -- EACH CARD IS ITS HOLDER'S STILL.
 abbrev pub KeepTheirHolders : Recording → (began now : Devices) → Type 0

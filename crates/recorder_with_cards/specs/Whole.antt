@@ -13,12 +13,15 @@ use Rattle.safety_model.specs.Recording.{Recording, told_of}
 use Rattle.safety_model.specs.Safe.{Devices}
 use Rattle.run_promise.specs.Whole.{IsWhole}
 
--- an image's odometer is that of the start and the whole kilometres of each time with power, up to the last minute that it decided
+-- an image's odometer is that of the start and the whole kilometres of each time with power, up to the last minute that
+-- it decided
 abbrev pub HasWholeOdometer : Rule → List ToldSecond → (odometer : ℕ) → List ℕ → Type 0
-HasWholeOdometer rule told odometer x = odometer_at x ≡ min (odometer + kilometres_of (whole_legs rule (spans_of told))) HIGHEST_ODOMETER
+HasWholeOdometer rule told odometer x = odometer_at x
+    ≡ min (odometer + kilometres_of (whole_legs rule (spans_of told))) HIGHEST_ODOMETER
 
--- THE ODOMETER OF A DAY that a run began, which the unit did not record at the start: that at the end of the first minute of the day that a span has
--- decided, the start's and the whole kilometres of each span before, and of that span up to there
+-- THE ODOMETER OF A DAY that a run began, which the unit did not record at the start: that at the end of the first
+-- minute of the day that a span has decided, the start's and the whole kilometres of each span before, and of that span
+-- up to there
 pub record HasDayOdometer (r : Recording) (day odometer : ℕ) : Type 0 where
   pub anew : (o : ℕ) → RecordsDay r.unit day o → ⊥
   pub earlier : List (List ToldSecond)
@@ -28,12 +31,15 @@ pub record HasDayOdometer (r : Recording) (day odometer : ℕ) : Type 0 where
   pub minute : Minute
   pub decided : Contains (decided_of r.rule span) minute
   pub day_is : minute.minute / 1440 ≡ day
-  pub first : (s : List ToldSecond) (d : Minute) → Contains (spans_of (told_of r)) s → Contains (decided_of r.rule s) d → d.minute / 1440 ≡ day → minute.minute ≤ d.minute
-  pub sum_is : odometer ≡ min (odometer_at r.unit + kilometres_of (whole_legs r.rule earlier ++ minute.travelled ∷ [])) HIGHEST_ODOMETER
+  pub first : (s : List ToldSecond) (d : Minute) → Contains (spans_of (told_of r)) s → Contains (decided_of r.rule s) d
+      → d.minute / 1440 ≡ day → minute.minute ≤ d.minute
+  pub sum_is : odometer ≡ min (odometer_at r.unit + kilometres_of (whole_legs r.rule earlier ++ minute.travelled ∷ []))
+      HIGHEST_ODOMETER
 
--- Each decided minute stands in the history, the unit has all of it, a card that was accepted all of its entries; and so is the odometer, and that of
--- each day which the unit records.
+-- Each decided minute stands in the history, the unit has all of it, a card that was accepted all of its entries; and
+-- so is the odometer, and that of each day which the unit records.
 pub record IsAllThere (r : Recording) (now : Devices) : Type 0 where
   pub minutes : IsWhole r now
   pub odometer : (x : List ℕ) → now.unit.may_leave x → HasWholeOdometer r.rule (told_of r) (odometer_at r.unit) x
-  pub days : (x : List ℕ) → now.unit.may_leave x → (day odometer : ℕ) → RecordsDay x day odometer → RecordsDay r.unit day odometer ⊎ HasDayOdometer r day odometer
+  pub days : (x : List ℕ) → now.unit.may_leave x → (day odometer : ℕ) → RecordsDay x day odometer
+      → RecordsDay r.unit day odometer ⊎ HasDayOdometer r day odometer

@@ -1,4 +1,5 @@
--- Words of the layers below that a caller of this crate speaks of: with them its line in crates.txt names none of these layers.
+-- Words of the layers below that a caller of this crate speaks of: with them its line in crates.txt names none of these
+-- layers.
 pub use Rattle.run_minutes.specs.Books.{HaveTime}
 pub use Rattle.run_minutes.specs.Later.{IsLater, AreAfter}
 pub use Rattle.run_acts.specs.Going.{largest_number, IsFoundLater}

@@ -1,5 +1,6 @@
 //! The actions of a second.
-ghost use Rattle.std.specs.Prelude.{◌≡◌, ℕ, ◌+◌, ◌-◌, ◌/◌, ◌≤◌, ◌∷◌, [], true, false, None, OnOk, length, min, is_some, is_err};
+ghost use Rattle.std.specs.Prelude.{◌≡◌, ℕ, ◌+◌, ◌-◌, ◌/◌, ◌≤◌, ◌∷◌, [], true, false, None, OnOk, length, min, is_some};
+ghost use Rattle.std.specs.Prelude.{is_err};
 ghost use Rattle.std.specs.Result.{result_err};
 ghost use Rattle.tach_media.specs.Medium.{HasCause};
 ghost use Rattle.log_model.specs.Slots.{refusal};
@@ -18,7 +19,9 @@ ghost use Rattle.run_acts.specs.Evented.{EventsAction};
 ghost use Rattle.run_acts.specs.RunRinged.{RingsAction};
 ghost use Rattle.run_acts.specs.RunCards.{CardsAction};
 ghost use Rattle.recorder_with_cards.specs.Carded.{CardsActions};
-ghost use Rattle.recorder_with_cards.specs.Acting.{put_count, refusal_lines, refused_by, IsSelected, IsFine, StaysIn, moment_of, IsDone, IsActedBy, IsActed, IsItemActed, AreActed, CallsNone};
+ghost use Rattle.recorder_with_cards.specs.Acting.{put_count, refusal_lines, refused_by, IsSelected, IsFine, StaysIn};
+ghost use Rattle.recorder_with_cards.specs.Acting.{moment_of, IsDone, IsActedBy, IsActed, IsItemActed, AreActed};
+ghost use Rattle.recorder_with_cards.specs.Acting.{CallsNone};
 ghost use Rattle.recorder_with_cards.specs.Recorded.{action_of, actions_in, RingsActions};
 ghost use Rattle.recorder_with_cards.specs.EnteredRings.{RingsDone};
 ghost use Rattle.recorder_with_cards.specs.Noting.{NotesDone};
@@ -54,20 +57,36 @@ pub(crate) fn act_all<M: Medium, C: Chip, D: Chip>(
 )
     requires first { from ≤ to }
     requires last { to ≤ length items.now }
-    requires going { IsInsideSecond run.old (M.state unit.old) (C.card card_a.old) (D.card card_b.old) (C.state card_a.old) (D.state card_b.old) }
+    requires going { IsInsideSecond run.old (M.state unit.old) (C.card card_a.old) (D.card card_b.old)
+        (C.state card_a.old) (D.state card_b.old) }
     requires dark { has_power ≡ false → is_lit run.old.power ≡ false }
     requires room { HasRoomWithin run.old outcome.old 1 0 (insertions_in from to items.now) (to - from) }
     ensures acted { AreActed has_power speed 0 (between from to items.now) run.old run.new outcome.old outcome.new }
-    ensures ringed { has_power ≡ true → length (actions_in (between from to items.now)) ≡ to - from → to - from ≤ largest_number → RingsActions (actions_in (between from to items.now)) (to - from) speed run.old run.new outcome.old outcome.new (devices (M.state unit.old) (C.state card_a.old) (D.state card_b.old)) (devices (M.state unit.new) (C.state card_a.new) (D.state card_b.new)) }
-    ensures cards { has_power ≡ true → length (actions_in (between from to items.now)) ≡ to - from → to - from ≤ largest_number → CardsActions (actions_in (between from to items.now)) (to - from) speed run.old run.new outcome.old outcome.new (devices (M.state unit.old) (C.state card_a.old) (D.state card_b.old)) (devices (M.state unit.new) (C.state card_a.new) (D.state card_b.new)) }
-    ensures still { is_lit run.old.power ≡ false → (is_lit run.new.power ≡ false) × (unit.new ≡ unit.old) × (card_a.new ≡ card_a.old) × (card_b.new ≡ card_b.old) }
-    ensures time { HaveTime (devices (M.state unit.new) (C.state card_a.new) (D.state card_b.new)) → HaveTime (devices (M.state unit.old) (C.state card_a.old) (D.state card_b.old)) }
-    ensures later { AreLater (devices (M.state unit.old) (C.state card_a.old) (D.state card_b.old)) (devices (M.state unit.new) (C.state card_a.new) (D.state card_b.new)) }
-    ensures calm { AreCalm outcome.old.breaks.items outcome.new.breaks.items (devices (M.state unit.old) (C.state card_a.old) (D.state card_b.old)) (devices (M.state unit.new) (C.state card_a.new) (D.state card_b.new)) }
-    ensures going { IsInsideSecond run.new (M.state unit.new) (C.card card_a.new) (D.card card_b.new) (C.state card_a.new) (D.state card_b.new) }
+    ensures ringed { has_power ≡ true → length (actions_in (between from to items.now)) ≡ to - from
+        → to - from ≤ largest_number → RingsActions (actions_in (between from to items.now)) (to - from) speed run.old
+        run.new outcome.old outcome.new (devices (M.state unit.old) (C.state card_a.old) (D.state card_b.old))
+        (devices (M.state unit.new) (C.state card_a.new) (D.state card_b.new)) }
+    ensures cards { has_power ≡ true → length (actions_in (between from to items.now)) ≡ to - from
+        → to - from ≤ largest_number → CardsActions (actions_in (between from to items.now)) (to - from) speed run.old
+        run.new outcome.old outcome.new (devices (M.state unit.old) (C.state card_a.old) (D.state card_b.old))
+        (devices (M.state unit.new) (C.state card_a.new) (D.state card_b.new)) }
+    ensures still { is_lit run.old.power ≡ false
+        → (is_lit run.new.power ≡ false) × (unit.new ≡ unit.old) × (card_a.new ≡ card_a.old)
+        × (card_b.new ≡ card_b.old) }
+    ensures time { HaveTime (devices (M.state unit.new) (C.state card_a.new) (D.state card_b.new))
+        → HaveTime (devices (M.state unit.old) (C.state card_a.old) (D.state card_b.old)) }
+    ensures later { AreLater (devices (M.state unit.old) (C.state card_a.old) (D.state card_b.old))
+        (devices (M.state unit.new) (C.state card_a.new) (D.state card_b.new)) }
+    ensures calm { AreCalm outcome.old.breaks.items outcome.new.breaks.items
+        (devices (M.state unit.old) (C.state card_a.old) (D.state card_b.old))
+        (devices (M.state unit.new) (C.state card_a.new) (D.state card_b.new)) }
+    ensures going { IsInsideSecond run.new (M.state unit.new) (C.card card_a.new) (D.card card_b.new)
+        (C.state card_a.new) (D.state card_b.new) }
     ensures next { run.new.next ≡ run.old.next }
     ensures unfound { run.new.unfound ≡ run.old.unfound }
-    ensures room { (left offs insertions actions : ℕ) → HasRoomWithin run.old outcome.old (1 + left) offs (insertions_in from to items.now + insertions) (to - from + actions) → HasRoomWithin run.new outcome.new (1 + left) offs insertions actions }
+    ensures room { (left offs insertions actions : ℕ)
+        → HasRoomWithin run.old outcome.old (1 + left) offs (insertions_in from to items.now + insertions)
+        (to - from + actions) → HasRoomWithin run.new outcome.new (1 + left) offs insertions actions }
     ensures breaks { length outcome.old.breaks.items ≤ length outcome.new.breaks.items }
     ensures broke { BreaksDown outcome.old.breaks.items outcome.new.breaks.items (M.state unit.old) (M.state unit.new) }
 {
@@ -98,21 +117,38 @@ fn act_item<M: Medium, C: Chip, D: Chip>(
     card_b: &mut D,
     outcome: &mut Outcome,
 )
-    requires going { IsInsideSecond run.old (M.state unit.old) (C.card card_a.old) (D.card card_b.old) (C.state card_a.old) (D.state card_b.old) }
+    requires going { IsInsideSecond run.old (M.state unit.old) (C.card card_a.old) (D.card card_b.old)
+        (C.state card_a.old) (D.state card_b.old) }
     requires dark { has_power ≡ false → is_lit run.old.power ≡ false }
     requires room { HasRoomWithin run.old outcome.old 1 0 (insertion_count item.now) 1 }
-    ensures acted { IsItemActed item.now has_power (is_lit run.old.power) begun speed run.old run.new outcome.old outcome.new }
-    ensures ringed { has_power ≡ true → RingsActions (action_of item.now) begun speed run.old run.new outcome.old outcome.new (devices (M.state unit.old) (C.state card_a.old) (D.state card_b.old)) (devices (M.state unit.new) (C.state card_a.new) (D.state card_b.new)) }
-    ensures cards { has_power ≡ true → CardsActions (action_of item.now) begun speed run.old run.new outcome.old outcome.new (devices (M.state unit.old) (C.state card_a.old) (D.state card_b.old)) (devices (M.state unit.new) (C.state card_a.new) (D.state card_b.new)) }
-    ensures still { is_lit run.old.power ≡ false → (is_lit run.new.power ≡ false) × (unit.new ≡ unit.old) × (card_a.new ≡ card_a.old) × (card_b.new ≡ card_b.old) }
-    ensures time { HaveTime (devices (M.state unit.new) (C.state card_a.new) (D.state card_b.new)) → HaveTime (devices (M.state unit.old) (C.state card_a.old) (D.state card_b.old)) }
-    ensures later { AreLater (devices (M.state unit.old) (C.state card_a.old) (D.state card_b.old)) (devices (M.state unit.new) (C.state card_a.new) (D.state card_b.new)) }
-    ensures calm { AreCalm outcome.old.breaks.items outcome.new.breaks.items (devices (M.state unit.old) (C.state card_a.old) (D.state card_b.old)) (devices (M.state unit.new) (C.state card_a.new) (D.state card_b.new)) }
-    ensures going { IsInsideSecond run.new (M.state unit.new) (C.card card_a.new) (D.card card_b.new) (C.state card_a.new) (D.state card_b.new) }
+    ensures acted { IsItemActed item.now has_power (is_lit run.old.power) begun speed run.old run.new outcome.old
+        outcome.new }
+    ensures ringed { has_power ≡ true
+        → RingsActions (action_of item.now) begun speed run.old run.new outcome.old outcome.new
+        (devices (M.state unit.old) (C.state card_a.old) (D.state card_b.old))
+        (devices (M.state unit.new) (C.state card_a.new) (D.state card_b.new)) }
+    ensures cards { has_power ≡ true
+        → CardsActions (action_of item.now) begun speed run.old run.new outcome.old outcome.new
+        (devices (M.state unit.old) (C.state card_a.old) (D.state card_b.old))
+        (devices (M.state unit.new) (C.state card_a.new) (D.state card_b.new)) }
+    ensures still { is_lit run.old.power ≡ false
+        → (is_lit run.new.power ≡ false) × (unit.new ≡ unit.old) × (card_a.new ≡ card_a.old)
+        × (card_b.new ≡ card_b.old) }
+    ensures time { HaveTime (devices (M.state unit.new) (C.state card_a.new) (D.state card_b.new))
+        → HaveTime (devices (M.state unit.old) (C.state card_a.old) (D.state card_b.old)) }
+    ensures later { AreLater (devices (M.state unit.old) (C.state card_a.old) (D.state card_b.old))
+        (devices (M.state unit.new) (C.state card_a.new) (D.state card_b.new)) }
+    ensures calm { AreCalm outcome.old.breaks.items outcome.new.breaks.items
+        (devices (M.state unit.old) (C.state card_a.old) (D.state card_b.old))
+        (devices (M.state unit.new) (C.state card_a.new) (D.state card_b.new)) }
+    ensures going { IsInsideSecond run.new (M.state unit.new) (C.card card_a.new) (D.card card_b.new)
+        (C.state card_a.new) (D.state card_b.new) }
     ensures dark { has_power ≡ false → is_lit run.new.power ≡ false }
     ensures next { run.new.next ≡ run.old.next }
     ensures unfound { run.new.unfound ≡ run.old.unfound }
-    ensures room { (left offs insertions actions : ℕ) → HasRoomWithin run.old outcome.old (1 + left) offs (insertion_count item.now + insertions) (1 + actions) → HasRoomWithin run.new outcome.new (1 + left) offs insertions actions }
+    ensures room { (left offs insertions actions : ℕ)
+        → HasRoomWithin run.old outcome.old (1 + left) offs (insertion_count item.now + insertions) (1 + actions)
+        → HasRoomWithin run.new outcome.new (1 + left) offs insertions actions }
     ensures breaks { length outcome.old.breaks.items ≤ length outcome.new.breaks.items }
     ensures broke { BreaksDown outcome.old.breaks.items outcome.new.breaks.items (M.state unit.old) (M.state unit.new) }
 {
@@ -137,25 +173,45 @@ fn act<M: Medium, C: Chip, D: Chip>(
     card_b: &mut D,
     outcome: &mut Outcome,
 )
-    requires going { IsInsideSecond run.old (M.state unit.old) (C.card card_a.old) (D.card card_b.old) (C.state card_a.old) (D.state card_b.old) }
+    requires going { IsInsideSecond run.old (M.state unit.old) (C.card card_a.old) (D.card card_b.old)
+        (C.state card_a.old) (D.state card_b.old) }
     requires dark { has_power ≡ false → is_lit run.old.power ≡ false }
     requires room { HasRoomWithin run.old outcome.old 1 0 (put_count action) 1 }
-    ensures acted { IsActed has_power (is_lit run.old.power) action begun speed run.old run.new outcome.old outcome.new }
-    ensures ringed { has_power ≡ true → RingsActions (action ∷ []) begun speed run.old run.new outcome.old outcome.new (devices (M.state unit.old) (C.state card_a.old) (D.state card_b.old)) (devices (M.state unit.new) (C.state card_a.new) (D.state card_b.new)) }
-    ensures cards { has_power ≡ true → CardsActions (action ∷ []) begun speed run.old run.new outcome.old outcome.new (devices (M.state unit.old) (C.state card_a.old) (D.state card_b.old)) (devices (M.state unit.new) (C.state card_a.new) (D.state card_b.new)) }
-    ensures still { (has_power ≡ true → is_lit run.old.power ≡ true → CallsNone (refusal (logged run.old.keeper.cabin.slots.seats) speed action) action) → (unit.new ≡ unit.old) × (card_a.new ≡ card_a.old) × (card_b.new ≡ card_b.old) }
-    ensures time { HaveTime (devices (M.state unit.new) (C.state card_a.new) (D.state card_b.new)) → HaveTime (devices (M.state unit.old) (C.state card_a.old) (D.state card_b.old)) }
-    ensures later { AreLater (devices (M.state unit.old) (C.state card_a.old) (D.state card_b.old)) (devices (M.state unit.new) (C.state card_a.new) (D.state card_b.new)) }
-    ensures calm { AreCalm outcome.old.breaks.items outcome.new.breaks.items (devices (M.state unit.old) (C.state card_a.old) (D.state card_b.old)) (devices (M.state unit.new) (C.state card_a.new) (D.state card_b.new)) }
-    ensures refused { outcome.new.refused ≡ with_lines (refusal_lines (refused_by has_power (is_lit run.old.power) run.old.keeper.cabin.slots.seats speed action) run.old.next begun) outcome.old.refused }
-    ensures none { (refused_by has_power (is_lit run.old.power) run.old.keeper.cabin.slots.seats speed action ≡ None → ⊥) → run.new ≡ run.old }
+    ensures acted { IsActed has_power (is_lit run.old.power) action begun speed run.old run.new outcome.old
+        outcome.new }
+    ensures ringed { has_power ≡ true
+        → RingsActions (action ∷ []) begun speed run.old run.new outcome.old outcome.new
+        (devices (M.state unit.old) (C.state card_a.old) (D.state card_b.old))
+        (devices (M.state unit.new) (C.state card_a.new) (D.state card_b.new)) }
+    ensures cards { has_power ≡ true
+        → CardsActions (action ∷ []) begun speed run.old run.new outcome.old outcome.new
+        (devices (M.state unit.old) (C.state card_a.old) (D.state card_b.old))
+        (devices (M.state unit.new) (C.state card_a.new) (D.state card_b.new)) }
+    ensures still { (has_power ≡ true → is_lit run.old.power ≡ true
+        → CallsNone (refusal (logged run.old.keeper.cabin.slots.seats) speed action) action)
+        → (unit.new ≡ unit.old) × (card_a.new ≡ card_a.old) × (card_b.new ≡ card_b.old) }
+    ensures time { HaveTime (devices (M.state unit.new) (C.state card_a.new) (D.state card_b.new))
+        → HaveTime (devices (M.state unit.old) (C.state card_a.old) (D.state card_b.old)) }
+    ensures later { AreLater (devices (M.state unit.old) (C.state card_a.old) (D.state card_b.old))
+        (devices (M.state unit.new) (C.state card_a.new) (D.state card_b.new)) }
+    ensures calm { AreCalm outcome.old.breaks.items outcome.new.breaks.items
+        (devices (M.state unit.old) (C.state card_a.old) (D.state card_b.old))
+        (devices (M.state unit.new) (C.state card_a.new) (D.state card_b.new)) }
+    ensures refused { outcome.new.refused
+        ≡ with_lines (refusal_lines (refused_by has_power (is_lit run.old.power) run.old.keeper.cabin.slots.seats speed
+        action) run.old.next begun) outcome.old.refused }
+    ensures none { (refused_by has_power (is_lit run.old.power) run.old.keeper.cabin.slots.seats speed action ≡ None
+        → ⊥) → run.new ≡ run.old }
     ensures lost { has_power ≡ true → is_lit run.old.power ≡ false → (run.new ≡ run.old) × (outcome.new ≡ outcome.old) }
     ensures selected { is_lit run.old.power ≡ true → IsSelected action run.old run.new }
-    ensures going { IsInsideSecond run.new (M.state unit.new) (C.card card_a.new) (D.card card_b.new) (C.state card_a.new) (D.state card_b.new) }
+    ensures going { IsInsideSecond run.new (M.state unit.new) (C.card card_a.new) (D.card card_b.new)
+        (C.state card_a.new) (D.state card_b.new) }
     ensures dark { is_lit run.old.power ≡ false → is_lit run.new.power ≡ false }
     ensures next { run.new.next ≡ run.old.next }
     ensures unfound { run.new.unfound ≡ run.old.unfound }
-    ensures room { (left offs insertions actions : ℕ) → HasRoomWithin run.old outcome.old (1 + left) offs (put_count action + insertions) (1 + actions) → HasRoomWithin run.new outcome.new (1 + left) offs insertions actions }
+    ensures room { (left offs insertions actions : ℕ)
+        → HasRoomWithin run.old outcome.old (1 + left) offs (put_count action + insertions) (1 + actions)
+        → HasRoomWithin run.new outcome.new (1 + left) offs insertions actions }
     ensures breaks { length outcome.old.breaks.items ≤ length outcome.new.breaks.items }
     ensures broke { BreaksDown outcome.old.breaks.items outcome.new.breaks.items (M.state unit.old) (M.state unit.new) }
 {
@@ -181,22 +237,38 @@ fn act_lit<M: Medium, C: Chip, D: Chip>(
     outcome: &mut Outcome,
 )
     requires lit { run.old.power ≡ Lit }
-    requires going { IsInsideSecond run.old (M.state unit.old) (C.card card_a.old) (D.card card_b.old) (C.state card_a.old) (D.state card_b.old) }
+    requires going { IsInsideSecond run.old (M.state unit.old) (C.card card_a.old) (D.card card_b.old)
+        (C.state card_a.old) (D.state card_b.old) }
     requires room { HasRoomWithin run.old outcome.old 1 0 (put_count action) 1 }
-    ensures acted { IsActedBy (refusal (logged run.old.keeper.cabin.slots.seats) speed action) action begun speed run.old run.new outcome.old outcome.new }
-    ensures ringed { RingsActions (action ∷ []) begun speed run.old run.new outcome.old outcome.new (devices (M.state unit.old) (C.state card_a.old) (D.state card_b.old)) (devices (M.state unit.new) (C.state card_a.new) (D.state card_b.new)) }
-    ensures cards { CardsActions (action ∷ []) begun speed run.old run.new outcome.old outcome.new (devices (M.state unit.old) (C.state card_a.old) (D.state card_b.old)) (devices (M.state unit.new) (C.state card_a.new) (D.state card_b.new)) }
-    ensures still { CallsNone (refusal (logged run.old.keeper.cabin.slots.seats) speed action) action → (unit.new ≡ unit.old) × (card_a.new ≡ card_a.old) × (card_b.new ≡ card_b.old) }
-    ensures time { HaveTime (devices (M.state unit.new) (C.state card_a.new) (D.state card_b.new)) → HaveTime (devices (M.state unit.old) (C.state card_a.old) (D.state card_b.old)) }
-    ensures later { AreLater (devices (M.state unit.old) (C.state card_a.old) (D.state card_b.old)) (devices (M.state unit.new) (C.state card_a.new) (D.state card_b.new)) }
-    ensures calm { AreCalm outcome.old.breaks.items outcome.new.breaks.items (devices (M.state unit.old) (C.state card_a.old) (D.state card_b.old)) (devices (M.state unit.new) (C.state card_a.new) (D.state card_b.new)) }
-    ensures refused { outcome.new.refused ≡ with_lines (refusal_lines (refusal (logged run.old.keeper.cabin.slots.seats) speed action) run.old.next begun) outcome.old.refused }
+    ensures acted { IsActedBy (refusal (logged run.old.keeper.cabin.slots.seats) speed action) action begun speed
+        run.old run.new outcome.old outcome.new }
+    ensures ringed { RingsActions (action ∷ []) begun speed run.old run.new outcome.old outcome.new
+        (devices (M.state unit.old) (C.state card_a.old) (D.state card_b.old))
+        (devices (M.state unit.new) (C.state card_a.new) (D.state card_b.new)) }
+    ensures cards { CardsActions (action ∷ []) begun speed run.old run.new outcome.old outcome.new
+        (devices (M.state unit.old) (C.state card_a.old) (D.state card_b.old))
+        (devices (M.state unit.new) (C.state card_a.new) (D.state card_b.new)) }
+    ensures still { CallsNone (refusal (logged run.old.keeper.cabin.slots.seats) speed action) action
+        → (unit.new ≡ unit.old) × (card_a.new ≡ card_a.old) × (card_b.new ≡ card_b.old) }
+    ensures time { HaveTime (devices (M.state unit.new) (C.state card_a.new) (D.state card_b.new))
+        → HaveTime (devices (M.state unit.old) (C.state card_a.old) (D.state card_b.old)) }
+    ensures later { AreLater (devices (M.state unit.old) (C.state card_a.old) (D.state card_b.old))
+        (devices (M.state unit.new) (C.state card_a.new) (D.state card_b.new)) }
+    ensures calm { AreCalm outcome.old.breaks.items outcome.new.breaks.items
+        (devices (M.state unit.old) (C.state card_a.old) (D.state card_b.old))
+        (devices (M.state unit.new) (C.state card_a.new) (D.state card_b.new)) }
+    ensures refused { outcome.new.refused
+        ≡ with_lines (refusal_lines (refusal (logged run.old.keeper.cabin.slots.seats) speed action) run.old.next begun)
+        outcome.old.refused }
     ensures none { (refusal (logged run.old.keeper.cabin.slots.seats) speed action ≡ None → ⊥) → run.new ≡ run.old }
     ensures selected { IsSelected action run.old run.new }
-    ensures going { IsInsideSecond run.new (M.state unit.new) (C.card card_a.new) (D.card card_b.new) (C.state card_a.new) (D.state card_b.new) }
+    ensures going { IsInsideSecond run.new (M.state unit.new) (C.card card_a.new) (D.card card_b.new)
+        (C.state card_a.new) (D.state card_b.new) }
     ensures next { run.new.next ≡ run.old.next }
     ensures unfound { run.new.unfound ≡ run.old.unfound }
-    ensures room { (left offs insertions actions : ℕ) → HasRoomWithin run.old outcome.old (1 + left) offs (put_count action + insertions) (1 + actions) → HasRoomWithin run.new outcome.new (1 + left) offs insertions actions }
+    ensures room { (left offs insertions actions : ℕ)
+        → HasRoomWithin run.old outcome.old (1 + left) offs (put_count action + insertions) (1 + actions)
+        → HasRoomWithin run.new outcome.new (1 + left) offs insertions actions }
     ensures breaks { length outcome.old.breaks.items ≤ length outcome.new.breaks.items }
     ensures broke { BreaksDown outcome.old.breaks.items outcome.new.breaks.items (M.state unit.old) (M.state unit.new) }
 {
@@ -235,25 +307,46 @@ fn carry_out<M: Medium, C: Chip, D: Chip>(
     outcome: &mut Outcome,
 ) -> Result<(), Failed>
     requires lit { run.old.power ≡ Lit }
-    requires going { IsInsideSecond run.old (M.state unit.old) (C.card card_a.old) (D.card card_b.old) (C.state card_a.old) (D.state card_b.old) }
+    requires going { IsInsideSecond run.old (M.state unit.old) (C.card card_a.old) (D.card card_b.old)
+        (C.state card_a.old) (D.state card_b.old) }
     requires allowed { refusal (logged run.old.keeper.cabin.slots.seats) speed action ≡ None }
     requires room { HasRoomWithin run.old outcome.old 1 0 (put_count action) 0 }
-    ensures done { IsDone action (moment_of begun run.old) speed (is_err result) run.old run.new outcome.old outcome.new }
-    ensures evented { EventsAction action begun speed (is_err result) run.old run.new outcome.old outcome.new (devices (M.state unit.old) (C.state card_a.old) (D.state card_b.old)) (devices (M.state unit.new) (C.state card_a.new) (D.state card_b.new)) }
-    ensures recorded { RecordsAction action begun speed (is_err result) run.old run.new outcome.old outcome.new (devices (M.state unit.old) (C.state card_a.old) (D.state card_b.old)) (devices (M.state unit.new) (C.state card_a.new) (D.state card_b.new)) }
-    ensures ringed { RingsAction action begun speed (is_err result) run.old run.new outcome.old outcome.new (devices (M.state unit.old) (C.state card_a.old) (D.state card_b.old)) (devices (M.state unit.new) (C.state card_a.new) (D.state card_b.new)) }
-    ensures cards { CardsAction action begun speed (is_err result) run.old outcome.old outcome.new (devices (M.state unit.old) (C.state card_a.old) (D.state card_b.old)) (devices (M.state unit.new) (C.state card_a.new) (D.state card_b.new)) }
-    ensures events { NotesDone action (moment_of begun run.old) speed (is_err result) run.old run.new outcome.old outcome.new (devices (M.state unit.old) (C.state card_a.old) (D.state card_b.old)) (devices (M.state unit.new) (C.state card_a.new) (D.state card_b.new)) }
-    ensures rings { is_some (M.state unit.old).image ≡ true → RingsDone action (moment_of begun run.old) speed (is_err result) run.old run.new outcome.old outcome.new (M.state unit.old) (M.state unit.new) }
-    ensures still { CallsNone None action → (unit.new ≡ unit.old) × (card_a.new ≡ card_a.old) × (card_b.new ≡ card_b.old) }
-    ensures time { HaveTime (devices (M.state unit.new) (C.state card_a.new) (D.state card_b.new)) → HaveTime (devices (M.state unit.old) (C.state card_a.old) (D.state card_b.old)) }
-    ensures later { AreLater (devices (M.state unit.old) (C.state card_a.old) (D.state card_b.old)) (devices (M.state unit.new) (C.state card_a.new) (D.state card_b.new)) }
-    ensures calm { AreCalm outcome.old.breaks.items outcome.new.breaks.items (devices (M.state unit.old) (C.state card_a.old) (D.state card_b.old)) (devices (M.state unit.new) (C.state card_a.new) (D.state card_b.new)) }
+    ensures done { IsDone action (moment_of begun run.old) speed (is_err result) run.old run.new outcome.old
+        outcome.new }
+    ensures evented { EventsAction action begun speed (is_err result) run.old run.new outcome.old outcome.new
+        (devices (M.state unit.old) (C.state card_a.old) (D.state card_b.old))
+        (devices (M.state unit.new) (C.state card_a.new) (D.state card_b.new)) }
+    ensures recorded { RecordsAction action begun speed (is_err result) run.old run.new outcome.old outcome.new
+        (devices (M.state unit.old) (C.state card_a.old) (D.state card_b.old))
+        (devices (M.state unit.new) (C.state card_a.new) (D.state card_b.new)) }
+    ensures ringed { RingsAction action begun speed (is_err result) run.old run.new outcome.old outcome.new
+        (devices (M.state unit.old) (C.state card_a.old) (D.state card_b.old))
+        (devices (M.state unit.new) (C.state card_a.new) (D.state card_b.new)) }
+    ensures cards { CardsAction action begun speed (is_err result) run.old outcome.old outcome.new
+        (devices (M.state unit.old) (C.state card_a.old) (D.state card_b.old))
+        (devices (M.state unit.new) (C.state card_a.new) (D.state card_b.new)) }
+    ensures events { NotesDone action (moment_of begun run.old) speed (is_err result) run.old run.new outcome.old
+        outcome.new (devices (M.state unit.old) (C.state card_a.old) (D.state card_b.old))
+        (devices (M.state unit.new) (C.state card_a.new) (D.state card_b.new)) }
+    ensures rings { is_some (M.state unit.old).image ≡ true
+        → RingsDone action (moment_of begun run.old) speed (is_err result) run.old run.new outcome.old outcome.new
+        (M.state unit.old) (M.state unit.new) }
+    ensures still { CallsNone None action
+        → (unit.new ≡ unit.old) × (card_a.new ≡ card_a.old) × (card_b.new ≡ card_b.old) }
+    ensures time { HaveTime (devices (M.state unit.new) (C.state card_a.new) (D.state card_b.new))
+        → HaveTime (devices (M.state unit.old) (C.state card_a.old) (D.state card_b.old)) }
+    ensures later { AreLater (devices (M.state unit.old) (C.state card_a.old) (D.state card_b.old))
+        (devices (M.state unit.new) (C.state card_a.new) (D.state card_b.new)) }
+    ensures calm { AreCalm outcome.old.breaks.items outcome.new.breaks.items
+        (devices (M.state unit.old) (C.state card_a.old) (D.state card_b.old))
+        (devices (M.state unit.new) (C.state card_a.new) (D.state card_b.new)) }
     ensures selected { IsSelected action run.old run.new }
     ensures fine { IsFine action (is_err result) }
     ensures stays { StaysIn run.old run.new }
-    ensures held { CanBeCut (run.new.next / 60) run.new (M.state unit.new) (C.card card_a.new) (D.card card_b.new) (C.state card_a.new) (D.state card_b.new) }
-    ensures going { OnOk result (RunHasPowerAllSeated (run.new.next / 60) run.new (M.state unit.new) (C.card card_a.new) (D.card card_b.new) (C.state card_a.new) (D.state card_b.new)) }
+    ensures held { CanBeCut (run.new.next / 60) run.new (M.state unit.new) (C.card card_a.new) (D.card card_b.new)
+        (C.state card_a.new) (D.state card_b.new) }
+    ensures going { OnOk result (RunHasPowerAllSeated (run.new.next / 60) run.new (M.state unit.new) (C.card card_a.new)
+        (D.card card_b.new) (C.state card_a.new) (D.state card_b.new)) }
     ensures takes { Takes (put_count action) (put_count action) 0 run.old run.new outcome.old outcome.new }
     ensures refused { outcome.new.refused ≡ outcome.old.refused }
     ensures breaks { length outcome.old.breaks.items ≤ length outcome.new.breaks.items }

@@ -19,7 +19,8 @@ use run_outcome::Outcome;
 use tach_media::{Chip, Medium};
 use trace_text::Items;
 
-/// So many seconds at one speed, from 1 on, with the actions among the items from one index to another at their beginning.
+/// So many seconds at one speed, from 1 on, with the actions among the items from one index to another at their
+/// beginning.
 pub(crate) fn drive<M: Medium, C: Chip, D: Chip>(
     run: &mut Run,
     items: &Items,
@@ -32,20 +33,34 @@ pub(crate) fn drive<M: Medium, C: Chip, D: Chip>(
     card_b: &mut D,
     outcome: &mut Outcome,
 ) -> Result<(), RunFault>
-    requires going { IsBetweenSeconds run.old (M.state unit.old) (C.card card_a.old) (D.card card_b.old) (C.state card_a.old) (D.state card_b.old) }
+    requires going { IsBetweenSeconds run.old (M.state unit.old) (C.card card_a.old) (D.card card_b.old)
+        (C.state card_a.old) (D.state card_b.old) }
     requires some { 0 < seconds }
     requires small { run.old.next + seconds ≤ end_of_seconds }
     requires first { from ≤ to }
     requires last { to ≤ length items.now }
     requires room { HasRoom run.old outcome.old seconds 0 (insertions_in from to items.now) (to - from) }
     requires unfound { run.old.unfound ≤ length outcome.old.breaks.items }
-    ensures ringed { length (actions_in (between from to items.now)) ≡ to - from → to - from ≤ largest_number → RingsSeconds result seconds speed (actions_in (between from to items.now)) run.old run.new outcome.old outcome.new (devices (M.state unit.old) (C.state card_a.old) (D.state card_b.old)) (devices (M.state unit.new) (C.state card_a.new) (D.state card_b.new)) }
-    ensures cards { length (actions_in (between from to items.now)) ≡ to - from → to - from ≤ largest_number → CardsSeconds result seconds speed (actions_in (between from to items.now)) run.old run.new outcome.old outcome.new (devices (M.state unit.old) (C.state card_a.old) (D.state card_b.old)) (devices (M.state unit.new) (C.state card_a.new) (D.state card_b.new)) }
-    ensures time { HaveTime (devices (M.state unit.new) (C.state card_a.new) (D.state card_b.new)) → HaveTime (devices (M.state unit.old) (C.state card_a.old) (D.state card_b.old)) }
-    ensures later { AreAfter (devices (M.state unit.old) (C.state card_a.old) (D.state card_b.old)) (devices (M.state unit.new) (C.state card_a.new) (D.state card_b.new)) }
-    ensures calm { AreCalm outcome.old.breaks.items outcome.new.breaks.items (devices (M.state unit.old) (C.state card_a.old) (D.state card_b.old)) (devices (M.state unit.new) (C.state card_a.new) (D.state card_b.new)) }
-    ensures gone { HasGone result seconds run.old run.new outcome.new (M.state unit.new) (C.card card_a.new) (D.card card_b.new) (C.state card_a.new) (D.state card_b.new) }
-    ensures room { (left offs insertions actions : ℕ) → HasRoom run.old outcome.old (seconds + left) offs (insertions_in from to items.now + insertions) (to - from + actions) → OnOk result (HasRoom run.new outcome.new left offs insertions actions) }
+    ensures ringed { length (actions_in (between from to items.now)) ≡ to - from → to - from ≤ largest_number
+        → RingsSeconds result seconds speed (actions_in (between from to items.now)) run.old run.new outcome.old
+        outcome.new (devices (M.state unit.old) (C.state card_a.old) (D.state card_b.old))
+        (devices (M.state unit.new) (C.state card_a.new) (D.state card_b.new)) }
+    ensures cards { length (actions_in (between from to items.now)) ≡ to - from → to - from ≤ largest_number
+        → CardsSeconds result seconds speed (actions_in (between from to items.now)) run.old run.new outcome.old
+        outcome.new (devices (M.state unit.old) (C.state card_a.old) (D.state card_b.old))
+        (devices (M.state unit.new) (C.state card_a.new) (D.state card_b.new)) }
+    ensures time { HaveTime (devices (M.state unit.new) (C.state card_a.new) (D.state card_b.new))
+        → HaveTime (devices (M.state unit.old) (C.state card_a.old) (D.state card_b.old)) }
+    ensures later { AreAfter (devices (M.state unit.old) (C.state card_a.old) (D.state card_b.old))
+        (devices (M.state unit.new) (C.state card_a.new) (D.state card_b.new)) }
+    ensures calm { AreCalm outcome.old.breaks.items outcome.new.breaks.items
+        (devices (M.state unit.old) (C.state card_a.old) (D.state card_b.old))
+        (devices (M.state unit.new) (C.state card_a.new) (D.state card_b.new)) }
+    ensures gone { HasGone result seconds run.old run.new outcome.new (M.state unit.new) (C.card card_a.new)
+        (D.card card_b.new) (C.state card_a.new) (D.state card_b.new) }
+    ensures room { (left offs insertions actions : ℕ)
+        → HasRoom run.old outcome.old (seconds + left) offs (insertions_in from to items.now + insertions)
+        (to - from + actions) → OnOk result (HasRoom run.new outcome.new left offs insertions actions) }
     ensures broke { BreaksDown outcome.old.breaks.items outcome.new.breaks.items (M.state unit.old) (M.state unit.new) }
 {
     let has_power = begin_second(run, speed, unit, card_a, card_b, outcome)?;
@@ -67,17 +82,29 @@ fn drive_on<M: Medium, C: Chip, D: Chip>(
     card_b: &mut D,
     outcome: &mut Outcome,
 ) -> Result<(), RunFault>
-    requires going { IsBetweenSeconds run.old (M.state unit.old) (C.card card_a.old) (D.card card_b.old) (C.state card_a.old) (D.state card_b.old) }
+    requires going { IsBetweenSeconds run.old (M.state unit.old) (C.card card_a.old) (D.card card_b.old)
+        (C.state card_a.old) (D.state card_b.old) }
     requires small { run.old.next + seconds ≤ end_of_seconds }
     requires room { HasRoom run.old outcome.old seconds 0 0 0 }
     requires unfound { run.old.unfound ≤ length outcome.old.breaks.items }
-    ensures ringed { RingsMore result seconds speed run.old run.new outcome.old outcome.new (devices (M.state unit.old) (C.state card_a.old) (D.state card_b.old)) (devices (M.state unit.new) (C.state card_a.new) (D.state card_b.new)) }
-    ensures cards { CardsMore result seconds speed run.old run.new outcome.old outcome.new (devices (M.state unit.old) (C.state card_a.old) (D.state card_b.old)) (devices (M.state unit.new) (C.state card_a.new) (D.state card_b.new)) }
-    ensures time { HaveTime (devices (M.state unit.new) (C.state card_a.new) (D.state card_b.new)) → HaveTime (devices (M.state unit.old) (C.state card_a.old) (D.state card_b.old)) }
-    ensures later { AreAfter (devices (M.state unit.old) (C.state card_a.old) (D.state card_b.old)) (devices (M.state unit.new) (C.state card_a.new) (D.state card_b.new)) }
-    ensures calm { AreCalm outcome.old.breaks.items outcome.new.breaks.items (devices (M.state unit.old) (C.state card_a.old) (D.state card_b.old)) (devices (M.state unit.new) (C.state card_a.new) (D.state card_b.new)) }
-    ensures gone { HasGone result seconds run.old run.new outcome.new (M.state unit.new) (C.card card_a.new) (D.card card_b.new) (C.state card_a.new) (D.state card_b.new) }
-    ensures room { (left offs insertions actions : ℕ) → HasRoom run.old outcome.old (seconds + left) offs insertions actions → OnOk result (HasRoom run.new outcome.new left offs insertions actions) }
+    ensures ringed { RingsMore result seconds speed run.old run.new outcome.old outcome.new
+        (devices (M.state unit.old) (C.state card_a.old) (D.state card_b.old))
+        (devices (M.state unit.new) (C.state card_a.new) (D.state card_b.new)) }
+    ensures cards { CardsMore result seconds speed run.old run.new outcome.old outcome.new
+        (devices (M.state unit.old) (C.state card_a.old) (D.state card_b.old))
+        (devices (M.state unit.new) (C.state card_a.new) (D.state card_b.new)) }
+    ensures time { HaveTime (devices (M.state unit.new) (C.state card_a.new) (D.state card_b.new))
+        → HaveTime (devices (M.state unit.old) (C.state card_a.old) (D.state card_b.old)) }
+    ensures later { AreAfter (devices (M.state unit.old) (C.state card_a.old) (D.state card_b.old))
+        (devices (M.state unit.new) (C.state card_a.new) (D.state card_b.new)) }
+    ensures calm { AreCalm outcome.old.breaks.items outcome.new.breaks.items
+        (devices (M.state unit.old) (C.state card_a.old) (D.state card_b.old))
+        (devices (M.state unit.new) (C.state card_a.new) (D.state card_b.new)) }
+    ensures gone { HasGone result seconds run.old run.new outcome.new (M.state unit.new) (C.card card_a.new)
+        (D.card card_b.new) (C.state card_a.new) (D.state card_b.new) }
+    ensures room { (left offs insertions actions : ℕ)
+        → HasRoom run.old outcome.old (seconds + left) offs insertions actions
+        → OnOk result (HasRoom run.new outcome.new left offs insertions actions) }
     ensures broke { BreaksDown outcome.old.breaks.items outcome.new.breaks.items (M.state unit.old) (M.state unit.new) }
 {
     let mut left = seconds;
@@ -99,19 +126,30 @@ fn step<M: Medium, C: Chip, D: Chip>(
     card_b: &mut D,
     outcome: &mut Outcome,
 ) -> Result<(), RunFault>
-    requires going { IsBetweenSeconds run.old (M.state unit.old) (C.card card_a.old) (D.card card_b.old) (C.state card_a.old) (D.state card_b.old) }
+    requires going { IsBetweenSeconds run.old (M.state unit.old) (C.card card_a.old) (D.card card_b.old)
+        (C.state card_a.old) (D.state card_b.old) }
     requires some { 0 < n }
     requires minute { run.old.next % 60 + n ≤ 60 }
     requires small { run.old.next + n ≤ end_of_seconds }
     requires room { HasRoom run.old outcome.old n 0 0 0 }
     requires unfound { run.old.unfound ≤ length outcome.old.breaks.items }
-    ensures ringed { RingsMore result n speed run.old run.new outcome.old outcome.new (devices (M.state unit.old) (C.state card_a.old) (D.state card_b.old)) (devices (M.state unit.new) (C.state card_a.new) (D.state card_b.new)) }
-    ensures cards { CardsMore result n speed run.old run.new outcome.old outcome.new (devices (M.state unit.old) (C.state card_a.old) (D.state card_b.old)) (devices (M.state unit.new) (C.state card_a.new) (D.state card_b.new)) }
-    ensures time { HaveTime (devices (M.state unit.new) (C.state card_a.new) (D.state card_b.new)) → HaveTime (devices (M.state unit.old) (C.state card_a.old) (D.state card_b.old)) }
-    ensures later { AreAfter (devices (M.state unit.old) (C.state card_a.old) (D.state card_b.old)) (devices (M.state unit.new) (C.state card_a.new) (D.state card_b.new)) }
-    ensures calm { AreCalm outcome.old.breaks.items outcome.new.breaks.items (devices (M.state unit.old) (C.state card_a.old) (D.state card_b.old)) (devices (M.state unit.new) (C.state card_a.new) (D.state card_b.new)) }
-    ensures gone { HasGone result n run.old run.new outcome.new (M.state unit.new) (C.card card_a.new) (D.card card_b.new) (C.state card_a.new) (D.state card_b.new) }
-    ensures room { (left offs insertions actions : ℕ) → HasRoom run.old outcome.old (n + left) offs insertions actions → OnOk result (HasRoom run.new outcome.new left offs insertions actions) }
+    ensures ringed { RingsMore result n speed run.old run.new outcome.old outcome.new
+        (devices (M.state unit.old) (C.state card_a.old) (D.state card_b.old))
+        (devices (M.state unit.new) (C.state card_a.new) (D.state card_b.new)) }
+    ensures cards { CardsMore result n speed run.old run.new outcome.old outcome.new
+        (devices (M.state unit.old) (C.state card_a.old) (D.state card_b.old))
+        (devices (M.state unit.new) (C.state card_a.new) (D.state card_b.new)) }
+    ensures time { HaveTime (devices (M.state unit.new) (C.state card_a.new) (D.state card_b.new))
+        → HaveTime (devices (M.state unit.old) (C.state card_a.old) (D.state card_b.old)) }
+    ensures later { AreAfter (devices (M.state unit.old) (C.state card_a.old) (D.state card_b.old))
+        (devices (M.state unit.new) (C.state card_a.new) (D.state card_b.new)) }
+    ensures calm { AreCalm outcome.old.breaks.items outcome.new.breaks.items
+        (devices (M.state unit.old) (C.state card_a.old) (D.state card_b.old))
+        (devices (M.state unit.new) (C.state card_a.new) (D.state card_b.new)) }
+    ensures gone { HasGone result n run.old run.new outcome.new (M.state unit.new) (C.card card_a.new)
+        (D.card card_b.new) (C.state card_a.new) (D.state card_b.new) }
+    ensures room { (left offs insertions actions : ℕ) → HasRoom run.old outcome.old (n + left) offs insertions actions
+        → OnOk result (HasRoom run.new outcome.new left offs insertions actions) }
     ensures broke { BreaksDown outcome.old.breaks.items outcome.new.breaks.items (M.state unit.old) (M.state unit.new) }
 {
     begin_second(run, speed, unit, card_a, card_b, outcome)?;

@@ -11,25 +11,36 @@ ghost use Rattle.run_crew.specs.declared.cabin.Cabin.{Cabin};
 ghost use Rattle.run_insertion.specs.declared.lines.Entering.{Entering};
 ghost use Rattle.run_insertion.specs.Entering.{Ending};
 ghost use Rattle.run_insertion.specs.Noted.{AreDone, AreBeingDone, UnitNote, IsOnUnit, IsComing, notes_by};
-ghost use Rattle.recorder_with_cards.specs.EnteredTold.{TellEvents, AreUnsure, moving_events, unclosed_events, events_by, IsLow, AreNamed};
+ghost use Rattle.recorder_with_cards.specs.EnteredTold.{TellEvents, AreUnsure, moving_events, unclosed_events};
+ghost use Rattle.recorder_with_cards.specs.EnteredTold.{events_by, IsLow, AreNamed};
 
-/// Notes of the unit that tell these events show them more, once all are done; at a moment of them nothing more is shown, where of the types
-/// of these events none is sure.
+/// Notes of the unit that tell these events show them more, once all are done; at a moment of them nothing more is
+/// shown, where of the types of these events none is sure.
 pub fn what_is_noted_of_a_card_is_shown()
-    ensures done { (number : Card → List ℕ) → AreNumbers number → (log : RunLog) (now : ℕ → List Event) (notes : List UnitNote) (events : List Event) (x y : List ℕ) → length x ≡ IMAGE_SIZE → TellEvents number notes events →
+    ensures done { (number : Card → List ℕ) → AreNumbers number
+        → (log : RunLog) (now : ℕ → List Event) (notes : List UnitNote) (events : List Event) (x y : List ℕ)
+        → length x ≡ IMAGE_SIZE → TellEvents number notes events →
         AreDone IsOnUnit notes x y → ShowsMore number log now (by_kind events) x y }
-    ensures moment { (number : Card → List ℕ) → AreNumbers number → (log : RunLog) (now : ℕ → List Event) (notes : List UnitNote) (events : List Event) (x c : List ℕ) → TellEvents number notes events → AreUnsure log now events →
+    ensures moment { (number : Card → List ℕ) → AreNumbers number
+        → (log : RunLog) (now : ℕ → List Event) (notes : List UnitNote) (events : List Event) (x c : List ℕ)
+        → TellEvents number notes events → AreUnsure log now events →
         AreBeingDone IsOnUnit IsComing notes x c → ShowsMore number log now none x c }
 {}
 
 /// What the unit notes of a card that entered are these events, by what became of the card.
 pub fn what_is_noted_of_a_card_are_its_events()
-    ensures { (number : Card → List ℕ) (second : ℕ) → second < 2 ^ 32 → (e : Entering) → e.at.second ≡ second → (ending : Ending) (noted : ℕ) (cabin : Cabin) (before accepted left : Crew) → IsLow ending →
-        AreNamed number ending e noted cabin before accepted left → TellEvents number (notes_by ending e noted cabin) (events_by ending e.speed e.at.second before accepted left) }
+    ensures { (number : Card → List ℕ) (second : ℕ) → second < 2 ^ 32 → (e : Entering) → e.at.second ≡ second
+        → (ending : Ending) (noted : ℕ) (cabin : Cabin) (before accepted left : Crew) → IsLow ending →
+        AreNamed number ending e noted cabin before accepted left
+        → TellEvents number (notes_by ending e noted cabin)
+        (events_by ending e.speed e.at.second before accepted left) }
 {}
 
-/// An accepted card brings what the run says of it as it is judged: that the vehicle moved, and that its session was not closed.
+/// An accepted card brings what the run says of it as it is judged: that the vehicle moved, and that its session was
+/// not closed.
 pub fn what_an_accepted_card_brings_is_what_is_judged()
     ensures { (session : ℕ) (t : Tearing) (x : Seen) (v : Visit) (replayed : ℕ) →
-        moving_events x.told.second.speed (number_of x) (crew_judged t x v (Some v.card)) ++ unclosed_events session (number_of x) (crew_judged t x v (Some v.card)) ≡ judged_notes session t x v (Accepted replayed) }
+        moving_events x.told.second.speed (number_of x) (crew_judged t x v (Some v.card))
+        ++ unclosed_events session (number_of x) (crew_judged t x v (Some v.card))
+        ≡ judged_notes session t x v (Accepted replayed) }
 {}

@@ -2,7 +2,8 @@ ghost use Rattle.recorder_with_cards.specs.EnteredRings.{AcceptWrites};
 
 use tach_media::{Chip, Medium};
 
-/// A card that entered has its insertion in the ring of the unit, or nothing was written there, whatever else was noted.
+/// A card that entered has its insertion in the ring of the unit, or nothing was written there, whatever else was
+/// noted.
 pub fn what_accept_writes_in_the_rings<M: Medium, N: Medium, C: Chip, D: Chip>(
     unit: &M,
     unit_after: &N,

@@ -45,8 +45,10 @@ pub(crate) fn insert<M: Medium, C: Chip, D: Chip>(
     requires lit { run.old.power ≡ Lit }
     requires low { first_second ≤ run.old.next }
     requires small { run.old.next ≤ end_of_seconds }
-    requires held { CanBeCut (run.old.next / 60) run.old (M.state unit.old) (C.card card_a.old) (D.card card_b.old) (C.state card_a.old) (D.state card_b.old) }
-    requires going { RunHasPowerAllSeated (run.old.next / 60) run.old (M.state unit.old) (C.card card_a.old) (D.card card_b.old) (C.state card_a.old) (D.state card_b.old) }
+    requires held { CanBeCut (run.old.next / 60) run.old (M.state unit.old) (C.card card_a.old) (D.card card_b.old)
+        (C.state card_a.old) (D.state card_b.old) }
+    requires going { RunHasPowerAllSeated (run.old.next / 60) run.old (M.state unit.old) (C.card card_a.old)
+        (D.card card_b.old) (C.state card_a.old) (D.state card_b.old) }
     requires at { at.second ≡ run.old.next }
     requires empty { seat_in run.old.keeper.cabin.slots.seats slot ≡ None }
     requires elsewhere { is_card (seat_in run.old.keeper.cabin.slots.seats (other_slot slot)) card ≡ false }
@@ -54,24 +56,53 @@ pub(crate) fn insert<M: Medium, C: Chip, D: Chip>(
     requires breaks { length outcome.old.breaks.items + falls_of run.old.keeper.cabin + 1 ≤ outcome.old.breaks.room }
     requires finds { length outcome.old.finds.items < outcome.old.finds.room }
     ensures inserted { IsInserted slot card at speed (is_err result) run.old run.new outcome.old outcome.new }
-    ensures held { CanBeCut (run.new.next / 60) run.new (M.state unit.new) (C.card card_a.new) (D.card card_b.new) (C.state card_a.new) (D.state card_b.new) }
-    ensures going { OnOk result (RunHasPowerAllSeated (run.new.next / 60) run.new (M.state unit.new) (C.card card_a.new) (D.card card_b.new) (C.state card_a.new) (D.state card_b.new)) }
-    ensures only { run.new ≡ record run.old { minutes = run.new.minutes; keeper = run.new.keeper; noted = run.new.noted } }
+    ensures held { CanBeCut (run.new.next / 60) run.new (M.state unit.new) (C.card card_a.new) (D.card card_b.new)
+        (C.state card_a.new) (D.state card_b.new) }
+    ensures going { OnOk result (RunHasPowerAllSeated (run.new.next / 60) run.new (M.state unit.new) (C.card card_a.new)
+        (D.card card_b.new) (C.state card_a.new) (D.state card_b.new)) }
+    ensures only { run.new ≡ record run.old {
+      minutes = run.new.minutes;
+      keeper = run.new.keeper;
+      noted = run.new.noted;
+    } }
     ensures refused { outcome.new.refused ≡ outcome.old.refused }
     ensures takes { Takes 1 1 0 run.old run.new outcome.old outcome.new }
-    ensures recorded { at.late ≡ false → length outcome.old.marks.items + 3 * run.old.minutes.owing + MOST_OWED ≤ outcome.old.marks.room → RecordsAction (Insert slot card) at.begun speed (is_err result) run.old run.new outcome.old outcome.new (devices (M.state unit.old) (C.state card_a.old) (D.state card_b.old)) (devices (M.state unit.new) (C.state card_a.new) (D.state card_b.new)) }
-    ensures evented { at.late ≡ false → length outcome.old.marks.items + 3 * run.old.minutes.owing + MOST_OWED ≤ outcome.old.marks.room → EventsAction (Insert slot card) at.begun speed (is_err result) run.old run.new outcome.old outcome.new (devices (M.state unit.old) (C.state card_a.old) (D.state card_b.old)) (devices (M.state unit.new) (C.state card_a.new) (D.state card_b.new)) }
-    ensures ringed { at.late ≡ false → length outcome.old.marks.items + 3 * run.old.minutes.owing + MOST_OWED ≤ outcome.old.marks.room → RingsAction (Insert slot card) at.begun speed (is_err result) run.old run.new outcome.old outcome.new (devices (M.state unit.old) (C.state card_a.old) (D.state card_b.old)) (devices (M.state unit.new) (C.state card_a.new) (D.state card_b.new)) }
+    ensures recorded { at.late ≡ false
+        → length outcome.old.marks.items + 3 * run.old.minutes.owing + MOST_OWED ≤ outcome.old.marks.room
+        → RecordsAction (Insert slot card) at.begun speed (is_err result) run.old run.new outcome.old outcome.new
+        (devices (M.state unit.old) (C.state card_a.old) (D.state card_b.old))
+        (devices (M.state unit.new) (C.state card_a.new) (D.state card_b.new)) }
+    ensures evented { at.late ≡ false
+        → length outcome.old.marks.items + 3 * run.old.minutes.owing + MOST_OWED ≤ outcome.old.marks.room
+        → EventsAction (Insert slot card) at.begun speed (is_err result) run.old run.new outcome.old outcome.new
+        (devices (M.state unit.old) (C.state card_a.old) (D.state card_b.old))
+        (devices (M.state unit.new) (C.state card_a.new) (D.state card_b.new)) }
+    ensures ringed { at.late ≡ false
+        → length outcome.old.marks.items + 3 * run.old.minutes.owing + MOST_OWED ≤ outcome.old.marks.room
+        → RingsAction (Insert slot card) at.begun speed (is_err result) run.old run.new outcome.old outcome.new
+        (devices (M.state unit.old) (C.state card_a.old) (D.state card_b.old))
+        (devices (M.state unit.new) (C.state card_a.new) (D.state card_b.new)) }
     // What the cards show of their events goes on with that.
-    ensures cards { at.late ≡ false → length outcome.old.marks.items + 3 * run.old.minutes.owing + MOST_OWED ≤ outcome.old.marks.room → CardsAction (Insert slot card) at.begun speed (is_err result) run.old outcome.old outcome.new (devices (M.state unit.old) (C.state card_a.old) (D.state card_b.old)) (devices (M.state unit.new) (C.state card_a.new) (D.state card_b.new)) }
-    ensures rings { is_some (M.state unit.old).image ≡ true → RingsInserting slot card at speed (is_err result) run.old run.new outcome.old outcome.new (M.state unit.old) (M.state unit.new) }
-    ensures noted { NotesInserting slot card at speed (is_err result) run.old run.new outcome.old outcome.new (devices (M.state unit.old) (C.state card_a.old) (D.state card_b.old)) (devices (M.state unit.new) (C.state card_a.new) (D.state card_b.new)) }
+    ensures cards { at.late ≡ false
+        → length outcome.old.marks.items + 3 * run.old.minutes.owing + MOST_OWED ≤ outcome.old.marks.room
+        → CardsAction (Insert slot card) at.begun speed (is_err result) run.old outcome.old outcome.new
+        (devices (M.state unit.old) (C.state card_a.old) (D.state card_b.old))
+        (devices (M.state unit.new) (C.state card_a.new) (D.state card_b.new)) }
+    ensures rings { is_some (M.state unit.old).image ≡ true
+        → RingsInserting slot card at speed (is_err result) run.old run.new outcome.old outcome.new (M.state unit.old)
+        (M.state unit.new) }
+    ensures noted { NotesInserting slot card at speed (is_err result) run.old run.new outcome.old outcome.new
+        (devices (M.state unit.old) (C.state card_a.old) (D.state card_b.old))
+        (devices (M.state unit.new) (C.state card_a.new) (D.state card_b.new)) }
     ensures clock { (M.state unit.old).clock ≤ (M.state unit.new).clock }
     ensures clock_a { (C.state card_a.old).clock ≤ (C.state card_a.new).clock }
     ensures clock_b { (D.state card_b.old).clock ≤ (D.state card_b.new).clock }
     ensures cause { HasCause (M.state unit.old) (M.state unit.new) (is_err result) }
-    ensures later { AreLater (devices (M.state unit.old) (C.state card_a.old) (D.state card_b.old)) (devices (M.state unit.new) (C.state card_a.new) (D.state card_b.new)) }
-    ensures calm { AreCalm outcome.old.breaks.items outcome.new.breaks.items (devices (M.state unit.old) (C.state card_a.old) (D.state card_b.old)) (devices (M.state unit.new) (C.state card_a.new) (D.state card_b.new)) }
+    ensures later { AreLater (devices (M.state unit.old) (C.state card_a.old) (D.state card_b.old))
+        (devices (M.state unit.new) (C.state card_a.new) (D.state card_b.new)) }
+    ensures calm { AreCalm outcome.old.breaks.items outcome.new.breaks.items
+        (devices (M.state unit.old) (C.state card_a.old) (D.state card_b.old))
+        (devices (M.state unit.new) (C.state card_a.new) (D.state card_b.new)) }
 {
     run.keeper.cabin.put_in(slot, card);
     settle(run, at, unit, card_a, card_b, outcome)?;

@@ -1,6 +1,6 @@
-//! Recording a trace on the devices (profile): the unit keeps each decided minute, and each card its entries, whatever calls on
-//! them fail; and an outcome tells which minutes were acknowledged, where power was lost or a card torn out, what was found of the
-//! cards, and which actions were refused.
+//! Recording a trace on the devices (profile): the unit keeps each decided minute, and each card its entries, whatever
+//! calls on them fail; and an outcome tells which minutes were acknowledged, where power was lost or a card torn out,
+//! what was found of the cards, and which actions were refused.
 #![tactic(auto)]
 
 mod accepting;

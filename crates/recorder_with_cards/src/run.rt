@@ -32,10 +32,10 @@ use trace_text::{Item, Items, Trace};
 ///
 /// # Errors
 ///
-/// In the opening, before any write: `MediumFault` only where that device failed, `BadUnit` with the place of the first field that
-/// fails, `ClockBack` where the minute of the first second is not later than the last-kept minute, and `SameCard` where both cards are
-/// valid and have this number. Later only `BadUnit` and `ClockBack`, of a unit that is read anew at a power-on: no failed call is an
-/// error.
+/// In the opening, before any write: `MediumFault` only where that device failed, `BadUnit` with the place of the first
+/// field that fails, `ClockBack` where the minute of the first second is not later than the last-kept minute, and
+/// `SameCard` where both cards are valid and have this number. Later only `BadUnit` and `ClockBack`, of a unit that is
+/// read anew at a power-on: no failed call is an error.
 pub fn run_trace<U: Medium, C: Chip>(
     trace: &Trace,
     unit: &mut U,
@@ -49,21 +49,40 @@ pub fn run_trace<U: Medium, C: Chip>(
     requires card_a { LARGEST_IMAGE ≤ (C.state card_a.old).size }
     requires card_b { LARGEST_IMAGE ≤ (C.state card_b.old).size }
     // THE CRASH-SAFETY THEOREM: over devices that began with these images alone all is recorded that a run promises.
-    ensures recorded { (x a b : List ℕ) → BeginAs x a b (devices (U.state unit.old) (C.state card_a.old) (C.state card_b.old)) → HaveTime (devices (U.state unit.new) (C.state card_a.new) (C.state card_b.new)) → length trace.now.items ≤ largest_number
-        → OnOk result (EndsTrace x a b trace.now.start trace.now.items outcome.new (devices (U.state unit.old) (C.state card_a.old) (C.state card_b.old)) (devices (U.state unit.new) (C.state card_a.new) (C.state card_b.new))) }
-    // A run that is recorded could begin, and what keeps one from being recorded is in these images, or a call has failed in the opening.
-    ensures begun { (x a b : List ℕ) → BeginAs x a b (devices (U.state unit.old) (C.state card_a.old) (C.state card_b.old)) → OnOk result (MayRecord x a b trace.now.start) }
-    ensures fault { (x a b : List ℕ) → BeginAs x a b (devices (U.state unit.old) (C.state card_a.old) (C.state card_b.old)) → HaveTime (devices (U.state unit.new) (C.state card_a.new) (C.state card_b.new)) → length trace.now.items ≤ largest_number
-        → IfErr result (λ fault. IsKeptFrom x a b trace.now.start (devices (U.state unit.old) (C.state card_a.old) (C.state card_b.old)) (devices (U.state unit.new) (C.state card_a.new) (C.state card_b.new)) fault × (outcome.new ≡ outcome.old)) }
-    ensures refused { IfErr result (IsRefusedBy trace.now.start outcome.old outcome.new (U.state unit.old) (U.state unit.new) (C.state card_a.old) (C.state card_a.new) (C.state card_b.old) (C.state card_b.new)) }
+    ensures recorded { (x a b : List ℕ)
+        → BeginAs x a b (devices (U.state unit.old) (C.state card_a.old) (C.state card_b.old))
+        → HaveTime (devices (U.state unit.new) (C.state card_a.new) (C.state card_b.new))
+        → length trace.now.items ≤ largest_number
+        → OnOk result (EndsTrace x a b trace.now.start trace.now.items outcome.new
+        (devices (U.state unit.old) (C.state card_a.old) (C.state card_b.old))
+        (devices (U.state unit.new) (C.state card_a.new) (C.state card_b.new))) }
+    // A run that is recorded could begin, and what keeps one from being recorded is in these images, or a call has
+    // failed in the opening.
+    ensures begun { (x a b : List ℕ)
+        → BeginAs x a b (devices (U.state unit.old) (C.state card_a.old) (C.state card_b.old))
+        → OnOk result (MayRecord x a b trace.now.start) }
+    ensures fault { (x a b : List ℕ)
+        → BeginAs x a b (devices (U.state unit.old) (C.state card_a.old) (C.state card_b.old))
+        → HaveTime (devices (U.state unit.new) (C.state card_a.new) (C.state card_b.new))
+        → length trace.now.items ≤ largest_number
+        → IfErr result (λ fault. IsKeptFrom x a b trace.now.start
+        (devices (U.state unit.old) (C.state card_a.old) (C.state card_b.old))
+        (devices (U.state unit.new) (C.state card_a.new) (C.state card_b.new)) fault × (outcome.new ≡ outcome.old)) }
+    ensures refused { IfErr result (IsRefusedBy trace.now.start outcome.old outcome.new (U.state unit.old)
+        (U.state unit.new) (C.state card_a.old) (C.state card_a.new) (C.state card_b.old) (C.state card_b.new)) }
     ensures unit { IsUnit (U.state unit.new) }
-    ensures later { AreAfter (devices (U.state unit.old) (C.state card_a.old) (C.state card_b.old)) (devices (U.state unit.new) (C.state card_a.new) (C.state card_b.new)) }
+    ensures later { AreAfter (devices (U.state unit.old) (C.state card_a.old) (C.state card_b.old))
+        (devices (U.state unit.new) (C.state card_a.new) (C.state card_b.new)) }
     // Each cut that a failed call made is a breakdown of the unit more, whatever it tells.
     ensures broke { HasBroken (U.state unit.old) (U.state unit.new) (length (cuts true (log_of outcome.new))) }
-    // And each breakdown has its cut: where no failed call has cut the power of a run that is recorded, the unit has not broken down.
-    ensures calm { OnOk result (cuts true (log_of outcome.new) ≡ [] → (U.state unit.new).breakdowns ≡ (U.state unit.old).breakdowns) }
+    // And each breakdown has its cut: where no failed call has cut the power of a run that is recorded, the unit has
+    // not broken down.
+    ensures calm { OnOk result (cuts true (log_of outcome.new) ≡ []
+        → (U.state unit.new).breakdowns ≡ (U.state unit.old).breakdowns) }
     // The same of the cards: where no failed call has torn one out, neither has broken down.
-    ensures still { OnOk result (tears true (log_of outcome.new) ≡ [] → ((C.state card_a.new).breakdowns ≡ (C.state card_a.old).breakdowns) × ((C.state card_b.new).breakdowns ≡ (C.state card_b.old).breakdowns)) }
+    ensures still { OnOk result (tears true (log_of outcome.new) ≡ []
+        → ((C.state card_a.new).breakdowns ≡ (C.state card_a.old).breakdowns)
+        × ((C.state card_b.new).breakdowns ≡ (C.state card_b.old).breakdowns)) }
 {
     card_a.holds_bytes();
     card_b.holds_bytes();
@@ -115,17 +134,33 @@ fn go_on<M: Medium, C: Chip, D: Chip>(
     requires last { to ≤ length items.now }
     requires item { InRange item }
     requires small { run.old.next + item_seconds item ≤ end_of_seconds }
-    requires room { HasRoom run.old outcome.old (item_seconds item) (off_count item) (insertions_in from to items.now) (to - from) }
-    requires going { IsBetweenSeconds run.old (M.state unit.old) (C.card card_a.old) (D.card card_b.old) (C.state card_a.old) (D.state card_b.old) }
+    requires room { HasRoom run.old outcome.old (item_seconds item) (off_count item) (insertions_in from to items.now)
+        (to - from) }
+    requires going { IsBetweenSeconds run.old (M.state unit.old) (C.card card_a.old) (D.card card_b.old)
+        (C.state card_a.old) (D.state card_b.old) }
     requires unfound { run.old.unfound ≤ length outcome.old.breaks.items }
-    ensures ringed { length (actions_in (between from to items.now)) ≡ to - from → RingsItem result item (actions_in (between from to items.now)) run.old run.new outcome.old outcome.new (devices (M.state unit.old) (C.state card_a.old) (D.state card_b.old)) (devices (M.state unit.new) (C.state card_a.new) (D.state card_b.new)) }
-    ensures cards { length (actions_in (between from to items.now)) ≡ to - from → CardsItem result item (actions_in (between from to items.now)) run.old run.new outcome.old outcome.new (devices (M.state unit.old) (C.state card_a.old) (D.state card_b.old)) (devices (M.state unit.new) (C.state card_a.new) (D.state card_b.new)) }
-    ensures time { HaveTime (devices (M.state unit.new) (C.state card_a.new) (D.state card_b.new)) → HaveTime (devices (M.state unit.old) (C.state card_a.old) (D.state card_b.old)) }
-    ensures later { AreAfter (devices (M.state unit.old) (C.state card_a.old) (D.state card_b.old)) (devices (M.state unit.new) (C.state card_a.new) (D.state card_b.new)) }
-    ensures calm { AreCalm outcome.old.breaks.items outcome.new.breaks.items (devices (M.state unit.old) (C.state card_a.old) (D.state card_b.old)) (devices (M.state unit.new) (C.state card_a.new) (D.state card_b.new)) }
-    ensures gone { HasGone result (item_seconds item) run.old run.new outcome.new (M.state unit.new) (C.card card_a.new) (D.card card_b.new) (C.state card_a.new) (D.state card_b.new) }
+    ensures ringed { length (actions_in (between from to items.now)) ≡ to - from
+        → RingsItem result item (actions_in (between from to items.now)) run.old run.new outcome.old outcome.new
+        (devices (M.state unit.old) (C.state card_a.old) (D.state card_b.old))
+        (devices (M.state unit.new) (C.state card_a.new) (D.state card_b.new)) }
+    ensures cards { length (actions_in (between from to items.now)) ≡ to - from
+        → CardsItem result item (actions_in (between from to items.now)) run.old run.new outcome.old outcome.new
+        (devices (M.state unit.old) (C.state card_a.old) (D.state card_b.old))
+        (devices (M.state unit.new) (C.state card_a.new) (D.state card_b.new)) }
+    ensures time { HaveTime (devices (M.state unit.new) (C.state card_a.new) (D.state card_b.new))
+        → HaveTime (devices (M.state unit.old) (C.state card_a.old) (D.state card_b.old)) }
+    ensures later { AreAfter (devices (M.state unit.old) (C.state card_a.old) (D.state card_b.old))
+        (devices (M.state unit.new) (C.state card_a.new) (D.state card_b.new)) }
+    ensures calm { AreCalm outcome.old.breaks.items outcome.new.breaks.items
+        (devices (M.state unit.old) (C.state card_a.old) (D.state card_b.old))
+        (devices (M.state unit.new) (C.state card_a.new) (D.state card_b.new)) }
+    ensures gone { HasGone result (item_seconds item) run.old run.new outcome.new (M.state unit.new) (C.card card_a.new)
+        (D.card card_b.new) (C.state card_a.new) (D.state card_b.new) }
     ensures idle { OnOk result (has_seconds item ≡ false → (run.new ≡ run.old) × (outcome.new ≡ outcome.old)) }
-    ensures room { (left offs insertions actions : ℕ) → HasRoom run.old outcome.old (item_seconds item + left) (off_count item + offs) (insertions_in from to items.now + insertions) (to - from + actions) → OnOk result (has_seconds item ≡ true → HasRoom run.new outcome.new left offs insertions actions) }
+    ensures room { (left offs insertions actions : ℕ)
+        → HasRoom run.old outcome.old (item_seconds item + left) (off_count item + offs)
+        (insertions_in from to items.now + insertions) (to - from + actions)
+        → OnOk result (has_seconds item ≡ true → HasRoom run.new outcome.new left offs insertions actions) }
     ensures broke { BreaksDown outcome.old.breaks.items outcome.new.breaks.items (M.state unit.old) (M.state unit.new) }
 {
     match item {

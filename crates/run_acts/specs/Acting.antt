@@ -1,5 +1,6 @@
 -- What the actions of a second do that need no card to be judged, by value (profile).
-use Rattle.std.specs.Prelude.{◌≡◌, ◌⊎◌, ℕ, ◌+◌, Bool, true, false, Option, Some, None, IfSome, is_some, List, [], ◌∷◌, ◌++◌}
+use Rattle.std.specs.Prelude.{◌≡◌, ◌⊎◌, ℕ, ◌+◌, Bool, true, false, Option, Some, None, IfSome, is_some, List, [], ◌∷◌}
+use Rattle.std.specs.Prelude.{◌++◌}
 use Rattle.activity_codec.specs.declared.values.Slot.{Slot}
 use Rattle.trace_model.specs.declared.Card.{Card}
 use Rattle.minute_model.specs.declared.Minute.{Minute}
@@ -71,7 +72,8 @@ IsClosingOf (Some session) Closed = Unit {0}
 IsClosingOf (Some session) Fell = Unit {0}
 
 -- the session of a card that has left its slot is closed: what is left of a run, and its breaks
-pub record IsClosed (card : Card) (slot : Slot) (at : Moment) (old new : Run) (breaks after : Listed Break) (closing : Closing) : Type 0 where
+pub record IsClosed (card : Card) (slot : Slot) (at : Moment) (old new : Run) (breaks after : Listed Break)
+    (closing : Closing) : Type 0 where
   pub is : IsClosingOf (session_of old.keeper.cabin.cards card) closing
   pub run : new ≡ with_cabin (closed_cabin closing card at.second old.keeper.cabin) old
   pub told : after ≡ with_lines (closed_breaks closing slot at) breaks
@@ -81,7 +83,8 @@ abbrev pub left_run : Slot → (second : ℕ) → Run → Run
 left_run slot second run = with_cabin (with_slot_left slot second run.keeper.cabin) run
 
 -- A CARD IS WITHDRAWN: it has left its slot, and the minutes before are kept; then its session is closed.
-pub record IsClosedBehind (card : Card) (slot : Slot) (at : Moment) (old new : Run) (before after : Outcome) : Type 0 where
+pub record IsClosedBehind (card : Card) (slot : Slot) (at : Moment) (old new : Run) (before after : Outcome) : Type
+    0 where
   pub between : Run
   pub told : Outcome
   pub settled_first : IsSettled at false (left_run slot at.second old) between before told
@@ -90,10 +93,12 @@ pub record IsClosedBehind (card : Card) (slot : Slot) (at : Moment) (old new : R
   pub outcome : after ≡ record told { breaks = after.breaks }
 
 -- there was none in the slot; or it failed in the keeping of the minutes before, or only then
-abbrev pub IsWithdrawn : Option Card → Slot → Moment → (failed : Bool) → (old new : Run) → (before after : Outcome) → Type 0
+abbrev pub IsWithdrawn : Option Card → Slot → Moment → (failed : Bool) → (old new : Run) → (before after : Outcome)
+    → Type 0
 IsWithdrawn None slot at failed old new before after = (new ≡ old) × (after ≡ before)
 IsWithdrawn (Some card) slot at failed old new before after =
-    ((failed ≡ true) × IsSettled at true (left_run slot at.second old) new before after) ⊎ IsClosedBehind card slot at old new before after
+    ((failed ≡ true) × IsSettled at true (left_run slot at.second old) new before after)
+    ⊎ IsClosedBehind card slot at old new before after
 
 -- ---- a card is pulled out, or fails
 
@@ -123,12 +128,15 @@ abbrev pub falls_by : (fell : Bool) → ℕ
 falls_by false = 0
 falls_by true = 1
 
-pub record IsNotedOn (card : Card) (slot : Slot) (at : Moment) (old new : Run) (breaks after : Listed Break) (fell : Bool) : Type 0 where
+pub record IsNotedOn (card : Card) (slot : Slot) (at : Moment) (old new : Run) (breaks after : Listed Break)
+    (fell : Bool) : Type 0 where
   pub run : new ≡ noted_run fell card at.second old
   pub told : after ≡ with_lines (noted_breaks fell slot at) breaks
 
--- A PLACE IS NOTED for the card of a slot, where there is one: on the unit, which may have failed, and on the card, which may fall
-abbrev pub IsPlaced : Option Card → Slot → Moment → (old new : Run) → (breaks after : Listed Break) → (fell : Bool) → Type 0
+-- A PLACE IS NOTED for the card of a slot, where there is one: on the unit, which may have failed, and on the card,
+-- which may fall
+abbrev pub IsPlaced : Option Card → Slot → Moment → (old new : Run) → (breaks after : Listed Break) → (fell : Bool)
+    → Type 0
 IsPlaced None slot at old new breaks after fell = (new ≡ old) × (after ≡ breaks)
 IsPlaced (Some card) slot at old new breaks after fell = IsNotedOn card slot at old new breaks after fell
 
@@ -137,6 +145,8 @@ abbrev pub now_moment : Run → Moment
 now_moment run = record { second = run.next; begun = 0; late = false }
 
 -- IT IS NOTED ON THE CARD OF A SLOT, where there is one that is accepted, which alone may fall
-abbrev pub IsNotedIn : Option Card → Slot → Moment → (old new : Run) → (breaks after : Listed Break) → (fell : Bool) → Type 0
+abbrev pub IsNotedIn : Option Card → Slot → Moment → (old new : Run) → (breaks after : Listed Break) → (fell : Bool)
+    → Type 0
 IsNotedIn None slot at old new breaks after fell = (new ≡ old) × (after ≡ breaks) × (fell ≡ false)
-IsNotedIn (Some card) slot at old new breaks after fell = IsNotedOn card slot at old new breaks after fell × (fell ≡ true → is_some (session_of old.keeper.cabin.cards card) ≡ true)
+IsNotedIn (Some card) slot at old new breaks after fell = IsNotedOn card slot at old new breaks after fell
+    × (fell ≡ true → is_some (session_of old.keeper.cabin.cards card) ≡ true)

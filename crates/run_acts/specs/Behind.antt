@@ -27,19 +27,26 @@ abbrev pub IsPoweredOrOff : (failed : Bool) → Found → RunLedger → Cards �
 IsPoweredOrOff false f w cards d = DevicesPowered f w cards d
 IsPoweredOrOff true f w cards d = DevicesUnpowered f w d
 
--- A CARD IS WITHDRAWN: these minutes are kept, and then its session is closed, so that unit and cards are as the book says that has these
--- minutes, and the card is not accepted any more, and so much was travelled; or the unit failed in the keeping, or in a note behind.
-abbrev pub IsWithdrawnTo : Found → (start : ℕ) → RunLedger → Keeper → Card → (failed : Bool) → Reach → Option Closing → Travel → KeepingState → Devices → Type 0
+-- A CARD IS WITHDRAWN: these minutes are kept, and then its session is closed, so that unit and cards are as the book
+-- says that has these minutes, and the card is not accepted any more, and so much was travelled; or the unit failed in
+-- the keeping, or in a note behind.
+abbrev pub IsWithdrawnTo : Found → (start : ℕ) → RunLedger → Keeper → Card → (failed : Bool) → Reach → Option Closing
+    → Travel → KeepingState → Devices → Type 0
 IsWithdrawnTo f start w k card false (Whole xs) (Some closing) g u e =
-    AreBooked f (carried_closed closing card (carried_by k xs w)) u.keeper.cabin.cards u.marks.items e × HasTravelled start (carried_by k xs w).book (all_travelled (map (λ (x : Done). x.minute) xs) g) e.unit
+    AreBooked f (carried_closed closing card (carried_by k xs w)) u.keeper.cabin.cards u.marks.items e
+    × HasTravelled start (carried_by k xs w).book (all_travelled (map (λ (x : Done). x.minute) xs) g) e.unit
 IsWithdrawnTo f start w k card true (Whole xs) (Some closing) g u e =
-    DevicesUnpowered f (carried_closed closing card (carried_by k xs w)) e × HasTravelled start (carried_by k xs w).book (all_travelled (map (λ (x : Done). x.minute) xs) g) e.unit
+    DevicesUnpowered f (carried_closed closing card (carried_by k xs w)) e
+    × HasTravelled start (carried_by k xs w).book (all_travelled (map (λ (x : Done). x.minute) xs) g) e.unit
 IsWithdrawnTo f start w k card true (Short xs m round) None g u e = EndsAll f start w k true (Short xs m round) g u e
 IsWithdrawnTo f start w k card false (Whole xs) None g u e = ⊥
 IsWithdrawnTo f start w k card false (Short xs m round) closing g u e = ⊥
 IsWithdrawnTo f start w k card true (Whole xs) None g u e = ⊥
 IsWithdrawnTo f start w k card true (Short xs m round) (Some closing) g u e = ⊥
 
-abbrev pub BooksWithdrawn : Card → List Minute → (failed : Bool) → Reach → Option Closing → (t u : KeepingState) → (d e : Devices) → Type 0
-BooksWithdrawn card decided failed reach closing t u d e = (f : Found) (w : RunLedger) (start : ℕ) (g : Travel) → MayBookAll f w decided t d → HasTravelled start w.book g d.unit → t.keeper.odometer ≡ odometer_after start g.before → HaveTime e
+abbrev pub BooksWithdrawn : Card → List Minute → (failed : Bool) → Reach → Option Closing → (t u : KeepingState)
+    → (d e : Devices) → Type 0
+BooksWithdrawn card decided failed reach closing t u d e = (f : Found) (w : RunLedger) (start : ℕ) (g : Travel)
+    → MayBookAll f w decided t d → HasTravelled start w.book g d.unit
+    → t.keeper.odometer ≡ odometer_after start g.before → HaveTime e
     → IsWithdrawnTo f start w t.keeper card failed reach closing g u e

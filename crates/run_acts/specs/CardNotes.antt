@@ -15,15 +15,19 @@ use Rattle.run_crew.specs.declared.cards.Cards.{Cards}
 use Rattle.run_crew.specs.Cards.{session_of}
 use Rattle.run_insertion.specs.CardEvents.{NotesOnCard}
 
--- A CARD BEHIND SOME NOTES: without a session it may leave no image that it might not have left before; else these events are noted on it, and where the unit failed, or it has fallen, they
--- may have been cut short.
-abbrev pub NotesOn : (failed : Bool) → (session after : Option Accepted) → List CardEvent → (card card_after : State) → Type 0
+-- A CARD BEHIND SOME NOTES: without a session it may leave no image that it might not have left before; else these
+-- events are noted on it, and where the unit failed, or it has fallen, they may have been cut short.
+abbrev pub NotesOn : (failed : Bool) → (session after : Option Accepted) → List CardEvent → (card card_after : State)
+    → Type 0
 NotesOn failed None after events card card_after = (c : List ℕ) → card_after.may_leave c → card.may_leave c
-NotesOn failed (Some a) after events card card_after = NotesOnCard a.session.application events (failed || not (is_some after)) card card_after
+NotesOn failed (Some a) after events card card_after = NotesOnCard a.session.application events
+    (failed || not (is_some after)) card card_after
 
 -- so is each card
-abbrev pub NotesOnCards : (failed : Bool) → (cards after : Cards) → (events : Card → List CardEvent) → (d e : Devices) → Type 0
-NotesOnCards failed cards after events d e = (card : Card) → NotesOn failed (session_of cards card) (session_of after card) (events card) (card_of d card) (card_of e card)
+abbrev pub NotesOnCards : (failed : Bool) → (cards after : Cards) → (events : Card → List CardEvent) → (d e : Devices)
+    → Type 0
+NotesOnCards failed cards after events d e = (card : Card)
+    → NotesOn failed (session_of cards card) (session_of after card) (events card) (card_of d card) (card_of e card)
 
 -- an event on the card of a seat alone
 abbrev pub on_seat : Option Seat → CardEvent → Card → List CardEvent
@@ -32,14 +36,22 @@ on_seat seat event card = if is_card seat card then event ∷ [] else []
 -- an interruption of power as a card has it, if there was one
 abbrev pub gap_on : Option Span → Registration → List CardEvent
 gap_on None registration = []
-gap_on (Some span) registration = record { kind = POWER_INTERRUPTION; begin = record { 0 = span.begin }; end = record { 0 = span.end }; registration = registration } ∷ []
+gap_on (Some span) registration = record {
+  kind = POWER_INTERRUPTION;
+  begin = record { 0 = span.begin };
+  end = record { 0 = span.end };
+  registration = registration;
+} ∷ []
 
 -- ---- the places
 
--- CALLS LEAVE THE PLACES of a card: without a session it may leave no image that it might not have left before; else each has the places of one before
+-- CALLS LEAVE THE PLACES of a card: without a session it may leave no image that it might not have left before; else
+-- each has the places of one before
 abbrev pub LeavesPlaces : (session : Option Accepted) → (card card_after : State) → Type 0
 LeavesPlaces None card card_after = (c : List ℕ) → card_after.may_leave c → card.may_leave c
-LeavesPlaces (Some a) card card_after = (c : List ℕ) → card_after.may_leave c → (x : List ℕ) × card.may_leave x × (file_bytes a.session.application 0x0506 c ≡ file_bytes a.session.application 0x0506 x)
+LeavesPlaces (Some a) card card_after = (c : List ℕ) → card_after.may_leave c
+    → (x : List ℕ) × card.may_leave x
+    × (file_bytes a.session.application 0x0506 c ≡ file_bytes a.session.application 0x0506 x)
 
 -- so they do of each card
 abbrev pub LeavePlaces : Cards → (d e : Devices) → Type 0

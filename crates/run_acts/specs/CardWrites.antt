@@ -1,4 +1,5 @@
--- What an action writes on the card that it is about (profile): a place stands on it, and a card that is withdrawn is closed.
+-- What an action writes on the card that it is about (profile): a place stands on it, and a card that is withdrawn is
+-- closed.
 use Rattle.std.specs.Prelude.{◌≡◌, ◌⊎◌, ◌++◌, ℕ, Bool, true, false, Option, Some, None, IfSome, List}
 use Rattle.activity_codec.specs.declared.values.Activity.{Activity}
 use Rattle.activity_codec.specs.declared.values.Slot.{Slot}
@@ -36,17 +37,21 @@ use Rattle.run_acts.specs.Acting.{Closing, Bare, Closed, Fell, IsSettled, IsClos
 
 -- each image that the card may leave has this place behind those of one that it might have left before
 abbrev pub HasPlace : Application → PlaceEntry → (card card_after : State) → Type 0
-HasPlace app entry card card_after = (c : List ℕ) → card_after.may_leave c → (x : List ℕ) × card.may_leave x × (PointsInside (place_ring app) x → IsPlaceNoted app entry x c)
+HasPlace app entry card card_after = (c : List ℕ) → card_after.may_leave c
+    → (x : List ℕ) × card.may_leave x × (PointsInside (place_ring app) x → IsPlaceNoted app entry x c)
 
 -- or it may have it, where the call failed
 abbrev pub MayHavePlace : Application → PlaceEntry → (card card_after : State) → Type 0
-MayHavePlace app entry card card_after = (c : List ℕ) → card_after.may_leave c → (x : List ℕ) × card.may_leave x × ((c ≡ x) ⊎ IsNotingPlace app entry x c)
+MayHavePlace app entry card card_after = (c : List ℕ) → card_after.may_leave c
+    → (x : List ℕ) × card.may_leave x × ((c ≡ x) ⊎ IsNotingPlace app entry x c)
 
 abbrev pub MayTakePlace : (session : Option Accepted) → PlaceEntry → (card card_after : State) → Type 0
-MayTakePlace session entry card card_after = IfSome session (λ a. MayHavePlace a.session.application entry card card_after)
+MayTakePlace session entry card card_after = IfSome session
+    (λ a. MayHavePlace a.session.application entry card card_after)
 
 -- A PLACE IS NOTED ON A CARD that has a session, and has it still; but where the unit failed before.
-abbrev pub PlaceOn : (session after : Option Accepted) → (failed : Bool) → PlaceEntry → (card card_after : State) → Type 0
+abbrev pub PlaceOn : (session after : Option Accepted) → (failed : Bool) → PlaceEntry → (card card_after : State)
+    → Type 0
 PlaceOn None after failed entry card card_after = Unit {0}
 PlaceOn (Some a) None failed entry card card_after = Unit {0}
 PlaceOn (Some a) (Some still) true entry card card_after = Unit {0}
@@ -60,10 +65,12 @@ ClosesCard Bare session act card card_after = Unit {0}
 ClosesCard Fell session act card card_after = Unit {0}
 ClosesCard Closed None act card card_after = ⊥
 ClosesCard Closed (Some a) act card card_after =
-    (c : List ℕ) → card_after.may_leave c → (x : List ℕ) × (card.image ≡ Some x) × (IsSession a.session x → IsCardClosed a.session act x c)
+    (c : List ℕ) → card_after.may_leave c
+    → (x : List ℕ) × (card.image ≡ Some x) × (IsSession a.session x → IsCardClosed a.session act x c)
 
 -- so it is closed, with what is selected for the next second
-pub record ShutsSo (card : Card) (slot : Slot) (at : Moment) (old new : Run) (breaks after : Listed Break) (state state_after : State) : Type 0 where
+pub record ShutsSo (card : Card) (slot : Slot) (at : Moment) (old new : Run) (breaks after : Listed Break)
+    (state state_after : State) : Type 0 where
   pub closing : Closing
   pub closed : IsClosed card slot at old new breaks after closing
   pub act : Activity
@@ -73,10 +80,12 @@ pub record ShutsSo (card : Card) (slot : Slot) (at : Moment) (old new : Run) (br
 -- each image that a card may leave is one that its session knew, closed
 abbrev pub IsShut : Option Accepted → Activity → (card_after : State) → Type 0
 IsShut None act card_after = ⊥
-IsShut (Some a) act card_after = (c : List ℕ) → card_after.may_leave c → (x : List ℕ) × IsSession a.session x × IsCardClosed a.session act x c
+IsShut (Some a) act card_after = (c : List ℕ) → card_after.may_leave c
+    → (x : List ℕ) × IsSession a.session x × IsCardClosed a.session act x c
 
 -- A WITHDRAWN CARD: the minutes before are kept, and then it is closed, over devices that tell, where it was valid
-pub record ShutsBehind (card : Card) (slot : Slot) (at : Moment) (t : KeepingState) (old new : Run) (after : Outcome) (d e : Devices) : Type 0 where
+pub record ShutsBehind (card : Card) (slot : Slot) (at : Moment) (t : KeepingState) (old new : Run) (after : Outcome)
+    (d e : Devices) : Type 0 where
   pub decided : List Minute
   pub given : (span : Span) → CountsSpan old.minutes span → decided_in (settled span) ≡ decided_in span ++ decided
   pub between : Run
@@ -85,10 +94,14 @@ pub record ShutsBehind (card : Card) (slot : Slot) (at : Moment) (t : KeepingSta
   pub closed : IsClosed card slot at between new told.breaks after.breaks closing
   pub act : Activity
   pub selected : (span : Span) → CountsSpan between.minutes span → act ≡ activity_next slot span
-  pub shut : closing ≡ Closed → (f : Found) (w : RunLedger) (start : ℕ) (g : Travel) → MayBookAll f w decided t d → HasTravelled start w.book g d.unit → t.keeper.odometer ≡ odometer_after start g.before → HaveTime e → IsOwnValid (found_of f card).image
+  pub shut : closing ≡ Closed → (f : Found) (w : RunLedger) (start : ℕ) (g : Travel) → MayBookAll f w decided t d
+      → HasTravelled start w.book g d.unit → t.keeper.odometer ≡ odometer_after start g.before → HaveTime e
+      → IsOwnValid (found_of f card).image
       → IsShut (session_of between.keeper.cabin.cards card) act (card_of e card)
 
 -- or the unit failed in these minutes
-abbrev pub WithdrawsShut : Card → Slot → Moment → (failed : Bool) → (old new : Run) → (before after : Outcome) → (d e : Devices) → Type 0
+abbrev pub WithdrawsShut : Card → Slot → Moment → (failed : Bool) → (old new : Run) → (before after : Outcome)
+    → (d e : Devices) → Type 0
 WithdrawsShut card slot at failed old new before after d e =
-    ((failed ≡ true) × IsSettled at true (left_run slot at.second old) new before after) ⊎ ShutsBehind card slot at (told_of (left_run slot at.second old) before) old new after d e
+    ((failed ≡ true) × IsSettled at true (left_run slot at.second old) new before after)
+    ⊎ ShutsBehind card slot at (told_of (left_run slot at.second old) before) old new after d e

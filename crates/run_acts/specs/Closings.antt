@@ -1,4 +1,5 @@
--- When and where a card sat in the vehicle by what a run notes, and whether it was withdrawn in order (profile); and the notes so far.
+-- When and where a card sat in the vehicle by what a run notes, and whether it was withdrawn in order (profile); and
+-- the notes so far.
 use Rattle.std.specs.Prelude.{ℕ, Option, Some, None, List, [], ◌∷◌, map, filter, take}
 use Rattle.activity_codec.specs.declared.values.Slot.{Slot}
 use Rattle.trace_model.specs.declared.Action.{Action}
@@ -10,7 +11,8 @@ use Rattle.note_model.specs.Noted.{InsertionNote, Note, insertions_of}
 use Rattle.run_note_record.specs.RingsSoFar.{notes_so_far}
 use Rattle.run_record.specs.Within.{Beginning}
 
--- A SPELL of a card in the vehicle: the second and the slot of its acceptance, and the second of its withdrawal, if it was withdrawn in order
+-- A SPELL of a card in the vehicle: the second and the slot of its acceptance, and the second of its withdrawal, if it
+-- was withdrawn in order
 pub record Spell : Type 0 where
   pub second : ℕ
   pub slot : Slot

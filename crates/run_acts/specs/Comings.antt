@@ -1,5 +1,5 @@
--- THE VEHICLE BEFORE of each insertion (profile): what the entries of the ring of insertions of a unit tell of it, one after another, and what calls
--- make of that.
+-- THE VEHICLE BEFORE of each insertion (profile): what the entries of the ring of insertions of a unit tell of it, one
+-- after another, and what calls make of that.
 use Rattle.std.specs.Prelude.{◌≡◌, ◌⊎◌, ℕ, ◌+◌, ◌≤◌, Option, Some, None, List, [], ◌++◌, length, map, replicate}
 use Rattle.card_layout.specs.Fields.{field_at, number_in}
 use Rattle.tach_media.specs.Medium.{State}
@@ -24,7 +24,8 @@ told_of (Some v) = record { registration = v.registration.0; time = v.last_use.0
 abbrev pub vehicles_in : List ℕ → List VehicleTold
 vehicles_in x = map told_in (ring_list insertion_ring x)
 
--- AN IMAGE TELLS MORE of them than another did, these, behind them: only where the ring is full, or lacks one entry, are some gone at its old end
+-- AN IMAGE TELLS MORE of them than another did, these, behind them: only where the ring is full, or lacks one entry,
+-- are some gone at its old end
 pub record TellsMore (more : List VehicleTold) (start x : List ℕ) : Type 0 where
   pub points : PointsInside insertion_ring x
   pub dense : IsDense insertion_ring x
@@ -32,6 +33,8 @@ pub record TellsMore (more : List VehicleTold) (start x : List ℕ) : Type 0 whe
   pub shown : vehicles_in start ++ more ≡ gone ++ vehicles_in x
   pub full : (gone ≡ []) ⊎ (insertion_ring.count ≤ length (ring_list insertion_ring x) + 1)
 
--- CALLS MAKE A UNIT TELL MORE of them: each image that a stop may leave behind them does than one before, of a dense ring
+-- CALLS MAKE A UNIT TELL MORE of them: each image that a stop may leave behind them does than one before, of a dense
+-- ring
 abbrev pub TellMore : List VehicleTold → (old new : State) → Type 0
-TellMore more old new = (y : List ℕ) → new.may_leave y → (x : List ℕ) × old.may_leave x × (PointsInside insertion_ring x → IsDense insertion_ring x → TellsMore more x y)
+TellMore more old new = (y : List ℕ) → new.may_leave y
+    → (x : List ℕ) × old.may_leave x × (PointsInside insertion_ring x → IsDense insertion_ring x → TellsMore more x y)

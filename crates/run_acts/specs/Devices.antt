@@ -7,8 +7,8 @@ use Rattle.run_crew.specs.declared.cards.Cards.{Cards}
 use Rattle.run_minutes.specs.Keeping.{HasLeftMore, tears_of}
 use Rattle.run_minutes.specs.Later.{RestsBy}
 
--- a card, by its session before and behind it: it goes on, and broke down where that was torn out, and nowhere else; without a session it was not
--- written
+-- a card, by its session before and behind it: it goes on, and broke down where that was torn out, and nowhere else;
+-- without a session it was not written
 pub record CardGoesOn (session after : Option Accepted) (old new : State) : Type 0 where
   pub keeps : HasLeftMore old new
   pub clock : old.clock ≤ new.clock

@@ -50,18 +50,24 @@ pub record IsFoundBy (o : Origin) : Type 0 where
   pub first : o.found.unit.first ≡ first_of o
   pub image : (c : Card) → (found_of o.found c).image ≡ card_image o.recording c
   pub start : (c : Card) → (found_of o.found c).start ≡ brought o.recording c
-  pub number : (c : Card) → IsOwnValid (card_image o.recording c) → (found_of o.found c).number ≡ own_number (card_image o.recording c)
+  pub number : (c : Card) → IsOwnValid (card_image o.recording c)
+      → (found_of o.found c).number ≡ own_number (card_image o.recording c)
 
--- A CARD IS THE NEXT that is judged, in this second behind so many of its actions: it waits in its slot, nothing was found of it yet, and the
--- driver's card is judged first; the unit may be called, and there is room for the marks.
-pub record MayJudge (o : Origin) (done : List TraceSecond) (s : TraceSecond) (n : ℕ) (waits fewer : List Visit) (e : Entering) (k : Keeper) (out : Outcome) (unfound next begun : ℕ) (minutes : Kept) (unit card others : State)
-    (w : RecordInSecond o done s (In n) waits None [] (values_with k out unfound next begun minutes) (arranged e.which unit card others)) : Type 0 where
+-- A CARD IS THE NEXT that is judged, in this second behind so many of its actions: it waits in its slot, nothing was
+-- found of it yet, and the driver's card is judged first; the unit may be called, and there is room for the marks.
+pub record MayJudge (o : Origin) (done : List TraceSecond) (s : TraceSecond) (n : ℕ) (waits fewer : List Visit)
+    (e : Entering) (k : Keeper) (out : Outcome) (unfound next begun : ℕ) (minutes : Kept) (unit card others : State)
+    (w : RecordInSecond o done s (In n) waits None [] (values_with k out unfound next begun minutes)
+    (arranged e.which unit card others)) : Type 0 where
   pub origin : IsFoundBy o
   pub moment : e.at ≡ record { second = s.number; begun = n; late = false }
   pub last : e.at.second / 60 < LATEST_MINUTE
-  pub next_ : IsNext o done s (In n) waits fewer (values_with k out unfound next begun minutes) (arranged e.which unit card others) w e.slot e.which
+  pub next_ : IsNext o done s (In n) waits fewer (values_with k out unfound next begun minutes)
+      (arranged e.which unit card others) w e.slot e.which
   pub none : found_in (values_with k out unfound next begun minutes).log s.number (In n) e.slot ≡ []
-  pub order : e.slot ≡ Driver → ((moved_at (values_with k out unfound next begun minutes).log (went w.b.run.log done).before s (In n)).enters CoDriver ≡ false) ⊎ (found_in (values_with k out unfound next begun minutes).log s.number (In n) CoDriver ≡ [])
+  pub order : e.slot ≡ Driver → ((moved_at (values_with k out unfound next begun minutes).log
+      (went w.b.run.log done).before s (In n)).enters CoDriver ≡ false)
+      ⊎ (found_in (values_with k out unfound next begun minutes).log s.number (In n) CoDriver ≡ [])
   pub ready : UnitMayBeCalled k unit
   pub seat : seat_in k.cabin.slots.seats e.slot ≡ Some (record { card = e.which; newest = None })
   pub elsewhere : is_card (seat_in k.cabin.slots.seats (other_slot e.slot)) e.which ≡ false
@@ -69,13 +75,15 @@ pub record MayJudge (o : Origin) (done : List TraceSecond) (s : TraceSecond) (n 
   pub room : length out.marks.items + most_owed ≤ out.marks.room
 
 -- IT ENTERED in this way: what the call says of it
-pub record HasGone (e : Entering) (failed : Bool) (k v : Keeper) (noted noted_after : ℕ) (out after : Outcome) (unit unit_after card card_after others : State) (way : Way) : Type 0 where
+pub record HasGone (e : Entering) (failed : Bool) (k v : Keeper) (noted noted_after : ℕ) (out after : Outcome)
+    (unit unit_after card card_after others : State) (way : Way) : Type 0 where
   pub entered : HasEntered e failed k v noted noted_after out after unit unit_after card card_after way
   pub books : BooksEntered way e failed k v unit unit_after card card_after others
   pub cause : HasCause unit unit_after failed
   pub calm : IsCalm out.breaks.items after.breaks.items card card_after
   -- the card was only read, or it told of no later time
-  pub in_time : LeavesOnly card card_after Unchanged ⊎ IfSome card.image (λ x. (y : List ℕ) × card.may_leave y × ((own_view y).stored ≤ e.at.second))
+  pub in_time : LeavesOnly card card_after Unchanged
+      ⊎ IfSome card.image (λ x. (y : List ℕ) × card.may_leave y × ((own_view y).stored ≤ e.at.second))
 
 -- no clock is at its last value, and the devices are coherent
 pub record AreSound (unit unit_after card card_after : State) : Type 0 where
@@ -85,23 +93,33 @@ pub record AreSound (unit unit_after card card_after : State) : Type 0 where
   pub card_before : IsCoherent card
   pub card_behind : IsCoherent card_after
 
--- THE UNIT HAS FAILED, and power is about to be cut: slots and sessions may be others than those that are recorded, if a cut leaves the same of
--- both.
-pub record IsCut (o : Origin) (done : List TraceSecond) (s : TraceSecond) (n : ℕ) (v : Values) (d : Devices) : Type 0 where
+-- THE UNIT HAS FAILED, and power is about to be cut: slots and sessions may be others than those that are recorded, if
+-- a cut leaves the same of both.
+pub record IsCut (o : Origin) (done : List TraceSecond) (s : TraceSecond) (n : ℕ) (v : Values) (d : Devices) : Type
+    0 where
   pub left : List Visit
   pub cabin : Cabin
   pub same : with_power_lost s.number cabin ≡ with_power_lost s.number v.cabin
   pub within : RecordAtFailure o done s (In n) left None (record v { cabin = cabin }) d
 
 -- BEHIND IT the second goes on, where the others wait; or the unit has failed
-abbrev pub GoesOnOrIsCut : (failed : Bool) → (o : Origin) (done : List TraceSecond) (s : TraceSecond) (n : ℕ) (waits fewer : List Visit) (v later : Values) (d e : Devices) → RecordInSecond o done s (In n) waits None [] v d → Type 0
+abbrev pub GoesOnOrIsCut : (failed : Bool)
+    → (o : Origin) (done : List TraceSecond) (s : TraceSecond) (n : ℕ) (waits fewer : List Visit) (v later : Values)
+    (d e : Devices) → RecordInSecond o done s (In n) waits None [] v d → Type 0
 GoesOnOrIsCut false o done s n waits fewer v later d e w = Behind o done s (In n) waits fewer v later d e w
 GoesOnOrIsCut true o done s n waits fewer v later d e w = IsCut o done s n later e
 
 -- THE LAW, of these devices before and behind the call
 abbrev pub ACardThatEntersIsRecorded : (unit unit_after card card_after others : State) → Type 0
 ACardThatEntersIsRecorded unit unit_after card card_after others =
-    (o : Origin) (done : List TraceSecond) (s : TraceSecond) (n : ℕ) (waits fewer : List Visit) (e : Entering) (k : Keeper) (out : Outcome) (unfound next begun : ℕ) (minutes : Kept) →
-    (w : RecordInSecond o done s (In n) waits None [] (values_with k out unfound next begun minutes) (arranged e.which unit card others)) → MayJudge o done s n waits fewer e k out unfound next begun minutes unit card others w →
-    (failed : Bool) (v : Keeper) (noted noted_after : ℕ) (after : Outcome) (way : Way) → HasGone e failed k v noted noted_after out after unit unit_after card card_after others way → card_after.clock < last_count →
-    GoesOnOrIsCut failed o done s n waits fewer (values_with k out unfound next begun minutes) (values_with v after unfound next begun minutes) (arranged e.which unit card others) (arranged e.which unit_after card_after others) w
+    (o : Origin) (done : List TraceSecond) (s : TraceSecond) (n : ℕ) (waits fewer : List Visit) (e : Entering)
+    (k : Keeper) (out : Outcome) (unfound next begun : ℕ) (minutes : Kept) →
+    (w : RecordInSecond o done s (In n) waits None [] (values_with k out unfound next begun minutes)
+    (arranged e.which unit card others))
+    → MayJudge o done s n waits fewer e k out unfound next begun minutes unit card others w →
+    (failed : Bool) (v : Keeper) (noted noted_after : ℕ) (after : Outcome) (way : Way)
+    → HasGone e failed k v noted noted_after out after unit unit_after card card_after others way
+    → card_after.clock < last_count →
+    GoesOnOrIsCut failed o done s n waits fewer (values_with k out unfound next begun minutes)
+    (values_with v after unfound next begun minutes) (arranged e.which unit card others)
+    (arranged e.which unit_after card_after others) w

@@ -28,30 +28,40 @@ use Rattle.run_acts.specs.NotedEvents.{AreTold}
 
 -- each card that has a session is known by its number
 abbrev pub AreKnownBy : (Card → List ℕ) → Cards → Type 0
-AreKnownBy number cards = (c : Card) → is_some (session_of cards c) ≡ true → card_number_bytes (number_or_no_card (known_of cards c).number) ≡ number c
+AreKnownBy number cards = (c : Card) → is_some (session_of cards c) ≡ true
+    → card_number_bytes (number_or_no_card (known_of cards c).number) ≡ number c
 
--- THE CARDS OF A MOMENT ARE NAMED: the numbers that the slots give are those of the accepted cards that the run has in them.
+-- THE CARDS OF A MOMENT ARE NAMED: the numbers that the slots give are those of the accepted cards that the run has in
+-- them.
 abbrev pub CardsAreNamed : Type 0
-CardsAreNamed = (number : Card → List ℕ) (start : Start) (told : List ToldSecond) (past : List HistoryMinute) (left : List Card) (u from low : ℕ) (leaving : Option Card) (slots : Slots) (cabin : Cabin) →
-    CabinIsSound low leaving cabin → SlotsTell start told past left u from slots cabin.slots → AreKnownBy number cabin.cards → IsCrewOf number (events.crew_of slots) (crew_of cabin)
+CardsAreNamed = (number : Card → List ℕ) (start : Start) (told : List ToldSecond) (past : List HistoryMinute)
+    (left : List Card) (u from low : ℕ) (leaving : Option Card) (slots : Slots) (cabin : Cabin) →
+    CabinIsSound low leaving cabin → SlotsTell start told past left u from slots cabin.slots
+    → AreKnownBy number cabin.cards → IsCrewOf number (events.crew_of slots) (crew_of cabin)
 
 -- Where each card that has a session is known by this number, the crew are these cards.
 abbrev pub AreKnownAs : (Card → FullCardNumber) → Cards → Type 0
 AreKnownAs number cards = (c : Card) → is_some (session_of cards c) ≡ true → (known_of cards c).number ≡ Some (number c)
 
 abbrev pub CrewIsNamed : Type 0
-CrewIsNamed = (number : Card → FullCardNumber) (start : Start) (told : List ToldSecond) (past : List HistoryMinute) (left : List Card) (u from low : ℕ) (leaving : Option Card) (slots : Slots) (cabin : Cabin) →
-    CabinIsSound low leaving cabin → SlotsTell start told past left u from slots cabin.slots → AreKnownAs number cabin.cards → crew_of cabin ≡ named number (events.crew_of slots)
+CrewIsNamed = (number : Card → FullCardNumber) (start : Start) (told : List ToldSecond) (past : List HistoryMinute)
+    (left : List Card) (u from low : ℕ) (leaving : Option Card) (slots : Slots) (cabin : Cabin) →
+    CabinIsSound low leaving cabin → SlotsTell start told past left u from slots cabin.slots
+    → AreKnownAs number cabin.cards → crew_of cabin ≡ named number (events.crew_of slots)
 
 -- So they are behind the tear of the card of a slot, without that.
 abbrev pub CardsAreNamedBehind : Type 0
-CardsAreNamedBehind = (number : Card → List ℕ) (start : Start) (told : List ToldSecond) (past : List HistoryMinute) (left : List Card) (u from low : ℕ) (leaving : Option Card) (slots : Slots) (cabin : Cabin) →
-    CabinIsSound low leaving cabin → SlotsTell start told past left u from slots cabin.slots → AreKnownBy number cabin.cards → (slot : Slot) (card : Card) → is_card (seat_in cabin.slots.seats slot) card ≡ true → (second : ℕ) →
+CardsAreNamedBehind = (number : Card → List ℕ) (start : Start) (told : List ToldSecond) (past : List HistoryMinute)
+    (left : List Card) (u from low : ℕ) (leaving : Option Card) (slots : Slots) (cabin : Cabin) →
+    CabinIsSound low leaving cabin → SlotsTell start told past left u from slots cabin.slots
+    → AreKnownBy number cabin.cards → (slot : Slot) (card : Card)
+    → is_card (seat_in cabin.slots.seats slot) card ≡ true → (second : ℕ) →
     IsCrewOf number (events.with_card slot None (events.crew_of slots)) (crew_of (torn_out card second cabin))
 
 -- WHO HAS A SESSION IS KNOWN: cards with sessions were found valid, and the numbers found are these.
 abbrev pub SessionsAreKnown : Type 0
-SessionsAreKnown = (f : Found) (number : Card → List ℕ) (cards : Cards) → AreFoundCards f cards → ((c : Card) → is_some (session_of cards c) ≡ true → IsOwnValid (found_of f c).image) →
+SessionsAreKnown = (f : Found) (number : Card → List ℕ) (cards : Cards) → AreFoundCards f cards
+    → ((c : Card) → is_some (session_of cards c) ≡ true → IsOwnValid (found_of f c).image) →
     ((c : Card) → IsOwnValid (found_of f c).image → (found_of f c).number ≡ number c) → AreKnownBy number cards
 
 -- the fault of a card that was torn out, where one was, with the cards that are left
@@ -62,4 +72,6 @@ fault_events Fell second crew = noted_with CARD_FAULT second second crew ∷ []
 
 -- what is noted of an entry tells it
 abbrev pub FaultsAreTold : Type 0
-FaultsAreTold = (number : Card → List ℕ) (fate : Fate) (second : ℕ) (cabin : Cabin) (crew : events.Crew) → second < 2 ^ 32 → IsCrewOf number crew (crew_of cabin) → AreTold number (faults_by fate second cabin) (fault_events fate second crew)
+FaultsAreTold = (number : Card → List ℕ) (fate : Fate) (second : ℕ) (cabin : Cabin) (crew : events.Crew)
+    → second < 2 ^ 32 → IsCrewOf number crew (crew_of cabin)
+    → AreTold number (faults_by fate second cabin) (fault_events fate second crew)

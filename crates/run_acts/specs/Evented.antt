@@ -1,6 +1,7 @@
--- What is noted of the events and faults of a run with cards, beside what is recorded of it (Annex IB, section III.12; profile): between two
--- seconds, and within one.
-use Rattle.std.specs.Prelude.{◌≡◌, ◌+◌, ◌-◌, ◌<◌, Bool, true, false, None, List, [], ◌∷◌, ◌++◌, ℕ, suc, length, map, slice_get}
+-- What is noted of the events and faults of a run with cards, beside what is recorded of it (Annex IB, section III.12;
+-- profile): between two seconds, and within one.
+use Rattle.std.specs.Prelude.{◌≡◌, ◌+◌, ◌-◌, ◌<◌, Bool, true, false, None, List, [], ◌∷◌, ◌++◌, ℕ, suc, length, map}
+use Rattle.std.specs.Prelude.{slice_get}
 use Rattle.std.specs.List.{AllByRecursion}
 use Rattle.activity_codec.specs.declared.values.Slot.{Slot}
 use Rattle.trace_model.specs.declared.Action.{Action}
@@ -68,19 +69,22 @@ pub record RunWatches (o : Origin) (span : List Seen) (run : Run) : Type 0 where
   pub watched : IsWatching o span run.watch
 
 -- all that is carried within a second, while there is power
-pub record WithinEvented (o : Origin) (done : List TraceSecond) (s : TraceSecond) (at : Phase) (waits : List Visit) (rest : List Minute) (stage : Stage) (run : Run) (out : Outcome) (d : Devices) : Type 0 where
+pub record WithinEvented (o : Origin) (done : List TraceSecond) (s : TraceSecond) (at : Phase) (waits : List Visit)
+    (rest : List Minute) (stage : Stage) (run : Run) (out : Outcome) (d : Devices) : Type 0 where
   pub within : RunWithin o done s at waits rest run out d
   pub evented : EventedNow o done s within.within.b.run stage (log_of out) d
   pub watches : RunWatches o (span_seen within.within.b.run done s) run
 
 -- and where power was cut in it
-pub record CutEvented (o : Origin) (done : List TraceSecond) (s : TraceSecond) (run : Run) (out : Outcome) (d : Devices) : Type 0 where
+pub record CutEvented (o : Origin) (done : List TraceSecond) (s : TraceSecond) (run : Run) (out : Outcome)
+    (d : Devices) : Type 0 where
   pub cut : RunCut o done s run out d
   pub evented : Evented o (done ++ s ∷ []) (log_of out) run.unfound (suc run.next) IsLost d
   pub limit : run.keeper.memory.limit ≡ limit_in o
 
 -- IN A SECOND, behind so many of its actions
-abbrev pub InSecondEventedBy : (lit : Bool) → Origin → List TraceSecond → TraceSecond → (n : ℕ) → Run → Outcome → Devices → Type 0
+abbrev pub InSecondEventedBy : (lit : Bool) → Origin → List TraceSecond → TraceSecond → (n : ℕ) → Run → Outcome
+    → Devices → Type 0
 InSecondEventedBy true o done s n run out d = WithinEvented o done s (In n) [] [] Acting run out d
 InSecondEventedBy false o done s n run out d = CutEvented o done s run out d
 
@@ -89,17 +93,23 @@ InSecondEvented o done s n run out d = InSecondEventedBy (is_lit run.power) o do
 
 -- ---- what calls say of events
 
--- BEHIND A CALL at a moment of a second that began so, by the log then: its events are noted so far; or, where the unit has failed, they are as
--- the cut leaves them that is told next.
-abbrev pub EventsGoOn : (failed : Bool) → Origin → List TraceSecond → TraceSecond → Progress → (at : Phase) → Stage → RunLog → Devices → Type 0
+-- BEHIND A CALL at a moment of a second that began so, by the log then: its events are noted so far; or, where the unit
+-- has failed, they are as the cut leaves them that is told next.
+abbrev pub EventsGoOn : (failed : Bool) → Origin → List TraceSecond → TraceSecond → Progress → (at : Phase) → Stage
+    → RunLog → Devices → Type 0
 EventsGoOn false o done s p at stage log d = EventedNow o done s p stage log d
-EventsGoOn true o done s p at stage log d = Evented o (done ++ s ∷ []) (and_break log (cut_at s.number true (begun_by s at))) p.unfound (suc p.next) IsLost d
+EventsGoOn true o done s p at stage log d = Evented o (done ++ s ∷ [])
+    (and_break log (cut_at s.number true (begun_by s at))) p.unfound (suc p.next) IsLost d
 
 -- AN ACTION of a second is carried out, which slots and speed do not refuse.
-abbrev pub EventsAction : Action → (begun speed : ℕ) → (failed : Bool) → (old new : Run) → (before after : Outcome) → (d e : Devices) → Type 0
-EventsAction action begun speed failed old new before after d e = (o : Origin) (done : List TraceSecond) (s : TraceSecond) → IsNow s speed old →
-    (front rest : List Action) → s.actions ≡ front ++ action ∷ rest → begun ≡ suc (length front) → refusal (logged old.keeper.cabin.slots.seats) speed action ≡ None →
-    (w : RunWithin o done s (In (length front)) [] [] old before d) → EventedNow o done s w.within.b.run Acting (log_of before) d → HaveTime e →
+abbrev pub EventsAction : Action → (begun speed : ℕ) → (failed : Bool) → (old new : Run) → (before after : Outcome)
+    → (d e : Devices) → Type 0
+EventsAction action begun speed failed old new before after d e = (o : Origin) (done : List TraceSecond)
+    (s : TraceSecond) → IsNow s speed old →
+    (front rest : List Action) → s.actions ≡ front ++ action ∷ rest → begun ≡ suc (length front)
+    → refusal (logged old.keeper.cabin.slots.seats) speed action ≡ None →
+    (w : RunWithin o done s (In (length front)) [] [] old before d)
+    → EventedNow o done s w.within.b.run Acting (log_of before) d → HaveTime e →
     EventsGoOn failed o done s w.within.b.run (In begun) Acting (log_of after) e
 
 -- AS MINUTES ARE KEPT in an action nothing is told of it yet, and no card is accepted in a slot into which it puts one.
@@ -109,9 +119,13 @@ pub record IsUntold (s : TraceSecond) (n : ℕ) (log : RunLog) (cabin : Cabin) :
   pub bare : (slot : Slot) → puts_into slot (slice_get s.actions n) ≡ true → IsBareIn cabin slot
 
 -- THE MINUTES THAT A SETTLING DECIDES were to be kept in an action.
-abbrev pub EventsSettling : (decided : List Minute) → Moment → (failed : Bool) → (old new : Run) → (before after : Outcome) → (d e : Devices) → Type 0
-EventsSettling decided at failed old new before after d e = (o : Origin) (done : List TraceSecond) (s : TraceSecond) (n : ℕ) (waits : List Visit) → at ≡ record { second = s.number; begun = suc n; late = false } →
-    (w : RunWithin o done s (In (suc n)) waits decided (settled_run new.minutes old) before d) → IsUntold s n (log_of before) old.keeper.cabin → EventedNow o done s w.within.b.run Acting (log_of before) d → HaveTime e →
+abbrev pub EventsSettling : (decided : List Minute) → Moment → (failed : Bool) → (old new : Run)
+    → (before after : Outcome) → (d e : Devices) → Type 0
+EventsSettling decided at failed old new before after d e = (o : Origin) (done : List TraceSecond) (s : TraceSecond)
+    (n : ℕ) (waits : List Visit) → at ≡ record { second = s.number; begun = suc n; late = false } →
+    (w : RunWithin o done s (In (suc n)) waits decided (settled_run new.minutes old) before d)
+    → IsUntold s n (log_of before) old.keeper.cabin → EventedNow o done s w.within.b.run Acting (log_of before) d
+    → HaveTime e →
     EventsGoOn failed o done s w.within.b.run (In (suc n)) Acting (log_of after) e
 
 -- the last of these seconds had this speed
@@ -128,10 +142,14 @@ pub record TurnedEvents (o : Origin) (done : List TraceSecond) (run : Run) (out 
 
 -- n seconds with power
 abbrev pub EventsLitTurn : (n speed begun : ℕ) → (old new : Run) → (before after : Outcome) → (d e : Devices) → Type 0
-EventsLitTurn n speed begun old new before after d e = (o : Origin) (done : List TraceSecond) (s : TraceSecond) → IsNow s speed old → length s.actions ≡ begun → (1 < n → (s.actions ≡ []) × LastAt done speed) →
-    WithinEvented o done s (In begun) [] [] Acting old before d → HaveTime e → TurnedEvents o (done ++ s ∷ driven (n - 1) (s.number + 1) speed []) (passed n begun new) after e
+EventsLitTurn n speed begun old new before after d e = (o : Origin) (done : List TraceSecond) (s : TraceSecond)
+    → IsNow s speed old → length s.actions ≡ begun → (1 < n → (s.actions ≡ []) × LastAt done speed) →
+    WithinEvented o done s (In begun) [] [] Acting old before d → HaveTime e
+    → TurnedEvents o (done ++ s ∷ driven (n - 1) (s.number + 1) speed []) (passed n begun new) after e
 
 -- N SECONDS of one minute: more than one come behind one at their speed
 abbrev pub EventsTurn : (n speed begun : ℕ) → (old new : Run) → (before after : Outcome) → (d e : Devices) → Type 0
-EventsTurn n speed begun old new before after d e = (o : Origin) (done : List TraceSecond) (s : TraceSecond) → IsNow s speed old → length s.actions ≡ begun → (1 < n → (s.actions ≡ []) × LastAt done speed) →
-    InSecondEvented o done s begun old before d → HaveTime e → RunEvented o (done ++ s ∷ driven (n - 1) (s.number + 1) speed []) new after e
+EventsTurn n speed begun old new before after d e = (o : Origin) (done : List TraceSecond) (s : TraceSecond)
+    → IsNow s speed old → length s.actions ≡ begun → (1 < n → (s.actions ≡ []) × LastAt done speed) →
+    InSecondEvented o done s begun old before d → HaveTime e
+    → RunEvented o (done ++ s ∷ driven (n - 1) (s.number + 1) speed []) new after e

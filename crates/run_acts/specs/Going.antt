@@ -57,9 +57,10 @@ pub record IsDark (cabin : Cabin) : Type 0 where
   pub stands : (from : ℕ) → CabinIsSound from None cabin
   pub bare : (card : Card) → session_of cabin.cards card ≡ None
 
--- WITH POWER: unit and cards may be called; the minutes stand for the seconds of a span up to the next one, and none that they have not
--- given yet is kept, or is one that may not be known. A card may be leaving.
-pub record RunHasPower (leaving : Option Card) (to : ℕ) (run : Run) (unit : State) (chip_a chip_b : CardState) (a b : State) : Type 0 where
+-- WITH POWER: unit and cards may be called; the minutes stand for the seconds of a span up to the next one, and none
+-- that they have not given yet is kept, or is one that may not be known. A card may be leaving.
+pub record RunHasPower (leaving : Option Card) (to : ℕ) (run : Run) (unit : State) (chip_a chip_b : CardState)
+    (a b : State) : Type 0 where
   pub ready : DevicesMayBeCalled run.keeper unit chip_a chip_b a b
   pub span : Span
   pub stands : CountsSpan run.minutes span
@@ -70,10 +71,13 @@ pub record RunHasPower (leaving : Option Card) (to : ℕ) (run : Run) (unit : St
   pub cabin : CabinIsSound (ungiven_of span) leaving run.keeper.cabin
   pub ended : KnowsEnded (ungiven_of span) to run.keeper.cabin.slots
   -- each accepted card, and each that was present in a minute that is to be kept, has its row in the unit
-  pub rows : (card : Card) → is_some (session_of run.keeper.cabin.cards card) ≡ true → HasItsRow run.keeper.cabin.cards unit card
-  pub present : (m : ℕ) → ungiven_of span ≤ m → IfSome (present_in run.keeper.cabin.slots.past m) (HaveRows run.keeper.cabin.cards unit)
+  pub rows : (card : Card) → is_some (session_of run.keeper.cabin.cards card) ≡ true
+      → HasItsRow run.keeper.cabin.cards unit card
+  pub present : (m : ℕ) → ungiven_of span ≤ m
+      → IfSome (present_in run.keeper.cabin.slots.past m) (HaveRows run.keeper.cabin.cards unit)
   -- the entry of each insertion is one of the ring
-  pub entries : (card : Card) → IfSome (session_of run.keeper.cabin.cards card) (λ s. (s.entry < insertion_ring.count) × (s.noted ≤ run.noted))
+  pub entries : (card : Card) → IfSome (session_of run.keeper.cabin.cards card)
+      (λ s. (s.entry < insertion_ring.count) × (s.noted ≤ run.noted))
   -- its events are watched up to the next second
   pub watches : Watches run.watch run.next
   pub limit : run.watch.limit ≡ run.watch.over.limit
@@ -97,8 +101,8 @@ IsBetweenSeconds run unit chip_a chip_b a b = IsAt ((run.next - 1) / 60) run uni
 abbrev pub IsInsideSecond : Run → (unit : State) → (chip_a chip_b : CardState) → (a b : State) → Type 0
 IsInsideSecond run unit chip_a chip_b a b = IsAt (run.next / 60) run unit chip_a chip_b a b
 
--- Behind the opening no failed call refuses a run, since that is a cut; a unit that is read anew may: its image does not decode, or the minute of
--- the second is not later than its last-kept one.
+-- Behind the opening no failed call refuses a run, since that is a cut; a unit that is read anew may: its image does
+-- not decode, or the minute of the second is not later than its last-kept one.
 abbrev pub IsFoundLater : RunFault → Type 0
 IsFoundLater (MediumFault device) = ⊥
 IsFoundLater (BadUnit place) = Unit {0}

@@ -1,4 +1,5 @@
--- The faults of cards as events of a run, and the numbers of its cards (Annex IB, section III.12; the moments: profile).
+-- The faults of cards as events of a run, and the numbers of its cards (Annex IB, section III.12; the moments:
+-- profile).
 use Rattle.std.specs.Prelude.{◌≡◌, List}
 use Rattle.std.specs.List.{AllByRecursion}
 use Rattle.trace_model.specs.declared.Card.{Card}

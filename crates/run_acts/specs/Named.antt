@@ -37,7 +37,10 @@ image_or x = by_fault (own_bad_file x) x
 
 -- a run with such cards in place of this one
 abbrev pub named_as : Origin → Origin
-named_as o = record o { recording = record o.recording { card_a = image_or o.recording.card_a; card_b = image_or o.recording.card_b } }
+named_as o = record o {
+  recording = record
+      o.recording { card_a = image_or o.recording.card_a; card_b = image_or o.recording.card_b };
+}
 
 -- the number by which a card is watched
 abbrev pub watched_as : Origin → Card → FullCardNumber

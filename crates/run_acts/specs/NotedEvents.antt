@@ -1,4 +1,5 @@
--- What calls note on the unit: as events of the code, and as events of a run (Annex IB, section III.12; the moments: profile).
+-- What calls note on the unit: as events of the code, and as events of a run (Annex IB, section III.12; the moments:
+-- profile).
 use Rattle.std.specs.Prelude.{◌≡◌, ◌≢◌, ℕ, ◌^◌, ◌<◌, Bool, true, false, List, [], ◌∷◌, ◌++◌, Contains}
 use Rattle.std.specs.List.{AllByRecursion}
 use Rattle.trace_model.specs.declared.Card.{Card}
@@ -49,4 +50,5 @@ NotesSo true o es d e = (log : RunLog) (now : ℕ → List Event) → AreUnsure 
 
 -- WHAT A CALL NOTES, whichever events of a run these are
 abbrev pub NotesEvents : List UnitEvent → (failed : Bool) → (d e : Devices) → Type 0
-NotesEvents vs failed d e = (o : Origin) → AreNumbers (number_in o) → (es : List Event) → AreTold (number_in o) vs es → NotesSo failed o es d e
+NotesEvents vs failed d e = (o : Origin) → AreNumbers (number_in o) → (es : List Event) → AreTold (number_in o) vs es
+    → NotesSo failed o es d e

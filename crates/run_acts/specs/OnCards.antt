@@ -1,6 +1,7 @@
--- THE EVENTS OF A RUN ON A CARD, by type, from its seconds and its log, and how far each image of the card shows them (Annex IB, section III.12;
--- Appendix 1, CardEventData; the moments: profile).
-use Rattle.std.specs.Prelude.{◌≡◌, ℕ, ◌==◌, ◌&&◌, ◌||◌, Bool, true, false, not, Option, Some, None, List, [], ◌∷◌, ◌++◌, map, filter, flat_map, nat_lt, if◌then◌else◌}
+-- THE EVENTS OF A RUN ON A CARD, by type, from its seconds and its log, and how far each image of the card shows them
+-- (Annex IB, section III.12; Appendix 1, CardEventData; the moments: profile).
+use Rattle.std.specs.Prelude.{◌≡◌, ℕ, ◌==◌, ◌&&◌, ◌||◌, Bool, true, false, not, Option, Some, None, List, [], ◌∷◌, ◌++◌}
+use Rattle.std.specs.Prelude.{map, filter, flat_map, nat_lt, if◌then◌else◌}
 use Rattle.std.specs.List.{list_any, list_all}
 use Rattle.trace_model.specs.declared.Card.{Card}
 use Rattle.trace_model.specs.Trace.{TraceSecond}
@@ -15,7 +16,8 @@ use Rattle.card_session.specs.Inserting.{unclosed}
 use Rattle.log_model.specs.declared.lines.Verdict.{Verdict}
 use Rattle.log_model.specs.Log.{RunLog, is_accepting}
 use Rattle.log_model.specs.Slots.{same_card}
-use Rattle.event_model.specs.declared.kinds.TheConstants.{INSERTION_WHILE_DRIVING, SESSION_NOT_CLOSED, POWER_INTERRUPTION}
+use Rattle.event_model.specs.declared.kinds.TheConstants.{INSERTION_WHILE_DRIVING, SESSION_NOT_CLOSED}
+use Rattle.event_model.specs.declared.kinds.TheConstants.{POWER_INTERRUPTION}
 use Rattle.event_model.specs.Events.{Event, Crew, Seen, Tearing, number_of, seen_of, gap_events}
 use Rattle.note_model.specs.Done.{has_failed_in}
 use Rattle.run_insertion.specs.CardEvents.{events_in, all_noted}
@@ -30,12 +32,13 @@ has_card crew c = is_card crew.driver c || is_card crew.codriver c
 
 -- ---- which events they are
 
--- a card that was accepted at a power-on counts as one of its crew; where it was torn out as the interruption was noted nothing is sure of it
+-- a card that was accepted at a power-on counts as one of its crew; where it was torn out as the interruption was noted
+-- nothing is sure of it
 abbrev pub as_accepted : Tearing
 as_accepted = record { by_gap = λ u slot. true; driver_first = λ u n. true }
 
--- At each acceptance, in these seconds, this use was found on the card: where its session was open that was not closed, from its time, with its
--- vehicle.
+-- At each acceptance, in these seconds, this use was found on the card: where its session was open that was not closed,
+-- from its time, with its vehicle.
 abbrev pub unclosed_at : CurrentUse → (second : ℕ) → List CardEvent
 unclosed_at current u = if nat_lt 0 current.session.0 then unclosed current u ∷ [] else []
 
@@ -47,7 +50,8 @@ unclosed_by (current ∷ uses) (u ∷ us) = unclosed_at current u ++ unclosed_by
 -- those of a type among these
 abbrev pub events_by : (kind : ℕ) → (gaps moved unclosed : List CardEvent) → List CardEvent
 events_by kind gaps moved unclosed =
-    if kind == POWER_INTERRUPTION then gaps else (if kind == INSERTION_WHILE_DRIVING then moved else (if kind == SESSION_NOT_CLOSED then unclosed else []))
+    if kind == POWER_INTERRUPTION then gaps
+    else (if kind == INSERTION_WHILE_DRIVING then moved else (if kind == SESSION_NOT_CLOSED then unclosed else []))
 
 -- a card of which this is found in a second, in this order, is accepted so often
 abbrev pub accepts : (second : ℕ) → List Verdict → List ℕ
@@ -56,7 +60,8 @@ accepts u verdicts = flat_map (λ v. if is_accepting v then u ∷ [] else []) ve
 module _ (c : Card) where
   -- the seconds in which it was accepted, one for each acceptance
   abbrev pub accepted_in : Seen → List ℕ
-  accepted_in x = flat_map (λ f. if same_card f.0.card c && is_accepting f.1 then number_of x ∷ [] else []) x.told.course.found
+  accepted_in x = flat_map (λ f. if same_card f.0.card c && is_accepting f.1 then number_of x ∷ [] else [])
+      x.told.course.found
 
   abbrev pub accepted_on : List Seen → List ℕ
   accepted_on seen = flat_map accepted_in seen
@@ -64,7 +69,12 @@ module _ (c : Card) where
 module _ (c : Card) (own : Registration) where
   -- each acceptance in which the vehicle moves, which is this one
   abbrev pub moving_at : (second : ℕ) → CardEvent
-  moving_at u = record { kind = INSERTION_WHILE_DRIVING; begin = record { 0 = u }; end = record { 0 = u }; registration = own }
+  moving_at u = record {
+    kind = INSERTION_WHILE_DRIVING;
+    begin = record { 0 = u };
+    end = record { 0 = u };
+    registration = own;
+  }
 
   abbrev pub movings : (speed : ℕ) → (seconds : List ℕ) → List CardEvent
   movings speed us = if nat_lt 0 speed then map moving_at us else []
@@ -74,14 +84,20 @@ module _ (c : Card) (own : Registration) where
 
   -- interruptions at which it was accepted
   abbrev pub gap_entry : Event → CardEvent
-  gap_entry e = record { kind = POWER_INTERRUPTION; begin = record { 0 = e.begin }; end = record { 0 = e.end }; registration = own }
+  gap_entry e = record {
+    kind = POWER_INTERRUPTION;
+    begin = record { 0 = e.begin };
+    end = record { 0 = e.end };
+    registration = own;
+  }
 
   abbrev pub gaps_on : List Event → List CardEvent
   gaps_on events = map gap_entry (filter (λ e. has_card e.at_begin c) events)
 
   -- THE EVENTS OF A TYPE ON THE CARD in a run, in order of time, where these uses were found on it: none of other types
   abbrev pub events_on : List CurrentUse → (kind : ℕ) → RunLog → List TraceSecond → List CardEvent
-  events_on uses kind log ss = events_by kind (gaps_on (gap_events as_accepted log ss)) (flat_map moved_in (seen_of log ss)) (unclosed_by uses (accepted_on c (seen_of log ss)))
+  events_on uses kind log ss = events_by kind (gaps_on (gap_events as_accepted log ss))
+      (flat_map moved_in (seen_of log ss)) (unclosed_by uses (accepted_on c (seen_of log ss)))
 
 module _ (c : Card) where
   -- ---- which of them are sure
@@ -96,7 +112,9 @@ module _ (c : Card) where
 
   -- as it enters an event of this type may be noted
   abbrev pub may_note : (kind : ℕ) → Seen → Bool
-  may_note kind x = (kind == SESSION_NOT_CLOSED) || ((kind == INSERTION_WHILE_DRIVING && nat_lt 0 x.told.second.speed) || (kind == POWER_INTERRUPTION && x.told.starts))
+  may_note kind x = (kind == SESSION_NOT_CLOSED)
+      || ((kind == INSERTION_WHILE_DRIVING && nat_lt 0 x.told.second.speed)
+      || (kind == POWER_INTERRUPTION && x.told.starts))
 
   -- no call on it or on the unit failed in a second
   abbrev pub is_clear : RunLog → Seen → Bool
@@ -111,23 +129,31 @@ module _ (c : Card) where
 
 -- ---- how far it shows them
 
--- Each image that a card may leave shows these events, of each type whose events are sure, on those that it had at the start.
-abbrev pub ShowsThem : Application → (start : List ℕ) → (sure : ℕ → Bool) → (events : ℕ → List CardEvent) → State → Type 0
-ShowsThem app start sure events card = (x : List ℕ) → card.may_leave x → (kind : ℕ) → sure kind ≡ true → events_in app kind x ≡ all_noted (events_in app kind start) (events kind)
+-- Each image that a card may leave shows these events, of each type whose events are sure, on those that it had at the
+-- start.
+abbrev pub ShowsThem : Application → (start : List ℕ) → (sure : ℕ → Bool) → (events : ℕ → List CardEvent) → State
+    → Type 0
+ShowsThem app start sure events card = (x : List ℕ) → card.may_leave x → (kind : ℕ) → sure kind ≡ true
+    → events_in app kind x ≡ all_noted (events_in app kind start) (events kind)
 
--- WHAT A CARD SHOWS behind these seconds: each image that it may leave, of each type whose events are sure, those that it had at the start with those
--- of the run
-abbrev pub ShowsOn : Card → Registration → List CurrentUse → Application → (start : List ℕ) → RunLog → List TraceSecond → State → Type 0
-ShowsOn c own uses app start log done card = ShowsThem app start (λ kind. are_sure_on c kind log (seen_of log done)) (λ kind. events_on c own uses kind log done) card
+-- WHAT A CARD SHOWS behind these seconds: each image that it may leave, of each type whose events are sure, those that
+-- it had at the start with those of the run
+abbrev pub ShowsOn : Card → Registration → List CurrentUse → Application → (start : List ℕ) → RunLog → List TraceSecond
+    → State → Type 0
+ShowsOn c own uses app start log done card = ShowsThem app start (λ kind. are_sure_on c kind log (seen_of log done))
+    (λ kind. events_on c own uses kind log done) card
 
--- These events more are noted on a card, of each type whose events are sure: so it is of each image that it may leave, and one that it might have left
--- before.
+-- These events more are noted on a card, of each type whose events are sure: so it is of each image that it may leave,
+-- and one that it might have left before.
 abbrev pub NotesThem : Application → (sure : ℕ → Bool) → (events : ℕ → List CardEvent) → (old new : State) → Type 0
-NotesThem app sure events old new = (y : List ℕ) → new.may_leave y → (x : List ℕ) × old.may_leave x × ((kind : ℕ) → sure kind ≡ true → events_in app kind y ≡ all_noted (events_in app kind x) (events kind))
+NotesThem app sure events old new = (y : List ℕ) → new.may_leave y
+    → (x : List ℕ) × old.may_leave x
+    × ((kind : ℕ) → sure kind ≡ true → events_in app kind y ≡ all_noted (events_in app kind x) (events kind))
 
 -- Calls leave the events of a card, of every type.
 abbrev pub StillShows : Application → (old new : State) → Type 0
-StillShows app old new = (y : List ℕ) → new.may_leave y → (x : List ℕ) × old.may_leave x × ((kind : ℕ) → events_in app kind y ≡ events_in app kind x)
+StillShows app old new = (y : List ℕ) → new.may_leave y
+    → (x : List ℕ) × old.may_leave x × ((kind : ℕ) → events_in app kind y ≡ events_in app kind x)
 
 -- one of its images told this use
 abbrev pub IsUse : (images : List ℕ → Type 0) → CurrentUse → Type 0

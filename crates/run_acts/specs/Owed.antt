@@ -1,5 +1,6 @@
 -- What a card is owed as it is accepted (profile): by the seconds before that, in a run in which no call has failed.
-use Rattle.std.specs.Prelude.{◌≡◌, ◌⊎◌, ℕ, ◌+◌, ◌*◌, ◌/◌, ◌≤◌, ◌++◌, ◌∷◌, List, [], All, Contains, filter, flat_map, nat_lt, Bool, false, not, ◌&&◌}
+use Rattle.std.specs.Prelude.{◌≡◌, ◌⊎◌, ℕ, ◌+◌, ◌*◌, ◌/◌, ◌≤◌, ◌++◌, ◌∷◌, List, [], All, Contains, filter, flat_map}
+use Rattle.std.specs.Prelude.{nat_lt, Bool, false, not, ◌&&◌}
 use Rattle.activity_codec.specs.declared.entries.Entry.{Entry}
 use Rattle.trace_model.specs.declared.Card.{Card}
 use Rattle.trace_model.specs.Trace.{TraceSecond}
@@ -25,8 +26,8 @@ runs_on [] = false
 runs_on (t ∷ []) = t.lit && not t.cut
 runs_on (t ∷ x ∷ ts) = runs_on (x ∷ ts)
 
--- A SECOND OF THESE, of this number: the seconds before it, and those of its power span among them, none where power begins with it; and so many
--- settlings come with it that all minutes before its own are decided.
+-- A SECOND OF THESE, of this number: the seconds before it, and those of its power span among them, none where power
+-- begins with it; and so many settlings come with it that all minutes before its own are decided.
 pub record ReachedAt (rule : Rule) (log : RunLog) (done : List TraceSecond) (u : ℕ) : Type 0 where
   pub front : List TraceSecond
   pub s : TraceSecond
@@ -41,9 +42,12 @@ pub record ReachedAt (rule : Rule) (log : RunLog) (done : List TraceSecond) (u :
   pub decided : ungiven_of (settled_times times (span_at rule u span)) ≡ u / 60
 
 -- the minutes that are decided by then, with the cards that were present in them
-abbrev pub minutes_before : (rule : Rule) (start : Start) (log : RunLog) (done : List TraceSecond) (u : ℕ) → ReachedAt rule log done u → List HistoryMinute
+abbrev pub minutes_before : (rule : Rule) (start : Start) (log : RunLog) (done : List TraceSecond) (u : ℕ)
+    → ReachedAt rule log done u → List HistoryMinute
 minutes_before rule start log done u r =
-    minutes_after start (went log r.front).told [] (flat_map (λ (span : List ToldSecond). decided_of rule span) r.earlier ++ decided_in (settled_times r.times (span_at rule u r.span)))
+    minutes_after start (went log r.front).told []
+    (flat_map (λ (span : List ToldSecond). decided_of rule span) r.earlier
+    ++ decided_in (settled_times r.times (span_at rule u r.span)))
 
 -- ---- why
 
@@ -56,9 +60,10 @@ pub record IsDecidedBy (rule : Rule) (spans : List (List ToldSecond)) (u m : ℕ
   pub same : d.minute ≡ m
   pub late : u ≤ deciding_of rule (settlings_of span) m
 
--- A `tear` line PULLED THE CARD OUT in one of these seconds: behind a minute's end, and no later than in the second that decided the minute, which may be
--- one that has not come yet.
-pub record IsPulledBefore (rule : Rule) (told : List ToldSecond) (u : ℕ) (span : List ToldSecond) (c : Card) (m : ℕ) : Type 0 where
+-- A `tear` line PULLED THE CARD OUT in one of these seconds: behind a minute's end, and no later than in the second
+-- that decided the minute, which may be one that has not come yet.
+pub record IsPulledBefore (rule : Rule) (told : List ToldSecond) (u : ℕ) (span : List ToldSecond) (c : Card)
+    (m : ℕ) : Type 0 where
   pub t : ToldSecond
   pub there : Contains told t
   pub behind : 60 * (m + 1) ≤ t.second.number
@@ -69,16 +74,23 @@ pub record IsPulledBefore (rule : Rule) (told : List ToldSecond) (u : ℕ) (span
 abbrev pub unlogged : RunLog
 unlogged = record { breaks = []; refused = []; finds = [] }
 
--- or one did in this second, among the first actions of it: by the cards in the slots as it began and by these actions, since no line of a second in which
--- no call failed takes a card out. It is behind the minute's end, too, and decides it.
-pub record IsPulledHere (rule : Rule) (before : Before) (s : TraceSecond) (span : List ToldSecond) (begun : ℕ) (c : Card) (m : ℕ) : Type 0 where
+-- or one did in this second, among the first actions of it: by the cards in the slots as it began and by these actions,
+-- since no line of a second in which no call failed takes a card out. It is behind the minute's end, too, and decides
+-- it.
+pub record IsPulledHere (rule : Rule) (before : Before) (s : TraceSecond) (span : List ToldSecond) (begun : ℕ)
+    (c : Card) (m : ℕ) : Type 0 where
   pub behind : 60 * (m + 1) ≤ s.number
   pub decides : ungiven_of (span_at rule s.number span) ≤ m
   pub pulled : (v : Visit) × (v.card ≡ c) × Contains (course_by unlogged before s begun).pulled v
 
--- THESE ENTRIES ARE OWED to a card with this end mark, as it is accepted by this line: of what was owed to it at the start, and of what the minutes by
--- then say on it, all that is later than the mark, and nothing else, in order. What was not owed at the start is of minutes behind which it was pulled out.
-pub record IsOwed (rule : Rule) (start : Start) (log : RunLog) (done : List TraceSecond) (c : Card) (lacks : List Entry) (f : Find) (mark : ℕ) (es : List Entry) : Type 0 where
+-- THESE ENTRIES ARE OWED to a card with this end mark, as it is accepted by this line: of what was owed to it at the
+-- start, and of what the minutes by then say on it, all that is later than the mark, and nothing else, in order. What
+-- was not owed at the start is of minutes behind which it was pulled out.
+pub record IsOwed (rule : Rule) (start : Start) (log : RunLog) (done : List TraceSecond) (c : Card) (lacks : List Entry)
+    (f : Find) (mark : ℕ) (es : List Entry) : Type 0 where
   pub at : ReachedAt rule log done f.second
-  pub are : es ≡ filter (λ (e : Entry). nat_lt mark e.minute) (lacks ++ card_history c (minutes_before rule start log done f.second at))
-  pub behind : All (λ e. Contains lacks e ⊎ (IsPulledBefore rule (went log at.front).told f.second at.span c e.minute ⊎ IsPulledHere rule (went log at.front).before at.s at.span f.begun c e.minute)) es
+  pub are : es ≡ filter (λ (e : Entry). nat_lt mark e.minute)
+      (lacks ++ card_history c (minutes_before rule start log done f.second at))
+  pub behind : All (λ e. Contains lacks e
+      ⊎ (IsPulledBefore rule (went log at.front).told f.second at.span c e.minute
+      ⊎ IsPulledHere rule (went log at.front).before at.s at.span f.begun c e.minute)) es

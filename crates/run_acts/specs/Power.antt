@@ -31,7 +31,10 @@ with_cabin cabin run = record run { keeper = record run.keeper { cabin = cabin }
 
 -- the power was lost in a second
 abbrev pub cut_run : (second : ℕ) → Run → Run
-cut_run second run = record run { power = Lost; keeper = record run.keeper { cabin = with_power_lost second run.keeper.cabin } }
+cut_run second run = record run {
+  power = Lost;
+  keeper = record run.keeper { cabin = with_power_lost second run.keeper.cabin };
+}
 
 -- at the last second before an `off` line it is lost, if there was any
 abbrev pub darkened : (lit : Bool) → Run → Run
@@ -59,7 +62,8 @@ minute_over run = over_by (run.next % 60 == 0) run
 abbrev pub passed : (n begun : ℕ) → Run → Run
 passed n begun run = record run { next = run.next + n; begun = begun }
 
--- A SPAN HAS BEGUN with the next second, of a unit with this journal, by this rule of minutes: nothing is fed or watched yet.
+-- A SPAN HAS BEGUN with the next second, of a unit with this journal, by this rule of minutes: nothing is fed or
+-- watched yet.
 pub record IsSpanBegun (rule : Rule) (old new : Run) (journal : Notes) : Type 0 where
   pub power : new.power ≡ Lit
   pub next : new.next ≡ old.next

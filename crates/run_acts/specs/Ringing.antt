@@ -32,7 +32,8 @@ pub record IsPlaceNow (ending : Bool) (country region : ℕ) (run : Run) (entry 
   pub kind : entry.kind ≡ kind_of ending
   pub country_is : entry.country.0 ≡ country
   pub region_is : entry.region ≡ region
-  pub odometer : (span : Span) → CountsSpan run.minutes span → entry.odometer.0 ≡ odometer_by run.keeper.odometer (travelled_of span)
+  pub odometer : (span : Span) → CountsSpan run.minutes span
+      → entry.odometer.0 ≡ odometer_by run.keeper.odometer (travelled_of span)
   pub most : entry.odometer.0 ≤ HIGHEST_ODOMETER
 
 -- an entry is added to the ring of places, or the unit failed in that
@@ -62,27 +63,35 @@ Withdraws true s second odometer old new = WritesImages (MayBeWithdrawn s (recor
 
 -- A WITHDRAWAL IS NOTED, with the odometer of now
 abbrev pub WritesWithdrawal : Seating → (second : ℕ) → (failed : Bool) → Run → (old new : State) → Type 0
-WritesWithdrawal s second failed run old new = (span : Span) → CountsSpan run.minutes span → Withdraws failed s second (odometer_of run span) old new
+WritesWithdrawal s second failed run old new = (span : Span) → CountsSpan run.minutes span
+    → Withdraws failed s second (odometer_of run span) old new
 
 -- the session of a card that has left its slot is closed, and its withdrawal is noted; or it had none, or fell
 abbrev pub ClosesRings : Closing → Option Accepted → Moment → (failed : Bool) → Run → (old new : State) → Type 0
 ClosesRings Bare session at failed run old new = LeavesRings old new
 ClosesRings Closed None at failed run old new = ⊥
-ClosesRings Closed (Some a) at failed run old new = WritesWithdrawal (seating_of run.noted a) at.second failed run old new
+ClosesRings Closed (Some a) at failed run old new = WritesWithdrawal (seating_of run.noted a) at.second failed run old
+    new
 ClosesRings Fell session at failed run old new = LeavesRings old new
 
 -- so it was closed, by value
-pub record ClosesSo (card : Card) (slot : Slot) (at : Moment) (failed : Bool) (old new : Run) (breaks after : Listed Break) (unit unit_after : State) : Type 0 where
+pub record ClosesSo (card : Card) (slot : Slot) (at : Moment) (failed : Bool) (old new : Run)
+    (breaks after : Listed Break) (unit unit_after : State) : Type 0 where
   pub closing : Closing
   pub closed : IsClosed card slot at old new breaks after closing
   pub rings : ClosesRings closing (session_of old.keeper.cabin.cards card) at failed old unit unit_after
 
--- A CARD IS WITHDRAWN, and so the rings are written, as its session was closed; or the unit failed in the minutes before.
-pub record ClosesBehind (card : Card) (slot : Slot) (at : Moment) (failed : Bool) (old new : Run) (before after : Outcome) (unit unit_after : State) : Type 0 where
+-- A CARD IS WITHDRAWN, and so the rings are written, as its session was closed; or the unit failed in the minutes
+-- before.
+pub record ClosesBehind (card : Card) (slot : Slot) (at : Moment) (failed : Bool) (old new : Run)
+    (before after : Outcome) (unit unit_after : State) : Type 0 where
   pub closed : IsClosedBehind card slot at old new before after
-  pub rings : ClosesRings closed.closing (session_of closed.between.keeper.cabin.cards card) at failed closed.between unit unit_after
+  pub rings : ClosesRings closed.closing (session_of closed.between.keeper.cabin.cards card) at failed closed.between
+      unit unit_after
 
-abbrev pub WithdrawsSo : Option Card → Slot → Moment → (failed : Bool) → (old new : Run) → (before after : Outcome) → (unit unit_after : State) → Type 0
+abbrev pub WithdrawsSo : Option Card → Slot → Moment → (failed : Bool) → (old new : Run) → (before after : Outcome)
+    → (unit unit_after : State) → Type 0
 WithdrawsSo None slot at failed old new before after unit unit_after = LeavesRings unit unit_after
 WithdrawsSo (Some card) slot at failed old new before after unit unit_after =
-    ((failed ≡ true) × IsSettled at true (left_run slot at.second old) new before after × LeavesRings unit unit_after) ⊎ ClosesBehind card slot at failed old new before after unit unit_after
+    ((failed ≡ true) × IsSettled at true (left_run slot at.second old) new before after × LeavesRings unit unit_after)
+    ⊎ ClosesBehind card slot at failed old new before after unit unit_after

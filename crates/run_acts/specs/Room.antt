@@ -52,13 +52,19 @@ cuts_within Lit next = next / 60
 cuts_within Due next = next / 60
 cuts_within Lost next = next / 60 + 1
 
--- ROOM for so many more seconds, with so many `off` lines, insertions and actions. A minute has three marks, and a card that is found
--- those of what it was owed; a cut is one break, a card that is torn out is one; and a cut gives two finds, an insertion one.
-pub record HasRoomFrom (from : Power → ℕ → ℕ) (run : Run) (o : Outcome) (left offs insertions actions : ℕ) : Type 0 where
-  pub breaks : length o.breaks.items + ((run.next + left) / 60 + offs) + insertions + falls_of run.keeper.cabin < o.breaks.room + from run.power run.next
-  pub finds : length o.finds.items + 2 * ((run.next + left) / 60 + offs + 1) + insertions + finds_due (is_lit run.power) run.keeper.cabin
+-- ROOM for so many more seconds, with so many `off` lines, insertions and actions. A minute has three marks, and a card
+-- that is found those of what it was owed; a cut is one break, a card that is torn out is one; and a cut gives two
+-- finds, an insertion one.
+pub record HasRoomFrom (from : Power → ℕ → ℕ) (run : Run) (o : Outcome) (left offs insertions actions : ℕ) : Type
+    0 where
+  pub breaks : length o.breaks.items + ((run.next + left) / 60 + offs) + insertions + falls_of run.keeper.cabin
+      < o.breaks.room + from run.power run.next
+  pub finds : length o.finds.items + 2 * ((run.next + left) / 60 + offs + 1) + insertions
+      + finds_due (is_lit run.power) run.keeper.cabin
       ≤ o.finds.room + 2 * from run.power run.next
-  pub marks : length o.marks.items + 3 * ((run.next + left) / 60) + MOST_OWED * (2 * ((run.next + left) / 60 + offs + 1) + insertions + finds_due (is_lit run.power) run.keeper.cabin)
+  pub marks : length o.marks.items + 3 * ((run.next + left) / 60)
+      + MOST_OWED * (2 * ((run.next + left) / 60 + offs + 1) + insertions
+      + finds_due (is_lit run.power) run.keeper.cabin)
       ≤ o.marks.room + 3 * (run.next / 60 - waiting_of run) + MOST_OWED * (2 * from run.power run.next)
   pub refused : length o.refused.items + actions ≤ o.refused.room
 
@@ -68,11 +74,14 @@ HasRoom run o left offs insertions actions = HasRoomFrom cuts_from run o left of
 abbrev pub HasRoomWithin : Run → Outcome → (left offs insertions actions : ℕ) → Type 0
 HasRoomWithin run o left offs insertions actions = HasRoomFrom cuts_within run o left offs insertions actions
 
--- A CALL TAKES at most so many finds, and puts in so many cards; it refuses at most so many actions. A minute that is kept has its
--- three marks, and a card that is torn out its break.
+-- A CALL TAKES at most so many finds, and puts in so many cards; it refuses at most so many actions. A minute that is
+-- kept has its three marks, and a card that is torn out its break.
 pub record Takes (found put_in turned_away : ℕ) (old new : Run) (before after : Outcome) : Type 0 where
-  pub rooms : (after.marks.room ≡ before.marks.room) × (after.breaks.room ≡ before.breaks.room) × (after.finds.room ≡ before.finds.room) × (after.refused.room ≡ before.refused.room)
-  pub marks : length after.marks.items + 3 * waiting_of new ≤ length before.marks.items + 3 * waiting_of old + MOST_OWED * found
-  pub breaks : length after.breaks.items + falls_of new.keeper.cabin ≤ length before.breaks.items + falls_of old.keeper.cabin + put_in
+  pub rooms : (after.marks.room ≡ before.marks.room) × (after.breaks.room ≡ before.breaks.room)
+      × (after.finds.room ≡ before.finds.room) × (after.refused.room ≡ before.refused.room)
+  pub marks : length after.marks.items + 3 * waiting_of new
+      ≤ length before.marks.items + 3 * waiting_of old + MOST_OWED * found
+  pub breaks : length after.breaks.items + falls_of new.keeper.cabin
+      ≤ length before.breaks.items + falls_of old.keeper.cabin + put_in
   pub finds : length after.finds.items ≤ length before.finds.items + found
   pub refused : length after.refused.items ≤ length before.refused.items + turned_away

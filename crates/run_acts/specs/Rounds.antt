@@ -1,5 +1,7 @@
--- What the rounds of a keeping make of the record at a moment of a second (profile): of its values, told or not, and of unit and cards.
-use Rattle.std.specs.Prelude.{◌≡◌, All, map, ◌⊎◌, ℕ, ◌+◌, ◌/◌, ◌<◌, ◌≤◌, Bool, true, false, Option, Some, None, IfSome, List, [], ◌∷◌, ◌++◌, Contains, length, is_some, if◌then◌else◌}
+-- What the rounds of a keeping make of the record at a moment of a second (profile): of its values, told or not, and of
+-- unit and cards.
+use Rattle.std.specs.Prelude.{◌≡◌, All, map, ◌⊎◌, ℕ, ◌+◌, ◌/◌, ◌<◌, ◌≤◌, Bool, true, false, Option, Some, None, IfSome}
+use Rattle.std.specs.Prelude.{List, [], ◌∷◌, ◌++◌, Contains, length, is_some, if◌then◌else◌}
 use Rattle.activity_codec.specs.declared.values.Slot.{Slot}
 use Rattle.trace_model.specs.declared.Card.{Card}
 use Rattle.trace_model.specs.Trace.{TraceSecond}
@@ -36,9 +38,14 @@ use Rattle.run_record.specs.Within.{Beginning, told_before, course_in, IsLeaving
 
 -- what a run has by value, where keeper, marks and breaks are these
 abbrev pub told_values : KeepingState → Values → Values
-told_values t v = record v { log = record v.log { breaks = t.breaks.items }; marks = t.marks.items; cabin = t.keeper.cabin }
+told_values t v = record v {
+  log = record v.log { breaks = t.breaks.items };
+  marks = t.marks.items;
+  cabin = t.keeper.cabin;
+}
 
--- Where in a second minutes are kept: at this moment, with these cards waiting to be judged; the second is fed, or not; and so are tears told.
+-- Where in a second minutes are kept: at this moment, with these cards waiting to be judged; the second is fed, or not;
+-- and so are tears told.
 pub record Point : Type 0 where
   pub at : Phase
   pub waits : List Visit
@@ -69,7 +76,8 @@ settling_at n waits = record { at = In n; waits = waits; speed = None; begun = n
 
 -- how the cards stand behind what became of the entry of the one that was present
 abbrev pub standing_card : Fate → Option Card → (minute : ℕ) → (Card → Standing) → Card → Standing
-standing_card fate present minute standing c = if is_this present c then standing_by fate minute (standing c) else standing c
+standing_card fate present minute standing c = if is_this present c then standing_by fate minute (standing c)
+    else standing c
 
 -- a log with these breaks more
 abbrev pub and_breaks : RunLog → List Break → RunLog
@@ -85,22 +93,31 @@ pub record Outset : Type 0 where
 -- a card has broken down as often as it will have; or as often as at first, and has not lost a session since
 abbrev pub StandsOrFell : (old cards : Cards) → (first last now : Device → ℕ) → Card → Type 0
 StandsOrFell old cards first last now card =
-    (now (device_of card) ≡ last (device_of card)) ⊎ ((now (device_of card) ≡ first (device_of card)) × (tears_of (session_of old card) ≤ tears_of (session_of cards card)))
+    (now (device_of card) ≡ last (device_of card))
+    ⊎ ((now (device_of card) ≡ first (device_of card))
+    × (tears_of (session_of old card) ≤ tears_of (session_of cards card)))
 
--- SLOTS AND LOG at a point of a second, where the minutes before `from` are kept and the breakdowns will have risen from `first` to `last`:
--- the log tells of each card that was torn out, and so the slots have those that sit, and tell who was present and stands so.
-pub record Slate (o : Origin) (done : List TraceSecond) (s : TraceSecond) (q : Point) (b : Beginning) (os : Outset) (from : ℕ) (past : List HistoryMinute) (log : RunLog) (standing : Card → Standing) (cabin : Cabin) (first last : Device → ℕ) : Type 0 where
+-- SLOTS AND LOG at a point of a second, where the minutes before `from` are kept and the breakdowns will have risen
+-- from `first` to `last`: the log tells of each card that was torn out, and so the slots have those that sit, and tell
+-- who was present and stands so.
+pub record Slate (o : Origin) (done : List TraceSecond) (s : TraceSecond) (q : Point) (b : Beginning) (os : Outset)
+    (from : ℕ) (past : List HistoryMinute) (log : RunLog) (standing : Card → Standing) (cabin : Cabin)
+    (first last : Device → ℕ) : Type 0 where
   pub point : IsPoint s q
   pub now : Device → ℕ
   pub moment : Moment b.run (went b.run.log done).before s q.at log q.waits b.broken now
   pub rise : now Recorder ≤ last Recorder
   pub fell : (card : Card) → StandsOrFell os.cabin.cards cabin.cards first last now card
-  pub rests : (card : Card) → is_some (session_of cabin.cards card) ≡ true → now (device_of card) ≡ first (device_of card)
-  pub tells : SlotsTell (start_at o) (told_before b done) past (course_in b done s q.at log).left s.number from (course_in b done s q.at log).slots cabin.slots
+  pub rests : (card : Card) → is_some (session_of cabin.cards card) ≡ true
+      → now (device_of card) ≡ first (device_of card)
+  pub tells : SlotsTell (start_at o) (told_before b done) past (course_in b done s q.at log).left s.number from
+      (course_in b done s q.at log).slots cabin.slots
   pub present : PresentStand o.found standing (told_before b done) (course_in b done s q.at log) s.number from cabin
   pub sessions : SessionsStand o.found standing cabin.cards
   pub back : AreBackAt log (went b.run.log done).before s q.at os.low os.high cabin
-  pub leave : (slot : Slot) (card : Card) → IsLeaving os.log (went b.run.log done).before s q.at os.low os.high os.cabin slot card → is_some (session_of cabin.cards card) ≡ true →
+  pub leave : (slot : Slot) (card : Card)
+      → IsLeaving os.log (went b.run.log done).before s q.at os.low os.high os.cabin slot card
+      → is_some (session_of cabin.cards card) ≡ true →
       IsLeaving log (went b.run.log done).before s q.at os.low os.high cabin slot card
   pub had : AreOld os.cabin.cards cabin.cards
   pub stays : (card : Card) → GoesOnIn s.number os.cabin.slots cabin.slots card
@@ -115,21 +132,29 @@ pub record OnlyTears (old new : Course) : Type 0 where
 
 -- a card that was torn out broke down
 abbrev pub HasBrokenDown : Fate → Option Card → (first last : Device → ℕ) → Type 0
-HasBrokenDown fate present first last = fate ≡ Fell → IfSome present (λ card. RoseBy 1 (first (device_of card)) (last (device_of card)))
+HasBrokenDown fate present first last = fate ≡ Fell
+    → IfSome present (λ card. RoseBy 1 (first (device_of card)) (last (device_of card)))
 
 -- so did each that was torn out in some rounds
 abbrev pub HaveBroken : Keeper → List Done → (first last : Device → ℕ) → Type 0
 HaveBroken k [] first last = Unit {0}
 HaveBroken k (x ∷ xs) first last =
-    HasBrokenDown x.round.driver (present_at k.cabin x.minute.minute).driver first last × HasBrokenDown x.round.codriver (present_at k.cabin x.minute.minute).codriver first last × HaveBroken k xs first last
+    HasBrokenDown x.round.driver (present_at k.cabin x.minute.minute).driver first last
+    × HasBrokenDown x.round.codriver (present_at k.cabin x.minute.minute).codriver first last
+    × HaveBroken k xs first last
 
--- HOW FAR A KEEPING HAS GONE, by value, where this was the keeper before it, these its marks and this the course: these minutes are kept,
--- and these, each over as the second begins, are still to be kept; and so much is carried of unit and cards.
-pub record SoFar (o : Origin) (done : List TraceSecond) (s : TraceSecond) (q : Point) (b : Beginning) (os : Outset) (first last : Device → ℕ) (k : Keeper) (sp : Span) (v : Values) (marks : List Mark) (old : Course) (brought : Card → List ℕ)
+-- HOW FAR A KEEPING HAS GONE, by value, where this was the keeper before it, these its marks and this the course: these
+-- minutes are kept, and these, each over as the second begins, are still to be kept; and so much is carried of unit and
+-- cards.
+pub record SoFar (o : Origin) (done : List TraceSecond) (s : TraceSecond) (q : Point) (b : Beginning) (os : Outset)
+    (first last : Device → ℕ) (k : Keeper) (sp : Span) (v : Values) (marks : List Mark) (old : Course)
+    (brought : Card → List ℕ)
     (t : KeepingState) (w : RunLedger) (ds rest : List Minute) (new : List HistoryMinute) (from : ℕ) : Type 0 where
-  pub slate : Slate o done s q b os from (b.run.book.sure ++ new) (told_values t v).log w.standing t.keeper.cabin first last
+  pub slate : Slate o done s q b os from (b.run.book.sure ++ new) (told_values t v).log w.standing t.keeper.cabin first
+      last
   pub past : t.keeper.cabin.slots.past ≡ k.cabin.slots.past
-  pub decided : HasDecided (rule_of o) (start_at o) (told_before b done) b.run b.span (course_in b done s q.at (told_values t v).log) q.speed sp ds rest new
+  pub decided : HasDecided (rule_of o) (start_at o) (told_before b done) b.run b.span
+      (course_in b done s q.at (told_values t v).log) q.speed sp ds rest new
   pub numbers : map (λ (m : Minute). m.minute) rest ≡ count_from from (length rest)
   pub over : All (λ (m : Minute). m.minute < s.number / 60) rest
   pub ends : from + length rest ≡ os.high

@@ -1,7 +1,8 @@
--- What a card shows of its stays in a run in which no call failed (profile): its days, with their words and distances, its vehicle entries
--- and its current use, exactly; one stay for each acceptance that the log tells, closed where the run notes its withdrawal, and nowhere else; and
--- what its unit tells of the vehicle before, at each of them.
-use Rattle.std.specs.Prelude.{◌≡◌, ◌⊎◌, ◌≤◌, ◌<◌, ℕ, ◌++◌, Bool, true, false, ◌||◌, Option, Some, None, IfSome, option_map, List, [], ◌∷◌, is_some, length, map, filter}
+-- What a card shows of its stays in a run in which no call failed (profile): its days, with their words and distances,
+-- its vehicle entries and its current use, exactly; one stay for each acceptance that the log tells, closed where the
+-- run notes its withdrawal, and nowhere else; and what its unit tells of the vehicle before, at each of them.
+use Rattle.std.specs.Prelude.{◌≡◌, ◌⊎◌, ◌≤◌, ◌<◌, ℕ, ◌++◌, Bool, true, false, ◌||◌, Option, Some, None, IfSome}
+use Rattle.std.specs.Prelude.{option_map, List, [], ◌∷◌, is_some, length, map, filter}
 use Rattle.std.specs.List.{AllByRecursion}
 use Rattle.activity_codec.specs.declared.values.Activity.{Activity}
 use Rattle.activity_codec.specs.declared.values.Slot.{Slot}
@@ -53,8 +54,9 @@ pub record Shut : Type 0 where
   pub second : ℕ
   pub word : Activity
 
--- A STAY of a card in the vehicle: from its insertion, of whose acceptance this line of the log tells, where the vehicle had this odometer value,
--- and so much was owed to the card, with the minutes that it kept, to its withdrawal with an activity; or it was not withdrawn.
+-- A STAY of a card in the vehicle: from its insertion, of whose acceptance this line of the log tells, where the
+-- vehicle had this odometer value, and so much was owed to the card, with the minutes that it kept, to its withdrawal
+-- with an activity; or it was not withdrawn.
 pub record Stay : Type 0 where
   pub found : Find
   pub odometer : ℕ
@@ -70,7 +72,8 @@ closes (Some x) = Close x.word ∷ []
 
 -- what is done on the card in it
 abbrev pub deeds_of : Registration → (used : Bool) → Book → Stay → List Deed
-deeds_of vehicle used b s = opens used vehicle s.odometer (lacked (mark_of b) s.owed) ++ (keeps vehicle None s.kepts ++ closes s.closed)
+deeds_of vehicle used b s = opens used vehicle s.odometer (lacked (mark_of b) s.owed)
+    ++ (keeps vehicle None s.kepts ++ closes s.closed)
 
 -- a book, and the current use with it
 pub record Shown : Type 0 where
@@ -87,7 +90,10 @@ use_after vehicle s = record { session = record { 0 = open_from s.found.second s
 
 -- behind a stay, and behind some
 abbrev pub after_stay : Registration → (size : ℕ) → Stay → Shown → Shown
-after_stay vehicle size s p = record { book = made_by size (deeds_of vehicle (is_open_in p.held) p.book s) p.book; held = use_after vehicle s }
+after_stay vehicle size s p = record {
+  book = made_by size (deeds_of vehicle (is_open_in p.held) p.book s) p.book;
+  held = use_after vehicle s;
+}
 
 abbrev pub after_stays : Registration → (size : ℕ) → List Stay → Shown → Shown
 after_stays vehicle size [] p = p
@@ -113,7 +119,8 @@ is_late (TimeOverlap stored now) = true
 abbrev pub judged_told : RunLog → List Find
 judged_told log = filter (λ (f : Find). is_accepting f.verdict || is_late f.verdict) log.finds
 
--- those of a card: the ones of its stays, each behind those by which it was turned away before, and these since the last
+-- those of a card: the ones of its stays, each behind those by which it was turned away before, and these since the
+-- last
 abbrev pub judged_in : List Stay → (since : List Find) → List Find
 judged_in [] since = since
 judged_in (s ∷ ss) since = s.turned ++ s.found ∷ judged_in ss since
@@ -122,10 +129,11 @@ judged_in (s ∷ ss) since = s.turned ++ s.found ∷ judged_in ss since
 abbrev pub IsTurnedAway : Shown → Find → Type 0
 IsTurnedAway p f = (f.verdict ≡ TimeOverlap (stored_by p) f.second) × (f.second < stored_by p)
 
--- and accepted by that of a stay, behind such ones: that tells how many entries were owed to it, in a second that is not earlier than the time
--- which it stored by then
+-- and accepted by that of a stay, behind such ones: that tells how many entries were owed to it, in a second that is
+-- not earlier than the time which it stored by then
 abbrev pub IsJudged : Shown → Stay → Type 0
-IsJudged p s = AllByRecursion (IsTurnedAway p) s.turned × (s.found.verdict ≡ AcceptedWith (length s.owed)) × (stored_by p ≤ s.found.second)
+IsJudged p s = AllByRecursion (IsTurnedAway p) s.turned × (s.found.verdict ≡ AcceptedWith (length s.owed))
+    × (stored_by p ≤ s.found.second)
 
 -- SO IT WAS JUDGED by the lines of each of its stays, by what it showed then; and since the last it was turned away
 abbrev pub AreJudged : Registration → (size : ℕ) → List Stay → (since : List Find) → Shown → Type 0
@@ -135,9 +143,11 @@ AreJudged vehicle size (s ∷ ss) since p = IsJudged p s × AreJudged vehicle si
 -- ---- what was owed to their card
 
 -- WHAT WAS OWED AT EACH OF THEM is that which is owed so, by its line and the end mark of what the card showed by then.
-abbrev pub AreOwed : (Owes : Find → (mark : ℕ) → List Entry → Type 0) → Registration → (size : ℕ) → List Stay → Shown → Type 0
+abbrev pub AreOwed : (Owes : Find → (mark : ℕ) → List Entry → Type 0) → Registration → (size : ℕ) → List Stay → Shown
+    → Type 0
 AreOwed Owes vehicle size [] p = Unit {0}
-AreOwed Owes vehicle size (s ∷ ss) p = Owes s.found (mark_of p.book) s.owed × AreOwed Owes vehicle size ss (after_stay vehicle size s p)
+AreOwed Owes vehicle size (s ∷ ss) p = Owes s.found (mark_of p.book) s.owed
+    × AreOwed Owes vehicle size ss (after_stay vehicle size s p)
 
 -- ---- how many
 
@@ -149,11 +159,16 @@ acceptances_told log = filter (λ (f : Find). is_accepting f.verdict) log.finds
 abbrev pub AreMerged : {L : Type 0} (lines one other : List L) → Type 0
 AreMerged {L} [] one other = (one ≡ []) × (other ≡ [])
 AreMerged {L} (f ∷ lines) one other =
-    ((rest : List L) × (one ≡ f ∷ rest) × AreMerged lines rest other) ⊎ ((rest : List L) × (other ≡ f ∷ rest) × AreMerged lines one rest)
+    ((rest : List L) × (one ≡ f ∷ rest) × AreMerged lines rest other)
+    ⊎ ((rest : List L) × (other ≡ f ∷ rest) × AreMerged lines one rest)
 
 -- the spell of a stay, and those of some
 abbrev pub stay_spell : Stay → Spell
-stay_spell s = record { second = s.found.second; slot = s.found.slot; withdrawn = option_map {T = Shut} (λ (x : Shut). x.second) s.closed }
+stay_spell s = record {
+  second = s.found.second;
+  slot = s.found.slot;
+  withdrawn = option_map {T = Shut} (λ (x : Shut). x.second) s.closed;
+}
 
 abbrev pub spells : List Stay → List Spell
 spells ss = map stay_spell ss
@@ -162,7 +177,8 @@ spells ss = map stay_spell ss
 abbrev pub sits_in : Seats → Card → Bool
 sits_in seats c = is_card seats.driver c || is_card seats.codriver c
 
--- as they are noted in a second: the last one of a card that has left its slot, and whose session is not closed yet, is withdrawn in it
+-- as they are noted in a second: the last one of a card that has left its slot, and whose session is not closed yet, is
+-- withdrawn in it
 abbrev pub as_noted : (second : ℕ) → (session : Option Accepted) → (sits : Bool) → List Spell → List Spell
 as_noted u None sits ss = ss
 as_noted u (Some a) true ss = ss
@@ -170,17 +186,21 @@ as_noted u (Some a) false ss = with_last_shut u ss
 
 -- A CARD WITH A SESSION sits in the slot in which its last spell began.
 abbrev pub IsPlaced : List Note → Cabin → Card → Type 0
-IsPlaced notes cabin c = (slot : Slot) → is_some (session_of cabin.cards c) ≡ true → card_in (seat_in cabin.slots.seats slot) ≡ Some c → last_slot (spells_of c notes) ≡ Some slot
+IsPlaced notes cabin c = (slot : Slot) → is_some (session_of cabin.cards c) ≡ true
+    → card_in (seat_in cabin.slots.seats slot) ≡ Some c → last_slot (spells_of c notes) ≡ Some slot
 
 -- ---- what is true of them
 
--- A STAY IS TRUE: its acceptance told the odometer of then, each of its minutes that of its end, and it was closed with the word of its slot.
+-- A STAY IS TRUE: its acceptance told the odometer of then, each of its minutes that of its end, and it was closed with
+-- the word of its slot.
 abbrev pub IsTrueOf : Truths → Stay → Type 0
-IsTrueOf t s = t.accepted s.found s.odometer × AllByRecursion t.kept s.kepts × IfSome s.closed (λ x. t.closed s.found x.second x.word)
+IsTrueOf t s = t.accepted s.found s.odometer × AllByRecursion t.kept s.kepts
+    × IfSome s.closed (λ x. t.closed s.found x.second x.word)
 
 -- SO IS EACH of these, of a card with this image at the start; and what was owed at it was owed so
 abbrev pub AreTrue : Truths → Card → Registration → (image : List ℕ) → List Stay → Type 0
-AreTrue t c vehicle image ss = AllByRecursion (IsTrueOf t) ss × AreOwed (t.owed c) vehicle (own_sizes image).activity ss (start_shown image)
+AreTrue t c vehicle image ss = AllByRecursion (IsTrueOf t) ss
+    × AreOwed (t.owed c) vehicle (own_sizes image).activity ss (start_shown image)
 
 -- ---- the vehicle before
 
@@ -192,7 +212,8 @@ pub record Coming : Type 0 where
 -- those of these stays: the newest entry that the stays before each make of this book
 abbrev pub comings_of : Registration → (size : ℕ) → List Stay → Shown → List Coming
 comings_of vehicle size [] p = []
-comings_of vehicle size (s ∷ ss) p = record { found = s.found; before = p.book.vehicles.newest } ∷ comings_of vehicle size ss (after_stay vehicle size s p)
+comings_of vehicle size (s ∷ ss) p = record { found = s.found; before = p.book.vehicles.newest }
+    ∷ comings_of vehicle size ss (after_stay vehicle size s p)
 
 -- of a card with this image at the start
 abbrev pub comings_on : Registration → (image : List ℕ) → List Stay → List Coming
@@ -205,9 +226,11 @@ lines_of cs = map (λ (c : Coming). c.found) cs
 abbrev pub befores_of : List Coming → List VehicleTold
 befores_of cs = map (λ (c : Coming). told_of c.before) cs
 
--- A UNIT TELLS THE VEHICLE BEFORE, where its ring was so at the start: by these lines the cards have come, each of them as the next of its card's
--- stays, and each image that a stop may leave of the unit tells those vehicles, one entry for each line, in their order, behind those of the start.
-pub record TellsBefores (Stood : Type 0) (unit : List ℕ) (acceptances : List Find) (vehicle : Registration) (image : Card → List ℕ) (stays : Card → List Stay) (now : State) : Type 0 where
+-- A UNIT TELLS THE VEHICLE BEFORE, where its ring was so at the start: by these lines the cards have come, each of them
+-- as the next of its card's stays, and each image that a stop may leave of the unit tells those vehicles, one entry for
+-- each line, in their order, behind those of the start.
+pub record TellsBefores (Stood : Type 0) (unit : List ℕ) (acceptances : List Find) (vehicle : Registration)
+    (image : Card → List ℕ) (stays : Card → List Stay) (now : State) : Type 0 where
   pub comings : List Coming
   pub lines : lines_of comings ≡ acceptances
   pub merged : AreMerged comings (comings_on vehicle (image A) (stays A)) (comings_on vehicle (image B) (stays B))
@@ -215,7 +238,8 @@ pub record TellsBefores (Stood : Type 0) (unit : List ℕ) (acceptances : List F
 
 -- ---- one card
 
--- A CARD IN ITS SLOT goes on in the last of its stays: its session is of the vehicle, and has the odometer value of the last minute kept in it.
+-- A CARD IN ITS SLOT goes on in the last of its stays: its session is of the vehicle, and has the odometer value of the
+-- last minute kept in it.
 pub record GoesIn (vehicle : Registration) (stays : List Stay) (a : Accepted) : Type 0 where
   pub front : List Stay
   pub stay : Stay
@@ -228,48 +252,63 @@ abbrev pub StaysIn : Registration → List Stay → Option Accepted → Type 0
 StaysIn vehicle stays None = Unit {0}
 StaysIn vehicle stays (Some a) = GoesIn vehicle stays a
 
--- EACH IMAGE THAT A CARD MAY LEAVE shows exactly what these stays in the vehicle make of the image at the start; and by when and where they began,
--- and when they were withdrawn, they are the noted ones, in this second.
-pub record HasStays (second : ℕ) (f : CardFound) (vehicle : Registration) (noted : List Spell) (sits : Bool) (stays : List Stay) (session : Option Accepted) (card : State) : Type 0 where
-  pub shows : ShowsBook (own_sizes f.image) (after_stays vehicle (own_sizes f.image).activity stays (start_shown f.image)).book
+-- EACH IMAGE THAT A CARD MAY LEAVE shows exactly what these stays in the vehicle make of the image at the start; and by
+-- when and where they began, and when they were withdrawn, they are the noted ones, in this second.
+pub record HasStays (second : ℕ) (f : CardFound) (vehicle : Registration) (noted : List Spell) (sits : Bool)
+    (stays : List Stay) (session : Option Accepted) (card : State) : Type 0 where
+  pub shows : ShowsBook (own_sizes f.image)
+      (after_stays vehicle (own_sizes f.image).activity stays (start_shown f.image)).book
       (after_stays vehicle (own_sizes f.image).activity stays (start_shown f.image)).held card
   pub goes : StaysIn vehicle stays session
   pub spell : as_noted second session sits (spells stays) ≡ noted
 
 -- so it is once the run is over, of a card with this image at the start, in this vehicle
 abbrev pub ShowsStays : Registration → (image : List ℕ) → List Stay → (card : State) → Type 0
-ShowsStays vehicle image stays card = ShowsBook (own_sizes image) (after_stays vehicle (own_sizes image).activity stays (start_shown image)).book
+ShowsStays vehicle image stays card = ShowsBook (own_sizes image)
+    (after_stays vehicle (own_sizes image).activity stays (start_shown image)).book
     (after_stays vehicle (own_sizes image).activity stays (start_shown image)).held card
 
 -- ---- both cards
 
--- THE STAYS OF BOTH CARDS in the vehicle of the run, by these notes so far, by these lines that tell of an acceptance, and these with those that tell of a later time: each of
--- these is, in its order, the next of the one card's stays or of the other's; only a card that was valid has some, each of them true, and it shows exactly them, as they are
--- noted in this second; and it sits in the slot of the last of them. The unit tells the vehicle before each.
-pub record AreStays (o : Origin) (t : Truths) (second : ℕ) (notes : List Note) (acceptances lines : List Find) (vehicle : Registration) (cabin : Cabin) (d : Devices) : Type 0 where
+-- THE STAYS OF BOTH CARDS in the vehicle of the run, by these notes so far, by these lines that tell of an acceptance,
+-- and these with those that tell of a later time: each of these is, in its order, the next of the one card's stays or
+-- of the other's; only a card that was valid has some, each of them true, and it shows exactly them, as they are noted
+-- in this second; and it sits in the slot of the last of them. The unit tells the vehicle before each.
+pub record AreStays (o : Origin) (t : Truths) (second : ℕ) (notes : List Note) (acceptances lines : List Find)
+    (vehicle : Registration) (cabin : Cabin) (d : Devices) : Type 0 where
   pub says : vehicle.0 ≡ registration_in o.recording.unit
   pub stays : Card → List Stay
   pub only : (c : Card) → (stays c ≡ []) ⊎ IsOwnValid (found_of o.found c).image
   pub each : (c : Card) → IsOwnValid (found_of o.found c).image →
-      HasStays second (found_of o.found c) vehicle (spells_of c notes) (sits_in cabin.slots.seats c) (stays c) (session_of cabin.cards c) (card_of d c)
+      HasStays second (found_of o.found c) vehicle (spells_of c notes) (sits_in cabin.slots.seats c) (stays c)
+      (session_of cabin.cards c) (card_of d c)
   pub hold : (c : Card) → AreTrue t c vehicle (found_of o.found c).image (stays c)
   pub placed : (c : Card) → IsOwnValid (found_of o.found c).image → IsPlaced notes cabin c
-  -- by which lines each was turned away since its last stay; none, while it has a session; only a card that was valid was
+  -- by which lines each was turned away since its last stay; none, while it has a session; only a card that was valid
+  -- was
   pub since : Card → List Find
   pub lone : (c : Card) → (since c ≡ []) ⊎ IsOwnValid (found_of o.found c).image
   pub judged : AreMerged lines (judged_in (stays A) (since A)) (judged_in (stays B) (since B))
   -- each of these lines is of the card's own entering
   pub entered : (c : Card) → AllByRecursion (t.entered c) (judged_in (stays c) (since c))
-  pub verdicts : (c : Card) → IsOwnValid (found_of o.found c).image → AreJudged vehicle (own_sizes (found_of o.found c).image).activity (stays c) (since c) (start_shown (found_of o.found c).image)
-  pub waits : (c : Card) → IsOwnValid (found_of o.found c).image → is_some (session_of cabin.cards c) ≡ true → since c ≡ []
-  pub befores : TellsBefores (HasRing insertion_ring o.recording.unit) o.recording.unit acceptances vehicle (λ (c : Card). (found_of o.found c).image) stays d.unit
+  pub verdicts : (c : Card) → IsOwnValid (found_of o.found c).image
+      → AreJudged vehicle (own_sizes (found_of o.found c).image).activity (stays c) (since c)
+      (start_shown (found_of o.found c).image)
+  pub waits : (c : Card) → IsOwnValid (found_of o.found c).image → is_some (session_of cabin.cards c) ≡ true
+      → since c ≡ []
+  pub befores : TellsBefores (HasRing insertion_ring o.recording.unit) o.recording.unit acceptances vehicle
+      (λ (c : Card). (found_of o.found c).image) stays d.unit
 
 -- so it is where no call has failed
 abbrev pub AllStay : Origin → Truths → (second : ℕ) → RunLog → List Note → Registration → Cabin → Devices → Type 0
-AllStay o t second log notes vehicle cabin d = NothingFailed log → AreStays o t second notes (acceptances_told log) (judged_told log) vehicle cabin d
+AllStay o t second log notes vehicle cabin d = NothingFailed log
+    → AreStays o t second notes (acceptances_told log) (judged_told log) vehicle cabin d
 
--- A CARD IS CLOSED where its session was, with the activity that its slot has by these minutes: each image that it may leave is its image before, closed
+-- A CARD IS CLOSED where its session was, with the activity that its slot has by these minutes: each image that it may
+-- leave is its image before, closed
 abbrev pub ClosesOnCard : Slot → Minutes → (session : Option Accepted) → (card card_after : State) → Type 0
 ClosesOnCard slot minutes None card card_after = ⊥
 ClosesOnCard slot minutes (Some a) card card_after =
-    (act : Activity) × ((span : Span) → CountsSpan minutes span → act ≡ activity_next slot span) × ((c : List ℕ) → card_after.may_leave c → (x : List ℕ) × (card.image ≡ Some x) × (IsSession a.session x → IsCardClosed a.session act x c))
+    (act : Activity) × ((span : Span) → CountsSpan minutes span → act ≡ activity_next slot span)
+    × ((c : List ℕ) → card_after.may_leave c
+    → (x : List ℕ) × (card.image ≡ Some x) × (IsSession a.session x → IsCardClosed a.session act x c))

@@ -1,4 +1,5 @@
--- What is true of the stays of a card (profile): of each acceptance, of each minute that is kept, and of each closing; and what of a run so far says so.
+-- What is true of the stays of a card (profile): of each acceptance, of each minute that is kept, and of each closing;
+-- and what of a run so far says so.
 use Rattle.std.specs.Prelude.{◌≡◌, ◌⊎◌, ℕ, suc, ◌+◌, ◌*◌, List, ◌∷◌, [], ◌++◌, Contains, All, length, sum_by}
 use Rattle.activity_codec.specs.declared.values.Activity.{Activity}
 use Rattle.activity_codec.specs.declared.values.Slot.{Slot}
@@ -25,8 +26,9 @@ use Rattle.trace_model.specs.declared.Card.{Card}
 use Rattle.safety_model.specs.Recording.{brought}
 use Rattle.run_acts.specs.Owed.{IsOwed}
 
--- WHAT IS TRUE of an acceptance (the odometer then), of a minute kept, of a closing (the line of the acceptance, the second and the word), of what was owed
--- to a card (the line, its end mark then, and the entries), and of the line by which a card was judged
+-- WHAT IS TRUE of an acceptance (the odometer then), of a minute kept, of a closing (the line of the acceptance, the
+-- second and the word), of what was owed to a card (the line, its end mark then, and the entries), and of the line by
+-- which a card was judged
 pub record Truths : Type 1 where
   pub accepted : Find → (odometer : ℕ) → Type 0
   pub kept : Kept → Type 0
@@ -44,7 +46,10 @@ pub record Grow (t u : Truths) : Type 0 where
 
 -- WITH THESE MARKS each entry that was owed to a card has one of the card's
 abbrev pub marked : List Mark → Truths → Truths
-marked marks t = record t { owed = λ c f mark es. t.owed c f mark es × All (λ (e : Entry). IsMarked marks (device_of c) e.minute) es }
+marked marks t = record t {
+  owed = λ c f mark es. t.owed c f mark es
+      × All (λ (e : Entry). IsMarked marks (device_of c) e.minute) es;
+}
 
 -- ---- a run so far
 
@@ -70,17 +75,20 @@ pub record Rides (spans : List (List ToldSecond)) (second : ℕ) : Type 0 where
 abbrev pub driven_in : List ToldSecond → ℕ
 driven_in span = sum_by (λ (s : Second). s.speed) (seconds_in span)
 
--- THE ODOMETER as a second with power begins, and as it ends: the start's, with the whole kilometres of each power span before, and of this one so far
-pub record IsOdometerBefore (rule : Rule) (start : ℕ) (spans : List (List ToldSecond)) (second odometer : ℕ) : Type 0 where
+-- THE ODOMETER as a second with power begins, and as it ends: the start's, with the whole kilometres of each power span
+-- before, and of this one so far
+pub record IsOdometerBefore (rule : Rule) (start : ℕ) (spans : List (List ToldSecond)) (second odometer : ℕ) : Type
+    0 where
   pub at : Rides spans second
   pub is : odometer ≡ odometer_after start (whole_legs rule at.earlier ++ driven_in at.span ∷ [])
 
-pub record IsOdometerBehind (rule : Rule) (start : ℕ) (spans : List (List ToldSecond)) (second odometer : ℕ) : Type 0 where
+pub record IsOdometerBehind (rule : Rule) (start : ℕ) (spans : List (List ToldSecond)) (second odometer : ℕ) : Type
+    0 where
   pub at : Rides spans second
   pub is : odometer ≡ odometer_after start (whole_legs rule at.earlier ++ driven_in (at.span ++ at.t ∷ []) ∷ [])
 
--- THE WORD of a closing in a second: that of the slot in which the card was accepted, as an action of it withdraws the card, by the seconds of its power
--- span before it
+-- THE WORD of a closing in a second: that of the slot in which the card was accepted, as an action of it withdraws the
+-- card, by the seconds of its power span before it
 pub record IsWordIn (rule : Rule) (p : Past) (f : Find) (second : ℕ) (word : Activity) : Type 0 where
   pub at : Rides p.spans second
   pub s : TraceSecond
@@ -104,8 +112,8 @@ pub record IsLineOf (seconds : List TraceSecond) (c : Card) (f : Find) : Type 0 
 
 -- ---- the truths of a run
 
--- where the odometer stood so at the start: an acceptance tells the odometer of its second, a kept minute that of its end, a closing has the word
--- of its slot, and each line is of its card's own entering
+-- where the odometer stood so at the start: an acceptance tells the odometer of its second, a kept minute that of its
+-- end, a closing has the word of its slot, and each line is of its card's own entering
 abbrev pub truths_by : Rule → (start : ℕ) → Past → (owed : Card → Find → (mark : ℕ) → List Entry → Type 0) → Truths
 truths_by rule start p owed = record {
   accepted = λ f odometer. IsOdometerBefore rule start p.spans f.second odometer;
@@ -117,7 +125,8 @@ truths_by rule start p owed = record {
 
 -- behind these seconds, by this log
 abbrev pub truths_of : Origin → RunLog → List TraceSecond → Truths
-truths_of o log done = truths_by (rule_of o) (odometer_at o.recording.unit) (past_of log done) (λ c. IsOwed (rule_of o) (start_at o) log done c (brought o.recording c).owed)
+truths_of o log done = truths_by (rule_of o) (odometer_at o.recording.unit) (past_of log done)
+    (λ c. IsOwed (rule_of o) (start_at o) log done c (brought o.recording c).owed)
 
 -- WITHIN A SECOND: by the log as it began, and with that second
 abbrev pub truths_within : Origin → (began : RunLog) → List TraceSecond → TraceSecond → Truths
@@ -128,7 +137,9 @@ truths_within o began done s = truths_of o began (done ++ s ∷ [])
 -- EACH POWER SPAN GOES ON: a second with power lies in it behind the same ones, and had the same speed
 abbrev pub SpansGoOn : (spans now : List (List ToldSecond)) → Type 0
 SpansGoOn spans now = (u : ℕ) (r : Rides spans u) →
-    (x : ToldSecond) × (behind : List ToldSecond) × (later : List (List ToldSecond)) × (now ≡ r.earlier ++ (r.span ++ x ∷ behind) ∷ later) × (x.second.number ≡ r.t.second.number) × (x.second.speed ≡ r.t.second.speed)
+    (x : ToldSecond) × (behind : List ToldSecond) × (later : List (List ToldSecond))
+    × (now ≡ r.earlier ++ (r.span ++ x ∷ behind) ∷ later) × (x.second.number ≡ r.t.second.number)
+    × (x.second.speed ≡ r.t.second.speed)
 
 pub record PastGoesOn (p q : Past) : Type 0 where
   pub seconds : (s : TraceSecond) → Contains p.seconds s → Contains q.seconds s

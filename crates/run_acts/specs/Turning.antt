@@ -22,12 +22,16 @@ late_moment next n begun = record { second = next + n - 1; begun = begun; late =
 abbrev pub told_of : Run → Outcome → KeepingState
 told_of run o = record { keeper = run.keeper; marks = o.marks; breaks = o.breaks }
 
--- what n seconds decide is kept, up to the first minute that fails; once all are, what has ended with the second before is noted
-pub record IsKeptInTurn (decided : List Minute) (n speed : ℕ) (at : Moment) (failed : Bool) (old new : Run) (before after : Outcome) : Type 0 where
+-- what n seconds decide is kept, up to the first minute that fails; once all are, what has ended with the second before
+-- is noted
+pub record IsKeptInTurn (decided : List Minute) (n speed : ℕ) (at : Moment) (failed : Bool) (old new : Run)
+    (before after : Outcome) : Type 0 where
   pub only : new ≡ record old { keeper = new.keeper; watch = new.watch }
   pub outcome : after ≡ record before { marks = after.marks; breaks = after.breaks }
-  pub how : ((failed ≡ true) × AreKeptUpTo decided at true (told_of old before) (told_of new after) × (new.watch ≡ old.watch))
-      ⊎ (AreKept at decided (told_of old before) (told_of new after) × ((ended : Ended) × IsFed old.watch new.watch old.next n speed (crew_of old.keeper.cabin) ended))
+  pub how : ((failed ≡ true) × AreKeptUpTo decided at true (told_of old before) (told_of new after)
+      × (new.watch ≡ old.watch))
+      ⊎ (AreKept at decided (told_of old before) (told_of new after)
+      × ((ended : Ended) × IsFed old.watch new.watch old.next n speed (crew_of old.keeper.cabin) ended))
 
 -- the run and the outcome behind a turn that failed: power was lost in its last second
 abbrev pub cut_where : (failed : Bool) → (second : ℕ) → Run → Run
@@ -47,7 +51,8 @@ pub record IsLitTurn (n speed begun : ℕ) (old new : Run) (before after : Outco
   pub only : fed ≡ record old { minutes = fed.minutes }
   pub minutes : (span : Span) → CountsSpan old.minutes span → CountsSpan fed.minutes (fed_many span speed n)
   pub decided : List Minute
-  pub given : (span : Span) → CountsSpan old.minutes span → decided_in (fed_many span speed n) ≡ decided_in span ++ decided
+  pub given : (span : Span) → CountsSpan old.minutes span
+      → decided_in (fed_many span speed n) ≡ decided_in span ++ decided
   pub kept : IsKeptInTurn decided n speed (late_moment old.next n begun) failed fed between before told
   pub run : new ≡ cut_where failed (old.next + n - 1) between
   pub outcome : after ≡ cut_breaks failed (old.next + n - 1) begun told
@@ -55,4 +60,5 @@ pub record IsLitTurn (n speed begun : ℕ) (old new : Run) (before after : Outco
 -- N SECONDS
 abbrev pub IsTurnOf : (lit : Bool) → (n speed begun : ℕ) → (old new : Run) → (before after : Outcome) → Type 0
 IsTurnOf false n speed begun old new before after = (new ≡ passed n begun old) × (after ≡ before)
-IsTurnOf true n speed begun old new before after = (between : Run) × IsLitTurn n speed begun old between before after × (new ≡ passed n begun between)
+IsTurnOf true n speed begun old new before after = (between : Run) × IsLitTurn n speed begun old between before after
+    × (new ≡ passed n begun between)

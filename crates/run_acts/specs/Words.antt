@@ -38,8 +38,9 @@ withdraws slot (Manual s pick minute) = false
 abbrev pub begun_in : (second : ℕ) → Find → ℕ
 begun_in u f = if nat_eq f.second u then f.begun else 0
 
--- THE WORD IS THAT OF A SLOT in which a card was accepted by this line, as an action of a second withdraws the card: by the seconds of its power span
--- before it, and by what the actions before that one select. It is the first behind the acceptance that withdraws from the slot.
+-- THE WORD IS THAT OF A SLOT in which a card was accepted by this line, as an action of a second withdraws the card: by
+-- the seconds of its power span before it, and by what the actions before that one select. It is the first behind the
+-- acceptance that withdraws from the slot.
 pub record IsWordOf (rule : Rule) (span : List ToldSecond) (s : TraceSecond) (f : Find) (word : Activity) : Type 0 where
   pub front : List Action
   pub since : List Action

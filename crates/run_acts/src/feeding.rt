@@ -27,7 +27,8 @@ pub(crate) fn feed(minutes: &mut Minutes, n: u32, speed: u8) -> Decided
     requires fits { minutes.old.next + n ≤ largest_number }
     requires minute { minutes.old.next % 60 + n ≤ 60 }
     ensures fed { (span : Span) → CountsSpan minutes.old span → CountsSpan minutes.new (fed_many span speed n) }
-    ensures given { (span : Span) → CountsSpan minutes.old span → decided_in (fed_many span speed n) ≡ decided_in span ++ result.items }
+    ensures given { (span : Span) → CountsSpan minutes.old span
+        → decided_in (fed_many span speed n) ≡ decided_in span ++ result.items }
     ensures next { minutes.new.next ≡ minutes.old.next + n }
 {
     feed_by::<Brand>(minutes, n, speed, Blank::new(1))
@@ -40,7 +41,8 @@ fn feed_by<L: Ledger>(minutes: &mut Minutes, n: u32, speed: u8, blank: Blank) ->
     requires fits { minutes.old.next + n ≤ largest_number }
     requires minute { minutes.old.next % 60 + n ≤ 60 }
     ensures fed { (span : Span) → CountsSpan minutes.old span → CountsSpan minutes.new (fed_many span speed n) }
-    ensures given { (span : Span) → CountsSpan minutes.old span → decided_in (fed_many span speed n) ≡ decided_in span ++ result.items }
+    ensures given { (span : Span) → CountsSpan minutes.old span
+        → decided_in (fed_many span speed n) ≡ decided_in span ++ result.items }
     ensures next { minutes.new.next ≡ minutes.old.next + n }
 {
     let mut steps = Steps::<L>::new(blank);

@@ -3,7 +3,8 @@ ghost use Rattle.run_minutes.specs.declared.keeper.Moment.{Moment};
 ghost use Rattle.run_minutes.specs.Minutes.{Reach, KeepingState};
 ghost use Rattle.run_minutes.specs.Faults.{faults_to};
 ghost use Rattle.run_acts.specs.KeptEvents.{AreFaults};
-ghost use Rattle.run_acts.specs.EventCrews.{CardsAreNamed, CardsAreNamedBehind, CrewIsNamed, SessionsAreKnown, FaultsAreTold};
+ghost use Rattle.run_acts.specs.EventCrews.{CardsAreNamed, CardsAreNamedBehind, CrewIsNamed, SessionsAreKnown};
+ghost use Rattle.run_acts.specs.EventCrews.{FaultsAreTold};
 
 /// As far as a keeping came, what it notes are faults of cards.
 pub fn keepings_note_faults()

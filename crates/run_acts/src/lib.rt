@@ -1,5 +1,6 @@
-//! What a run over a unit and two cards does where no card is judged (profile): what is kept of it between two seconds, and how power is lost
-//! and comes back; the actions that need no card to be judged; and turns, which are seconds of one minute at one speed.
+//! What a run over a unit and two cards does where no card is judged (profile): what is kept of it between two seconds,
+//! and how power is lost and comes back; the actions that need no card to be judged; and turns, which are seconds of
+//! one minute at one speed.
 #![tactic(auto)]
 
 mod entered;

@@ -6,5 +6,6 @@ ghost use Rattle.run_acts.specs.NotedEvents.{AreTold, IsSplit};
 
 /// Events of a run that two calls note are those of the first, and then those of the other.
 pub fn what_two_calls_note_parts()
-    ensures { (number : Card → List ℕ) (vs ws : List UnitEvent) (es : List Event) → AreTold number (vs ++ ws) es → IsSplit number vs ws es }
+    ensures { (number : Card → List ℕ) (vs ws : List UnitEvent) (es : List Event) → AreTold number (vs ++ ws) es
+        → IsSplit number vs ws es }
 {}

@@ -1,5 +1,6 @@
 //! A place is noted.
-ghost use Rattle.std.specs.Prelude.{◌≡◌, ◌≢◌, ℕ, ◌+◌, ◌/◌, ◌<◌, ◌≤◌, ◌^◌, Bool, true, false, Option, Some, IfSome, OnOk, [], length, is_err, is_some, if◌then◌else◌};
+ghost use Rattle.std.specs.Prelude.{◌≡◌, ◌≢◌, ℕ, ◌+◌, ◌/◌, ◌<◌, ◌≤◌, ◌^◌, Bool, true, false, Option, Some, IfSome};
+ghost use Rattle.std.specs.Prelude.{OnOk, [], length, is_err, is_some, if◌then◌else◌};
 ghost use Rattle.trace_model.specs.declared.Card.{Card};
 ghost use Rattle.tach_media.specs.Medium.{LeavesOnly, HasCause, HasBroken};
 ghost use Rattle.minute_model.specs.Span.{Span, travelled_of};
@@ -48,7 +49,8 @@ pub fn place(run: &Run, ending: bool, country: u8, region: u8) -> PlaceEntry
     ensures time { result.time.0 ≡ run.now.next }
     ensures kind { result.kind ≡ (if ending then 1 else 0) }
     ensures where_to { (result.country.0 ≡ country) × (result.region ≡ region) }
-    ensures odometer { (span : Span) → CountsSpan run.now.minutes span → result.odometer.0 ≡ odometer_by run.now.keeper.odometer (travelled_of span) }
+    ensures odometer { (span : Span) → CountsSpan run.now.minutes span
+        → result.odometer.0 ≡ odometer_by run.now.keeper.odometer (travelled_of span) }
     ensures most { result.odometer.0 ≤ HIGHEST_ODOMETER }
 {
     PlaceEntry {
@@ -78,36 +80,64 @@ pub fn note_place<M: Medium, C: Chip, D: Chip>(
     requires lit { run.old.power ≡ Lit }
     requires low { first_second ≤ run.old.next }
     requires small { run.old.next ≤ end_of_seconds }
-    requires held { CanBeCut (run.old.next / 60) run.old (M.state unit.old) (C.card card_a.old) (D.card card_b.old) (C.state card_a.old) (D.state card_b.old) }
-    requires going { RunHasPowerAllSeated (run.old.next / 60) run.old (M.state unit.old) (C.card card_a.old) (D.card card_b.old) (C.state card_a.old) (D.state card_b.old) }
+    requires held { CanBeCut (run.old.next / 60) run.old (M.state unit.old) (C.card card_a.old) (D.card card_b.old)
+        (C.state card_a.old) (D.state card_b.old) }
+    requires going { RunHasPowerAllSeated (run.old.next / 60) run.old (M.state unit.old) (C.card card_a.old)
+        (D.card card_b.old) (C.state card_a.old) (D.state card_b.old) }
     requires at { at.second ≡ run.old.next }
     requires time { entry.now.time.0 ≢ 0 }
     requires odometer { entry.now.odometer.0 ≤ HIGHEST_ODOMETER }
     requires breaks { length breaks.old.items + falls_of run.old.keeper.cabin ≤ breaks.old.room }
-    ensures placed { (fell : Bool) × IsPlaced (card_in (seat_in run.old.keeper.cabin.slots.seats slot)) slot at run.old run.new breaks.old breaks.new fell }
-    ensures card_events { NotesOnCards false run.old.keeper.cabin.cards run.new.keeper.cabin.cards (λ card. []) (devices (M.state unit.old) (C.state card_a.old) (D.state card_b.old)) (devices (M.state unit.new) (C.state card_a.new) (D.state card_b.new)) }
+    ensures placed { (fell : Bool)
+        × IsPlaced (card_in (seat_in run.old.keeper.cabin.slots.seats slot)) slot at run.old run.new breaks.old
+        breaks.new fell }
+    ensures card_events { NotesOnCards false run.old.keeper.cabin.cards run.new.keeper.cabin.cards (λ card. [])
+        (devices (M.state unit.old) (C.state card_a.old) (D.state card_b.old))
+        (devices (M.state unit.new) (C.state card_a.new) (D.state card_b.new)) }
     // The place stands on the card, where that was not torn out.
-    ensures on_card { (card : Card) → card_in (seat_in run.old.keeper.cabin.slots.seats slot) ≡ Some card → PlaceOn (session_of run.old.keeper.cabin.cards card) (session_of run.new.keeper.cabin.cards card) (is_err result) entry.now
-        (card_of (devices (M.state unit.old) (C.state card_a.old) (D.state card_b.old)) card) (card_of (devices (M.state unit.new) (C.state card_a.new) (D.state card_b.new)) card) }
-    ensures events { NotesPlace (card_in (seat_in run.old.keeper.cabin.slots.seats slot)) slot at (is_err result) run.old run.new breaks.old breaks.new (devices (M.state unit.old) (C.state card_a.old) (D.state card_b.old)) (devices (M.state unit.new) (C.state card_a.new) (D.state card_b.new)) }
-    ensures evented { EventsPlace slot at (is_err result) run.old run.new breaks.old breaks.new (devices (M.state unit.old) (C.state card_a.old) (D.state card_b.old)) (devices (M.state unit.new) (C.state card_a.new) (D.state card_b.new)) }
-    ensures recorded { IsPlaceRecorded slot at (is_err result) run.old run.new breaks.old breaks.new (devices (M.state unit.old) (C.state card_a.old) (D.state card_b.old)) (devices (M.state unit.new) (C.state card_a.new) (D.state card_b.new)) }
-    ensures rings { is_some (M.state unit.old).image ≡ true → WritesPlace (number_of_seat run.old.keeper.cabin.cards (seat_in run.old.keeper.cabin.slots.seats slot)) entry.now (is_err result) (M.state unit.old) (M.state unit.new) }
+    ensures on_card { (card : Card) → card_in (seat_in run.old.keeper.cabin.slots.seats slot) ≡ Some card
+        → PlaceOn (session_of run.old.keeper.cabin.cards card) (session_of run.new.keeper.cabin.cards card)
+        (is_err result) entry.now
+        (card_of (devices (M.state unit.old) (C.state card_a.old) (D.state card_b.old)) card)
+        (card_of (devices (M.state unit.new) (C.state card_a.new) (D.state card_b.new)) card) }
+    ensures events { NotesPlace (card_in (seat_in run.old.keeper.cabin.slots.seats slot)) slot at (is_err result)
+        run.old run.new breaks.old breaks.new (devices (M.state unit.old) (C.state card_a.old) (D.state card_b.old))
+        (devices (M.state unit.new) (C.state card_a.new) (D.state card_b.new)) }
+    ensures evented { EventsPlace slot at (is_err result) run.old run.new breaks.old breaks.new
+        (devices (M.state unit.old) (C.state card_a.old) (D.state card_b.old))
+        (devices (M.state unit.new) (C.state card_a.new) (D.state card_b.new)) }
+    ensures recorded { IsPlaceRecorded slot at (is_err result) run.old run.new breaks.old breaks.new
+        (devices (M.state unit.old) (C.state card_a.old) (D.state card_b.old))
+        (devices (M.state unit.new) (C.state card_a.new) (D.state card_b.new)) }
+    ensures rings { is_some (M.state unit.old).image ≡ true
+        → WritesPlace (number_of_seat run.old.keeper.cabin.cards (seat_in run.old.keeper.cabin.slots.seats slot))
+        entry.now (is_err result) (M.state unit.old) (M.state unit.new) }
     // The cards show the events of their second so far.
-    ensures cards { CardsPlace slot at (is_err result) run.old breaks.old breaks.new (devices (M.state unit.old) (C.state card_a.old) (D.state card_b.old)) (devices (M.state unit.new) (C.state card_a.new) (D.state card_b.new)) }
+    ensures cards { CardsPlace slot at (is_err result) run.old breaks.old breaks.new
+        (devices (M.state unit.old) (C.state card_a.old) (D.state card_b.old))
+        (devices (M.state unit.new) (C.state card_a.new) (D.state card_b.new)) }
     // What was noted of insertions and places goes on with it.
-    ensures ringed { RingsPlace slot entry.now at (is_err result) run.old run.new breaks.old breaks.new (devices (M.state unit.old) (C.state card_a.old) (D.state card_b.old)) (devices (M.state unit.new) (C.state card_a.new) (D.state card_b.new)) }
+    ensures ringed { RingsPlace slot entry.now at (is_err result) run.old run.new breaks.old breaks.new
+        (devices (M.state unit.old) (C.state card_a.old) (D.state card_b.old))
+        (devices (M.state unit.new) (C.state card_a.new) (D.state card_b.new)) }
     ensures only { run.new ≡ record run.old { keeper = run.new.keeper } }
-    ensures held { CanBeCut (run.new.next / 60) run.new (M.state unit.new) (C.card card_a.new) (D.card card_b.new) (C.state card_a.new) (D.state card_b.new) }
-    ensures going { OnOk result (RunHasPowerAllSeated (run.new.next / 60) run.new (M.state unit.new) (C.card card_a.new) (D.card card_b.new) (C.state card_a.new) (D.state card_b.new)) }
-    ensures room { (breaks.new.room ≡ breaks.old.room) × (length breaks.new.items + falls_of run.new.keeper.cabin ≤ length breaks.old.items + falls_of run.old.keeper.cabin) }
+    ensures held { CanBeCut (run.new.next / 60) run.new (M.state unit.new) (C.card card_a.new) (D.card card_b.new)
+        (C.state card_a.new) (D.state card_b.new) }
+    ensures going { OnOk result (RunHasPowerAllSeated (run.new.next / 60) run.new (M.state unit.new) (C.card card_a.new)
+        (D.card card_b.new) (C.state card_a.new) (D.state card_b.new)) }
+    ensures room { (breaks.new.room ≡ breaks.old.room)
+        × (length breaks.new.items + falls_of run.new.keeper.cabin
+        ≤ length breaks.old.items + falls_of run.old.keeper.cabin) }
     ensures more { length breaks.old.items ≤ length breaks.new.items }
     ensures cause { HasCause (M.state unit.old) (M.state unit.new) (is_err result) }
     ensures clock { (M.state unit.old).clock ≤ (M.state unit.new).clock }
     ensures clock_a { (C.state card_a.old).clock ≤ (C.state card_a.new).clock }
     ensures clock_b { (D.state card_b.old).clock ≤ (D.state card_b.new).clock }
-    ensures later { AreLater (devices (M.state unit.old) (C.state card_a.old) (D.state card_b.old)) (devices (M.state unit.new) (C.state card_a.new) (D.state card_b.new)) }
-    ensures calm { AreCalm breaks.old.items breaks.new.items (devices (M.state unit.old) (C.state card_a.old) (D.state card_b.old)) (devices (M.state unit.new) (C.state card_a.new) (D.state card_b.new)) }
+    ensures later { AreLater (devices (M.state unit.old) (C.state card_a.old) (D.state card_b.old))
+        (devices (M.state unit.new) (C.state card_a.new) (D.state card_b.new)) }
+    ensures calm { AreCalm breaks.old.items breaks.new.items
+        (devices (M.state unit.old) (C.state card_a.old) (D.state card_b.old))
+        (devices (M.state unit.new) (C.state card_a.new) (D.state card_b.new)) }
 {
     let Some(card) = run.keeper.cabin.slots.card(slot) else {
         return Ok(());
@@ -141,20 +171,30 @@ fn note_place_in<M: Medium, C: Chip>(
     requires time { entry.now.time.0 ≢ 0 }
     requires odometer { entry.now.odometer.0 < 2 ^ 24 }
     requires room { length breaks.old.items < breaks.old.room }
-    ensures noted { (fell : Bool) × IsNotedOn which slot at run.old run.new breaks.old breaks.new fell × HasBroken (C.state card.old) (C.state card.new) (falls_by fell) × HasCause (C.state card.old) (C.state card.new) fell }
-    ensures card_events { NotesOn false (session_of run.old.keeper.cabin.cards which) (session_of run.new.keeper.cabin.cards which) [] (C.state card.old) (C.state card.new) }
-    ensures on_card { PlaceOn (session_of run.old.keeper.cabin.cards which) (session_of run.new.keeper.cabin.cards which) false entry.now (C.state card.old) (C.state card.new) }
-    ensures places { MayTakePlace (session_of run.old.keeper.cabin.cards which) entry.now (C.state card.old) (C.state card.new) }
-    ensures events { NotesFall (λ fell. IsNotedOn which slot at run.old run.new breaks.old breaks.new fell) at.second (is_err result) run.new (devices (M.state unit.old) (C.state card.old) (C.state card.old)) (devices (M.state unit.new) (C.state card.new) (C.state card.new)) }
+    ensures noted { (fell : Bool) × IsNotedOn which slot at run.old run.new breaks.old breaks.new fell
+        × HasBroken (C.state card.old) (C.state card.new) (falls_by fell)
+        × HasCause (C.state card.old) (C.state card.new) fell }
+    ensures card_events { NotesOn false (session_of run.old.keeper.cabin.cards which)
+        (session_of run.new.keeper.cabin.cards which) [] (C.state card.old) (C.state card.new) }
+    ensures on_card { PlaceOn (session_of run.old.keeper.cabin.cards which)
+        (session_of run.new.keeper.cabin.cards which) false entry.now (C.state card.old) (C.state card.new) }
+    ensures places { MayTakePlace (session_of run.old.keeper.cabin.cards which) entry.now (C.state card.old)
+        (C.state card.new) }
+    ensures events { NotesFall (λ fell. IsNotedOn which slot at run.old run.new breaks.old breaks.new fell) at.second
+        (is_err result) run.new (devices (M.state unit.old) (C.state card.old) (C.state card.old))
+        (devices (M.state unit.new) (C.state card.new) (C.state card.new)) }
     ensures rings { LeavesRings (M.state unit.old) (M.state unit.new) }
     ensures speeds { LeavesSpeeds (M.state unit.old) (M.state unit.new) }
     ensures journal { LeavesOnly (M.state unit.old) (M.state unit.new) LeavesJournal }
-    ensures moments { IfSome (session_of run.old.keeper.cabin.cards which) (λ a. LeavesOnly (C.state card.old) (C.state card.new) (IsNote a.session.application)) }
+    ensures moments { IfSome (session_of run.old.keeper.cabin.cards which)
+        (λ a. LeavesOnly (C.state card.old) (C.state card.new) (IsNote a.session.application)) }
     ensures value { IfSome (session_of run.old.keeper.cabin.cards which) (λ a. IsValue a.session) }
     ensures unit { IsUnit (M.state unit.new) }
     ensures ready { OnOk result (UnitMayBeCalled run.new.keeper (M.state unit.new)) }
-    ensures rows { (c : Card) → HasItsRow run.old.keeper.cabin.cards (M.state unit.old) c → OnOk result (HasItsRow run.new.keeper.cabin.cards (M.state unit.new) c) }
-    ensures stands { (from : ℕ) (leaving : Option Card) → CabinIsSound from leaving run.old.keeper.cabin → CabinIsSound from leaving run.new.keeper.cabin }
+    ensures rows { (c : Card) → HasItsRow run.old.keeper.cabin.cards (M.state unit.old) c
+        → OnOk result (HasItsRow run.new.keeper.cabin.cards (M.state unit.new) c) }
+    ensures stands { (from : ℕ) (leaving : Option Card) → CabinIsSound from leaving run.old.keeper.cabin
+        → CabinIsSound from leaving run.new.keeper.cabin }
     ensures card { CardMayBeCalled (known_of run.new.keeper.cabin.cards which) (C.card card.new) (C.state card.new) }
     ensures size { (C.state card.new).size ≡ (C.state card.old).size }
     ensures clock_card { (C.state card.old).clock ≤ (C.state card.new).clock }

@@ -19,14 +19,15 @@ impl Run {
     ghost use Rattle.run_acts.specs.Going.{first_second, end_of_seconds};
     ghost use Rattle.run_acts.specs.declared.run.Power.TheVariants.{Lit};
 
-    /// The power was lost in a second of which so many actions had begun: a call on the unit has failed, or it is the last
-    /// one before an `off` line. The cards stay in their slots, and none is accepted any more.
+    /// The power was lost in a second of which so many actions had begun: a call on the unit has failed, or it is the
+    /// last one before an `off` line. The cards stay in their slots, and none is accepted any more.
     pub fn cut(&mut self, second: u32, failed: bool, begun: u32, breaks: &mut Lines<Break>)
         requires room { length breaks.old.items < breaks.old.room }
         requires minute { self.old.keeper.cabin.slots.minute ≤ second / 60 }
         ensures run { self.new ≡ cut_run second self.old }
         ensures breaks { breaks.new ≡ with_lines (cut_at second failed begun ∷ []) breaks.old }
-        ensures stands { (from to : ℕ) (leaving : Option Card) → CabinIsSound from leaving self.old.keeper.cabin → CabinIsSound to None self.new.keeper.cabin }
+        ensures stands { (from to : ℕ) (leaving : Option Card) → CabinIsSound from leaving self.old.keeper.cabin
+            → CabinIsSound to None self.new.keeper.cabin }
         ensures bare { (card : Card) → session_of self.new.keeper.cabin.cards card ≡ None }
     {
         breaks.add(Break::Cut {
@@ -46,7 +47,8 @@ impl Run {
         requires room { self.old.power ≡ Lit → length breaks.old.items < breaks.old.room }
         requires minute { self.old.keeper.cabin.slots.minute ≤ (self.old.next - 1) / 60 }
         ensures run { self.new ≡ off_run seconds self.old }
-        ensures breaks { breaks.new ≡ with_lines (off_cut (is_lit self.old.power) (self.old.next - 1) self.old.begun) breaks.old }
+        ensures breaks { breaks.new ≡ with_lines (off_cut (is_lit self.old.power) (self.old.next - 1) self.old.begun)
+            breaks.old }
     {
         if self.is_lit() {
             let begun = self.begun;
@@ -72,7 +74,9 @@ impl Run {
         requires low { first_second ≤ self.old.next }
         requires minute { self.old.keeper.cabin.slots.minute ≤ (self.old.next - 1) / 60 }
         ensures run { self.new ≡ minute_over self.old }
-        ensures ended { (from : ℕ) → self.old.next / 60 ≤ from + 4 → KnowsEnded from ((self.old.next - 1) / 60) self.old.keeper.cabin.slots → KnowsEnded from (self.old.next / 60) self.new.keeper.cabin.slots }
+        ensures ended { (from : ℕ) → self.old.next / 60 ≤ from + 4
+            → KnowsEnded from ((self.old.next - 1) / 60) self.old.keeper.cabin.slots
+            → KnowsEnded from (self.old.next / 60) self.new.keeper.cabin.slots }
     {
         if self.next % 60 == 0 {
             self.keeper.cabin.end_minute(self.next / 60 - 1);
@@ -83,7 +87,10 @@ impl Run {
     pub fn learn(&mut self, kept: u32, breaks: &mut Lines<Break>)
         requires { self.old.unfound ≤ length breaks.old.items }
         ensures run { self.new ≡ record self.old { unfound = length breaks.old.items } }
-        ensures breaks { breaks.new ≡ record { items = found_from self.old.unfound kept breaks.old.items; room = breaks.old.room } }
+        ensures breaks { breaks.new ≡ record {
+          items = found_from self.old.unfound kept breaks.old.items;
+          room = breaks.old.room;
+        } }
         ensures same { length breaks.new.items ≡ length breaks.old.items }
     {
         breaks.find(self.unfound, kept);

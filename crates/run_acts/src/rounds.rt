@@ -1,5 +1,6 @@
 ghost use Rattle.run_promise.specs.Between.{devices};
-ghost use Rattle.run_acts.specs.RoundLaws.{TheMinutesMayBeBooked, TheMinutesAreOver, TheMinutesAreKept, TheyLeaveStill, TheKeepingFails, TheNoteFails, TheKeepingIsRecorded};
+ghost use Rattle.run_acts.specs.RoundLaws.{TheMinutesMayBeBooked, TheMinutesAreOver, TheMinutesAreKept, TheyLeaveStill};
+ghost use Rattle.run_acts.specs.RoundLaws.{TheKeepingFails, TheNoteFails, TheKeepingIsRecorded};
 
 use tach_media::{Chip, Medium};
 
@@ -22,7 +23,8 @@ pub fn the_minutes_are_kept<M: Medium, C: Chip, D: Chip, N: Medium, E: Chip, F: 
     card_a: &E,
     card_b: &F,
 )
-    ensures { TheMinutesAreKept (devices (M.state old_unit.now) (C.state old_a.now) (D.state old_b.now)) (devices (N.state unit.now) (E.state card_a.now) (F.state card_b.now)) }
+    ensures { TheMinutesAreKept (devices (M.state old_unit.now) (C.state old_a.now) (D.state old_b.now))
+        (devices (N.state unit.now) (E.state card_a.now) (F.state card_b.now)) }
 {}
 
 /// A card that leaves its slot leaves it still behind them.
@@ -34,7 +36,8 @@ pub fn they_leave_still<M: Medium, C: Chip, D: Chip, N: Medium, E: Chip, F: Chip
     card_a: &E,
     card_b: &F,
 )
-    ensures { TheyLeaveStill (devices (M.state old_unit.now) (C.state old_a.now) (D.state old_b.now)) (devices (N.state unit.now) (E.state card_a.now) (F.state card_b.now)) }
+    ensures { TheyLeaveStill (devices (M.state old_unit.now) (C.state old_a.now) (D.state old_b.now))
+        (devices (N.state unit.now) (E.state card_a.now) (F.state card_b.now)) }
 {}
 
 /// The unit fails in one of them.
@@ -46,7 +49,8 @@ pub fn the_keeping_fails<M: Medium, C: Chip, D: Chip, N: Medium, E: Chip, F: Chi
     card_a: &E,
     card_b: &F,
 )
-    ensures { TheKeepingFails (devices (M.state old_unit.now) (C.state old_a.now) (D.state old_b.now)) (devices (N.state unit.now) (E.state card_a.now) (F.state card_b.now)) }
+    ensures { TheKeepingFails (devices (M.state old_unit.now) (C.state old_a.now) (D.state old_b.now))
+        (devices (N.state unit.now) (E.state card_a.now) (F.state card_b.now)) }
 {}
 
 /// The unit fails in a note behind all of them.
@@ -58,7 +62,8 @@ pub fn the_note_fails<M: Medium, C: Chip, D: Chip, N: Medium, E: Chip, F: Chip>(
     card_a: &E,
     card_b: &F,
 )
-    ensures { TheNoteFails (devices (M.state old_unit.now) (C.state old_a.now) (D.state old_b.now)) (devices (N.state unit.now) (E.state card_a.now) (F.state card_b.now)) }
+    ensures { TheNoteFails (devices (M.state old_unit.now) (C.state old_a.now) (D.state old_b.now))
+        (devices (N.state unit.now) (E.state card_a.now) (F.state card_b.now)) }
 {}
 
 /// A keeping is recorded, as far as it came.
@@ -70,5 +75,6 @@ pub fn the_keeping_is_recorded<M: Medium, C: Chip, D: Chip, N: Medium, E: Chip, 
     card_a: &E,
     card_b: &F,
 )
-    ensures { TheKeepingIsRecorded (devices (M.state old_unit.now) (C.state old_a.now) (D.state old_b.now)) (devices (N.state unit.now) (E.state card_a.now) (F.state card_b.now)) }
+    ensures { TheKeepingIsRecorded (devices (M.state old_unit.now) (C.state old_a.now) (D.state old_b.now))
+        (devices (N.state unit.now) (E.state card_a.now) (F.state card_b.now)) }
 {}

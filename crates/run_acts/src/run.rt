@@ -23,7 +23,8 @@ use tacho_types::Odometer;
 pub enum Power {
     /// It has power.
     Lit,
-    /// It has none, and has it again at the first second that the trace gives it: at the beginning, and behind an `off` line.
+    /// It has none, and has it again at the first second that the trace gives it: at the beginning, and behind an `off`
+    /// line.
     Due,
     /// A call on it has failed: it has power again at the next minute, or behind an `off` line.
     Lost,
@@ -64,7 +65,13 @@ impl Run {
         ensures unfound { result.unfound ≡ 0 }
         ensures noted { result.noted ≡ 0 }
         ensures minutes { CountsSpan result.minutes (begin (rule_by opened.unit.memory.rule_byte) start) }
-        ensures keeper { result.keeper ≡ record { memory = opened.unit.memory; journal = opened.unit.journal; odometer = opened.unit.journal.odometer; cabin = record { slots = nothing_yet; cards = record { a = opened.card_a; b = opened.card_b } } } }
+        ensures keeper { result.keeper
+            ≡ record {
+              memory = opened.unit.memory;
+              journal = opened.unit.journal;
+              odometer = opened.unit.journal.odometer;
+              cabin = record { slots = nothing_yet; cards = record { a = opened.card_a; b = opened.card_b } };
+            } }
         ensures odometer { result.keeper.odometer ≤ HIGHEST_ODOMETER }
         ensures stands { (from : ℕ) → CabinIsSound from None result.keeper.cabin }
     {
@@ -110,7 +117,8 @@ impl Run {
     /// The odometer at the begin of the next second.
     pub fn odometer_now(&self) -> Odometer
         requires { self.now.keeper.odometer ≤ HIGHEST_ODOMETER }
-        ensures value { (span : Span) → CountsSpan self.now.minutes span → result.0 ≡ odometer_by self.now.keeper.odometer (travelled_of span) }
+        ensures value { (span : Span) → CountsSpan self.now.minutes span
+            → result.0 ≡ odometer_by self.now.keeper.odometer (travelled_of span) }
         ensures most { result.0 ≤ HIGHEST_ODOMETER }
     {
         odometer_after(self.keeper.odometer, self.minutes.travelled())
@@ -119,7 +127,8 @@ impl Run {
     /// An action of the next second is refused, with which so many of its actions have begun.
     pub fn refuse(&self, begun: u32, fault: SlotFault, refused: &mut Lines<Refused>)
         requires { length refused.old.items < refused.old.room }
-        ensures { refused.new ≡ with_lines (record { second = self.now.next; fault = fault; begun = begun } ∷ []) refused.old }
+        ensures { refused.new ≡ with_lines (record { second = self.now.next; fault = fault; begun = begun } ∷ [])
+            refused.old }
     {
         refused.add(Refused {
             second: self.next,

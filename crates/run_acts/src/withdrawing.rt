@@ -1,5 +1,6 @@
 //! A card leaves its slot by hand: it is withdrawn, or pulled out.
-ghost use Rattle.std.specs.Prelude.{◌≡◌, ◌≢◌, ℕ, ◌+◌, ◌-◌, ◌*◌, ◌/◌, ◌<◌, ◌≤◌, ◌++◌, true, false, not, List, Option, Some, None, IfSome, OnOk, length, is_some, is_err};
+ghost use Rattle.std.specs.Prelude.{◌≡◌, ◌≢◌, ℕ, ◌+◌, ◌-◌, ◌*◌, ◌/◌, ◌<◌, ◌≤◌, ◌++◌, true, false, not, List, Option};
+ghost use Rattle.std.specs.Prelude.{Some, None, IfSome, OnOk, length, is_some, is_err};
 ghost use Rattle.trace_model.specs.declared.Card.{Card};
 ghost use Rattle.activity_codec.specs.declared.values.Activity.{Activity};
 ghost use Rattle.tach_media.specs.Medium.{LeavesOnly, HasCause, HasBroken};
@@ -24,7 +25,8 @@ ghost use Rattle.run_minutes.specs.Later.{IsLater, AreLater, AreCalm, IsCalm};
 ghost use Rattle.run_promise.specs.Between.{devices};
 ghost use Rattle.run_minutes.specs.Minutes.{KeepingState, Reach, IsReach};
 ghost use Rattle.run_acts.specs.Stays.{ClosesOnCard};
-ghost use Rattle.run_acts.specs.Acting.{Closing, Closed, IsClosed, closed_falls, IsWithdrawn, left_run, pulled_run, pulled_breaks, told_of};
+ghost use Rattle.run_acts.specs.Acting.{Closing, Closed, IsClosed, closed_falls, IsWithdrawn, left_run, pulled_run};
+ghost use Rattle.run_acts.specs.Acting.{pulled_breaks, told_of};
 ghost use Rattle.trace_model.specs.declared.Action.TheVariants.{Withdraw};
 ghost use Rattle.run_acts.specs.Recording.{RecordsAction};
 ghost use Rattle.run_acts.specs.Noting.{SaysNoMore, NotesClosing, NotesWithdrawing};
@@ -68,38 +70,67 @@ pub fn withdraw<M: Medium, C: Chip, D: Chip>(
     requires lit { run.old.power ≡ Lit }
     requires low { first_second ≤ run.old.next }
     requires small { run.old.next ≤ end_of_seconds }
-    requires held { CanBeCut (run.old.next / 60) run.old (M.state unit.old) (C.card card_a.old) (D.card card_b.old) (C.state card_a.old) (D.state card_b.old) }
-    requires going { RunHasPowerAllSeated (run.old.next / 60) run.old (M.state unit.old) (C.card card_a.old) (D.card card_b.old) (C.state card_a.old) (D.state card_b.old) }
+    requires held { CanBeCut (run.old.next / 60) run.old (M.state unit.old) (C.card card_a.old) (D.card card_b.old)
+        (C.state card_a.old) (D.state card_b.old) }
+    requires going { RunHasPowerAllSeated (run.old.next / 60) run.old (M.state unit.old) (C.card card_a.old)
+        (D.card card_b.old) (C.state card_a.old) (D.state card_b.old) }
     requires at { at.second ≡ run.old.next }
     requires marks { length outcome.old.marks.items + 3 * run.old.minutes.owing ≤ outcome.old.marks.room }
     requires breaks { length outcome.old.breaks.items + falls_of run.old.keeper.cabin ≤ outcome.old.breaks.room }
-    ensures withdrawn { IsWithdrawn (card_in (seat_in run.old.keeper.cabin.slots.seats slot)) slot at (is_err result) run.old run.new outcome.old outcome.new }
+    ensures withdrawn { IsWithdrawn (card_in (seat_in run.old.keeper.cabin.slots.seats slot)) slot at (is_err result)
+        run.old run.new outcome.old outcome.new }
     ensures only { run.new ≡ record run.old { minutes = run.new.minutes; keeper = run.new.keeper } }
     ensures rest { outcome.new ≡ record outcome.old { marks = outcome.new.marks; breaks = outcome.new.breaks } }
-    ensures booked { (card : Card) → card_in (seat_in run.old.keeper.cabin.slots.seats slot) ≡ Some card → (decided : List Minute) × (reach : Reach) × (closing : Option Closing) × (between : KeepingState)
+    ensures booked { (card : Card) → card_in (seat_in run.old.keeper.cabin.slots.seats slot) ≡ Some card
+        → (decided : List Minute) × (reach : Reach) × (closing : Option Closing) × (between : KeepingState)
         × ((span : Span) → CountsSpan run.old.minutes span → decided_in (settled span) ≡ decided_in span ++ decided)
-        × IsReach decided at (not (is_some closing)) (told_of (left_run slot at.second run.old) outcome.old) between reach
-        × BooksWithdrawn card decided (is_err result) reach closing (told_of (left_run slot at.second run.old) outcome.old) (told_of run.new outcome.new) (devices (M.state unit.old) (C.state card_a.old) (D.state card_b.old)) (devices (M.state unit.new) (C.state card_a.new) (D.state card_b.new)) }
-    ensures events { NotesWithdrawing (card_in (seat_in run.old.keeper.cabin.slots.seats slot)) slot at (is_err result) run.old run.new outcome.old outcome.new (devices (M.state unit.old) (C.state card_a.old) (D.state card_b.old)) (devices (M.state unit.new) (C.state card_a.new) (D.state card_b.new)) }
-    ensures evented { EventsWithdrawal slot at (is_err result) run.old run.new outcome.old outcome.new (devices (M.state unit.old) (C.state card_a.old) (D.state card_b.old)) (devices (M.state unit.new) (C.state card_a.new) (D.state card_b.new)) }
-    ensures recorded { at.late ≡ false → (speed : ℕ) → RecordsAction (Withdraw slot) at.begun speed (is_err result) run.old run.new outcome.old outcome.new (devices (M.state unit.old) (C.state card_a.old) (D.state card_b.old)) (devices (M.state unit.new) (C.state card_a.new) (D.state card_b.new)) }
-    ensures rings { is_some (M.state unit.old).image ≡ true → WithdrawsSo (card_in (seat_in run.old.keeper.cabin.slots.seats slot)) slot at (is_err result) run.old run.new outcome.old outcome.new (M.state unit.old) (M.state unit.new) }
+        × IsReach decided at (not (is_some closing)) (told_of (left_run slot at.second run.old) outcome.old) between
+        reach
+        × BooksWithdrawn card decided (is_err result) reach closing
+        (told_of (left_run slot at.second run.old) outcome.old) (told_of run.new outcome.new)
+        (devices (M.state unit.old) (C.state card_a.old) (D.state card_b.old))
+        (devices (M.state unit.new) (C.state card_a.new) (D.state card_b.new)) }
+    ensures events { NotesWithdrawing (card_in (seat_in run.old.keeper.cabin.slots.seats slot)) slot at (is_err result)
+        run.old run.new outcome.old outcome.new (devices (M.state unit.old) (C.state card_a.old) (D.state card_b.old))
+        (devices (M.state unit.new) (C.state card_a.new) (D.state card_b.new)) }
+    ensures evented { EventsWithdrawal slot at (is_err result) run.old run.new outcome.old outcome.new
+        (devices (M.state unit.old) (C.state card_a.old) (D.state card_b.old))
+        (devices (M.state unit.new) (C.state card_a.new) (D.state card_b.new)) }
+    ensures recorded { at.late ≡ false → (speed : ℕ)
+        → RecordsAction (Withdraw slot) at.begun speed (is_err result) run.old run.new outcome.old outcome.new
+        (devices (M.state unit.old) (C.state card_a.old) (D.state card_b.old))
+        (devices (M.state unit.new) (C.state card_a.new) (D.state card_b.new)) }
+    ensures rings { is_some (M.state unit.old).image ≡ true
+        → WithdrawsSo (card_in (seat_in run.old.keeper.cabin.slots.seats slot)) slot at (is_err result) run.old run.new
+        outcome.old outcome.new (M.state unit.old) (M.state unit.new) }
     // What was noted of insertions and places goes on with it.
-    ensures ringed { RingsWithdrawal slot at (is_err result) run.old run.new outcome.old outcome.new (devices (M.state unit.old) (C.state card_a.old) (D.state card_b.old)) (devices (M.state unit.new) (C.state card_a.new) (D.state card_b.new)) }
+    ensures ringed { RingsWithdrawal slot at (is_err result) run.old run.new outcome.old outcome.new
+        (devices (M.state unit.old) (C.state card_a.old) (D.state card_b.old))
+        (devices (M.state unit.new) (C.state card_a.new) (D.state card_b.new)) }
     // Each card shows its events still.
-    ensures cards { CardsWithdrawal slot at (is_err result) run.old outcome.old outcome.new (devices (M.state unit.old) (C.state card_a.old) (D.state card_b.old)) (devices (M.state unit.new) (C.state card_a.new) (D.state card_b.new)) }
+    ensures cards { CardsWithdrawal slot at (is_err result) run.old outcome.old outcome.new
+        (devices (M.state unit.old) (C.state card_a.old) (D.state card_b.old))
+        (devices (M.state unit.new) (C.state card_a.new) (D.state card_b.new)) }
     // The card is closed with what is selected then.
-    ensures shut { (card : Card) → card_in (seat_in run.old.keeper.cabin.slots.seats slot) ≡ Some card → WithdrawsShut card slot at (is_err result) run.old run.new outcome.old outcome.new (devices (M.state unit.old) (C.state card_a.old) (D.state card_b.old)) (devices (M.state unit.new) (C.state card_a.new) (D.state card_b.new)) }
-    ensures held { CanBeCut (run.new.next / 60) run.new (M.state unit.new) (C.card card_a.new) (D.card card_b.new) (C.state card_a.new) (D.state card_b.new) }
-    ensures going { OnOk result (RunHasPowerAllSeated (run.new.next / 60) run.new (M.state unit.new) (C.card card_a.new) (D.card card_b.new) (C.state card_a.new) (D.state card_b.new)) }
+    ensures shut { (card : Card) → card_in (seat_in run.old.keeper.cabin.slots.seats slot) ≡ Some card
+        → WithdrawsShut card slot at (is_err result) run.old run.new outcome.old outcome.new
+        (devices (M.state unit.old) (C.state card_a.old) (D.state card_b.old))
+        (devices (M.state unit.new) (C.state card_a.new) (D.state card_b.new)) }
+    ensures held { CanBeCut (run.new.next / 60) run.new (M.state unit.new) (C.card card_a.new) (D.card card_b.new)
+        (C.state card_a.new) (D.state card_b.new) }
+    ensures going { OnOk result (RunHasPowerAllSeated (run.new.next / 60) run.new (M.state unit.new) (C.card card_a.new)
+        (D.card card_b.new) (C.state card_a.new) (D.state card_b.new)) }
     ensures takes { Takes 0 0 0 run.old run.new outcome.old outcome.new }
     ensures more { length outcome.old.breaks.items ≤ length outcome.new.breaks.items }
     ensures cause { HasCause (M.state unit.old) (M.state unit.new) (is_err result) }
     ensures clock { (M.state unit.old).clock ≤ (M.state unit.new).clock }
     ensures clock_a { (C.state card_a.old).clock ≤ (C.state card_a.new).clock }
     ensures clock_b { (D.state card_b.old).clock ≤ (D.state card_b.new).clock }
-    ensures later { AreLater (devices (M.state unit.old) (C.state card_a.old) (D.state card_b.old)) (devices (M.state unit.new) (C.state card_a.new) (D.state card_b.new)) }
-    ensures calm { AreCalm outcome.old.breaks.items outcome.new.breaks.items (devices (M.state unit.old) (C.state card_a.old) (D.state card_b.old)) (devices (M.state unit.new) (C.state card_a.new) (D.state card_b.new)) }
+    ensures later { AreLater (devices (M.state unit.old) (C.state card_a.old) (D.state card_b.old))
+        (devices (M.state unit.new) (C.state card_a.new) (D.state card_b.new)) }
+    ensures calm { AreCalm outcome.old.breaks.items outcome.new.breaks.items
+        (devices (M.state unit.old) (C.state card_a.old) (D.state card_b.old))
+        (devices (M.state unit.new) (C.state card_a.new) (D.state card_b.new)) }
 {
     let Some(card) = run.keeper.cabin.slots.card(slot) else {
         return Ok(());
@@ -112,8 +143,8 @@ pub fn withdraw<M: Medium, C: Chip, D: Chip>(
     }
 }
 
-// The session of a card that was taken out of a slot is closed, if it has one: it is handed out without a write where it was not
-// accepted, and where it was torn out by then.
+// The session of a card that was taken out of a slot is closed, if it has one: it is handed out without a write where
+// it was not accepted, and where it was torn out by then.
 fn close<M: Medium, C: Chip>(
     run: &mut Run,
     which: Card,
@@ -125,24 +156,35 @@ fn close<M: Medium, C: Chip>(
 ) -> Result<(), Failed>
     requires ready { UnitMayBeCalled run.old.keeper (M.state unit.old) }
     requires card { CardMayBeCalled (known_of run.old.keeper.cabin.cards which) (C.card card.old) (C.state card.old) }
-    requires entry { IfSome (session_of run.old.keeper.cabin.cards which) (λ s. (s.entry < insertion_ring.count) × (s.noted ≤ run.old.noted)) }
+    requires entry { IfSome (session_of run.old.keeper.cabin.cards which)
+        (λ s. (s.entry < insertion_ring.count) × (s.noted ≤ run.old.noted)) }
     requires odometer { run.old.keeper.odometer ≤ HIGHEST_ODOMETER }
     requires minute { run.old.keeper.cabin.slots.minute ≤ at.second / 60 }
     requires second { at.second ≢ 0 }
     requires room { length breaks.old.items + tears_of (session_of run.old.keeper.cabin.cards which) ≤ breaks.old.room }
-    ensures closed { (closing : Closing) × IsClosed which slot at run.old run.new breaks.old breaks.new closing × HasBroken (C.state card.old) (C.state card.new) (closed_falls closing)
-        × (closing ≡ Closed → ClosesOnCard slot run.old.minutes (session_of run.old.keeper.cabin.cards which) (C.state card.old) (C.state card.new)) }
-    ensures events { NotesClosing which slot at (is_err result) run.old run.new breaks.old breaks.new (devices (M.state unit.old) (C.state card.old) (C.state card.old)) (devices (M.state unit.new) (C.state card.new) (C.state card.new)) }
+    ensures closed { (closing : Closing) × IsClosed which slot at run.old run.new breaks.old breaks.new closing
+        × HasBroken (C.state card.old) (C.state card.new) (closed_falls closing)
+        × (closing ≡ Closed → ClosesOnCard slot run.old.minutes (session_of run.old.keeper.cabin.cards which)
+        (C.state card.old) (C.state card.new)) }
+    ensures events { NotesClosing which slot at (is_err result) run.old run.new breaks.old breaks.new
+        (devices (M.state unit.old) (C.state card.old) (C.state card.old))
+        (devices (M.state unit.new) (C.state card.new) (C.state card.new)) }
     ensures journal { LeavesOnly (M.state unit.old) (M.state unit.new) LeavesJournal }
     ensures speeds { LeavesSpeeds (M.state unit.old) (M.state unit.new) }
-    ensures rings { is_some (M.state unit.old).image ≡ true → ClosesSo which slot at (is_err result) run.old run.new breaks.old breaks.new (M.state unit.old) (M.state unit.new) }
-    ensures left { IfSome (session_of run.old.keeper.cabin.cards which) (λ s. (act : Activity) × LeavesOnly (C.state card.old) (C.state card.new) (λ x c. IsSession s.session x → IsCardClosing s.session act x c)) }
+    ensures rings { is_some (M.state unit.old).image ≡ true
+        → ClosesSo which slot at (is_err result) run.old run.new breaks.old breaks.new (M.state unit.old)
+        (M.state unit.new) }
+    ensures left { IfSome (session_of run.old.keeper.cabin.cards which)
+        (λ s. (act : Activity) × LeavesOnly (C.state card.old) (C.state card.new)
+        (λ x c. IsSession s.session x → IsCardClosing s.session act x c)) }
     ensures shut { ShutsSo which slot at run.old run.new breaks.old breaks.new (C.state card.old) (C.state card.new) }
     ensures bare { session_of run.old.keeper.cabin.cards which ≡ None → card.new ≡ card.old }
     ensures unit { IsUnit (M.state unit.new) }
     ensures ready { OnOk result (UnitMayBeCalled run.new.keeper (M.state unit.new)) }
-    ensures rows { (c : Card) → HasItsRow run.old.keeper.cabin.cards (M.state unit.old) c → OnOk result (HasItsRow run.new.keeper.cabin.cards (M.state unit.new) c) }
-    ensures stands { (from : ℕ) → CabinIsSound from (Some which) run.old.keeper.cabin → CabinIsSound from None run.new.keeper.cabin }
+    ensures rows { (c : Card) → HasItsRow run.old.keeper.cabin.cards (M.state unit.old) c
+        → OnOk result (HasItsRow run.new.keeper.cabin.cards (M.state unit.new) c) }
+    ensures stands { (from : ℕ) → CabinIsSound from (Some which) run.old.keeper.cabin
+        → CabinIsSound from None run.new.keeper.cabin }
     ensures card { CardMayBeCalled (known_of run.new.keeper.cabin.cards which) (C.card card.new) (C.state card.new) }
     ensures size { (C.state card.new).size ≡ (C.state card.old).size }
     ensures more { (C.state card.old).breakdowns ≤ (C.state card.new).breakdowns }
@@ -178,7 +220,9 @@ fn note_withdrawal<M: Medium>(
     requires noted { noted ≤ run.now.noted }
     requires odometer { run.now.keeper.odometer ≤ HIGHEST_ODOMETER }
     ensures quiet { SaysNoMore (M.state unit.old) (M.state unit.new) }
-    ensures rings { is_some (M.state unit.old).image ≡ true → WritesWithdrawal (record { index = entry; behind = run.now.noted - noted }) at.second (is_err result) run.now (M.state unit.old) (M.state unit.new) }
+    ensures rings { is_some (M.state unit.old).image ≡ true
+        → WritesWithdrawal (record { index = entry; behind = run.now.noted - noted }) at.second (is_err result) run.now
+        (M.state unit.old) (M.state unit.new) }
     ensures journal { LeavesOnly (M.state unit.old) (M.state unit.new) LeavesJournal }
     ensures speeds { LeavesSpeeds (M.state unit.old) (M.state unit.new) }
     ensures cause { HasCause (M.state unit.old) (M.state unit.new) (is_err result) }
@@ -198,8 +242,10 @@ pub fn pull(run: &mut Run, slot: Slot, at: Moment, breaks: &mut Lines<Break>)
     requires room { length breaks.old.items + falls_of run.old.keeper.cabin ≤ breaks.old.room }
     requires stands { (from : ℕ) × (leaving : Option Card) × CabinIsSound from leaving run.old.keeper.cabin }
     ensures run { run.new ≡ pulled_run (card_in (seat_in run.old.keeper.cabin.slots.seats slot)) at.second run.old }
-    ensures breaks { breaks.new ≡ with_lines (pulled_breaks (card_in (seat_in run.old.keeper.cabin.slots.seats slot)) slot at) breaks.old }
-    ensures stands { (from : ℕ) (leaving : Option Card) → CabinIsSound from leaving run.old.keeper.cabin → CabinIsSound from leaving run.new.keeper.cabin }
+    ensures breaks { breaks.new ≡ with_lines
+        (pulled_breaks (card_in (seat_in run.old.keeper.cabin.slots.seats slot)) slot at) breaks.old }
+    ensures stands { (from : ℕ) (leaving : Option Card) → CabinIsSound from leaving run.old.keeper.cabin
+        → CabinIsSound from leaving run.new.keeper.cabin }
 {
     let Some(card) = run.keeper.cabin.slots.card(slot) else {
         return;

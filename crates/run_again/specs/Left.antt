@@ -7,7 +7,8 @@ use Rattle.unit_model.specs.Image.{last_kept}
 use Rattle.safety_model.specs.Recording.{Recording}
 use Rattle.safety_model.specs.Safe.{Devices, first_of}
 
--- a recording begins with images that a stop might have left of the devices since a run began, each at a moment of its own
+-- a recording begins with images that a stop might have left of the devices since a run began, each at a moment of its
+-- own
 pub record BeginsWithLeft (began now : Devices) (next : Recording) : Type 0 where
   pub of_unit : now.unit.left_since began.unit.clock next.unit
   pub of_a : now.card_a.left_since began.card_a.clock next.card_a

@@ -1,5 +1,5 @@
-//! What a run has left begins a run (profile): a law, that joins what a run promises of each image which a stop might have left with what the next run
-//! asks of the images with which it begins.
+//! What a run has left begins a run (profile): a law, that joins what a run promises of each image which a stop might
+//! have left with what the next run asks of the images with which it begins.
 #![tactic(auto)]
 
 mod laws;

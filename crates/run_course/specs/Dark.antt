@@ -36,7 +36,8 @@ all_dark ss slots = map (λ s. dark_told s slots) ss
 
 -- HOW THEY GO, after a failed call,
 abbrev pub LostSecondsAreTold : Type 0
-LostSecondsAreTold = (rule : Rule) (start : Start) (from first : ℕ) (done : List TraceSecond) (p : Progress) → BookFollowsRun rule start from first done p →
+LostSecondsAreTold = (rule : Rule) (start : Start) (from first : ℕ) (done : List TraceSecond) (p : Progress)
+    → BookFollowsRun rule start from first done p →
     p.supply ≡ Lost → (n speed : ℕ) (actions : List Action) → 0 < p.next % 60 → p.next % 60 + n ≤ 60 →
     let before : Before = (went p.log done).before in
     went p.log (done ++ driven n p.next speed actions)
@@ -51,28 +52,36 @@ OffSecondsAreTold = (log : RunLog) (done : List TraceSecond) (n next : ℕ) →
 
 -- EACH LINE HAS ITS CAUSE: what is refused is so for lack of power.
 abbrev pub ADarkMinuteIsCaused : Type 0
-ADarkMinuteIsCaused = (rule : Rule) (start : Start) (from first : ℕ) (done : List TraceSecond) (p : Progress) → BookFollowsRun rule start from first done p →
-    p.supply ≡ Lost → (n speed : ℕ) (actions : List Action) (refused : List Refused) → 0 < p.next % 60 → p.next % 60 + suc n ≤ 60 →
+ADarkMinuteIsCaused = (rule : Rule) (start : Start) (from first : ℕ) (done : List TraceSecond) (p : Progress)
+    → BookFollowsRun rule start from first done p →
+    p.supply ≡ Lost → (n speed : ℕ) (actions : List Action) (refused : List Refused) → 0 < p.next % 60
+    → p.next % 60 + suc n ≤ 60 →
     map refusal_told refused ≡ refusals_at p.next (without_power 0 actions) →
-    (before now : Device → ℕ) → WellCaused before now done p → (q : Progress) → q.log ≡ record p.log { refused = p.log.refused ++ refused } →
+    (before now : Device → ℕ) → WellCaused before now done p → (q : Progress)
+    → q.log ≡ record p.log { refused = p.log.refused ++ refused } →
     WellCaused before now (done ++ driven (suc n) p.next speed actions) q
 
 -- WHAT IS DECIDED is acknowledged as before.
 abbrev pub ADarkMinuteStaysComplete : Type 0
-ADarkMinuteStaysComplete = (rule : Rule) (start : Start) (from first : ℕ) (done : List TraceSecond) (p : Progress) → BookFollowsRun rule start from first done p →
-    p.supply ≡ Lost → (n speed : ℕ) (actions : List Action) (refused : List Refused) → 0 < p.next % 60 → p.next % 60 + n ≤ 60 →
+ADarkMinuteStaysComplete = (rule : Rule) (start : Start) (from first : ℕ) (done : List TraceSecond) (p : Progress)
+    → BookFollowsRun rule start from first done p →
+    p.supply ≡ Lost → (n speed : ℕ) (actions : List Action) (refused : List Refused) → 0 < p.next % 60
+    → p.next % 60 + n ≤ 60 →
     (marks : List Mark) → IsComplete rule start p.log (went p.log done).told marks →
     let later : RunLog = record p.log { refused = refused } in
     IsComplete rule start later (went later (done ++ driven n p.next speed actions)).told marks
 
 abbrev pub OffSecondsStayComplete : Type 0
-OffSecondsStayComplete = (rule : Rule) (start : Start) (from : ℕ) (log : RunLog) (done : List TraceSecond) (n next : ℕ) (marks : List Mark) →
+OffSecondsStayComplete = (rule : Rule) (start : Start) (from : ℕ) (log : RunLog) (done : List TraceSecond) (n next : ℕ)
+    (marks : List Mark) →
     AreInOrder from done → next ≡ from + length done → IsComplete rule start log (went log done).told marks →
     IsComplete rule start log (went log (done ++ dark n next)).told marks
 
 -- WHO IS PRESENT, once no minute of before need be kept any more.
 abbrev pub DarkSecondsTell : Type 0
-DarkSecondsTell = (start : Start) (told : List ToldSecond) (past : List HistoryMinute) (number next from later : ℕ) (slots : Slots) (k : Kept) →
-    SlotsTell start told past [] number from slots k → (s : TraceSecond) (ss : List TraceSecond) → number ≤ next → AreInOrder next (s ∷ ss) →
+DarkSecondsTell = (start : Start) (told : List ToldSecond) (past : List HistoryMinute) (number next from later : ℕ)
+    (slots : Slots) (k : Kept) →
+    SlotsTell start told past [] number from slots k → (s : TraceSecond) (ss : List TraceSecond) → number ≤ next
+    → AreInOrder next (s ∷ ss) →
     from ≤ later → (next + length ss) / 60 ≤ later →
     SlotsTell start (told ++ all_dark (s ∷ ss) slots) past [] (next + length ss) later slots k

@@ -1,6 +1,7 @@
--- What is known of a run with cards between two turns: how its book follows the history (profile). Of a unit alone it says what
--- run_unit_course says.
-use Rattle.std.specs.Prelude.{◌≡◌, ◌⊎◌, ℕ, ◌+◌, ◌/◌, ◌<◌, ◌≤◌, true, false, nat_lt, Some, None, List, [], ◌∷◌, ◌++◌, length, take}
+-- What is known of a run with cards between two turns: how its book follows the history (profile). Of a unit alone it
+-- says what run_unit_course says.
+use Rattle.std.specs.Prelude.{◌≡◌, ◌⊎◌, ℕ, ◌+◌, ◌/◌, ◌<◌, ◌≤◌, true, false, nat_lt, Some, None, List, [], ◌∷◌, ◌++◌}
+use Rattle.std.specs.Prelude.{length, take}
 use Rattle.std.specs.List.{AllByRecursion}
 use Rattle.trace_model.specs.declared.Action.{Action}
 use Rattle.trace_model.specs.Trace.{TraceSecond}
@@ -18,10 +19,11 @@ use Rattle.history_model.specs.History.{decided_of, span_minutes, cut_second, an
 use Rattle.history_model.specs.Growth.{closed_history}
 use Rattle.history_model.specs.Book.{Book, Follows, AreLost}
 use Rattle.run_unit_course.specs.Lines.{tells_cut}
-use Rattle.run_unit_course.specs.Followed.{UnitPower, Lit, Due, Lost, going_on, as_spans, IsKnown, closed_lost, cuts_from}
+use Rattle.run_unit_course.specs.Followed.{UnitPower, Lit, Due, Lost, going_on, as_spans, IsKnown, closed_lost}
+use Rattle.run_unit_course.specs.Followed.{cuts_from}
 
--- how far a run has gone: its log, from which break on it is not known what was kept, the number of the next second, how many
--- actions the last one had, the power, the book, and the decided minutes whose keeping has not begun
+-- how far a run has gone: its log, from which break on it is not known what was kept, the number of the next second,
+-- how many actions the last one had, the power, the book, and the decided minutes whose keeping has not begun
 pub record Progress : Type 0 where
   pub log : RunLog
   pub unfound : ℕ
@@ -77,20 +79,25 @@ pub record AreBefore (cuts next : ℕ) (log : RunLog) : Type 0 where
   pub breaks : AllByRecursion (IsBreakBefore cuts next) log.breaks
   pub finds : AllByRecursion (λ (f : Find). f.second < next) log.finds
 
--- It is known what was kept after each cut but those of spans that decided nothing: the minutes of the spans that have ended, each
--- up to its limit, and then all decided minutes of the span that goes on, with their cards, are the sure ones and those that wait.
-pub record IsShut (rule : Rule) (start : Start) (log : RunLog) (found : List Break) (told : List ToldSecond) (ended : List (List ToldSecond)) (span : List ToldSecond)
+-- It is known what was kept after each cut but those of spans that decided nothing: the minutes of the spans that have
+-- ended, each up to its limit, and then all decided minutes of the span that goes on, with their cards, are the sure
+-- ones and those that wait.
+pub record IsShut (rule : Rule) (start : Start) (log : RunLog) (found : List Break) (told : List ToldSecond)
+    (ended : List (List ToldSecond)) (span : List ToldSecond)
     (b : Book) (waiting : List HistoryMinute) : Type 0 where
   pub known : AllByRecursion (IsKnown rule found) ended
   pub none : b.maybe ≡ None
-  pub minutes : closed_history rule start log told ended ++ span_minutes rule start told (closed_history rule start log told ended) span
+  pub minutes : closed_history rule start log told ended
+      ++ span_minutes rule start told (closed_history rule start log told ended) span
       ≡ b.sure ++ waiting
   pub begins : (rest : List HistoryMinute) × (b.sure ≡ closed_history rule start log told ended ++ rest)
   pub whole : (waiting ≡ []) ⊎ (nat_lt 1 (length span) ≡ true)
   pub lost : AreLost (closed_lost rule start log told ended) b
 
--- It is not known yet what was kept after the cut of the last span with more than one second; the spans behind it decided nothing.
-pub record IsOpen (rule : Rule) (start : Start) (log : RunLog) (found : List Break) (told : List ToldSecond) (ended : List (List ToldSecond)) (b : Book) : Type 0 where
+-- It is not known yet what was kept after the cut of the last span with more than one second; the spans behind it
+-- decided nothing.
+pub record IsOpen (rule : Rule) (start : Start) (log : RunLog) (found : List Break) (told : List ToldSecond)
+    (ended : List (List ToldSecond)) (b : Book) : Type 0 where
   pub front : List (List ToldSecond)
   pub span : List ToldSecond
   pub short : List (List ToldSecond)
@@ -106,18 +113,21 @@ pub record IsOpen (rule : Rule) (start : Start) (log : RunLog) (found : List Bre
   pub begins : (rest : List HistoryMinute) × (b.sure ≡ closed_history rule start log told front ++ rest)
   pub lost : AreLost (closed_lost rule start log told front) b
 
-abbrev pub IsEnded : Rule → Start → RunLog → List Break → List ToldSecond → List (List ToldSecond) → Book → List HistoryMinute → Type 0
+abbrev pub IsEnded : Rule → Start → RunLog → List Break → List ToldSecond → List (List ToldSecond) → Book
+    → List HistoryMinute → Type 0
 IsEnded rule start log found told ended b waiting =
     (waiting ≡ []) × (IsShut rule start log found told ended [] b [] ⊎ IsOpen rule start log found told ended b)
 
-abbrev pub IsTied : Rule → Start → RunLog → List Break → List ToldSecond → List (List ToldSecond) → UnitPower → Book → List HistoryMinute → Type 0
+abbrev pub IsTied : Rule → Start → RunLog → List Break → List ToldSecond → List (List ToldSecond) → UnitPower → Book
+    → List HistoryMinute → Type 0
 IsTied rule start log found told ended (Lit span) b waiting = IsShut rule start log found told ended span b waiting
 IsTied rule start log found told ended Due b waiting = IsEnded rule start log found told ended b waiting
 IsTied rule start log found told ended Lost b waiting = IsEnded rule start log found told ended b waiting
 
--- The run so far is followed: `from` is the number of its first second, `first` the last-kept minute at its start, `done` its
--- seconds so far, by the trace.
-pub record BookFollowsRun (rule : Rule) (start : Start) (from first : ℕ) (done : List TraceSecond) (p : Progress) : Type 0 where
+-- The run so far is followed: `from` is the number of its first second, `first` the last-kept minute at its start,
+-- `done` its seconds so far, by the trace.
+pub record BookFollowsRun (rule : Rule) (start : Start) (from first : ℕ) (done : List TraceSecond) (p : Progress) : Type
+    0 where
   pub early : first < from / 60
   pub order : AreInOrder from done
   pub next : p.next ≡ from + length done
@@ -127,5 +137,7 @@ pub record BookFollowsRun (rule : Rule) (start : Start) (from first : ℕ) (done
   pub last : IsLastOf p.supply done p.begun
   pub ended : List (List ToldSecond)
   pub spans : spans_of (went p.log done).told ≡ ended ++ as_spans (going_on p.supply)
-  pub tied : IsTied rule start p.log (take p.unfound p.log.breaks) (went p.log done).told ended p.supply p.book p.waiting
-  pub follows : Follows (unit_history rule start p.log (went p.log done).told) (with_lost rule start p.log (went p.log done).told) p.book
+  pub tied : IsTied rule start p.log (take p.unfound p.log.breaks) (went p.log done).told ended p.supply p.book
+      p.waiting
+  pub follows : Follows (unit_history rule start p.log (went p.log done).told)
+      (with_lost rule start p.log (went p.log done).told) p.book

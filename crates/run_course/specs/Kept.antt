@@ -1,5 +1,6 @@
 -- What a second has decided so far, and which of it is kept and acknowledged (profile).
-use Rattle.std.specs.Prelude.{◌≡◌, ◌⊎◌, ℕ, zero, suc, ◌+◌, ◌*◌, ◌≤◌, ◌||◌, Bool, true, false, nat_lt, Option, Some, None, List, [], ◌∷◌, ◌++◌, Contains}
+use Rattle.std.specs.Prelude.{◌≡◌, ◌⊎◌, ℕ, zero, suc, ◌+◌, ◌*◌, ◌≤◌, ◌||◌, Bool, true, false, nat_lt, Option, Some}
+use Rattle.std.specs.Prelude.{None, List, [], ◌∷◌, ◌++◌, Contains}
 use Rattle.activity_codec.specs.declared.entries.Entry.{Entry}
 use Rattle.activity_codec.specs.declared.values.Slot.{Slot}
 use Rattle.activity_codec.specs.declared.values.Pick.{Pick}
@@ -35,9 +36,10 @@ abbrev pub fed_where : Option ℕ → Span → Span
 fed_where None span = span
 fed_where (Some speed) span = fed span speed
 
--- WHAT A SECOND HAS DECIDED so far, behind this span and with this course, and whether it is fed: these minutes are kept, with their cards,
--- and these are to be kept.
-pub record HasDecided (rule : Rule) (start : Start) (told : List ToldSecond) (p : Progress) (span : List ToldSecond) (c : Course) (speed : Option ℕ) (sp : Span) (ds rest : List Minute) (new : List HistoryMinute) : Type 0 where
+-- WHAT A SECOND HAS DECIDED so far, behind this span and with this course, and whether it is fed: these minutes are
+-- kept, with their cards, and these are to be kept.
+pub record HasDecided (rule : Rule) (start : Start) (told : List ToldSecond) (p : Progress) (span : List ToldSecond)
+    (c : Course) (speed : Option ℕ) (sp : Span) (ds rest : List Minute) (new : List HistoryMinute) : Type 0 where
   pub times : ℕ
   pub settles : nat_lt 0 times ≡ c.settled
   pub span_is : sp ≡ fed_where speed (picking c.picks (settled_times times (span_at rule p.next span)))
@@ -46,41 +48,55 @@ pub record HasDecided (rule : Rule) (start : Start) (told : List ToldSecond) (p 
 
 -- NOTHING is decided as the second begins.
 abbrev pub NothingIsDecidedYet : Type 0
-NothingIsDecidedYet = (rule : Rule) (start : Start) (told : List ToldSecond) (p : Progress) (span : List ToldSecond) (c : Course) → c.picks ≡ [] → c.settled ≡ false →
+NothingIsDecidedYet = (rule : Rule) (start : Start) (told : List ToldSecond) (p : Progress) (span : List ToldSecond)
+    (c : Course) → c.picks ≡ [] → c.settled ≡ false →
     HasDecided rule start told p span c None (span_at rule p.next span) [] [] []
 
 -- A SELECTION is heard.
 abbrev pub ASelectionIsHeard : Type 0
-ASelectionIsHeard = (rule : Rule) (start : Start) (told : List ToldSecond) (p : Progress) (span : List ToldSecond) (c d : Course) (sp : Span) (ds rest : List Minute) (new : List HistoryMinute) →
-    HasDecided rule start told p span c None sp ds rest new → (slot : Slot) (pick : Pick) → d.picks ≡ c.picks ++ (slot, pick) ∷ [] → d.settled ≡ c.settled →
+ASelectionIsHeard = (rule : Rule) (start : Start) (told : List ToldSecond) (p : Progress) (span : List ToldSecond)
+    (c d : Course) (sp : Span) (ds rest : List Minute) (new : List HistoryMinute) →
+    HasDecided rule start told p span c None sp ds rest new → (slot : Slot) (pick : Pick)
+    → d.picks ≡ c.picks ++ (slot, pick) ∷ [] → d.settled ≡ c.settled →
     HasDecided rule start told p span d None (picked sp slot pick) ds rest new
 
 -- A SETTLING decides the minutes before this one.
 abbrev pub ASettlingDecides : Type 0
-ASettlingDecides = (rule : Rule) (start : Start) (told : List ToldSecond) (p : Progress) (span : List ToldSecond) (c d : Course) (sp : Span) (ds more : List Minute) (new : List HistoryMinute) →
-    HasDecided rule start told p span c None sp ds [] new → d.picks ≡ c.picks → d.settled ≡ true → decided_in (settled sp) ≡ decided_in sp ++ more →
+ASettlingDecides = (rule : Rule) (start : Start) (told : List ToldSecond) (p : Progress) (span : List ToldSecond)
+    (c d : Course) (sp : Span) (ds more : List Minute) (new : List HistoryMinute) →
+    HasDecided rule start told p span c None sp ds [] new → d.picks ≡ c.picks → d.settled ≡ true
+    → decided_in (settled sp) ≡ decided_in sp ++ more →
     HasDecided rule start told p span d None (settled sp) ds more new
 
 -- WHATEVER ELSE happens decides nothing.
 abbrev pub NothingElseDecides : Type 0
-NothingElseDecides = (rule : Rule) (start : Start) (told : List ToldSecond) (p : Progress) (span : List ToldSecond) (c d : Course) (speed : Option ℕ) (sp : Span) (ds rest : List Minute) (new : List HistoryMinute) →
-    HasDecided rule start told p span c speed sp ds rest new → d.picks ≡ c.picks → d.settled ≡ c.settled → HasDecided rule start told p span d speed sp ds rest new
+NothingElseDecides = (rule : Rule) (start : Start) (told : List ToldSecond) (p : Progress) (span : List ToldSecond)
+    (c d : Course) (speed : Option ℕ) (sp : Span) (ds rest : List Minute) (new : List HistoryMinute) →
+    HasDecided rule start told p span c speed sp ds rest new → d.picks ≡ c.picks → d.settled ≡ c.settled
+    → HasDecided rule start told p span d speed sp ds rest new
 
 -- A MINUTE IS KEPT with its cards.
 abbrev pub AMinuteIsKept : Type 0
-AMinuteIsKept = (rule : Rule) (start : Start) (told : List ToldSecond) (p : Progress) (span : List ToldSecond) (c : Course) (speed : Option ℕ) (sp : Span) (ds : List Minute) (d : Minute) (rest : List Minute) (new : List HistoryMinute) →
+AMinuteIsKept = (rule : Rule) (start : Start) (told : List ToldSecond) (p : Progress) (span : List ToldSecond)
+    (c : Course) (speed : Option ℕ) (sp : Span) (ds : List Minute) (d : Minute) (rest : List Minute)
+    (new : List HistoryMinute) →
     HasDecided rule start told p span c speed sp ds (d ∷ rest) new →
-    HasDecided rule start told p span c speed sp (ds ++ d ∷ []) rest (new ++ seated start told (p.book.sure ++ new) d ∷ [])
+    HasDecided rule start told p span c speed sp (ds ++ d ∷ []) rest
+    (new ++ seated start told (p.book.sure ++ new) d ∷ [])
 
 -- THE SECOND IS FED behind all of its actions.
 abbrev pub TheSecondIsFed : Type 0
-TheSecondIsFed = (rule : Rule) (start : Start) (told : List ToldSecond) (p : Progress) (span : List ToldSecond) (c : Course) (sp : Span) (speed : ℕ) (ds more : List Minute) (new : List HistoryMinute) →
-    HasDecided rule start told p span c None sp ds [] new → decided_in (fed sp speed) ≡ decided_in sp ++ more → HasDecided rule start told p span c (Some speed) (fed sp speed) ds more new
+TheSecondIsFed = (rule : Rule) (start : Start) (told : List ToldSecond) (p : Progress) (span : List ToldSecond)
+    (c : Course) (sp : Span) (speed : ℕ) (ds more : List Minute) (new : List HistoryMinute) →
+    HasDecided rule start told p span c None sp ds [] new → decided_in (fed sp speed) ≡ decided_in sp ++ more
+    → HasDecided rule start told p span c (Some speed) (fed sp speed) ds more new
 
 -- THE SECOND HAS DECIDED these minutes, as it went.
 abbrev pub TheSecondHasDecided : Type 0
-TheSecondHasDecided = (rule : Rule) (start : Start) (from first : ℕ) (done : List TraceSecond) (p : Progress) → BookFollowsRun rule start from first done p →
-    (span : List ToldSecond) → p.supply ≡ Lit span → (s : TraceSecond) (log : RunLog) → GoesOnBy p log s → (c : Course) (sp : Span) (ds rest : List Minute) (new : List HistoryMinute) →
+TheSecondHasDecided = (rule : Rule) (start : Start) (from first : ℕ) (done : List TraceSecond) (p : Progress)
+    → BookFollowsRun rule start from first done p →
+    (span : List ToldSecond) → p.supply ≡ Lit span → (s : TraceSecond) (log : RunLog) → GoesOnBy p log s
+    → (c : Course) (sp : Span) (ds rest : List Minute) (new : List HistoryMinute) →
     HasDecided rule start (went p.log done).told p span c (Some s.speed) sp ds rest new →
     let t : ToldSecond = next_told log done s in
     t.second.picks ≡ c.picks → t.course.settled ≡ c.settled → t.second.speed ≡ s.speed →
@@ -88,8 +104,10 @@ TheSecondHasDecided = (rule : Rule) (start : Start) (from first : ℕ) (done : L
 
 -- OR A CUT ENDS IT before it is fed: these, and perhaps more.
 abbrev pub TheCutHasDecided : Type 0
-TheCutHasDecided = (rule : Rule) (start : Start) (from first : ℕ) (done : List TraceSecond) (p : Progress) → BookFollowsRun rule start from first done p →
-    (span : List ToldSecond) → p.supply ≡ Lit span → (s : TraceSecond) (log : RunLog) → GoesOnBy p log s → (c : Course) (sp : Span) (ds rest : List Minute) (new : List HistoryMinute) →
+TheCutHasDecided = (rule : Rule) (start : Start) (from first : ℕ) (done : List TraceSecond) (p : Progress)
+    → BookFollowsRun rule start from first done p →
+    (span : List ToldSecond) → p.supply ≡ Lit span → (s : TraceSecond) (log : RunLog) → GoesOnBy p log s
+    → (c : Course) (sp : Span) (ds rest : List Minute) (new : List HistoryMinute) →
     HasDecided rule start (went p.log done).told p span c None sp ds rest new →
     let t : ToldSecond = next_told log done s in
     (later : Bool) → t.second.picks ≡ c.picks → t.course.settled ≡ (c.settled || later) → t.second.speed ≡ s.speed →
@@ -97,7 +115,8 @@ TheCutHasDecided = (rule : Rule) (start : Start) (from first : ℕ) (done : List
 
 -- what was travelled up to the minutes that are kept
 abbrev pub OneMoreIsTravelled : Type 0
-OneMoreIsTravelled = (ds : List Minute) (d : Minute) (g : Travel) → all_travelled (ds ++ d ∷ []) g ≡ travelled d.minute d.travelled (all_travelled ds g)
+OneMoreIsTravelled = (ds : List Minute) (d : Minute) (g : Travel)
+    → all_travelled (ds ++ d ∷ []) g ≡ travelled d.minute d.travelled (all_travelled ds g)
 
 -- ---- what is acknowledged
 
@@ -106,8 +125,10 @@ abbrev pub BrokenSince : List ToldSecond → Course → (card : Card) → (from 
 BrokenSince told c card from number = TornBetween told card from number
     ⊎ ((from ≤ number) × ((v : Visit) × (v.card ≡ card) × (Contains c.torn v ⊎ Contains c.pulled v)))
 
--- Of the minutes that were kept so far each is acknowledged by the unit, and each entry by its card, but where that was torn out since.
-pub record AreMarkedSoFar (marks : List Mark) (told : List ToldSecond) (c : Course) (number : ℕ) (new : List HistoryMinute) : Type 0 where
+-- Of the minutes that were kept so far each is acknowledged by the unit, and each entry by its card, but where that was
+-- torn out since.
+pub record AreMarkedSoFar (marks : List Mark) (told : List ToldSecond) (c : Course) (number : ℕ)
+    (new : List HistoryMinute) : Type 0 where
   pub unit : (i : HistoryMinute) → Contains new i → IsMarked marks Recorder i.minute
   pub card : (i : HistoryMinute) (card : Card) (e : Entry) → Contains new i → Contains (on_card card i) e →
       IsMarked marks (device_of card) i.minute ⊎ BrokenSince told c card (60 * (i.minute + 1)) number
@@ -118,19 +139,24 @@ pub record StaysOut (old new : Course) : Type 0 where
   pub pulled : (v : Visit) → Contains old.pulled v → Contains new.pulled v
 
 abbrev pub NothingIsMarkedYet : Type 0
-NothingIsMarkedYet = (marks : List Mark) (told : List ToldSecond) (c : Course) (number : ℕ) → AreMarkedSoFar marks told c number []
+NothingIsMarkedYet = (marks : List Mark) (told : List ToldSecond) (c : Course) (number : ℕ)
+    → AreMarkedSoFar marks told c number []
 
 abbrev pub MarksStay : Type 0
-MarksStay = (marks more : List Mark) (told : List ToldSecond) (c d : Course) (number : ℕ) (new : List HistoryMinute) → AreMarkedSoFar marks told c number new →
+MarksStay = (marks more : List Mark) (told : List ToldSecond) (c d : Course) (number : ℕ) (new : List HistoryMinute)
+    → AreMarkedSoFar marks told c number new →
     ((mark : Mark) → Contains marks mark → Contains more mark) → StaysOut c d → AreMarkedSoFar more told d number new
 
 -- ONE MINUTE MORE
 abbrev pub OneMoreIsMarked : Type 0
-OneMoreIsMarked = (marks : List Mark) (told : List ToldSecond) (c : Course) (number : ℕ) (new : List HistoryMinute) (i : HistoryMinute) → AreMarkedSoFar marks told c number new → IsMarked marks Recorder i.minute →
-    ((card : Card) (e : Entry) → Contains (on_card card i) e → IsMarked marks (device_of card) i.minute ⊎ BrokenSince told c card (60 * (i.minute + 1)) number) →
+OneMoreIsMarked = (marks : List Mark) (told : List ToldSecond) (c : Course) (number : ℕ) (new : List HistoryMinute)
+    (i : HistoryMinute) → AreMarkedSoFar marks told c number new → IsMarked marks Recorder i.minute →
+    ((card : Card) (e : Entry) → Contains (on_card card i) e
+    → IsMarked marks (device_of card) i.minute ⊎ BrokenSince told c card (60 * (i.minute + 1)) number) →
     AreMarkedSoFar marks told c number (new ++ i ∷ [])
 
 -- AT THE SECOND'S END that is all that is asked.
 abbrev pub AllAreAcknowledged : Type 0
-AllAreAcknowledged = (marks : List Mark) (told : List ToldSecond) (t : ToldSecond) (number : ℕ) (new : List HistoryMinute) → t.second.number ≡ number → AreMarkedSoFar marks told t.course number new →
+AllAreAcknowledged = (marks : List Mark) (told : List ToldSecond) (t : ToldSecond) (number : ℕ)
+    (new : List HistoryMinute) → t.second.number ≡ number → AreMarkedSoFar marks told t.course number new →
     AreAcknowledged marks (told ++ t ∷ []) number t new

@@ -1,5 +1,6 @@
 -- How far a second has gone, and what later lines of the log leave of it (profile).
-use Rattle.std.specs.Prelude.{◌≡◌, ◌⊎◌, ℕ, ◌+◌, ◌≤◌, Bool, false, ◌||◌, ◌&&◌, Some, None, List, [], ◌∷◌, ◌++◌, length, is_some, nat_eq, if◌then◌else◌}
+use Rattle.std.specs.Prelude.{◌≡◌, ◌⊎◌, ℕ, ◌+◌, ◌≤◌, Bool, false, ◌||◌, ◌&&◌, Some, None, List, [], ◌∷◌, ◌++◌, length}
+use Rattle.std.specs.Prelude.{is_some, nat_eq, if◌then◌else◌}
 use Rattle.activity_codec.specs.declared.values.Slot.{Slot}
 use Rattle.activity_codec.specs.Activity.{same_slot}
 use Rattle.trace_model.specs.declared.Action.{Action}
@@ -7,7 +8,8 @@ use Rattle.trace_model.specs.Trace.{TraceSecond}
 use Rattle.log_model.specs.declared.lines.Break.{Break}
 use Rattle.log_model.specs.declared.lines.Find.{Find}
 use Rattle.log_model.specs.declared.lines.Refused.{Refused}
-use Rattle.log_model.specs.Log.{RunLog, Phase, In, same_phase, cut_of, cut_in, kept_by, kept_after, tears_here, is_torn_in, found_in}
+use Rattle.log_model.specs.Log.{RunLog, Phase, In, same_phase, cut_of, cut_in, kept_by, kept_after, tears_here}
+use Rattle.log_model.specs.Log.{is_torn_in, found_in}
 use Rattle.log_model.specs.Slots.{refusal}
 use Rattle.log_model.specs.Course.{Before, acted, answered}
 use Rattle.event_model.specs.Events.{course_by}
@@ -29,7 +31,8 @@ finds_here u p slot f = nat_eq f.second u && same_phase (In f.begun) p && same_s
 -- what a break more tells of a second: its cut, where none was told before, and its tear
 pub record BreakSeen (log : RunLog) (b : Break) (u : ℕ) : Type 0 where
   pub cut : cut_in (and_break log b) u ≡ (if is_some (cut_in log u) then cut_in log u else cut_of u b)
-  pub torn : (p : Phase) (slot : Slot) → is_torn_in (and_break log b) u p slot ≡ (is_torn_in log u p slot || tears_here u p slot b)
+  pub torn : (p : Phase) (slot : Slot)
+      → is_torn_in (and_break log b) u p slot ≡ (is_torn_in log u p slot || tears_here u p slot b)
   pub found : (p : Phase) (slot : Slot) → found_in (and_break log b) u p slot ≡ found_in log u p slot
   pub kept : kept_by u b ≡ None → kept_after (and_break log b) u ≡ kept_after log u
 
@@ -41,7 +44,8 @@ pub record FindSeen (log : RunLog) (f : Find) (u : ℕ) : Type 0 where
   pub cut : cut_in (and_find log f) u ≡ cut_in log u
   pub torn : (p : Phase) (slot : Slot) → is_torn_in (and_find log f) u p slot ≡ is_torn_in log u p slot
   pub found : (p : Phase) (slot : Slot) →
-      found_in (and_find log f) u p slot ≡ found_in log u p slot ++ (if finds_here u p slot f then f.verdict ∷ [] else [])
+      found_in (and_find log f) u p slot ≡ found_in log u p slot
+      ++ (if finds_here u p slot f then f.verdict ∷ [] else [])
   pub kept : kept_after (and_find log f) u ≡ kept_after log u
 
 abbrev pub AFindMoreIsSeen : Type 0
@@ -50,14 +54,16 @@ AFindMoreIsSeen = (log : RunLog) (f : Find) (u : ℕ) → FindSeen log f u
 -- a refusal more tells nothing of how a second went
 pub record RefusalSeen (log : RunLog) (refused : List Refused) (u : ℕ) : Type 0 where
   pub cut : cut_in (record log { refused = refused }) u ≡ cut_in log u
-  pub torn : (p : Phase) (slot : Slot) → is_torn_in (record log { refused = refused }) u p slot ≡ is_torn_in log u p slot
+  pub torn : (p : Phase) (slot : Slot)
+      → is_torn_in (record log { refused = refused }) u p slot ≡ is_torn_in log u p slot
   pub found : (p : Phase) (slot : Slot) → found_in (record log { refused = refused }) u p slot ≡ found_in log u p slot
   pub kept : kept_after (record log { refused = refused }) u ≡ kept_after log u
 
 abbrev pub ARefusalMoreIsNotSeen : Type 0
 ARefusalMoreIsNotSeen = (log : RunLog) (refused : List Refused) (u : ℕ) → RefusalSeen log refused u
 
--- two logs tell the same of a second up to its n-th action: the one no cut, the other none or one that came behind that action
+-- two logs tell the same of a second up to its n-th action: the one no cut, the other none or one that came behind that
+-- action
 pub record SameUpTo (log later : RunLog) (u n : ℕ) : Type 0 where
   pub none : cut_in log u ≡ None
   pub behind : (cut_in later u ≡ None) ⊎ ((begun : ℕ) × (cut_in later u ≡ Some begun) × (n ≤ begun))
@@ -71,7 +77,8 @@ LaterLinesChangeNoMoment = (log later : RunLog) (before : Before) (s : TraceSeco
 
 -- an action more, with so many before it, whatever the log tells of it
 abbrev pub AnActionMoreIsActed : Type 0
-AnActionMoreIsActed = (log : RunLog) (before : Before) (s : TraceSecond) (front : List Action) (a : Action) (rest : List Action) →
+AnActionMoreIsActed = (log : RunLog) (before : Before) (s : TraceSecond) (front : List Action) (a : Action)
+    (rest : List Action) →
     s.actions ≡ front ++ a ∷ rest →
     course_by log before s (length front + 1) ≡ acted log s (length front) a (course_by log before s (length front))
 
@@ -82,7 +89,9 @@ pub record IsStill (log : RunLog) (u n : ℕ) : Type 0 where
 
 -- an action more, while no cut stands in the second, and of whose moment nothing is told yet
 abbrev pub OneActionMore : Type 0
-OneActionMore = (log : RunLog) (before : Before) (s : TraceSecond) (front : List Action) (a : Action) (rest : List Action) →
+OneActionMore = (log : RunLog) (before : Before) (s : TraceSecond) (front : List Action) (a : Action)
+    (rest : List Action) →
     s.actions ≡ front ++ a ∷ rest → cut_in log s.number ≡ None → IsStill log s.number (length front + 1) →
     course_by log before s (length front + 1)
-    ≡ answered (length front) (refusal (course_by log before s (length front)).slots s.speed a) a (course_by log before s (length front))
+    ≡ answered (length front) (refusal (course_by log before s (length front)).slots s.speed a) a
+    (course_by log before s (length front))

@@ -1,5 +1,5 @@
--- Seconds of a run in which nothing happens: with power, without actions, and the log tells nothing of them (profile). A recorder takes
--- them at once, up to the minute's end.
+-- Seconds of a run in which nothing happens: with power, without actions, and the log tells nothing of them (profile).
+-- A recorder takes them at once, up to the minute's end.
 use Rattle.std.specs.Prelude.{◌≡◌, ℕ, zero, suc, ◌+◌, ◌/◌, ◌%◌, ◌<◌, ◌≤◌, true, false, List, [], ◌∷◌, ◌++◌}
 use Rattle.trace_model.specs.Trace.{TraceSecond, driven}
 use Rattle.run_model.specs.declared.Device.{Device}
@@ -51,7 +51,8 @@ quiet_on n speed span slots p = record p {
 
 -- HOW THEY GO
 abbrev pub QuietSecondsAreTold : Type 0
-QuietSecondsAreTold = (rule : Rule) (start : Start) (from first : ℕ) (done : List TraceSecond) (p : Progress) → BookFollowsRun rule start from first done p →
+QuietSecondsAreTold = (rule : Rule) (start : Start) (from first : ℕ) (done : List TraceSecond) (p : Progress)
+    → BookFollowsRun rule start from first done p →
     (t : ToldSecond) (span : List ToldSecond) → p.supply ≡ Lit (t ∷ span) → (n speed : ℕ) →
     let before : Before = (went p.log done).before in
     went p.log (done ++ driven n p.next speed [])
@@ -59,38 +60,52 @@ QuietSecondsAreTold = (rule : Rule) (start : Start) (from first : ℕ) (done : L
 
 -- FOR THE RULES OF MINUTES they are so many seconds at this speed, and within a minute they decide nothing.
 abbrev pub RulesSeeQuietSeconds : Type 0
-RulesSeeQuietSeconds = (rule : Rule) (start : Start) (from first : ℕ) (done : List TraceSecond) (p : Progress) → BookFollowsRun rule start from first done p →
-    (t : ToldSecond) (span : List ToldSecond) → p.supply ≡ Lit (t ∷ span) → p.waiting ≡ [] → (n speed : ℕ) (slots : Slots) →
+RulesSeeQuietSeconds = (rule : Rule) (start : Start) (from first : ℕ) (done : List TraceSecond) (p : Progress)
+    → BookFollowsRun rule start from first done p →
+    (t : ToldSecond) (span : List ToldSecond) → p.supply ≡ Lit (t ∷ span) → p.waiting ≡ []
+    → (n speed : ℕ) (slots : Slots) →
     as_span rule ((t ∷ span) ++ quiet_seconds n p.next speed slots) ≡ fed_many (as_span rule (t ∷ span)) speed n
 
 -- THE RUN IS FOLLOWED behind them, with what was travelled, the causes of its log, and what is acknowledged.
 abbrev pub QuietSecondsGoOn : Type 0
-QuietSecondsGoOn = (rule : Rule) (start : Start) (from first : ℕ) (done : List TraceSecond) (p : Progress) → BookFollowsRun rule start from first done p →
-    (t : ToldSecond) (span : List ToldSecond) → p.supply ≡ Lit (t ∷ span) → p.waiting ≡ [] → (n speed : ℕ) → p.next % 60 + n < 60 →
+QuietSecondsGoOn = (rule : Rule) (start : Start) (from first : ℕ) (done : List TraceSecond) (p : Progress)
+    → BookFollowsRun rule start from first done p →
+    (t : ToldSecond) (span : List ToldSecond) → p.supply ≡ Lit (t ∷ span) → p.waiting ≡ [] → (n speed : ℕ)
+    → p.next % 60 + n < 60 →
     let q : Progress = quiet_on n speed (t ∷ span) (went p.log done).before.slots p in
-    (decided_of rule ((t ∷ span) ++ quiet_seconds n p.next speed (went p.log done).before.slots) ≡ decided_of rule (t ∷ span))
+    (decided_of rule ((t ∷ span) ++ quiet_seconds n p.next speed (went p.log done).before.slots)
+    ≡ decided_of rule (t ∷ span))
     × BookFollowsRun rule start from first (done ++ driven n p.next speed []) q
 
 abbrev pub QuietSecondsStayTravelled : Type 0
-QuietSecondsStayTravelled = (rule : Rule) (start : Start) (from first : ℕ) (done : List TraceSecond) (p : Progress) → BookFollowsRun rule start from first done p →
-    (t : ToldSecond) (span : List ToldSecond) → p.supply ≡ Lit (t ∷ span) → p.waiting ≡ [] → (n speed : ℕ) → p.next % 60 + n < 60 →
+QuietSecondsStayTravelled = (rule : Rule) (start : Start) (from first : ℕ) (done : List TraceSecond) (p : Progress)
+    → BookFollowsRun rule start from first done p →
+    (t : ToldSecond) (span : List ToldSecond) → p.supply ≡ Lit (t ∷ span) → p.waiting ≡ [] → (n speed : ℕ)
+    → p.next % 60 + n < 60 →
     (g : Travel) → HasLegs rule first done p g →
-    HasLegs rule first (done ++ driven n p.next speed []) (quiet_on n speed (t ∷ span) (went p.log done).before.slots p) g
+    HasLegs rule first (done ++ driven n p.next speed []) (quiet_on n speed (t ∷ span) (went p.log done).before.slots p)
+    g
 
 abbrev pub QuietSecondsStayCaused : Type 0
-QuietSecondsStayCaused = (rule : Rule) (start : Start) (from first : ℕ) (done : List TraceSecond) (p : Progress) → BookFollowsRun rule start from first done p →
-    (t : ToldSecond) (span : List ToldSecond) → p.supply ≡ Lit (t ∷ span) → p.waiting ≡ [] → (n speed : ℕ) → p.next % 60 + n < 60 →
+QuietSecondsStayCaused = (rule : Rule) (start : Start) (from first : ℕ) (done : List TraceSecond) (p : Progress)
+    → BookFollowsRun rule start from first done p →
+    (t : ToldSecond) (span : List ToldSecond) → p.supply ≡ Lit (t ∷ span) → p.waiting ≡ [] → (n speed : ℕ)
+    → p.next % 60 + n < 60 →
     (before now : Device → ℕ) → WellCaused before now done p →
-    WellCaused before now (done ++ driven n p.next speed []) (quiet_on n speed (t ∷ span) (went p.log done).before.slots p)
+    WellCaused before now (done ++ driven n p.next speed [])
+    (quiet_on n speed (t ∷ span) (went p.log done).before.slots p)
 
 abbrev pub QuietSecondsStayComplete : Type 0
-QuietSecondsStayComplete = (rule : Rule) (start : Start) (from first : ℕ) (done : List TraceSecond) (p : Progress) → BookFollowsRun rule start from first done p →
-    (t : ToldSecond) (span : List ToldSecond) → p.supply ≡ Lit (t ∷ span) → p.waiting ≡ [] → (n speed : ℕ) → p.next % 60 + n < 60 →
+QuietSecondsStayComplete = (rule : Rule) (start : Start) (from first : ℕ) (done : List TraceSecond) (p : Progress)
+    → BookFollowsRun rule start from first done p →
+    (t : ToldSecond) (span : List ToldSecond) → p.supply ≡ Lit (t ∷ span) → p.waiting ≡ [] → (n speed : ℕ)
+    → p.next % 60 + n < 60 →
     (marks : List Mark) → IsComplete rule start p.log (went p.log done).told marks →
     IsComplete rule start p.log (went p.log (done ++ driven n p.next speed [])).told marks
 
 -- WHO IS PRESENT is told as before them, in the same minute.
 abbrev pub QuietSecondsTell : Type 0
-QuietSecondsTell = (start : Start) (told : List ToldSecond) (past : List HistoryMinute) (number next from : ℕ) (slots : Slots) (k : Kept) (n speed : ℕ) →
+QuietSecondsTell = (start : Start) (told : List ToldSecond) (past : List HistoryMinute) (number next from : ℕ)
+    (slots : Slots) (k : Kept) (n speed : ℕ) →
     SlotsTell start told past [] number from slots k → number ≤ next → (next + n) / 60 ≡ number / 60 →
     SlotsTell start (told ++ quiet_seconds (suc n) next speed slots) past [] (next + n) from slots k

@@ -1,5 +1,6 @@
 -- How far a second with power has gone, by what the log tells of it so far (profile).
-use Rattle.std.specs.Prelude.{◌≡◌, ℕ, zero, suc, ◌<◌, ◌≤◌, Bool, true, false, not, Option, Some, None, [], length, slice_get}
+use Rattle.std.specs.Prelude.{◌≡◌, ℕ, zero, suc, ◌<◌, ◌≤◌, Bool, true, false, not, Option, Some, None, [], length}
+use Rattle.std.specs.Prelude.{slice_get}
 use Rattle.activity_codec.specs.declared.values.Slot.{Slot}
 use Rattle.trace_model.specs.declared.Action.{Action}
 use Rattle.trace_model.specs.Trace.{TraceSecond}
@@ -62,7 +63,8 @@ pub record Reaches (p : Progress) (s : TraceSecond) (at : Phase) (log : RunLog) 
 -- a tear at a moment, and a find
 abbrev pub IsTearAt : TraceSecond → Phase → Slot → (failed : Bool) → Break → Type 0
 IsTearAt s at slot failed b =
-    (begun : ℕ) × (late : Bool) × (b ≡ Tear s.number slot failed begun late) × (phase_of begun late ≡ at) × (begun ≤ length s.actions) × (late ≡ true → begun ≡ length s.actions)
+    (begun : ℕ) × (late : Bool) × (b ≡ Tear s.number slot failed begun late) × (phase_of begun late ≡ at)
+    × (begun ≤ length s.actions) × (late ≡ true → begun ≡ length s.actions)
 
 pub record IsFindAt (s : TraceSecond) (at : Phase) (f : Find) : Type 0 where
   pub second : f.second ≡ s.number

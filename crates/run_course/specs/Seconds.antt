@@ -1,5 +1,6 @@
 -- The steps of a run with cards, each from what is followed before it to what is followed behind it (profile).
-use Rattle.std.specs.Prelude.{◌≡◌, ℕ, suc, ◌+◌, ◌-◌, ◌%◌, ◌/◌, ◌<◌, ◌≤◌, false, true, Option, Some, None, List, [], ◌∷◌, ◌++◌, All, length, map, option_to_list}
+use Rattle.std.specs.Prelude.{◌≡◌, ℕ, suc, ◌+◌, ◌-◌, ◌%◌, ◌/◌, ◌<◌, ◌≤◌, false, true, Option, Some, None, List, [], ◌∷◌}
+use Rattle.std.specs.Prelude.{◌++◌, All, length, map, option_to_list}
 use Rattle.std.specs.List.{AllByRecursion}
 use Rattle.trace_model.specs.declared.Action.{Action}
 use Rattle.trace_model.specs.Trace.{TraceSecond, driven, dark}
@@ -33,20 +34,23 @@ abbrev pub broken_at : Option HistoryMinute → Book → Book
 broken_at None b = b
 broken_at (Some i) b = broken i b
 
--- a second more that the trace gives power, as a later log tells it: its new breaks and finds are of this second, and what it tells of
--- refused actions is free
+-- a second more that the trace gives power, as a later log tells it: its new breaks and finds are of this second, and
+-- what it tells of refused actions is free
 pub record GoesOnBy (p : Progress) (later : RunLog) (s : TraceSecond) : Type 0 where
   pub number : s.number ≡ p.next
   pub given : s.has_power ≡ true
-  pub breaks : (rest : List Break) × (later.breaks ≡ p.log.breaks ++ rest) × AllByRecursion (λ (b : Break). second_of b ≡ p.next) rest
-  pub finds : (rest : List Find) × (later.finds ≡ p.log.finds ++ rest) × AllByRecursion (λ (f : Find). f.second ≡ p.next) rest
+  pub breaks : (rest : List Break) × (later.breaks ≡ p.log.breaks ++ rest)
+      × AllByRecursion (λ (b : Break). second_of b ≡ p.next) rest
+  pub finds : (rest : List Find) × (later.finds ≡ p.log.finds ++ rest)
+      × AllByRecursion (λ (f : Find). f.second ≡ p.next) rest
 
 -- this second as it goes by that log
 abbrev pub next_told : RunLog → List TraceSecond → TraceSecond → ToldSecond
 next_told later done s = second_told later (went later done).before s
 
 -- the minutes that a second decides, with their cards, where these were kept before
-abbrev pub DecidedBy : Rule → Start → RunLog → (done : List TraceSecond) → TraceSecond → (span : List ToldSecond) → Book → List HistoryMinute → Type 0
+abbrev pub DecidedBy : Rule → Start → RunLog → (done : List TraceSecond) → TraceSecond → (span : List ToldSecond) → Book
+    → List HistoryMinute → Type 0
 DecidedBy rule start later done s span b new =
     (ds : List Minute) × (decided_of rule (span ++ next_told later done s ∷ []) ≡ decided_of rule span ++ ds)
     × (new ≡ minutes_after start ((went later done).told ++ next_told later done s ∷ []) b.sure ds)
@@ -66,7 +70,8 @@ ARunBegins = (rule : Rule) (start : Start) (from first : ℕ) → first < from /
 
 -- POWER IS BACK: the last-kept minute is found, and it counts for all cuts of which nothing was known.
 abbrev pub APowerOnFinds : Type 0
-APowerOnFinds = (rule : Rule) (start : Start) (from first : ℕ) (done : List TraceSecond) (p : Progress) → BookFollowsRun rule start from first done p →
+APowerOnFinds = (rule : Rule) (start : Start) (from first : ℕ) (done : List TraceSecond) (p : Progress)
+    → BookFollowsRun rule start from first done p →
     MayPower p.supply p.next → (k : ℕ) → IsMark first (all p.book) k → All (λ i. i.minute ≤ k) p.book.sure →
     BookFollowsRun rule start from first done (record p {
       log = record p.log { breaks = found_from p.unfound k p.log.breaks };
@@ -78,14 +83,27 @@ APowerOnFinds = (rule : Rule) (start : Start) (from first : ℕ) (done : List Tr
 
 -- A POWER-ON FAILS in the second with which power came, before a minute is begun: also once the unit was read.
 abbrev pub APowerOnFails : Type 0
-APowerOnFails = (rule : Rule) (start : Start) (from first : ℕ) (done : List TraceSecond) (p : Progress) → BookFollowsRun rule start from first done p →
-    MayFail p.supply p.next → p.waiting ≡ [] → (s : TraceSecond) (later : RunLog) → GoesOnBy p later s → (begun : ℕ) → cut_in later s.number ≡ Some begun →
-    BookFollowsRun rule start from first (done ++ s ∷ []) (record { log = later; unfound = p.unfound; next = suc p.next; begun = length s.actions; supply = Lost; book = p.book; waiting = [] })
+APowerOnFails = (rule : Rule) (start : Start) (from first : ℕ) (done : List TraceSecond) (p : Progress)
+    → BookFollowsRun rule start from first done p →
+    MayFail p.supply p.next → p.waiting ≡ [] → (s : TraceSecond) (later : RunLog) → GoesOnBy p later s → (begun : ℕ)
+    → cut_in later s.number ≡ Some begun →
+    BookFollowsRun rule start from first (done ++ s ∷ [])
+    (record {
+      log = later;
+      unfound = p.unfound;
+      next = suc p.next;
+      begun = length s.actions;
+      supply = Lost;
+      book = p.book;
+      waiting = [];
+    })
 
 -- ONE SECOND MORE with power: all that it decides is kept.
 abbrev pub ASecondGoesOn : Type 0
-ASecondGoesOn = (rule : Rule) (start : Start) (from first : ℕ) (done : List TraceSecond) (p : Progress) → BookFollowsRun rule start from first done p →
-    (span : List ToldSecond) → p.supply ≡ Lit span → p.waiting ≡ [] → (s : TraceSecond) (later : RunLog) → GoesOnBy p later s → cut_in later s.number ≡ None →
+ASecondGoesOn = (rule : Rule) (start : Start) (from first : ℕ) (done : List TraceSecond) (p : Progress)
+    → BookFollowsRun rule start from first done p →
+    (span : List ToldSecond) → p.supply ≡ Lit span → p.waiting ≡ [] → (s : TraceSecond) (later : RunLog)
+    → GoesOnBy p later s → cut_in later s.number ≡ None →
     (new : List HistoryMinute) → DecidedBy rule start later done s span p.book new →
     BookFollowsRun rule start from first (done ++ s ∷ []) (record {
       log = later;
@@ -99,10 +117,13 @@ ASecondGoesOn = (rule : Rule) (start : Start) (from first : ℕ) (done : List Tr
 
 -- OR IT IS A CUT'S: some of what it decides is kept, and one minute more may be, or none was begun.
 abbrev pub ASecondBreaksOff : Type 0
-ASecondBreaksOff = (rule : Rule) (start : Start) (from first : ℕ) (done : List TraceSecond) (p : Progress) → BookFollowsRun rule start from first done p →
-    (span : List ToldSecond) → p.supply ≡ Lit span → p.waiting ≡ [] → (s : TraceSecond) (later : RunLog) → GoesOnBy p later s → (begun : ℕ) →
+ASecondBreaksOff = (rule : Rule) (start : Start) (from first : ℕ) (done : List TraceSecond) (p : Progress)
+    → BookFollowsRun rule start from first done p →
+    (span : List ToldSecond) → p.supply ≡ Lit span → p.waiting ≡ [] → (s : TraceSecond) (later : RunLog)
+    → GoesOnBy p later s → (begun : ℕ) →
     cut_in later s.number ≡ Some begun →
-    (new front rest : List HistoryMinute) (i : Option HistoryMinute) → DecidedBy rule start later done s span p.book new → new ≡ front ++ (option_to_list i ++ rest) →
+    (new front rest : List HistoryMinute) (i : Option HistoryMinute) → DecidedBy rule start later done s span p.book new
+    → new ≡ front ++ (option_to_list i ++ rest) →
     BookFollowsRun rule start from first (done ++ s ∷ []) (record {
       log = later;
       unfound = p.unfound;
@@ -113,41 +134,59 @@ ASecondBreaksOff = (rule : Rule) (start : Start) (from first : ℕ) (done : List
       waiting = [];
     })
 
--- THE MINUTES that a second decides come one after another from the first that was not decided before, and are over as it begins: so
--- who was present in them is told by the seconds before it.
-pub record AreNew (rule : Rule) (start : Start) (next : ℕ) (span told : List ToldSecond) (t : ToldSecond) (ds : List Minute) : Type 0 where
+-- THE MINUTES that a second decides come one after another from the first that was not decided before, and are over as
+-- it begins: so who was present in them is told by the seconds before it.
+pub record AreNew (rule : Rule) (start : Start) (next : ℕ) (span told : List ToldSecond) (t : ToldSecond)
+    (ds : List Minute) : Type 0 where
   pub due : map (λ (d : Minute). d.minute) ds ≡ count_from (ungiven_of (span_at rule next span)) (length ds)
   pub over : All (λ (d : Minute). d.minute < next / 60) ds
-  pub told_before : (past : List HistoryMinute) → minutes_after start (told ++ t ∷ []) past ds ≡ minutes_after start told past ds
+  pub told_before : (past : List HistoryMinute)
+      → minutes_after start (told ++ t ∷ []) past ds ≡ minutes_after start told past ds
 
 abbrev pub DecidedMinutesAreNew : Type 0
-DecidedMinutesAreNew = (rule : Rule) (start : Start) (from first : ℕ) (done : List TraceSecond) (p : Progress) → BookFollowsRun rule start from first done p →
-    (span : List ToldSecond) → p.supply ≡ Lit span → p.waiting ≡ [] → (s : TraceSecond) (later : RunLog) → GoesOnBy p later s →
+DecidedMinutesAreNew = (rule : Rule) (start : Start) (from first : ℕ) (done : List TraceSecond) (p : Progress)
+    → BookFollowsRun rule start from first done p →
+    (span : List ToldSecond) → p.supply ≡ Lit span → p.waiting ≡ [] → (s : TraceSecond) (later : RunLog)
+    → GoesOnBy p later s →
     (ds : List Minute) → decided_of rule (span ++ next_told later done s ∷ []) ≡ decided_of rule span ++ ds →
     AreNew rule start p.next span (went later done).told (next_told later done s) ds
 
 -- FOR THE RULES OF MINUTES a second with power is that span with its settling, its selections and its speed.
 abbrev pub RulesSeeTheSecond : Type 0
-RulesSeeTheSecond = (rule : Rule) (start : Start) (from first : ℕ) (done : List TraceSecond) (p : Progress) → BookFollowsRun rule start from first done p →
+RulesSeeTheSecond = (rule : Rule) (start : Start) (from first : ℕ) (done : List TraceSecond) (p : Progress)
+    → BookFollowsRun rule start from first done p →
     (span : List ToldSecond) → p.supply ≡ Lit span → (s : TraceSecond) (later : RunLog) → GoesOnBy p later s →
     let t : ToldSecond = next_told later done s in
-    span_at rule (suc p.next) (span ++ t ∷ []) ≡ fed (picking t.second.picks (settled_where t.course.settled (span_at rule p.next span))) t.second.speed
+    span_at rule (suc p.next) (span ++ t ∷ [])
+    ≡ fed (picking t.second.picks (settled_where t.course.settled (span_at rule p.next span))) t.second.speed
 
 -- AFTER A FAILED CALL the seconds up to the minute's end are dark, and their actions are refused.
 abbrev pub AMinuteStaysDark : Type 0
-AMinuteStaysDark = (rule : Rule) (start : Start) (from first : ℕ) (done : List TraceSecond) (p : Progress) → BookFollowsRun rule start from first done p →
-    p.supply ≡ Lost → (n speed : ℕ) (actions : List Action) (refused : List Refused) (begun : ℕ) → 0 < p.next % 60 → p.next % 60 + n ≤ 60 →
-    BookFollowsRun rule start from first (done ++ driven n p.next speed actions) (record p { log = record p.log { refused = refused }; next = p.next + n; begun = begun })
+AMinuteStaysDark = (rule : Rule) (start : Start) (from first : ℕ) (done : List TraceSecond) (p : Progress)
+    → BookFollowsRun rule start from first done p →
+    p.supply ≡ Lost → (n speed : ℕ) (actions : List Action) (refused : List Refused) (begun : ℕ) → 0 < p.next % 60
+    → p.next % 60 + n ≤ 60 →
+    BookFollowsRun rule start from first (done ++ driven n p.next speed actions)
+    (record p { log = record p.log { refused = refused }; next = p.next + n; begun = begun })
 
 -- AN `off` LINE of a second at least while there is no power,
 abbrev pub AnOffLineIsDark : Type 0
-AnOffLineIsDark = (rule : Rule) (start : Start) (from first : ℕ) (done : List TraceSecond) (p : Progress) → BookFollowsRun rule start from first done p →
+AnOffLineIsDark = (rule : Rule) (start : Start) (from first : ℕ) (done : List TraceSecond) (p : Progress)
+    → BookFollowsRun rule start from first done p →
     IsDark p.supply → (n : ℕ) →
-    BookFollowsRun rule start from first (done ++ dark (suc n) p.next) (record p { next = p.next + suc n; begun = 0; supply = Due })
+    BookFollowsRun rule start from first (done ++ dark (suc n) p.next)
+    (record p { next = p.next + suc n; begun = 0; supply = Due })
 
 -- and while there is: its last second turns out to be a cut's, behind all of its actions.
 abbrev pub AnOffLineCuts : Type 0
-AnOffLineCuts = (rule : Rule) (start : Start) (from first : ℕ) (done : List TraceSecond) (p : Progress) → BookFollowsRun rule start from first done p →
+AnOffLineCuts = (rule : Rule) (start : Start) (from first : ℕ) (done : List TraceSecond) (p : Progress)
+    → BookFollowsRun rule start from first done p →
     (t : ToldSecond) (span : List ToldSecond) → p.supply ≡ Lit (t ∷ span) → p.waiting ≡ [] → (n : ℕ) →
     BookFollowsRun rule start from first (done ++ dark (suc n) p.next)
-    (record p { log = and_break p.log (cut_at (p.next - 1) false p.begun); next = p.next + suc n; begun = 0; supply = Due })
+    (record p {
+      log = and_break p.log (cut_at (p.next - 1) false p.begun);
+      next = p.next
+          + suc n;
+      begun = 0;
+      supply = Due;
+    })

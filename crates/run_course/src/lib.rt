@@ -1,8 +1,8 @@
-//! How the run of a unit with cards goes, between two seconds and within one: what its log, its slots and its book have to do with
-//! the history of the run, as definitions (specs/) and laws that a recorder's loop cites.
+//! How the run of a unit with cards goes, between two seconds and within one: what its log, its slots and its book have
+//! to do with the history of the run, as definitions (specs/) and laws that a recorder's loop cites.
 //!
-//! The moments of a second of a run with cards, and what the lines of the log make of each: as definitions (specs/) and laws that a
-//! recorder's loop cites.
+//! The moments of a second of a run with cards, and what the lines of the log make of each: as definitions (specs/) and
+//! laws that a recorder's loop cites.
 #![tactic(auto)]
 
 // seconds of a run

@@ -1,7 +1,12 @@
-ghost use Rattle.run_course.specs.Lines.{ASecondIsReached, AnActionIsReached, TheKeepingIsReached, LinesOfTheMoment, WhoSitsIsNotTorn, ATearIsSeen, AFindIsSeen, ARefusalIsSeen};
+ghost use Rattle.run_course.specs.Lines.{ASecondIsReached, AnActionIsReached, TheKeepingIsReached, LinesOfTheMoment};
+ghost use Rattle.run_course.specs.Lines.{WhoSitsIsNotTorn, ATearIsSeen, AFindIsSeen, ARefusalIsSeen};
 ghost use Rattle.run_course.specs.Moment.{AMomentBegins, AnActionIsRefused, AnActionIsDone, ACardIsPulled};
-ghost use Rattle.run_course.specs.Telling.{BreakdownsOnly, ACardIsTorn, ATornCardWaitsNoMore, ACardIsJudged, TheKeepingComes, TheSecondEnds, ACutEnds, APowerOnIsCut};
-ghost use Rattle.run_course.specs.Kept.{NothingIsDecidedYet, ASelectionIsHeard, ASettlingDecides, NothingElseDecides, AMinuteIsKept, TheSecondIsFed, TheSecondHasDecided, TheCutHasDecided, OneMoreIsTravelled, NothingIsMarkedYet, MarksStay, OneMoreIsMarked, AllAreAcknowledged};
+ghost use Rattle.run_course.specs.Telling.{BreakdownsOnly, ACardIsTorn, ATornCardWaitsNoMore, ACardIsJudged};
+ghost use Rattle.run_course.specs.Telling.{TheKeepingComes, TheSecondEnds, ACutEnds, APowerOnIsCut};
+ghost use Rattle.run_course.specs.Kept.{NothingIsDecidedYet, ASelectionIsHeard, ASettlingDecides, NothingElseDecides};
+ghost use Rattle.run_course.specs.Kept.{AMinuteIsKept, TheSecondIsFed, TheSecondHasDecided, TheCutHasDecided};
+ghost use Rattle.run_course.specs.Kept.{OneMoreIsTravelled, NothingIsMarkedYet, MarksStay, OneMoreIsMarked};
+ghost use Rattle.run_course.specs.Kept.{AllAreAcknowledged};
 
 /// A second begins: nothing is told of it yet.
 pub fn a_second_is_reached()

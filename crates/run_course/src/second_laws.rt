@@ -1,12 +1,27 @@
-ghost use Rattle.run_course.specs.Moments.{ABreakMoreIsSeen, AFindMoreIsSeen, ARefusalMoreIsNotSeen, LaterLinesChangeNoMoment, AnActionMoreIsActed, OneActionMore};
-ghost use Rattle.run_course.specs.Seconds.{ARunBegins, APowerOnFinds, APowerOnFails, ASecondGoesOn, ASecondBreaksOff, RulesSeeTheSecond, DecidedMinutesAreNew, AMinuteStaysDark, AnOffLineIsDark, AnOffLineCuts};
-ghost use Rattle.run_course.specs.Within.{ASecondBegins, AnActionIsAMoment, ASecondEnds, ACutEndsTheSecond, ATearIsTold, AFindIsTold, SlotsTellATear, SlotsTellAnAcceptance};
-ghost use Rattle.run_course.specs.Complete.{NothingIsDecidedYet, ASecondIsAcknowledged, PowerAloneDecidesNothing, FoundStaysComplete, AFailureStaysComplete, RefusalsStayComplete, ACutStaysComplete, MoreMarksStay};
-ghost use Rattle.run_course.specs.Caused.{ARunIsCaused, ASecondIsCaused, FoundStaysCaused, AnOffLineIsCaused, AnOffCutIsCaused};
-ghost use Rattle.run_course.specs.Travelled.{NothingIsTravelled, FoundIsTravelled, AFailureIsTravelled, ASecondIsTravelled, ABrokenSecondIsTravelled, ADarkMinuteIsTravelled, AnOffLineIsTravelled, AnOffCutIsTravelled, ShownLegsAreThose};
-ghost use Rattle.run_course.specs.Quiet.{QuietSecondsAreTold, RulesSeeQuietSeconds, QuietSecondsGoOn, QuietSecondsStayTravelled, QuietSecondsStayCaused, QuietSecondsStayComplete, QuietSecondsTell};
-ghost use Rattle.run_course.specs.Dark.{LostSecondsAreTold, OffSecondsAreTold, ADarkMinuteIsCaused, ADarkMinuteStaysComplete, OffSecondsStayComplete, DarkSecondsTell};
-ghost use Rattle.run_course.specs.Presence.{SlotsAgree, SlotsTellWhoIsPresent, NobodySits, ACardIsPutIn, ACardIsTakenOut, PowerIsLost, ASecondHasGone, TheLastSecondIsCut, TheMinuteGoesOn, AMinuteEnds, TimePasses, MinutesAreKept, WhatWasKeptIsFound};
+ghost use Rattle.run_course.specs.Moments.{ABreakMoreIsSeen, AFindMoreIsSeen, ARefusalMoreIsNotSeen};
+ghost use Rattle.run_course.specs.Moments.{LaterLinesChangeNoMoment, AnActionMoreIsActed, OneActionMore};
+ghost use Rattle.run_course.specs.Seconds.{ARunBegins, APowerOnFinds, APowerOnFails, ASecondGoesOn, ASecondBreaksOff};
+ghost use Rattle.run_course.specs.Seconds.{RulesSeeTheSecond, DecidedMinutesAreNew, AMinuteStaysDark, AnOffLineIsDark};
+ghost use Rattle.run_course.specs.Seconds.{AnOffLineCuts};
+ghost use Rattle.run_course.specs.Within.{ASecondBegins, AnActionIsAMoment, ASecondEnds, ACutEndsTheSecond};
+ghost use Rattle.run_course.specs.Within.{ATearIsTold, AFindIsTold, SlotsTellATear, SlotsTellAnAcceptance};
+ghost use Rattle.run_course.specs.Complete.{NothingIsDecidedYet, ASecondIsAcknowledged, PowerAloneDecidesNothing};
+ghost use Rattle.run_course.specs.Complete.{FoundStaysComplete, AFailureStaysComplete, RefusalsStayComplete};
+ghost use Rattle.run_course.specs.Complete.{ACutStaysComplete, MoreMarksStay};
+ghost use Rattle.run_course.specs.Caused.{ARunIsCaused, ASecondIsCaused, FoundStaysCaused, AnOffLineIsCaused};
+ghost use Rattle.run_course.specs.Caused.{AnOffCutIsCaused};
+ghost use Rattle.run_course.specs.Travelled.{NothingIsTravelled, FoundIsTravelled, AFailureIsTravelled};
+ghost use Rattle.run_course.specs.Travelled.{ASecondIsTravelled, ABrokenSecondIsTravelled, ADarkMinuteIsTravelled};
+ghost use Rattle.run_course.specs.Travelled.{AnOffLineIsTravelled, AnOffCutIsTravelled, ShownLegsAreThose};
+ghost use Rattle.run_course.specs.Quiet.{QuietSecondsAreTold, RulesSeeQuietSeconds, QuietSecondsGoOn};
+ghost use Rattle.run_course.specs.Quiet.{QuietSecondsStayTravelled, QuietSecondsStayCaused, QuietSecondsStayComplete};
+ghost use Rattle.run_course.specs.Quiet.{QuietSecondsTell};
+ghost use Rattle.run_course.specs.Dark.{LostSecondsAreTold, OffSecondsAreTold, ADarkMinuteIsCaused};
+ghost use Rattle.run_course.specs.Dark.{ADarkMinuteStaysComplete, OffSecondsStayComplete, DarkSecondsTell};
+ghost use Rattle.run_course.specs.Presence.{SlotsAgree, SlotsTellWhoIsPresent, NobodySits, ACardIsPutIn};
+ghost use Rattle.run_course.specs.Presence.{ACardIsTakenOut, PowerIsLost, ASecondHasGone, TheLastSecondIsCut};
+ghost use Rattle.run_course.specs.Presence.{TheMinuteGoesOn, AMinuteEnds, TimePasses, MinutesAreKept};
+ghost use Rattle.run_course.specs.Presence.{WhatWasKeptIsFound};
 
 /// A run begins with nothing kept.
 pub fn a_run_begins()

@@ -1,5 +1,6 @@
 -- Which card is in which slot with which session (profile).
-use Rattle.std.specs.Prelude.{◌≡◌, ◌⊎◌, ℕ, ◌+◌, ◌<◌, ◌≤◌, true, false, Option, Some, None, Result, IfSome, All, is_some, slice_get, if◌then◌else◌}
+use Rattle.std.specs.Prelude.{◌≡◌, ◌⊎◌, ℕ, ◌+◌, ◌<◌, ◌≤◌, true, false, Option, Some, None, Result, IfSome, All, is_some}
+use Rattle.std.specs.Prelude.{slice_get, if◌then◌else◌}
 use Rattle.activity_codec.specs.declared.values.Slot.{Slot}
 use Rattle.activity_codec.specs.declared.values.Slot.TheVariants.{Driver, CoDriver}
 use Rattle.trace_model.specs.declared.Card.{Card}
@@ -45,7 +46,8 @@ with_session_of card session cabin = record cabin { cards = with_session card se
 
 -- the slot that a card sits in
 abbrev pub slot_with : Seats → Card → Option Slot
-slot_with seats card = if is_card seats.driver card then Some Driver else (if is_card seats.codriver card then Some CoDriver else None)
+slot_with seats card = if is_card seats.driver card then Some Driver
+    else (if is_card seats.codriver card then Some CoDriver else None)
 
 -- the card of this slot, if it is one, leaves it in a second
 abbrev pub left_from : Option Slot → (second : ℕ) → Kept → Kept
@@ -83,8 +85,8 @@ crew_of cabin = record {
 
 -- ---- how slots and sessions go together
 
--- A card in a slot has a session exactly where it is accepted. The newest minute of that is the one that it answered, or one of the
--- minutes before `from`, which it has kept since.
+-- A card in a slot has a session exactly where it is accepted. The newest minute of that is the one that it answered,
+-- or one of the minutes before `from`, which it has kept since.
 abbrev pub AnswersTo : (from : ℕ) → Option ℕ → Option Accepted → Type 0
 AnswersTo from None None = Unit {0}
 AnswersTo from None (Some accepted) = ⊥
@@ -121,15 +123,16 @@ pub record SitsNowhere (seats : Seats) (card : Card) : Type 0 where
   pub driver : is_card seats.driver card ≡ false
   pub codriver : is_card seats.codriver card ≡ false
 
--- The slots and the sessions between two calls, where the minutes before `from` are kept or not to be kept any more. A card may be
--- leaving: it has left its slot, and its session is not closed yet.
+-- The slots and the sessions between two calls, where the minutes before `from` are kept or not to be kept any more. A
+-- card may be leaving: it has left its slot, and its session is not closed yet.
 pub record CabinIsSound (from : ℕ) (leaving : Option Card) (cabin : Cabin) : Type 0 where
   pub a : IsKnown cabin.cards.a
   pub b : IsKnown cabin.cards.b
   pub driver : SeatAnswers from cabin.cards cabin.slots.seats.driver
   pub codriver : SeatAnswers from cabin.cards cabin.slots.seats.codriver
   pub apart : AreTwo (card_in cabin.slots.seats.driver) (card_in cabin.slots.seats.codriver)
-  pub only : (card : Card) → is_some (session_of cabin.cards card) ≡ true → SitsThere cabin.slots.seats card ⊎ (leaving ≡ Some card)
+  pub only : (card : Card) → is_some (session_of cabin.cards card) ≡ true
+      → SitsThere cabin.slots.seats card ⊎ (leaving ≡ Some card)
   pub left : IfSome leaving (SitsNowhere cabin.slots.seats)
   pub past : All (EndedStands from cabin.slots.minute cabin.cards) cabin.slots.past
   pub newest : KnowsNewest cabin.slots
@@ -137,7 +140,8 @@ pub record CabinIsSound (from : ℕ) (leaving : Option Card) (cabin : Cabin) : T
 -- The minutes from one on and before another have ended one after the other, and are the newest that are kept.
 pub record KnowsEnded (from to : ℕ) (slots : Kept) : Type 0 where
   pub few : to ≤ from + 4
-  pub each : (k : ℕ) → k + from < to → (ended : Ended) × (slice_get slots.past k ≡ Some ended) × (ended.minute + k + 1 ≡ to)
+  pub each : (k : ℕ) → k + from < to
+      → (ended : Ended) × (slice_get slots.past k ≡ Some ended) × (ended.minute + k + 1 ≡ to)
 
 -- who was present in a minute: two cards at most, and each that has a session can keep it
 pub record MayBeKept (cards : Cards) (minute : ℕ) (present : Present) : Type 0 where

@@ -5,7 +5,9 @@ ghost use Rattle.card_slots.specs.Calls.{seat_in, card_in, is_card, present_in};
 ghost use Rattle.card_slots.specs.Kept.{IsFree, nothing_yet};
 ghost use Rattle.log_model.specs.Slots.{other_slot};
 ghost use Rattle.run_crew.specs.Cards.{known_of, session_of};
-ghost use Rattle.run_crew.specs.Cabin.{CabinIsSound, SitsNowhere, MayBeKept, KnowsEnded, with_card_in, with_sizes_of, with_accepted, with_slot_left, with_session_of, torn_out, with_power_lost, with_minute_ended, slot_with, number_of_seat, crew_of};
+ghost use Rattle.run_crew.specs.Cabin.{CabinIsSound, SitsNowhere, MayBeKept, KnowsEnded, with_card_in, with_sizes_of};
+ghost use Rattle.run_crew.specs.Cabin.{with_accepted, with_slot_left, with_session_of, torn_out, with_power_lost};
+ghost use Rattle.run_crew.specs.Cabin.{with_minute_ended, slot_with, number_of_seat, crew_of};
 
 use crate::cards::{Accepted, Cards, Crew, Known};
 use activity_codec::Slot;
@@ -14,8 +16,8 @@ use card_slots::{Present, Slots};
 use tacho_types::FullCardNumber;
 use trace_model::Card;
 
-/// The two card slots, and what is known of both cards. The calls keep slots and sessions together: a card in a slot has a session
-/// exactly where it is accepted, and one that is in none has none, but while it leaves.
+/// The two card slots, and what is known of both cards. The calls keep slots and sessions together: a card in a slot
+/// has a session exactly where it is accepted, and one that is in none has none, but while it leaves.
 #[derive(Drop)]
 pub struct Cabin {
     pub slots: Slots,
@@ -46,17 +48,19 @@ impl Cabin {
         self.slots.put(slot, card, None);
     }
 
-    /// A card that is not accepted has told these sizes, or the number of the first bad field of Application_Identification.
+    /// A card that is not accepted has told these sizes, or the number of the first bad field of
+    /// Application_Identification.
     pub fn measure(&mut self, card: Card, sizes: Result<Application, u8>)
         requires bare { session_of self.old.cards card ≡ None }
         ensures kept { self.new ≡ with_sizes_of card sizes self.old }
-        ensures stands { (from : ℕ) (leaving : Option Card) → CabinIsSound from leaving self.old → CabinIsSound from leaving self.new }
+        ensures stands { (from : ℕ) (leaving : Option Card) → CabinIsSound from leaving self.old
+            → CabinIsSound from leaving self.new }
     {
         self.cards.measure(card, sizes);
     }
 
-    /// The card of a slot is accepted there, with a session by the sizes that are known of it; it has told this number, and this row of the
-    /// unit is begun for it.
+    /// The card of a slot is accepted there, with a session by the sizes that are known of it; it has told this number,
+    /// and this row of the unit is begun for it.
     pub fn accept(
         &mut self,
         slot: Slot,
@@ -69,7 +73,8 @@ impl Cabin {
         requires elsewhere { is_card (seat_in self.old.slots.seats (other_slot slot)) card ≡ false }
         requires sizes { (known_of self.old.cards card).sizes ≡ Ok accepted.session.application }
         ensures kept { self.new ≡ with_accepted slot card number row accepted self.old }
-        ensures stands { (from : ℕ) → self.old.slots.minute ≤ from → CabinIsSound from None self.old → CabinIsSound from None self.new }
+        ensures stands { (from : ℕ) → self.old.slots.minute ≤ from → CabinIsSound from None self.old
+            → CabinIsSound from None self.new }
     {
         let newest = accepted.session.newest_minute();
         self.slots.put(slot, card, Some(newest));
@@ -82,7 +87,8 @@ impl Cabin {
         requires card { is_some (seat_in self.old.slots.seats slot) ≡ true }
         requires minute { self.old.slots.minute ≤ second / 60 }
         ensures kept { self.new ≡ with_slot_left slot second self.old }
-        ensures stands { (from : ℕ) (card : Card) → card_in (seat_in self.old.slots.seats slot) ≡ Some card → CabinIsSound from None self.old → CabinIsSound from (Some card) self.new }
+        ensures stands { (from : ℕ) (card : Card) → card_in (seat_in self.old.slots.seats slot) ≡ Some card
+            → CabinIsSound from None self.old → CabinIsSound from (Some card) self.new }
     {
         self.slots.take(slot, second);
     }
@@ -100,7 +106,8 @@ impl Cabin {
     pub fn tear(&mut self, card: Card, second: u32)
         requires minute { self.old.slots.minute ≤ second / 60 }
         ensures kept { self.new ≡ torn_out card second self.old }
-        ensures stands { (from : ℕ) (leaving : Option Card) → CabinIsSound from leaving self.old → CabinIsSound from leaving self.new }
+        ensures stands { (from : ℕ) (leaving : Option Card) → CabinIsSound from leaving self.old
+            → CabinIsSound from leaving self.new }
         ensures left { (from : ℕ) → CabinIsSound from (Some card) self.old → CabinIsSound from None self.new }
     {
         if let Some(slot) = self.slot_of(card) {
@@ -113,7 +120,8 @@ impl Cabin {
     pub fn cut(&mut self, second: u32)
         requires minute { self.old.slots.minute ≤ second / 60 }
         ensures kept { self.new ≡ with_power_lost second self.old }
-        ensures stands { (from to : ℕ) (leaving : Option Card) → CabinIsSound from leaving self.old → CabinIsSound to None self.new }
+        ensures stands { (from to : ℕ) (leaving : Option Card) → CabinIsSound from leaving self.old
+            → CabinIsSound to None self.new }
     {
         self.slots.cut(second);
         self.cards.set_session(Card::A, None);
@@ -124,8 +132,10 @@ impl Cabin {
     pub fn end_minute(&mut self, minute: u32)
         requires minute { self.old.slots.minute ≤ minute }
         ensures kept { self.new ≡ with_minute_ended minute self.old }
-        ensures stands { (from : ℕ) → from ≤ minute → CabinIsSound from None self.old → CabinIsSound from None self.new }
-        ensures ended { (from : ℕ) → minute < from + 4 → KnowsEnded from minute self.old.slots → KnowsEnded from (minute + 1) self.new.slots }
+        ensures stands { (from : ℕ) → from ≤ minute → CabinIsSound from None self.old
+            → CabinIsSound from None self.new }
+        ensures ended { (from : ℕ) → minute < from + 4 → KnowsEnded from minute self.old.slots
+            → KnowsEnded from (minute + 1) self.new.slots }
     {
         self.slots.end_minute(minute);
     }
@@ -134,7 +144,8 @@ impl Cabin {
     pub fn present(&self, minute: u32) -> Present
         requires ended { is_some (present_in self.now.slots.past minute) ≡ true }
         ensures present { Some result ≡ present_in self.now.slots.past minute }
-        ensures stands { (from : ℕ) (leaving : Option Card) → from ≤ minute → CabinIsSound from leaving self.now → MayBeKept self.now.cards minute result }
+        ensures stands { (from : ℕ) (leaving : Option Card) → from ≤ minute → CabinIsSound from leaving self.now
+            → MayBeKept self.now.cards minute result }
     {
         self.slots.present(minute)
     }

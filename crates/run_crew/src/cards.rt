@@ -7,8 +7,8 @@ use card_session::CardSession;
 use tacho_types::FullCardNumber;
 use trace_model::Card;
 
-/// An accepted card: its session, and the entry that tells of its insertion, by its index and by how many were noted in the run
-/// when it was.
+/// An accepted card: its session, and the entry that tells of its insertion, by its index and by how many were noted in
+/// the run when it was.
 #[derive(Drop)]
 pub struct Accepted {
     pub session: CardSession,
@@ -23,7 +23,8 @@ pub struct Known {
     pub sizes: Result<Application, u8>,
     /// The card number that it told last, if it was valid.
     pub number: Option<FullCardNumber>,
-    /// The row of the unit that was begun for it last: what is owed to it stands there, also where it was torn out since.
+    /// The row of the unit that was begun for it last: what is owed to it stands there, also where it was torn out
+    /// since.
     pub row: u32,
     /// Its session, from its acceptance until it leaves its slot or power is lost.
     pub accepted: Option<Accepted>,

@@ -7,22 +7,28 @@ ghost use Rattle.run_crew.specs.declared.cabin.Cabin.{Cabin};
 ghost use Rattle.run_crew.specs.Cards.{session_of};
 ghost use Rattle.run_crew.specs.Cabin.{CabinIsSound, KnowsEnded, with_session_of};
 
-/// A session that was taken to keep a minute, and is given back with that minute as its newest one, goes on: no minute up to it is to
-/// be kept any more.
+/// A session that was taken to keep a minute, and is given back with that minute as its newest one, goes on: no minute
+/// up to it is to be kept any more.
 pub fn a_session_that_kept_its_minute_goes_on()
-    ensures { (from minute : ℕ) (leaving : Option Card) (card : Card) (old new : Accepted) (cabin : Cabin) → from ≤ minute + 1 → session_of cabin.cards card ≡ Some old → new.session.application ≡ old.session.application → new.session.minute ≤ minute
+    ensures { (from minute : ℕ) (leaving : Option Card) (card : Card) (old new : Accepted) (cabin : Cabin)
+        → from ≤ minute + 1 → session_of cabin.cards card ≡ Some old → new.session.application ≡ old.session.application
+        → new.session.minute ≤ minute
         → CabinIsSound from leaving cabin → CabinIsSound (minute + 1) leaving (with_session_of card (Some new) cabin) }
 {}
 
 /// No minute before a later one is to be kept any more.
 pub fn slots_and_sessions_stand_from_a_later_minute_on()
-    ensures { (from to : ℕ) (leaving : Option Card) (cabin : Cabin) → from ≤ to → CabinIsSound from leaving cabin → CabinIsSound to leaving cabin }
+    ensures { (from to : ℕ) (leaving : Option Card) (cabin : Cabin) → from ≤ to → CabinIsSound from leaving cabin
+        → CabinIsSound to leaving cabin }
 {}
 
 /// Who was present in a minute that has ended is known.
 pub fn an_ended_minute_is_known()
-    ensures known { (from to minute : ℕ) (slots : Kept) → from ≤ minute → minute < to → KnowsEnded from to slots → is_some (present_in slots.past minute) ≡ true }
-    ensures later { (from later to : ℕ) (slots : Kept) → from ≤ later → KnowsEnded from to slots → KnowsEnded later to slots }
+    ensures known { (from to minute : ℕ) (slots : Kept) → from ≤ minute → minute < to → KnowsEnded from to slots
+        → is_some (present_in slots.past minute) ≡ true }
+    ensures later { (from later to : ℕ) (slots : Kept) → from ≤ later → KnowsEnded from to slots
+        → KnowsEnded later to slots }
     ensures none { (from : ℕ) (slots : Kept) → KnowsEnded from from slots }
-    ensures same { (from to : ℕ) (slots new : Kept) → new.past ≡ slots.past → KnowsEnded from to slots → KnowsEnded from to new }
+    ensures same { (from to : ℕ) (slots new : Kept) → new.past ≡ slots.past → KnowsEnded from to slots
+        → KnowsEnded from to new }
 {}

@@ -1,4 +1,5 @@
-//! Which card is in which slot with which session, and what a run knows of both cards (profile). Values alone: no device is called.
+//! Which card is in which slot with which session, and what a run knows of both cards (profile). Values alone: no
+//! device is called.
 #![tactic(auto)]
 
 mod cabin;

@@ -21,33 +21,39 @@ use Rattle.run_promise.specs.Cards.{brought_by}
 abbrev pub identification_of : List ℕ → List ℕ
 identification_of x = file_bytes (own_sizes x) 0x0520 x
 
--- THE BYTES OF A CARD THAT NO CALL OF A RUN WRITES, by its sizes, are those of the start: in front of the events ICC, IC and
--- Application_Identification; the faults; and from Control_Activity_Data on the card download, the identification, the driving licence, the specific
--- conditions, both certificates, and what stands behind them, however many bytes there are
+-- THE BYTES OF A CARD THAT NO CALL OF A RUN WRITES, by its sizes, are those of the start: in front of the events ICC,
+-- IC and Application_Identification; the faults; and from Control_Activity_Data on the card download, the
+-- identification, the driving licence, the specific conditions, both certificates, and what stands behind them, however
+-- many bytes there are
 pub record HasSameRest (app : Application) (start x : List ℕ) : Type 0 where
   pub front : bytes_at x 0 (place_of app (file 0x0502)) ≡ bytes_at start 0 (place_of app (file 0x0502))
   pub faults : file_bytes app 0x0503 x ≡ file_bytes app 0x0503 start
   pub behind : (n : ℕ) → bytes_at x (place_of app (file 0x0508)) n ≡ bytes_at start (place_of app (file 0x0508)) n
 
--- it is the card of the same holder still: its number, its file Identification, its sizes, and all else that no call of a run writes
+-- it is the card of the same holder still: its number, its file Identification, its sizes, and all else that no call of
+-- a run writes
 pub record HasSameHolder (start x : List ℕ) : Type 0 where
   pub number : own_number x ≡ own_number start
   pub identification : identification_of x ≡ identification_of start
   pub sizes : own_sizes x ≡ own_sizes start
   pub rest : HasSameRest (own_sizes start) start x
 
--- THE STRING OF A CARD, which tells its images: each that a stop may leave now holds it, and an entry may come behind its newest minute as
--- the card stands; and each since the start keeps it. The card has its number and its holder still.
+-- THE STRING OF A CARD, which tells its images: each that a stop may leave now holds it, and an entry may come behind
+-- its newest minute as the card stands; and each since the start keeps it. The card has its number and its holder
+-- still.
 pub record CardHoldsString (f : CardFound) (c : Card) (b : Book) (z : Standing) (card : State) : Type 0 where
   pub tells : is_some card.image ≡ true
   pub now : (x : List ℕ) → card.may_leave x →
-      (own_sizes x ≡ own_sizes f.image) × HoldsSince (own_sizes f.image) f.image (brought_by c f.start b) (suc (max f.start.word (since z (own_view x).newest))) x
-  pub since : (x : List ℕ) → card.left_since f.began x → (own_sizes x ≡ own_sizes f.image) × KeepsSince f.image (brought_by c f.start b) x
+      (own_sizes x ≡ own_sizes f.image)
+      × HoldsSince (own_sizes f.image) f.image (brought_by c f.start b)
+      (suc (max f.start.word (since z (own_view x).newest))) x
+  pub since : (x : List ℕ) → card.left_since f.began x
+      → (own_sizes x ≡ own_sizes f.image) × KeepsSince f.image (brought_by c f.start b) x
   pub number : (x : List ℕ) → card.may_leave x → own_number x ≡ f.number
   pub still : (x : List ℕ) → card.left_since f.began x → HasSameHolder f.image x
 
--- So its string is held; each image since the start is valid; the entries rise. Nothing of a minute is half kept, and the rule that joins
--- unit and card holds.
+-- So its string is held; each image since the start is valid; the entries rise. Nothing of a minute is half kept, and
+-- the rule that joins unit and card holds.
 pub record EachIsStrung (f : Found) (c : Card) (b : Book) (z : Standing) (unit card : State) : Type 0 where
   pub sizes : IsApplication (own_sizes (found_of f c).image)
   pub entries : (found_of f c).start.entries ≡ (own_view (found_of f c).image).held.entries

@@ -1,6 +1,7 @@
--- What is carried of unit and cards between two calls of a run (profile): beside the rules that join them, how each image of a card holds its
--- string, and the sessions of the cards that are in their slots.
-use Rattle.std.specs.Prelude.{◌≡◌, ◌≢◌, ℕ, suc, max, ◌<◌, ◌≤◌, true, Option, Some, None, IfSome, List, [], ◌∷◌, ◌++◌, All, Contains, length, map, is_some, option_to_list}
+-- What is carried of unit and cards between two calls of a run (profile): beside the rules that join them, how each
+-- image of a card holds its string, and the sessions of the cards that are in their slots.
+use Rattle.std.specs.Prelude.{◌≡◌, ◌≢◌, ℕ, suc, max, ◌<◌, ◌≤◌, true, Option, Some, None, IfSome, List, [], ◌∷◌, ◌++◌}
+use Rattle.std.specs.Prelude.{All, Contains, length, map, is_some, option_to_list}
 use Rattle.activity_codec.specs.declared.entries.Entry.{Entry}
 use Rattle.trace_model.specs.declared.Card.{Card}
 use Rattle.trace_model.specs.declared.Card.TheVariants.{A, B}
@@ -33,15 +34,17 @@ use Rattle.run_devices.specs.Strung.{CardHoldsString}
 
 -- ---- what was found
 
--- What was found of the cards: two numbers, which are those that the valid ones have told, and for which owed rows are begun; and of each valid
--- card sizes, and the entries of its image.
+-- What was found of the cards: two numbers, which are those that the valid ones have told, and for which owed rows are
+-- begun; and of each valid card sizes, and the entries of its image.
 pub record AreFoundCards (f : Found) (cards : Cards) : Type 0 where
   pub two : f.card_a.number ≢ f.card_b.number
-  pub named : (c : Card) → IsOwnValid (found_of f c).image → IfSome (known_of cards c).number (λ n. card_number_bytes n ≡ (found_of f c).number)
+  pub named : (c : Card) → IsOwnValid (found_of f c).image
+      → IfSome (known_of cards c).number (λ n. card_number_bytes n ≡ (found_of f c).number)
   pub told : (c : Card) → IsOwnValid (found_of f c).image → is_some (known_of cards c).number ≡ true
   pub own : (c : Card) → IsOwnValid (found_of f c).image → IsCards f.unit (found_of f c).number
   pub sizes : (c : Card) → IsOwnValid (found_of f c).image → IsApplication (own_sizes (found_of f c).image)
-  pub entries : (c : Card) → IsOwnValid (found_of f c).image → (found_of f c).start.entries ≡ (own_view (found_of f c).image).held.entries
+  pub entries : (c : Card) → IsOwnValid (found_of f c).image
+      → (found_of f c).start.entries ≡ (own_view (found_of f c).image).held.entries
 
 -- ---- the string
 
@@ -49,21 +52,24 @@ pub record AreFoundCards (f : Found) (cards : Cards) : Type 0 where
 abbrev pub sure_of : Book → Book
 sure_of b = record b { maybe = None }
 
--- WITHOUT POWER, or behind a failure of the unit: a card holds the string of the sure minutes, and what the minute says that may be there may
--- come next.
+-- WITHOUT POWER, or behind a failure of the unit: a card holds the string of the sure minutes, and what the minute says
+-- that may be there may come next.
 pub record CardHoldsStringUnpowered (f : CardFound) (c : Card) (b : Book) (z : Standing) (card : State) : Type 0 where
   pub held : CardHoldsString f c (sure_of b) z card
-  pub comes : (x : List ℕ) → card.may_leave x → All (λ e. suc (max f.start.word (since z (own_view x).newest)) ≤ e.minute) (card_history c (option_to_list b.maybe))
+  pub comes : (x : List ℕ) → card.may_leave x
+      → All (λ e. suc (max f.start.word (since z (own_view x).newest)) ≤ e.minute)
+      (card_history c (option_to_list b.maybe))
 
 -- so does each card that was valid
 abbrev pub AllWait : Found → RunLedger → Devices → Type 0
-AllWait f w d = (c : Card) → IsOwnValid (found_of f c).image → CardHoldsStringUnpowered (found_of f c) c w.book (w.standing c) (card_of d c)
+AllWait f w d = (c : Card) → IsOwnValid (found_of f c).image
+    → CardHoldsStringUnpowered (found_of f c) c w.book (w.standing c) (card_of d c)
 
 -- ---- the sessions
 
--- A CARD IN ITS SLOT, with this session, and with these entries since the start: it stands with the session's newest minute, its image is
--- what the session knows, and would be valid, were the session ended, and its string goes on with each minute later than that one and than
--- the words at the start.
+-- A CARD IN ITS SLOT, with this session, and with these entries since the start: it stands with the session's newest
+-- minute, its image is what the session knows, and would be valid, were the session ended, and its string goes on with
+-- each minute later than that one and than the words at the start.
 pub record SessionIsOnCard (f : CardFound) (has : List Entry) (z : Standing) (s : Session) (card : State) : Type 0 where
   pub time : ℕ
   pub stands : z ≡ In time s.minute
@@ -78,7 +84,8 @@ GoesWith f has z None card = IsNotIn z
 GoesWith f has z (Some accepted) card = SessionIsOnCard f has z accepted.session card
 
 -- while these entries are owed to it: it has all others that it is to have
-pub record GoesOwing (f : CardFound) (c : Card) (b : Book) (owes : List Entry) (z : Standing) (session : Option Accepted) (card : State) : Type 0 where
+pub record GoesOwing (f : CardFound) (c : Card) (b : Book) (owes : List Entry) (z : Standing)
+    (session : Option Accepted) (card : State) : Type 0 where
   pub has : List Entry
   pub all : has ++ owes ≡ brought_by c f.start b
   pub goes : GoesWith f has z session card
@@ -89,8 +96,10 @@ owes_nothing c = []
 
 -- so do all that were valid
 pub record AllGo (f : Found) (w : RunLedger) (owes : Card → List Entry) (cards : Cards) (d : Devices) : Type 0 where
-  pub held : (c : Card) → IsOwnValid (found_of f c).image → CardHoldsString (found_of f c) c w.book (w.standing c) (card_of d c)
-  pub goes : (c : Card) → IsOwnValid (found_of f c).image → GoesOwing (found_of f c) c w.book (owes c) (w.standing c) (session_of cards c) (card_of d c)
+  pub held : (c : Card) → IsOwnValid (found_of f c).image
+      → CardHoldsString (found_of f c) c w.book (w.standing c) (card_of d c)
+  pub goes : (c : Card) → IsOwnValid (found_of f c).image
+      → GoesOwing (found_of f c) c w.book (owes c) (w.standing c) (session_of cards c) (card_of d c)
 
 -- A card that was put in and whose row is not begun yet: so is its image, and so its string goes on.
 pub record IsPutIn (f : CardFound) (c : Card) (b : Book) (now : ℕ) (s : Session) (card : State) : Type 0 where
@@ -98,22 +107,26 @@ pub record IsPutIn (f : CardFound) (c : Card) (b : Book) (now : ℕ) (s : Sessio
   pub sizes : s.application ≡ own_sizes f.image
   pub session : IfSome card.image (IsSession s)
   pub ends : IfSome card.image (MayEnd s.application)
-  pub goes : IfSome card.image (GoesSince s.application f.image (brought_by c f.start b) (suc (max f.start.word s.minute)))
+  pub goes : IfSome card.image (GoesSince s.application f.image (brought_by c f.start b)
+      (suc (max f.start.word s.minute)))
 
 -- ---- all of it
 
--- All that is carried while the unit has power, but that these entries are put for the minute that comes, or these are still owed to the
--- cards. The string of a card is carried apart (`AllGo`).
+-- All that is carried while the unit has power, but that these entries are put for the minute that comes, or these are
+-- still owed to the cards. The string of a card is carried apart (`AllGo`).
 pub record IsLitWith (f : Found) (w : RunLedger) (puts owes : Card → List Entry) (d : Devices) : Type 0 where
   pub tells : is_some d.unit.image ≡ true
   pub works : d.unit.works ≡ true
   pub unit : UnitFollowsBook (once_mended f.unit) w.due w.book w.marks d.unit
   pub none : w.book.maybe ≡ None
   pub rules : (c : Card) → IsOwnValid (found_of f c).image →
-      CardRule c (found_of f c).start AnyKept (found_of f c).began w.book (w.standing c) (puts c) (owes c) (unit_seen f d.unit) (of_card (card_of d c))
-  pub valid : (c : Card) → IsOwnValid (found_of f c).image → (x : List ℕ) → (card_of d c).left_since (found_of f c).began x → IsOwnValid x
+      CardRule c (found_of f c).start AnyKept (found_of f c).began w.book (w.standing c) (puts c) (owes c)
+      (unit_seen f d.unit) (of_card (card_of d c))
+  pub valid : (c : Card) → IsOwnValid (found_of f c).image → (x : List ℕ)
+      → (card_of d c).left_since (found_of f c).began x → IsOwnValid x
   pub rises : (c : Card) → IsOwnValid (found_of f c).image → Rise (brought_by c (found_of f c).start w.book)
-  pub brought : (c : Card) → IsOwnValid (found_of f c).image → (k : ℕ) → Contains (w.brought c) k → HasBrought f.card_a.number f.card_b.number c k d.unit (card_of d c)
+  pub brought : (c : Card) → IsOwnValid (found_of f c).image → (k : ℕ) → Contains (w.brought c) k
+      → HasBrought f.card_a.number f.card_b.number c k d.unit (card_of d c)
   pub marks : (c : Card) → CardMarksHold (found_of f c) c w.book w.marks (card_of d c)
 
 -- nothing is put any more
@@ -156,7 +169,8 @@ with_standing c z w = record w { standing = for_card c z w.standing }
 
 -- it is accepted in a second, with a newest minute, when the unit had kept this minute last
 abbrev pub with_acceptance : Card → (now newest kept : ℕ) → RunLedger → RunLedger
-with_acceptance c now newest kept w = record w { standing = for_card c (In now newest) w.standing; brought = for_card c (kept ∷ w.brought c) w.brought }
+with_acceptance c now newest kept w = record
+    w { standing = for_card c (In now newest) w.standing; brought = for_card c (kept ∷ w.brought c) w.brought }
 
 -- the marks of entries that a card has, all at this clock
 abbrev pub card_marks : Card → (clock : ℕ) → List Entry → List Mark
@@ -174,9 +188,10 @@ carried_found k w = record w { book = found k w.book }
 abbrev pub all_out : RunLedger → RunLedger
 all_out w = record w { standing = λ c. Out }
 
--- WHAT THE FIND OF AN ACCEPTANCE IS TO TELL: by an image of unit and of card that a stop might have left then these entries were owed, so many,
--- and the card was valid, of the sizes at the start, and told of no later time.
-pub record HasFoundSo (f : Found) (c : Card) (unit card : State) (now : ℕ) (put : List Entry) (replayed : ℕ) : Type 0 where
+-- WHAT THE FIND OF AN ACCEPTANCE IS TO TELL: by an image of unit and of card that a stop might have left then these
+-- entries were owed, so many, and the card was valid, of the sizes at the start, and told of no later time.
+pub record HasFoundSo (f : Found) (c : Card) (unit card : State) (now : ℕ) (put : List Entry) (replayed : ℕ) : Type
+    0 where
   pub unit_image : List ℕ
   pub card_image : List ℕ
   pub on : unit.may_leave unit_image

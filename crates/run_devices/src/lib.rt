@@ -1,5 +1,5 @@
-//! How the cards stand that were present in the minutes that a run has still to keep (profile): definitions (specs/), and laws that the
-//! loop of the recorder with cards cites.
+//! How the cards stand that were present in the minutes that a run has still to keep (profile): definitions (specs/),
+//! and laws that the loop of the recorder with cards cites.
 //!
 //! What each image of a card holds of its string is what a run carries of it (profile): a law.
 //!

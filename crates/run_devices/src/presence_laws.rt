@@ -1,4 +1,5 @@
-ghost use Rattle.run_devices.specs.Presence.{NoneIsToBeKept, AMinuteEndsSo, AStepLeavesSo, TheNextBeginsSo, WhatAMinuteSays};
+ghost use Rattle.run_devices.specs.Presence.{NoneIsToBeKept, AMinuteEndsSo, AStepLeavesSo, TheNextBeginsSo};
+ghost use Rattle.run_devices.specs.Presence.{WhatAMinuteSays};
 
 /// No minute that has ended is to be kept, as behind a settling and at a power-on.
 pub fn none_is_to_be_kept()

@@ -8,9 +8,14 @@ ghost use Rattle.run_devices.specs.Strung.{EachIsStrung, CardHoldsString};
 
 use tach_media::{Chip, Medium};
 
-/// Where each image of a card holds its string, and each since the start keeps it, that is carried of the card: what is owed to it may come
-/// next, since it is what the string lacks. And so is its string held where the card is not accepted any more.
+/// Where each image of a card holds its string, and each since the start keeps it, that is carried of the card: what is
+/// owed to it may come next, since it is what the string lacks. And so is its string held where the card is not
+/// accepted any more.
 pub fn a_string_that_each_image_holds_is_strung<M: Medium, C: Chip>(unit: &M, card: &C)
-    ensures strung { (f : Found) (c : Card) (b : Book) (z : Standing) → EachIsStrung f c b z (M.state unit.now) (C.state card.now) → IsStrung f c b z (M.state unit.now) (C.state card.now) }
-    ensures out { (f : Found) (c : Card) (b : Book) (z : Standing) (u : List ℕ) → (M.state unit.now).may_leave u → EachIsStrung f c b z (M.state unit.now) (C.state card.now) → CardHoldsString (found_of f c) c b Out (C.state card.now) }
+    ensures strung { (f : Found) (c : Card) (b : Book) (z : Standing)
+        → EachIsStrung f c b z (M.state unit.now) (C.state card.now)
+        → IsStrung f c b z (M.state unit.now) (C.state card.now) }
+    ensures out { (f : Found) (c : Card) (b : Book) (z : Standing) (u : List ℕ) → (M.state unit.now).may_leave u
+        → EachIsStrung f c b z (M.state unit.now) (C.state card.now)
+        → CardHoldsString (found_of f c) c b Out (C.state card.now) }
 {}

@@ -40,12 +40,15 @@ AreBeingNotedBehind block ended x c = IsPuttingBlock block x c ⊎ AreNotedOn bl
 
 -- n seconds at a speed were fed, from one on: the block of the minute that ends with them
 pub record IsMinuteFed (old new : List ℕ) (first n speed : ℕ) (block : Option Block) : Type 0 where
-  pub stands : (seconds : List SpeedSecond) → minute.KeepsSpeedsOf old seconds first → minute.KeepsSpeedsOf new (seconds ++ at_speed first n speed) (first + n)
-  pub blocks : (seconds : List SpeedSecond) → minute.KeepsSpeedsOf old seconds first → blocks_of (seconds ++ at_speed first n speed) ≡ blocks_of seconds ++ option_to_list block
+  pub stands : (seconds : List SpeedSecond) → minute.KeepsSpeedsOf old seconds first
+      → minute.KeepsSpeedsOf new (seconds ++ at_speed first n speed) (first + n)
+  pub blocks : (seconds : List SpeedSecond) → minute.KeepsSpeedsOf old seconds first
+      → blocks_of (seconds ++ at_speed first n speed) ≡ blocks_of seconds ++ option_to_list block
 
--- N SECONDS WERE WATCHED: the block of the minute that ends with them is added, and then what has ended with the second before is noted. The unit
--- carries the block behind those of before.
-pub record IsWatchedOn (failed : Bool) (old new : Watch) (first n speed : ℕ) (crew : Crew) (prior unit : State) : Type 0 where
+-- N SECONDS WERE WATCHED: the block of the minute that ends with them is added, and then what has ended with the second
+-- before is noted. The unit carries the block behind those of before.
+pub record IsWatchedOn (failed : Bool) (old new : Watch) (first n speed : ℕ) (crew : Crew) (prior unit : State) : Type
+    0 where
   pub ended : Ended
   pub block : Option Block
   pub fed : IsFed old new first n speed crew ended

@@ -1,4 +1,5 @@
--- What no log tells of a run, as its seconds come: which session times were found open, and which card was torn out first (profile).
+-- What no log tells of a run, as its seconds come: which session times were found open, and which card was torn out
+-- first (profile).
 use Rattle.std.specs.Prelude.{◌≡◌, ℕ, suc, ◌<◌, ◌≤◌, true, false, None, List, is_some, nat_eq, if◌then◌else◌}
 use Rattle.std.specs.List.{AllByRecursion}
 use Rattle.activity_codec.specs.declared.values.Slot.{Slot}
@@ -32,9 +33,11 @@ AreEarlier n seen = AllByRecursion (λ x. number_of x < n) seen
 
 -- a choice fits a second
 pub record IsTornIn (t : Tearing) (x : Seen) : Type 0 where
-  pub still : (slot : Slot) → x.told.second.speed ≡ 0 → torn_at x (In 0) slot ≡ true → is_some (accepted_at x (In 0) slot) ≡ true → t.by_gap (number_of x) slot ≡ true
+  pub still : (slot : Slot) → x.told.second.speed ≡ 0 → torn_at x (In 0) slot ≡ true
+      → is_some (accepted_at x (In 0) slot) ≡ true → t.by_gap (number_of x) slot ≡ true
   pub before : (slot : Slot) → accepted_at x (In 0) slot ≡ None → t.by_gap (number_of x) slot ≡ false
-  pub put_in : (n : ℕ) (slot : Slot) → entered_at x (In (suc n)) slot ≡ true → is_first t (number_of x) (suc n) slot ≡ false
+  pub put_in : (n : ℕ) (slot : Slot) → entered_at x (In (suc n)) slot ≡ true
+      → is_first t (number_of x) (suc n) slot ≡ false
 
 -- from a second on nothing is chosen of it yet: no card was torn out as an interruption was noted
 abbrev pub IsPlainFrom : ℕ → Tearing → Type 0

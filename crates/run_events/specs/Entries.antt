@@ -46,4 +46,9 @@ pub record IsCrewOf (number : Card → List ℕ) (cards : Cards) (crew : Crew) :
 
 -- an event of a unit as it stands on a card
 abbrev pub card_entry : UnitEvent → Registration → CardEvent
-card_entry event registration = record { kind = event.kind; begin = event.begin; end = event.end; registration = registration }
+card_entry event registration = record {
+  kind = event.kind;
+  begin = event.begin;
+  end = event.end;
+  registration = registration;
+}

@@ -19,7 +19,12 @@ going_with slots = record { running = true; gone = false; given = true; slots = 
 
 -- a second with power in which nothing happens, as its events see it, and n of them
 abbrev pub still_second : (number speed : ℕ) → Slots → Seen
-still_second number speed slots = record { told = quiet_second number speed slots; after = λ n. slots; within = λ n. slots; itself = slots }
+still_second number speed slots = record {
+  told = quiet_second number speed slots;
+  after = λ n. slots;
+  within = λ n. slots;
+  itself = slots;
+}
 
 abbrev pub still_seconds : ℕ → (number speed : ℕ) → Slots → List Seen
 still_seconds zero number speed slots = []

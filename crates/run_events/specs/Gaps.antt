@@ -53,13 +53,14 @@ IsKnownLast (Lit (t ∷ span)) log found spans = Unit {0}
 IsKnownLast Due log found spans = OfLast (IsUntold log found) spans
 IsKnownLast Lost log found spans = OfLast (IsUntold log found) spans
 
--- BEHIND THESE SECONDS it is known what was kept between the spans, or the power-on failed; `unfound` is the first break of which it is
--- not known.
+-- BEHIND THESE SECONDS it is known what was kept between the spans, or the power-on failed; `unfound` is the first
+-- break of which it is not known.
 pub record HasGaps (log : RunLog) (unfound : ℕ) (supply : UnitPower) (done : List TraceSecond) : Type 0 where
   pub known : AreKnownGaps log (take unfound log.breaks) (seen_spans (seen_of log done))
   pub last : IsKnownLast supply log (take unfound log.breaks) (seen_spans (seen_of log done))
 
--- A LOG tells more than one before it, and the same of these seconds: of the breaks of which it was known what was kept, too.
+-- A LOG tells more than one before it, and the same of these seconds: of the breaks of which it was known what was
+-- kept, too.
 pub record TellsMore (log : RunLog) (found : List Break) (later : RunLog) (done : List TraceSecond) : Type 0 where
   pub same : All (λ s. SameAt log later s.number) done
   pub stay : StayFailed log later

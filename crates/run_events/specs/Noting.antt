@@ -8,17 +8,20 @@ use Rattle.run_crew.specs.declared.cards.Crew.{Crew}
 use Rattle.run_events.specs.declared.watch.Ended.{Ended}
 use Rattle.run_events.specs.declared.watch.Watch.{Watch}
 use Rattle.run_events.specs.Entries.{number_or_no_card, entry_of}
-use Rattle.run_events.specs.Watching.{BareWith, OverWith, CrewSecond, seconds_with, bares_with, overs_with, bare_ended, over_ended, WatchesSpan}
+use Rattle.run_events.specs.Watching.{BareWith, OverWith, CrewSecond, seconds_with, bares_with, overs_with, bare_ended}
+use Rattle.run_events.specs.Watching.{over_ended, WatchesSpan}
 
 -- driving without a card that has ended is noted; nothing is, where none has
 abbrev pub IsBareNoted : Option BareWith → List ℕ → List ℕ → Type 0
 IsBareNoted None x y = y ≡ x
-IsBareNoted (Some b) x y = IsEventNoted DRIVING_WITHOUT_CARD (fault_bytes (entry_of DRIVING_WITHOUT_CARD b.span.begin b.span.end b.begin b.end)) x y
+IsBareNoted (Some b) x y = IsEventNoted DRIVING_WITHOUT_CARD
+    (fault_bytes (entry_of DRIVING_WITHOUT_CARD b.span.begin b.span.end b.begin b.end)) x y
 
 -- a moment of that
 abbrev pub IsNotingBare : Option BareWith → List ℕ → List ℕ → Type 0
 IsNotingBare None x c = c ≡ x
-IsNotingBare (Some b) x c = IsNotingEvent DRIVING_WITHOUT_CARD (fault_bytes (entry_of DRIVING_WITHOUT_CARD b.span.begin b.span.end b.begin b.end)) x c
+IsNotingBare (Some b) x c = IsNotingEvent DRIVING_WITHOUT_CARD
+    (fault_bytes (entry_of DRIVING_WITHOUT_CARD b.span.begin b.span.end b.begin b.end)) x c
 
 -- the same of an over speeding, with the driver at its begin
 abbrev pub IsFastNoted : Option OverWith → List ℕ → List ℕ → Type 0
@@ -46,14 +49,19 @@ AreBeingNoted ended x c = IsNotingBare (bare_ended ended) x c ⊎ AreNotedAfter 
 
 -- n seconds at a speed with these cards were fed, from one on: what ended with the second before them
 pub record IsFed (old new : Watch) (first n speed : ℕ) (crew : Crew) (ended : Ended) : Type 0 where
-  pub bares : (seconds : List CrewSecond) → WatchesSpan old seconds → bares_with (seconds ++ seconds_with first n speed crew) ≡ bares_with seconds ++ option_to_list (bare_ended ended)
+  pub bares : (seconds : List CrewSecond) → WatchesSpan old seconds
+      → bares_with (seconds ++ seconds_with first n speed crew) ≡ bares_with seconds
+      ++ option_to_list (bare_ended ended)
   pub overs : (seconds : List CrewSecond) → WatchesSpan old seconds →
-      overs_with old.over.limit (seconds ++ seconds_with first n speed crew) ≡ overs_with old.over.limit seconds ++ option_to_list (over_ended ended)
-  pub stands : (seconds : List CrewSecond) → WatchesSpan old seconds → WatchesSpan new (seconds ++ seconds_with first n speed crew)
+      overs_with old.over.limit (seconds ++ seconds_with first n speed crew) ≡ overs_with old.over.limit seconds
+      ++ option_to_list (over_ended ended)
+  pub stands : (seconds : List CrewSecond) → WatchesSpan old seconds
+      → WatchesSpan new (seconds ++ seconds_with first n speed crew)
   pub limit : new.over.limit ≡ old.over.limit
 
 -- and that was noted on the unit
-pub record IsWatched (failed : Bool) (old new : Watch) (first n speed : ℕ) (crew : Crew) (prior unit : State) : Type 0 where
+pub record IsWatched (failed : Bool) (old new : Watch) (first n speed : ℕ) (crew : Crew) (prior unit : State) : Type
+    0 where
   pub ended : Ended
   pub fed : IsFed old new first n speed crew ended
   pub noted : failed ≡ false → IfSome prior.image (λ x. IfSome unit.image (AreNoted ended x))

@@ -4,10 +4,12 @@ use Rattle.std.specs.List.{filter_map}
 use Rattle.trace_model.specs.Trace.{TraceSecond}
 use Rattle.log_model.specs.Log.{RunLog}
 use Rattle.log_model.specs.Course.{Visit, went}
-use Rattle.event_model.specs.declared.kinds.TheConstants.{DRIVING_WITHOUT_CARD, OVER_SPEEDING, POWER_INTERRUPTION, CARD_FAULT}
+use Rattle.event_model.specs.declared.kinds.TheConstants.{DRIVING_WITHOUT_CARD, OVER_SPEEDING, POWER_INTERRUPTION}
+use Rattle.event_model.specs.declared.kinds.TheConstants.{CARD_FAULT}
 use Rattle.event_model.specs.Runs.{last_run, runs_behind}
 use Rattle.event_model.specs.Spans.{is_above}
-use Rattle.event_model.specs.Events.{Event, Seen, Tearing, number_of, last_number, seen_by, is_bare, bare_event, speed_second, over_event, gap_event, found_events, fault_of, torn_in_turn}
+use Rattle.event_model.specs.Events.{Event, Seen, Tearing, number_of, last_number, seen_by, is_bare, bare_event}
+use Rattle.event_model.specs.Events.{speed_second, over_event, gap_event, found_events, fault_of, torn_in_turn}
 
 -- the last of these power spans
 abbrev pub last_of : List (List Seen) → List Seen
@@ -19,7 +21,8 @@ last_of (span ∷ next ∷ spans) = last_of (next ∷ spans)
 abbrev pub span_before : List (List Seen) → Seen → List Seen
 span_before spans x = if x.told.starts then [] else last_of spans
 
--- driving without a card and over speedings that end with the second before it, or of several seconds with the one before one of them
+-- driving without a card and over speedings that end with the second before it, or of several seconds with the one
+-- before one of them
 abbrev pub bares_by : (span xs : List Seen) → List Event
 bares_by span xs = filter_map bare_event (runs_behind is_bare (last_run is_bare span) xs)
 
@@ -43,10 +46,12 @@ abbrev pub faults_by : Tearing → RunLog → Seen → List Event
 faults_by t log x = map (fault_of t log x) (torn_in_turn t x x.told.course.torn)
 
 abbrev pub found_by : (kind : ℕ) → (sessions : ℕ → Visit → ℕ) → Tearing → Seen → List Event
-found_by kind sessions t x = flat_map (λ f. found_events kind (sessions (number_of x) f.0) t x f.0 f.1) x.told.course.found
+found_by kind sessions t x = flat_map (λ f. found_events kind (sessions (number_of x) f.0) t x f.0 f.1)
+    x.told.course.found
 
 -- WHAT A SECOND BRINGS behind these power spans
-abbrev pub second_events : (kind limit : ℕ) → (sessions : ℕ → Visit → ℕ) → Tearing → RunLog → List (List Seen) → Seen → List Event
+abbrev pub second_events : (kind limit : ℕ) → (sessions : ℕ → Visit → ℕ) → Tearing → RunLog → List (List Seen) → Seen
+    → List Event
 second_events kind limit sessions t log spans x =
     if kind == DRIVING_WITHOUT_CARD then (if x.told.lit then bares_by (span_before spans x) (x ∷ []) else [])
     else (if kind == OVER_SPEEDING then (if x.told.lit then overs_by limit (span_before spans x) (x ∷ []) else [])
@@ -55,7 +60,8 @@ second_events kind limit sessions t log spans x =
 
 -- a second with power comes right behind those of its own span
 abbrev pub IsBehind : List (List Seen) → Seen → Type 0
-IsBehind spans x = x.told.lit ≡ true → (span_before spans x ≡ []) ⊎ (last_number (span_before spans x) + 1 ≡ number_of x)
+IsBehind spans x = x.told.lit ≡ true
+    → (span_before spans x ≡ []) ⊎ (last_number (span_before spans x) + 1 ≡ number_of x)
 
 -- one second more as its events see it
 abbrev pub seen_next : RunLog → List TraceSecond → TraceSecond → Seen
@@ -79,4 +85,5 @@ pub record IsDarkSeen (x : Seen) : Type 0 where
 
 -- what quiet seconds behind those of a span bring
 abbrev pub quiet_events : (kind limit : ℕ) → (span xs : List Seen) → List Event
-quiet_events kind limit span xs = if kind == DRIVING_WITHOUT_CARD then bares_by span xs else (if kind == OVER_SPEEDING then overs_by limit span xs else [])
+quiet_events kind limit span xs = if kind == DRIVING_WITHOUT_CARD then bares_by span xs
+    else (if kind == OVER_SPEEDING then overs_by limit span xs else [])

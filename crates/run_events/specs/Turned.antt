@@ -9,7 +9,8 @@ use Rattle.run_events.specs.declared.watch.Ended.{Ended}
 use Rattle.run_events.specs.Watching.{bare_ended, over_ended}
 use Rattle.run_events.specs.Watched.{ArePairs, IsBareOf, IsFastOf}
 
--- WHAT HAS ENDED with the second before some new ones, behind those of the span, is what these bring of both types, one for one
+-- WHAT HAS ENDED with the second before some new ones, behind those of the span, is what these bring of both types, one
+-- for one
 pub record AreEnded (number : Card → FullCardNumber) (limit : ℕ) (span new : List Seen) (ended : Ended) : Type 0 where
   pub bares : ArePairs (IsBareOf number) (bares_by span new) (option_to_list (bare_ended ended))
   pub overs : ArePairs (IsFastOf number) (overs_by limit span new) (option_to_list (over_ended ended))

@@ -1,4 +1,5 @@
--- The seconds of a span as they are watched, with the numbers of the cards that are accepted in them (Annex IB, section III.12).
+-- The seconds of a span as they are watched, with the numbers of the cards that are accepted in them (Annex IB, section
+-- III.12).
 use Rattle.std.specs.Prelude.{ℕ, option_map, List, [], ◌∷◌}
 use Rattle.trace_model.specs.declared.Card.{Card}
 use Rattle.tacho_types.specs.CardNumber.{card_number_bytes}
@@ -16,7 +17,11 @@ named number cards = record { driver = option_map number cards.driver; codriver 
 
 -- a second as it is watched
 abbrev pub watched : (Card → FullCardNumber) → Seen → CrewSecond
-watched number x = record { number = x.told.second.number; speed = x.told.second.speed; crew = named number (crew_of x.itself) }
+watched number x = record {
+  number = x.told.second.number;
+  speed = x.told.second.speed;
+  crew = named number (crew_of x.itself);
+}
 
 -- the bytes of a card's number
 abbrev pub number_bytes : (Card → FullCardNumber) → Card → List ℕ
@@ -24,7 +29,8 @@ number_bytes number card = card_number_bytes (number card)
 
 -- what is noted of driving without a card is this event, and what is noted of an over speeding is that one
 abbrev pub IsBareOf : (Card → FullCardNumber) → Event → BareWith → Type 0
-IsBareOf number e b = IsEventOf (number_bytes number) e (entry_of DRIVING_WITHOUT_CARD b.span.begin b.span.end b.begin b.end)
+IsBareOf number e b = IsEventOf (number_bytes number) e
+    (entry_of DRIVING_WITHOUT_CARD b.span.begin b.span.end b.begin b.end)
 
 abbrev pub IsFastOf : (Card → FullCardNumber) → Event → OverWith → Type 0
 IsFastOf number e o = IsOverOf (number_bytes number) e o.over (number_or_no_card o.begin.driver)

@@ -1,5 +1,7 @@
--- The events of a power span with the cards of their seconds, and what is kept of them (Annex IB, section III.12; profile).
-use Rattle.std.specs.Prelude.{◌≡◌, ℕ, ◌<◌, Bool, not, ◌&&◌, Option, Some, None, option_map, List, [], ◌∷◌, fold, map, nat_lt, is_some}
+-- The events of a power span with the cards of their seconds, and what is kept of them (Annex IB, section III.12;
+-- profile).
+use Rattle.std.specs.Prelude.{◌≡◌, ℕ, ◌<◌, Bool, not, ◌&&◌, Option, Some, None, option_map, List, [], ◌∷◌, fold, map}
+use Rattle.std.specs.Prelude.{nat_lt, is_some}
 use Rattle.std.specs.List.{filter_map, AllByRecursion}
 use Rattle.event_model.specs.declared.entries.Over.{Over}
 use Rattle.event_model.specs.declared.entries.Span.{Span}
@@ -64,11 +66,13 @@ pub record OverWith : Type 0 where
 
 abbrev pub bare_with : List CrewSecond → Option BareWith
 bare_with [] = None
-bare_with (s ∷ run) = option_map {T = Span} {U = BareWith} (λ span. record { span = span; begin = s.crew; end = last_crew (s ∷ run) }) (bare_of (map driver_second (s ∷ run)))
+bare_with (s ∷ run) = option_map {T = Span} {U = BareWith}
+    (λ span. record { span = span; begin = s.crew; end = last_crew (s ∷ run) }) (bare_of (map driver_second (s ∷ run)))
 
 abbrev pub over_with : List CrewSecond → Option OverWith
 over_with [] = None
-over_with (s ∷ run) = option_map {T = Over} {U = OverWith} (λ over. record { over = over; begin = s.crew; end = last_crew (s ∷ run) }) (over_of (map speed_second (s ∷ run)))
+over_with (s ∷ run) = option_map {T = Over} {U = OverWith}
+    (λ over. record { over = over; begin = s.crew; end = last_crew (s ∷ run) }) (over_of (map speed_second (s ∷ run)))
 
 -- those of a span that have ended
 unfoldable pub bares_with : List CrewSecond → List BareWith
@@ -100,7 +104,9 @@ pub record Watches (w : Watch) (next : ℕ) : Type 0 where
 
 -- what has ended with the second before, with its cards
 abbrev pub bare_ended : Ended → Option BareWith
-bare_ended e = option_map {T = Span} {U = BareWith} (λ span. record { span = span; begin = e.bare_begin; end = e.end }) e.bare
+bare_ended e = option_map {T = Span} {U = BareWith} (λ span. record { span = span; begin = e.bare_begin; end = e.end })
+    e.bare
 
 abbrev pub over_ended : Ended → Option OverWith
-over_ended e = option_map {T = Over} {U = OverWith} (λ over. record { over = over; begin = e.over_begin; end = e.end }) e.over
+over_ended e = option_map {T = Over} {U = OverWith} (λ over. record { over = over; begin = e.over_begin; end = e.end })
+    e.over

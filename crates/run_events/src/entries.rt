@@ -1,6 +1,8 @@
 //! The entries of events and faults, with the cards that were accepted.
 ghost use Rattle.std.specs.Prelude.{◌≡◌};
-ghost use Rattle.event_model.specs.declared.kinds.TheConstants.{CARD_FAULT, CARD_NOT_VALID, DRIVING_WITHOUT_CARD, INSERTION_WHILE_DRIVING, POWER_INTERRUPTION, SESSION_NOT_CLOSED, TIME_OVERLAP};
+ghost use Rattle.event_model.specs.declared.kinds.TheConstants.{CARD_FAULT, CARD_NOT_VALID, DRIVING_WITHOUT_CARD};
+ghost use Rattle.event_model.specs.declared.kinds.TheConstants.{INSERTION_WHILE_DRIVING, POWER_INTERRUPTION};
+ghost use Rattle.event_model.specs.declared.kinds.TheConstants.{SESSION_NOT_CLOSED, TIME_OVERLAP};
 ghost use Rattle.run_events.specs.Entries.{number_or_no_card, entry_of, card_entry};
 
 use card_files::CardEvent;

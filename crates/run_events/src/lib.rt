@@ -1,10 +1,11 @@
-//! The events of a run with cards, over its seconds and over the notes of its unit (Annex IB, section III.12). Laws alone.
+//! The events of a run with cards, over its seconds and over the notes of its unit (Annex IB, section III.12). Laws
+//! alone.
 //!
-//! What a run notes of events and faults with the cards that were accepted (Annex IB, section III.12): the entries, and the events of a
-//! power span as its seconds come. A note leaves the bytes of the journal alone.
+//! What a run notes of events and faults with the cards that were accepted (Annex IB, section III.12): the entries, and
+//! the events of a power span as its seconds come. A note leaves the bytes of the journal alone.
 //!
-//! The events of a run with cards, by the numbers of its cards: what is watched of a span's seconds are its events (Annex IB, section
-//! III.12). Laws alone.
+//! The events of a run with cards, by the numbers of its cards: what is watched of a span's seconds are its events
+//! (Annex IB, section III.12). Laws alone.
 #![tactic(auto)]
 
 // events with cards

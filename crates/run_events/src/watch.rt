@@ -1,5 +1,6 @@
 //! The events of a power span as its seconds come: they are fed by runs, and noted where they have ended.
-ghost use Rattle.std.specs.Prelude.{◌≡◌, ◌≢◌, ℕ, ◌+◌, ◌%◌, ◌<◌, ◌≤◌, ◌^◌, true, Option, Some, None, [], IfSome, OnOk, is_err, unwrap_or, if◌then◌else◌};
+ghost use Rattle.std.specs.Prelude.{◌≡◌, ◌≢◌, ℕ, ◌+◌, ◌%◌, ◌<◌, ◌≤◌, ◌^◌, true, Option, Some, None, [], IfSome, OnOk};
+ghost use Rattle.std.specs.Prelude.{is_err, unwrap_or, if◌then◌else◌};
 ghost use Rattle.tach_media.specs.Medium.{HasCause, LeavesOnly};
 ghost use Rattle.unit_model.specs.Image.{IsUnit};
 ghost use Rattle.unit_notes.specs.Journal.{LeavesJournal};
@@ -8,7 +9,8 @@ ghost use Rattle.run_events.specs.Blocks.{IsBlockPut, IsPuttingBlock, IsWatchedO
 ghost use Rattle.run_crew.specs.declared.cards.Crew.{Crew};
 ghost use Rattle.run_events.specs.Entries.{number_or_no_card};
 ghost use Rattle.run_events.specs.Watching.{WatchesSpan, Watches, WatchesEvents, is_bare_at, bare_ended, over_ended};
-ghost use Rattle.run_events.specs.Noting.{IsBareNoted, IsNotingBare, IsFastNoted, IsNotingFast, AreNoted, AreBeingNoted, IsFed};
+ghost use Rattle.run_events.specs.Noting.{IsBareNoted, IsNotingBare, IsFastNoted, IsNotingFast, AreNoted};
+ghost use Rattle.run_events.specs.Noting.{AreBeingNoted, IsFed};
 
 use crate::entries::{card_bare, number_or_zeros};
 use event_model::{Over, Span};
@@ -20,8 +22,8 @@ use tacho_types::FullCardNumber;
 use unit_memory::UnitMemory;
 use unit_notes::UnitNotes;
 
-/// The runs of a power span's seconds that are watched: those without a card, and those above the limit, each with the cards at its
-/// first second. It keeps a few counts and no second.
+/// The runs of a power span's seconds that are watched: those without a card, and those above the limit, each with the
+/// cards at its first second. It keeps a few counts and no second.
 #[derive(Drop)]
 pub struct Watch {
     pub bare: NoCardRun,
@@ -35,8 +37,8 @@ pub struct Watch {
     pub speeds: SpeedMinute,
 }
 
-/// What has ended with the second before: driving without a card, and an over speeding, with the cards at the first second of each and
-/// at their last.
+/// What has ended with the second before: driving without a card, and an over speeding, with the cards at the first
+/// second of each and at their last.
 #[derive(Drop)]
 pub struct Ended {
     pub bare: Option<Span>,
@@ -64,8 +66,9 @@ impl Watch {
         }
     }
 
-    /// So many seconds more at one speed, one at least, from `first` on, with these cards accepted in them: what has ended with the
-    /// second before them is noted, driving without a card first. Before that the block of the minute is added that ends with them.
+    /// So many seconds more at one speed, one at least, from `first` on, with these cards accepted in them: what has
+    /// ended with the second before them is noted, driving without a card first. Before that the block of the minute is
+    /// added that ends with them.
     ///
     /// # Errors
     ///
@@ -89,7 +92,8 @@ impl Watch {
         requires works { (M.state unit.old).works ≡ true }
         ensures watches { Watches self.new (first + n) }
         ensures limit { self.new.limit ≡ self.new.over.limit }
-        ensures watched { IsWatchedOn (is_err result) self.old self.new first n speed crew (M.state unit.old) (M.state unit.new) }
+        ensures watched { IsWatchedOn (is_err result) self.old self.new first n speed crew (M.state unit.old)
+            (M.state unit.new) }
         ensures journal { LeavesOnly (M.state unit.old) (M.state unit.new) LeavesJournal }
         ensures unit { IsUnit (M.state unit.new) }
         ensures cause { HasCause (M.state unit.old) (M.state unit.new) (is_err result) }
@@ -153,7 +157,8 @@ fn put_block<M: Medium>(block: &Option<Block>, unit: &mut M) -> Result<(), Faile
     requires unit { IsUnit (M.state unit.old) }
     requires works { (M.state unit.old).works ≡ true }
     requires time { IfSome block.now (λ b. 0 < b.time) }
-    ensures put { OnOk result (IfSome (M.state unit.old).image (λ x. IfSome (M.state unit.new).image (IsBlockPut block.now x))) }
+    ensures put { OnOk result (IfSome (M.state unit.old).image
+        (λ x. IfSome (M.state unit.new).image (IsBlockPut block.now x))) }
     ensures moments { LeavesOnly (M.state unit.old) (M.state unit.new) (IsPuttingBlock block.now) }
     ensures journal { LeavesOnly (M.state unit.old) (M.state unit.new) LeavesJournal }
     ensures unit { IsUnit (M.state unit.new) }
@@ -172,7 +177,8 @@ fn note_ended<M: Medium>(memory: &UnitMemory, ended: &Ended, unit: &mut M) -> Re
     requires works { (M.state unit.old).works ≡ true }
     requires bare { IfSome ended.now.bare (λ s. 0 < s.begin) }
     requires over { IfSome ended.now.over (λ o. 0 < o.begin) }
-    ensures noted { OnOk result (IfSome (M.state unit.old).image (λ x. IfSome (M.state unit.new).image (AreNoted ended.now x))) }
+    ensures noted { OnOk result (IfSome (M.state unit.old).image
+        (λ x. IfSome (M.state unit.new).image (AreNoted ended.now x))) }
     ensures moments { LeavesOnly (M.state unit.old) (M.state unit.new) (AreBeingNoted ended.now) }
     ensures journal { LeavesOnly (M.state unit.old) (M.state unit.new) LeavesJournal }
     ensures unit { IsUnit (M.state unit.new) }
@@ -188,7 +194,8 @@ fn note_bare<M: Medium>(memory: &UnitMemory, ended: &Ended, unit: &mut M) -> Res
     requires unit { IsUnit (M.state unit.old) }
     requires works { (M.state unit.old).works ≡ true }
     requires begin { IfSome ended.now.bare (λ s. 0 < s.begin) }
-    ensures noted { OnOk result (IfSome (M.state unit.old).image (λ x. IfSome (M.state unit.new).image (IsBareNoted (bare_ended ended.now) x))) }
+    ensures noted { OnOk result (IfSome (M.state unit.old).image
+        (λ x. IfSome (M.state unit.new).image (IsBareNoted (bare_ended ended.now) x))) }
     ensures moments { LeavesOnly (M.state unit.old) (M.state unit.new) (IsNotingBare (bare_ended ended.now)) }
     ensures journal { LeavesOnly (M.state unit.old) (M.state unit.new) LeavesJournal }
     ensures unit { IsUnit (M.state unit.new) }
@@ -206,7 +213,8 @@ fn note_fast<M: Medium>(memory: &UnitMemory, ended: &Ended, unit: &mut M) -> Res
     requires unit { IsUnit (M.state unit.old) }
     requires works { (M.state unit.old).works ≡ true }
     requires begin { IfSome ended.now.over (λ o. 0 < o.begin) }
-    ensures noted { OnOk result (IfSome (M.state unit.old).image (λ x. IfSome (M.state unit.new).image (IsFastNoted (over_ended ended.now) x))) }
+    ensures noted { OnOk result (IfSome (M.state unit.old).image
+        (λ x. IfSome (M.state unit.new).image (IsFastNoted (over_ended ended.now) x))) }
     ensures moments { LeavesOnly (M.state unit.old) (M.state unit.new) (IsNotingFast (over_ended ended.now)) }
     ensures journal { LeavesOnly (M.state unit.old) (M.state unit.new) LeavesJournal }
     ensures unit { IsUnit (M.state unit.new) }

@@ -1,6 +1,7 @@
--- What a card shows of its events, type by type, and what is noted there (Annex IB, section III.12; Appendix 1, CardEventData; the places:
--- profile).
-use Rattle.std.specs.Prelude.{◌≡◌, ◌≢◌, ◌⊎◌, ℕ, ◌&&◌, Bool, true, false, Option, Some, None, List, [], ◌∷◌, ◌++◌, length, drop, map, filter, fold, nat_eq, slice_index_or, slice_set, if◌then◌else◌}
+-- What a card shows of its events, type by type, and what is noted there (Annex IB, section III.12; Appendix 1,
+-- CardEventData; the places: profile).
+use Rattle.std.specs.Prelude.{◌≡◌, ◌≢◌, ◌⊎◌, ℕ, ◌&&◌, Bool, true, false, Option, Some, None, List, [], ◌∷◌, ◌++◌}
+use Rattle.std.specs.Prelude.{length, drop, map, filter, fold, nat_eq, slice_index_or, slice_set, if◌then◌else◌}
 use Rattle.std.specs.List.{range_with_len, list_any}
 use Rattle.card_layout.specs.Fields.{number_in}
 use Rattle.tach_media.specs.Medium.{State}
@@ -11,7 +12,8 @@ use Rattle.card_files.specs.Events.{event_widths, event_bytes}
 use Rattle.card_files.specs.Rings.{event_ring}
 use Rattle.card_image.specs.Fields.{current_use, session_time}
 use Rattle.card_session.specs.Inserting.{unclosed}
-use Rattle.event_model.specs.declared.kinds.TheConstants.{INSERTION_WHILE_DRIVING, SESSION_NOT_CLOSED, POWER_INTERRUPTION}
+use Rattle.event_model.specs.declared.kinds.TheConstants.{INSERTION_WHILE_DRIVING, SESSION_NOT_CLOSED}
+use Rattle.event_model.specs.declared.kinds.TheConstants.{POWER_INTERRUPTION}
 use Rattle.event_model.specs.Places.{earliest}
 
 -- ---- what stands there
@@ -62,7 +64,8 @@ IsEmptied table (Some i) new = (entry : List ℕ) × (begin_of entry ≡ 0) × (
 abbrev pub AreBeingNoted : List (List ℕ) → List CardEvent → List (List ℕ) → Type 0
 AreBeingNoted table [] new = new ≡ table
 AreBeingNoted table (event ∷ events) new =
-    (new ≡ table) ⊎ (((is_told table event ≡ false) × IsEmptied table (earliest begin_of table) new) ⊎ AreBeingNoted (with_event table event) events new)
+    (new ≡ table) ⊎ (((is_told table event ≡ false) × IsEmptied table (earliest begin_of table) new)
+    ⊎ AreBeingNoted (with_event table event) events new)
 
 -- ---- of a card
 
@@ -77,11 +80,13 @@ ShowsThese true old events new = AreBeingNoted old events new
 
 -- AN IMAGE OF A CARD SHOWS THESE EVENTS MORE than one before: type by type
 abbrev pub ShowsMore : Application → List CardEvent → (cut : Bool) → List ℕ → List ℕ → Type 0
-ShowsMore app events cut x c = (kind : ℕ) → ShowsThese cut (events_in app kind x) (of_type kind events) (events_in app kind c)
+ShowsMore app events cut x c = (kind : ℕ)
+    → ShowsThese cut (events_in app kind x) (of_type kind events) (events_in app kind c)
 
 -- THESE EVENTS ARE NOTED ON A CARD: so it is of each image that it may leave, and one that it might have left before
 abbrev pub NotesOnCard : Application → List CardEvent → (cut : Bool) → (old new : State) → Type 0
-NotesOnCard app events cut old new = (c : List ℕ) → new.may_leave c → (x : List ℕ) × old.may_leave x × ShowsMore app events cut x c
+NotesOnCard app events cut old new = (c : List ℕ) → new.may_leave c
+    → (x : List ℕ) × old.may_leave x × ShowsMore app events cut x c
 
 -- the types of which a run notes events on cards
 abbrev pub IsOnCards : ℕ → Type 0

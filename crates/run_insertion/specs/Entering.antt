@@ -1,5 +1,6 @@
 -- What becomes of a card that was put into a slot, or meets power there, by value (profile).
-use Rattle.std.specs.Prelude.{ℕ, ◌+◌, ◌-◌, ◌^◌, min, Bool, true, false, Option, Some, None, Result, Ok, Err, List, [], ◌∷◌, length, drop, nat_lt, replicate, if◌then◌else◌}
+use Rattle.std.specs.Prelude.{ℕ, ◌+◌, ◌-◌, ◌^◌, min, Bool, true, false, Option, Some, None, Result, Ok, Err, List, []}
+use Rattle.std.specs.Prelude.{◌∷◌, length, drop, nat_lt, replicate, if◌then◌else◌}
 use Rattle.activity_codec.specs.declared.entries.Entry.{Entry}
 use Rattle.activity_codec.specs.declared.values.Slot.{Slot}
 use Rattle.activity_codec.specs.declared.values.Slot.TheVariants.{Driver, CoDriver}
@@ -31,9 +32,10 @@ use Rattle.run_insertion.specs.declared.waking.TheConstants.{UNTOLD}
 
 -- ---- what becomes of a card
 
--- A card that goes by its sizes is judged: a file of it fails at a place; or it tells of a later time; or a call on it failed; or the
--- unit failed as it was asked what it owes. Or it is found to be accepted, with the entries that were owed, the clock after these, and the
--- unit failed as its insertion was noted; or it is accepted by the insertion with this index; or it is so, and a call on it failed since.
+-- A card that goes by its sizes is judged: a file of it fails at a place; or it tells of a later time; or a call on it
+-- failed; or the unit failed as it was asked what it owes. Or it is found to be accepted, with the entries that were
+-- owed, the clock after these, and the unit failed as its insertion was noted; or it is accepted by the insertion with
+-- this index; or it is so, and a call on it failed since.
 pub data Ending : Type 0 where
   Unfit : (fid : Fid) (place : ℕ) → Ending
   Ahead : (stored : ℕ) → Ending
@@ -43,7 +45,8 @@ pub data Ending : Type 0 where
   Seated : (entered : Entered) (clock entry : ℕ) → Ending
   Lost : (entered : Entered) (clock entry : ℕ) → Ending
 
--- A card that enters: it failed before it told its sizes; or a field of these is bad; or it went by these, and ended so.
+-- A card that enters: it failed before it told its sizes; or a field of these is bad; or it went by these, and ended
+-- so.
 pub data Way : Type 0 where
   Unread : Way
   Unsized : (field : ℕ) → Way
@@ -79,7 +82,8 @@ and_mark mark marks = if nat_lt (length marks.items) marks.room then with_lines 
 -- the marks of entries that a device has, all at this clock
 abbrev pub and_marks : Device → (clock : ℕ) → List Entry → Listed Mark → Listed Mark
 and_marks device clock [] marks = marks
-and_marks device clock (e ∷ es) marks = and_marks device clock es (and_mark (record { device = device; minute = e.minute; clock = clock }) marks)
+and_marks device clock (e ∷ es) marks = and_marks device clock es
+    (and_mark (record { device = device; minute = e.minute; clock = clock }) marks)
 
 -- the last ones of these entries, so many
 abbrev pub last_of : List Entry → (many : ℕ) → List Entry
@@ -91,7 +95,8 @@ most_owed = 4
 
 -- the marks of the entries that were put on a card that is accepted
 abbrev pub replayed_marks : Entered → (clock : ℕ) → Entering → Listed Mark → Listed Mark
-replayed_marks entered clock e marks = and_marks (device_of e.which) clock (last_of entered.owed.items entered.replayed) marks
+replayed_marks entered clock e marks = and_marks (device_of e.which) clock (last_of entered.owed.items entered.replayed)
+    marks
 
 abbrev pub marks_by : Ending → Entering → Listed Mark → Listed Mark
 marks_by (Unfit fid place) e marks = marks
@@ -129,7 +134,8 @@ noted_by (Lost entered clock entry) noted = and_one noted
 -- the card is accepted in its slot
 abbrev pub seated : CardLook → Session → (row entry noted : ℕ) → Entering → Cabin → Cabin
 seated look session row entry noted e cabin =
-    with_accepted e.slot e.which look.number row (record { session = session; entry = entry; noted = and_one noted }) cabin
+    with_accepted e.slot e.which look.number row (record { session = session; entry = entry; noted = and_one noted })
+    cabin
 
 abbrev pub cabin_by : Ending → Entering → (noted : ℕ) → Cabin → Cabin
 cabin_by (Unfit fid place) e noted cabin = cabin
@@ -137,8 +143,10 @@ cabin_by (Ahead stored) e noted cabin = cabin
 cabin_by Fell e noted cabin = torn_out e.which e.at.second cabin
 cabin_by Unasked e noted cabin = cabin
 cabin_by (Unnoted entered clock) e noted cabin = cabin
-cabin_by (Seated entered clock entry) e noted cabin = seated entered.look entered.session entered.row entry noted e cabin
-cabin_by (Lost entered clock entry) e noted cabin = torn_out e.which e.at.second (seated entered.look entered.session entered.row entry noted e cabin)
+cabin_by (Seated entered clock entry) e noted cabin = seated entered.look entered.session entered.row entry noted e
+    cabin
+cabin_by (Lost entered clock entry) e noted cabin = torn_out e.which e.at.second
+    (seated entered.look entered.session entered.row entry noted e cabin)
 
 -- ---- how it ends
 

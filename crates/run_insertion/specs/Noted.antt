@@ -1,5 +1,6 @@
 -- What is noted of a card that enters, on the unit and on the card, one after another (profile).
-use Rattle.std.specs.Prelude.{◌≡◌, ◌⊎◌, ℕ, Bool, true, false, Option, Some, None, IfSome, option_map, List, [], ◌∷◌, ◌++◌, nat_eq, nat_lt, if◌then◌else◌}
+use Rattle.std.specs.Prelude.{◌≡◌, ◌⊎◌, ℕ, Bool, true, false, Option, Some, None, IfSome, option_map, List, [], ◌∷◌}
+use Rattle.std.specs.Prelude.{◌++◌, nat_eq, nat_lt, if◌then◌else◌}
 use Rattle.tach_media.specs.Medium.{State, LeavesOnly}
 use Rattle.tacho_types.specs.CardNumber.{card_number_bytes}
 use Rattle.tacho_types.specs.declared.card_number.FullCardNumber.{FullCardNumber}
@@ -11,7 +12,8 @@ use Rattle.card_session.specs.Inserting.{IsCardInserted, IsCardInserting}
 use Rattle.gated_ring.specs.Change.{IsAdded, IsAdding}
 use Rattle.message_model.specs.Records.{insertion_ring}
 use Rattle.unit_owed.specs.Rows.{IsRowBegun, IsRowBeginning}
-use Rattle.event_model.specs.declared.kinds.TheConstants.{CARD_NOT_VALID, TIME_OVERLAP, INSERTION_WHILE_DRIVING, SESSION_NOT_CLOSED, CARD_FAULT}
+use Rattle.event_model.specs.declared.kinds.TheConstants.{CARD_NOT_VALID, TIME_OVERLAP, INSERTION_WHILE_DRIVING}
+use Rattle.event_model.specs.declared.kinds.TheConstants.{SESSION_NOT_CLOSED, CARD_FAULT}
 use Rattle.unit_notes.specs.declared.insertion.Insertion.{Insertion}
 use Rattle.unit_notes.specs.declared.unit_event.UnitEvent.{UnitEvent}
 use Rattle.unit_notes.specs.Entries.{insertion_bytes, fault_bytes}
@@ -24,7 +26,8 @@ use Rattle.run_crew.specs.Cards.{known_of}
 use Rattle.run_crew.specs.Cabin.{torn_out, crew_of}
 use Rattle.run_events.specs.Entries.{entry_of}
 use Rattle.run_insertion.specs.declared.lines.Entering.{Entering}
-use Rattle.run_insertion.specs.Entering.{Ending, Way, Unread, Unsized, Judged, Unfit, Ahead, Fell, Unasked, Unnoted, Seated, Lost, seated, insertion_of}
+use Rattle.run_insertion.specs.Entering.{Ending, Way, Unread, Unsized, Judged, Unfit, Ahead, Fell, Unasked, Unnoted}
+use Rattle.run_insertion.specs.Entering.{Seated, Lost, seated, insertion_of}
 
 -- ---- notes, one after another
 
@@ -34,18 +37,21 @@ AreDone done [] x y = y ≡ x
 AreDone done (n ∷ ns) x y = (z : List ℕ) × done n x z × AreDone done ns z y
 
 -- a moment of that: of the first; or the first is done, and it is a moment of the others
-abbrev pub AreBeingDone : {T : Type 0} → (done moment : T → List ℕ → List ℕ → Type 0) → List T → List ℕ → List ℕ → Type 0
+abbrev pub AreBeingDone : {T : Type 0} → (done moment : T → List ℕ → List ℕ → Type 0) → List T → List ℕ → List ℕ
+    → Type 0
 AreBeingDone done moment [] x c = ⊥
 AreBeingDone done moment (n ∷ ns) x c = moment n x c ⊎ ((z : List ℕ) × done n x z × AreBeingDone done moment ns z c)
 
 -- A DEVICE NOTED THESE, one after another; where that was cut short it is a moment of it.
-pub record HasNoted {T : Type 0} (done moment : T → List ℕ → List ℕ → Type 0) (notes : List T) (cut : Bool) (old new : State) : Type 0 where
+pub record HasNoted {T : Type 0} (done moment : T → List ℕ → List ℕ → Type 0) (notes : List T) (cut : Bool)
+    (old new : State) : Type 0 where
   pub whole : cut ≡ false → IfSome old.image (λ x. IfSome new.image (AreDone done notes x))
   pub moments : LeavesOnly old new (AreBeingDone done moment notes)
 
 -- ---- on the unit
 
--- an insertion; the row of a card's number with the time of its session, beside the row of another number, which stays; or an event or fault
+-- an insertion; the row of a card's number with the time of its session, beside the row of another number, which stays;
+-- or an event or fault
 pub data UnitNote : Type 0 where
   Inserts : (insertion : Insertion) → UnitNote
   BeginsRow : (number : FullCardNumber) (session : ℕ) (spared : Option FullCardNumber) → UnitNote
@@ -53,12 +59,14 @@ pub data UnitNote : Type 0 where
 
 abbrev pub IsOnUnit : UnitNote → List ℕ → List ℕ → Type 0
 IsOnUnit (Inserts insertion) x y = IsAdded insertion_ring (insertion_bytes insertion) x y
-IsOnUnit (BeginsRow number session spared) x y = IsRowBegun (card_number_bytes number) session (option_map (λ (s : FullCardNumber). card_number_bytes s) spared) x y
+IsOnUnit (BeginsRow number session spared) x y = IsRowBegun (card_number_bytes number) session
+    (option_map (λ (s : FullCardNumber). card_number_bytes s) spared) x y
 IsOnUnit (Tells event) x y = IsEventNoted event.kind (fault_bytes event) x y
 
 abbrev pub IsComing : UnitNote → List ℕ → List ℕ → Type 0
 IsComing (Inserts insertion) x c = IsAdding insertion_ring (insertion_bytes insertion) x c
-IsComing (BeginsRow number session spared) x c = IsRowBeginning (card_number_bytes number) session (option_map (λ (s : FullCardNumber). card_number_bytes s) spared) x c
+IsComing (BeginsRow number session spared) x c = IsRowBeginning (card_number_bytes number) session
+    (option_map (λ (s : FullCardNumber). card_number_bytes s) spared) x c
 IsComing (Tells event) x c = IsNotingEvent event.kind (fault_bytes event) x c
 
 -- an event from one second to another, with the cards that are accepted
@@ -71,18 +79,21 @@ fault_of e cabin = event_of CARD_FAULT e.at.second e.at.second (torn_out e.which
 
 -- that the vehicle moves
 abbrev pub moving_notes : Entering → Cabin → List UnitNote
-moving_notes e cabin = if nat_lt 0 e.speed then event_of INSERTION_WHILE_DRIVING e.at.second e.at.second cabin ∷ [] else []
+moving_notes e cabin = if nat_lt 0 e.speed then event_of INSERTION_WHILE_DRIVING e.at.second e.at.second cabin ∷ []
+    else []
 
 -- that the session of the card that began then was not closed: 0 is none
 abbrev pub unclosed_notes : (session : ℕ) → Entering → Cabin → List UnitNote
-unclosed_notes session e cabin = if nat_eq session 0 then [] else event_of SESSION_NOT_CLOSED session e.at.second cabin ∷ []
+unclosed_notes session e cabin = if nat_eq session 0 then [] else event_of SESSION_NOT_CLOSED session e.at.second cabin
+    ∷ []
 
 -- that it moves, and that the card was torn out as that was noted on it
 abbrev pub moved_notes : (fell : Bool) → Entering → Cabin → List UnitNote
 moved_notes false e cabin = event_of INSERTION_WHILE_DRIVING e.at.second e.at.second cabin ∷ []
 moved_notes true e cabin = event_of INSERTION_WHILE_DRIVING e.at.second e.at.second cabin ∷ fault_of e cabin ∷ []
 
--- What comes with an accepted card, which was torn out meanwhile, or was not: the events have the cards that were accepted before.
+-- What comes with an accepted card, which was torn out meanwhile, or was not: the events have the cards that were
+-- accepted before.
 abbrev pub notes_with : (fell : Bool) → (session : ℕ) → Entering → Cabin → List UnitNote
 notes_with false session e cabin = moving_notes e cabin ++ unclosed_notes session e cabin
 notes_with true session e cabin = moving_notes e cabin ++ fault_of e cabin ∷ unclosed_notes session e cabin
@@ -103,9 +114,11 @@ notes_by Fell e noted cabin = fault_of e cabin ∷ []
 notes_by Unasked e noted cabin = []
 notes_by (Unnoted entered clock) e noted cabin = seat_notes entered.look e cabin None
 notes_by (Seated entered clock entry) e noted cabin =
-    seat_notes entered.look e cabin (Some entry) ++ notes_with false entered.look.session e (seated entered.look entered.session entered.row entry noted e cabin)
+    seat_notes entered.look e cabin (Some entry)
+    ++ notes_with false entered.look.session e (seated entered.look entered.session entered.row entry noted e cabin)
 notes_by (Lost entered clock entry) e noted cabin =
-    seat_notes entered.look e cabin (Some entry) ++ notes_with true entered.look.session e (seated entered.look entered.session entered.row entry noted e cabin)
+    seat_notes entered.look e cabin (Some entry)
+    ++ notes_with true entered.look.session e (seated entered.look entered.session entered.row entry noted e cabin)
 
 -- ---- on the card
 
@@ -169,10 +182,12 @@ is_cut (Lost entered clock entry) failed = true
 abbrev pub AreOnCard : Way → Registration → Entering → (unit : List ℕ) → List ℕ → List ℕ → Type 0
 AreOnCard Unread registration e unit x y = ⊥
 AreOnCard (Unsized field) registration e unit x y = y ≡ x
-AreOnCard (Judged app ending) registration e unit x y = AreDone (IsOnCard app registration e unit) (card_notes_by ending registration e) x y
+AreOnCard (Judged app ending) registration e unit x y = AreDone (IsOnCard app registration e unit)
+    (card_notes_by ending registration e) x y
 
 abbrev pub AreComingOnCard : Way → Registration → Entering → (unit : List ℕ) → List ℕ → List ℕ → Type 0
 AreComingOnCard Unread registration e unit x c = ⊥
 AreComingOnCard (Unsized field) registration e unit x c = ⊥
 AreComingOnCard (Judged app ending) registration e unit x c =
-    AreBeingDone (IsOnCard app registration e unit) (IsComingOnCard app registration e unit) (card_notes_by ending registration e) x c
+    AreBeingDone (IsOnCard app registration e unit) (IsComingOnCard app registration e unit)
+    (card_notes_by ending registration e) x c

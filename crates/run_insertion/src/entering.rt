@@ -1,5 +1,6 @@
 //! A card that was put into a slot, or meets power there, is accepted or turned away.
-ghost use Rattle.std.specs.Prelude.{◌≡◌, ◌≢◌, ℕ, ◌+◌, ◌/◌, ◌<◌, ◌≤◌, ◌^◌, true, false, Some, None, Ok, IfSome, OnOk, length, is_err};
+ghost use Rattle.std.specs.Prelude.{◌≡◌, ◌≢◌, ℕ, ◌+◌, ◌/◌, ◌<◌, ◌≤◌, ◌^◌, true, false, Some, None, Ok, IfSome, OnOk};
+ghost use Rattle.std.specs.Prelude.{length, is_err};
 ghost use Rattle.trace_model.specs.declared.Card.{Card};
 ghost use Rattle.tach_media.specs.Medium.{LeavesOnly, HasCause};
 ghost use Rattle.unit_notes.specs.Journal.{LeavesJournal};
@@ -45,9 +46,11 @@ fn refuse<M: Medium>(
     requires room { length outcome.old.finds.items < outcome.old.finds.room }
     ensures told { outcome.new ≡ outcome_by (Unfit fid place) entering outcome.old }
     ensures journal { LeavesOnly (M.state unit.old) (M.state unit.new) LeavesJournal }
-    ensures notes { HasNoted IsOnUnit IsComing (notes_by (Unfit fid place) entering 0 keeper.now.cabin) (is_err result) (M.state unit.old) (M.state unit.new) }
+    ensures notes { HasNoted IsOnUnit IsComing (notes_by (Unfit fid place) entering 0 keeper.now.cabin) (is_err result)
+        (M.state unit.old) (M.state unit.new) }
     ensures ready { OnOk result (UnitMayBeCalled keeper.now (M.state unit.new)) }
-    ensures rows { (card : Card) → HasItsRow keeper.now.cabin.cards (M.state unit.old) card → OnOk result (HasItsRow keeper.now.cabin.cards (M.state unit.new) card) }
+    ensures rows { (card : Card) → HasItsRow keeper.now.cabin.cards (M.state unit.old) card
+        → OnOk result (HasItsRow keeper.now.cabin.cards (M.state unit.new) card) }
     ensures cause { HasCause (M.state unit.old) (M.state unit.new) (is_err result) }
 {
     find(
@@ -72,9 +75,11 @@ fn defer<M: Medium>(
     ensures told { outcome.new ≡ outcome_by (Ahead stored) entering outcome.old }
     ensures low { stored < 2 ^ 32 }
     ensures journal { LeavesOnly (M.state unit.old) (M.state unit.new) LeavesJournal }
-    ensures notes { HasNoted IsOnUnit IsComing (notes_by (Ahead stored) entering 0 keeper.now.cabin) (is_err result) (M.state unit.old) (M.state unit.new) }
+    ensures notes { HasNoted IsOnUnit IsComing (notes_by (Ahead stored) entering 0 keeper.now.cabin) (is_err result)
+        (M.state unit.old) (M.state unit.new) }
     ensures ready { OnOk result (UnitMayBeCalled keeper.now (M.state unit.new)) }
-    ensures rows { (card : Card) → HasItsRow keeper.now.cabin.cards (M.state unit.old) card → OnOk result (HasItsRow keeper.now.cabin.cards (M.state unit.new) card) }
+    ensures rows { (card : Card) → HasItsRow keeper.now.cabin.cards (M.state unit.old) card
+        → OnOk result (HasItsRow keeper.now.cabin.cards (M.state unit.new) card) }
     ensures cause { HasCause (M.state unit.old) (M.state unit.new) (is_err result) }
 {
     let now = entering.at.second;
@@ -98,8 +103,10 @@ fn accept_by<M: Medium, C: Chip, D: Chip>(
     outcome: &mut Outcome,
 ) -> Result<(), Failed>
     requires ready { UnitMayBeCalled keeper.old (M.state unit.old) }
-    requires seat { seat_in keeper.old.cabin.slots.seats entering.slot ≡ Some (record { card = entering.which; newest = None }) }
-    requires elsewhere { is_card (seat_in keeper.old.cabin.slots.seats (other_slot entering.slot)) entering.which ≡ false }
+    requires seat { seat_in keeper.old.cabin.slots.seats entering.slot
+        ≡ Some (record { card = entering.which; newest = None }) }
+    requires elsewhere { is_card (seat_in keeper.old.cabin.slots.seats (other_slot entering.slot)) entering.which
+        ≡ false }
     requires minute { keeper.old.cabin.slots.minute ≤ entering.at.second / 60 }
     requires second { entering.at.second ≢ 0 }
     requires late { keeper.old.journal.kept < entering.at.second / 60 }
@@ -113,15 +120,23 @@ fn accept_by<M: Medium, C: Chip, D: Chip>(
     requires works { (C.state card.old).works ≡ true }
     requires breaks { length outcome.old.breaks.items < outcome.old.breaks.room }
     requires finds { length outcome.old.finds.items < outcome.old.finds.room }
-    ensures marks { (outcome.new.marks.room ≡ outcome.old.marks.room) × (length outcome.new.marks.items ≤ length outcome.old.marks.items + most_owed) }
-    ensures ended { (ending : Ending) × IsJudgedSo app entering (is_err result) keeper.old keeper.new noted.old noted.new outcome.old outcome.new (M.state unit.old) (M.state unit.new) (C.state card.old) (C.state card.new) ending
-        × BooksJudged ending entering (is_err result) keeper.old keeper.new (M.state unit.old) (M.state unit.new) (C.state card.old) (C.state card.new) (D.state others.now) }
+    ensures marks { (outcome.new.marks.room ≡ outcome.old.marks.room)
+        × (length outcome.new.marks.items ≤ length outcome.old.marks.items + most_owed) }
+    ensures ended { (ending : Ending)
+        × IsJudgedSo app entering (is_err result) keeper.old keeper.new noted.old noted.new outcome.old outcome.new
+        (M.state unit.old) (M.state unit.new) (C.state card.old) (C.state card.new) ending
+        × BooksJudged ending entering (is_err result) keeper.old keeper.new (M.state unit.old) (M.state unit.new)
+        (C.state card.old) (C.state card.new) (D.state others.now) }
     ensures ready { OnOk result (UnitMayBeCalled keeper.new (M.state unit.new)) }
-    ensures rows { (card : Card) → HasItsRow keeper.old.cabin.cards (M.state unit.old) card → OnOk result (HasItsRow keeper.new.cabin.cards (M.state unit.new) card) }
-    ensures row { IfSome (session_of keeper.new.cabin.cards entering.which) (λ a. OnOk result (HasItsRow keeper.new.cabin.cards (M.state unit.new) entering.which)) }
-    ensures stands { (from : ℕ) → keeper.old.cabin.slots.minute ≤ from → CabinIsSound from None keeper.old.cabin → CabinIsSound from None keeper.new.cabin }
+    ensures rows { (card : Card) → HasItsRow keeper.old.cabin.cards (M.state unit.old) card
+        → OnOk result (HasItsRow keeper.new.cabin.cards (M.state unit.new) card) }
+    ensures row { IfSome (session_of keeper.new.cabin.cards entering.which)
+        (λ a. OnOk result (HasItsRow keeper.new.cabin.cards (M.state unit.new) entering.which)) }
+    ensures stands { (from : ℕ) → keeper.old.cabin.slots.minute ≤ from → CabinIsSound from None keeper.old.cabin
+        → CabinIsSound from None keeper.new.cabin }
     ensures cause { HasCause (M.state unit.old) (M.state unit.new) (is_err result) }
-    ensures card { CardMayBeCalled (known_of keeper.new.cabin.cards entering.which) (C.card card.new) (C.state card.new) }
+    ensures card { CardMayBeCalled (known_of keeper.new.cabin.cards entering.which) (C.card card.new)
+        (C.state card.new) }
     ensures size { (C.state card.new).size ≡ (C.state card.old).size }
     ensures clock { (M.state unit.old).clock ≤ (M.state unit.new).clock }
     ensures clock_card { (C.state card.old).clock ≤ (C.state card.new).clock }
@@ -165,8 +180,9 @@ fn accept_by<M: Medium, C: Chip, D: Chip>(
     }
 }
 
-/// A card that was put into a slot, or meets power there, is revived and tells its sizes, and is accepted or turned away: it is found to be
-/// accepted, not valid or of a later time, or it fails and is torn out. `noted` counts the insertions that were noted in this run.
+/// A card that was put into a slot, or meets power there, is revived and tells its sizes, and is accepted or turned
+/// away: it is found to be accepted, not valid or of a later time, or it fails and is torn out. `noted` counts the
+/// insertions that were noted in this run.
 ///
 /// # Errors
 ///
@@ -181,8 +197,10 @@ pub fn accept<M: Medium, C: Chip, D: Chip>(
     outcome: &mut Outcome,
 ) -> Result<(), Failed>
     requires ready { UnitMayBeCalled keeper.old (M.state unit.old) }
-    requires seat { seat_in keeper.old.cabin.slots.seats entering.slot ≡ Some (record { card = entering.which; newest = None }) }
-    requires elsewhere { is_card (seat_in keeper.old.cabin.slots.seats (other_slot entering.slot)) entering.which ≡ false }
+    requires seat { seat_in keeper.old.cabin.slots.seats entering.slot
+        ≡ Some (record { card = entering.which; newest = None }) }
+    requires elsewhere { is_card (seat_in keeper.old.cabin.slots.seats (other_slot entering.slot)) entering.which
+        ≡ false }
     requires minute { keeper.old.cabin.slots.minute ≤ entering.at.second / 60 }
     requires second { entering.at.second ≢ 0 }
     requires late { keeper.old.journal.kept < entering.at.second / 60 }
@@ -192,15 +210,22 @@ pub fn accept<M: Medium, C: Chip, D: Chip>(
     requires size { LARGEST_IMAGE ≤ (C.state card.old).size }
     requires breaks { length outcome.old.breaks.items < outcome.old.breaks.room }
     requires finds { length outcome.old.finds.items < outcome.old.finds.room }
-    ensures marks { (outcome.new.marks.room ≡ outcome.old.marks.room) × (length outcome.new.marks.items ≤ length outcome.old.marks.items + most_owed) }
-    ensures entered { (way : Way) × HasEntered entering (is_err result) keeper.old keeper.new noted.old noted.new outcome.old outcome.new (M.state unit.old) (M.state unit.new) (C.state card.old) (C.state card.new) way
-        × BooksEntered way entering (is_err result) keeper.old keeper.new (M.state unit.old) (M.state unit.new) (C.state card.old) (C.state card.new) (D.state others.now) }
+    ensures marks { (outcome.new.marks.room ≡ outcome.old.marks.room)
+        × (length outcome.new.marks.items ≤ length outcome.old.marks.items + most_owed) }
+    ensures entered { (way : Way) × HasEntered entering (is_err result) keeper.old keeper.new noted.old noted.new
+        outcome.old outcome.new (M.state unit.old) (M.state unit.new) (C.state card.old) (C.state card.new) way
+        × BooksEntered way entering (is_err result) keeper.old keeper.new (M.state unit.old) (M.state unit.new)
+        (C.state card.old) (C.state card.new) (D.state others.now) }
     ensures ready { OnOk result (UnitMayBeCalled keeper.new (M.state unit.new)) }
-    ensures rows { (card : Card) → HasItsRow keeper.old.cabin.cards (M.state unit.old) card → OnOk result (HasItsRow keeper.new.cabin.cards (M.state unit.new) card) }
-    ensures row { IfSome (session_of keeper.new.cabin.cards entering.which) (λ a. OnOk result (HasItsRow keeper.new.cabin.cards (M.state unit.new) entering.which)) }
-    ensures stands { (from : ℕ) → keeper.old.cabin.slots.minute ≤ from → CabinIsSound from None keeper.old.cabin → CabinIsSound from None keeper.new.cabin }
+    ensures rows { (card : Card) → HasItsRow keeper.old.cabin.cards (M.state unit.old) card
+        → OnOk result (HasItsRow keeper.new.cabin.cards (M.state unit.new) card) }
+    ensures row { IfSome (session_of keeper.new.cabin.cards entering.which)
+        (λ a. OnOk result (HasItsRow keeper.new.cabin.cards (M.state unit.new) entering.which)) }
+    ensures stands { (from : ℕ) → keeper.old.cabin.slots.minute ≤ from → CabinIsSound from None keeper.old.cabin
+        → CabinIsSound from None keeper.new.cabin }
     ensures cause { HasCause (M.state unit.old) (M.state unit.new) (is_err result) }
-    ensures card { CardMayBeCalled (known_of keeper.new.cabin.cards entering.which) (C.card card.new) (C.state card.new) }
+    ensures card { CardMayBeCalled (known_of keeper.new.cabin.cards entering.which) (C.card card.new)
+        (C.state card.new) }
     ensures size { (C.state card.new).size ≡ (C.state card.old).size }
     ensures clock { (M.state unit.old).clock ≤ (M.state unit.new).clock }
     ensures clock_card { (C.state card.old).clock ≤ (C.state card.new).clock }

@@ -1,5 +1,5 @@
-//! A card that was put into a slot, or meets power there, is accepted or turned away (profile): it is revived, tells its sizes, is judged,
-//! and gets the entries that it is owed, its session, and its row in the unit.
+//! A card that was put into a slot, or meets power there, is accepted or turned away (profile): it is revived, tells
+//! its sizes, is judged, and gets the entries that it is owed, its session, and its row in the unit.
 #![tactic(auto)]
 
 mod entering;

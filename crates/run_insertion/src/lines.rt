@@ -3,7 +3,8 @@ ghost use Rattle.std.specs.Prelude.{◌≡◌, ◌<◌, ◌≤◌, ◌+◌, ◌�
 ghost use Rattle.device_rule.specs.Views.{other};
 ghost use Rattle.log_model.specs.Causes.{device_of};
 ghost use Rattle.run_minutes.specs.Keeping.{with_lines};
-ghost use Rattle.run_insertion.specs.Entering.{find_of, and_mark, and_marks, last_of, most_owed, slot_number, insertion_of};
+ghost use Rattle.run_insertion.specs.Entering.{find_of, and_mark, and_marks, last_of, most_owed, slot_number};
+ghost use Rattle.run_insertion.specs.Entering.{insertion_of};
 
 use activity_codec::{Entry, Owed, Slot};
 use card_validity::CardLook;

@@ -1,5 +1,6 @@
 //! A card that is found to be accepted is so: its insertion is noted, its row begins, and what comes with it is noted.
-ghost use Rattle.std.specs.Prelude.{◌≡◌, ◌≢◌, ℕ, ◌+◌, ◌/◌, ◌<◌, ◌≤◌, ◌^◌, Bool, true, false, Option, Some, None, Ok, IfSome, OnOk, length, is_err, option_map};
+ghost use Rattle.std.specs.Prelude.{◌≡◌, ◌≢◌, ℕ, ◌+◌, ◌/◌, ◌<◌, ◌≤◌, ◌^◌, Bool, true, false, Option, Some, None, Ok};
+ghost use Rattle.std.specs.Prelude.{IfSome, OnOk, length, is_err, option_map};
 ghost use Rattle.trace_model.specs.declared.Card.{Card};
 ghost use Rattle.tach_media.specs.Medium.{HasCause};
 ghost use Rattle.tacho_types.specs.CardNumber.{card_number_bytes};
@@ -45,20 +46,29 @@ fn seat<M: Medium, C: Chip, D: Chip>(
     others: &D,
 ) -> Result<(), Failed>
     requires ready { UnitMayBeCalled keeper.old (M.state unit.old) }
-    requires seat { seat_in keeper.old.cabin.slots.seats entering.slot ≡ Some (record { card = entering.which; newest = None }) }
-    requires elsewhere { is_card (seat_in keeper.old.cabin.slots.seats (other_slot entering.slot)) entering.which ≡ false }
+    requires seat { seat_in keeper.old.cabin.slots.seats entering.slot
+        ≡ Some (record { card = entering.which; newest = None }) }
+    requires elsewhere { is_card (seat_in keeper.old.cabin.slots.seats (other_slot entering.slot)) entering.which
+        ≡ false }
     requires sizes { (known_of keeper.old.cabin.cards entering.which).sizes ≡ Ok session.application }
     requires second { entering.at.second ≢ 0 }
     requires fits { entering.odometer.0 < 2 ^ 24 }
     requires low { row < 8 }
-    requires row { IfSome (M.state unit.old).image (IsRowFor row (card_number_bytes look.now.number) (option_map (λ n. card_number_bytes n) (known_of keeper.old.cabin.cards (other entering.which)).number)) }
-    ensures seated { (entry : Option ℕ) × IsSeated look.now session row entering (is_err result) keeper.old keeper.new noted.old noted.new (M.state unit.old) (M.state unit.new) entry }
+    requires row { IfSome (M.state unit.old).image
+        (IsRowFor row (card_number_bytes look.now.number)
+        (option_map (λ n. card_number_bytes n) (known_of keeper.old.cabin.cards (other entering.which)).number)) }
+    ensures seated { (entry : Option ℕ)
+        × IsSeated look.now session row entering (is_err result) keeper.old keeper.new noted.old noted.new
+        (M.state unit.old) (M.state unit.new) entry }
     ensures value { IsValue session }
-    ensures booked { BooksSeat look.now session entering (is_err result) keeper.old keeper.new (M.state unit.old) (M.state unit.new) (C.state card.now) (D.state others.now) }
+    ensures booked { BooksSeat look.now session entering (is_err result) keeper.old keeper.new (M.state unit.old)
+        (M.state unit.new) (C.state card.now) (D.state others.now) }
     ensures ready { OnOk result (UnitMayBeCalled keeper.new (M.state unit.new)) }
-    ensures rows { (card : Card) → HasItsRow keeper.old.cabin.cards (M.state unit.old) card → OnOk result (HasItsRow keeper.new.cabin.cards (M.state unit.new) card) }
+    ensures rows { (card : Card) → HasItsRow keeper.old.cabin.cards (M.state unit.old) card
+        → OnOk result (HasItsRow keeper.new.cabin.cards (M.state unit.new) card) }
     ensures row { OnOk result (HasItsRow keeper.new.cabin.cards (M.state unit.new) entering.which) }
-    ensures stands { (from : ℕ) → keeper.old.cabin.slots.minute ≤ from → CabinIsSound from None keeper.old.cabin → CabinIsSound from None keeper.new.cabin }
+    ensures stands { (from : ℕ) → keeper.old.cabin.slots.minute ≤ from → CabinIsSound from None keeper.old.cabin
+        → CabinIsSound from None keeper.new.cabin }
     ensures cause { HasCause (M.state unit.old) (M.state unit.new) (is_err result) }
 {
     let begin_second = entering.at.second;
@@ -101,18 +111,27 @@ fn note_moving<M: Medium, C: Chip, D: Chip>(
     requires ready { UnitMayBeCalled keeper.old (M.state unit.old) }
     requires minute { keeper.old.cabin.slots.minute ≤ entering.at.second / 60 }
     requires second { entering.at.second ≢ 0 }
-    requires card { CardMayBeCalled (known_of keeper.old.cabin.cards entering.which) (C.card card.old) (C.state card.old) }
+    requires card { CardMayBeCalled (known_of keeper.old.cabin.cards entering.which) (C.card card.old)
+        (C.state card.old) }
     requires works { (C.state card.old).works ≡ true }
     requires sizes { (known_of keeper.old.cabin.cards entering.which).sizes ≡ Ok app }
     requires room { length breaks.old.items < breaks.old.room }
-    ensures noted { (fell : Bool) × IsMoved app entering (is_err result) keeper.old keeper.new breaks.old breaks.new (M.state unit.old) (M.state unit.new) (C.state card.old) (C.state card.new) fell
-        × BooksNotes app entering (is_err result) keeper.old keeper.new fell (arranged entering.which (M.state unit.old) (C.state card.old) (D.state others.now)) (arranged entering.which (M.state unit.new) (C.state card.new) (D.state others.now)) }
-    ensures timed { TimesNotes app entering keeper.old (arranged entering.which (M.state unit.old) (C.state card.old) (D.state others.now)) (C.state card.old) (C.state card.new) }
+    ensures noted { (fell : Bool) × IsMoved app entering (is_err result) keeper.old keeper.new breaks.old breaks.new
+        (M.state unit.old) (M.state unit.new) (C.state card.old) (C.state card.new) fell
+        × BooksNotes app entering (is_err result) keeper.old keeper.new fell
+        (arranged entering.which (M.state unit.old) (C.state card.old) (D.state others.now))
+        (arranged entering.which (M.state unit.new) (C.state card.new) (D.state others.now)) }
+    ensures timed { TimesNotes app entering keeper.old
+        (arranged entering.which (M.state unit.old) (C.state card.old) (D.state others.now)) (C.state card.old)
+        (C.state card.new) }
     ensures ready { OnOk result (UnitMayBeCalled keeper.new (M.state unit.new)) }
-    ensures rows { (card : Card) → HasItsRow keeper.old.cabin.cards (M.state unit.old) card → OnOk result (HasItsRow keeper.new.cabin.cards (M.state unit.new) card) }
-    ensures stands { (from : ℕ) → keeper.old.cabin.slots.minute ≤ from → CabinIsSound from None keeper.old.cabin → CabinIsSound from None keeper.new.cabin }
+    ensures rows { (card : Card) → HasItsRow keeper.old.cabin.cards (M.state unit.old) card
+        → OnOk result (HasItsRow keeper.new.cabin.cards (M.state unit.new) card) }
+    ensures stands { (from : ℕ) → keeper.old.cabin.slots.minute ≤ from → CabinIsSound from None keeper.old.cabin
+        → CabinIsSound from None keeper.new.cabin }
     ensures cause { HasCause (M.state unit.old) (M.state unit.new) (is_err result) }
-    ensures card { CardMayBeCalled (known_of keeper.new.cabin.cards entering.which) (C.card card.new) (C.state card.new) }
+    ensures card { CardMayBeCalled (known_of keeper.new.cabin.cards entering.which) (C.card card.new)
+        (C.state card.new) }
     ensures size { (C.state card.new).size ≡ (C.state card.old).size }
     ensures more { (C.state card.old).breakdowns ≤ (C.state card.new).breakdowns }
     ensures later { IsLater (C.state card.old) (C.state card.new) }
@@ -144,18 +163,27 @@ fn note_entered<M: Medium, C: Chip, D: Chip>(
     requires ready { UnitMayBeCalled keeper.old (M.state unit.old) }
     requires minute { keeper.old.cabin.slots.minute ≤ entering.at.second / 60 }
     requires second { entering.at.second ≢ 0 }
-    requires card { CardMayBeCalled (known_of keeper.old.cabin.cards entering.which) (C.card card.old) (C.state card.old) }
+    requires card { CardMayBeCalled (known_of keeper.old.cabin.cards entering.which) (C.card card.old)
+        (C.state card.old) }
     requires works { (C.state card.old).works ≡ true }
     requires sizes { (known_of keeper.old.cabin.cards entering.which).sizes ≡ Ok app }
     requires room { length breaks.old.items < breaks.old.room }
-    ensures noted { (fell : Bool) × IsNotedOn app session entering (is_err result) keeper.old keeper.new breaks.old breaks.new (M.state unit.old) (M.state unit.new) (C.state card.old) (C.state card.new) fell
-        × BooksNotes app entering (is_err result) keeper.old keeper.new fell (arranged entering.which (M.state unit.old) (C.state card.old) (D.state others.now)) (arranged entering.which (M.state unit.new) (C.state card.new) (D.state others.now)) }
-    ensures timed { TimesNotes app entering keeper.old (arranged entering.which (M.state unit.old) (C.state card.old) (D.state others.now)) (C.state card.old) (C.state card.new) }
+    ensures noted { (fell : Bool) × IsNotedOn app session entering (is_err result) keeper.old keeper.new breaks.old
+        breaks.new (M.state unit.old) (M.state unit.new) (C.state card.old) (C.state card.new) fell
+        × BooksNotes app entering (is_err result) keeper.old keeper.new fell
+        (arranged entering.which (M.state unit.old) (C.state card.old) (D.state others.now))
+        (arranged entering.which (M.state unit.new) (C.state card.new) (D.state others.now)) }
+    ensures timed { TimesNotes app entering keeper.old
+        (arranged entering.which (M.state unit.old) (C.state card.old) (D.state others.now)) (C.state card.old)
+        (C.state card.new) }
     ensures ready { OnOk result (UnitMayBeCalled keeper.new (M.state unit.new)) }
-    ensures rows { (card : Card) → HasItsRow keeper.old.cabin.cards (M.state unit.old) card → OnOk result (HasItsRow keeper.new.cabin.cards (M.state unit.new) card) }
-    ensures stands { (from : ℕ) → keeper.old.cabin.slots.minute ≤ from → CabinIsSound from None keeper.old.cabin → CabinIsSound from None keeper.new.cabin }
+    ensures rows { (card : Card) → HasItsRow keeper.old.cabin.cards (M.state unit.old) card
+        → OnOk result (HasItsRow keeper.new.cabin.cards (M.state unit.new) card) }
+    ensures stands { (from : ℕ) → keeper.old.cabin.slots.minute ≤ from → CabinIsSound from None keeper.old.cabin
+        → CabinIsSound from None keeper.new.cabin }
     ensures cause { HasCause (M.state unit.old) (M.state unit.new) (is_err result) }
-    ensures card { CardMayBeCalled (known_of keeper.new.cabin.cards entering.which) (C.card card.new) (C.state card.new) }
+    ensures card { CardMayBeCalled (known_of keeper.new.cabin.cards entering.which) (C.card card.new)
+        (C.state card.new) }
     ensures size { (C.state card.new).size ≡ (C.state card.old).size }
     ensures more { (C.state card.old).breakdowns ≤ (C.state card.new).breakdowns }
     ensures later { IsLater (C.state card.old) (C.state card.new) }
@@ -191,8 +219,10 @@ pub(crate) fn take_in<M: Medium, C: Chip, D: Chip>(
     outcome: &mut Outcome,
 ) -> Result<(), Failed>
     requires ready { UnitMayBeCalled keeper.old (M.state unit.old) }
-    requires seat { seat_in keeper.old.cabin.slots.seats entering.slot ≡ Some (record { card = entering.which; newest = None }) }
-    requires elsewhere { is_card (seat_in keeper.old.cabin.slots.seats (other_slot entering.slot)) entering.which ≡ false }
+    requires seat { seat_in keeper.old.cabin.slots.seats entering.slot
+        ≡ Some (record { card = entering.which; newest = None }) }
+    requires elsewhere { is_card (seat_in keeper.old.cabin.slots.seats (other_slot entering.slot)) entering.which
+        ≡ false }
     requires minute { keeper.old.cabin.slots.minute ≤ entering.at.second / 60 }
     requires second { entering.at.second ≢ 0 }
     requires fits { entering.odometer.0 < 2 ^ 24 }
@@ -204,17 +234,27 @@ pub(crate) fn take_in<M: Medium, C: Chip, D: Chip>(
     requires breaks { length outcome.old.breaks.items < outcome.old.breaks.room }
     requires finds { length outcome.old.finds.items < outcome.old.finds.room }
     requires low { entered.row < 8 }
-    requires row { IfSome (M.state unit.old).image (IsRowFor entered.row (card_number_bytes entered.look.number) (option_map (λ n. card_number_bytes n) (known_of keeper.old.cabin.cards (other entering.which)).number)) }
-    ensures marks { (outcome.new.marks.room ≡ outcome.old.marks.room) × (length outcome.new.marks.items ≤ length outcome.old.marks.items + most_owed) }
+    requires row { IfSome (M.state unit.old).image
+        (IsRowFor entered.row (card_number_bytes entered.look.number)
+        (option_map (λ n. card_number_bytes n) (known_of keeper.old.cabin.cards (other entering.which)).number)) }
+    ensures marks { (outcome.new.marks.room ≡ outcome.old.marks.room)
+        × (length outcome.new.marks.items ≤ length outcome.old.marks.items + most_owed) }
     ensures ended { (fell : Bool) × (entry : Option ℕ) × IsEntry entry (is_err result) (M.state unit.old).image
-        × IsTaken app entering (is_err result) keeper.old keeper.new noted.old noted.new outcome.old outcome.new (M.state unit.old) (M.state unit.new) (C.state card.old) (C.state card.new) (taken_as fell entered (C.state card.old).clock entry)
-        × BooksTaken entered (taken_as fell entered (C.state card.old).clock entry) entering (is_err result) keeper.old keeper.new (M.state unit.old) (M.state unit.new) (C.state card.old) (C.state card.new) (D.state others.now) }
+        × IsTaken app entering (is_err result) keeper.old keeper.new noted.old noted.new outcome.old outcome.new
+        (M.state unit.old) (M.state unit.new) (C.state card.old) (C.state card.new)
+        (taken_as fell entered (C.state card.old).clock entry)
+        × BooksTaken entered (taken_as fell entered (C.state card.old).clock entry) entering (is_err result) keeper.old
+        keeper.new (M.state unit.old) (M.state unit.new) (C.state card.old) (C.state card.new) (D.state others.now) }
     ensures ready { OnOk result (UnitMayBeCalled keeper.new (M.state unit.new)) }
-    ensures rows { (card : Card) → HasItsRow keeper.old.cabin.cards (M.state unit.old) card → OnOk result (HasItsRow keeper.new.cabin.cards (M.state unit.new) card) }
-    ensures row { IfSome (session_of keeper.new.cabin.cards entering.which) (λ a. OnOk result (HasItsRow keeper.new.cabin.cards (M.state unit.new) entering.which)) }
-    ensures stands { (from : ℕ) → keeper.old.cabin.slots.minute ≤ from → CabinIsSound from None keeper.old.cabin → CabinIsSound from None keeper.new.cabin }
+    ensures rows { (card : Card) → HasItsRow keeper.old.cabin.cards (M.state unit.old) card
+        → OnOk result (HasItsRow keeper.new.cabin.cards (M.state unit.new) card) }
+    ensures row { IfSome (session_of keeper.new.cabin.cards entering.which)
+        (λ a. OnOk result (HasItsRow keeper.new.cabin.cards (M.state unit.new) entering.which)) }
+    ensures stands { (from : ℕ) → keeper.old.cabin.slots.minute ≤ from → CabinIsSound from None keeper.old.cabin
+        → CabinIsSound from None keeper.new.cabin }
     ensures cause { HasCause (M.state unit.old) (M.state unit.new) (is_err result) }
-    ensures card { CardMayBeCalled (known_of keeper.new.cabin.cards entering.which) (C.card card.new) (C.state card.new) }
+    ensures card { CardMayBeCalled (known_of keeper.new.cabin.cards entering.which) (C.card card.new)
+        (C.state card.new) }
     ensures size { (C.state card.new).size ≡ (C.state card.old).size }
     ensures more { (C.state card.old).breakdowns ≤ (C.state card.new).breakdowns }
     ensures most { length entered.owed.items ≤ most_owed }

@@ -11,7 +11,8 @@ use tach_media::{Chip, Failed};
 /// In place of a bad field's number, of a card that failed before it told its sizes.
 pub const UNTOLD: u8 = 0;
 
-// A card is revived, and tells its sizes, or the number of the first bad field of Application_Identification; it is not written.
+// A card is revived, and tells its sizes, or the number of the first bad field of Application_Identification; it is not
+// written.
 pub(crate) fn wake<C: Chip>(card: &mut C) -> Result<Result<Application, u8>, Failed>
     requires size { LARGEST_IMAGE ≤ (C.state card.old).size }
     ensures measured { IfOk result (λ sizes. IsMeasured sizes (C.card card.new) (C.state card.new)) }

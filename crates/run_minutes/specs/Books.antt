@@ -1,5 +1,7 @@
--- What the keeping of a minute leaves of unit and cards, and of what was travelled, over devices that tell their images (profile).
-use Rattle.std.specs.Prelude.{◌≡◌, ◌⊎◌, ℕ, suc, ◌≤◌, ◌<◌, Bool, true, false, Option, Some, None, List, [], if◌then◌else◌}
+-- What the keeping of a minute leaves of unit and cards, and of what was travelled, over devices that tell their images
+-- (profile).
+use Rattle.std.specs.Prelude.{◌≡◌, ◌⊎◌, ℕ, suc, ◌≤◌, ◌<◌, Bool, true, false, Option, Some, None, List, []}
+use Rattle.std.specs.Prelude.{if◌then◌else◌}
 use Rattle.trace_model.specs.declared.Card.{Card}
 use Rattle.tach_media.specs.Medium.{State, last_count}
 use Rattle.log_model.specs.declared.lines.Mark.{Mark}
@@ -32,8 +34,8 @@ history_minute present m = record {
   codriver = record { act = m.codriver.act; card = present.codriver };
 }
 
--- UNIT AND CARDS ARE AS THE BOOK SAYS, between two calls while the unit has power: all that is carried stands, with the marks that are told,
--- and the cards go with their sessions.
+-- UNIT AND CARDS ARE AS THE BOOK SAYS, between two calls while the unit has power: all that is carried stands, with the
+-- marks that are told, and the cards go with their sessions.
 pub record AreBooked (f : Found) (w : RunLedger) (cards : Cards) (marks : List Mark) (d : Devices) : Type 0 where
   pub found : AreFoundCards f cards
   pub powered : DevicesPowered f w cards d
@@ -44,7 +46,8 @@ pub record AreBooked (f : Found) (w : RunLedger) (cards : Cards) (marks : List M
 pub record MayCome (f : Found) (w : RunLedger) (i : HistoryMinute) : Type 0 where
   pub day : 1440 ≤ i.minute
   pub late : w.due ≤ i.minute
-  pub fits : (c : Card) → (on_card c i ≡ []) ⊎ (IsOwnValid (found_of f c).image × IsPresent (found_of f c).start (w.standing c) i.minute)
+  pub fits : (c : Card) → (on_card c i ≡ [])
+      ⊎ (IsOwnValid (found_of f c).image × IsPresent (found_of f c).start (w.standing c) i.minute)
 
 -- ---- behind
 
@@ -60,7 +63,8 @@ standing_by Fell minute (Torn time newest floor) = Torn time newest floor
 
 -- what became of that of a card
 abbrev pub fate_of : Present → Round → Card → Fate
-fate_of present round c = if is_this present.driver c then round.driver else (if is_this present.codriver c then round.codriver else Still)
+fate_of present round c = if is_this present.driver c then round.driver
+    else (if is_this present.codriver c then round.codriver else Still)
 
 -- what is carried behind a minute that is kept
 abbrev pub carried_after : Present → HistoryMinute → Round → RunLedger → RunLedger
@@ -78,22 +82,29 @@ carried_broken i w = record w { due = suc i.minute; book = broken i w.book }
 
 -- the unit failed before it had a minute, up to which this was travelled: that was not begun, or was
 abbrev pub IsLeftOff : Found → (start : ℕ) → RunLedger → HistoryMinute → Travel → (leg : ℕ) → Devices → Type 0
-IsLeftOff f start w i g leg d = (DevicesUnpowered f w d × HasTravelled start w.book g d.unit) ⊎ (DevicesUnpowered f (carried_broken i w) d × HasTravelled start (broken i w.book) (stranded i.minute leg g) d.unit)
+IsLeftOff f start w i g leg d = (DevicesUnpowered f w d × HasTravelled start w.book g d.unit)
+    ⊎ (DevicesUnpowered f (carried_broken i w) d
+    × HasTravelled start (broken i w.book) (stranded i.minute leg g) d.unit)
 
 -- HOW IT FAILED in a minute: before it had it; or it has it, and a card was torn out
-abbrev pub IsCutIn : Found → (start : ℕ) → RunLedger → Present → HistoryMinute → Travel → (leg : ℕ) → Option Round → Devices → Type 0
+abbrev pub IsCutIn : Found → (start : ℕ) → RunLedger → Present → HistoryMinute → Travel → (leg : ℕ) → Option Round
+    → Devices → Type 0
 IsCutIn f start w present i g leg None d = IsLeftOff f start w i g leg d
-IsCutIn f start w present i g leg (Some round) d = DevicesUnpowered f (carried_after present i round w) d × HasTravelled start (kept i w.book) (travelled i.minute leg g) d.unit
+IsCutIn f start w present i g leg (Some round) d = DevicesUnpowered f (carried_after present i round w) d
+    × HasTravelled start (kept i w.book) (travelled i.minute leg g) d.unit
 
--- THE BOOK BEHIND A MINUTE that was to be kept: it is kept, all that is carried stands, and the cards go with their sessions; or the unit
--- failed in it.
-abbrev pub IsBooked : Found → (start : ℕ) → RunLedger → Present → HistoryMinute → Travel → (leg : ℕ) → (failed : Bool) → Option Round → Cards → Devices → Type 0
+-- THE BOOK BEHIND A MINUTE that was to be kept: it is kept, all that is carried stands, and the cards go with their
+-- sessions; or the unit failed in it.
+abbrev pub IsBooked : Found → (start : ℕ) → RunLedger → Present → HistoryMinute → Travel → (leg : ℕ) → (failed : Bool)
+    → Option Round → Cards → Devices → Type 0
 IsBooked f start w present i g leg true round cards d = IsCutIn f start w present i g leg round d
 IsBooked f start w present i g leg false None cards d = ⊥
-IsBooked f start w present i g leg false (Some round) cards d = DevicesPowered f (carried_after present i round w) cards d × HasTravelled start (kept i w.book) (travelled i.minute leg g) d.unit
+IsBooked f start w present i g leg false (Some round) cards d = DevicesPowered f (carried_after present i round w) cards
+    d × HasTravelled start (kept i w.book) (travelled i.minute leg g) d.unit
 
 -- WHAT IS ASKED: unit and cards are as the book says, and the minute may come.
-pub record MayBook (f : Found) (w : RunLedger) (present : Present) (m : KeptMinute) (t : KeepingState) (d : Devices) : Type 0 where
+pub record MayBook (f : Found) (w : RunLedger) (present : Present) (m : KeptMinute) (t : KeepingState)
+    (d : Devices) : Type 0 where
   pub booked : AreBooked f w t.keeper.cabin.cards t.marks.items d
   pub comes : MayCome f w (history_minute present m)
 
@@ -103,8 +114,8 @@ pub record HaveTime (d : Devices) : Type 0 where
   pub card_a : d.card_a.clock < last_count
   pub card_b : d.card_b.clock < last_count
 
--- In each image that a card might have left since the start its last use is that at the start, or a whole minute: so it is behind a call
--- where it was before,
+-- In each image that a card might have left since the start its last use is that at the start, or a whole minute: so it
+-- is behind a call where it was before,
 abbrev pub IsTimedOn : CardFound → (old new : State) → Type 0
 IsTimedOn f old new = AreTimedSince f.image f.began old → AreTimedSince f.image f.began new
 
@@ -116,8 +127,12 @@ StaysOn f old new = IsTimedOn f old new × LeavesEvents (own_sizes f.image) old 
 abbrev pub AreTimedOn : Found → (d e : Devices) → Type 0
 AreTimedOn f d e = (c : Card) → IsOwnValid (found_of f c).image → StaysOn (found_of f c) (card_of d c) (card_of e c)
 
--- A MINUTE WAS TO BE KEPT, whose odometer is that of the start and of what was travelled up to it, and this came of it: so it is booked, and
--- the cards keep it.
-abbrev pub BooksMinute : Present → KeptMinute → (failed : Bool) → Option Round → (t u : KeepingState) → (d e : Devices) → Type 0
-BooksMinute present m failed round t u d e = (f : Found) (w : RunLedger) (start : ℕ) (g : Travel) (leg : ℕ) → MayBook f w present m t d → HasTravelled start w.book g d.unit → m.odometer.0 ≡ odometer_by (odometer_after start g.before) leg → HaveTime e
-    → IsBooked f start w present (history_minute present m) g leg failed round u.keeper.cabin.cards e × AreTimedOn f d e × (failed ≡ false → AllKeep f (kept_on present m) t.keeper.cabin.cards u.keeper.cabin.cards d e)
+-- A MINUTE WAS TO BE KEPT, whose odometer is that of the start and of what was travelled up to it, and this came of it:
+-- so it is booked, and the cards keep it.
+abbrev pub BooksMinute : Present → KeptMinute → (failed : Bool) → Option Round → (t u : KeepingState) → (d e : Devices)
+    → Type 0
+BooksMinute present m failed round t u d e = (f : Found) (w : RunLedger) (start : ℕ) (g : Travel) (leg : ℕ)
+    → MayBook f w present m t d → HasTravelled start w.book g d.unit
+    → m.odometer.0 ≡ odometer_by (odometer_after start g.before) leg → HaveTime e
+    → IsBooked f start w present (history_minute present m) g leg failed round u.keeper.cabin.cards e × AreTimedOn f d e
+    × (failed ≡ false → AllKeep f (kept_on present m) t.keeper.cabin.cards u.keeper.cabin.cards d e)

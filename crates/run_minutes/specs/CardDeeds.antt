@@ -1,4 +1,5 @@
--- What calls make of a card's days and of its vehicle entries, deed by deed, whichever of its images a stop may leave (profile).
+-- What calls make of a card's days and of its vehicle entries, deed by deed, whichever of its images a stop may leave
+-- (profile).
 use Rattle.std.specs.Prelude.{◌≡◌, ℕ, ◌++◌, Bool, true, false, not, Option, Some, List, [], ◌∷◌, map, nat_eq}
 use Rattle.activity_codec.specs.declared.values.Activity.{Activity}
 use Rattle.activity_codec.specs.declared.values.Activity.TheVariants.{Rest}
@@ -25,23 +26,26 @@ made_by size (d ∷ ds) b = made_by size ds (after size d b)
 abbrev pub is_open_in : CurrentUse → Bool
 is_open_in held = not (nat_eq held.session.0 0)
 
--- A CARD SHOWS A BOOK, whichever of its images a stop may leave: these are its days and its vehicle entries; and this is its current use: the
--- session that is open on it, or none, and its vehicle.
+-- A CARD SHOWS A BOOK, whichever of its images a stop may leave: these are its days and its vehicle entries; and this
+-- is its current use: the session that is open on it, or none, and its vehicle.
 abbrev pub ShowsBook : Application → Book → CurrentUse → State → Type 0
 ShowsBook app b held card = (x : List ℕ) → card.may_leave x → (book_of app x ≡ b) × (current_use app x ≡ held)
 
--- CALLS DO THESE DEEDS on a card: of the book that it shows they make the one that it shows then. Its current use stays.
+-- CALLS DO THESE DEEDS on a card: of the book that it shows they make the one that it shows then. Its current use
+-- stays.
 abbrev pub DoesOn : Application → List Deed → (old new : State) → Type 0
-DoesOn app ds old new = (b : Book) (held : CurrentUse) → ShowsBook app b held old → ShowsBook app (made_by app.activity ds b) held new
+DoesOn app ds old new = (b : Book) (held : CurrentUse) → ShowsBook app b held old
+    → ShowsBook app (made_by app.activity ds b) held new
 
 -- ---- minutes that a session keeps
 
--- ITS KEEPS of these: each with the odometer value at the end of its minute, and so many km as that has grown since the one before; none at
--- the first of a session
+-- ITS KEEPS of these: each with the odometer value at the end of its minute, and so many km as that has grown since the
+-- one before; none at the first of a session
 abbrev pub keeps : Registration → (before : Option Odometer) → List Kept → List Deed
 keeps vehicle before [] = []
 keeps vehicle before (k ∷ ks) =
-    Keep (record { entry = k.entry; registration = vehicle; odometer = k.odometer.0; km = grown before k.odometer.0 }) ∷ keeps vehicle (Some k.odometer) ks
+    Keep (record { entry = k.entry; registration = vehicle; odometer = k.odometer.0; km = grown before k.odometer.0 })
+    ∷ keeps vehicle (Some k.odometer) ks
 
 -- the odometer value at the last of them
 abbrev pub last_odometer : (before : Option Odometer) → List Kept → Option Odometer
@@ -50,10 +54,11 @@ last_odometer before (k ∷ ks) = last_odometer (Some k.odometer) ks
 
 -- ---- sessions that are opened and closed
 
--- AN INSERTION: of a card whose session was left open the days are cut at its end mark, and it keeps what it lacks of what is owed to it, all
--- with the odometer value of now and without a km; then the last words are closed
+-- AN INSERTION: of a card whose session was left open the days are cut at its end mark, and it keeps what it lacks of
+-- what is owed to it, all with the odometer value of now and without a km; then the last words are closed
 abbrev pub owed_keeps : Registration → (odometer : ℕ) → List Entry → List Deed
-owed_keeps vehicle odometer es = map (λ (e : Entry). Keep (record { entry = e; registration = vehicle; odometer = odometer; km = 0 })) es
+owed_keeps vehicle odometer es = map (λ (e : Entry). Keep
+    (record { entry = e; registration = vehicle; odometer = odometer; km = 0 })) es
 
 abbrev pub opens : (used : Bool) → Registration → (odometer : ℕ) → (lacks : List Entry) → List Deed
 opens false vehicle odometer lacks = Close Rest ∷ []
@@ -67,10 +72,13 @@ abbrev pub ended_use : CurrentUse → CurrentUse
 ended_use held = record { session = record { 0 = 0 }; registration = held.registration }
 
 -- calls do it on a card in a second: a session is open then, which began in it
-abbrev pub OpensOn : Application → Registration → (second odometer : ℕ) → (owed : List Entry) → (old new : State) → Type 0
+abbrev pub OpensOn : Application → Registration → (second odometer : ℕ) → (owed : List Entry) → (old new : State)
+    → Type 0
 OpensOn app vehicle second odometer owed old new = (b : Book) (held : CurrentUse) → ShowsBook app b held old
-    → ShowsBook app (made_by app.activity (opens (is_open_in held) vehicle odometer (lacked (mark_of b) owed)) b) (begun_use vehicle second) new
+    → ShowsBook app (made_by app.activity (opens (is_open_in held) vehicle odometer (lacked (mark_of b) owed)) b)
+    (begun_use vehicle second) new
 
 -- A WITHDRAWAL: the last words are closed with an activity; no session is open then
 abbrev pub ClosesOn : Application → Activity → (old new : State) → Type 0
-ClosesOn app act old new = (b : Book) (held : CurrentUse) → ShowsBook app b held old → ShowsBook app (made_by app.activity (Close act ∷ []) b) (ended_use held) new
+ClosesOn app act old new = (b : Book) (held : CurrentUse) → ShowsBook app b held old
+    → ShowsBook app (made_by app.activity (Close act ∷ []) b) (ended_use held) new

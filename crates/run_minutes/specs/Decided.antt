@@ -22,36 +22,47 @@ decided_minute k m = history_minute (present_at k.cabin m.minute) (minute_of m k
 -- what is carried behind some that are kept
 abbrev pub carried_by : Keeper → List Done → RunLedger → RunLedger
 carried_by k [] w = w
-carried_by k (x ∷ xs) w = carried_by k xs (carried_after (present_at k.cabin x.minute.minute) (decided_minute k x.minute) x.round w)
+carried_by k (x ∷ xs) w = carried_by k xs
+    (carried_after (present_at k.cabin x.minute.minute) (decided_minute k x.minute) x.round w)
 
--- Minutes may come, one after another: none is earlier than it may, they are among four that follow one another, and each says something
--- on a card only where that is valid, and present as it stands before them.
+-- Minutes may come, one after another: none is earlier than it may, they are among four that follow one another, and
+-- each says something on a card only where that is valid, and present as it stands before them.
 pub record MayAllCome (f : Found) (w : RunLedger) (is : List HistoryMinute) : Type 0 where
   pub late : All (λ i. w.due ≤ i.minute) is
   pub first : ℕ
   pub from : All (λ i. first ≤ i.minute) is
   pub few : All (λ i. i.minute < first + 4) is
-  pub fits : (c : Card) → All (λ i. (on_card c i ≡ []) ⊎ (IsOwnValid (found_of f c).image × IsPresent (found_of f c).start (w.standing c) i.minute)) is
+  pub fits : (c : Card) → All (λ i. (on_card c i ≡ [])
+      ⊎ (IsOwnValid (found_of f c).image × IsPresent (found_of f c).start (w.standing c) i.minute)) is
 
 -- WHAT IS ASKED: unit and cards are as the book says, and the minutes may come.
-pub record MayBookAll (f : Found) (w : RunLedger) (decided : List Minute) (t : KeepingState) (d : Devices) : Type 0 where
+pub record MayBookAll (f : Found) (w : RunLedger) (decided : List Minute) (t : KeepingState) (d : Devices) : Type
+    0 where
   pub booked : AreBooked f w t.keeper.cabin.cards t.marks.items d
   pub comes : MayAllCome f w (map (decided_minute t.keeper) decided)
 
 -- how the unit failed in a decided minute: it was not begun, or was; or it is kept, and a card was torn out
 abbrev pub IsCutSo : Found → (start : ℕ) → Keeper → Minute → Option Round → RunLedger → Travel → Devices → Type 0
-IsCutSo f start k m round w g e = IsCutIn f start w (present_at k.cabin m.minute) (decided_minute k m) g m.travelled round e
+IsCutSo f start k m round w g e = IsCutIn f start w (present_at k.cabin m.minute) (decided_minute k m) g m.travelled
+    round e
 
--- WHAT IS LEFT: unit and cards are as the book says that has all these minutes, and so much was travelled; or the unit failed in one, and
--- all that is carried stands by the book with those before it, and with that one not begun, or begun, or kept.
-abbrev pub EndsAll : Found → (start : ℕ) → RunLedger → Keeper → (failed : Bool) → Reach → Travel → (u : KeepingState) → Devices → Type 0
-EndsAll f start w k false (Whole xs) g u e = AreBooked f (carried_by k xs w) u.keeper.cabin.cards u.marks.items e × HasTravelled start (carried_by k xs w).book (all_travelled (map (λ (x : Done). x.minute) xs) g) e.unit
+-- WHAT IS LEFT: unit and cards are as the book says that has all these minutes, and so much was travelled; or the unit
+-- failed in one, and all that is carried stands by the book with those before it, and with that one not begun, or
+-- begun, or kept.
+abbrev pub EndsAll : Found → (start : ℕ) → RunLedger → Keeper → (failed : Bool) → Reach → Travel → (u : KeepingState)
+    → Devices → Type 0
+EndsAll f start w k false (Whole xs) g u e = AreBooked f (carried_by k xs w) u.keeper.cabin.cards u.marks.items e
+    × HasTravelled start (carried_by k xs w).book (all_travelled (map (λ (x : Done). x.minute) xs) g) e.unit
 EndsAll f start w k false (Short xs m round) g u e = ⊥
 EndsAll f start w k true (Whole xs) g u e = ⊥
-EndsAll f start w k true (Short xs m round) g u e = IsCutSo f start k m round (carried_by k xs w) (all_travelled (map (λ (x : Done). x.minute) xs) g) e
+EndsAll f start w k true (Short xs m round) g u e = IsCutSo f start k m round (carried_by k xs w)
+    (all_travelled (map (λ (x : Done). x.minute) xs) g) e
 
--- DECIDED MINUTES WERE TO BE KEPT, counted from the odometer that was found when power came last, and it came so far: so they are booked, and the
--- cards keep them.
+-- DECIDED MINUTES WERE TO BE KEPT, counted from the odometer that was found when power came last, and it came so far:
+-- so they are booked, and the cards keep them.
 abbrev pub BooksAll : List Minute → (failed : Bool) → Reach → (t u : KeepingState) → (d e : Devices) → Type 0
-BooksAll decided failed reach t u d e = (f : Found) (w : RunLedger) (start : ℕ) (g : Travel) → MayBookAll f w decided t d → HasTravelled start w.book g d.unit → t.keeper.odometer ≡ odometer_after start g.before → HaveTime e
-    → EndsAll f start w t.keeper failed reach g u e × AreTimedOn f d e × (failed ≡ false → AllKeep f (kepts_on t.keeper decided) t.keeper.cabin.cards u.keeper.cabin.cards d e)
+BooksAll decided failed reach t u d e = (f : Found) (w : RunLedger) (start : ℕ) (g : Travel)
+    → MayBookAll f w decided t d → HasTravelled start w.book g d.unit
+    → t.keeper.odometer ≡ odometer_after start g.before → HaveTime e
+    → EndsAll f start w t.keeper failed reach g u e × AreTimedOn f d e
+    × (failed ≡ false → AllKeep f (kepts_on t.keeper decided) t.keeper.cabin.cards u.keeper.cabin.cards d e)

@@ -18,8 +18,8 @@ use Rattle.run_minutes.specs.CardDeeds.{DoesOn, keeps, last_odometer}
 use Rattle.run_minutes.specs.Keeping.{kept_in, is_this}
 use Rattle.run_minutes.specs.Minutes.{present_at, minute_of}
 
--- A CARD KEEPS THESE, by the session that it has: that goes on with them, and they are done on the card. Without one it shows what it showed;
--- and nothing is said of one that was torn out.
+-- A CARD KEEPS THESE, by the session that it has: that goes on with them, and they are done on the card. Without one it
+-- shows what it showed; and nothing is said of one that was torn out.
 abbrev pub KeepsOn : CardFound → List Kept → (before after : Option Accepted) → (old new : State) → Type 0
 KeepsOn f ks None None old new = DoesOn (own_sizes f.image) [] old new
 KeepsOn f ks None (Some b) old new = ⊥
@@ -30,7 +30,8 @@ KeepsOn f ks (Some a) (Some b) old new =
 
 -- so does each card that was valid
 abbrev pub AllKeep : Found → (Card → List Kept) → (cards after : Cards) → (d e : Devices) → Type 0
-AllKeep f ks cards after d e = (c : Card) → IsOwnValid (found_of f c).image → KeepsOn (found_of f c) (ks c) (session_of cards c) (session_of after c) (card_of d c) (card_of e c)
+AllKeep f ks cards after d e = (c : Card) → IsOwnValid (found_of f c).image
+    → KeepsOn (found_of f c) (ks c) (session_of cards c) (session_of after c) (card_of d c) (card_of e c)
 
 -- ---- which minutes
 
@@ -40,7 +41,8 @@ kept_for present k c = if is_this present c then k ∷ [] else []
 
 -- what a minute says on a card
 abbrev pub kept_on : Present → KeptMinute → Card → List Kept
-kept_on present m c = if is_this present.driver c then kept_in m Driver ∷ [] else kept_for present.codriver (kept_in m CoDriver) c
+kept_on present m c = if is_this present.driver c then kept_in m Driver ∷ []
+    else kept_for present.codriver (kept_in m CoDriver) c
 
 -- what some decided minutes say on it
 abbrev pub kepts_on : Keeper → List Minute → Card → List Kept

@@ -15,7 +15,8 @@ use Rattle.card_slots.specs.declared.seats.Present.{Present}
 use Rattle.run_minutes.specs.declared.keeper.Keeper.{Keeper}
 use Rattle.run_minutes.specs.declared.keeper.Moment.{Moment}
 use Rattle.run_minutes.specs.Keeping.{Fate, Still, Has, Fell, cabin_by}
-use Rattle.run_minutes.specs.Minutes.{Round, KeepingState, Done, Reach, Whole, Short, cabin_after, told_after, told_by, present_at}
+use Rattle.run_minutes.specs.Minutes.{Round, KeepingState, Done, Reach, Whole, Short, cabin_after, told_after, told_by}
+use Rattle.run_minutes.specs.Minutes.{present_at}
 
 -- the entry of a card's fault in a second, with the cards that sit there then
 abbrev pub fault_entry : (second : ℕ) → Crew → UnitEvent
@@ -29,7 +30,9 @@ faults_by Fell second cabin = fault_entry second (crew_of cabin) ∷ []
 
 -- in a round: of the driver's card, of the co-driver's
 abbrev pub round_faults : Present → Moment → Round → Cabin → List UnitEvent
-round_faults present at round cabin = faults_by round.driver at.second (cabin_by round.driver present.driver at.second cabin) ++ faults_by round.codriver at.second (cabin_after present at.second round cabin)
+round_faults present at round cabin = faults_by round.driver at.second
+    (cabin_by round.driver present.driver at.second cabin)
+    ++ faults_by round.codriver at.second (cabin_after present at.second round cabin)
 
 abbrev pub last_faults : Present → Moment → Option Round → Cabin → List UnitEvent
 last_faults present at None cabin = []
@@ -38,23 +41,28 @@ last_faults present at (Some round) cabin = round_faults present at round cabin
 -- in some rounds, where this was the keeper before all
 abbrev pub faults_of : Keeper → Moment → List Done → KeepingState → List UnitEvent
 faults_of k at [] t = []
-faults_of k at (x ∷ xs) t = round_faults (present_at k.cabin x.minute.minute) at x.round t.keeper.cabin ++ faults_of k at xs (told_after (present_at k.cabin x.minute.minute) x.minute.minute at x.round t)
+faults_of k at (x ∷ xs) t = round_faults (present_at k.cabin x.minute.minute) at x.round t.keeper.cabin
+    ++ faults_of k at xs (told_after (present_at k.cabin x.minute.minute) x.minute.minute at x.round t)
 
 -- as far as a keeping came
 abbrev pub faults_to : Keeper → Moment → Reach → KeepingState → List UnitEvent
 faults_to k at (Whole xs) t = faults_of k at xs t
-faults_to k at (Short xs m round) t = faults_of k at xs t ++ last_faults (present_at k.cabin m.minute) at round (told_by k at xs t).keeper.cabin
+faults_to k at (Short xs m round) t = faults_of k at xs t
+    ++ last_faults (present_at k.cabin m.minute) at round (told_by k at xs t).keeper.cabin
 
 -- an image is as long as another, says the same of events, and has the same rings
 abbrev pub SaysTheSame : (x c : List ℕ) → Type 0
 SaysTheSame x c = SaysNothing x c × (length c ≡ length x) × HasSameRings x c
 
--- AN IMAGE TELLS OF THESE FAULTS more than another, which were noted one after another, and else says the same of events and has the same rings.
+-- AN IMAGE TELLS OF THESE FAULTS more than another, which were noted one after another, and else says the same of
+-- events and has the same rings.
 abbrev pub TellsFaults : List UnitEvent → (x c : List ℕ) → Type 0
 TellsFaults [] x c = SaysTheSame x c
-TellsFaults (v ∷ vs) x c = (y : List ℕ) × (z : List ℕ) × SaysTheSame x y × IsEventNoted CARD_FAULT (fault_bytes v) y z × TellsFaults vs z c
+TellsFaults (v ∷ vs) x c = (y : List ℕ) × (z : List ℕ) × SaysTheSame x y × IsEventNoted CARD_FAULT (fault_bytes v) y z
+    × TellsFaults vs z c
 
--- or the unit failed, and a fault may be noted or not: without one the image says the same of events; the rings are the same
+-- or the unit failed, and a fault may be noted or not: without one the image says the same of events; the rings are the
+-- same
 abbrev pub TellsTo : (failed : Bool) → List UnitEvent → (x c : List ℕ) → Type 0
 TellsTo false vs x c = TellsFaults vs x c
 TellsTo true vs x c = (vs ≡ [] → SaysNothing x c) × SaysNothingBut CARD_FAULT x c × HasSameRings x c

@@ -1,5 +1,6 @@
 -- What the keeping of a minute is given, and what becomes of its entries on the cards, by value (profile).
-use Rattle.std.specs.Prelude.{◌≡◌, ◌⊎◌, ℕ, ◌+◌, ◌<◌, ◌≤◌, Bool, true, false, Option, Some, None, Ok, IfSome, List, [], ◌∷◌, ◌++◌, is_some}
+use Rattle.std.specs.Prelude.{◌≡◌, ◌⊎◌, ℕ, ◌+◌, ◌<◌, ◌≤◌, Bool, true, false, Option, Some, None, Ok, IfSome, List, []}
+use Rattle.std.specs.Prelude.{◌∷◌, ◌++◌, is_some}
 use Rattle.activity_codec.specs.declared.entries.Entry.{Entry}
 use Rattle.activity_codec.specs.declared.values.Activity.{Activity}
 use Rattle.activity_codec.specs.declared.values.Slot.{Slot}
@@ -86,7 +87,8 @@ most_tears cards = tears_of cards.a.accepted + tears_of cards.b.accepted
 
 -- each slot has what it had, or nothing
 abbrev pub AreEmptied : (old new : Seats) → Type 0
-AreEmptied old new = ((new.driver ≡ old.driver) ⊎ (new.driver ≡ None)) × ((new.codriver ≡ old.codriver) ⊎ (new.codriver ≡ None))
+AreEmptied old new = ((new.driver ≡ old.driver) ⊎ (new.driver ≡ None))
+    × ((new.codriver ≡ old.codriver) ⊎ (new.codriver ≡ None))
 
 -- a session goes on by the entry of its insertion, or is gone
 abbrev pub GoesOnFrom : (old new : Option Accepted) → Type 0
@@ -132,8 +134,8 @@ tear_of slot at = Tear at.second slot true at.begun at.late
 
 -- ---- what becomes of an entry
 
--- No call was made for it, since no card was present or that has no session any more; or the card has it, its session goes on so, and the
--- clock was this; or the call failed, and the card is torn out.
+-- No call was made for it, since no card was present or that has no session any more; or the card has it, its session
+-- goes on so, and the clock was this; or the call failed, and the card is torn out.
 pub data Fate : Type 0 where
   Still : Fate
   Has : (accepted : Accepted) (clock : ℕ) → Fate
@@ -155,7 +157,8 @@ cabin_by Fell (Some card) second cabin = torn_out card second cabin
 abbrev pub marks_by : Fate → Option Card → (minute : ℕ) → List Mark
 marks_by fate None minute = []
 marks_by Still (Some card) minute = []
-marks_by (Has accepted clock) (Some card) minute = record { device = device_of card; minute = minute; clock = clock } ∷ []
+marks_by (Has accepted clock) (Some card) minute = record { device = device_of card; minute = minute; clock = clock }
+    ∷ []
 marks_by Fell (Some card) minute = []
 
 -- the breaks of it
@@ -224,9 +227,10 @@ IsFaultNoted Fell second crew x y = IsEventNoted CARD_FAULT (fault_of second cre
 
 -- ---- the calls
 
--- A MINUTE'S ENTRY WAS BROUGHT to the card that was present in a slot: what became of it, the sessions, the marks and the breaks
--- behind it, and the fault on the unit. Where that failed the card was torn out.
-pub record IsBrought (present : Option Card) (kept : Kept) (at : Moment) (failed : Bool) (k v : Keeper) (marks marks_after : Listed Mark)
+-- A MINUTE'S ENTRY WAS BROUGHT to the card that was present in a slot: what became of it, the sessions, the marks and
+-- the breaks behind it, and the fault on the unit. Where that failed the card was torn out.
+pub record IsBrought (present : Option Card) (kept : Kept) (at : Moment) (failed : Bool) (k v : Keeper)
+    (marks marks_after : Listed Mark)
     (breaks breaks_after : Listed Break) (fate : Fate) (unit unit_after card card_after : State) : Type 0 where
   pub is : IsFateOf (session_at k.cabin.cards present) kept fate
   pub on_card : IsOnCard fate card card_after
@@ -234,4 +238,5 @@ pub record IsBrought (present : Option Card) (kept : Kept) (at : Moment) (failed
   pub marked : marks_after ≡ with_lines (marks_by fate present kept.entry.minute) marks
   pub told : breaks_after ≡ with_lines (breaks_by fate kept.entry.slot at) breaks
   pub only : failed ≡ true → has_fallen fate ≡ true
-  pub noted : failed ≡ false → IfSome unit.image (λ x. IfSome unit_after.image (IsFaultNoted fate at.second (crew_of v.cabin) x))
+  pub noted : failed ≡ false → IfSome unit.image
+      (λ x. IfSome unit_after.image (IsFaultNoted fate at.second (crew_of v.cabin) x))

@@ -1,5 +1,6 @@
 -- What the keeping of minutes asks of a recorder, and what it does (profile).
-use Rattle.std.specs.Prelude.{◌≡◌, ◌≢◌, ℕ, ◌+◌, ◌*◌, ◌/◌, ◌<◌, ◌≤◌, Bool, true, false, Option, IfSome, List, All, length, is_some}
+use Rattle.std.specs.Prelude.{◌≡◌, ◌≢◌, ℕ, ◌+◌, ◌*◌, ◌/◌, ◌<◌, ◌≤◌, Bool, true, false, Option, IfSome, List, All}
+use Rattle.std.specs.Prelude.{length, is_some}
 use Rattle.trace_model.specs.declared.Card.{Card}
 use Rattle.card_session.specs.declared.words.TheConstants.{LATEST_MINUTE}
 use Rattle.minute_model.specs.declared.Minute.{Minute}
@@ -40,18 +41,22 @@ pub record MayKeep (minute : KeptMinute) (present : Present) (at : Moment) (s : 
 -- IT WAS TO BE KEPT, and this came of it
 pub record Keeps (minute : KeptMinute) (present : Present) (at : Moment) (failed : Bool) (s t : Stand) : Type 0 where
   pub round : Option Round
-  pub is : IsMinute present minute at failed (told s) (told t) s.devices.card_a t.devices.card_a s.devices.card_b t.devices.card_b round
-  pub books : TellsPresent minute present → BooksMinute present minute failed round (told s) (told t) s.devices t.devices
+  pub is : IsMinute present minute at failed (told s) (told t) s.devices.card_a t.devices.card_a s.devices.card_b
+      t.devices.card_b round
+  pub books : TellsPresent minute present
+      → BooksMinute present minute failed round (told s) (told t) s.devices t.devices
   pub noted : NotesFaults failed (last_faults present at round s.keeper.cabin) s.devices.unit t.devices.unit
   pub last : failed ≡ false → t.keeper.journal.kept ≡ minute.minute
   pub marks : length t.marks.items ≤ length s.marks.items + 3
-  pub stands : (from : ℕ) (leaving : Option Card) → from ≤ minute.minute + 1 → CabinIsSound from leaving s.keeper.cabin → CabinIsSound (minute.minute + 1) leaving t.keeper.cabin
+  pub stands : (from : ℕ) (leaving : Option Card) → from ≤ minute.minute + 1 → CabinIsSound from leaving s.keeper.cabin
+      → CabinIsSound (minute.minute + 1) leaving t.keeper.cabin
 
 -- DECIDED MINUTES MAY BE KEPT, one after another
 pub record MayKeepAll (decided : List Minute) (at : Moment) (s : Stand) : Type 0 where
   pub due : AreDue s.keeper.journal.kept decided
   pub ended : All (λ m. is_some (present_in s.keeper.cabin.slots.past m.minute) ≡ true) decided
-  pub rows : All (λ m. IfSome (present_in s.keeper.cabin.slots.past m.minute) (HaveRows (cards_of s) s.devices.unit)) decided
+  pub rows : All (λ m. IfSome (present_in s.keeper.cabin.slots.past m.minute) (HaveRows (cards_of s) s.devices.unit))
+      decided
   pub from : ℕ
   pub leaving : Option Card
   pub late : All (λ m. from ≤ m.minute) decided
@@ -71,5 +76,7 @@ pub record KeepsAll (decided : List Minute) (at : Moment) (failed : Bool) (s t :
   pub noted : NotesFaults failed (faults_to s.keeper at reach (told s)) s.devices.unit t.devices.unit
   pub last : failed ≡ false → t.keeper.journal.kept ≡ kept_after s.keeper.journal.kept decided
   pub marks : length t.marks.items ≤ length s.marks.items + 3 * length decided
-  pub stands : (from : ℕ) (leaving : Option Card) → All (λ m. from ≤ m.minute) decided → CabinIsSound from leaving s.keeper.cabin
-      → (next : ℕ) → from ≤ next → kept_after s.keeper.journal.kept decided < next → CabinIsSound next leaving t.keeper.cabin
+  pub stands : (from : ℕ) (leaving : Option Card) → All (λ m. from ≤ m.minute) decided
+      → CabinIsSound from leaving s.keeper.cabin
+      → (next : ℕ) → from ≤ next → kept_after s.keeper.journal.kept decided < next
+      → CabinIsSound next leaving t.keeper.cabin

@@ -33,7 +33,8 @@ pub record AreLater (old new : Devices) : Type 0 where
 abbrev pub failed_tears : List Break → ℕ
 failed_tears breaks = length (filter (λ b. not (is_cut b) && has_failed b) breaks)
 
--- A CARD AFTER CALLS that told these breaks more: no such tear was told less, and where none was told more the card has not broken down.
+-- A CARD AFTER CALLS that told these breaks more: no such tear was told less, and where none was told more the card has
+-- not broken down.
 pub record IsCalm (before after : List Break) (old new : State) : Type 0 where
   pub few : failed_tears before ≤ failed_tears after
   pub calm : failed_tears after ≡ failed_tears before → new.breakdowns ≡ old.breakdowns

@@ -1,5 +1,6 @@
 -- How a minute is kept by the unit and the cards that were present, and some minutes, by value (profile).
-use Rattle.std.specs.Prelude.{◌≡◌, ◌⊎◌, ℕ, ◌<◌, ◌≤◌, Bool, true, false, Option, Some, None, List, [], ◌∷◌, ◌++◌, map, is_some}
+use Rattle.std.specs.Prelude.{◌≡◌, ◌⊎◌, ℕ, ◌<◌, ◌≤◌, Bool, true, false, Option, Some, None, List, [], ◌∷◌, ◌++◌, map}
+use Rattle.std.specs.Prelude.{is_some}
 use Rattle.activity_codec.specs.declared.values.Slot.TheVariants.{Driver, CoDriver}
 use Rattle.tach_media.specs.Medium.{State}
 use Rattle.minute_model.specs.declared.Minute.{Minute}
@@ -16,12 +17,13 @@ use Rattle.run_crew.specs.declared.cabin.Cabin.{Cabin}
 use Rattle.run_outcome.specs.Lines.{Listed}
 use Rattle.run_minutes.specs.declared.keeper.Keeper.{Keeper}
 use Rattle.run_minutes.specs.declared.keeper.Moment.{Moment}
-use Rattle.run_minutes.specs.Keeping.{Fate, Still, has_fallen, cabin_by, marks_by, breaks_by, with_lines, session_at, state_at, IsFateOf, IsOnCard, kept_in}
+use Rattle.run_minutes.specs.Keeping.{Fate, Still, has_fallen, cabin_by, marks_by, breaks_by, with_lines, session_at}
+use Rattle.run_minutes.specs.Keeping.{state_at, IsFateOf, IsOnCard, kept_in}
 
 -- ---- one minute
 
--- The unit has kept a minute: what the journal notes of it, the clock of its mark, and what became of the entries on the cards of the
--- driver slot and of the co-driver slot.
+-- The unit has kept a minute: what the journal notes of it, the clock of its mark, and what became of the entries on
+-- the cards of the driver slot and of the co-driver slot.
 pub record Round : Type 0 where
   pub journal : Notes
   pub clock : ℕ
@@ -34,11 +36,13 @@ unit_mark minute clock = record { device = Recorder; minute = minute; clock = cl
 
 -- the slots and the sessions behind it
 abbrev pub cabin_after : Present → (second : ℕ) → Round → Cabin → Cabin
-cabin_after present second round cabin = cabin_by round.codriver present.codriver second (cabin_by round.driver present.driver second cabin)
+cabin_after present second round cabin = cabin_by round.codriver present.codriver second
+    (cabin_by round.driver present.driver second cabin)
 
 -- what the keeper has behind it
 abbrev pub keeper_after : Present → (second : ℕ) → Round → Keeper → Keeper
-keeper_after present second round k = record k { journal = round.journal; cabin = cabin_after present second round k.cabin }
+keeper_after present second round k = record
+    k { journal = round.journal; cabin = cabin_after present second round k.cabin }
 
 -- its marks: of the unit, of the card of the driver slot, of that of the co-driver slot
 abbrev pub marks_after : Present → (minute : ℕ) → Round → Listed Mark → Listed Mark
@@ -47,7 +51,8 @@ marks_after present minute round marks = with_lines (marks_by round.codriver pre
 
 -- its breaks
 abbrev pub breaks_after : Moment → Round → Listed Break → Listed Break
-breaks_after at round breaks = with_lines (breaks_by round.codriver CoDriver at) (with_lines (breaks_by round.driver Driver at) breaks)
+breaks_after at round breaks = with_lines (breaks_by round.codriver CoDriver at)
+    (with_lines (breaks_by round.driver Driver at) breaks)
 
 -- The unit failed as it noted the fault of the driver's card, which was torn out: the co-driver's was not asked.
 pub record IsBrokenOff (failed : Bool) (round : Round) : Type 0 where
@@ -55,14 +60,16 @@ pub record IsBrokenOff (failed : Bool) (round : Round) : Type 0 where
   pub driver_fell : has_fallen round.driver ≡ true
   pub not_asked : round.codriver ≡ Still
 
--- A MINUTE IS KEPT by the unit, and on the cards that were present in it: what the journal notes, and what became of each entry. Where the
--- unit failed since, it was the note of a fault.
-pub record IsRound (present : Present) (minute : KeptMinute) (at : Moment) (failed : Bool) (k : Keeper) (round : Round) : Type 0 where
+-- A MINUTE IS KEPT by the unit, and on the cards that were present in it: what the journal notes, and what became of
+-- each entry. Where the unit failed since, it was the note of a fault.
+pub record IsRound (present : Present) (minute : KeptMinute) (at : Moment) (failed : Bool) (k : Keeper)
+    (round : Round) : Type 0 where
   pub kept : round.journal.kept ≡ minute.minute
   pub odometer : round.journal.odometer ≡ minute.odometer.0
   pub driver : IsFateOf (session_at k.cabin.cards present.driver) (kept_in minute Driver) round.driver
   pub codriver : IsBrokenOff failed round
-      ⊎ IsFateOf (session_at (cabin_by round.driver present.driver at.second k.cabin).cards present.codriver) (kept_in minute CoDriver) round.codriver
+      ⊎ IsFateOf (session_at (cabin_by round.driver present.driver at.second k.cabin).cards present.codriver)
+      (kept_in minute CoDriver) round.codriver
   pub only : failed ≡ true → (has_fallen round.driver ≡ true) ⊎ (has_fallen round.codriver ≡ true)
 
 -- so it went with the cards
@@ -85,10 +92,12 @@ told_after present minute at round t = record {
 }
 
 -- A minute was to be kept: nothing has changed but the unit, which failed; or the minute is kept.
-abbrev pub IsMinute : Present → KeptMinute → Moment → (failed : Bool) → (t u : KeepingState) → (a a_new b b_new : State) → Option Round → Type 0
+abbrev pub IsMinute : Present → KeptMinute → Moment → (failed : Bool) → (t u : KeepingState) → (a a_new b b_new : State)
+    → Option Round → Type 0
 IsMinute present minute at failed t u a a_new b b_new None = (failed ≡ true) × (u ≡ t)
 IsMinute present minute at failed t u a a_new b b_new (Some round) =
-    IsRound present minute at failed t.keeper round × AreOnCards present round a a_new b b_new × (u ≡ told_after present minute.minute at round t)
+    IsRound present minute at failed t.keeper round × AreOnCards present round a a_new b b_new
+    × (u ≡ told_after present minute.minute at round t)
 
 -- ---- some minutes
 
@@ -126,10 +135,12 @@ minute_of m k = kept_of k.odometer m (present_at k.cabin m.minute)
 -- THESE MINUTES ARE KEPT, one after another
 pub data AreKept (at : Moment) : List Minute → KeepingState → KeepingState → Type 0 where
   none : (t : KeepingState) → AreKept at [] t t
-  more : (m : Minute) (ms : List Minute) (round : Round) (t u : KeepingState) → AreKept at ms t u → IsRound (present_at u.keeper.cabin m.minute) (minute_of m u.keeper) at false u.keeper round
+  more : (m : Minute) (ms : List Minute) (round : Round) (t u : KeepingState) → AreKept at ms t u
+      → IsRound (present_at u.keeper.cabin m.minute) (minute_of m u.keeper) at false u.keeper round
       → AreKept at (ms ++ m ∷ []) t (told_after (present_at u.keeper.cabin m.minute) m.minute at round u)
 
--- Minutes were to be kept, the first that failed the last of them: those before it are kept; of it nothing has changed, or it is kept.
+-- Minutes were to be kept, the first that failed the last of them: those before it are kept; of it nothing has changed,
+-- or it is kept.
 pub record IsCutShort (decided : List Minute) (at : Moment) (t u : KeepingState) : Type 0 where
   pub front : List Minute
   pub here : Minute
@@ -137,7 +148,9 @@ pub record IsCutShort (decided : List Minute) (at : Moment) (t u : KeepingState)
   pub are : decided ≡ front ++ here ∷ rest
   pub between : KeepingState
   pub kept : AreKept at front t between
-  pub last : (u ≡ between) ⊎ ((round : Round) × IsRound (present_at between.keeper.cabin here.minute) (minute_of here between.keeper) at true between.keeper round
+  pub last : (u ≡ between) ⊎ ((round : Round)
+      × IsRound (present_at between.keeper.cabin here.minute) (minute_of here between.keeper) at true between.keeper
+      round
       × (u ≡ told_after (present_at between.keeper.cabin here.minute) here.minute at round between))
 
 -- all of them are kept, or it was cut short
@@ -158,10 +171,12 @@ told_by k at (x ∷ xs) t = told_by k at xs (told_after (present_at k.cabin x.mi
 -- each has the round of a minute that the unit kept without failing
 abbrev pub AreRounds : Keeper → Moment → List Done → KeepingState → Type 0
 AreRounds k at [] t = Unit {0}
-AreRounds k at (x ∷ xs) t = IsRound (present_at k.cabin x.minute.minute) (minute_of x.minute k) at false t.keeper x.round
+AreRounds k at (x ∷ xs) t = IsRound (present_at k.cabin x.minute.minute) (minute_of x.minute k) at false t.keeper
+    x.round
     × AreRounds k at xs (told_after (present_at k.cabin x.minute.minute) x.minute.minute at x.round t)
 
--- HOW FAR IT CAME: these are kept; and, where the unit failed, in which minute behind them, and the round of that, if it is kept
+-- HOW FAR IT CAME: these are kept; and, where the unit failed, in which minute behind them, and the round of that, if
+-- it is kept
 pub data Reach : Type 0 where
   Whole : List Done → Reach
   Short : List Done → Minute → Option Round → Reach
@@ -169,11 +184,15 @@ pub data Reach : Type 0 where
 -- the last one, in which the unit failed: nothing has changed, or it is kept
 abbrev pub IsLast : Keeper → Minute → Moment → (t u : KeepingState) → Option Round → Type 0
 IsLast k m at t u None = u ≡ t
-IsLast k m at t u (Some round) = IsRound (present_at k.cabin m.minute) (minute_of m k) at true t.keeper round × (u ≡ told_after (present_at k.cabin m.minute) m.minute at round t)
+IsLast k m at t u (Some round) = IsRound (present_at k.cabin m.minute) (minute_of m k) at true t.keeper round
+    × (u ≡ told_after (present_at k.cabin m.minute) m.minute at round t)
 
--- DECIDED MINUTES WERE TO BE KEPT, and it came so far: all are kept; or those before the first one in which the unit failed.
+-- DECIDED MINUTES WERE TO BE KEPT, and it came so far: all are kept; or those before the first one in which the unit
+-- failed.
 abbrev pub IsReach : List Minute → Moment → (failed : Bool) → (t u : KeepingState) → Reach → Type 0
-IsReach decided at false t u (Whole xs) = (decided ≡ map (λ x. x.minute) xs) × AreRounds t.keeper at xs t × (u ≡ told_by t.keeper at xs t)
+IsReach decided at false t u (Whole xs) = (decided ≡ map (λ x. x.minute) xs) × AreRounds t.keeper at xs t
+    × (u ≡ told_by t.keeper at xs t)
 IsReach decided at false t u (Short xs m round) = ⊥
 IsReach decided at true t u (Whole xs) = ⊥
-IsReach decided at true t u (Short xs m round) = ((rest : List Minute) × (decided ≡ map (λ x. x.minute) xs ++ m ∷ rest)) × AreRounds t.keeper at xs t × IsLast t.keeper m at (told_by t.keeper at xs t) u round
+IsReach decided at true t u (Short xs m round) = ((rest : List Minute) × (decided ≡ map (λ x. x.minute) xs ++ m ∷ rest))
+    × AreRounds t.keeper at xs t × IsLast t.keeper m at (told_by t.keeper at xs t) u round

@@ -1,5 +1,6 @@
 -- How unit and cards stand while the entries of a minute are brought to the cards, and what was travelled (profile).
-use Rattle.std.specs.Prelude.{◌≡◌, ℕ, suc, ◌<◌, ◌≤◌, ◌++◌, ◌∷◌, Bool, true, false, Option, Some, None, List, [], Contains, is_some, if◌then◌else◌}
+use Rattle.std.specs.Prelude.{◌≡◌, ℕ, suc, ◌<◌, ◌≤◌, ◌++◌, ◌∷◌, Bool, true, false, Option, Some, None, List, []}
+use Rattle.std.specs.Prelude.{Contains, is_some, if◌then◌else◌}
 use Rattle.activity_codec.specs.declared.entries.Entry.{Entry}
 use Rattle.trace_model.specs.declared.Card.{Card}
 use Rattle.tach_media.specs.Medium.{State, last_count}
@@ -24,7 +25,8 @@ use Rattle.run_promise.specs.Found.{Found, found_of, unit_seen, AnyKept}
 use Rattle.run_promise.specs.Cards.{CardMarksHold}
 use Rattle.run_promise.specs.Between.{RunLedger}
 use Rattle.run_devices.specs.Strung.{CardHoldsString}
-use Rattle.run_devices.specs.Told.{GoesOwing, AreFoundCards, AllGo, owes_nothing, IsLitWith, IsLitOwing, DevicesUnpowered}
+use Rattle.run_devices.specs.Told.{GoesOwing, AreFoundCards, AllGo, owes_nothing, IsLitWith, IsLitOwing}
+use Rattle.run_devices.specs.Told.{DevicesUnpowered}
 use Rattle.run_minutes.specs.Keeping.{Fate, is_this, marks_by}
 use Rattle.run_minutes.specs.Minutes.{KeepingState, unit_mark}
 use Rattle.run_minutes.specs.Deeds.{KeepsOn, AllKeep, kept_for}
@@ -34,17 +36,20 @@ use Rattle.run_minutes.specs.Books.{MayBook, IsLeftOff, StaysOn, AreTimedOn, his
 abbrev pub and_put : Option Card → Entry → (Card → List Entry) → Card → List Entry
 and_put present entry puts c = if is_this present c then entry ∷ [] else puts c
 
--- AN ENTRY WAS TO BE PUT for the minute that comes (`owe_to`), for a card that is valid and present: it is, or the unit failed.
+-- AN ENTRY WAS TO BE PUT for the minute that comes (`owe_to`), for a card that is valid and present: it is, or the unit
+-- failed.
 abbrev pub MayPut : Found → Option Card → Entry → RunLedger → (puts : Card → List Entry) → Type 0
 MayPut f None entry w puts = Unit {0}
-MayPut f (Some c) entry w puts = IsOwnValid (found_of f c).image × (puts c ≡ []) × (w.due ≤ entry.minute) × (1440 ≤ entry.minute) × IsPresent (found_of f c).start (w.standing c) entry.minute
+MayPut f (Some c) entry w puts = IsOwnValid (found_of f c).image × (puts c ≡ []) × (w.due ≤ entry.minute)
+    × (1440 ≤ entry.minute) × IsPresent (found_of f c).start (w.standing c) entry.minute
 
 abbrev pub IsPutOrCut : (failed : Bool) → Found → RunLedger → (puts : Card → List Entry) → Devices → Type 0
 IsPutOrCut false f w puts d = IsLitWith f w puts owes_nothing d
 IsPutOrCut true f w puts d = DevicesUnpowered f w d
 
 abbrev pub BooksPut : Option Card → Entry → (failed : Bool) → Cards → (d e : Devices) → Type 0
-BooksPut present entry failed cards d e = (f : Found) (w : RunLedger) (puts : Card → List Entry) → AreFoundCards f cards → MayPut f present entry w puts → IsLitWith f w puts owes_nothing d → AllGo f w owes_nothing cards d
+BooksPut present entry failed cards d e = (f : Found) (w : RunLedger) (puts : Card → List Entry) → AreFoundCards f cards
+    → MayPut f present entry w puts → IsLitWith f w puts owes_nothing d → AllGo f w owes_nothing cards d
     → IsPutOrCut failed f w (and_put present entry puts) e
 
 -- what was travelled is the same
@@ -61,7 +66,12 @@ but_to present owes c = if is_this present c then [] else owes c
 
 -- what is carried once the unit has a minute
 abbrev pub carried_kept : HistoryMinute → (clock : ℕ) → RunLedger → RunLedger
-carried_kept i clock w = record w { due = suc i.minute; book = kept i w.book; marks = w.marks ++ unit_mark i.minute clock ∷ [] }
+carried_kept i clock w = record w {
+  due = suc i.minute;
+  book = kept i w.book;
+  marks = w.marks ++ unit_mark i.minute
+      clock ∷ [];
+}
 
 -- and behind what became of the entry of the card that was present
 abbrev pub carried_brought : Fate → Option Card → (minute : ℕ) → RunLedger → RunLedger
@@ -70,14 +80,20 @@ carried_brought fate present minute w = record w {
   standing = λ c. if is_this present c then standing_by fate minute (w.standing c) else w.standing c;
 }
 
--- behind the unit's part: it has the minute, and owes its entries to the cards; or it failed, and the minute was not begun, or was
-abbrev pub IsOwedOrCut : (failed : Bool) → Found → (start : ℕ) → RunLedger → HistoryMinute → Travel → (leg : ℕ) → Cards → Devices → Type 0
-IsOwedOrCut false f start w i g leg cards d = IsLitOwing f (carried_kept i d.unit.clock w) (owes_minute i) d × AllGo f (carried_kept i d.unit.clock w) (owes_minute i) cards d × HasTravelled start (kept i w.book) (travelled i.minute leg g) d.unit
+-- behind the unit's part: it has the minute, and owes its entries to the cards; or it failed, and the minute was not
+-- begun, or was
+abbrev pub IsOwedOrCut : (failed : Bool) → Found → (start : ℕ) → RunLedger → HistoryMinute → Travel → (leg : ℕ) → Cards
+    → Devices → Type 0
+IsOwedOrCut false f start w i g leg cards d = IsLitOwing f (carried_kept i d.unit.clock w) (owes_minute i) d
+    × AllGo f (carried_kept i d.unit.clock w) (owes_minute i) cards d
+    × HasTravelled start (kept i w.book) (travelled i.minute leg g) d.unit
 IsOwedOrCut true f start w i g leg cards d = IsLeftOff f start w i g leg d
 
 -- THE UNIT WAS TO KEEP A MINUTE (`commit`)
 abbrev pub BooksOwed : Present → KeptMinute → (failed : Bool) → (t u : KeepingState) → (d e : Devices) → Type 0
-BooksOwed present m failed t u d e = (f : Found) (w : RunLedger) (start : ℕ) (g : Travel) (leg : ℕ) → MayBook f w present m t d → HasTravelled start w.book g d.unit → m.odometer.0 ≡ odometer_by (odometer_after start g.before) leg → e.unit.clock < last_count
+BooksOwed present m failed t u d e = (f : Found) (w : RunLedger) (start : ℕ) (g : Travel) (leg : ℕ)
+    → MayBook f w present m t d → HasTravelled start w.book g d.unit
+    → m.odometer.0 ≡ odometer_by (odometer_after start g.before) leg → e.unit.clock < last_count
     → IsOwedOrCut failed f start w (history_minute present m) g leg u.keeper.cabin.cards e
 
 -- behind an entry: nothing is owed any more to the card that was present; or the unit failed
@@ -85,13 +101,16 @@ abbrev pub IsBroughtOrCut : (failed : Bool) → Found → RunLedger → (owes : 
 IsBroughtOrCut false f w owes cards d = IsLitOwing f w owes d × AllGo f w owes cards d
 IsBroughtOrCut true f w owes cards d = DevicesUnpowered f w d
 
--- The entry of the card that was present is what is owed to it; that is valid, and the minute is later than the words at its start.
+-- The entry of the card that was present is what is owed to it; that is valid, and the minute is later than the words
+-- at its start.
 abbrev pub MayBring : Found → Option Card → Kept → RunLedger → (owes : Card → List Entry) → Type 0
 MayBring f None said w owes = Unit {0}
-MayBring f (Some c) said w owes = IsOwnValid (found_of f c).image × (owes c ≡ said.entry ∷ []) × IsPresent (found_of f c).start (w.standing c) said.entry.minute
+MayBring f (Some c) said w owes = IsOwnValid (found_of f c).image × (owes c ≡ said.entry ∷ [])
+    × IsPresent (found_of f c).start (w.standing c) said.entry.minute
 
 -- of a card that was valid, to which these entries are still owed
-pub record CardOwing (f : Found) (c : Card) (b : Book) (z : Standing) (ks : List ℕ) (marks : List Mark) (owes : List Entry) (session : Option Accepted) (unit card : State) : Type 0 where
+pub record CardOwing (f : Found) (c : Card) (b : Book) (z : Standing) (ks : List ℕ) (marks : List Mark)
+    (owes : List Entry) (session : Option Accepted) (unit card : State) : Type 0 where
   pub rule : CardRule c (found_of f c).start AnyKept (found_of f c).began b z [] owes (unit_seen f unit) (of_card card)
   pub valid : (x : List ℕ) → card.left_since (found_of f c).began x → IsOwnValid x
   pub brought : (k : ℕ) → Contains ks k → HasBrought f.card_a.number f.card_b.number c k unit card
@@ -99,12 +118,17 @@ pub record CardOwing (f : Found) (c : Card) (b : Book) (z : Standing) (ks : List
   pub goes : GoesOwing (found_of f c) c b owes z session card
   pub hold : CardMarksHold (found_of f c) c b marks card
 
--- AN ENTRY WAS TO BE BROUGHT to this card, of which this became (`bring_to`): so it is with it, by the unit as it was before.
+-- AN ENTRY WAS TO BE BROUGHT to this card, of which this became (`bring_to`): so it is with it, by the unit as it was
+-- before.
 abbrev pub BooksCard : Card → Kept → Fate → (cards cards_after : Cards) → (unit card card_after : State) → Type 0
-BooksCard c said fate cards cards_after unit card card_after = (f : Found) (w : RunLedger) → AreFoundCards f cards → is_some unit.image ≡ true → UnitFollowsBook (once_mended f.unit) w.due w.book w.marks unit → w.book.maybe ≡ None → card_after.clock < last_count
+BooksCard c said fate cards cards_after unit card card_after = (f : Found) (w : RunLedger) → AreFoundCards f cards
+    → is_some unit.image ≡ true → UnitFollowsBook (once_mended f.unit) w.due w.book w.marks unit → w.book.maybe ≡ None
+    → card_after.clock < last_count
     → IsOwnValid (found_of f c).image → IsPresent (found_of f c).start (w.standing c) said.entry.minute
     → CardOwing f c w.book (w.standing c) (w.brought c) w.marks (said.entry ∷ []) (session_of cards c) unit card
-    → CardOwing f c w.book (standing_by fate said.entry.minute (w.standing c)) (w.brought c) (w.marks ++ marks_by fate (Some c) said.entry.minute) [] (session_of cards_after c) unit card_after × StaysOn (found_of f c) card card_after
+    → CardOwing f c w.book (standing_by fate said.entry.minute (w.standing c)) (w.brought c)
+    (w.marks ++ marks_by fate (Some c) said.entry.minute) [] (session_of cards_after c) unit card_after
+    × StaysOn (found_of f c) card card_after
     × KeepsOn (found_of f c) (said ∷ []) (session_of cards c) (session_of cards_after c) card card_after
 
 -- the clock of the card that was present does not stand at its last value
@@ -113,6 +137,10 @@ HasTime None d = Unit {0}
 HasTime (Some c) d = (card_of d c).clock < last_count
 
 -- AN ENTRY WAS TO BE BROUGHT to a card, of which this became (`bring`)
-abbrev pub BooksBrought : Option Card → Kept → (failed : Bool) → Fate → (cards cards_after : Cards) → (d e : Devices) → Type 0
-BooksBrought present said failed fate cards cards_after d e = (f : Found) (w : RunLedger) (owes : Card → List Entry) → AreFoundCards f cards → MayBring f present said w owes → IsLitOwing f w owes d → AllGo f w owes cards d → HasTime present e
-    → IsBroughtOrCut failed f (carried_brought fate present said.entry.minute w) (but_to present owes) cards_after e × AreTimedOn f d e × AllKeep f (kept_for present said) cards cards_after d e
+abbrev pub BooksBrought : Option Card → Kept → (failed : Bool) → Fate → (cards cards_after : Cards) → (d e : Devices)
+    → Type 0
+BooksBrought present said failed fate cards cards_after d e = (f : Found) (w : RunLedger) (owes : Card → List Entry)
+    → AreFoundCards f cards → MayBring f present said w owes → IsLitOwing f w owes d → AllGo f w owes cards d
+    → HasTime present e
+    → IsBroughtOrCut failed f (carried_brought fate present said.entry.minute w) (but_to present owes) cards_after e
+    × AreTimedOn f d e × AllKeep f (kept_for present said) cards cards_after d e

@@ -14,7 +14,8 @@ use Rattle.run_outcome.specs.Lines.{Listed}
 use Rattle.run_speeds.specs.Speeds.{LeavesSpeeds}
 use Rattle.run_minutes.specs.declared.keeper.Keeper.{Keeper}
 use Rattle.run_minutes.specs.declared.keeper.Moment.{Moment}
-use Rattle.run_minutes.specs.Keeping.{DevicesMayBeCalled, CardMayBeCalled, HasItsRow, HasLeftMore, AreEmptied, SessionsGoOn, tears_of, most_tears}
+use Rattle.run_minutes.specs.Keeping.{DevicesMayBeCalled, CardMayBeCalled, HasItsRow, HasLeftMore, AreEmptied}
+use Rattle.run_minutes.specs.Keeping.{SessionsGoOn, tears_of, most_tears}
 use Rattle.run_minutes.specs.Minutes.{KeepingState}
 use Rattle.run_minutes.specs.Later.{AreAfter, AreCalm, RestBy}
 
@@ -27,7 +28,8 @@ pub record Stand : Type 1 where
   pub chip_a : CardState
   pub chip_b : CardState
 
-abbrev pub standing : Keeper → Listed Mark → Listed Break → (unit card_a card_b : State) → (chip_a chip_b : CardState) → Stand
+abbrev pub standing : Keeper → Listed Mark → Listed Break → (unit card_a card_b : State) → (chip_a chip_b : CardState)
+    → Stand
 standing keeper marks breaks unit card_a card_b chip_a chip_b = record {
   keeper = keeper;
   marks = marks;
@@ -47,8 +49,8 @@ cards_of s = s.keeper.cabin.cards
 abbrev pub IsReadyFor : Stand → Type 0
 IsReadyFor s = DevicesMayBeCalled s.keeper s.devices.unit s.chip_a s.chip_b s.devices.card_a s.devices.card_b
 
--- BEHIND A CALL, as it answered: the unit is a unit still, each card may be called, and the unit failed exactly where that was answered;
--- else all is ready again, and each card that had its row has it
+-- BEHIND A CALL, as it answered: the unit is a unit still, each card may be called, and the unit failed exactly where
+-- that was answered; else all is ready again, and each card that had its row has it
 pub record StandsAfter (at : Moment) (failed : Bool) (s t : Stand) : Type 0 where
   pub unit : IsUnit t.devices.unit
   pub card_a : CardMayBeCalled (cards_of t).a t.chip_a t.devices.card_a
@@ -56,7 +58,8 @@ pub record StandsAfter (at : Moment) (failed : Bool) (s t : Stand) : Type 0 wher
   pub minute : t.keeper.cabin.slots.minute ≤ at.second / 60
   pub cause : HasCause s.devices.unit t.devices.unit failed
   pub ready : failed ≡ false → IsReadyFor t
-  pub rows : failed ≡ false → (card : Card) → HasItsRow (cards_of s) s.devices.unit card → HasItsRow (cards_of t) t.devices.unit card
+  pub rows : failed ≡ false → (card : Card) → HasItsRow (cards_of s) s.devices.unit card
+      → HasItsRow (cards_of t) t.devices.unit card
 
 -- A CARD GOES ON over calls, of which so many tore it out at least
 pub record CardGoes (before after : Option Accepted) (old new : State) : Type 0 where
@@ -65,8 +68,8 @@ pub record CardGoes (before after : Option Accepted) (old new : State) : Type 0 
   pub keeps : HasLeftMore old new
   pub broken : HasBroken old new (tears_of before - tears_of after)
 
--- ALL GOES ON over any calls, whatever they answered: no clock and no count of a device falls, none breaks down but in a call that
--- failed, and no card without the line of a tear; the lines keep their room, and breaks are only added
+-- ALL GOES ON over any calls, whatever they answered: no clock and no count of a device falls, none breaks down but in
+-- a call that failed, and no card without the line of a tear; the lines keep their room, and breaks are only added
 pub record Goes (s t : Stand) : Type 0 where
   pub later : AreAfter s.devices t.devices
   pub calm : AreCalm s.breaks.items t.breaks.items s.devices t.devices
@@ -74,8 +77,8 @@ pub record Goes (s t : Stand) : Type 0 where
   pub break_room : t.breaks.room ≡ s.breaks.room
   pub more : length s.breaks.items ≤ length t.breaks.items
 
--- AND SO IT DOES OVER KEEPINGS: what the keeper was told stays, slots only empty, sessions only end, a tear more is a session less, no device
--- forgets, and the detailed speed stays
+-- AND SO IT DOES OVER KEEPINGS: what the keeper was told stays, slots only empty, sessions only end, a tear more is a
+-- session less, no device forgets, and the detailed speed stays
 pub record KeepingGoes (s t : Stand) : Type 0 where
   pub all : Goes s t
   pub memory : t.keeper.memory ≡ s.keeper.memory

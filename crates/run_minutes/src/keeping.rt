@@ -7,7 +7,8 @@ ghost use Rattle.unit_model.specs.declared.layout.TheConstants.{HIGHEST_ODOMETER
 ghost use Rattle.unit_model.specs.Image.{IsUnit};
 ghost use Rattle.run_crew.specs.Cabin.{AreTwo};
 ghost use Rattle.trace_model.specs.declared.Card.{Card};
-ghost use Rattle.run_minutes.specs.Keeping.{UnitMayBeCalled, DevicesMayBeCalled, HasItsRow, HasLeftMore, HaveRows, kept_in, with_lines, TellsPresent};
+ghost use Rattle.run_minutes.specs.Keeping.{UnitMayBeCalled, DevicesMayBeCalled, HasItsRow, HasLeftMore, HaveRows};
+ghost use Rattle.run_minutes.specs.Keeping.{kept_in, with_lines, TellsPresent};
 ghost use Rattle.run_minutes.specs.Minutes.{unit_mark};
 ghost use Rattle.run_minutes.specs.Owing.{BooksPut, BooksOwed, TravelsOn};
 ghost use Rattle.run_minutes.specs.Kept.{IsAbsent, MayKeep, Keeps};
@@ -62,12 +63,15 @@ impl Keeper {
         ensures unit { IsUnit (M.state unit.new) }
         ensures same { self.new ≡ self.old }
         ensures ready { OnOk result (UnitMayBeCalled self.new (M.state unit.new)) }
-        ensures rows { (card : Card) → HasItsRow self.old.cabin.cards (M.state unit.old) card → OnOk result (HasItsRow self.new.cabin.cards (M.state unit.new) card) }
+        ensures rows { (card : Card) → HasItsRow self.old.cabin.cards (M.state unit.old) card
+            → OnOk result (HasItsRow self.new.cabin.cards (M.state unit.new) card) }
         ensures travelled { TravelsOn (M.state unit.old) (M.state unit.new) }
         ensures unit_keeps { HasLeftMore (M.state unit.old) (M.state unit.new) }
         ensures quiet { NotesFaults (is_err result) [] (M.state unit.old) (M.state unit.new) }
         ensures speeds { LeavesSpeeds (M.state unit.old) (M.state unit.new) }
-        ensures booked { BooksPut present entry.now (is_err result) self.old.cabin.cards (devices (M.state unit.old) (C.state card_a.now) (D.state card_b.now)) (devices (M.state unit.new) (C.state card_a.now) (D.state card_b.now)) }
+        ensures booked { BooksPut present entry.now (is_err result) self.old.cabin.cards
+            (devices (M.state unit.old) (C.state card_a.now) (D.state card_b.now))
+            (devices (M.state unit.new) (C.state card_a.now) (D.state card_b.now)) }
         ensures clock { (M.state unit.old).clock ≤ (M.state unit.new).clock }
         ensures tells { is_some (M.state unit.new).image ≡ is_some (M.state unit.old).image }
         ensures cause { HasCause (M.state unit.old) (M.state unit.new) (is_err result) }
@@ -122,15 +126,23 @@ impl Keeper {
         requires apart { AreTwo present.driver present.codriver }
         ensures unit { IsUnit (M.state unit.new) }
         ensures keeper { self.new ≡ record self.old { journal = self.new.journal } }
-        ensures notes { OnOk result ((self.new.journal.kept ≡ minute.now.minute) × (self.new.journal.odometer ≡ minute.now.odometer.0)) }
+        ensures notes { OnOk result ((self.new.journal.kept ≡ minute.now.minute)
+            × (self.new.journal.odometer ≡ minute.now.odometer.0)) }
         ensures same { OnErr result ((self.new.journal ≡ self.old.journal) × (marks.new ≡ marks.old)) }
-        ensures marked { OnOk result (marks.new ≡ with_lines (unit_mark minute.now.minute (M.state unit.new).clock ∷ []) marks.old) }
+        ensures marked { OnOk result (marks.new
+            ≡ with_lines (unit_mark minute.now.minute (M.state unit.new).clock ∷ []) marks.old) }
         ensures ready { OnOk result (UnitMayBeCalled self.new (M.state unit.new)) }
-        ensures rows { (card : Card) → HasItsRow self.old.cabin.cards (M.state unit.old) card → OnOk result (HasItsRow self.new.cabin.cards (M.state unit.new) card) }
+        ensures rows { (card : Card) → HasItsRow self.old.cabin.cards (M.state unit.old) card
+            → OnOk result (HasItsRow self.new.cabin.cards (M.state unit.new) card) }
         ensures unit_keeps { HasLeftMore (M.state unit.old) (M.state unit.new) }
         ensures quiet { NotesFaults (is_err result) [] (M.state unit.old) (M.state unit.new) }
         ensures speeds { LeavesSpeeds (M.state unit.old) (M.state unit.new) }
-        ensures booked { TellsPresent minute.now present → BooksOwed present minute.now (is_err result) (record { keeper = self.old; marks = marks.old; breaks = record { items = []; room = 0 } }) (record { keeper = self.new; marks = marks.new; breaks = record { items = []; room = 0 } }) (devices (M.state unit.old) (C.state card_a.now) (D.state card_b.now)) (devices (M.state unit.new) (C.state card_a.now) (D.state card_b.now)) }
+        ensures booked { TellsPresent minute.now present
+            → BooksOwed present minute.now (is_err result)
+            (record { keeper = self.old; marks = marks.old; breaks = record { items = []; room = 0 } })
+            (record { keeper = self.new; marks = marks.new; breaks = record { items = []; room = 0 } })
+            (devices (M.state unit.old) (C.state card_a.now) (D.state card_b.now))
+            (devices (M.state unit.new) (C.state card_a.now) (D.state card_b.now)) }
         ensures clock { (M.state unit.old).clock ≤ (M.state unit.new).clock }
         ensures tells { is_some (M.state unit.new).image ≡ is_some (M.state unit.old).image }
         ensures cause { HasCause (M.state unit.old) (M.state unit.new) (is_err result) }
@@ -152,8 +164,8 @@ impl Keeper {
     ///
     /// # Errors
     ///
-    /// `Failed` where the unit failed: then the minute may be there or not; or it is there, and the fault of a card that was torn out
-    /// may be noted or not.
+    /// `Failed` where the unit failed: then the minute may be there or not; or it is there, and the fault of a card
+    /// that was torn out may be noted or not.
     pub(crate) fn keep_minute<M: Medium, C: Chip, D: Chip>(
         &mut self,
         minute: &KeptMinute,

@@ -1,13 +1,15 @@
 //! Decided minutes are kept, one after another.
 ghost use Rattle.run_minutes.specs.Faults.{faults_to, NotesFaults};
-ghost use Rattle.std.specs.Prelude.{◌≡◌, ◌≢◌, ℕ, ◌+◌, ◌-◌, ◌*◌, ◌/◌, ◌<◌, ◌≤◌, true, Option, IfSome, All, OnOk, length, is_some, is_err};
+ghost use Rattle.std.specs.Prelude.{◌≡◌, ◌≢◌, ℕ, ◌+◌, ◌-◌, ◌*◌, ◌/◌, ◌<◌, ◌≤◌, true, Option, IfSome, All, OnOk, length};
+ghost use Rattle.std.specs.Prelude.{is_some, is_err};
 ghost use Rattle.tach_media.specs.Medium.{HasCause, HasBroken};
 ghost use Rattle.trace_model.specs.declared.Card.{Card};
 ghost use Rattle.card_slots.specs.Calls.{present_in};
 ghost use Rattle.unit_model.specs.declared.layout.TheConstants.{HIGHEST_ODOMETER};
 ghost use Rattle.unit_model.specs.Image.{IsUnit};
 ghost use Rattle.run_crew.specs.Cabin.{CabinIsSound};
-ghost use Rattle.run_minutes.specs.Keeping.{DevicesMayBeCalled, CardMayBeCalled, HasItsRow, HasLeftMore, HaveRows, AreEmptied, SessionsGoOn, tears_of, most_tears};
+ghost use Rattle.run_minutes.specs.Keeping.{DevicesMayBeCalled, CardMayBeCalled, HasItsRow, HasLeftMore, HaveRows};
+ghost use Rattle.run_minutes.specs.Keeping.{AreEmptied, SessionsGoOn, tears_of, most_tears};
 ghost use Rattle.run_minutes.specs.Minutes.{odometer_by, kept_of, AreDue, kept_after, AreKeptUpTo, Reach, IsReach};
 ghost use Rattle.run_minutes.specs.Decided.{BooksAll};
 ghost use Rattle.run_minutes.specs.Kept.{MayKeepAll, KeepsAll};
@@ -101,8 +103,8 @@ impl Keeper {
         Ok(())
     }
 
-    /// Keeps decided minutes, in their order, up to the first that fails: as `Recorder::keep_all` does, for callers that have
-    /// the devices apart.
+    /// Keeps decided minutes, in their order, up to the first that fails: as `Recorder::keep_all` does, for callers
+    /// that have the devices apart.
     ///
     /// # Errors
     ///
@@ -117,28 +119,47 @@ impl Keeper {
         marks: &mut Lines<Mark>,
         breaks: &mut Lines<Break>,
     ) -> Result<(), Failed>
-        requires ready { DevicesMayBeCalled self.old (M.state unit.old) (C.card card_a.old) (D.card card_b.old) (C.state card_a.old) (D.state card_b.old) }
+        requires ready { DevicesMayBeCalled self.old (M.state unit.old) (C.card card_a.old) (D.card card_b.old)
+            (C.state card_a.old) (D.state card_b.old) }
         requires due { AreDue self.old.journal.kept decided.now }
         requires ended { All (λ m. is_some (present_in self.old.cabin.slots.past m.minute) ≡ true) decided.now }
-        requires rows { All (λ m. IfSome (present_in self.old.cabin.slots.past m.minute) (HaveRows self.old.cabin.cards (M.state unit.old))) decided.now }
-        requires stands { (from : ℕ) × (leaving : Option Card) × All (λ m. from ≤ m.minute) decided.now × CabinIsSound from leaving self.old.cabin }
+        requires rows { All (λ m. IfSome (present_in self.old.cabin.slots.past m.minute)
+            (HaveRows self.old.cabin.cards (M.state unit.old))) decided.now }
+        requires stands { (from : ℕ) × (leaving : Option Card) × All (λ m. from ≤ m.minute) decided.now
+            × CabinIsSound from leaving self.old.cabin }
         requires odometer { self.old.odometer ≤ HIGHEST_ODOMETER }
         requires minute { self.old.cabin.slots.minute ≤ at.second / 60 }
         requires second { at.second ≢ 0 }
         requires marks { length marks.old.items + 3 * length decided.now ≤ marks.old.room }
         requires breaks { length breaks.old.items + most_tears self.old.cabin.cards ≤ breaks.old.room }
-        ensures kept { AreKeptUpTo decided.now at (is_err result) (record { keeper = self.old; marks = marks.old; breaks = breaks.old }) (record { keeper = self.new; marks = marks.new; breaks = breaks.new }) }
-        ensures booked { (reach : Reach) × IsReach decided.now at (is_err result) (record { keeper = self.old; marks = marks.old; breaks = breaks.old }) (record { keeper = self.new; marks = marks.new; breaks = breaks.new }) reach
-            × BooksAll decided.now (is_err result) reach (record { keeper = self.old; marks = marks.old; breaks = breaks.old }) (record { keeper = self.new; marks = marks.new; breaks = breaks.new }) (devices (M.state unit.old) (C.state card_a.old) (D.state card_b.old)) (devices (M.state unit.new) (C.state card_a.new) (D.state card_b.new))
-            × NotesFaults (is_err result) (faults_to self.old at reach (record { keeper = self.old; marks = marks.old; breaks = breaks.old })) (M.state unit.old) (M.state unit.new) }
+        ensures kept { AreKeptUpTo decided.now at (is_err result)
+            (record { keeper = self.old; marks = marks.old; breaks = breaks.old })
+            (record { keeper = self.new; marks = marks.new; breaks = breaks.new }) }
+        ensures booked { (reach : Reach)
+            × IsReach decided.now at (is_err result)
+            (record { keeper = self.old; marks = marks.old; breaks = breaks.old })
+            (record { keeper = self.new; marks = marks.new; breaks = breaks.new }) reach
+            × BooksAll decided.now (is_err result) reach
+            (record { keeper = self.old; marks = marks.old; breaks = breaks.old })
+            (record { keeper = self.new; marks = marks.new; breaks = breaks.new })
+            (devices (M.state unit.old) (C.state card_a.old) (D.state card_b.old))
+            (devices (M.state unit.new) (C.state card_a.new) (D.state card_b.new))
+            × NotesFaults (is_err result) (faults_to self.old at reach
+            (record { keeper = self.old; marks = marks.old; breaks = breaks.old })) (M.state unit.old)
+            (M.state unit.new) }
         ensures unit { IsUnit (M.state unit.new) }
         ensures more { length breaks.old.items ≤ length breaks.new.items }
-        ensures ready { OnOk result (DevicesMayBeCalled self.new (M.state unit.new) (C.card card_a.new) (D.card card_b.new) (C.state card_a.new) (D.state card_b.new)) }
-        ensures rows { (card : Card) → HasItsRow self.old.cabin.cards (M.state unit.old) card → OnOk result (HasItsRow self.new.cabin.cards (M.state unit.new) card) }
-        ensures same { (self.new.memory ≡ self.old.memory) × (self.new.odometer ≡ self.old.odometer) × (self.new.cabin.slots.past ≡ self.old.cabin.slots.past) }
+        ensures ready { OnOk result (DevicesMayBeCalled self.new (M.state unit.new) (C.card card_a.new)
+            (D.card card_b.new) (C.state card_a.new) (D.state card_b.new)) }
+        ensures rows { (card : Card) → HasItsRow self.old.cabin.cards (M.state unit.old) card
+            → OnOk result (HasItsRow self.new.cabin.cards (M.state unit.new) card) }
+        ensures same { (self.new.memory ≡ self.old.memory) × (self.new.odometer ≡ self.old.odometer)
+            × (self.new.cabin.slots.past ≡ self.old.cabin.slots.past) }
         ensures minute { self.new.cabin.slots.minute ≤ at.second / 60 }
         ensures last { OnOk result (self.new.journal.kept ≡ kept_after self.old.journal.kept decided.now) }
-        ensures stands { (from : ℕ) (leaving : Option Card) → All (λ m. from ≤ m.minute) decided.now → CabinIsSound from leaving self.old.cabin → (next : ℕ) → from ≤ next → kept_after self.old.journal.kept decided.now < next → CabinIsSound next leaving self.new.cabin }
+        ensures stands { (from : ℕ) (leaving : Option Card) → All (λ m. from ≤ m.minute) decided.now
+            → CabinIsSound from leaving self.old.cabin → (next : ℕ) → from ≤ next
+            → kept_after self.old.journal.kept decided.now < next → CabinIsSound next leaving self.new.cabin }
         ensures seats { AreEmptied self.old.cabin.slots.seats self.new.cabin.slots.seats }
         ensures sessions { SessionsGoOn self.old.cabin.cards self.new.cabin.cards }
         ensures card_a { CardMayBeCalled self.new.cabin.cards.a (C.card card_a.new) (C.state card_a.new) }
@@ -156,16 +177,26 @@ impl Keeper {
         ensures more_b { (D.state card_b.old).breakdowns ≤ (D.state card_b.new).breakdowns }
         ensures a_bare { self.old.cabin.cards.a.accepted ≡ None → card_a.new ≡ card_a.old }
         ensures b_bare { self.old.cabin.cards.b.accepted ≡ None → card_b.new ≡ card_b.old }
-        ensures marks { (marks.new.room ≡ marks.old.room) × (length marks.new.items ≤ length marks.old.items + 3 * length decided.now) }
-        ensures breaks { (breaks.new.room ≡ breaks.old.room) × (length breaks.new.items + most_tears self.new.cabin.cards ≤ length breaks.old.items + most_tears self.old.cabin.cards) }
-        ensures a_broken { HasBroken (C.state card_a.old) (C.state card_a.new) (tears_of self.old.cabin.cards.a.accepted - tears_of self.new.cabin.cards.a.accepted) }
-        ensures b_broken { HasBroken (D.state card_b.old) (D.state card_b.new) (tears_of self.old.cabin.cards.b.accepted - tears_of self.new.cabin.cards.b.accepted) }
+        ensures marks { (marks.new.room ≡ marks.old.room)
+            × (length marks.new.items ≤ length marks.old.items + 3 * length decided.now) }
+        ensures breaks { (breaks.new.room ≡ breaks.old.room)
+            × (length breaks.new.items + most_tears self.new.cabin.cards
+            ≤ length breaks.old.items + most_tears self.old.cabin.cards) }
+        ensures a_broken { HasBroken (C.state card_a.old) (C.state card_a.new)
+            (tears_of self.old.cabin.cards.a.accepted - tears_of self.new.cabin.cards.a.accepted) }
+        ensures b_broken { HasBroken (D.state card_b.old) (D.state card_b.new)
+            (tears_of self.old.cabin.cards.b.accepted - tears_of self.new.cabin.cards.b.accepted) }
         ensures clock { (M.state unit.old).clock ≤ (M.state unit.new).clock }
         ensures tells { is_some (M.state unit.new).image ≡ is_some (M.state unit.old).image }
         ensures cause { HasCause (M.state unit.old) (M.state unit.new) (is_err result) }
-        ensures later { AreLater (devices (M.state unit.old) (C.state card_a.old) (D.state card_b.old)) (devices (M.state unit.new) (C.state card_a.new) (D.state card_b.new)) }
-        ensures calm { AreCalm breaks.old.items breaks.new.items (devices (M.state unit.old) (C.state card_a.old) (D.state card_b.old)) (devices (M.state unit.new) (C.state card_a.new) (D.state card_b.new)) }
-        ensures rests { RestBy self.old.cabin.cards self.new.cabin.cards (devices (M.state unit.old) (C.state card_a.old) (D.state card_b.old)) (devices (M.state unit.new) (C.state card_a.new) (D.state card_b.new)) }
+        ensures later { AreLater (devices (M.state unit.old) (C.state card_a.old) (D.state card_b.old))
+            (devices (M.state unit.new) (C.state card_a.new) (D.state card_b.new)) }
+        ensures calm { AreCalm breaks.old.items breaks.new.items
+            (devices (M.state unit.old) (C.state card_a.old) (D.state card_b.old))
+            (devices (M.state unit.new) (C.state card_a.new) (D.state card_b.new)) }
+        ensures rests { RestBy self.old.cabin.cards self.new.cabin.cards
+            (devices (M.state unit.old) (C.state card_a.old) (D.state card_b.old))
+            (devices (M.state unit.new) (C.state card_a.new) (D.state card_b.new)) }
     {
         self.keep_decided(decided, at, unit, card_a, card_b, marks, breaks)
     }

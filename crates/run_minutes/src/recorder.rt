@@ -24,5 +24,6 @@ pub trait Stands {
 }
 
 impl<U: Medium, C: Chip> Stands for Recorder<U, C> {
-    ghost stand = { λ r. standing r.keeper r.marks r.breaks (U.state r.unit) (C.state r.card_a) (C.state r.card_b) (C.card r.card_a) (C.card r.card_b) };
+    ghost stand = { λ r. standing r.keeper r.marks r.breaks (U.state r.unit) (C.state r.card_a) (C.state r.card_b)
+        (C.card r.card_a) (C.card r.card_b) };
 }

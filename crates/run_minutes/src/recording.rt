@@ -15,8 +15,8 @@ impl<U: Medium, C: Chip> Recorder<U, C> {
     ///
     /// # Errors
     ///
-    /// `Failed` where the unit failed: then the minute may be there or not; or it is there, and the fault of a card that was torn out
-    /// may be noted or not.
+    /// `Failed` where the unit failed: then the minute may be there or not; or it is there, and the fault of a card
+    /// that was torn out may be noted or not.
     pub fn keep_minute(
         &mut self,
         minute: &KeptMinute,

@@ -18,7 +18,8 @@ use trace_model::Card;
 use unit_notes::UnitNotes;
 
 impl Keeper {
-    /// A call on a card, of a slot or on its way out of it, has failed: it is torn out, which is told, and noted on the unit at once.
+    /// A call on a card, of a slot or on its way out of it, has failed: it is torn out, which is told, and noted on the
+    /// unit at once.
     ///
     /// # Errors
     ///
@@ -38,10 +39,15 @@ impl Keeper {
         ensures keeper { self.new ≡ record self.old { cabin = torn_out card at.second self.old.cabin } }
         ensures told { breaks.new ≡ with_lines (tear_of slot at ∷ []) breaks.old }
         ensures ready { OnOk result (UnitMayBeCalled self.new (M.state unit.new)) }
-        ensures rows { (card : Card) → HasItsRow self.old.cabin.cards (M.state unit.old) card → OnOk result (HasItsRow self.new.cabin.cards (M.state unit.new) card) }
-        ensures stands { (from : ℕ) (leaving : Option Card) → CabinIsSound from leaving self.old.cabin → CabinIsSound from leaving self.new.cabin }
-        ensures noted { OnOk result (IfSome (M.state unit.old).image (λ x. IfSome (M.state unit.new).image (IsEventNoted CARD_FAULT (fault_of at.second (crew_of self.new.cabin)) x))) }
-        ensures moments { LeavesOnly (M.state unit.old) (M.state unit.new) (IsNotingEvent CARD_FAULT (fault_of at.second (crew_of self.new.cabin))) }
+        ensures rows { (card : Card) → HasItsRow self.old.cabin.cards (M.state unit.old) card
+            → OnOk result (HasItsRow self.new.cabin.cards (M.state unit.new) card) }
+        ensures stands { (from : ℕ) (leaving : Option Card) → CabinIsSound from leaving self.old.cabin
+            → CabinIsSound from leaving self.new.cabin }
+        ensures noted { OnOk result (IfSome (M.state unit.old).image
+            (λ x. IfSome (M.state unit.new).image
+            (IsEventNoted CARD_FAULT (fault_of at.second (crew_of self.new.cabin)) x))) }
+        ensures moments { LeavesOnly (M.state unit.old) (M.state unit.new)
+            (IsNotingEvent CARD_FAULT (fault_of at.second (crew_of self.new.cabin))) }
         ensures journal { LeavesOnly (M.state unit.old) (M.state unit.new) LeavesJournal }
         ensures cause { HasCause (M.state unit.old) (M.state unit.new) (is_err result) }
     {

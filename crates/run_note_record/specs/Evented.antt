@@ -1,6 +1,7 @@
--- The events and faults that a run with cards has noted on its unit by now (Annex IB, section III.12; the moments: profile): what is carried of
--- them BETWEEN TWO SECONDS, and over each kind of second.
-use Rattle.std.specs.Prelude.{◌≡◌, ℕ, suc, ◌+◌, ◌-◌, ◌≤◌, min, true, false, List, [], ◌∷◌, ◌++◌, length, Contains, nat_eq, if◌then◌else◌}
+-- The events and faults that a run with cards has noted on its unit by now (Annex IB, section III.12; the moments:
+-- profile): what is carried of them BETWEEN TWO SECONDS, and over each kind of second.
+use Rattle.std.specs.Prelude.{◌≡◌, ℕ, suc, ◌+◌, ◌-◌, ◌≤◌, min, true, false, List, [], ◌∷◌, ◌++◌, length, Contains}
+use Rattle.std.specs.Prelude.{nat_eq, if◌then◌else◌}
 use Rattle.trace_model.specs.declared.Card.{Card}
 use Rattle.trace_model.specs.declared.Action.{Action}
 use Rattle.trace_model.specs.Trace.{TraceSecond}
@@ -49,10 +50,12 @@ number_in o c = own_number (card_image o.recording c)
 abbrev pub limit_in : Origin → ℕ
 limit_in o = number_of o.recording.unit SPEED_LIMIT
 
--- WHAT IS CARRIED OF THE EVENTS behind these seconds: what no log tells of them, of cards that were torn out and of sessions that were found
--- open (exactly, where no call failed), of which nothing is chosen from the next second on; every image of the unit shows the events, by that; and it is known what was kept
--- between the power spans, but where a power-on failed. `unfound` is the first break of which it is not known.
-pub record Evented (o : Origin) (done : List TraceSecond) (log : RunLog) (unfound next : ℕ) (supply : UnitPower) (d : Devices) : Type 0 where
+-- WHAT IS CARRIED OF THE EVENTS behind these seconds: what no log tells of them, of cards that were torn out and of
+-- sessions that were found open (exactly, where no call failed), of which nothing is chosen from the next second on;
+-- every image of the unit shows the events, by that; and it is known what was kept between the power spans, but where a
+-- power-on failed. `unfound` is the first break of which it is not known.
+pub record Evented (o : Origin) (done : List TraceSecond) (log : RunLog) (unfound next : ℕ) (supply : UnitPower)
+    (d : Devices) : Type 0 where
   pub tearing : Tearing
   pub sessions : ℕ → Visit → ℕ
   pub plain : IsPlainFrom next tearing
@@ -73,21 +76,27 @@ NotesNothing d e = (c : List ℕ) → e.unit.may_leave c → (x : List ℕ) × d
 
 -- these events more are shown, of each type whose events are sure by a log
 abbrev pub NotesMore : Origin → RunLog → (now more : ℕ → List Event) → (d e : Devices) → Type 0
-NotesMore o log now more d e = (c : List ℕ) → e.unit.may_leave c → (x : List ℕ) × d.unit.may_leave x × ShowsMore (number_in o) log now more x c
+NotesMore o log now more d e = (c : List ℕ) → e.unit.may_leave c
+    → (x : List ℕ) × d.unit.may_leave x × ShowsMore (number_in o) log now more x c
 
 -- ---- at the start, and as the unit is read
 
 -- NOTHING IS NOTED at the start.
 abbrev pub NothingIsNoted : Devices → Type 0
-NothingIsNoted d = (o : Origin) → ((x : List ℕ) → d.unit.may_leave x → x ≡ o.recording.unit) → number_of o.recording.unit OVER_COUNT ≤ 255 → EventedBy o [] (at_start o) d
+NothingIsNoted d = (o : Origin) → ((x : List ℕ) → d.unit.may_leave x → x ≡ o.recording.unit)
+    → number_of o.recording.unit OVER_COUNT ≤ 255 → EventedBy o [] (at_start o) d
 
 -- CALLS of which no event is told leave it so.
 abbrev pub EventsStay : (d e : Devices) → Type 0
-EventsStay d e = (o : Origin) (done : List TraceSecond) (log : RunLog) (unfound next : ℕ) (supply : UnitPower) → Evented o done log unfound next supply d → NotesNothing d e → HaveLeftMore o d e → Evented o done log unfound next supply e
+EventsStay d e = (o : Origin) (done : List TraceSecond) (log : RunLog) (unfound next : ℕ) (supply : UnitPower)
+    → Evented o done log unfound next supply d → NotesNothing d e → HaveLeftMore o d e
+    → Evented o done log unfound next supply e
 
 -- POWER IS BACK: the unit is read, and of the cuts before it is known what was kept.
 abbrev pub EventsAreFound : (d e : Devices) → Type 0
-EventsAreFound d e = (o : Origin) (done : List TraceSecond) (p : Progress) → BookFollowsRun (rule_of o) (start_at o) o.from (first_of o) done p → EventedBy o done p d → MayPower p.supply p.next → (k : ℕ) → NotesNothing d e → HaveLeftMore o d e →
+EventsAreFound d e = (o : Origin) (done : List TraceSecond) (p : Progress)
+    → BookFollowsRun (rule_of o) (start_at o) o.from (first_of o) done p → EventedBy o done p d
+    → MayPower p.supply p.next → (k : ℕ) → NotesNothing d e → HaveLeftMore o d e →
     EventedBy o done (found_again k p) e
 
 -- ---- over a second
@@ -100,52 +109,78 @@ abbrev pub sessions_now : TraceSecond → (own sessions : ℕ → Visit → ℕ)
 sessions_now s own sessions = told_at s.number own sessions
 
 -- all events of a run by its log behind a second, by that choice
-abbrev pub events_now : Origin → RunLog → List TraceSecond → TraceSecond → (here : Tearing) → (own : ℕ → Visit → ℕ) → Tearing → (ℕ → Visit → ℕ) → (kind : ℕ) → List Event
-events_now o log done s here own t sessions kind = events_of kind (limit_in o) (sessions_now s own sessions) (tearing_now s here t) log (done ++ s ∷ [])
+abbrev pub events_now : Origin → RunLog → List TraceSecond → TraceSecond → (here : Tearing) → (own : ℕ → Visit → ℕ)
+    → Tearing → (ℕ → Visit → ℕ) → (kind : ℕ) → List Event
+events_now o log done s here own t sessions kind = events_of kind (limit_in o) (sessions_now s own sessions)
+    (tearing_now s here t) log (done ++ s ∷ [])
 
 -- what the second brings of each type
-abbrev pub brought_now : Origin → RunLog → List TraceSecond → TraceSecond → (here : Tearing) → (own : ℕ → Visit → ℕ) → (kind : ℕ) → List Event
-brought_now o log done s here own kind = second_events kind (limit_in o) own here log (seen_spans (seen_of log done)) (seen_next log done s)
+abbrev pub brought_now : Origin → RunLog → List TraceSecond → TraceSecond → (here : Tearing) → (own : ℕ → Visit → ℕ)
+    → (kind : ℕ) → List Event
+brought_now o log done s here own kind = second_events kind (limit_in o) own here log (seen_spans (seen_of log done))
+    (seen_next log done s)
 
--- WHAT NO LOG TELLS of a second is chosen so: of its tears, so that it fits it; and each acceptance found a session open that an image of the
--- card told, that of the start where it comes for the first time, and where no call failed that which the insertion before has left.
-pub record IsChosen (o : Origin) (log : RunLog) (done : List TraceSecond) (s : TraceSecond) (here : Tearing) (own : ℕ → Visit → ℕ) (d : Devices) : Type 0 where
+-- WHAT NO LOG TELLS of a second is chosen so: of its tears, so that it fits it; and each acceptance found a session
+-- open that an image of the card told, that of the start where it comes for the first time, and where no call failed
+-- that which the insertion before has left.
+pub record IsChosen (o : Origin) (log : RunLog) (done : List TraceSecond) (s : TraceSecond) (here : Tearing)
+    (own : ℕ → Visit → ℕ) (d : Devices) : Type 0 where
   pub fits : IsTornIn here (seen_next log done s)
-  pub found_open : (f : Visit × Verdict) → Contains (seen_next log done s).told.course.found f → is_accepting f.1 ≡ true →
+  pub found_open : (f : Visit × Verdict) → Contains (seen_next log done s).told.course.found f → is_accepting f.1 ≡ true
+      →
       IsOpenSo o (went log done).told (done ++ s ∷ []) d f.0.card s.number (own s.number f.0)
   pub exact : AreExactIn o log done s own
 
 -- A SECOND WITH POWER, to its end: all that it brings was noted.
 abbrev pub ASecondIsNoted : (d e : Devices) → Type 0
-ASecondIsNoted d e = (o : Origin) (done : List TraceSecond) (p : Progress) → BookFollowsRun (rule_of o) (start_at o) o.from (first_of o) done p → (v : EventedBy o done p d) → (span : List ToldSecond) → p.supply ≡ Lit span →
-    (s : TraceSecond) (log : RunLog) (mid now : Device → ℕ) → Moment p (went p.log done).before s Keeping log [] mid now → (here : Tearing) (own : ℕ → Visit → ℕ) → IsChosen o log done s here own e → HaveLeftMore o d e →
-    (more : List Event) → ((kind : ℕ) → Contains all_kinds kind → by_kind more kind ≡ brought_now o log done s here own kind) → NotesMore o log (events_now o log done s here own v.tearing v.sessions) (by_kind more) d e →
+ASecondIsNoted d e = (o : Origin) (done : List TraceSecond) (p : Progress)
+    → BookFollowsRun (rule_of o) (start_at o) o.from (first_of o) done p → (v : EventedBy o done p d)
+    → (span : List ToldSecond) → p.supply ≡ Lit span →
+    (s : TraceSecond) (log : RunLog) (mid now : Device → ℕ) → Moment p (went p.log done).before s Keeping log [] mid now
+    → (here : Tearing) (own : ℕ → Visit → ℕ) → IsChosen o log done s here own e → HaveLeftMore o d e →
+    (more : List Event) → ((kind : ℕ) → Contains all_kinds kind
+    → by_kind more kind ≡ brought_now o log done s here own kind)
+    → NotesMore o log (events_now o log done s here own v.tearing v.sessions) (by_kind more) d e →
     Evented o (done ++ s ∷ []) log p.unfound (suc p.next) (Lit (span ++ next_told log done s ∷ [])) e
 
 -- OR THE UNIT FAILED IN IT, and power is cut: of a type of which it brings events none are sure.
 abbrev pub ASecondIsBroken : (d e : Devices) → Type 0
-ASecondIsBroken d e = (o : Origin) (done : List TraceSecond) (p : Progress) → BookFollowsRun (rule_of o) (start_at o) o.from (first_of o) done p → (v : EventedBy o done p d) → (span : List ToldSecond) → p.supply ≡ Lit span →
-    (s : TraceSecond) (at : Phase) (log : RunLog) (waits : List Visit) (mid now later : Device → ℕ) → Moment p (went p.log done).before s at log waits mid now → IsMore now later → RoseBy 1 (mid Recorder) (later Recorder) →
+ASecondIsBroken d e = (o : Origin) (done : List TraceSecond) (p : Progress)
+    → BookFollowsRun (rule_of o) (start_at o) o.from (first_of o) done p → (v : EventedBy o done p d)
+    → (span : List ToldSecond) → p.supply ≡ Lit span →
+    (s : TraceSecond) (at : Phase) (log : RunLog) (waits : List Visit) (mid now later : Device → ℕ)
+    → Moment p (went p.log done).before s at log waits mid now → IsMore now later
+    → RoseBy 1 (mid Recorder) (later Recorder) →
     (rest : List Action) → IsLeft s at rest → let cut : RunLog = and_break log (cut_at s.number true (begun_by s at)) in
-    (here : Tearing) (own : ℕ → Visit → ℕ) → IsChosen o cut done s here own e → HaveLeftMore o d e → NotesMore o cut (events_now o cut done s here own v.tearing v.sessions) none d e →
+    (here : Tearing) (own : ℕ → Visit → ℕ) → IsChosen o cut done s here own e → HaveLeftMore o d e
+    → NotesMore o cut (events_now o cut done s here own v.tearing v.sessions) none d e →
     Evented o (done ++ s ∷ []) cut p.unfound (suc p.next) Lost e
 
 -- A POWER-ON FAILED at once.
 abbrev pub APowerOnIsBroken : (d e : Devices) → Type 0
-APowerOnIsBroken d e = (o : Origin) (done : List TraceSecond) (p : Progress) → BookFollowsRun (rule_of o) (start_at o) o.from (first_of o) done p → EventedBy o done p d → MayPower p.supply p.next →
-    (s : TraceSecond) → s.number ≡ p.next → s.has_power ≡ true → (mid later : Device → ℕ) → IsMore mid later → RoseBy 1 (mid Recorder) (later Recorder) → NotesNothing d e → HaveLeftMore o d e →
+APowerOnIsBroken d e = (o : Origin) (done : List TraceSecond) (p : Progress)
+    → BookFollowsRun (rule_of o) (start_at o) o.from (first_of o) done p → EventedBy o done p d
+    → MayPower p.supply p.next →
+    (s : TraceSecond) → s.number ≡ p.next → s.has_power ≡ true → (mid later : Device → ℕ) → IsMore mid later
+    → RoseBy 1 (mid Recorder) (later Recorder) → NotesNothing d e → HaveLeftMore o d e →
     Evented o (done ++ s ∷ []) (and_break p.log (cut_at s.number true 0)) p.unfound (suc p.next) Lost e
 
 -- ---- without power
 
 -- A SECOND WITHOUT POWER brings nothing: its actions are refused.
 abbrev pub ADarkSecondBringsNothing : Devices → Type 0
-ADarkSecondBringsNothing d = (o : Origin) (done : List TraceSecond) (log later : RunLog) (unfound next : ℕ) (supply now : UnitPower) → AreInOrder o.from done → next ≡ o.from + length done → Evented o done log unfound next supply d → IsDark supply →
-    (s : TraceSecond) → s.number ≡ next → later.breaks ≡ log.breaks → later.finds ≡ log.finds → (seen_next later done s).told.lit ≡ false → IsDark now → Evented o (done ++ s ∷ []) later unfound (suc next) now d
+ADarkSecondBringsNothing d = (o : Origin) (done : List TraceSecond) (log later : RunLog) (unfound next : ℕ)
+    (supply now : UnitPower) → AreInOrder o.from done → next ≡ o.from + length done
+    → Evented o done log unfound next supply d → IsDark supply →
+    (s : TraceSecond) → s.number ≡ next → later.breaks ≡ log.breaks → later.finds ≡ log.finds
+    → (seen_next later done s).told.lit ≡ false → IsDark now
+    → Evented o (done ++ s ∷ []) later unfound (suc next) now d
 
 -- THE LAST SECOND TURNS OUT TO BE A CUT'S, as an `off` line says: its events are the same.
 abbrev pub AnOffCutBringsNothing : Devices → Type 0
-AnOffCutBringsNothing d = (o : Origin) (done : List TraceSecond) (p : Progress) → BookFollowsRun (rule_of o) (start_at o) o.from (first_of o) done p → EventedBy o done p d → (t : ToldSecond) (span : List ToldSecond) → p.supply ≡ Lit (t ∷ span) →
+AnOffCutBringsNothing d = (o : Origin) (done : List TraceSecond) (p : Progress)
+    → BookFollowsRun (rule_of o) (start_at o) o.from (first_of o) done p → EventedBy o done p d
+    → (t : ToldSecond) (span : List ToldSecond) → p.supply ≡ Lit (t ∷ span) →
     Evented o done (and_break p.log (cut_at (p.next - 1) false p.begun)) p.unfound p.next Lost d
 
 -- ---- at the end
@@ -153,17 +188,27 @@ AnOffCutBringsNothing d = (o : Origin) (done : List TraceSecond) (p : Progress) 
 -- An image shows the events and faults of a recording, as its auxiliary records are to show them.
 pub record ShowsEventsOf (r : Recording) (began now : Devices) (x : List ℕ) : Type 0 where
   pub sessions : ℕ → Visit → ℕ
-  pub are_sessions : AreSessions (λ c. (card_of now c).left_since (card_of began c).clock) session_in (told_of r) sessions
+  pub are_sessions : AreSessions (λ c. (card_of now c).left_since (card_of began c).clock) session_in (told_of r)
+      sessions
   pub are_first : AreFirst (card_image r) (told_of r) r.trace sessions
   pub exact : TellExactly r sessions
   pub tearing : Tearing
   pub are_torn : AreTorn tearing (seen_of r.log r.trace)
-  pub events : (kind : ℕ) → Contains told_kinds kind → are_sure r sessions tearing kind ≡ true → AreNoted (λ c. own_number (card_image r c)) (table_in kind r.unit) (events_in r sessions tearing kind) (table_in kind x)
+  pub events : (kind : ℕ) → Contains told_kinds kind → are_sure r sessions tearing kind ≡ true
+      → AreNoted (λ c. own_number (card_image r c)) (table_in kind r.unit) (events_in r sessions tearing kind)
+      (table_in kind x)
   pub first_over : are_sure r sessions tearing OVER_SPEEDING ≡ true → number_of x FIRST_OVER
-      ≡ (if nat_eq (number_of r.unit FIRST_OVER) 0 then first_begin (events_in r sessions tearing OVER_SPEEDING) else number_of r.unit FIRST_OVER)
-  pub over_count : are_sure r sessions tearing OVER_SPEEDING ≡ true → number_of x OVER_COUNT ≡ min 255 (number_of r.unit OVER_COUNT + length (events_in r sessions tearing OVER_SPEEDING))
+      ≡ (if nat_eq (number_of r.unit FIRST_OVER) 0 then first_begin (events_in r sessions tearing OVER_SPEEDING)
+      else number_of r.unit FIRST_OVER)
+  pub over_count : are_sure r sessions tearing OVER_SPEEDING ≡ true
+      → number_of x OVER_COUNT ≡ min 255 (number_of r.unit OVER_COUNT + length
+      (events_in r sessions tearing OVER_SPEEDING))
 
--- AT THE END of a run every image of the unit shows them, where a recording has its images at the start, its trace and its log.
+-- AT THE END of a run every image of the unit shows them, where a recording has its images at the start, its trace and
+-- its log.
 abbrev pub EventsAreShown : (began now : Devices) → Type 0
-EventsAreShown began now = (o : Origin) (done : List TraceSecond) (log : RunLog) (unfound next : ℕ) (supply : UnitPower) → Evented o done log unfound next supply now → (r : Recording) → r.unit ≡ o.recording.unit → ((c : Card) → card_image r c ≡ card_image o.recording c) →
-    r.trace ≡ done → r.log ≡ log → ((c : Card) → (found_of o.found c).began ≡ (card_of began c).clock) → (x : List ℕ) → now.unit.may_leave x → ShowsEventsOf r began now x
+EventsAreShown began now = (o : Origin) (done : List TraceSecond) (log : RunLog) (unfound next : ℕ) (supply : UnitPower)
+    → Evented o done log unfound next supply now → (r : Recording) → r.unit ≡ o.recording.unit
+    → ((c : Card) → card_image r c ≡ card_image o.recording c) →
+    r.trace ≡ done → r.log ≡ log → ((c : Card) → (found_of o.found c).began ≡ (card_of began c).clock) → (x : List ℕ)
+    → now.unit.may_leave x → ShowsEventsOf r began now x

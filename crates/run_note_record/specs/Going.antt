@@ -1,4 +1,5 @@
--- The events of a run over seconds that are taken at once (profile): without power, of an `off` line, and with power where nothing happens.
+-- The events of a run over seconds that are taken at once (profile): without power, of an `off` line, and with power
+-- where nothing happens.
 use Rattle.std.specs.Prelude.{◌≡◌, ℕ, suc, ◌+◌, ◌-◌, ◌%◌, ◌<◌, ◌≤◌, Bool, true, false, List, [], ◌∷◌, ◌++◌}
 use Rattle.std.specs.List.{AllByRecursion}
 use Rattle.trace_model.specs.declared.Action.{Action}
@@ -21,17 +22,26 @@ use Rattle.run_note_record.specs.Evented.{limit_in, Evented, EventedBy}
 
 -- SECONDS AFTER A FAILED CALL, up to the minute's end: their actions are refused.
 abbrev pub DarkSecondsBringNothing : Devices → Type 0
-DarkSecondsBringNothing d = (o : Origin) (done : List TraceSecond) (p : Progress) → BookFollowsRun (rule_of o) (start_at o) o.from (first_of o) done p → EventedBy o done p d → p.supply ≡ Lost → (n speed : ℕ) (actions : List Action) (refused : List Refused) →
-    0 < p.next % 60 → p.next % 60 + suc n ≤ 60 → Evented o (done ++ driven (suc n) p.next speed actions) (record p.log { refused = refused }) p.unfound (p.next + suc n) Lost d
+DarkSecondsBringNothing d = (o : Origin) (done : List TraceSecond) (p : Progress)
+    → BookFollowsRun (rule_of o) (start_at o) o.from (first_of o) done p → EventedBy o done p d → p.supply ≡ Lost
+    → (n speed : ℕ) (actions : List Action) (refused : List Refused) →
+    0 < p.next % 60 → p.next % 60 + suc n ≤ 60
+    → Evented o (done ++ driven (suc n) p.next speed actions) (record p.log { refused = refused }) p.unfound
+    (p.next + suc n) Lost d
 
 -- AN `off` LINE where there is no power, and where there is
 abbrev pub AnOffLineBringsNothing : Devices → Type 0
-AnOffLineBringsNothing d = (o : Origin) (done : List TraceSecond) (p : Progress) → BookFollowsRun (rule_of o) (start_at o) o.from (first_of o) done p → EventedBy o done p d → IsDark p.supply → (n : ℕ) →
+AnOffLineBringsNothing d = (o : Origin) (done : List TraceSecond) (p : Progress)
+    → BookFollowsRun (rule_of o) (start_at o) o.from (first_of o) done p → EventedBy o done p d → IsDark p.supply
+    → (n : ℕ) →
     Evented o (done ++ dark (suc n) p.next) p.log p.unfound (p.next + suc n) Due d
 
 abbrev pub AnOffLineCutsAndBringsNothing : Devices → Type 0
-AnOffLineCutsAndBringsNothing d = (o : Origin) (done : List TraceSecond) (p : Progress) → BookFollowsRun (rule_of o) (start_at o) o.from (first_of o) done p → EventedBy o done p d → (t : ToldSecond) (span : List ToldSecond) → p.supply ≡ Lit (t ∷ span) → (n : ℕ) →
-    Evented o (done ++ dark (suc n) p.next) (and_break p.log (cut_at (p.next - 1) false p.begun)) p.unfound (p.next + suc n) Due d
+AnOffLineCutsAndBringsNothing d = (o : Origin) (done : List TraceSecond) (p : Progress)
+    → BookFollowsRun (rule_of o) (start_at o) o.from (first_of o) done p → EventedBy o done p d
+    → (t : ToldSecond) (span : List ToldSecond) → p.supply ≡ Lit (t ∷ span) → (n : ℕ) →
+    Evented o (done ++ dark (suc n) p.next) (and_break p.log (cut_at (p.next - 1) false p.begun)) p.unfound
+    (p.next + suc n) Due d
 
 -- ---- with power, where nothing happens
 
@@ -43,11 +53,17 @@ pub record AreQuiet (o : Origin) (log : RunLog) (done more : List TraceSecond) (
 
 -- QUIET SECONDS bring no event where nothing ends with them.
 abbrev pub QuietSecondsBringNothing : Devices → Type 0
-QuietSecondsBringNothing d = (o : Origin) (done : List TraceSecond) (p : Progress) → BookFollowsRun (rule_of o) (start_at o) o.from (first_of o) done p → EventedBy o done p d → (t : ToldSecond) (span : List ToldSecond) → p.supply ≡ Lit (t ∷ span) →
+QuietSecondsBringNothing d = (o : Origin) (done : List TraceSecond) (p : Progress)
+    → BookFollowsRun (rule_of o) (start_at o) o.from (first_of o) done p → EventedBy o done p d
+    → (t : ToldSecond) (span : List ToldSecond) → p.supply ≡ Lit (t ∷ span) →
     (n speed : ℕ) (seen : List Seen) → AreQuiet o p.log done (driven (suc n) p.next speed []) seen →
-    Evented o (done ++ driven (suc n) p.next speed []) p.log p.unfound (p.next + suc n) (Lit ((t ∷ span) ++ quiet_seconds (suc n) p.next speed (went p.log done).before.slots)) d
+    Evented o (done ++ driven (suc n) p.next speed []) p.log p.unfound (p.next + suc n)
+    (Lit ((t ∷ span) ++ quiet_seconds (suc n) p.next speed (went p.log done).before.slots)) d
 
--- NOTHING ENDS with seconds that are all alike, each a bare one if the second before them is, and a fast one if that is.
+-- NOTHING ENDS with seconds that are all alike, each a bare one if the second before them is, and a fast one if that
+-- is.
 abbrev pub SecondsAlikeEndNothing : Type 0
-SecondsAlikeEndNothing = (limit : ℕ) (front : List Seen) (y : Seen) (xs : List Seen) (bare fast : Bool) → AllByRecursion (λ (x : Seen). is_bare x ≡ bare) xs → (is_bare y ≡ true → bare ≡ true) →
-    AllByRecursion (λ (x : Seen). is_fast limit x ≡ fast) xs → (is_fast limit y ≡ true → fast ≡ true) → (bares_by (front ++ y ∷ []) xs ≡ []) × (overs_by limit (front ++ y ∷ []) xs ≡ [])
+SecondsAlikeEndNothing = (limit : ℕ) (front : List Seen) (y : Seen) (xs : List Seen) (bare fast : Bool)
+    → AllByRecursion (λ (x : Seen). is_bare x ≡ bare) xs → (is_bare y ≡ true → bare ≡ true) →
+    AllByRecursion (λ (x : Seen). is_fast limit x ≡ fast) xs → (is_fast limit y ≡ true → fast ≡ true)
+    → (bares_by (front ++ y ∷ []) xs ≡ []) × (overs_by limit (front ++ y ∷ []) xs ≡ [])

@@ -1,4 +1,5 @@
--- The events that a second has noted SO FAR, and how it goes on with each note (Annex IB, section III.12; the moments: profile).
+-- The events that a second has noted SO FAR, and how it goes on with each note (Annex IB, section III.12; the moments:
+-- profile).
 use Rattle.std.specs.Prelude.{◌≡◌, ℕ, suc, ◌==◌, not, ◌&&◌, Bool, true, false, List, [], ◌∷◌, ◌++◌, Contains}
 use Rattle.trace_model.specs.declared.Action.{Action}
 use Rattle.trace_model.specs.Trace.{TraceSecond}
@@ -30,8 +31,8 @@ use Rattle.run_note_record.specs.Opened.{IsOpenSo, AreOpenSo}
 use Rattle.run_note_record.specs.Uses.{AreExact, AreExactIn}
 use Rattle.run_note_record.specs.Evented.{number_in, limit_in, events_now, brought_now, NotesMore, Evented, EventedBy}
 
--- how far a second has come with its notes: at its power-on, before the interruption is noted; as its cards are judged and torn out; and once what
--- has ended with the second before is noted
+-- how far a second has come with its notes: at its power-on, before the interruption is noted; as its cards are judged
+-- and torn out; and once what has ended with the second before is noted
 pub data Stage : Type 0 where
   Waking : Stage
   Acting : Stage
@@ -39,22 +40,26 @@ pub data Stage : Type 0 where
 
 -- so far all events of these types were noted as they came, and of the others none
 abbrev pub is_told : Stage → (kind : ℕ) → Bool
-is_told Waking kind = not (kind == DRIVING_WITHOUT_CARD) && not (kind == OVER_SPEEDING) && not (kind == POWER_INTERRUPTION)
+is_told Waking kind = not (kind == DRIVING_WITHOUT_CARD) && not (kind == OVER_SPEEDING)
+    && not (kind == POWER_INTERRUPTION)
 is_told Acting kind = not (kind == DRIVING_WITHOUT_CARD) && not (kind == OVER_SPEEDING)
 is_told Ended kind = true
 
--- each acceptance so far found a session open that an image of the card told, that of the start where it comes for the first time
+-- each acceptance so far found a session open that an image of the card told, that of the start where it comes for the
+-- first time
 abbrev pub AreOpen : Origin → RunLog → List TraceSecond → TraceSecond → (own : ℕ → Visit → ℕ) → Devices → Type 0
-AreOpen o log done s own d = (f : Visit × Verdict) → Contains (seen_next log done s).told.course.found f → is_accepting f.1 ≡ true →
+AreOpen o log done s own d = (f : Visit × Verdict) → Contains (seen_next log done s).told.course.found f
+    → is_accepting f.1 ≡ true →
     IsOpenSo o (went log done).told (done ++ s ∷ []) d f.0.card s.number (own s.number f.0)
 
 -- an image shows these events more than one before it, whatever is sure
 abbrev pub ShowsThese : Origin → List Event → (x c : List ℕ) → Type 0
 ShowsThese o es x c = (log : RunLog) (now : ℕ → List Event) → ShowsMore (number_in o) log now (by_kind es) x c
 
--- WITHIN A SECOND that began so, by its log so far: these events more were noted in it, which every image of the unit shows behind those of the
--- seconds before.
-pub record EventedIn (o : Origin) (done : List TraceSecond) (s : TraceSecond) (p : Progress) (stage : Stage) (log : RunLog) (d : Devices) : Type 0 where
+-- WITHIN A SECOND that began so, by its log so far: these events more were noted in it, which every image of the unit
+-- shows behind those of the seconds before.
+pub record EventedIn (o : Origin) (done : List TraceSecond) (s : TraceSecond) (p : Progress) (stage : Stage)
+    (log : RunLog) (d : Devices) : Type 0 where
   -- as it began
   pub tearing : Tearing
   pub sessions : ℕ → Visit → ℕ
@@ -67,8 +72,11 @@ pub record EventedIn (o : Origin) (done : List TraceSecond) (s : TraceSecond) (p
   pub here : Tearing
   pub own : ℕ → Visit → ℕ
   pub more : List Event
-  pub noted : (c : List ℕ) → d.unit.may_leave c → (x : List ℕ) × ShowsEvents (number_in o) o.recording.unit p.log (λ kind. events_of kind (limit_in o) sessions tearing p.log done) x × ShowsThese o more x c
-  pub told : (kind : ℕ) → Contains all_kinds kind → is_told stage kind ≡ true → by_kind more kind ≡ brought_now o log done s here own kind
+  pub noted : (c : List ℕ) → d.unit.may_leave c
+      → (x : List ℕ) × ShowsEvents (number_in o) o.recording.unit p.log
+      (λ kind. events_of kind (limit_in o) sessions tearing p.log done) x × ShowsThese o more x c
+  pub told : (kind : ℕ) → Contains all_kinds kind → is_told stage kind ≡ true
+      → by_kind more kind ≡ brought_now o log done s here own kind
   pub untold : (kind : ℕ) → Contains all_kinds kind → is_told stage kind ≡ false → by_kind more kind ≡ []
   pub open_now : AreOpen o log done s own d
   pub exact_now : AreExactIn o log done s own
@@ -77,21 +85,28 @@ pub record EventedIn (o : Origin) (done : List TraceSecond) (s : TraceSecond) (p
 abbrev pub NotesThese : Origin → List Event → (d e : Devices) → Type 0
 NotesThese o es d e = (c : List ℕ) → e.unit.may_leave c → (x : List ℕ) × d.unit.may_leave x × ShowsThese o es x c
 
--- A STEP IS NOTED: a line is told, or none, and what no log tells is chosen further; it brings these events of the types that are noted as they
--- come, and they are noted.
+-- A STEP IS NOTED: a line is told, or none, and what no log tells is chosen further; it brings these events of the
+-- types that are noted as they come, and they are noted.
 abbrev pub AStepIsNoted : (d e : Devices) → Type 0
-AStepIsNoted d e = (o : Origin) (done : List TraceSecond) (s : TraceSecond) (p : Progress) (stage : Stage) (log later : RunLog) → (v : EventedIn o done s p stage log d) → (here : Tearing) (own : ℕ → Visit → ℕ) (es : List Event) →
-    ((kind : ℕ) → Contains all_kinds kind → is_told stage kind ≡ true → brought_now o later done s here own kind ≡ brought_now o log done s v.here v.own kind ++ by_kind es kind) →
-    ((kind : ℕ) → Contains all_kinds kind → is_told stage kind ≡ false → by_kind es kind ≡ []) → NotesThese o es d e → HaveLeftMore o d e → AreOpen o later done s own e → AreExactIn o later done s own →
+AStepIsNoted d e = (o : Origin) (done : List TraceSecond) (s : TraceSecond) (p : Progress) (stage : Stage)
+    (log later : RunLog) → (v : EventedIn o done s p stage log d)
+    → (here : Tearing) (own : ℕ → Visit → ℕ) (es : List Event) →
+    ((kind : ℕ) → Contains all_kinds kind → is_told stage kind ≡ true
+    → brought_now o later done s here own kind ≡ brought_now o log done s v.here v.own kind ++ by_kind es kind) →
+    ((kind : ℕ) → Contains all_kinds kind → is_told stage kind ≡ false → by_kind es kind ≡ []) → NotesThese o es d e
+    → HaveLeftMore o d e → AreOpen o later done s own e → AreExactIn o later done s own →
     EventedIn o done s p stage later e
 
 -- A STAGE IS DONE: the events of the types that were put off are noted.
 abbrev pub AStageIsDone : (d e : Devices) → Type 0
-AStageIsDone d e = (o : Origin) (done : List TraceSecond) (s : TraceSecond) (p : Progress) (stage next : Stage) (log : RunLog) → (v : EventedIn o done s p stage log d) → (es : List Event) →
+AStageIsDone d e = (o : Origin) (done : List TraceSecond) (s : TraceSecond) (p : Progress) (stage next : Stage)
+    (log : RunLog) → (v : EventedIn o done s p stage log d) → (es : List Event) →
     ((kind : ℕ) → is_told stage kind ≡ true → is_told next kind ≡ true) →
     ((kind : ℕ) → Contains all_kinds kind → is_told stage kind ≡ true → by_kind es kind ≡ []) →
-    ((kind : ℕ) → Contains all_kinds kind → is_told stage kind ≡ false → is_told next kind ≡ true → by_kind es kind ≡ brought_now o log done s v.here v.own kind) →
-    ((kind : ℕ) → Contains all_kinds kind → is_told next kind ≡ false → by_kind es kind ≡ []) → NotesThese o es d e → HaveLeftMore o d e →
+    ((kind : ℕ) → Contains all_kinds kind → is_told stage kind ≡ false → is_told next kind ≡ true
+    → by_kind es kind ≡ brought_now o log done s v.here v.own kind) →
+    ((kind : ℕ) → Contains all_kinds kind → is_told next kind ≡ false → by_kind es kind ≡ []) → NotesThese o es d e
+    → HaveLeftMore o d e →
     EventedIn o done s p next log e
 
 -- A SECOND BEGINS, with its power-on if power comes with it: nothing is told of it yet, and nothing is noted.
@@ -100,21 +115,33 @@ stage_of true = Waking
 stage_of false = Acting
 
 abbrev pub TheSecondBegins : Devices → Type 0
-TheSecondBegins d = (o : Origin) (done : List TraceSecond) (p : Progress) → BookFollowsRun (rule_of o) (start_at o) o.from (first_of o) done p → EventedBy o done p d → (span : List ToldSecond) → p.supply ≡ Lit span → (s : TraceSecond) → s.number ≡ p.next → s.has_power ≡ true →
+TheSecondBegins d = (o : Origin) (done : List TraceSecond) (p : Progress)
+    → BookFollowsRun (rule_of o) (start_at o) o.from (first_of o) done p → EventedBy o done p d
+    → (span : List ToldSecond) → p.supply ≡ Lit span → (s : TraceSecond) → s.number ≡ p.next → s.has_power ≡ true →
     EventedIn o done s p (stage_of (begins_with span)) p.log d
 
 -- THE SECOND ENDS with its keeping, and all that it brings is noted.
 abbrev pub TheSecondIsNoted : Devices → Type 0
-TheSecondIsNoted d = (o : Origin) (done : List TraceSecond) (p : Progress) → BookFollowsRun (rule_of o) (start_at o) o.from (first_of o) done p → (span : List ToldSecond) → p.supply ≡ Lit span → (s : TraceSecond) (log : RunLog) (mid now : Device → ℕ) →
-    Moment p (went p.log done).before s Keeping log [] mid now → (v : EventedIn o done s p Ended log d) → IsTornIn v.here (seen_next log done s) →
+TheSecondIsNoted d = (o : Origin) (done : List TraceSecond) (p : Progress)
+    → BookFollowsRun (rule_of o) (start_at o) o.from (first_of o) done p → (span : List ToldSecond)
+    → p.supply ≡ Lit span → (s : TraceSecond) (log : RunLog) (mid now : Device → ℕ) →
+    Moment p (went p.log done).before s Keeping log [] mid now → (v : EventedIn o done s p Ended log d)
+    → IsTornIn v.here (seen_next log done s) →
     Evented o (done ++ s ∷ []) log p.unfound (suc p.next) (Lit (span ++ next_told log done s ∷ [])) d
 
--- OR THE UNIT FAILS IN IT, at any stage: of a type of which the second brings events none are sure then. The cut's line brings no other events of the
--- types that were noted as they came.
+-- OR THE UNIT FAILS IN IT, at any stage: of a type of which the second brings events none are sure then. The cut's line
+-- brings no other events of the types that were noted as they came.
 abbrev pub TheSecondIsCut : (d e : Devices) → Type 0
-TheSecondIsCut d e = (o : Origin) (done : List TraceSecond) (p : Progress) → BookFollowsRun (rule_of o) (start_at o) o.from (first_of o) done p → (span : List ToldSecond) → p.supply ≡ Lit span → (s : TraceSecond) (at : Phase) (log : RunLog) (waits : List Visit) (mid now later : Device → ℕ) →
-    Moment p (went p.log done).before s at log waits mid now → IsMore now later → RoseBy 1 (mid Recorder) (later Recorder) → (rest : List Action) → IsLeft s at rest → let cut : RunLog = and_break log (cut_at s.number true (begun_by s at)) in
-    (stage : Stage) → (v : EventedIn o done s p stage log d) → (here : Tearing) (own : ℕ → Visit → ℕ) → IsTornIn here (seen_next cut done s) → AreOpen o cut done s own e → HaveLeftMore o d e →
-    ((kind : ℕ) → Contains all_kinds kind → is_told stage kind ≡ true → brought_now o cut done s here own kind ≡ [] → brought_now o log done s v.here v.own kind ≡ []) →
+TheSecondIsCut d e = (o : Origin) (done : List TraceSecond) (p : Progress)
+    → BookFollowsRun (rule_of o) (start_at o) o.from (first_of o) done p → (span : List ToldSecond)
+    → p.supply ≡ Lit span → (s : TraceSecond) (at : Phase) (log : RunLog) (waits : List Visit)
+    (mid now later : Device → ℕ) →
+    Moment p (went p.log done).before s at log waits mid now → IsMore now later
+    → RoseBy 1 (mid Recorder) (later Recorder) → (rest : List Action) → IsLeft s at rest
+    → let cut : RunLog = and_break log (cut_at s.number true (begun_by s at)) in
+    (stage : Stage) → (v : EventedIn o done s p stage log d) → (here : Tearing) (own : ℕ → Visit → ℕ)
+    → IsTornIn here (seen_next cut done s) → AreOpen o cut done s own e → HaveLeftMore o d e →
+    ((kind : ℕ) → Contains all_kinds kind → is_told stage kind ≡ true → brought_now o cut done s here own kind ≡ []
+    → brought_now o log done s v.here v.own kind ≡ []) →
     NotesMore o cut (events_now o cut done s here own v.tearing v.sessions) none d e →
     Evented o (done ++ s ∷ []) cut p.unfound (suc p.next) Lost e

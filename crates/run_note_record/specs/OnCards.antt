@@ -29,7 +29,8 @@ pub record HasRing (r : Shape) (start : List ℕ) : Type 0 where
   pub dense : IsDense r start
 
 -- A RING of which entries stand for these notes, behind what it showed at the start
-pub record ShowsNotes {N : Type 0} (r : Shape) (is_sure : N → Bool) (Is : N → List ℕ → Type 0) (notes : List N) (start x : List ℕ) : Type 0 where
+pub record ShowsNotes {N : Type 0} (r : Shape) (is_sure : N → Bool) (Is : N → List ℕ → Type 0) (notes : List N)
+    (start x : List ℕ) : Type 0 where
   pub more : List (List ℕ)
   pub carries : RingKeeps r start x more
   pub stand : Stand is_sure Is notes more
@@ -75,14 +76,17 @@ pub record HasPlaces (start : List ℕ) : Type 0 where
 
 -- THE CARDS SHOW THESE PLACES: each image that a stop may leave of such a card, those of it in their order
 abbrev pub PlacesOnCards : Origin → RunLog → List SpanFrom → List Note → Devices → Type 0
-PlacesOnCards o log spans notes d = (c : Card) → HasPlaces (card_image o.recording c) → (x : List ℕ) → (card_of d c).may_leave x →
-    ShowsNotes (places_in (card_image o.recording c)) (is_sure_on log) (IsPlaceOn spans) (places_on c (places_of notes)) (card_image o.recording c) x
+PlacesOnCards o log spans notes d = (c : Card) → HasPlaces (card_image o.recording c) → (x : List ℕ)
+    → (card_of d c).may_leave x →
+    ShowsNotes (places_in (card_image o.recording c)) (is_sure_on log) (IsPlaceOn spans) (places_on c (places_of notes))
+    (card_image o.recording c) x
 
 -- ---- calls
 
 -- two images have the same ring of places
 abbrev pub HasSamePlaces : (start x y : List ℕ) → Type 0
-HasSamePlaces start x y = bytes_at y (places_in start).base (size_of (places_in start)) ≡ bytes_at x (places_in start).base (size_of (places_in start))
+HasSamePlaces start x y = bytes_at y (places_in start).base (size_of (places_in start))
+    ≡ bytes_at x (places_in start).base (size_of (places_in start))
 
 -- CALLS LEAVE THE PLACES of a card: each image that it may leave behind them has those of one before
 abbrev pub LeavesPlaces : (start : List ℕ) → (old new : State) → Type 0
@@ -90,14 +94,20 @@ LeavesPlaces start old new = (y : List ℕ) → new.may_leave y → (x : List �
 
 -- so they do of each that was valid
 abbrev pub PlacesStay : Origin → (d e : Devices) → Type 0
-PlacesStay o d e = (c : Card) → IsOwnValid (card_image o.recording c) → LeavesPlaces (card_image o.recording c) (card_of d c) (card_of e c)
+PlacesStay o d e = (c : Card) → IsOwnValid (card_image o.recording c)
+    → LeavesPlaces (card_image o.recording c) (card_of d c) (card_of e c)
 
 -- A PLACE IS NOTED in the ring of a card, by the bytes of its entry; or a call failed in its second, and it may be
 abbrev pub TakesPlace : RunLog → PlaceNote → (head start x y : List ℕ) → Type 0
-TakesPlace log p head start x y = IsAdded (places_in start) head x y ⊎ ((has_call_failed_in log p.second ≡ true) × ((y ≡ x) ⊎ IsAdding (places_in start) head x y))
+TakesPlace log p head start x y = IsAdded (places_in start) head x y
+    ⊎ ((has_call_failed_in log p.second ≡ true) × ((y ≡ x) ⊎ IsAdding (places_in start) head x y))
 
 -- so it is of the card that entered it, and the places of the other stay
 abbrev pub PlaceIsTaken : Origin → RunLog → PlaceNote → (head : List ℕ) → (d e : Devices) → Type 0
 PlaceIsTaken o log p head d e = (c : Card) → IsOwnValid (card_image o.recording c) →
     ((same_card p.card c ≡ false) × LeavesPlaces (card_image o.recording c) (card_of d c) (card_of e c))
-    ⊎ ((same_card p.card c ≡ true) × ((y : List ℕ) → (card_of e c).may_leave y → (x : List ℕ) × (card_of d c).may_leave x × (PointsInside (places_in (card_image o.recording c)) x → TakesPlace log p head (card_image o.recording c) x y)))
+    ⊎ ((same_card p.card c ≡ true)
+    × ((y : List ℕ) → (card_of e c).may_leave y
+    → (x : List ℕ) × (card_of d c).may_leave x
+    × (PointsInside (places_in (card_image o.recording c)) x
+    → TakesPlace log p head (card_image o.recording c) x y)))

@@ -1,5 +1,5 @@
--- WHICH SESSION a run finds open on a card that is accepted (profile): one that an image of it told; where the card comes for the first time, that of
--- its image at the start.
+-- WHICH SESSION a run finds open on a card that is accepted (profile): one that an image of it told; where the card
+-- comes for the first time, that of its image at the start.
 use Rattle.std.specs.Prelude.{◌≡◌, ◌⊎◌, ◌<◌, ℕ, Bool, true, false, List, Contains, filter, length}
 use Rattle.std.specs.List.{list_any}
 use Rattle.trace_model.specs.declared.Card.{Card}
@@ -44,7 +44,8 @@ HasComeBefore told trace c u =
     ⊎ ((s : TraceSecond) × Contains trace s × (s.number ≡ u) × (1 < times_put c s))
 
 -- A SESSION TIME that was found on a card in a second is that of its image at the start, or it has come before.
-abbrev pub IsFirst : (start : Card → List ℕ) → List ToldSecond → List TraceSecond → Card → (second : ℕ) → (session : ℕ) → Type 0
+abbrev pub IsFirst : (start : Card → List ℕ) → List ToldSecond → List TraceSecond → Card → (second : ℕ) → (session : ℕ)
+    → Type 0
 IsFirst start told trace c u session = (session_in (start c) ≡ session) ⊎ HasComeBefore told trace c u
 
 -- so is each that was found as a card was accepted in these seconds
@@ -54,8 +55,10 @@ AreFirst start told trace sessions =
     IsFirst start told trace f.0.card t.second.number (sessions t.second.number f.0)
 
 -- IT WAS FOUND SO: an image of the card told it
-abbrev pub IsOpenSo : Origin → List ToldSecond → List TraceSecond → Devices → Card → (second : ℕ) → (session : ℕ) → Type 0
-IsOpenSo o told trace d c u session = (x : List ℕ) × images_in o d c x × (session_in x ≡ session) × IsFirst (card_image o.recording) told trace c u session
+abbrev pub IsOpenSo : Origin → List ToldSecond → List TraceSecond → Devices → Card → (second : ℕ) → (session : ℕ)
+    → Type 0
+IsOpenSo o told trace d c u session = (x : List ℕ) × images_in o d c x × (session_in x ≡ session)
+    × IsFirst (card_image o.recording) told trace c u session
 
 -- at each acceptance
 abbrev pub AreOpenSo : Origin → List ToldSecond → List TraceSecond → Devices → (ℕ → Visit → ℕ) → Type 0

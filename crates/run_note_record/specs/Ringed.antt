@@ -1,5 +1,6 @@
 -- What the rings of insertions and places of a unit carry of a run with cards (profile), from note to note.
-use Rattle.std.specs.Prelude.{◌≡◌, ◌⊎◌, ℕ, suc, ◌<◌, ◌≤◌, ◌^◌, Bool, true, false, Option, Some, None, IfSome, option_map, List, [], ◌∷◌, ◌++◌, length}
+use Rattle.std.specs.Prelude.{◌≡◌, ◌⊎◌, ℕ, suc, ◌<◌, ◌≤◌, ◌^◌, Bool, true, false, Option, Some, None, IfSome}
+use Rattle.std.specs.Prelude.{option_map, List, [], ◌∷◌, ◌++◌, length}
 use Rattle.std.specs.List.{AllByRecursion, list_any}
 use Rattle.trace_model.specs.declared.Card.{Card}
 use Rattle.trace_model.specs.Trace.{TraceSecond}
@@ -15,7 +16,8 @@ use Rattle.log_model.specs.Slots.{same_card}
 use Rattle.log_model.specs.Course.{went, ToldSecond}
 use Rattle.note_model.specs.Done.{has_failed_in}
 use Rattle.note_model.specs.Odometer.{SpanFrom, odometer_at}
-use Rattle.note_model.specs.Noted.{Acceptance, Withdrawal, InsertionNote, PlaceNote, Note, Accepts, Withdraws, Enters, insertions_of, places_of}
+use Rattle.note_model.specs.Noted.{Acceptance, Withdrawal, InsertionNote, PlaceNote, Note, Accepts, Withdraws, Enters}
+use Rattle.note_model.specs.Noted.{insertions_of, places_of}
 use Rattle.note_model.specs.Rings.{Holder, Stand, RingShows, IsInsertion, IsPlace, is_sure_insertion, is_sure_place}
 use Rattle.safety_model.specs.Recording.{Recording, card_image, told_of}
 use Rattle.safety_model.specs.Safe.{Devices, card_of}
@@ -27,7 +29,8 @@ pub use Rattle.run_note_record.specs.Uses.{notes_in, noted_next}
 use Rattle.run_promise.specs.Found.{found_of}
 pub use Rattle.run_rings.specs.Same.{HasSameRings, LeavesRings}
 pub use Rattle.run_note_record.specs.OnCards.{HasRing, ShowsNotes}
-use Rattle.run_note_record.specs.OnCards.{has_call_failed_in, place_width, IsPlaceOn, PlacesOnCards, PlacesStay, PlaceIsTaken, HasPlaces, places_in, places_on, is_sure_on}
+use Rattle.run_note_record.specs.OnCards.{has_call_failed_in, place_width, IsPlaceOn, PlacesOnCards, PlacesStay}
+use Rattle.run_note_record.specs.OnCards.{PlaceIsTaken, HasPlaces, places_in, places_on, is_sure_on}
 use Rattle.run_note_record.specs.Origin.{Origin}
 use Rattle.run_note_record.specs.Beside.{HaveLeftMore}
 
@@ -52,10 +55,11 @@ holder_in o = holder_of o.recording
 
 -- its newest vehicle, by its image at the start
 abbrev pub TellsAtStart : Recording → Card → List ℕ → ℕ → Type 0
-TellsAtStart r c registration time = TellsVehicle r (newest_vehicle (own_sizes (card_image r c)) (card_image r c)) registration time
+TellsAtStart r c registration time = TellsVehicle r (newest_vehicle (own_sizes (card_image r c)) (card_image r c))
+    registration time
 
--- WHAT A CARD TELLS of its last vehicle in a second: an image of it does, which it might have left since the start; where the card comes for the first
--- time, that of the start
+-- WHAT A CARD TELLS of its last vehicle in a second: an image of it does, which it might have left since the start;
+-- where the card comes for the first time, that of the start
 abbrev pub TellsIn : Since → Devices → (second : ℕ) → Card → List ℕ → ℕ → Type 0
 TellsIn o d u c registration time =
     IsPrevious o.origin.recording (found_of o.origin.found c).began (card_of d c) registration time
@@ -90,9 +94,10 @@ Each Is [] (e ∷ entries) = ⊥
 Each Is (n ∷ notes) [] = ⊥
 Each Is (n ∷ notes) (e ∷ entries) = Is n e × Each Is notes entries
 
--- AN ACCEPTED CARD: the last insertion of it is not withdrawn; its entry stands at its index, with so many behind it, or as many came as the
--- ring has places.
-pub record IsSeated (is_sure : InsertionNote → Bool) (Is : InsertionNote → List ℕ → Type 0) (card : Card) (s : Seating) (notes : List InsertionNote) (more : List (List ℕ)) (x : List ℕ) : Type 0 where
+-- AN ACCEPTED CARD: the last insertion of it is not withdrawn; its entry stands at its index, with so many behind it,
+-- or as many came as the ring has places.
+pub record IsSeated (is_sure : InsertionNote → Bool) (Is : InsertionNote → List ℕ → Type 0) (card : Card) (s : Seating)
+    (notes : List InsertionNote) (more : List (List ℕ)) (x : List ℕ) : Type 0 where
   pub older : List InsertionNote
   pub own : InsertionNote
   pub newer : List InsertionNote
@@ -108,18 +113,27 @@ pub record IsSeated (is_sure : InsertionNote → Bool) (Is : InsertionNote → L
   pub is : Is own entry
   pub each_behind : Each Is newer newers
   pub behind : length newers ≡ s.behind
-  pub there : ((front : List ℕ) × (back : List ℕ) × (indices insertion_ring x ≡ front ++ s.index ∷ back) × (length back ≡ s.behind)) ⊎ (insertion_ring.count ≤ s.behind)
+  pub there : ((front : List ℕ) × (back : List ℕ) × (indices insertion_ring x ≡ front ++ s.index ∷ back)
+      × (length back ≡ s.behind)) ⊎ (insertion_ring.count ≤ s.behind)
 
 -- the insertions of an image, with the cards that are accepted
-pub record ShowsInsertions (o : Since) (log : RunLog) (spans : List SpanFrom) (notes : List Note) (seats : Card → Option Seating) (d : Devices) (x : List ℕ) : Type 0 where
-  pub shows : ShowsNotes insertion_ring (sure_insertion o.origin log spans) (IsInsertionIn o log spans d) (insertions_of notes) o.origin.recording.unit x
-  pub seated : (c : Card) → IfSome (seats c) (λ s. IsSeated (sure_insertion o.origin log spans) (IsInsertionIn o log spans d) c s (insertions_of notes) shows.more x)
+pub record ShowsInsertions (o : Since) (log : RunLog) (spans : List SpanFrom) (notes : List Note)
+    (seats : Card → Option Seating) (d : Devices) (x : List ℕ) : Type 0 where
+  pub shows : ShowsNotes insertion_ring (sure_insertion o.origin log spans) (IsInsertionIn o log spans d)
+      (insertions_of notes) o.origin.recording.unit x
+  pub seated : (c : Card) → IfSome (seats c)
+      (λ s. IsSeated (sure_insertion o.origin log spans) (IsInsertionIn o log spans d) c s (insertions_of notes)
+      shows.more x)
 
--- WHAT IS CARRIED OF THE RINGS, of these notes: each image that a stop may leave of the unit shows them, and each of a card its places
-pub record Ringed (o : Since) (log : RunLog) (spans : List SpanFrom) (notes : List Note) (seats : Card → Option Seating) (d : Devices) : Type 0 where
-  pub insertions : HasRing insertion_ring o.origin.recording.unit → (x : List ℕ) → d.unit.may_leave x → ShowsInsertions o log spans notes seats d x
+-- WHAT IS CARRIED OF THE RINGS, of these notes: each image that a stop may leave of the unit shows them, and each of a
+-- card its places
+pub record Ringed (o : Since) (log : RunLog) (spans : List SpanFrom) (notes : List Note) (seats : Card → Option Seating)
+    (d : Devices) : Type 0 where
+  pub insertions : HasRing insertion_ring o.origin.recording.unit → (x : List ℕ) → d.unit.may_leave x
+      → ShowsInsertions o log spans notes seats d x
   pub places : HasRing unit_place_ring o.origin.recording.unit → (x : List ℕ) → d.unit.may_leave x →
-      ShowsNotes unit_place_ring (sure_place o.origin log spans) (IsPlaceIn o.origin log spans) (places_of notes) o.origin.recording.unit x
+      ShowsNotes unit_place_ring (sure_place o.origin log spans) (IsPlaceIn o.origin log spans) (places_of notes)
+      o.origin.recording.unit x
   pub on_cards : PlacesOnCards o.origin log spans notes d
 
 -- ---- steps
@@ -140,74 +154,113 @@ WritesRing R d e = WritesImages R d.unit e.unit
 
 -- an entry is added to a ring, which takes this index; or the unit failed in that
 abbrev pub IsAddedAt : (index : ℕ) → (head : List ℕ) → List ℕ → List ℕ → Type 0
-IsAddedAt index head p q = IsAdded insertion_ring head p q × (PointsInside insertion_ring p → index ≡ taken insertion_ring p)
+IsAddedAt index head p q = IsAdded insertion_ring head p q
+    × (PointsInside insertion_ring p → index ≡ taken insertion_ring p)
 
 abbrev pub MayBeAdded : Shape → (head : List ℕ) → List ℕ → List ℕ → Type 0
 MayBeAdded r head p q = (q ≡ p) ⊎ IsAdding r head p q
 
 -- a withdrawal stands in the entry at an index; or so many were added since that it is gone, and nothing is written
 abbrev pub IsWithdrawnAt : Seating → TimeReal → Odometer → List ℕ → List ℕ → Type 0
-IsWithdrawnAt s time odometer p q = (IsWithdrawn s.index time odometer p q × (s.behind < insertion_ring.count)) ⊎ (HasSameRings p q × (insertion_ring.count ≤ s.behind))
+IsWithdrawnAt s time odometer p q = (IsWithdrawn s.index time odometer p q × (s.behind < insertion_ring.count))
+    ⊎ (HasSameRings p q × (insertion_ring.count ≤ s.behind))
 
 -- the unit failed as it was written, or so
 abbrev pub MayBeWithdrawn : Seating → TimeReal → Odometer → List ℕ → List ℕ → Type 0
-MayBeWithdrawn s time odometer p q = (IsWithdrawing s.index time odometer p q × (s.behind < insertion_ring.count)) ⊎ (HasSameRings p q × (insertion_ring.count ≤ s.behind))
+MayBeWithdrawn s time odometer p q = (IsWithdrawing s.index time odometer p q × (s.behind < insertion_ring.count))
+    ⊎ (HasSameRings p q × (insertion_ring.count ≤ s.behind))
 
--- A LOG AND SPANS THAT GO ON: what failed has failed, on the unit and on a card, and the odometers of what was noted are the same
+-- A LOG AND SPANS THAT GO ON: what failed has failed, on the unit and on a card, and the odometers of what was noted
+-- are the same
 pub record GoOn (log later : RunLog) (spans now : List SpanFrom) (notes : List Note) : Type 0 where
   pub failed : (u : ℕ) → has_failed_in log u ≡ true → has_failed_in later u ≡ true
   pub fell : (u : ℕ) → has_call_failed_in log u ≡ true → has_call_failed_in later u ≡ true
-  pub insertions : AllByRecursion (λ (i : InsertionNote). (odometer_at i.accepted.second now ≡ odometer_at i.accepted.second spans) × IfSome i.withdrawn (λ u. odometer_at u now ≡ odometer_at u spans)) (insertions_of notes)
-  pub places : AllByRecursion (λ (p : PlaceNote). odometer_at p.second now ≡ odometer_at p.second spans) (places_of notes)
+  pub insertions : AllByRecursion (λ (i : InsertionNote).
+      (odometer_at i.accepted.second now ≡ odometer_at i.accepted.second spans)
+      × IfSome i.withdrawn (λ u. odometer_at u now ≡ odometer_at u spans)) (insertions_of notes)
+  pub places : AllByRecursion (λ (p : PlaceNote). odometer_at p.second now ≡ odometer_at p.second spans)
+      (places_of notes)
 
 -- NOTHING IS NOTED at the start.
 abbrev pub NoRingIsWritten : Devices → Type 0
-NoRingIsWritten d = (o : Since) (log : RunLog) (spans : List SpanFrom) → ((x : List ℕ) → d.unit.may_leave x → x ≡ o.origin.recording.unit) → ((c : Card) (x : List ℕ) → (card_of d c).may_leave x → x ≡ card_image o.origin.recording c) → Ringed o log spans [] (λ c. None) d
+NoRingIsWritten d = (o : Since) (log : RunLog) (spans : List SpanFrom)
+    → ((x : List ℕ) → d.unit.may_leave x → x ≡ o.origin.recording.unit)
+    → ((c : Card) (x : List ℕ) → (card_of d c).may_leave x → x ≡ card_image o.origin.recording c)
+    → Ringed o log spans [] (λ c. None) d
 
 -- CALLS that write no ring leave them so, as the log and the spans go on.
 abbrev pub RingsStay : (d e : Devices) → Type 0
-RingsStay d e = (o : Since) (log later : RunLog) (spans now : List SpanFrom) (notes : List Note) (seats : Card → Option Seating) → Ringed o log spans notes seats d → StaysInRings d e → HaveLeftMore o.origin d e → PlacesStay o.origin d e → GoOn log later spans now notes →
+RingsStay d e = (o : Since) (log later : RunLog) (spans now : List SpanFrom) (notes : List Note)
+    (seats : Card → Option Seating) → Ringed o log spans notes seats d → StaysInRings d e → HaveLeftMore o.origin d e
+    → PlacesStay o.origin d e → GoOn log later spans now notes →
     Ringed o later now notes seats e
 
 -- CARDS leave their slots, or power is lost: fewer are accepted.
 abbrev pub FewerSit : Devices → Type 0
-FewerSit d = (o : Since) (log : RunLog) (spans : List SpanFrom) (notes : List Note) (seats fewer : Card → Option Seating) → Ringed o log spans notes seats d → ((c : Card) → (fewer c ≡ seats c) ⊎ (fewer c ≡ None)) → Ringed o log spans notes fewer d
+FewerSit d = (o : Since) (log : RunLog) (spans : List SpanFrom) (notes : List Note)
+    (seats fewer : Card → Option Seating) → Ringed o log spans notes seats d
+    → ((c : Card) → (fewer c ≡ seats c) ⊎ (fewer c ≡ None)) → Ringed o log spans notes fewer d
 
 -- AN INSERTION IS NOTED, of a card that is not accepted yet, at this index
 abbrev pub AnInsertionIsNoted : (d e : Devices) → Type 0
-AnInsertionIsNoted d e = (o : Since) (log : RunLog) (spans : List SpanFrom) (notes : List Note) (seats now : Card → Option Seating) → Ringed o log spans notes seats d → HaveLeftMore o.origin d e → PlacesStay o.origin d e → (a : Acceptance) (head : List ℕ) (index : ℕ) →
+AnInsertionIsNoted d e = (o : Since) (log : RunLog) (spans : List SpanFrom) (notes : List Note)
+    (seats now : Card → Option Seating) → Ringed o log spans notes seats d → HaveLeftMore o.origin d e
+    → PlacesStay o.origin d e → (a : Acceptance) (head : List ℕ) (index : ℕ) →
     WritesRing (IsAddedAt index head) d e →
     length head ≡ insertion_ring.width → IsInsertionIn o log spans e (record { accepted = a; withdrawn = None }) head →
-    ((c : Card) → ((same_card a.card c ≡ false) × (now c ≡ option_map one_behind (seats c))) ⊎ ((same_card a.card c ≡ true) × (now c ≡ Some (record { index = index; behind = 0 })))) →
+    ((c : Card) → ((same_card a.card c ≡ false) × (now c ≡ option_map one_behind (seats c)))
+    ⊎ ((same_card a.card c ≡ true) × (now c ≡ Some (record { index = index; behind = 0 })))) →
     Ringed o log spans (notes ++ Accepts a ∷ []) now e
 
 -- A PLACE IS NOTED
 abbrev pub APlaceIsNoted : (d e : Devices) → Type 0
-APlaceIsNoted d e = (o : Since) (log : RunLog) (spans : List SpanFrom) (notes : List Note) (seats : Card → Option Seating) → Ringed o log spans notes seats d → HaveLeftMore o.origin d e → (p : PlaceNote) (head : List ℕ) →
-    WritesRing (IsAdded unit_place_ring head) d e → length head ≡ unit_place_ring.width → IsPlaceIn o.origin log spans p head → (own : List ℕ) → length own ≡ place_width → IsPlaceOn spans p own → PlaceIsTaken o.origin log p own d e →
+APlaceIsNoted d e = (o : Since) (log : RunLog) (spans : List SpanFrom) (notes : List Note)
+    (seats : Card → Option Seating) → Ringed o log spans notes seats d → HaveLeftMore o.origin d e
+    → (p : PlaceNote) (head : List ℕ) →
+    WritesRing (IsAdded unit_place_ring head) d e → length head ≡ unit_place_ring.width
+    → IsPlaceIn o.origin log spans p head → (own : List ℕ) → length own ≡ place_width → IsPlaceOn spans p own
+    → PlaceIsTaken o.origin log p own d e →
     Ringed o log spans (notes ++ Enters p ∷ []) seats e
 
--- A WITHDRAWAL IS NOTED, in the entry of the card's last insertion; or as many were added since as the ring has places, and nothing is written
+-- A WITHDRAWAL IS NOTED, in the entry of the card's last insertion; or as many were added since as the ring has places,
+-- and nothing is written
 abbrev pub AWithdrawalIsNoted : (d e : Devices) → Type 0
-AWithdrawalIsNoted d e = (o : Since) (log : RunLog) (spans : List SpanFrom) (notes : List Note) (seats now : Card → Option Seating) → Ringed o log spans notes seats d → HaveLeftMore o.origin d e → PlacesStay o.origin d e → (w : Withdrawal) (s : Seating) → seats w.card ≡ Some s → s.index < insertion_ring.count →
-    (time : TimeReal) (odometer : Odometer) → time.0 ≡ w.second → odometer.0 ≡ odometer_at w.second spans → time.0 < 256 ^ 4 → odometer.0 < 256 ^ 3 →
+AWithdrawalIsNoted d e = (o : Since) (log : RunLog) (spans : List SpanFrom) (notes : List Note)
+    (seats now : Card → Option Seating) → Ringed o log spans notes seats d → HaveLeftMore o.origin d e
+    → PlacesStay o.origin d e → (w : Withdrawal) (s : Seating) → seats w.card ≡ Some s → s.index < insertion_ring.count
+    →
+    (time : TimeReal) (odometer : Odometer) → time.0 ≡ w.second → odometer.0 ≡ odometer_at w.second spans
+    → time.0 < 256 ^ 4 → odometer.0 < 256 ^ 3 →
     WritesRing (IsWithdrawnAt s time odometer) d e →
-    ((c : Card) → ((same_card w.card c ≡ false) × (now c ≡ seats c)) ⊎ ((same_card w.card c ≡ true) × (now c ≡ None))) → Ringed o log spans (notes ++ Withdraws w ∷ []) now e
+    ((c : Card) → ((same_card w.card c ≡ false) × (now c ≡ seats c)) ⊎ ((same_card w.card c ≡ true) × (now c ≡ None)))
+    → Ringed o log spans (notes ++ Withdraws w ∷ []) now e
 
 -- OR THE UNIT FAILED IN IT: it stands, or does not
 abbrev pub AnInsertionIsBroken : (d e : Devices) → Type 0
-AnInsertionIsBroken d e = (o : Since) (log : RunLog) (spans : List SpanFrom) (notes : List Note) (seats : Card → Option Seating) → Ringed o log spans notes seats d → HaveLeftMore o.origin d e → PlacesStay o.origin d e → (a : Acceptance) (head : List ℕ) →
+AnInsertionIsBroken d e = (o : Since) (log : RunLog) (spans : List SpanFrom) (notes : List Note)
+    (seats : Card → Option Seating) → Ringed o log spans notes seats d → HaveLeftMore o.origin d e
+    → PlacesStay o.origin d e → (a : Acceptance) (head : List ℕ) →
     WritesRing (MayBeAdded insertion_ring head) d e → length head ≡ insertion_ring.width →
-    IsInsertionIn o log spans e (record { accepted = a; withdrawn = None }) head → has_failed_in log a.second ≡ true → Ringed o log spans (notes ++ Accepts a ∷ []) (λ c. None) e
+    IsInsertionIn o log spans e (record { accepted = a; withdrawn = None }) head → has_failed_in log a.second ≡ true
+    → Ringed o log spans (notes ++ Accepts a ∷ []) (λ c. None) e
 
 abbrev pub AWithdrawalIsBroken : (d e : Devices) → Type 0
-AWithdrawalIsBroken d e = (o : Since) (log : RunLog) (spans : List SpanFrom) (notes : List Note) (seats : Card → Option Seating) → Ringed o log spans notes seats d → HaveLeftMore o.origin d e → PlacesStay o.origin d e → (w : Withdrawal) (s : Seating) → seats w.card ≡ Some s → s.index < insertion_ring.count →
-    (time : TimeReal) (odometer : Odometer) → time.0 ≡ w.second → odometer.0 ≡ odometer_at w.second spans → time.0 < 256 ^ 4 → odometer.0 < 256 ^ 3 → WritesRing (MayBeWithdrawn s time odometer) d e → has_failed_in log w.second ≡ true →
+AWithdrawalIsBroken d e = (o : Since) (log : RunLog) (spans : List SpanFrom) (notes : List Note)
+    (seats : Card → Option Seating) → Ringed o log spans notes seats d → HaveLeftMore o.origin d e
+    → PlacesStay o.origin d e → (w : Withdrawal) (s : Seating) → seats w.card ≡ Some s → s.index < insertion_ring.count
+    →
+    (time : TimeReal) (odometer : Odometer) → time.0 ≡ w.second → odometer.0 ≡ odometer_at w.second spans
+    → time.0 < 256 ^ 4 → odometer.0 < 256 ^ 3 → WritesRing (MayBeWithdrawn s time odometer) d e
+    → has_failed_in log w.second ≡ true →
     Ringed o log spans (notes ++ Withdraws w ∷ []) (λ c. None) e
 
 abbrev pub APlaceIsBroken : (d e : Devices) → Type 0
-APlaceIsBroken d e = (o : Since) (log : RunLog) (spans : List SpanFrom) (notes : List Note) (seats : Card → Option Seating) → Ringed o log spans notes seats d → HaveLeftMore o.origin d e → (p : PlaceNote) (head : List ℕ) →
-    WritesRing (MayBeAdded unit_place_ring head) d e → length head ≡ unit_place_ring.width → IsPlaceIn o.origin log spans p head → has_failed_in log p.second ≡ true → (own : List ℕ) → length own ≡ place_width → IsPlaceOn spans p own → PlaceIsTaken o.origin log p own d e →
+APlaceIsBroken d e = (o : Since) (log : RunLog) (spans : List SpanFrom) (notes : List Note)
+    (seats : Card → Option Seating) → Ringed o log spans notes seats d → HaveLeftMore o.origin d e
+    → (p : PlaceNote) (head : List ℕ) →
+    WritesRing (MayBeAdded unit_place_ring head) d e → length head ≡ unit_place_ring.width
+    → IsPlaceIn o.origin log spans p head → has_failed_in log p.second ≡ true → (own : List ℕ)
+    → length own ≡ place_width → IsPlaceOn spans p own → PlaceIsTaken o.origin log p own d e →
     Ringed o log spans (notes ++ Enters p ∷ []) (λ c. None) e
 
 -- ---- at the end
@@ -215,7 +268,8 @@ APlaceIsBroken d e = (o : Since) (log : RunLog) (spans : List SpanFrom) (notes :
 -- what a card tells of its last vehicle in a second of a recording
 abbrev pub TellsOf : Recording → (began now : Devices) → (second : ℕ) → Card → List ℕ → ℕ → Type 0
 TellsOf r began now u c registration time =
-    IsPrevious r (card_of began c).clock (card_of now c) registration time × (TellsAtStart r c registration time ⊎ HasComeBefore (told_of r) r.trace c u)
+    IsPrevious r (card_of began c).clock (card_of now c) registration time
+    × (TellsAtStart r c registration time ⊎ HasComeBefore (told_of r) r.trace c u)
 
 -- an entry stands for an insertion of it
 abbrev pub IsInsertionOf : Recording → List SpanFrom → (began now : Devices) → InsertionNote → List ℕ → Type 0
@@ -223,17 +277,29 @@ IsInsertionOf r spans began now n e = IsInsertion r.log spans (holder_of r) (Tel
 
 -- AN IMAGE SHOWS THE RINGS of a recording, as its auxiliary records are to show them.
 pub record ShowsRingsOf (r : Recording) (spans : List SpanFrom) (began now : Devices) (x : List ℕ) : Type 0 where
-  pub insertions : HasRing insertion_ring r.unit → RingShows insertion_ring (is_sure_insertion r.log spans (holder_of r)) (IsInsertionOf r spans began now)
+  pub insertions : HasRing insertion_ring r.unit
+      → RingShows insertion_ring (is_sure_insertion r.log spans (holder_of r)) (IsInsertionOf r spans began now)
       (insertions_of (notes_in r.log r.trace)) r.unit x
-  pub places : HasRing unit_place_ring r.unit → RingShows unit_place_ring (is_sure_place r.log spans (holder_of r)) (IsPlace r.log spans (holder_of r)) (places_of (notes_in r.log r.trace)) r.unit x
+  pub places : HasRing unit_place_ring r.unit
+      → RingShows unit_place_ring (is_sure_place r.log spans (holder_of r)) (IsPlace r.log spans (holder_of r))
+      (places_of (notes_in r.log r.trace)) r.unit x
 
--- AT THE END of a run every image of the unit shows them, where a recording has its images at the start and its log, and these are its notes.
+-- AT THE END of a run every image of the unit shows them, where a recording has its images at the start and its log,
+-- and these are its notes.
 abbrev pub RingsAreShown : (began now : Devices) → Type 0
-RingsAreShown began now = (o : Since) (log : RunLog) (spans : List SpanFrom) (notes : List Note) (seats : Card → Option Seating) → Ringed o log spans notes seats now → (r : Recording) → r.unit ≡ o.origin.recording.unit → ((c : Card) → card_image r c ≡ card_image o.origin.recording c) →
-    r.log ≡ log → r.trace ≡ o.trace → told_of r ≡ o.told → notes ≡ notes_in r.log r.trace → ((c : Card) → (found_of o.origin.found c).began ≡ (card_of began c).clock) → (x : List ℕ) → now.unit.may_leave x → ShowsRingsOf r spans began now x
+RingsAreShown began now = (o : Since) (log : RunLog) (spans : List SpanFrom) (notes : List Note)
+    (seats : Card → Option Seating) → Ringed o log spans notes seats now → (r : Recording)
+    → r.unit ≡ o.origin.recording.unit → ((c : Card) → card_image r c ≡ card_image o.origin.recording c) →
+    r.log ≡ log → r.trace ≡ o.trace → told_of r ≡ o.told → notes ≡ notes_in r.log r.trace
+    → ((c : Card) → (found_of o.origin.found c).began ≡ (card_of began c).clock) → (x : List ℕ)
+    → now.unit.may_leave x → ShowsRingsOf r spans began now x
 
 -- and every image of a card shows its places
 abbrev pub PlacesAreShown : (began now : Devices) → Type 0
-PlacesAreShown began now = (o : Since) (log : RunLog) (spans : List SpanFrom) (notes : List Note) (seats : Card → Option Seating) → Ringed o log spans notes seats now → (r : Recording) → ((c : Card) → card_image r c ≡ card_image o.origin.recording c) →
-    r.log ≡ log → notes ≡ notes_in r.log r.trace → (c : Card) → HasPlaces (card_image r c) → (x : List ℕ) → (card_of now c).may_leave x →
-    RingShows (places_in (card_image r c)) (is_sure_on r.log) (IsPlaceOn spans) (places_on c (places_of (notes_in r.log r.trace))) (card_image r c) x
+PlacesAreShown began now = (o : Since) (log : RunLog) (spans : List SpanFrom) (notes : List Note)
+    (seats : Card → Option Seating) → Ringed o log spans notes seats now → (r : Recording)
+    → ((c : Card) → card_image r c ≡ card_image o.origin.recording c) →
+    r.log ≡ log → notes ≡ notes_in r.log r.trace → (c : Card) → HasPlaces (card_image r c) → (x : List ℕ)
+    → (card_of now c).may_leave x →
+    RingShows (places_in (card_image r c)) (is_sure_on r.log) (IsPlaceOn spans)
+    (places_on c (places_of (notes_in r.log r.trace))) (card_image r c) x

@@ -1,5 +1,7 @@
--- WHAT EACH ACTION OF A SECOND MAKES OF ITS RINGS (profile): a place, a withdrawal or an insertion is noted, or the unit failed in it and power is cut.
-use Rattle.std.specs.Prelude.{◌≡◌, ◌⊎◌, ℕ, suc, ◌+◌, ◌<◌, ◌^◌, Bool, true, false, Option, Some, None, is_some, nat_lt, option_map, List, [], ◌∷◌, ◌++◌, length}
+-- WHAT EACH ACTION OF A SECOND MAKES OF ITS RINGS (profile): a place, a withdrawal or an insertion is noted, or the
+-- unit failed in it and power is cut.
+use Rattle.std.specs.Prelude.{◌≡◌, ◌⊎◌, ℕ, suc, ◌+◌, ◌<◌, ◌^◌, Bool, true, false, Option, Some, None, is_some, nat_lt}
+use Rattle.std.specs.Prelude.{option_map, List, [], ◌∷◌, ◌++◌, length}
 use Rattle.activity_codec.specs.declared.values.Slot.{Slot}
 use Rattle.trace_model.specs.declared.Action.{Action}
 use Rattle.trace_model.specs.declared.Action.TheVariants.{Insert, Withdraw, Place}
@@ -21,7 +23,8 @@ use Rattle.run_rings.specs.Spans.{with_second}
 use Rattle.run_note_record.specs.Origin.{Origin}
 use Rattle.run_note_record.specs.Beside.{HaveLeftMore}
 use Rattle.run_note_record.specs.OnCards.{place_width, IsPlaceOn, PlacesStay, PlaceIsTaken}
-use Rattle.run_note_record.specs.Ringed.{Seating, one_behind, StaysInRings, WritesRing, IsInsertionIn, IsPlaceIn, IsAddedAt, MayBeAdded, IsWithdrawnAt, MayBeWithdrawn, since_in}
+use Rattle.run_note_record.specs.Ringed.{Seating, one_behind, StaysInRings, WritesRing, IsInsertionIn, IsPlaceIn}
+use Rattle.run_note_record.specs.Ringed.{IsAddedAt, MayBeAdded, IsWithdrawnAt, MayBeWithdrawn, since_in}
 use Rattle.run_note_record.specs.RingsSoFar.{RingedBehind, RingedIn, AreFewer, HasMoreBreaks, GoesBehind}
 
 -- lines of the next action are told, and it has begun
@@ -31,7 +34,8 @@ pub record GoesOnTo (log later : RunLog) (s : TraceSecond) (front : List Action)
   pub begun : begins (cut_in later s.number) (length front) ≡ true
 
 -- or the unit failed in it, and power is cut: this was the last action that began
-pub record IsCutIn (began log cut : RunLog) (done : List TraceSecond) (s : TraceSecond) (front : List Action) (a : Action) (rest : List Action) : Type 0 where
+pub record IsCutIn (began log cut : RunLog) (done : List TraceSecond) (s : TraceSecond) (front : List Action)
+    (a : Action) (rest : List Action) : Type 0 where
   pub goes : GoesOnTo log cut s front
   pub are : s.actions ≡ front ++ a ∷ rest
   pub cut_is : cut_in cut s.number ≡ Some (suc (length front))
@@ -49,66 +53,123 @@ nobody c = None
 
 -- AN ACTION NOTES NOTHING, and writes no ring;
 abbrev pub AnActionPasses : (d e : Devices) → Type 0
-AnActionPasses d e = (o : Origin) (done : List TraceSecond) (s : TraceSecond) (began log later : RunLog) (front : List Action) (a : Action) (spans : List SpanFrom) (base : ℕ) (t : ToldSecond) (seats fewer : Card → Option Seating) →
-    RingedIn o done s began front log spans base t seats d → GoesOnTo log later s front → NotesMore later (went began done).before s front a [] → StaysInRings d e → HaveLeftMore o d e → PlacesStay o d e → AreFewer seats fewer →
+AnActionPasses d e = (o : Origin) (done : List TraceSecond) (s : TraceSecond) (began log later : RunLog)
+    (front : List Action) (a : Action) (spans : List SpanFrom) (base : ℕ) (t : ToldSecond)
+    (seats fewer : Card → Option Seating) →
+    RingedIn o done s began front log spans base t seats d → GoesOnTo log later s front
+    → NotesMore later (went began done).before s front a [] → StaysInRings d e → HaveLeftMore o d e
+    → PlacesStay o d e → AreFewer seats fewer →
     RingedIn o done s began (front ++ a ∷ []) later spans base t fewer e
 
 abbrev pub AnActionIsCut : (d e : Devices) → Type 0
-AnActionIsCut d e = (o : Origin) (done : List TraceSecond) (s : TraceSecond) (began log cut : RunLog) (front : List Action) (a : Action) (rest : List Action) (spans : List SpanFrom) (base : ℕ) (t : ToldSecond) (seats : Card → Option Seating) →
-    RingedIn o done s began front log spans base t seats d → IsCutIn began log cut done s front a rest → NotesMore cut (went began done).before s front a [] → StaysInRings d e → HaveLeftMore o d e → PlacesStay o d e →
+AnActionIsCut d e = (o : Origin) (done : List TraceSecond) (s : TraceSecond) (began log cut : RunLog)
+    (front : List Action) (a : Action) (rest : List Action) (spans : List SpanFrom) (base : ℕ) (t : ToldSecond)
+    (seats : Card → Option Seating) →
+    RingedIn o done s began front log spans base t seats d → IsCutIn began log cut done s front a rest
+    → NotesMore cut (went began done).before s front a [] → StaysInRings d e → HaveLeftMore o d e → PlacesStay o d e
+    →
     RingedBehind o (done ++ s ∷ []) cut (suc s.number) (spans_cut spans base cut done s) nobody e
 
 -- A PLACE IS ENTERED of the accepted card of a slot;
 abbrev pub APlaceIsEntered : (d e : Devices) → Type 0
-APlaceIsEntered d e = (o : Origin) (done : List TraceSecond) (s : TraceSecond) (began log later : RunLog) (front : List Action) (spans : List SpanFrom) (base : ℕ) (t : ToldSecond) (seats fewer : Card → Option Seating) →
-    RingedIn o done s began front log spans base t seats d → GoesOnTo log later s front → (slot : Slot) (ending : Bool) (country region : ℕ) (x : Sitting) →
+APlaceIsEntered d e = (o : Origin) (done : List TraceSecond) (s : TraceSecond) (began log later : RunLog)
+    (front : List Action) (spans : List SpanFrom) (base : ℕ) (t : ToldSecond) (seats fewer : Card → Option Seating) →
+    RingedIn o done s began front log spans base t seats d → GoesOnTo log later s front
+    → (slot : Slot) (ending : Bool) (country region : ℕ) (x : Sitting) →
     in_slot (course_behind later (went began done).before s front).slots slot ≡ Some x → is_some x.accepted ≡ true →
     (head : List ℕ) → WritesRing (IsAdded unit_place_ring head) d e → length head ≡ unit_place_ring.width →
-    IsPlaceIn o later (with_second spans base t) (record { second = s.number; card = x.card; ending = ending; country = country; region = region }) head → HaveLeftMore o d e →
-    (own : List ℕ) → length own ≡ place_width → IsPlaceOn (with_second spans base t) (record { second = s.number; card = x.card; ending = ending; country = country; region = region }) own →
-    PlaceIsTaken o later (record { second = s.number; card = x.card; ending = ending; country = country; region = region }) own d e → AreFewer seats fewer →
+    IsPlaceIn o later (with_second spans base t)
+    (record { second = s.number; card = x.card; ending = ending; country = country; region = region }) head
+    → HaveLeftMore o d e →
+    (own : List ℕ) → length own ≡ place_width
+    → IsPlaceOn (with_second spans base t)
+    (record { second = s.number; card = x.card; ending = ending; country = country; region = region }) own →
+    PlaceIsTaken o later (record {
+      second = s.number;
+      card = x.card;
+      ending = ending;
+      country = country;
+      region = region;
+    }) own d e → AreFewer seats fewer →
     RingedIn o done s began (front ++ Place slot ending country region ∷ []) later spans base t fewer e
 
 abbrev pub APlaceIsCut : (d e : Devices) → Type 0
-APlaceIsCut d e = (o : Origin) (done : List TraceSecond) (s : TraceSecond) (began log cut : RunLog) (front rest : List Action) (spans : List SpanFrom) (base : ℕ) (t : ToldSecond) (seats : Card → Option Seating) →
-    RingedIn o done s began front log spans base t seats d → (slot : Slot) (ending : Bool) (country region : ℕ) → IsCutIn began log cut done s front (Place slot ending country region) rest → (x : Sitting) →
+APlaceIsCut d e = (o : Origin) (done : List TraceSecond) (s : TraceSecond) (began log cut : RunLog)
+    (front rest : List Action) (spans : List SpanFrom) (base : ℕ) (t : ToldSecond) (seats : Card → Option Seating) →
+    RingedIn o done s began front log spans base t seats d → (slot : Slot) (ending : Bool) (country region : ℕ)
+    → IsCutIn began log cut done s front (Place slot ending country region) rest → (x : Sitting) →
     in_slot (course_behind cut (went began done).before s front).slots slot ≡ Some x → is_some x.accepted ≡ true →
     (head : List ℕ) → WritesRing (MayBeAdded unit_place_ring head) d e → length head ≡ unit_place_ring.width →
-    IsPlaceIn o cut (with_second spans base t) (record { second = s.number; card = x.card; ending = ending; country = country; region = region }) head → HaveLeftMore o d e →
-    (own : List ℕ) → length own ≡ place_width → IsPlaceOn (with_second spans base t) (record { second = s.number; card = x.card; ending = ending; country = country; region = region }) own →
-    PlaceIsTaken o cut (record { second = s.number; card = x.card; ending = ending; country = country; region = region }) own d e →
+    IsPlaceIn o cut (with_second spans base t)
+    (record { second = s.number; card = x.card; ending = ending; country = country; region = region }) head
+    → HaveLeftMore o d e →
+    (own : List ℕ) → length own ≡ place_width
+    → IsPlaceOn (with_second spans base t)
+    (record { second = s.number; card = x.card; ending = ending; country = country; region = region }) own →
+    PlaceIsTaken o cut (record {
+      second = s.number;
+      card = x.card;
+      ending = ending;
+      country = country;
+      region = region;
+    }) own d e →
     RingedBehind o (done ++ s ∷ []) cut (suc s.number) (spans_cut spans base cut done s) nobody e
 
 -- A CARD IS WITHDRAWN that was accepted, and is not torn out in that;
 abbrev pub ACardIsWithdrawn : (d e : Devices) → Type 0
-ACardIsWithdrawn d e = (o : Origin) (done : List TraceSecond) (s : TraceSecond) (began log later : RunLog) (front : List Action) (spans : List SpanFrom) (base : ℕ) (t : ToldSecond) (seats now fewer : Card → Option Seating) →
-    RingedIn o done s began front log spans base t seats d → GoesOnTo log later s front → (slot : Slot) (x : Sitting) → in_slot (course_behind later (went began done).before s front).slots slot ≡ Some x → nat_lt 0 s.speed ≡ false →
-    is_torn_in later s.number (In (length front + 1)) slot ≡ false → is_some x.accepted ≡ true → (q : Seating) → seats x.card ≡ Some q → q.index < insertion_ring.count →
-    (time : TimeReal) (odometer : Odometer) → time.0 ≡ s.number → odometer.0 ≡ odometer_at s.number (with_second spans base t) → time.0 < 256 ^ 4 → odometer.0 < 256 ^ 3 → WritesRing (IsWithdrawnAt q time odometer) d e →
-    ((c : Card) → ((same_card x.card c ≡ false) × (now c ≡ seats c)) ⊎ ((same_card x.card c ≡ true) × (now c ≡ None))) → HaveLeftMore o d e → PlacesStay o d e → AreFewer now fewer →
+ACardIsWithdrawn d e = (o : Origin) (done : List TraceSecond) (s : TraceSecond) (began log later : RunLog)
+    (front : List Action) (spans : List SpanFrom) (base : ℕ) (t : ToldSecond) (seats now fewer : Card → Option Seating)
+    →
+    RingedIn o done s began front log spans base t seats d → GoesOnTo log later s front → (slot : Slot) (x : Sitting)
+    → in_slot (course_behind later (went began done).before s front).slots slot ≡ Some x → nat_lt 0 s.speed ≡ false
+    →
+    is_torn_in later s.number (In (length front + 1)) slot ≡ false → is_some x.accepted ≡ true → (q : Seating)
+    → seats x.card ≡ Some q → q.index < insertion_ring.count →
+    (time : TimeReal) (odometer : Odometer) → time.0 ≡ s.number
+    → odometer.0 ≡ odometer_at s.number (with_second spans base t) → time.0 < 256 ^ 4 → odometer.0 < 256 ^ 3
+    → WritesRing (IsWithdrawnAt q time odometer) d e →
+    ((c : Card) → ((same_card x.card c ≡ false) × (now c ≡ seats c)) ⊎ ((same_card x.card c ≡ true) × (now c ≡ None)))
+    → HaveLeftMore o d e → PlacesStay o d e → AreFewer now fewer →
     RingedIn o done s began (front ++ Withdraw slot ∷ []) later spans base t fewer e
 
 abbrev pub AWithdrawalIsCut : (d e : Devices) → Type 0
-AWithdrawalIsCut d e = (o : Origin) (done : List TraceSecond) (s : TraceSecond) (began log cut : RunLog) (front rest : List Action) (spans : List SpanFrom) (base : ℕ) (t : ToldSecond) (seats : Card → Option Seating) →
-    RingedIn o done s began front log spans base t seats d → (slot : Slot) → IsCutIn began log cut done s front (Withdraw slot) rest → (x : Sitting) → in_slot (course_behind cut (went began done).before s front).slots slot ≡ Some x → nat_lt 0 s.speed ≡ false →
-    is_torn_in cut s.number (In (length front + 1)) slot ≡ false → is_some x.accepted ≡ true → (q : Seating) → seats x.card ≡ Some q → q.index < insertion_ring.count →
-    (time : TimeReal) (odometer : Odometer) → time.0 ≡ s.number → odometer.0 ≡ odometer_at s.number (with_second spans base t) → time.0 < 256 ^ 4 → odometer.0 < 256 ^ 3 → WritesRing (MayBeWithdrawn q time odometer) d e → HaveLeftMore o d e → PlacesStay o d e →
+AWithdrawalIsCut d e = (o : Origin) (done : List TraceSecond) (s : TraceSecond) (began log cut : RunLog)
+    (front rest : List Action) (spans : List SpanFrom) (base : ℕ) (t : ToldSecond) (seats : Card → Option Seating) →
+    RingedIn o done s began front log spans base t seats d → (slot : Slot)
+    → IsCutIn began log cut done s front (Withdraw slot) rest → (x : Sitting)
+    → in_slot (course_behind cut (went began done).before s front).slots slot ≡ Some x → nat_lt 0 s.speed ≡ false →
+    is_torn_in cut s.number (In (length front + 1)) slot ≡ false → is_some x.accepted ≡ true → (q : Seating)
+    → seats x.card ≡ Some q → q.index < insertion_ring.count →
+    (time : TimeReal) (odometer : Odometer) → time.0 ≡ s.number
+    → odometer.0 ≡ odometer_at s.number (with_second spans base t) → time.0 < 256 ^ 4 → odometer.0 < 256 ^ 3
+    → WritesRing (MayBeWithdrawn q time odometer) d e → HaveLeftMore o d e → PlacesStay o d e →
     RingedBehind o (done ++ s ∷ []) cut (suc s.number) (spans_cut spans base cut done s) nobody e
 
 -- A CARD IS PUT IN AND ACCEPTED.
 abbrev pub ACardIsAccepted : (d e : Devices) → Type 0
-ACardIsAccepted d e = (o : Origin) (done : List TraceSecond) (s : TraceSecond) (began log later : RunLog) (front : List Action) (spans : List SpanFrom) (base : ℕ) (t : ToldSecond) (seats now fewer : Card → Option Seating) →
-    RingedIn o done s began front log spans base t seats d → GoesOnTo log later s front → (slot : Slot) (card : Card) → refusal (course_behind later (went began done).before s front).slots s.speed (Insert slot card) ≡ None →
+ACardIsAccepted d e = (o : Origin) (done : List TraceSecond) (s : TraceSecond) (began log later : RunLog)
+    (front : List Action) (spans : List SpanFrom) (base : ℕ) (t : ToldSecond) (seats now fewer : Card → Option Seating)
+    →
+    RingedIn o done s began front log spans base t seats d → GoesOnTo log later s front → (slot : Slot) (card : Card)
+    → refusal (course_behind later (went began done).before s front).slots s.speed (Insert slot card) ≡ None →
     (v : Verdict) → found_in later s.number (In (length front + 1)) slot ≡ v ∷ [] → is_accepting v ≡ true →
     (head : List ℕ) (index : ℕ) → WritesRing (IsAddedAt index head) d e → length head ≡ insertion_ring.width →
-    IsInsertionIn (since_in o began done s) later (with_second spans base t) e (record { accepted = record { second = s.number; slot = slot; card = card }; withdrawn = None }) head →
-    ((c : Card) → ((same_card card c ≡ false) × (now c ≡ option_map one_behind (seats c))) ⊎ ((same_card card c ≡ true) × (now c ≡ Some (record { index = index; behind = 0 })))) → HaveLeftMore o d e → PlacesStay o d e → AreFewer now fewer →
+    IsInsertionIn (since_in o began done s) later (with_second spans base t) e
+    (record { accepted = record { second = s.number; slot = slot; card = card }; withdrawn = None }) head →
+    ((c : Card) → ((same_card card c ≡ false) × (now c ≡ option_map one_behind (seats c)))
+    ⊎ ((same_card card c ≡ true) × (now c ≡ Some (record { index = index; behind = 0 })))) → HaveLeftMore o d e
+    → PlacesStay o d e → AreFewer now fewer →
     RingedIn o done s began (front ++ Insert slot card ∷ []) later spans base t fewer e
 
 abbrev pub AnAcceptanceIsCut : (d e : Devices) → Type 0
-AnAcceptanceIsCut d e = (o : Origin) (done : List TraceSecond) (s : TraceSecond) (began log cut : RunLog) (front rest : List Action) (spans : List SpanFrom) (base : ℕ) (t : ToldSecond) (seats : Card → Option Seating) →
-    RingedIn o done s began front log spans base t seats d → (slot : Slot) (card : Card) → IsCutIn began log cut done s front (Insert slot card) rest → refusal (course_behind cut (went began done).before s front).slots s.speed (Insert slot card) ≡ None →
+AnAcceptanceIsCut d e = (o : Origin) (done : List TraceSecond) (s : TraceSecond) (began log cut : RunLog)
+    (front rest : List Action) (spans : List SpanFrom) (base : ℕ) (t : ToldSecond) (seats : Card → Option Seating) →
+    RingedIn o done s began front log spans base t seats d → (slot : Slot) (card : Card)
+    → IsCutIn began log cut done s front (Insert slot card) rest
+    → refusal (course_behind cut (went began done).before s front).slots s.speed (Insert slot card) ≡ None →
     (v : Verdict) → found_in cut s.number (In (length front + 1)) slot ≡ v ∷ [] → is_accepting v ≡ true →
     (head : List ℕ) → WritesRing (MayBeAdded insertion_ring head) d e → length head ≡ insertion_ring.width →
-    IsInsertionIn (since_in o began done s) cut (with_second spans base t) e (record { accepted = record { second = s.number; slot = slot; card = card }; withdrawn = None }) head → HaveLeftMore o d e → PlacesStay o d e →
+    IsInsertionIn (since_in o began done s) cut (with_second spans base t) e
+    (record { accepted = record { second = s.number; slot = slot; card = card }; withdrawn = None }) head
+    → HaveLeftMore o d e → PlacesStay o d e →
     RingedBehind o (done ++ s ∷ []) cut (suc s.number) (spans_cut spans base cut done s) nobody e

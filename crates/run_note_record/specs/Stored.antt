@@ -1,4 +1,5 @@
--- THE ODOMETERS THAT A RUN STORES (profile): with which one each power span began, and what each image of the unit has stored.
+-- THE ODOMETERS THAT A RUN STORES (profile): with which one each power span began, and what each image of the unit has
+-- stored.
 use Rattle.std.specs.Prelude.{◌≡◌, ◌⊎◌, ℕ, Bool, true, false, Some, List, [], ◌∷◌, ◌++◌, take}
 use Rattle.std.specs.List.{AllByRecursion}
 use Rattle.minute_model.specs.Activity.{last}
@@ -31,8 +32,9 @@ pub record IsOpenEnd (log : RunLog) (unfound : ℕ) (s : SpanFrom) : Type 0 wher
 
 -- ---- with power
 
--- BEFORE THE SPAN THAT GOES ON, which began with this odometer: the spans that have ended, it is known what was kept after each, and each
--- began with what the unit may store; and so did this one, by the minute that was found kept then, the last of all that were kept.
+-- BEFORE THE SPAN THAT GOES ON, which began with this odometer: the spans that have ended, it is known what was kept
+-- after each, and each began with what the unit may store; and so did this one, by the minute that was found kept then,
+-- the last of all that were kept.
 pub record StandsOn (o : Origin) (log : RunLog) (unfound : ℕ) (earlier : List SpanFrom) (base : ℕ) : Type 0 where
   pub ends : AllByRecursion (IsFoundEnd log unfound) earlier
   pub bases : HaveBases (rule_of o) log (odometer_at o.recording.unit) (first_of o) [] earlier
@@ -50,8 +52,8 @@ pub record StoresOn (o : Origin) (log : RunLog) (unfound base : ℕ) (spans : Li
 
 -- ---- without
 
--- THE SPANS since the unit was read last: it is not known yet what was kept after that one, nor after those behind it, in whose first second a
--- call failed.
+-- THE SPANS since the unit was read last: it is not known yet what was kept after that one, nor after those behind it,
+-- in whose first second a call failed.
 pub record SinceRead (log : RunLog) (unfound : ℕ) (spans : List SpanFrom) : Type 0 where
   pub earlier : List SpanFrom
   pub span : SpanFrom
@@ -61,13 +63,16 @@ pub record SinceRead (log : RunLog) (unfound : ℕ) (spans : List SpanFrom) : Ty
   pub unknown : AllByRecursion (IsOpenEnd log unfound) (span ∷ unread)
   pub failed : AllByRecursion (λ (s : SpanFrom). has_failed_in log (first_in s.span) ≡ true) unread
 
--- WITHOUT POWER: each of these spans began with what the unit may store, and each image that a stop may leave of it has stored so.
+-- WITHOUT POWER: each of these spans began with what the unit may store, and each image that a stop may leave of it has
+-- stored so.
 pub record StoresOff (o : Origin) (log : RunLog) (unfound : ℕ) (spans : List SpanFrom) (d : Devices) : Type 0 where
   pub bases : HaveBases (rule_of o) log (odometer_at o.recording.unit) (first_of o) [] spans
   pub since : (spans ≡ []) ⊎ SinceRead log unfound spans
-  pub stores : (x : List ℕ) → d.unit.may_leave x → MayStore (rule_of o) (odometer_at o.recording.unit) (first_of o) spans (last_kept x) (odometer_at x)
+  pub stores : (x : List ℕ) → d.unit.may_leave x
+      → MayStore (rule_of o) (odometer_at o.recording.unit) (first_of o) spans (last_kept x) (odometer_at x)
 
 -- by the power
-abbrev pub Stores : (lit : Bool) → (o : Origin) (log : RunLog) (unfound base : ℕ) (spans : List SpanFrom) (d : Devices) → Type 0
+abbrev pub Stores : (lit : Bool) → (o : Origin) (log : RunLog) (unfound base : ℕ) (spans : List SpanFrom) (d : Devices)
+    → Type 0
 Stores true o log unfound base spans d = StoresOn o log unfound base spans
 Stores false o log unfound base spans d = StoresOff o log unfound spans d

@@ -1,6 +1,7 @@
--- WHICH USE IS FOUND on a card as it is accepted (profile): at first that of its image at the start, then that which the insertion before has left. The
--- unit tells by it the session that was left open, and the card's own events do.
-use Rattle.std.specs.Prelude.{◌≡◌, ℕ, ◌&&◌, Option, Some, None, List, [], ◌∷◌, ◌++◌, map, filter, flat_map, if◌then◌else◌}
+-- WHICH USE IS FOUND on a card as it is accepted (profile): at first that of its image at the start, then that which
+-- the insertion before has left. The unit tells by it the session that was left open, and the card's own events do.
+use Rattle.std.specs.Prelude.{◌≡◌, ℕ, ◌&&◌, Option, Some, None, List, [], ◌∷◌, ◌++◌, map, filter, flat_map}
+use Rattle.std.specs.Prelude.{if◌then◌else◌}
 use Rattle.activity_codec.specs.declared.values.Slot.{Slot}
 use Rattle.trace_model.specs.declared.Card.{Card}
 use Rattle.trace_model.specs.Trace.{TraceSecond}
@@ -63,10 +64,12 @@ insertions_at u slot card verdicts = map (λ (v : Verdict). inserted u slot card
 
 -- ALL USES THAT WERE FOUND on a card in a run, one for each of its insertions, and the one that the last has left
 abbrev pub uses_on : Recording → Card → List CurrentUse
-uses_on r c = uses_from (vehicle_of r.unit) (use_in (card_image r c)) (insertions_on c (notes_of r.log (done_of r.log r.trace)))
+uses_on r c = uses_from (vehicle_of r.unit) (use_in (card_image r c))
+    (insertions_on c (notes_of r.log (done_of r.log r.trace)))
 
 abbrev pub use_left : Recording → Card → CurrentUse
-use_left r c = use_behind (vehicle_of r.unit) (use_in (card_image r c)) (insertions_on c (notes_of r.log (done_of r.log r.trace)))
+use_left r c = use_behind (vehicle_of r.unit) (use_in (card_image r c))
+    (insertions_on c (notes_of r.log (done_of r.log r.trace)))
 
 -- ---- the sessions that a unit has told
 
@@ -76,14 +79,16 @@ times_of uses = map (λ (held : CurrentUse). held.session.0) uses
 
 -- those that were found on a card, one for each acceptance: in a second, and in several
 abbrev pub opened_in : Card → (ℕ → Visit → ℕ) → ToldSecond → List ℕ
-opened_in c sessions t = flat_map (λ (f : Visit × Verdict). if same_card c f.0.card && is_accepting f.1 then sessions t.second.number f.0 ∷ [] else []) t.course.found
+opened_in c sessions t = flat_map (λ (f : Visit × Verdict). if same_card c f.0.card && is_accepting f.1 then sessions
+    t.second.number f.0 ∷ [] else []) t.course.found
 
 abbrev pub opened_on : Card → (ℕ → Visit → ℕ) → List ToldSecond → List ℕ
 opened_on c sessions told = flat_map (opened_in c sessions) told
 
 -- WHERE NO CALL FAILED the session times that a run told are those of the uses.
 abbrev pub TellExactly : Recording → (ℕ → Visit → ℕ) → Type 0
-TellExactly r sessions = NothingFailed r.log → (c : Card) → IsOwnValid (card_image r c) → opened_on c sessions (told_of r) ≡ times_of (uses_on r c)
+TellExactly r sessions = NothingFailed r.log → (c : Card) → IsOwnValid (card_image r c)
+    → opened_on c sessions (told_of r) ≡ times_of (uses_on r c)
 
 -- ---- as a run carries them
 
@@ -110,18 +115,25 @@ use_now o c notes = use_behind (vehicle_in o) (use_in (card_image o.recording c)
 
 -- THE SESSION TIMES so far are exact behind these seconds;
 abbrev pub AreExact : Origin → RunLog → List TraceSecond → (ℕ → Visit → ℕ) → Type 0
-AreExact o log done sessions = NothingFailed log → (c : Card) → IsOwnValid (card_image o.recording c) → opened_on c sessions (went log done).told ≡ times_of (uses_in o c (notes_in log done))
+AreExact o log done sessions = NothingFailed log → (c : Card) → IsOwnValid (card_image o.recording c)
+    → opened_on c sessions (went log done).told ≡ times_of (uses_in o c (notes_in log done))
 
 -- and within a second, with those that were found in it so far.
 abbrev pub AreExactIn : Origin → RunLog → List TraceSecond → TraceSecond → (own : ℕ → Visit → ℕ) → Type 0
 AreExactIn o log done s own = NothingFailed log → (c : Card) → IsOwnValid (card_image o.recording c) →
-    times_of (uses_in o c (notes_in log done)) ++ opened_in c own (seen_next log done s).told ≡ times_of (uses_in o c (notes_now log done log s))
+    times_of (uses_in o c (notes_in log done))
+    ++ opened_in c own (seen_next log done s).told ≡ times_of (uses_in o c (notes_now log done log s))
 
--- A card is judged in a second, of which a log has told so far, and another then: this use was found at each acceptance more.
-abbrev pub FindsMore : Origin → (began : RunLog) → List TraceSecond → TraceSecond → (log later : RunLog) → Card → (accepted : List ℕ) → Type 0
-FindsMore o began done s log later card more = NothingFailed later → (c : Card) → IsOwnValid (card_image o.recording c) →
-    times_of (uses_in o c (notes_now began done later s)) ≡ times_of (uses_in o c (notes_now began done log s)) ++ (if same_card c card then more else [])
+-- A card is judged in a second, of which a log has told so far, and another then: this use was found at each acceptance
+-- more.
+abbrev pub FindsMore : Origin → (began : RunLog) → List TraceSecond → TraceSecond → (log later : RunLog) → Card
+    → (accepted : List ℕ) → Type 0
+FindsMore o began done s log later card more = NothingFailed later → (c : Card) → IsOwnValid (card_image o.recording c)
+    →
+    times_of (uses_in o c (notes_now began done later s)) ≡ times_of (uses_in o c (notes_now began done log s))
+    ++ (if same_card c card then more else [])
 
 -- a line that is told brings no acceptance
 abbrev pub FindsNone : Origin → (began : RunLog) → List TraceSecond → TraceSecond → (log later : RunLog) → Type 0
-FindsNone o began done s log later = NothingFailed later → (c : Card) → IsOwnValid (card_image o.recording c) → uses_in o c (notes_now began done later s) ≡ uses_in o c (notes_now began done log s)
+FindsNone o began done s log later = NothingFailed later → (c : Card) → IsOwnValid (card_image o.recording c)
+    → uses_in o c (notes_now began done later s) ≡ uses_in o c (notes_now began done log s)

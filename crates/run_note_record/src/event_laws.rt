@@ -1,6 +1,9 @@
 ghost use Rattle.run_promise.specs.Between.{devices};
-ghost use Rattle.run_note_record.specs.Evented.{EventsStay, EventsAreFound, ASecondIsNoted, ASecondIsBroken, APowerOnIsBroken, ADarkSecondBringsNothing, AnOffCutBringsNothing, NothingIsNoted, EventsAreShown};
-ghost use Rattle.run_note_record.specs.Noting.{AStepIsNoted, AStageIsDone, TheSecondBegins, TheSecondIsNoted, TheSecondIsCut};
+ghost use Rattle.run_note_record.specs.Evented.{EventsStay, EventsAreFound, ASecondIsNoted, ASecondIsBroken};
+ghost use Rattle.run_note_record.specs.Evented.{APowerOnIsBroken, ADarkSecondBringsNothing, AnOffCutBringsNothing};
+ghost use Rattle.run_note_record.specs.Evented.{NothingIsNoted, EventsAreShown};
+ghost use Rattle.run_note_record.specs.Noting.{AStepIsNoted, AStageIsDone, TheSecondBegins, TheSecondIsNoted};
+ghost use Rattle.run_note_record.specs.Noting.{TheSecondIsCut};
 ghost use Rattle.run_note_record.specs.Bringing.{ATearIsBrought, ARefusalBringsNothing};
 
 use tach_media::{Chip, Medium};
@@ -14,7 +17,8 @@ pub fn events_stay<M: Medium, C: Chip, D: Chip, N: Medium, E: Chip, F: Chip>(
     card_a: &E,
     card_b: &F,
 )
-    ensures { EventsStay (devices (M.state old_unit.now) (C.state old_a.now) (D.state old_b.now)) (devices (N.state unit.now) (E.state card_a.now) (F.state card_b.now)) }
+    ensures { EventsStay (devices (M.state old_unit.now) (C.state old_a.now) (D.state old_b.now))
+        (devices (N.state unit.now) (E.state card_a.now) (F.state card_b.now)) }
 {}
 
 /// The unit is read as power is back, and it is found what was kept.
@@ -26,7 +30,8 @@ pub fn events_are_found<M: Medium, C: Chip, D: Chip, N: Medium, E: Chip, F: Chip
     card_a: &E,
     card_b: &F,
 )
-    ensures { EventsAreFound (devices (M.state old_unit.now) (C.state old_a.now) (D.state old_b.now)) (devices (N.state unit.now) (E.state card_a.now) (F.state card_b.now)) }
+    ensures { EventsAreFound (devices (M.state old_unit.now) (C.state old_a.now) (D.state old_b.now))
+        (devices (N.state unit.now) (E.state card_a.now) (F.state card_b.now)) }
 {}
 
 /// A second with power, to its end: all that it brings was noted.
@@ -38,7 +43,8 @@ pub fn a_second_is_noted<M: Medium, C: Chip, D: Chip, N: Medium, E: Chip, F: Chi
     card_a: &E,
     card_b: &F,
 )
-    ensures { ASecondIsNoted (devices (M.state old_unit.now) (C.state old_a.now) (D.state old_b.now)) (devices (N.state unit.now) (E.state card_a.now) (F.state card_b.now)) }
+    ensures { ASecondIsNoted (devices (M.state old_unit.now) (C.state old_a.now) (D.state old_b.now))
+        (devices (N.state unit.now) (E.state card_a.now) (F.state card_b.now)) }
 {}
 
 /// A second in which the unit failed.
@@ -50,7 +56,8 @@ pub fn a_second_is_broken<M: Medium, C: Chip, D: Chip, N: Medium, E: Chip, F: Ch
     card_a: &E,
     card_b: &F,
 )
-    ensures { ASecondIsBroken (devices (M.state old_unit.now) (C.state old_a.now) (D.state old_b.now)) (devices (N.state unit.now) (E.state card_a.now) (F.state card_b.now)) }
+    ensures { ASecondIsBroken (devices (M.state old_unit.now) (C.state old_a.now) (D.state old_b.now))
+        (devices (N.state unit.now) (E.state card_a.now) (F.state card_b.now)) }
 {}
 
 /// A power-on that failed at once.
@@ -62,7 +69,8 @@ pub fn a_power_on_is_broken<M: Medium, C: Chip, D: Chip, N: Medium, E: Chip, F: 
     card_a: &E,
     card_b: &F,
 )
-    ensures { APowerOnIsBroken (devices (M.state old_unit.now) (C.state old_a.now) (D.state old_b.now)) (devices (N.state unit.now) (E.state card_a.now) (F.state card_b.now)) }
+    ensures { APowerOnIsBroken (devices (M.state old_unit.now) (C.state old_a.now) (D.state old_b.now))
+        (devices (N.state unit.now) (E.state card_a.now) (F.state card_b.now)) }
 {}
 
 /// A second without power.
@@ -89,7 +97,8 @@ pub fn events_are_shown<M: Medium, C: Chip, D: Chip, N: Medium, E: Chip, F: Chip
     card_a: &E,
     card_b: &F,
 )
-    ensures { EventsAreShown (devices (M.state old_unit.now) (C.state old_a.now) (D.state old_b.now)) (devices (N.state unit.now) (E.state card_a.now) (F.state card_b.now)) }
+    ensures { EventsAreShown (devices (M.state old_unit.now) (C.state old_a.now) (D.state old_b.now))
+        (devices (N.state unit.now) (E.state card_a.now) (F.state card_b.now)) }
 {}
 
 /// A step of a second is noted.
@@ -101,7 +110,8 @@ pub fn a_step_is_noted<M: Medium, C: Chip, D: Chip, N: Medium, E: Chip, F: Chip>
     card_a: &E,
     card_b: &F,
 )
-    ensures { AStepIsNoted (devices (M.state old_unit.now) (C.state old_a.now) (D.state old_b.now)) (devices (N.state unit.now) (E.state card_a.now) (F.state card_b.now)) }
+    ensures { AStepIsNoted (devices (M.state old_unit.now) (C.state old_a.now) (D.state old_b.now))
+        (devices (N.state unit.now) (E.state card_a.now) (F.state card_b.now)) }
 {}
 
 /// A stage of a second is done, and what was put off is noted.
@@ -113,7 +123,8 @@ pub fn a_stage_is_done<M: Medium, C: Chip, D: Chip, N: Medium, E: Chip, F: Chip>
     card_a: &E,
     card_b: &F,
 )
-    ensures { AStageIsDone (devices (M.state old_unit.now) (C.state old_a.now) (D.state old_b.now)) (devices (N.state unit.now) (E.state card_a.now) (F.state card_b.now)) }
+    ensures { AStageIsDone (devices (M.state old_unit.now) (C.state old_a.now) (D.state old_b.now))
+        (devices (N.state unit.now) (E.state card_a.now) (F.state card_b.now)) }
 {}
 
 /// The unit fails in a second, at any stage.
@@ -125,7 +136,8 @@ pub fn the_second_is_cut<M: Medium, C: Chip, D: Chip, N: Medium, E: Chip, F: Chi
     card_a: &E,
     card_b: &F,
 )
-    ensures { TheSecondIsCut (devices (M.state old_unit.now) (C.state old_a.now) (D.state old_b.now)) (devices (N.state unit.now) (E.state card_a.now) (F.state card_b.now)) }
+    ensures { TheSecondIsCut (devices (M.state old_unit.now) (C.state old_a.now) (D.state old_b.now))
+        (devices (N.state unit.now) (E.state card_a.now) (F.state card_b.now)) }
 {}
 
 /// A second begins, and nothing is noted in it.

@@ -1,5 +1,7 @@
 ghost use Rattle.run_promise.specs.Between.{devices};
-ghost use Rattle.run_note_record.specs.Going.{DarkSecondsBringNothing, AnOffLineBringsNothing, AnOffLineCutsAndBringsNothing, QuietSecondsBringNothing, SecondsAlikeEndNothing};
+ghost use Rattle.run_note_record.specs.Going.{DarkSecondsBringNothing, AnOffLineBringsNothing};
+ghost use Rattle.run_note_record.specs.Going.{AnOffLineCutsAndBringsNothing, QuietSecondsBringNothing};
+ghost use Rattle.run_note_record.specs.Going.{SecondsAlikeEndNothing};
 
 use tach_media::{Chip, Medium};
 

@@ -1,6 +1,8 @@
-//! The events of a run with cards as its recorder carries them (profile): definitions (specs/), and laws that its loop cites.
+//! The events of a run with cards as its recorder carries them (profile): definitions (specs/), and laws that its loop
+//! cites.
 //!
-//! The rings of insertions and places of a unit as a recorder with cards carries them (profile): definitions (specs/), and laws that its loop cites.
+//! The rings of insertions and places of a unit as a recorder with cards carries them (profile): definitions (specs/),
+//! and laws that its loop cites.
 #![tactic(auto)]
 
 // events

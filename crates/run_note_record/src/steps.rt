@@ -1,5 +1,7 @@
 ghost use Rattle.run_promise.specs.Between.{devices};
-ghost use Rattle.run_note_record.specs.EventsSoFar.{StepsFollow, ASecondBegins, ASecondEnds, ATearAdds, AFindAdds, AWakingTearAdds, AnInterruptionAdds, ARefusalAddsNothing, APullAddsNothing, WhatEndsIsAdded, ACallNotes, AFailureCuts};
+ghost use Rattle.run_note_record.specs.EventsSoFar.{StepsFollow, ASecondBegins, ASecondEnds, ATearAdds, AFindAdds};
+ghost use Rattle.run_note_record.specs.EventsSoFar.{AWakingTearAdds, AnInterruptionAdds, ARefusalAddsNothing};
+ghost use Rattle.run_note_record.specs.EventsSoFar.{APullAddsNothing, WhatEndsIsAdded, ACallNotes, AFailureCuts};
 ghost use Rattle.run_note_record.specs.Kept.{TheInterruptionIsFound, NoBreakNoSpan};
 
 use tach_media::{Chip, Medium};
@@ -63,7 +65,8 @@ pub fn a_call_notes<M: Medium, C: Chip, D: Chip, N: Medium, E: Chip, F: Chip>(
     card_a: &E,
     card_b: &F,
 )
-    ensures { ACallNotes (devices (M.state old_unit.now) (C.state old_a.now) (D.state old_b.now)) (devices (N.state unit.now) (E.state card_a.now) (F.state card_b.now)) }
+    ensures { ACallNotes (devices (M.state old_unit.now) (C.state old_a.now) (D.state old_b.now))
+        (devices (N.state unit.now) (E.state card_a.now) (F.state card_b.now)) }
 {}
 
 /// The unit fails in a call, behind lines that add these events, and the cut that is told ends the second.
@@ -75,7 +78,8 @@ pub fn a_failure_cuts<M: Medium, C: Chip, D: Chip, N: Medium, E: Chip, F: Chip>(
     card_a: &E,
     card_b: &F,
 )
-    ensures { AFailureCuts (devices (M.state old_unit.now) (C.state old_a.now) (D.state old_b.now)) (devices (N.state unit.now) (E.state card_a.now) (F.state card_b.now)) }
+    ensures { AFailureCuts (devices (M.state old_unit.now) (C.state old_a.now) (D.state old_b.now))
+        (devices (N.state unit.now) (E.state card_a.now) (F.state card_b.now)) }
 {}
 
 /// The interruption is told by the last-kept minute that the unit shows as it is read.

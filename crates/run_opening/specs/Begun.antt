@@ -1,4 +1,5 @@
--- A run over devices that have one image each (profile): what the opening finds of them is what the run carries; or why it does not begin.
+-- A run over devices that have one image each (profile): what the opening finds of them is what the run carries; or why
+-- it does not begin.
 use Rattle.std.specs.Prelude.{◌≡◌, ◌≢◌, ℕ, ◌/◌, ◌<◌, ◌≤◌, Option, Some, None, Result, Ok, Err, IfSome, List, [], ◌∷◌}
 use Rattle.trace_model.specs.declared.Card.{Card}
 use Rattle.trace_model.specs.declared.Card.TheVariants.{A, B}
@@ -69,8 +70,9 @@ known_of opened B = opened.card_b
 abbrev pub StartsAt : Recording → ℕ → Type 0
 StartsAt r start = (s : TraceSecond) → first_of r.trace ≡ Some s → s.number ≡ start
 
--- THE RUN BEGINS: the devices begin as they did; journal, memory and cards are those of the images; the cards have two names, and a number
--- that was told is the card's name; and what was found is carried, from any minute on that is later than the last-kept one.
+-- THE RUN BEGINS: the devices begin as they did; journal, memory and cards are those of the images; the cards have two
+-- names, and a number that was told is the card's name; and what was found is carried, from any minute on that is later
+-- than the last-kept one.
 pub record RunIsOpened (r : Recording) (start : ℕ) (opened : Opened) (old new : Devices) : Type 0 where
   pub begins : Begin r new
   pub decodes : Decodes r.unit
@@ -78,10 +80,12 @@ pub record RunIsOpened (r : Recording) (start : ℕ) (opened : Opened) (old new 
   pub journal : IsFoundBy opened.unit.journal r.unit
   pub memory : AreFacts opened.unit.memory r.unit
   pub told : (c : Card) → IsKnownOfCard (card_image r c) (known_of opened c)
-  pub named : (c : Card) → IfSome (known_of opened c).number (λ n. card_number_bytes n ≡ (found_of (found_in r old) c).number)
+  pub named : (c : Card) → IfSome (known_of opened c).number
+      (λ n. card_number_bytes n ≡ (found_of (found_in r old) c).number)
   pub two : (found_in r old).card_a.number ≢ (found_in r old).card_b.number
   pub found : IsFound r (found_in r old) old
-  pub looked : (c : Card) → IsOwnValid (card_image r c) → IsLookedAt (found_in r old) c r.unit (card_image r c) (card_of new c).clock
+  pub looked : (c : Card) → IsOwnValid (card_image r c)
+      → IsLookedAt (found_in r old) c r.unit (card_image r c) (card_of new c).clock
   pub carried : (due : ℕ) → last_kept r.unit < due → LedgerStands (found_in r old) (carried_first due) new
   pub may : StartsAt r start → MayBegin r
 
@@ -89,7 +93,8 @@ pub record RunIsOpened (r : Recording) (start : ℕ) (opened : Opened) (old new 
 abbrev pub IsRefusedBy : Recording → (start : ℕ) → (old new : Devices) → RunFault → Type 0
 IsRefusedBy r start old new (MediumFault device) = Rose (faults_of old device) (faults_of new device)
 IsRefusedBy r start old new (BadUnit place) = first_bad_place r.unit ≡ Some place
-IsRefusedBy r start old new (ClockBack kept second) = Decodes r.unit × (last_kept r.unit ≡ kept) × (second ≡ start) × (start / 60 ≤ kept)
+IsRefusedBy r start old new (ClockBack kept second) = Decodes r.unit × (last_kept r.unit ≡ kept) × (second ≡ start)
+    × (start / 60 ≤ kept)
 IsRefusedBy r start old new (SameCard number) =
     Decodes r.unit × (last_kept r.unit < start / 60)
     × ((c : Card) → IsOwnValid (card_image r c) × (own_number (card_image r c) ≡ card_number_bytes number))

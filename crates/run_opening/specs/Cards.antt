@@ -38,8 +38,8 @@ pub record IsKnownOfCard (x : List ℕ) (known : Known) : Type 0 where
   pub number : known.number ≡ told_number x
   pub bytes : IfSome known.number (λ n. card_number_bytes n ≡ own_number x)
 
--- A card as the opening leaves it. By value: it has no session, a port may be made over it by its sizes, and it has a number only
--- where it has sizes. Where it tells its image, that tells what is known of it.
+-- A card as the opening leaves it. By value: it has no session, a port may be made over it by its sizes, and it has a
+-- number only where it has sizes. Where it tells its image, that tells what is known of it.
 pub record IsFoundOn (known : Known) (card : CardState) (s : State) : Type 0 where
   pub none : known.accepted ≡ None
   pub port : (app : Application) → known.sizes ≡ Ok app → IsPort app None card s

@@ -10,8 +10,8 @@ use Rattle.run_opening.specs.Cards.{HasNumber}
 use Rattle.run_opening.specs.declared.fault.RunFault.{RunFault}
 use Rattle.run_opening.specs.declared.fault.RunFault.TheVariants.{MediumFault, BadUnit, ClockBack, SameCard}
 
--- A device is as it was: nothing was written, each image that a stop leaves it might have left before, and it broke down only where a call
--- failed.
+-- A device is as it was: nothing was written, each image that a stop leaves it might have left before, and it broke
+-- down only where a call failed.
 pub record IsAsItWas (old new : State) : Type 0 where
   pub leaves : LeavesOnly old new Unchanged
   pub clock : new.clock ≡ old.clock
@@ -35,10 +35,13 @@ IsJudgedBefore start d Recorder = Unit {0}
 IsJudgedBefore start d CardA = MayGoOn start d.unit
 IsJudgedBefore start d CardB = MayGoOn start d.unit
 
--- THE CAUSES of a refusal in their order: a device failed; the unit's image does not decode, first at this place; the minute of the first
--- second is not later than the last-kept one; both cards are valid and have this number
+-- THE CAUSES of a refusal in their order: a device failed; the unit's image does not decode, first at this place; the
+-- minute of the first second is not later than the last-kept one; both cards are valid and have this number
 abbrev pub IsRefused : (start : ℕ) → (old new : Devices) → RunFault → Type 0
-IsRefused start old new (MediumFault device) = Rose (faults_of old device) (faults_of new device) × IsJudgedBefore start new device
+IsRefused start old new (MediumFault device) = Rose (faults_of old device) (faults_of new device)
+    × IsJudgedBefore start new device
 IsRefused start old new (BadUnit place) = IfSome new.unit.image (λ x. first_bad_place x ≡ Some place)
-IsRefused start old new (ClockBack kept second) = (second ≡ start) × (start / 60 ≤ kept) × IfSome new.unit.image (λ x. Decodes x × (last_kept x ≡ kept))
-IsRefused start old new (SameCard number) = MayGoOn start new.unit × HasNumber number new.card_a × HasNumber number new.card_b
+IsRefused start old new (ClockBack kept second) = (second ≡ start) × (start / 60 ≤ kept)
+    × IfSome new.unit.image (λ x. Decodes x × (last_kept x ≡ kept))
+IsRefused start old new (SameCard number) = MayGoOn start new.unit × HasNumber number new.card_a
+    × HasNumber number new.card_b

@@ -36,9 +36,11 @@ opening_fault (Bad place) = BadUnit place
 abbrev pub IsClockBack : (kept second : ℕ) → RunFault → Type 0
 IsClockBack kept second fault = (fault ≡ ClockBack kept second) × (second / 60 ≤ kept)
 
--- a refusal by the unit: it failed; its image does not decode; the minute of the first second is not later than its last-kept minute
+-- a refusal by the unit: it failed; its image does not decode; the minute of the first second is not later than its
+-- last-kept minute
 abbrev pub IsUnitRefused : (start : ℕ) → (old new : State) → RunFault → Type 0
 IsUnitRefused start old new (MediumFault device) = (device ≡ Recorder) × Rose old.faults new.faults
 IsUnitRefused start old new (BadUnit place) = IfSome new.image (λ x. first_bad_place x ≡ Some place)
-IsUnitRefused start old new (ClockBack kept second) = (second ≡ start) × (start / 60 ≤ kept) × IfSome new.image (λ x. Decodes x × (last_kept x ≡ kept))
+IsUnitRefused start old new (ClockBack kept second) = (second ≡ start) × (start / 60 ≤ kept)
+    × IfSome new.image (λ x. Decodes x × (last_kept x ≡ kept))
 IsUnitRefused start old new (SameCard number) = ⊥

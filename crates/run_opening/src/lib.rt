@@ -1,4 +1,5 @@
-//! The opening of a run (profile): the unit is judged, then the clock, then both cards, and that they are two. It writes nothing.
+//! The opening of a run (profile): the unit is judged, then the clock, then both cards, and that they are two. It
+//! writes nothing.
 #![tactic(auto)]
 
 mod fault;

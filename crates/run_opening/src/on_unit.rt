@@ -6,7 +6,8 @@ ghost use Rattle.unit_model.specs.Image.{IsUnit};
 ghost use Rattle.unit_memory.specs.Fault.{has_failed};
 ghost use Rattle.unit_memory.specs.Identified.{AreFacts};
 ghost use Rattle.run_opening.specs.Opening.{IsAsItWas};
-ghost use Rattle.run_opening.specs.Units.{IsLoaded, IsNotLoaded, HasBrokenDown, IsClockBack, IsUnitRefused, opening_fault};
+ghost use Rattle.run_opening.specs.Units.{IsLoaded, IsNotLoaded, HasBrokenDown, IsClockBack, IsUnitRefused};
+ghost use Rattle.run_opening.specs.Units.{opening_fault};
 
 use crate::fault::RunFault;
 use run_model::Device;
@@ -26,7 +27,8 @@ pub struct OpenedUnit {
 /// # Errors
 ///
 /// 1. `Failed` where the unit failed.
-/// 2. `BadUnit` exactly where its image does not decode, with the place of the first field, in order of places, that fails.
+/// 2. `BadUnit` exactly where its image does not decode, with the place of the first field, in order of places, that
+///    fails.
 fn load<M: Medium>(unit: &mut M) -> Result<Journal, UnitFault>
     requires unit { (M.state unit.old).size ≡ IMAGE_SIZE }
     ensures loaded { IfOk result (IsLoaded (M.state unit.new)) }
@@ -42,8 +44,8 @@ fn load<M: Medium>(unit: &mut M) -> Result<Journal, UnitFault>
     Ok(journal)
 }
 
-/// Revives the unit, judges it, and reads what it was told of the vehicle, and its rule; it writes nothing. No line tells a failure here but the
-/// caller's.
+/// Revives the unit, judges it, and reads what it was told of the vehicle, and its rule; it writes nothing. No line
+/// tells a failure here but the caller's.
 pub fn open_unit<M: Medium>(unit: &mut M) -> Result<OpenedUnit, UnitFault>
     requires unit { (M.state unit.old).size ≡ IMAGE_SIZE }
     ensures loaded { IfOk result (λ opened. IsLoaded (M.state unit.new) opened.journal) }
@@ -79,8 +81,8 @@ pub fn judge_clock(kept: u32, second: u32) -> Result<(), RunFault>
 ///
 /// # Errors
 ///
-/// `MediumFault` where the unit failed; `BadUnit` exactly where its image does not decode; `ClockBack` exactly where it does and the
-/// minute of the second is not later than its last-kept one.
+/// `MediumFault` where the unit failed; `BadUnit` exactly where its image does not decode; `ClockBack` exactly where it
+/// does and the minute of the second is not later than its last-kept one.
 pub fn judge_unit<M: Medium>(unit: &mut M, start: u32) -> Result<OpenedUnit, RunFault>
     requires unit { (M.state unit.old).size ≡ IMAGE_SIZE }
     ensures loaded { IfOk result (λ opened. IsLoaded (M.state unit.new) opened.journal) }

@@ -19,7 +19,8 @@ use run_crew::Known;
 use run_model::Device;
 use tach_media::{Chip, Medium};
 
-/// What the opening finds: of the unit its journal and what it was told of the vehicle, and what is known of both cards.
+/// What the opening finds: of the unit its journal and what it was told of the vehicle, and what is known of both
+/// cards.
 #[derive(Drop)]
 pub struct Opened {
     pub unit: OpenedUnit,
@@ -43,7 +44,9 @@ fn judge_each<M: Medium, C: Chip, D: Chip>(
     ensures found_a { IfOk result (λ opened. IsFoundOn opened.card_a (C.card card_a.new) (C.state card_a.new)) }
     ensures found_b { IfOk result (λ opened. IsFoundOn opened.card_b (D.card card_b.new) (D.state card_b.new)) }
     ensures two { IfOk result (λ opened. AreTwo opened.card_a.number opened.card_b.number) }
-    ensures refused { IfErr result (IsRefused start (devices (M.state unit.old) (C.state card_a.old) (D.state card_b.old)) (devices (M.state unit.new) (C.state card_a.new) (D.state card_b.new))) }
+    ensures refused { IfErr result (IsRefused start
+        (devices (M.state unit.old) (C.state card_a.old) (D.state card_b.old))
+        (devices (M.state unit.new) (C.state card_a.new) (D.state card_b.new))) }
     ensures unit { IsAsItWas (M.state unit.old) (M.state unit.new) }
     ensures is_unit { IsUnit (M.state unit.old) → IsUnit (M.state unit.new) }
     ensures card_a { IsAsItWas (C.state card_a.old) (C.state card_a.new) }
@@ -63,12 +66,14 @@ fn judge_each<M: Medium, C: Chip, D: Chip>(
     })
 }
 
-/// Judges the devices of a run that begins at this second: the unit, the clock, both cards, and that they are two. It writes nothing.
+/// Judges the devices of a run that begins at this second: the unit, the clock, both cards, and that they are two. It
+/// writes nothing.
 ///
 /// # Errors
 ///
-/// In this order: `MediumFault` where that device failed; `BadUnit` exactly where the unit's image does not decode; `ClockBack` exactly
-/// where the second's minute is not later than the last-kept one; `SameCard` exactly where both cards are valid and have one number.
+/// In this order: `MediumFault` where that device failed; `BadUnit` exactly where the unit's image does not decode;
+/// `ClockBack` exactly where the second's minute is not later than the last-kept one; `SameCard` exactly where both
+/// cards are valid and have one number.
 pub fn judge<M: Medium, C: Chip, D: Chip>(
     unit: &mut M,
     card_a: &mut C,
@@ -84,7 +89,9 @@ pub fn judge<M: Medium, C: Chip, D: Chip>(
     ensures found_a { IfOk result (λ opened. IsFoundOn opened.card_a (C.card card_a.new) (C.state card_a.new)) }
     ensures found_b { IfOk result (λ opened. IsFoundOn opened.card_b (D.card card_b.new) (D.state card_b.new)) }
     ensures two { IfOk result (λ opened. AreTwo opened.card_a.number opened.card_b.number) }
-    ensures refused { IfErr result (IsRefused start (devices (M.state unit.old) (C.state card_a.old) (D.state card_b.old)) (devices (M.state unit.new) (C.state card_a.new) (D.state card_b.new))) }
+    ensures refused { IfErr result (IsRefused start
+        (devices (M.state unit.old) (C.state card_a.old) (D.state card_b.old))
+        (devices (M.state unit.new) (C.state card_a.new) (D.state card_b.new))) }
     ensures unit { IsAsItWas (M.state unit.old) (M.state unit.new) }
     ensures is_unit { IsUnit (M.state unit.old) → IsUnit (M.state unit.new) }
     ensures card_a { IsAsItWas (C.state card_a.old) (C.state card_a.new) }
@@ -93,7 +100,8 @@ pub fn judge<M: Medium, C: Chip, D: Chip>(
     ensures card_a_works { OnOk result (HasCause (revivable (C.state card_a.old)) (C.state card_a.new) false) }
     ensures card_b_works { OnOk result (HasCause (revivable (D.state card_b.old)) (D.state card_b.new) false) }
     ensures begins { (r : Recording) → Begin r (devices (M.state unit.old) (C.state card_a.old) (D.state card_b.old)) →
-        IsBegun r start (devices (M.state unit.old) (C.state card_a.old) (D.state card_b.old)) (devices (M.state unit.new) (C.state card_a.new) (D.state card_b.new)) result }
+        IsBegun r start (devices (M.state unit.old) (C.state card_a.old) (D.state card_b.old))
+        (devices (M.state unit.new) (C.state card_a.new) (D.state card_b.new)) result }
 {
     judge_each(unit, card_a, card_b, start)
 }

@@ -8,8 +8,8 @@ use Rattle.run_unit_course.specs.Caused.{cuts_by}
 abbrev pub failed_cuts : List Break → ℕ
 failed_cuts breaks = length (cuts_by true breaks)
 
--- Each such cut more is a breakdown of the unit more, or their count stands at its last value; and where no cut is told more, the unit has not
--- broken down any more.
+-- Each such cut more is a breakdown of the unit more, or their count stands at its last value; and where no cut is told
+-- more, the unit has not broken down any more.
 pub record BreaksDown (before after : List Break) (old new : State) : Type 0 where
   pub few : failed_cuts before ≤ failed_cuts after
   pub broke : min (old.breakdowns + (failed_cuts after - failed_cuts before)) last_count ≤ new.breakdowns

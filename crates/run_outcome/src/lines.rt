@@ -81,7 +81,8 @@ impl<T: Copy> Lines<T> {
 
     /// Adds a line at the end, where there is room.
     pub fn add_if_room(&mut self, line: T)
-        ensures room { length self.old.items < self.old.room → self.new ≡ record { items = self.old.items ++ line ∷ []; room = self.old.room } }
+        ensures room { length self.old.items < self.old.room
+            → self.new ≡ record { items = self.old.items ++ line ∷ []; room = self.old.room } }
         ensures full { self.old.room ≤ length self.old.items → self.new ≡ self.old }
     {
         if self.list.len() < self.room {

@@ -13,8 +13,8 @@ use trace_text::{Action, Item, Items, Trace};
 /// So many entries may be owed to a card.
 pub const MOST_OWED: usize = 4;
 
-/// The lines of a run, each list in order of time: what the devices have acknowledged, where power was lost or a card torn
-/// out, which actions were refused, and what insertions found.
+/// The lines of a run, each list in order of time: what the devices have acknowledged, where power was lost or a card
+/// torn out, which actions were refused, and what insertions found.
 #[derive(Drop)]
 pub struct Outcome {
     pub marks: Lines<Mark>,

@@ -1,5 +1,5 @@
--- Between two steps of a run, over devices that tell their images: the unit, the cards and what they have acknowledged, as the book says
--- (profile).
+-- Between two steps of a run, over devices that tell their images: the unit, the cards and what they have acknowledged,
+-- as the book says (profile).
 use Rattle.std.specs.Prelude.{◌≡◌, ℕ, ◌<◌, ◌≤◌, true, false, None, List, ◌++◌, All, Contains, is_some}
 use Rattle.trace_model.specs.declared.Card.{Card}
 use Rattle.tach_media.specs.Medium.{State}
@@ -20,8 +20,8 @@ use Rattle.unit_rule.specs.OtherRows.{valid_number}
 use Rattle.run_promise.specs.Found.{Found, found_of}
 use Rattle.run_promise.specs.Cards.{CardStands, CardWaits, CardMarksHold, IsUntouched}
 
--- what is carried from step to step: from where on a minute may come, the book, the marks, how each card stands, and the minutes that the
--- unit had kept last, each time that it was accepted
+-- what is carried from step to step: from where on a minute may come, the book, the marks, how each card stands, and
+-- the minutes that the unit had kept last, each time that it was accepted
 pub record RunLedger : Type 0 where
   pub due : ℕ
   pub book : Book
@@ -29,20 +29,23 @@ pub record RunLedger : Type 0 where
   pub standing : Card → Standing
   pub brought : Card → List ℕ
 
--- WHILE THE UNIT HAS POWER: it was mended, no minute is begun that may not be there, and each card that was valid stands
+-- WHILE THE UNIT HAS POWER: it was mended, no minute is begun that may not be there, and each card that was valid
+-- stands
 pub record LedgerStandsPowered (f : Found) (w : RunLedger) (d : Devices) : Type 0 where
   pub tells : is_some d.unit.image ≡ true
   pub works : d.unit.works ≡ true
   pub unit : UnitFollowsBook (once_mended f.unit) w.due w.book w.marks d.unit
   pub none : w.book.maybe ≡ None
-  pub cards : (c : Card) → IsOwnValid (found_of f c).image → CardStands f c w.book (w.standing c) (w.brought c) d.unit (card_of d c)
+  pub cards : (c : Card) → IsOwnValid (found_of f c).image
+      → CardStands f c w.book (w.standing c) (w.brought c) d.unit (card_of d c)
   pub marks : (c : Card) → CardMarksHold (found_of f c) c w.book w.marks (card_of d c)
 
 -- WITH POWER OR WITHOUT: a minute may be begun
 pub record LedgerStands (f : Found) (w : RunLedger) (d : Devices) : Type 0 where
   pub tells : is_some d.unit.image ≡ true
   pub unit : UnitFollowsBook f.unit w.due w.book w.marks d.unit
-  pub cards : (c : Card) → IsOwnValid (found_of f c).image → CardWaits f c w.book (w.standing c) (w.brought c) d.unit (card_of d c)
+  pub cards : (c : Card) → IsOwnValid (found_of f c).image
+      → CardWaits f c w.book (w.standing c) (w.brought c) d.unit (card_of d c)
   pub marks : (c : Card) → CardMarksHold (found_of f c) c w.book w.marks (card_of d c)
 
 -- what the opening found is the run's
@@ -53,19 +56,23 @@ pub record IsFound (r : Recording) (f : Found) (began : Devices) : Type 0 where
   pub clock : (c : Card) → (found_of f c).began ≡ (card_of began c).clock
   pub number : (c : Card) → IsOwnValid (card_image r c) → (found_of f c).number ≡ own_number (card_image r c)
   -- the days of a card that is valid are days
-  pub days : (c : Card) → IsOwnValid (card_image r c) → AreDays 0 (card_days (own_sizes (card_image r c)) (card_image r c))
+  pub days : (c : Card) → IsOwnValid (card_image r c)
+      → AreDays 0 (card_days (own_sizes (card_image r c)) (card_image r c))
 
--- THE HISTORY as the book follows it: what it has beyond the book is later than the last-kept minute of each image of the unit
+-- THE HISTORY as the book follows it: what it has beyond the book is later than the last-kept minute of each image of
+-- the unit
 pub record IsFollowed (r : Recording) (b : Book) (unit : State) : Type 0 where
   pub follows : Follows (history_of r) (lost_of r) b
   pub later : (u : List ℕ) → unit.may_leave u → All (λ i. last_kept u < i.minute) follows.front.0
 
--- Each acceptance of a card has its last-kept minute among these: it is no earlier than the start's; of the entries that the book is sure
--- of, those that the unit had kept by then are not later; and it had kept no others.
+-- Each acceptance of a card has its last-kept minute among these: it is no earlier than the start's; of the entries
+-- that the book is sure of, those that the unit had kept by then are not later; and it had kept no others.
 abbrev pub AreBrought : Recording → Card → Book → List ℕ → Type 0
 AreBrought r c b ks = (u : ℕ) → Contains (acceptances r c) u →
-    ((k : ℕ) × Contains ks k × All (λ e. was_kept r c u e.minute ≡ true → e.minute ≤ k) ((brought r c).owed ++ card_history c b.sure) × (last_kept r.unit ≤ k))
-    × ((rest : List HistoryMinute) → history_of r ≡ b.sure ++ rest → All (λ e. was_kept r c u e.minute ≡ false) (card_history c rest))
+    ((k : ℕ) × Contains ks k × All (λ e. was_kept r c u e.minute ≡ true → e.minute ≤ k)
+    ((brought r c).owed ++ card_history c b.sure) × (last_kept r.unit ≤ k))
+    × ((rest : List HistoryMinute) → history_of r ≡ b.sure ++ rest
+    → All (λ e. was_kept r c u e.minute ≡ false) (card_history c rest))
 
 -- a card that the run may not write is as it was
 abbrev pub AreUntouched : Recording → Found → Devices → Type 0

@@ -1,5 +1,6 @@
 -- How a card of a run stands between two steps (profile).
-use Rattle.std.specs.Prelude.{◌≡◌, ℕ, ◌<◌, ◌≤◌, Option, None, List, [], ◌++◌, All, Contains, filter, nat_le, option_to_list}
+use Rattle.std.specs.Prelude.{◌≡◌, ℕ, ◌<◌, ◌≤◌, Option, None, List, [], ◌++◌, All, Contains, filter, nat_le}
+use Rattle.std.specs.Prelude.{option_to_list}
 use Rattle.activity_codec.specs.declared.entries.Entry.{Entry}
 use Rattle.trace_model.specs.declared.Card.{Card}
 use Rattle.tach_media.specs.Medium.{State}
@@ -16,7 +17,8 @@ use Rattle.device_rule.specs.Marked.{of_card, HasMarked, HasBrought, IsBefore}
 use Rattle.unit_rule.specs.Unit.{marks_of, Increase}
 use Rattle.run_promise.specs.Found.{CardFound, Found, found_of, unit_seen, AnyKept}
 
--- the entries that a card is to have beside those at the start: those that are owed to it there, and then what the minutes of a book say
+-- the entries that a card is to have beside those at the start: those that are owed to it there, and then what the
+-- minutes of a book say
 abbrev pub brought_by : Card → CardStart → Book → List Entry
 brought_by c start b = start.owed ++ card_history c (all b)
 
@@ -24,8 +26,8 @@ brought_by c start b = start.owed ++ card_history c (all b)
 abbrev pub counted_to : ℕ → List Entry → List Entry
 counted_to mark es = filter (λ e. nat_le e.minute mark) es
 
--- THE STRING. Each image since the start keeps the card's entries and those of the run up to its end mark, but for the days that the
--- stated overwriting took; each is valid, and has the card's number; and these entries rise.
+-- THE STRING. Each image since the start keeps the card's entries and those of the run up to its end mark, but for the
+-- days that the stated overwriting took; each is valid, and has the card's number; and these entries rise.
 pub record StringHolds (f : CardFound) (c : Card) (b : Book) (card : State) : Type 0 where
   pub kept : (x : List ℕ) → card.left_since f.began x →
       KeepsOf f.image (f.start.entries ++ counted_to (own_view x).mark (brought_by c f.start b)) (own_view x).held
@@ -34,24 +36,27 @@ pub record StringHolds (f : CardFound) (c : Card) (b : Book) (card : State) : Ty
   pub number : (x : List ℕ) → card.left_since f.began x → own_number x ≡ own_number f.image
   pub rises : Rise (brought_by c f.start b)
 
--- The string of an image goes on where the joint rule lets the next entry come: with the first that is owed, or else behind the newest
--- minute as the card stands.
+-- The string of an image goes on where the joint rule lets the next entry come: with the first that is owed, or else
+-- behind the newest minute as the card stands.
 abbrev pub StringGoesOn : CardFound → Card → Book → Standing → (due : List Entry) → List ℕ → Type 0
 StringGoesOn f c b z due x =
-    KeepsFrom f.image (comes_from f.start z due (own_view x)) (f.start.entries ++ counted_to (own_view x).mark (brought_by c f.start b)) (own_view x).held
+    KeepsFrom f.image (comes_from f.start z due (own_view x))
+    (f.start.entries ++ counted_to (own_view x).mark (brought_by c f.start b)) (own_view x).held
 
 -- so it is of each two images that a stop may leave of unit and card
 abbrev pub MayBeBrought : Found → Card → Book → Standing → (unit card : State) → Type 0
 MayBeBrought f c b z unit card = (u x : List ℕ) → unit.may_leave u → card.may_leave x →
     StringGoesOn (found_of f c) c b z (owed c (unit_view f.card_a.number f.card_b.number u) (own_view x)) x
 
--- A minute may be kept by the unit, with its entry put for the card: nothing is half kept, it is later than all that the card is to have so
--- far, and it says at most one entry on the card, and only where that is present.
-pub record MayKeep (f : Found) (c : Card) (b : Book) (z : Standing) (i : HistoryMinute) (unit card : State) : Type 0 where
+-- A minute may be kept by the unit, with its entry put for the card: nothing is half kept, it is later than all that
+-- the card is to have so far, and it says at most one entry on the card, and only where that is present.
+pub record MayKeep (f : Found) (c : Card) (b : Book) (z : Standing) (i : HistoryMinute) (unit card : State) : Type
+    0 where
   pub none : b.maybe ≡ None
   pub day : 1440 ≤ i.minute
   pub early : IsBefore f.card_a.number f.card_b.number i.minute unit
-  pub rule : CardRule c (found_of f c).start AnyKept (found_of f c).began b z (on_card c i) [] (unit_seen f unit) (of_card card)
+  pub rule : CardRule c (found_of f c).start AnyKept (found_of f c).began b z (on_card c i) [] (unit_seen f unit)
+      (of_card card)
   pub fits : Fits c (found_of f c).start z i
   pub one : (o : Option Entry) × (on_card c i ≡ option_to_list o)
   pub later : All (λ e. e.minute < i.minute) (brought_by c (found_of f c).start b)
@@ -61,8 +66,8 @@ pub record IsStrung (f : Found) (c : Card) (b : Book) (z : Standing) (unit card 
   pub string : StringHolds (found_of f c) c b card
   pub comes : MayBeBrought f c b z unit card
 
--- THE CARD, while the unit has power or has none: the rule that joins it to the unit, its string, and what was brought at its
--- acceptances, when the unit had kept these minutes last
+-- THE CARD, while the unit has power or has none: the rule that joins it to the unit, its string, and what was brought
+-- at its acceptances, when the unit had kept these minutes last
 pub record CardWaits (f : Found) (c : Card) (b : Book) (z : Standing) (ks : List ℕ) (unit card : State) : Type 0 where
   pub rests : CardDark c (found_of f c).start AnyKept (found_of f c).began b z (unit_seen f unit) (of_card card)
   pub string : StringHolds (found_of f c) c b card
@@ -76,7 +81,8 @@ pub record CardStands (f : Found) (c : Card) (b : Book) (z : Standing) (ks : Lis
   pub comes : MayBeBrought f c b z unit card
   pub brought : (k : ℕ) → Contains ks k → HasBrought f.card_a.number f.card_b.number c k unit card
 
--- MARKS. A mark's minute is that of an entry that is owed at the start or said by a sure minute, and the card has acknowledged it.
+-- MARKS. A mark's minute is that of an entry that is owed at the start or said by a sure minute, and the card has
+-- acknowledged it.
 pub record IsCardHeld (f : CardFound) (c : Card) (b : Book) (card : State) (m : Mark) : Type 0 where
   pub began : f.began ≤ m.clock
   pub holds : HasMarked m.minute m.clock card

@@ -14,9 +14,10 @@ use Rattle.run_unit_course.specs.Followed.{IsKnown}
 use Rattle.run_unit_course.specs.Legs.{kilometres_of, AreLegs}
 use Rattle.safety_model.specs.Recording.{Recording, told_of, history_of}
 
--- A DAY WAS BEGUN IN A RUN, which the unit did not record at the start: by the first minute of that day in the history, and the image has it. A span
--- has decided that minute; and the day's odometer is that of the start with the whole kilometres of the spans before, each by the limit of its
--- cut, of which the log tells where the span has decided a minute, and of that span up to the end of the minute.
+-- A DAY WAS BEGUN IN A RUN, which the unit did not record at the start: by the first minute of that day in the history,
+-- and the image has it. A span has decided that minute; and the day's odometer is that of the start with the whole
+-- kilometres of the spans before, each by the limit of its cut, of which the log tells where the span has decided a
+-- minute, and of that span up to the end of the minute.
 pub record IsBegunIn (r : Recording) (x : List ℕ) (day odometer : ℕ) : Type 0 where
   pub anew : (o : ℕ) → RecordsDay r.unit day o → ⊥
   pub i : HistoryMinute

@@ -1,4 +1,5 @@
--- What is carried beside the rules of unit and cards from second to second, and what a run promises at its end (profile).
+-- What is carried beside the rules of unit and cards from second to second, and what a run promises at its end
+-- (profile).
 use Rattle.std.specs.Prelude.{◌≡◌, ◌⊎◌, ℕ, zero, suc, ◌<◌, List, [], ◌∷◌, All, Contains, filter, length}
 use Rattle.activity_codec.specs.declared.entries.Entry.{Entry}
 use Rattle.trace_model.specs.declared.Card.{Card}
@@ -19,7 +20,8 @@ use Rattle.unit_rule.specs.Odometer.{OdometerSafe, HasTravelled}
 use Rattle.card_image.specs.Own.{IsOwnValid}
 use Rattle.safety_model.specs.Recording.{Recording, card_image, told_of, brought}
 use Rattle.safety_model.specs.Cards.{entered, overlaps}
-use Rattle.safety_model.specs.Safe.{Devices, card_of, breakdowns_of, entered_by, WasFound, IsUnfound, IsVerdict, IsSafe, IsCaused}
+use Rattle.safety_model.specs.Safe.{Devices, card_of, breakdowns_of, entered_by, WasFound, IsUnfound, IsVerdict, IsSafe}
+use Rattle.safety_model.specs.Safe.{IsCaused}
 use Rattle.run_promise.specs.Found.{found_of}
 use Rattle.run_promise.specs.Cards.{IsUntouched}
 use Rattle.run_course.specs.Followed.{Progress}
@@ -38,7 +40,8 @@ HasEnteredBefore r c u = (1 < entered_by r c u) ⊎ ((t : ℕ) × (t < u) × (0 
 
 -- so many entries as the unit owed to a card at the start were brought, and each of them is acknowledged
 abbrev pub IsAllOwed : Recording → List Mark → Card → (replayed : ℕ) → Type 0
-IsAllOwed r marks c replayed = (replayed ≡ length (brought r c).owed) × All (λ (e : Entry). IsMarked marks (device_of c) e.minute) (brought r c).owed
+IsAllOwed r marks c replayed = (replayed ≡ length (brought r c).owed)
+    × All (λ (e : Entry). IsMarked marks (device_of c) e.minute) (brought r c).owed
 
 -- WHAT AN ACCEPTANCE BRINGS: where the card enters for the first time, all that the unit owed to it at the start.
 abbrev pub BringsAll : Recording → List Mark → Card → (second : ℕ) → Verdict → Type 0
@@ -52,11 +55,14 @@ AreFound unit n [] = Unit {0}
 AreFound unit zero (b ∷ breaks) = IsUnfound b × AreFound unit zero breaks
 AreFound unit (suc n) (b ∷ breaks) = WasFound unit b × AreFound unit n breaks
 
--- WHAT WAS FOUND OF CARDS so far may be found of them, and what was found kept after the first so many breaks was kept, by the images that the
--- devices have left since the start; and so many entries were brought, and acknowledged.
-pub record AreVerdicts (o : Origin) (done : List TraceSecond) (log : RunLog) (unfound : ℕ) (marks : List Mark) (d : Devices) : Type 0 where
-  pub each : (t : ToldSecond) (e : Visit) (v : Verdict) → Contains (told_of (recording_by o done log)) t → Contains t.course.found (e, v) →
-      IsVerdict (recording_by o done log) (d.unit.left_since o.found.unit.began) ((card_of d e.card).left_since (found_of o.found e.card).began) e.card t.second.number v
+-- WHAT WAS FOUND OF CARDS so far may be found of them, and what was found kept after the first so many breaks was kept,
+-- by the images that the devices have left since the start; and so many entries were brought, and acknowledged.
+pub record AreVerdicts (o : Origin) (done : List TraceSecond) (log : RunLog) (unfound : ℕ) (marks : List Mark)
+    (d : Devices) : Type 0 where
+  pub each : (t : ToldSecond) (e : Visit) (v : Verdict) → Contains (told_of (recording_by o done log)) t
+      → Contains t.course.found (e, v) →
+      IsVerdict (recording_by o done log) (d.unit.left_since o.found.unit.began)
+      ((card_of d e.card).left_since (found_of o.found e.card).began) e.card t.second.number v
       × BringsAll (recording_by o done log) marks e.card t.second.number v
   pub kept : AreFound (d.unit.left_since o.found.unit.began) unfound log.breaks
 
@@ -66,32 +72,41 @@ MayBeWritten r c = IsOwnValid (card_image r c) × (overlaps r c < entered r c)
 
 -- any other is as it was
 abbrev pub AreSpared : Origin → List TraceSecond → RunLog → Devices → Type 0
-AreSpared o done log d = (c : Card) → IsUntouched (found_of o.found c) (card_of d c) ⊎ MayBeWritten (recording_by o done log) c
+AreSpared o done log d = (c : Card)
+    → IsUntouched (found_of o.found c) (card_of d c) ⊎ MayBeWritten (recording_by o done log) c
 
 -- BESIDE WHAT IS RECORDED: what was found of cards, which cards may be written, and the odometer of the unit's images
-pub record IsBeside (o : Origin) (done : List TraceSecond) (p : Progress) (g : Travel) (marks : List Mark) (d : Devices) : Type 0 where
+pub record IsBeside (o : Origin) (done : List TraceSecond) (p : Progress) (g : Travel) (marks : List Mark)
+    (d : Devices) : Type 0 where
   pub verdicts : AreVerdicts o done p.log p.unfound marks d
   pub spared : AreSpared o done p.log d
   pub travels : HasTravelled (odometer_at o.recording.unit) p.book g d.unit
 
--- WHAT A RUN PROMISES, where its devices began as a recording has them: `began` are they at the opening, `now` at the end.
+-- WHAT A RUN PROMISES, where its devices began as a recording has them: `began` are they at the opening, `now` at the
+-- end.
 pub record EndsRun (r : Recording) (marks : List Mark) (began now : Devices) : Type 0 where
-  -- The crash-safety theorem: every image that a stop may leave of unit or card shows what it held at the start followed by a part of the
-  -- run's history from its front, with every acknowledged minute; and what a card lacks is owed to it.
+  -- The crash-safety theorem: every image that a stop may leave of unit or card shows what it held at the start
+  -- followed by a part of the run's history from its front, with every acknowledged minute; and what a card lacks is
+  -- owed to it.
   pub safe : IsSafe r marks began now
-  -- Each line of the log has its cause, and what happened has its line; each decided minute is acknowledged but where a call failed in the
-  -- second that decided it, and each entry of a card but there or where it was torn out or pulled out.
+  -- Each line of the log has its cause, and what happened has its line; each decided minute is acknowledged but where a
+  -- call failed in the second that decided it, and each entry of a card but there or where it was torn out or pulled
+  -- out.
   pub caused : IsCaused r marks began now
   -- And a card that no failed call has torn out has not broken down.
-  pub still : (c : Card) → filter (same_card c) (cards_torn (told_of r)) ≡ [] → breakdowns_of now (device_of c) ≡ breakdowns_of began (device_of c)
-  -- What an acceptance brings of a card that enters for the first time: so many entries as the unit owed to it at the start, and each of them is
-  -- acknowledged.
-  pub brings : (t : ToldSecond) (e : Visit) (v : Verdict) → Contains (told_of r) t → Contains t.course.found (e, v) → BringsAll r marks e.card t.second.number v
-  -- The odometer of each image that a stop may leave is the start's and the whole kilometres of each span, up to its last-kept minute or one
-  -- of which the keeping was broken off.
+  pub still : (c : Card) → filter (same_card c) (cards_torn (told_of r)) ≡ []
+      → breakdowns_of now (device_of c) ≡ breakdowns_of began (device_of c)
+  -- What an acceptance brings of a card that enters for the first time: so many entries as the unit owed to it at the
+  -- start, and each of them is acknowledged.
+  pub brings : (t : ToldSecond) (e : Visit) (v : Verdict) → Contains (told_of r) t → Contains t.course.found (e, v)
+      → BringsAll r marks e.card t.second.number v
+  -- The odometer of each image that a stop may leave is the start's and the whole kilometres of each span, up to its
+  -- last-kept minute or one of which the keeping was broken off.
   pub odometer : (x : List ℕ) → now.unit.may_leave x → OdometerSafe r.rule r.log (told_of r) (odometer_at r.unit) x
-  -- So is that of each day that it records: as at the start, or that at the end of the first minute with which the run began the day.
-  pub days : (x : List ℕ) → now.unit.may_leave x → (day odometer : ℕ) → RecordsDay x day odometer → RecordsDay r.unit day odometer ⊎ IsBegunIn r x day odometer
-  -- Where no call failed every minute is there: each decided one stands in the history, the unit has all of it, and a card that was accepted all
-  -- of its entries.
+  -- So is that of each day that it records: as at the start, or that at the end of the first minute with which the run
+  -- began the day.
+  pub days : (x : List ℕ) → now.unit.may_leave x → (day odometer : ℕ) → RecordsDay x day odometer
+      → RecordsDay r.unit day odometer ⊎ IsBegunIn r x day odometer
+  -- Where no call failed every minute is there: each decided one stands in the history, the unit has all of it, and a
+  -- card that was accepted all of its entries.
   pub whole : NothingFailed r.log → IsWhole r now

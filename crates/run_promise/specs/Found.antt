@@ -11,7 +11,8 @@ use Rattle.device_rule.specs.Device.{Seen}
 use Rattle.device_rule.specs.Marked.{of_unit}
 use Rattle.unit_rule.specs.Rule.{Started}
 
--- of a card its image, what it brings, its number, and the clock; a card that is not valid has a number that no card has
+-- of a card its image, what it brings, its number, and the clock; a card that is not valid has a number that no card
+-- has
 pub record CardFound : Type 0 where
   pub image : List ℕ
   pub start : CardStart

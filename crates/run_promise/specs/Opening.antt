@@ -19,7 +19,12 @@ pub record BeginsAs (x : List ℕ) (device : State) : Type 0 where
 
 -- what a card brings, by its image and what the unit's shows
 abbrev pub as_found : Card → UnitView → List ℕ → CardStart
-as_found c u x = record { entries = (own_view x).held.entries; owed = owed c u (own_view x); mark = (own_view x).mark; word = beyond (own_view x) }
+as_found c u x = record {
+  entries = (own_view x).held.entries;
+  owed = owed c u (own_view x);
+  mark = (own_view x).mark;
+  word = beyond (own_view x);
+}
 
 -- so it was found of these images of unit and card, at this clock, and the card's days are days
 pub record IsLookedAt (f : Found) (c : Card) (u x : List ℕ) (clock : ℕ) : Type 0 where

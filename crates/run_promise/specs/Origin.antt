@@ -18,8 +18,8 @@ use Rattle.safety_model.specs.Recording.{Recording, card_image, start_of}
 use Rattle.run_promise.specs.Found.{Found}
 use Rattle.run_promise.specs.Going.{AreAccounted}
 
--- the images at the start and the rule of minutes (trace and log of the recording are not looked at), what the opening found, the number
--- of the trace's first second, and how often each device had broken down
+-- the images at the start and the rule of minutes (trace and log of the recording are not looked at), what the opening
+-- found, the number of the trace's first second, and how often each device had broken down
 pub record Origin : Type 0 where
   pub recording : Recording
   pub found : Found
@@ -35,15 +35,17 @@ start_at o = start_of o.recording
 abbrev pub first_of : Origin → ℕ
 first_of o = last_kept o.recording.unit
 
--- BETWEEN TWO SECONDS, behind these: the book follows the history of the seconds by the log; what was travelled is that of the spans, from the
--- unit's image at the start; each line of the log has its cause, and what happened has its line; each decided minute is acknowledged but where
--- a call failed, and each entry of a card but there or where it was torn out; and each acceptance of a card that was valid is accounted for.
--- No decided minute waits.
-pub record HistoryIsRecorded (o : Origin) (done : List TraceSecond) (p : Progress) (g : Travel) (marks : List Mark) (now : Device → ℕ) (brought : Card → List ℕ) : Type 0 where
+-- BETWEEN TWO SECONDS, behind these: the book follows the history of the seconds by the log; what was travelled is that
+-- of the spans, from the unit's image at the start; each line of the log has its cause, and what happened has its line;
+-- each decided minute is acknowledged but where a call failed, and each entry of a card but there or where it was torn
+-- out; and each acceptance of a card that was valid is accounted for. No decided minute waits.
+pub record HistoryIsRecorded (o : Origin) (done : List TraceSecond) (p : Progress) (g : Travel) (marks : List Mark)
+    (now : Device → ℕ) (brought : Card → List ℕ) : Type 0 where
   pub followed : BookFollowsRun (rule_of o) (start_at o) o.from (first_of o) done p
   pub waiting : p.waiting ≡ []
   pub legs : HasLegs (rule_of o) (first_of o) done p g
   pub image : g.image ≡ o.recording.unit
   pub complete : IsComplete (rule_of o) (start_at o) p.log (went p.log done).told marks
   pub caused : WellCaused o.breakdowns now done p
-  pub accounts : (c : Card) → IsOwnValid (card_image o.recording c) → AreAccounted o.recording c (first_of o) done p (brought c)
+  pub accounts : (c : Card) → IsOwnValid (card_image o.recording c)
+      → AreAccounted o.recording c (first_of o) done p (brought c)

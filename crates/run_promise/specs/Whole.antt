@@ -28,16 +28,17 @@ pub record IsPulledBehind (r : Recording) (c : Card) (m : ℕ) : Type 0 where
   pub before : t.second.number ≤ deciding_of r.rule (settlings_of span) m
   pub pulled : (v : Visit) × (v.card ≡ c) × Contains t.course.pulled v
 
--- An image shows all expected entries of a card but such ones, retained; and of those that are missing the unit had kept none when the card
--- was accepted.
+-- An image shows all expected entries of a card but such ones, retained; and of those that are missing the unit had
+-- kept none when the card was accepted.
 pub record IsFull (r : Recording) (c : Card) (x : List ℕ) : Type 0 where
   pub shows : CardShows r c x
   pub missing : All (λ e. IsPulledBehind r c e.minute) shows.rest
   pub brought : (u : ℕ) → Contains (acceptances r c) u → All (λ e. was_kept r c u e.minute ≡ false) shows.rest
 
--- EVERY MINUTE IS THERE: each decided minute stands in the history; each image of the unit at the end has the whole history; and each image
--- of a card that was valid, and was accepted, all of its entries.
+-- EVERY MINUTE IS THERE: each decided minute stands in the history; each image of the unit at the end has the whole
+-- history; and each image of a card that was valid, and was accepted, all of its entries.
 pub record IsWhole (r : Recording) (now : Devices) : Type 0 where
   pub decided : HasEachDecided r.rule (told_of r) (history_of r)
   pub unit : (x : List ℕ) → now.unit.may_leave x → IsFilled (recorded r.unit) (history_of r) x
-  pub card : (c : Card) (u : ℕ) → IsOwnValid (card_image r c) → Contains (acceptances r c) u → (x : List ℕ) → (card_of now c).may_leave x → IsFull r c x
+  pub card : (c : Card) (u : ℕ) → IsOwnValid (card_image r c) → Contains (acceptances r c) u → (x : List ℕ)
+      → (card_of now c).may_leave x → IsFull r c x

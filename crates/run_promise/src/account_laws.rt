@@ -29,55 +29,66 @@ ghost use Rattle.run_promise.specs.Found.{Found};
 ghost use Rattle.run_promise.specs.Between.{RunLedger, LedgerStands, IsFound, AreBrought, AreUntouched, devices};
 ghost use Rattle.run_promise.specs.Accounts.{IsAccount, HasAccounts, IsShownLost};
 ghost use Rattle.run_promise.specs.Stays.{AddsLater, IsStep};
-ghost use Rattle.run_promise.specs.Going.{AreAccounted, IsTakenAt, ASecondIsAccounted, KeptMinutesAreSure, FoundStaysAccounted, AFailureStaysAccounted, ADarkMinuteStaysAccounted, AnOffLineStaysAccounted, AnOffCutStaysAccounted, NothingIsAccountedYet, TheEndIsAccounted};
+ghost use Rattle.run_promise.specs.Going.{AreAccounted, IsTakenAt, ASecondIsAccounted, KeptMinutesAreSure};
+ghost use Rattle.run_promise.specs.Going.{FoundStaysAccounted, AFailureStaysAccounted, ADarkMinuteStaysAccounted};
+ghost use Rattle.run_promise.specs.Going.{AnOffLineStaysAccounted, AnOffCutStaysAccounted, NothingIsAccountedYet};
+ghost use Rattle.run_promise.specs.Going.{TheEndIsAccounted};
 
 use tach_media::{Chip, Medium};
 
-/// Where each acceptance of a card is accounted for, it has its last-kept minute: what the unit had kept by then is not later, and it had
-/// kept nothing that is not sure.
+/// Where each acceptance of a card is accounted for, it has its last-kept minute: what the unit had kept by then is not
+/// later, and it had kept nothing that is not sure.
 pub fn accounts_are_brought()
-    ensures { (r : Recording) (c : Card) (from : ℕ) (b : Book) (ks : List ℕ) → AreInOrder from r.trace → last_kept r.unit < from / 60 →
+    ensures { (r : Recording) (c : Card) (from : ℕ) (b : Book) (ks : List ℕ) → AreInOrder from r.trace
+        → last_kept r.unit < from / 60 →
         Follows (history_of r) (lost_of r) b → HasAccounts r c (last_kept r.unit) b ks → AreBrought r c b ks }
 {}
 
-/// An account goes on with the run: where the log shows no other cut before its second, each minute of the history was there before or is
-/// not earlier than that second's, and its mark stays. Neither breaks of its second and later ones change what the log shows, nor what is
-/// found after such.
+/// An account goes on with the run: where the log shows no other cut before its second, each minute of the history was
+/// there before or is not earlier than that second's, and its mark stays. Neither breaks of its second and later ones
+/// change what the log shows, nor what is found after such.
 pub fn an_account_goes_on()
     ensures goes { (r s : Recording) (c : Card) (first : ℕ) (b d : Book) (u k : ℕ) →
         ((m : ℕ) → list_any (shows_lost u m) s.log.breaks ≡ list_any (shows_lost u m) r.log.breaks) →
-        All (λ i. Contains (history_of r) i ⊎ (u / 60 ≤ i.minute)) (history_of s) → (IsMark first b.sure k → IsMark first d.sure k) →
+        All (λ i. Contains (history_of r) i ⊎ (u / 60 ≤ i.minute)) (history_of s)
+        → (IsMark first b.sure k → IsMark first d.sure k) →
         IsAccount r c first b u k → IsAccount s c first d u k }
     ensures later { (u m : ℕ) (breaks rest : List Break) → AllByRecursion (λ (b : Break). u ≤ second_of b) rest →
         list_any (shows_lost u m) (breaks ++ rest) ≡ list_any (shows_lost u m) breaks }
-    ensures found { (u m unfound k : ℕ) (breaks : List Break) → AllByRecursion (λ (b : Break). u ≤ second_of b) (drop unfound breaks) →
+    ensures found { (u m unfound k : ℕ) (breaks : List Break)
+        → AllByRecursion (λ (b : Break). u ≤ second_of b) (drop unfound breaks) →
         list_any (shows_lost u m) (found_from unfound k breaks) ≡ list_any (shows_lost u m) breaks }
 {}
 
-/// An acceptance is accounted for by the unit's last-kept minute, where each minute of the history is not later, or not earlier than the
-/// minute of its second, or shown to be lost.
+/// An acceptance is accounted for by the unit's last-kept minute, where each minute of the history is not later, or not
+/// earlier than the minute of its second, or shown to be lost.
 pub fn an_acceptance_is_accounted()
     ensures { (r : Recording) (c : Card) (first : ℕ) (b : Book) (u k : ℕ) → IsMark first b.sure k →
-        All (λ i. (i.minute ≤ k) ⊎ ((u / 60 ≤ i.minute) ⊎ (list_any (shows_lost u i.minute) r.log.breaks ≡ true))) (history_of r) → IsAccount r c first b u k }
+        All (λ i. (i.minute ≤ k) ⊎ ((u / 60 ≤ i.minute) ⊎ (list_any (shows_lost u i.minute) r.log.breaks ≡ true)))
+        (history_of r) → IsAccount r c first b u k }
 {}
 
 /// While power has just come back, each minute of the history is a sure one, or shown to be lost.
 pub fn what_is_lost_is_shown()
-    ensures { (rule : Rule) (start : Start) (from first : ℕ) (done : List TraceSecond) (p : Progress) → BookFollowsRun rule start from first done (record p { supply = Lit []; waiting = [] }) →
-        All (λ i. Contains p.book.sure i ⊎ IsShownLost p.log p.next i) (unit_history rule start p.log (went p.log done).told) }
+    ensures { (rule : Rule) (start : Start) (from first : ℕ) (done : List TraceSecond) (p : Progress)
+        → BookFollowsRun rule start from first done (record p { supply = Lit []; waiting = [] }) →
+        All (λ i. Contains p.book.sure i ⊎ IsShownLost p.log p.next i)
+        (unit_history rule start p.log (went p.log done).told) }
 {}
 
-/// Each acceptance so far stays accounted for over a second with power, whole or a cut's, and one in it is, by the minute that the unit had
-/// kept last at that time.
+/// Each acceptance so far stays accounted for over a second with power, whole or a cut's, and one in it is, by the
+/// minute that the unit had kept last at that time.
 pub fn a_second_is_accounted()
     ensures { ASecondIsAccounted }
 {}
 
-/// The unit's last-kept minute is what is to be told of an acceptance, where the book that the unit held at that time had all that the
-/// second decides, and nothing was half kept.
+/// The unit's last-kept minute is what is to be told of an acceptance, where the book that the unit held at that time
+/// had all that the second decides, and nothing was half kept.
 pub fn an_acceptance_is_taken_at_the_last_kept_minute<M: Medium>(unit: &M)
-    ensures { (s : Started) (due : ℕ) (p b q : Book) (marks : List Mark) (new more : List HistoryMinute) → b.sure ≡ p.sure ++ new → q.sure ≡ b.sure ++ more → b.maybe ≡ None →
-        UnitFollowsBook s due b marks (M.state unit.now) → (u : List ℕ) → (M.state unit.now).may_leave u → IsTakenAt s.first p q new (last_kept u) }
+    ensures { (s : Started) (due : ℕ) (p b q : Book) (marks : List Mark) (new more : List HistoryMinute)
+        → b.sure ≡ p.sure ++ new → q.sure ≡ b.sure ++ more → b.maybe ≡ None →
+        UnitFollowsBook s due b marks (M.state unit.now) → (u : List ℕ) → (M.state unit.now).may_leave u
+        → IsTakenAt s.first p q new (last_kept u) }
 {}
 
 /// The minutes that a second kept are sure then.
@@ -104,27 +115,33 @@ pub fn accounts_begin_and_end()
     ensures end { TheEndIsAccounted }
 {}
 
-/// What an acceptance brought stays so over each step behind which the rule that joins unit and card holds again, whatever the step is:
-/// the unit had kept what the book was sure of, no end mark falls, and what comes to the card's entries is later.
+/// What an acceptance brought stays so over each step behind which the rule that joins unit and card holds again,
+/// whatever the step is: the unit had kept what the book was sure of, no end mark falls, and what comes to the card's
+/// entries is later.
 pub fn what_was_brought_stays_by_the_rules<M: Medium, N: Medium, C: Chip, D: Chip>(
     unit: &M,
     card: &C,
     unit_behind: &N,
     card_behind: &D,
 )
-    ensures { (f : Found) (c : Card) (k : ℕ) (b d : Book) (y z : Standing) → IsStep f c k b d y z (M.state unit.now) (C.state card.now) (N.state unit_behind.now) (D.state card_behind.now) →
-        HasBrought f.card_a.number f.card_b.number c k (M.state unit.now) (C.state card.now) → HasBrought f.card_a.number f.card_b.number c k (N.state unit_behind.now) (D.state card_behind.now) }
+    ensures { (f : Found) (c : Card) (k : ℕ) (b d : Book) (y z : Standing)
+        → IsStep f c k b d y z (M.state unit.now) (C.state card.now) (N.state unit_behind.now) (D.state card_behind.now)
+        →
+        HasBrought f.card_a.number f.card_b.number c k (M.state unit.now) (C.state card.now)
+        → HasBrought f.card_a.number f.card_b.number c k (N.state unit_behind.now) (D.state card_behind.now) }
 {}
 
 /// What a minute that is kept, or broken off, brings to a card's entries is its own.
 pub fn what_a_minute_adds_is_its_own()
     ensures none { (c : Card) (start : CardStart) (k : ℕ) (b : Book) → b.maybe ≡ None → AddsLater c start k b b }
-    ensures kept { (c : Card) (start : CardStart) (k : ℕ) (b : Book) (i : HistoryMinute) → k < i.minute → AddsLater c start k b (kept i b) }
-    ensures broken { (c : Card) (start : CardStart) (k : ℕ) (b : Book) (i : HistoryMinute) → k < i.minute → AddsLater c start k b (broken i b) }
+    ensures kept { (c : Card) (start : CardStart) (k : ℕ) (b : Book) (i : HistoryMinute) → k < i.minute
+        → AddsLater c start k b (kept i b) }
+    ensures broken { (c : Card) (start : CardStart) (k : ℕ) (b : Book) (i : HistoryMinute) → k < i.minute
+        → AddsLater c start k b (broken i b) }
 {}
 
-/// THE END OF A RUN: where a book is followed, with its log, and carried by unit and cards, and each acceptance of a card that was valid is
-/// accounted for, the crash-safety theorem holds.
+/// THE END OF A RUN: where a book is followed, with its log, and carried by unit and cards, and each acceptance of a
+/// card that was valid is accounted for, the crash-safety theorem holds.
 pub fn what_is_followed_and_carried_is_safe<
     M: Medium,
     C: Chip,
@@ -139,5 +156,6 @@ pub fn what_is_followed_and_carried_is_safe<
         LedgerStands f w (devices (N.state unit.now) (E.state card_a.now) (F.state card_b.now)) →
         ((c : Card) → IsOwnValid (card_image r c) → AreAccounted r c (last_kept r.unit) r.trace p (w.brought c)) →
         AreUntouched r f (devices (N.state unit.now) (E.state card_a.now) (F.state card_b.now)) →
-        IsSafe r w.marks (devices (M.state old_unit.now) (C.state old_a.now) (D.state old_b.now)) (devices (N.state unit.now) (E.state card_a.now) (F.state card_b.now)) }
+        IsSafe r w.marks (devices (M.state old_unit.now) (C.state old_a.now) (D.state old_b.now))
+        (devices (N.state unit.now) (E.state card_a.now) (F.state card_b.now)) }
 {}

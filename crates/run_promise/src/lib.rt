@@ -1,9 +1,11 @@
-//! What a run with cards carries between two steps, and what it promises by it at its end (profile): definitions (specs/) with their
-//! laws.
+//! What a run with cards carries between two steps, and what it promises by it at its end (profile): definitions
+//! (specs/) with their laws.
 //!
-//! What each acceptance of a card brought, accounted for as a run goes on (profile): laws that give what the crash-safety theorem asks.
+//! What each acceptance of a card brought, accounted for as a run goes on (profile): laws that give what the
+//! crash-safety theorem asks.
 //!
-//! What the recorder with cards has recorded, from second to second (profile): definitions (specs/), and laws that its loop cites.
+//! What the recorder with cards has recorded, from second to second (profile): definitions (specs/), and laws that its
+//! loop cites.
 #![tactic(auto)]
 
 // what is carried

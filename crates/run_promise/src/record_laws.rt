@@ -7,9 +7,14 @@ ghost use Rattle.safety_model.specs.Safe.{breakdowns_of};
 ghost use Rattle.run_promise.specs.Between.{RunLedger, LedgerStands, IsFound, devices};
 ghost use Rattle.run_course.specs.Followed.{Progress};
 ghost use Rattle.run_promise.specs.Origin.{Origin, HistoryIsRecorded};
-ghost use Rattle.run_promise.specs.Beside.{FindsGoOn, NothingIsFound, CardsAreSpared, IdleCardsAreSpared, ASecondTellsMore, FoundTellsNoMore, QuietSecondsTellMore, DarkSecondsTellMore, AnOffLineTellsMore, AnOffCutTellsMore, FewerAreFound, FewAreFoundOn};
+ghost use Rattle.run_promise.specs.Beside.{FindsGoOn, NothingIsFound, CardsAreSpared, IdleCardsAreSpared};
+ghost use Rattle.run_promise.specs.Beside.{ASecondTellsMore, FoundTellsNoMore, QuietSecondsTellMore};
+ghost use Rattle.run_promise.specs.Beside.{DarkSecondsTellMore, AnOffLineTellsMore, AnOffCutTellsMore, FewerAreFound};
+ghost use Rattle.run_promise.specs.Beside.{FewAreFoundOn};
 ghost use Rattle.run_promise.specs.Ends.{recording_by, IsBeside, EndsRun};
-ghost use Rattle.run_promise.specs.Seconds.{NothingIsRecorded, WhatWasKeptIsFound, MoreIsRecorded, ASecondIsRecorded, ASecondIsBroken, AFailedPowerOnIsRecorded, QuietSecondsAreRecorded, DarkSecondsAreRecorded, AnOffLineIsRecorded, AnOffCutIsRecorded};
+ghost use Rattle.run_promise.specs.Seconds.{NothingIsRecorded, WhatWasKeptIsFound, MoreIsRecorded, ASecondIsRecorded};
+ghost use Rattle.run_promise.specs.Seconds.{ASecondIsBroken, AFailedPowerOnIsRecorded, QuietSecondsAreRecorded};
+ghost use Rattle.run_promise.specs.Seconds.{DarkSecondsAreRecorded, AnOffLineIsRecorded, AnOffCutIsRecorded};
 
 use tach_media::{Chip, Medium};
 
@@ -67,13 +72,19 @@ pub fn what_is_recorded_is_promised<M: Medium, C: Chip, D: Chip, N: Medium, E: C
     card_a: &E,
     card_b: &F,
 )
-    ensures { (o : Origin) (done : List TraceSecond) (p : Progress) (g : Travel) (marks : List Mark) (w : RunLedger) → Decodes o.recording.unit →
-        IsFound (recording_by o done p.log) o.found (devices (M.state old_unit.now) (C.state old_a.now) (D.state old_b.now)) →
+    ensures { (o : Origin) (done : List TraceSecond) (p : Progress) (g : Travel) (marks : List Mark) (w : RunLedger)
+        → Decodes o.recording.unit →
+        IsFound (recording_by o done p.log) o.found
+        (devices (M.state old_unit.now) (C.state old_a.now) (D.state old_b.now)) →
         o.breakdowns ≡ breakdowns_of (devices (M.state old_unit.now) (C.state old_a.now) (D.state old_b.now)) →
-        HistoryIsRecorded o done p g marks (breakdowns_of (devices (N.state unit.now) (E.state card_a.now) (F.state card_b.now))) w.brought →
-        LedgerStands o.found w (devices (N.state unit.now) (E.state card_a.now) (F.state card_b.now)) → w.book ≡ p.book → w.marks ≡ marks →
+        HistoryIsRecorded o done p g marks (breakdowns_of
+        (devices (N.state unit.now) (E.state card_a.now) (F.state card_b.now))) w.brought →
+        LedgerStands o.found w (devices (N.state unit.now) (E.state card_a.now) (F.state card_b.now)) → w.book ≡ p.book
+        → w.marks ≡ marks →
         IsBeside o done p g marks (devices (N.state unit.now) (E.state card_a.now) (F.state card_b.now)) →
-        EndsRun (recording_by o done p.log) marks (devices (M.state old_unit.now) (C.state old_a.now) (D.state old_b.now)) (devices (N.state unit.now) (E.state card_a.now) (F.state card_b.now)) }
+        EndsRun (recording_by o done p.log) marks
+        (devices (M.state old_unit.now) (C.state old_a.now) (D.state old_b.now))
+        (devices (N.state unit.now) (E.state card_a.now) (F.state card_b.now)) }
 {}
 
 /// A power-on that fails at once.
@@ -130,7 +141,8 @@ pub fn finds_go_on<M: Medium, C: Chip, D: Chip, N: Medium, E: Chip, F: Chip>(
     card_a: &E,
     card_b: &F,
 )
-    ensures { FindsGoOn (devices (M.state old_unit.now) (C.state old_a.now) (D.state old_b.now)) (devices (N.state unit.now) (E.state card_a.now) (F.state card_b.now)) }
+    ensures { FindsGoOn (devices (M.state old_unit.now) (C.state old_a.now) (D.state old_b.now))
+        (devices (N.state unit.now) (E.state card_a.now) (F.state card_b.now)) }
 {}
 
 /// Where no card enters nothing is found.
@@ -142,7 +154,8 @@ pub fn nothing_is_found<M: Medium, C: Chip, D: Chip, N: Medium, E: Chip, F: Chip
     card_a: &E,
     card_b: &F,
 )
-    ensures { NothingIsFound (devices (M.state old_unit.now) (C.state old_a.now) (D.state old_b.now)) (devices (N.state unit.now) (E.state card_a.now) (F.state card_b.now)) }
+    ensures { NothingIsFound (devices (M.state old_unit.now) (C.state old_a.now) (D.state old_b.now))
+        (devices (N.state unit.now) (E.state card_a.now) (F.state card_b.now)) }
 {}
 
 /// Which cards may be written may be written from then on.
@@ -154,7 +167,8 @@ pub fn cards_are_spared<M: Medium, C: Chip, D: Chip, N: Medium, E: Chip, F: Chip
     card_a: &E,
     card_b: &F,
 )
-    ensures { CardsAreSpared (devices (M.state old_unit.now) (C.state old_a.now) (D.state old_b.now)) (devices (N.state unit.now) (E.state card_a.now) (F.state card_b.now)) }
+    ensures { CardsAreSpared (devices (M.state old_unit.now) (C.state old_a.now) (D.state old_b.now))
+        (devices (N.state unit.now) (E.state card_a.now) (F.state card_b.now)) }
 {}
 
 /// So it is where no card enters.
@@ -166,5 +180,6 @@ pub fn idle_cards_are_spared<M: Medium, C: Chip, D: Chip, N: Medium, E: Chip, F:
     card_a: &E,
     card_b: &F,
 )
-    ensures { IdleCardsAreSpared (devices (M.state old_unit.now) (C.state old_a.now) (D.state old_b.now)) (devices (N.state unit.now) (E.state card_a.now) (F.state card_b.now)) }
+    ensures { IdleCardsAreSpared (devices (M.state old_unit.now) (C.state old_a.now) (D.state old_b.now))
+        (devices (N.state unit.now) (E.state card_a.now) (F.state card_b.now)) }
 {}

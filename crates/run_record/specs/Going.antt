@@ -1,5 +1,5 @@
--- How the record goes on over seconds that are taken at once: without power, of an `off` line, and with power where nothing happens; and how
--- it begins (profile).
+-- How the record goes on over seconds that are taken at once: without power, of an `off` line, and with power where
+-- nothing happens; and how it begins (profile).
 use Rattle.std.specs.Prelude.{◌≡◌, ℕ, suc, ◌+◌, ◌-◌, ◌/◌, ◌%◌, ◌<◌, ◌≤◌, None, List, [], ◌∷◌, ◌++◌, map, false}
 use Rattle.trace_model.specs.declared.Action.{Action}
 use Rattle.trace_model.specs.declared.Card.{Card}
@@ -31,13 +31,20 @@ use Rattle.run_promise.specs.Seconds.{empty_log}
 use Rattle.run_record.specs.Recorded.{Values, slots_of, AreThere, RecordBetweenSeconds}
 use Rattle.run_record.specs.Within.{RecordedFrom}
 
--- WITHOUT POWER, up to the minute's end after a failed call: the actions of the first second are refused, and the last one had so many
+-- WITHOUT POWER, up to the minute's end after a failed call: the actions of the first second are refused, and the last
+-- one had so many
 abbrev pub dark_values : (n begun : ℕ) → List Refused → Values → Values
-dark_values n begun refused v = record v { log = record v.log { refused = v.log.refused ++ refused }; next = v.next + n; begun = begun }
+dark_values n begun refused v = record v {
+  log = record v.log { refused = v.log.refused ++ refused };
+  next = v.next + n;
+  begun = begun;
+}
 
 abbrev pub DarkSecondsStayRecorded : Devices → Type 0
-DarkSecondsStayRecorded d = (o : Origin) (done : List TraceSecond) (v : Values) → RecordBetweenSeconds o done Lost v d → (n speed : ℕ) (actions : List Action) (refused : List Refused) (begun : ℕ) →
-    0 < v.next % 60 → v.next % 60 + suc n ≤ 60 → map refusal_told refused ≡ refusals_at v.next (without_power 0 actions) →
+DarkSecondsStayRecorded d = (o : Origin) (done : List TraceSecond) (v : Values) → RecordBetweenSeconds o done Lost v d
+    → (n speed : ℕ) (actions : List Action) (refused : List Refused) (begun : ℕ) →
+    0 < v.next % 60 → v.next % 60 + suc n ≤ 60 → map refusal_told refused ≡ refusals_at v.next (without_power 0 actions)
+    →
     RecordBetweenSeconds o (done ++ driven (suc n) v.next speed actions) Lost (dark_values (suc n) begun refused v) d
 
 -- AN `off` LINE where there is no power,
@@ -45,26 +52,40 @@ abbrev pub off_values : (n : ℕ) → Values → Values
 off_values n v = record v { next = v.next + n; begun = 0 }
 
 abbrev pub AnOffLineStaysRecorded : Devices → Type 0
-AnOffLineStaysRecorded d = (o : Origin) (done : List TraceSecond) (supply : UnitPower) (v : Values) → RecordBetweenSeconds o done supply v d → IsDark supply → (n : ℕ) → RecordBetweenSeconds o (done ++ dark (suc n) v.next) Due (off_values (suc n) v) d
+AnOffLineStaysRecorded d = (o : Origin) (done : List TraceSecond) (supply : UnitPower) (v : Values)
+    → RecordBetweenSeconds o done supply v d → IsDark supply → (n : ℕ)
+    → RecordBetweenSeconds o (done ++ dark (suc n) v.next) Due (off_values (suc n) v) d
 
 -- and where there is: the power is cut in the last second.
 abbrev pub off_cut_values : (n : ℕ) → Values → Values
-off_cut_values n v = record v { log = and_break v.log (cut_at (v.next - 1) false v.begun); cabin = with_power_lost (v.next - 1) v.cabin; next = v.next + n; begun = 0 }
+off_cut_values n v = record v {
+  log = and_break v.log (cut_at (v.next - 1) false v.begun);
+  cabin = with_power_lost (v.next - 1) v.cabin;
+  next = v.next + n;
+  begun = 0;
+}
 
 abbrev pub AnOffCutStaysRecorded : Devices → Type 0
-AnOffCutStaysRecorded d = (o : Origin) (done : List TraceSecond) (t : ToldSecond) (span : List ToldSecond) (v : Values) → RecordBetweenSeconds o done (Lit (t ∷ span)) v d → (n : ℕ) → RecordBetweenSeconds o (done ++ dark (suc n) v.next) Due (off_cut_values (suc n) v) d
+AnOffCutStaysRecorded d = (o : Origin) (done : List TraceSecond) (t : ToldSecond) (span : List ToldSecond) (v : Values)
+    → RecordBetweenSeconds o done (Lit (t ∷ span)) v d → (n : ℕ)
+    → RecordBetweenSeconds o (done ++ dark (suc n) v.next) Due (off_cut_values (suc n) v) d
 
 -- SECONDS WITH POWER in which nothing happens, within a minute: these minutes stand for the longer span.
 abbrev pub quiet_values : (n : ℕ) → Kept → Values → Values
 quiet_values n minutes v = record v { next = v.next + n; begun = begun_after n v.begun; minutes = minutes }
 
-abbrev pub quiet_span : (o : Origin) (done : List TraceSecond) (n speed : ℕ) → List ToldSecond → Values → List ToldSecond
+abbrev pub quiet_span : (o : Origin) (done : List TraceSecond) (n speed : ℕ) → List ToldSecond → Values
+    → List ToldSecond
 quiet_span o done n speed span v = span ++ quiet_seconds n v.next speed (slots_of v done)
 
 abbrev pub QuietSecondsStayRecorded : Devices → Type 0
-QuietSecondsStayRecorded d = (o : Origin) (done : List TraceSecond) (t : ToldSecond) (span : List ToldSecond) (v : Values) → (r : RecordBetweenSeconds o done (Lit (t ∷ span)) v d) → (n speed : ℕ) → 0 < v.next % 60 → v.next % 60 + suc n < 60 →
-    (minutes : Kept) → CountsSpan minutes (span_at (rule_of o) (v.next + suc n) (quiet_span o done (suc n) speed (t ∷ span) v)) →
-    RecordedFrom o (done ++ driven (suc n) v.next speed []) (Lit (quiet_span o done (suc n) speed (t ∷ span) v)) (quiet_values (suc n) minutes v) d r.travel.before
+QuietSecondsStayRecorded d = (o : Origin) (done : List TraceSecond) (t : ToldSecond) (span : List ToldSecond)
+    (v : Values) → (r : RecordBetweenSeconds o done (Lit (t ∷ span)) v d) → (n speed : ℕ) → 0 < v.next % 60
+    → v.next % 60 + suc n < 60 →
+    (minutes : Kept) → CountsSpan minutes (span_at (rule_of o) (v.next + suc n)
+    (quiet_span o done (suc n) speed (t ∷ span) v)) →
+    RecordedFrom o (done ++ driven (suc n) v.next speed []) (Lit (quiet_span o done (suc n) speed (t ∷ span) v))
+    (quiet_values (suc n) minutes v) d r.travel.before
 
 -- AT THE START nothing is recorded: nobody sits, each card is as it was, and unit and cards wait.
 pub record MayStart (o : Origin) (v : Values) (d : Devices) : Type 0 where
@@ -77,7 +98,8 @@ pub record MayStart (o : Origin) (v : Values) (d : Devices) : Type 0 where
   pub next : v.next ≡ o.from
   pub begun : v.begun ≡ 0
   pub breakdowns : IsMore o.breakdowns (breakdowns_of d)
-  pub powerless : DevicesUnpowered o.found (record { due = o.from / 60; book = not_begun; marks = []; standing = λ c. Out; brought = λ c. [] }) d
+  pub powerless : DevicesUnpowered o.found
+      (record { due = o.from / 60; book = not_begun; marks = []; standing = λ c. Out; brought = λ c. [] }) d
   pub found : AreFoundCards o.found v.cabin.cards
   pub there : AreThere o.found d
   pub untouched : (c : Card) → IsUntouched (found_of o.found c) (card_of d c)

@@ -1,5 +1,7 @@
--- A card that waits in a slot is judged in a run with cards (profile): what is found of it is told, and it is accepted or not; or it is torn out.
-use Rattle.std.specs.Prelude.{◌≡◌, ◌⊎◌, ℕ, ◌/◌, ◌<◌, ◌≤◌, Bool, true, false, Some, None, List, [], ◌++◌, Contains, is_some}
+-- A card that waits in a slot is judged in a run with cards (profile): what is found of it is told, and it is accepted
+-- or not; or it is torn out.
+use Rattle.std.specs.Prelude.{◌≡◌, ◌⊎◌, ℕ, ◌/◌, ◌<◌, ◌≤◌, Bool, true, false, Some, None, List, [], ◌++◌, Contains}
+use Rattle.std.specs.Prelude.{is_some}
 use Rattle.std.specs.List.{AllByRecursion}
 use Rattle.activity_codec.specs.declared.values.Slot.{Slot}
 use Rattle.activity_codec.specs.declared.values.Slot.TheVariants.{Driver, CoDriver}
@@ -38,9 +40,11 @@ use Rattle.run_promise.specs.Beside.{HaveLeftMore}
 use Rattle.run_record.specs.Recorded.{Values, carried, AreThere}
 use Rattle.run_record.specs.Within.{course_in, VerdictBy, often, AreOld, RecordInSecond, SecondGoesOn, RecordAtFailure}
 
--- A CARD WAITS in a slot at a moment: it sits there and is not accepted, and has entered with this moment; all minutes before this second's are
--- kept. Behind it these cards wait.
-pub record IsNext (o : Origin) (done : List TraceSecond) (s : TraceSecond) (at : Phase) (waits fewer : List Visit) (v : Values) (d : Devices) (w : RecordInSecond o done s at waits None [] v d) (slot : Slot) (card : Card) : Type 0 where
+-- A CARD WAITS in a slot at a moment: it sits there and is not accepted, and has entered with this moment; all minutes
+-- before this second's are kept. Behind it these cards wait.
+pub record IsNext (o : Origin) (done : List TraceSecond) (s : TraceSecond) (at : Phase) (waits fewer : List Visit)
+    (v : Values) (d : Devices) (w : RecordInSecond o done s at waits None [] v d) (slot : Slot) (card : Card) : Type
+    0 where
   pub sits_ : in_slot (course_in w.b done s at v.log).slots slot ≡ Some (record { card = card; accepted = None })
   pub enters : (moved_at v.log (went w.b.run.log done).before s at).enters slot ≡ true
   pub stays_in : (moved_at v.log (went w.b.run.log done).before s at).leaving slot ≡ []
@@ -49,7 +53,8 @@ pub record IsNext (o : Origin) (done : List TraceSecond) (s : TraceSecond) (at :
   pub is_now : w.from ≡ s.number / 60
 
 -- THE SECOND GOES ON at that moment: it began as before, and no minute was kept.
-abbrev pub Behind : (o : Origin) (done : List TraceSecond) (s : TraceSecond) (at : Phase) (waits fewer : List Visit) (v later : Values) (d e : Devices) → RecordInSecond o done s at waits None [] v d → Type 0
+abbrev pub Behind : (o : Origin) (done : List TraceSecond) (s : TraceSecond) (at : Phase) (waits fewer : List Visit)
+    (v later : Values) (d e : Devices) → RecordInSecond o done s at waits None [] v d → Type 0
 Behind o done s at waits fewer v later d e w = SecondGoesOn o done s at fewer None [] later e w.b w.from
 
 -- what a run has by value behind a find, with these marks, slots and sessions
@@ -57,7 +62,9 @@ abbrev pub judged_values : Find → List Mark → Cabin → Values → Values
 judged_values f marks cabin v = record v { log = and_find v.log f; marks = marks; cabin = cabin }
 
 -- THE CARD IS ACCEPTED: it answered this newest minute, and the unit had kept this minute last.
-pub record IsAcceptedSo (o : Origin) (done : List TraceSecond) (s : TraceSecond) (at : Phase) (waits : List Visit) (v : Values) (d : Devices) (w : RecordInSecond o done s at waits None [] v d) (slot : Slot) (card : Card) (cabin : Cabin) (brought : Card → List ℕ) : Type 0 where
+pub record IsAcceptedSo (o : Origin) (done : List TraceSecond) (s : TraceSecond) (at : Phase) (waits : List Visit)
+    (v : Values) (d : Devices) (w : RecordInSecond o done s at waits None [] v d) (slot : Slot) (card : Card)
+    (cabin : Cabin) (brought : Card → List ℕ) : Type 0 where
   pub newest : ℕ
   pub slots_are : cabin.slots ≡ put_in slot card (Some newest) v.cabin.slots
   pub free : IsFree v.cabin.slots.seats slot card
@@ -67,67 +74,96 @@ pub record IsAcceptedSo (o : Origin) (done : List TraceSecond) (s : TraceSecond)
   pub taken_at : IsTakenAt (first_of o) w.b.run.book (kept_all w.new w.b.run.book) w.new kept
 
 -- or it is not, and sits there as before
-abbrev pub IsSeatedBy : (accepts : Bool) → (o : Origin) (done : List TraceSecond) (s : TraceSecond) (at : Phase) (waits : List Visit) (v : Values) (d : Devices) (w : RecordInSecond o done s at waits None [] v d) (slot : Slot) (card : Card) (cabin : Cabin) (brought : Card → List ℕ) → Type 0
-IsSeatedBy true o done s at waits v d w slot card cabin brought = IsAcceptedSo o done s at waits v d w slot card cabin brought
+abbrev pub IsSeatedBy : (accepts : Bool)
+    → (o : Origin) (done : List TraceSecond) (s : TraceSecond) (at : Phase) (waits : List Visit) (v : Values)
+    (d : Devices) (w : RecordInSecond o done s at waits None [] v d) (slot : Slot) (card : Card) (cabin : Cabin)
+    (brought : Card → List ℕ) → Type 0
+IsSeatedBy true o done s at waits v d w slot card cabin brought = IsAcceptedSo o done s at waits v d w slot card cabin
+    brought
 IsSeatedBy false o done s at waits v d w slot card cabin brought = cabin.slots ≡ v.cabin.slots
 
 -- a card is this one, and was accepted by this find
 abbrev pub IsAccepted : Card → (accepts : Bool) → Card → Type 0
 IsAccepted card accepts x = (x ≡ card) × (accepts ≡ true)
 
--- A CARD WAS JUDGED, and so was found of it: that may be found of it; what was acknowledged is so still; each device goes on; and no card has a
--- session, or was written, but for those that had one and this one where it is accepted.
-pub record IsJudged (o : Origin) (done : List TraceSecond) (s : TraceSecond) (at : Phase) (waits fewer : List Visit) (v : Values) (d e : Devices) (w : RecordInSecond o done s at waits None [] v d) (card : Card) (f : Find) (marks : List Mark) (cabin : Cabin) (brought : Card → List ℕ) : Type 0 where
+-- A CARD WAS JUDGED, and so was found of it: that may be found of it; what was acknowledged is so still; each device
+-- goes on; and no card has a session, or was written, but for those that had one and this one where it is accepted.
+pub record IsJudged (o : Origin) (done : List TraceSecond) (s : TraceSecond) (at : Phase) (waits fewer : List Visit)
+    (v : Values) (d e : Devices) (w : RecordInSecond o done s at waits None [] v d) (card : Card) (f : Find)
+    (marks : List Mark) (cabin : Cabin) (brought : Card → List ℕ) : Type 0 where
   pub next : IsNext o done s at waits fewer v d w f.slot card
   pub here : IsFindAt s at f
   pub none : found_in v.log s.number at f.slot ≡ []
-  pub order : f.slot ≡ Driver → ((moved_at v.log (went w.b.run.log done).before s at).enters CoDriver ≡ false) ⊎ (found_in v.log s.number at CoDriver ≡ [])
+  pub order : f.slot ≡ Driver → ((moved_at v.log (went w.b.run.log done).before s at).enters CoDriver ≡ false)
+      ⊎ (found_in v.log s.number at CoDriver ≡ [])
   pub seats : IsSeatedBy (is_accepting f.verdict) o done s at waits v d w f.slot card cabin brought
   pub may : (n : ℕ) × (n ≤ often o w.b done (course_in w.b done s at v.log) s.number card)
-      × VerdictBy o w.b done n marks (e.unit.left_since o.found.unit.began) ((card_of e card).left_since (found_of o.found card).began) card s.number f.verdict
+      × VerdictBy o w.b done n marks (e.unit.left_since o.found.unit.began)
+      ((card_of e card).left_since (found_of o.found card).began) card s.number f.verdict
   pub stay : (mark : Mark) → Contains v.marks mark → Contains marks mark
   pub found : AreFoundCards o.found cabin.cards
   pub more : (c : Card) (k : ℕ) → Contains (w.brought c) k → Contains (brought c) k
   pub early : (c : Card) (k : ℕ) → Contains (brought c) k → k < w.due
   pub left : HaveLeftMore o d e
   pub there : AreThere o.found d → AreThere o.found e
-  pub sessions : (x : Card) → is_some (session_of cabin.cards x) ≡ true → (is_some (session_of v.cabin.cards x) ≡ true) ⊎ IsAccepted card (is_accepting f.verdict) x
-  pub untouched : (x : Card) → IsUntouched (found_of o.found x) (card_of d x) → IsUntouched (found_of o.found x) (card_of e x) ⊎ ((is_some (session_of v.cabin.cards x) ≡ true) ⊎ IsAccepted card (is_accepting f.verdict) x)
-  pub travels : HasTravelled (odometer_at o.recording.unit) (kept_all w.new w.b.run.book) (all_travelled w.ds w.b.travel) e.unit
+  pub sessions : (x : Card) → is_some (session_of cabin.cards x) ≡ true
+      → (is_some (session_of v.cabin.cards x) ≡ true) ⊎ IsAccepted card (is_accepting f.verdict) x
+  pub untouched : (x : Card) → IsUntouched (found_of o.found x) (card_of d x)
+      → IsUntouched (found_of o.found x) (card_of e x)
+      ⊎ ((is_some (session_of v.cabin.cards x) ≡ true) ⊎ IsAccepted card (is_accepting f.verdict) x)
+  pub travels : HasTravelled (odometer_at o.recording.unit) (kept_all w.new w.b.run.book)
+      (all_travelled w.ds w.b.travel) e.unit
 
 -- unit and cards are as the book says, and the card stands as it was judged
-pub record StandJudged (o : Origin) (done : List TraceSecond) (s : TraceSecond) (at : Phase) (waits : List Visit) (v : Values) (d e : Devices) (w : RecordInSecond o done s at waits None [] v d) (card : Card) (f : Find) (marks : List Mark) (cabin : Cabin) (brought : Card → List ℕ) (standing : Card → Standing) : Type 0 where
-  pub powered : DevicesPowered o.found (carried (judged_values f marks cabin v) w.due (kept_all w.new w.b.run.book) standing brought) cabin.cards e
+pub record StandJudged (o : Origin) (done : List TraceSecond) (s : TraceSecond) (at : Phase) (waits : List Visit)
+    (v : Values) (d e : Devices) (w : RecordInSecond o done s at waits None [] v d) (card : Card) (f : Find)
+    (marks : List Mark) (cabin : Cabin) (brought : Card → List ℕ) (standing : Card → Standing) : Type 0 where
+  pub powered : DevicesPowered o.found (carried (judged_values f marks cabin v) w.due (kept_all w.new w.b.run.book)
+      standing brought) cabin.cards e
   pub others : (x : Card) → (x ≡ card → ⊥) → standing x ≡ w.standing x
   pub stands : is_accepting f.verdict ≡ true → IsSeated o.found standing card s.number
 
 abbrev pub ACardIsJudged : (d e : Devices) → Type 0
-ACardIsJudged d e = (o : Origin) (done : List TraceSecond) (s : TraceSecond) (at : Phase) (waits fewer : List Visit) (v : Values) → (w : RecordInSecond o done s at waits None [] v d) →
-    (card : Card) (f : Find) (marks : List Mark) (cabin : Cabin) (brought : Card → List ℕ) (standing : Card → Standing) → IsJudged o done s at waits fewer v d e w card f marks cabin brought →
-    IsMore (breakdowns_of d) (breakdowns_of e) → StandJudged o done s at waits v d e w card f marks cabin brought standing → Behind o done s at waits fewer v (judged_values f marks cabin v) d e w
+ACardIsJudged d e = (o : Origin) (done : List TraceSecond) (s : TraceSecond) (at : Phase) (waits fewer : List Visit)
+    (v : Values) → (w : RecordInSecond o done s at waits None [] v d) →
+    (card : Card) (f : Find) (marks : List Mark) (cabin : Cabin) (brought : Card → List ℕ) (standing : Card → Standing)
+    → IsJudged o done s at waits fewer v d e w card f marks cabin brought →
+    IsMore (breakdowns_of d) (breakdowns_of e)
+    → StandJudged o done s at waits v d e w card f marks cabin brought standing
+    → Behind o done s at waits fewer v (judged_values f marks cabin v) d e w
 
--- OR THE UNIT FAILED behind the find: power is about to be cut. `cabin` is then the one in which the card is accepted, if it was found so.
-pub record FailedJudging (o : Origin) (done : List TraceSecond) (s : TraceSecond) (at : Phase) (waits : List Visit) (v : Values) (d e : Devices) (w : RecordInSecond o done s at waits None [] v d) (f : Find) (marks : List Mark) (cabin : Cabin) (brought : Card → List ℕ) : Type 0 where
+-- OR THE UNIT FAILED behind the find: power is about to be cut. `cabin` is then the one in which the card is accepted,
+-- if it was found so.
+pub record FailedJudging (o : Origin) (done : List TraceSecond) (s : TraceSecond) (at : Phase) (waits : List Visit)
+    (v : Values) (d e : Devices) (w : RecordInSecond o done s at waits None [] v d) (f : Find) (marks : List Mark)
+    (cabin : Cabin) (brought : Card → List ℕ) : Type 0 where
   pub standing : Card → Standing
-  pub powerless : DevicesUnpowered o.found (carried (judged_values f marks cabin v) w.due (kept_all w.new w.b.run.book) standing brought) e
+  pub powerless : DevicesUnpowered o.found
+      (carried (judged_values f marks cabin v) w.due (kept_all w.new w.b.run.book) standing brought) e
   pub broke : RoseBy 1 (w.b.broken Recorder) (breakdowns_of e Recorder)
   pub no_keeping : at ≡ Keeping → ⊥
 
 abbrev pub AJudgingFails : (d e : Devices) → Type 0
-AJudgingFails d e = (o : Origin) (done : List TraceSecond) (s : TraceSecond) (at : Phase) (waits fewer : List Visit) (v : Values) → (w : RecordInSecond o done s at waits None [] v d) →
-    (card : Card) (f : Find) (marks : List Mark) (cabin : Cabin) (brought : Card → List ℕ) → IsJudged o done s at waits fewer v d e w card f marks cabin brought →
-    IsMore (breakdowns_of d) (breakdowns_of e) → FailedJudging o done s at waits v d e w f marks cabin brought → RecordAtFailure o done s at fewer None (judged_values f marks cabin v) e
+AJudgingFails d e = (o : Origin) (done : List TraceSecond) (s : TraceSecond) (at : Phase) (waits fewer : List Visit)
+    (v : Values) → (w : RecordInSecond o done s at waits None [] v d) →
+    (card : Card) (f : Find) (marks : List Mark) (cabin : Cabin) (brought : Card → List ℕ)
+    → IsJudged o done s at waits fewer v d e w card f marks cabin brought →
+    IsMore (breakdowns_of d) (breakdowns_of e) → FailedJudging o done s at waits v d e w f marks cabin brought
+    → RecordAtFailure o done s at fewer None (judged_values f marks cabin v) e
 
 -- ---- a card that is torn out before it is judged
 
 -- a card is this one, which was valid and told of no later time
 abbrev pub MayBeWrittenBy : Origin → ℕ → Card → Card → Type 0
-MayBeWrittenBy o u card x = (x ≡ card) × IsOwnValid (card_image o.recording card) × ((own_view (card_image o.recording card)).stored ≤ u)
+MayBeWrittenBy o u card x = (x ≡ card) × IsOwnValid (card_image o.recording card)
+    × ((own_view (card_image o.recording card)).stored ≤ u)
 
 abbrev pub torn_values : Break → Cabin → Values → Values
 torn_values b cabin v = record v { log = and_break v.log b; cabin = cabin }
 
-pub record IsTornNext (o : Origin) (done : List TraceSecond) (s : TraceSecond) (at : Phase) (waits fewer : List Visit) (v : Values) (d e : Devices) (w : RecordInSecond o done s at waits None [] v d) (slot : Slot) (card : Card) (b : Break) (cabin : Cabin) : Type 0 where
+pub record IsTornNext (o : Origin) (done : List TraceSecond) (s : TraceSecond) (at : Phase) (waits fewer : List Visit)
+    (v : Values) (d e : Devices) (w : RecordInSecond o done s at waits None [] v d) (slot : Slot) (card : Card)
+    (b : Break) (cabin : Cabin) : Type 0 where
   pub next : IsNext o done s at waits fewer v d w slot card
   pub here : IsTearAt s at slot true b
   pub broke : BrokeDown card (breakdowns_of d) (breakdowns_of e)
@@ -136,26 +172,40 @@ pub record IsTornNext (o : Origin) (done : List TraceSecond) (s : TraceSecond) (
   pub sessions : AreOld v.cabin.cards cabin.cards
   pub left : HaveLeftMore o d e
   pub there : AreThere o.found d → AreThere o.found e
-  pub untouched : (x : Card) → IsUntouched (found_of o.found x) (card_of d x) → IsUntouched (found_of o.found x) (card_of e x) ⊎ ((is_some (session_of v.cabin.cards x) ≡ true) ⊎ MayBeWrittenBy o s.number card x)
-  pub travels : HasTravelled (odometer_at o.recording.unit) (kept_all w.new w.b.run.book) (all_travelled w.ds w.b.travel) e.unit
+  pub untouched : (x : Card) → IsUntouched (found_of o.found x) (card_of d x)
+      → IsUntouched (found_of o.found x) (card_of e x)
+      ⊎ ((is_some (session_of v.cabin.cards x) ≡ true) ⊎ MayBeWrittenBy o s.number card x)
+  pub travels : HasTravelled (odometer_at o.recording.unit) (kept_all w.new w.b.run.book)
+      (all_travelled w.ds w.b.travel) e.unit
 
-pub record StandTorn (o : Origin) (done : List TraceSecond) (s : TraceSecond) (at : Phase) (waits : List Visit) (v : Values) (d e : Devices) (w : RecordInSecond o done s at waits None [] v d) (card : Card) (b : Break) (cabin : Cabin) (standing : Card → Standing) : Type 0 where
-  pub powered : DevicesPowered o.found (carried (torn_values b cabin v) w.due (kept_all w.new w.b.run.book) standing w.brought) cabin.cards e
+pub record StandTorn (o : Origin) (done : List TraceSecond) (s : TraceSecond) (at : Phase) (waits : List Visit)
+    (v : Values) (d e : Devices) (w : RecordInSecond o done s at waits None [] v d) (card : Card) (b : Break)
+    (cabin : Cabin) (standing : Card → Standing) : Type 0 where
+  pub powered : DevicesPowered o.found (carried (torn_values b cabin v) w.due (kept_all w.new w.b.run.book) standing
+      w.brought) cabin.cards e
   pub others : (x : Card) → (x ≡ card → ⊥) → standing x ≡ w.standing x
 
 abbrev pub AWaitingCardIsTorn : (d e : Devices) → Type 0
-AWaitingCardIsTorn d e = (o : Origin) (done : List TraceSecond) (s : TraceSecond) (at : Phase) (waits fewer : List Visit) (v : Values) → (w : RecordInSecond o done s at waits None [] v d) →
-    (slot : Slot) (card : Card) (b : Break) (cabin : Cabin) (standing : Card → Standing) → IsTornNext o done s at waits fewer v d e w slot card b cabin →
-    StandTorn o done s at waits v d e w card b cabin standing → Behind o done s at waits fewer v (torn_values b cabin v) d e w
+AWaitingCardIsTorn d e = (o : Origin) (done : List TraceSecond) (s : TraceSecond) (at : Phase)
+    (waits fewer : List Visit) (v : Values) → (w : RecordInSecond o done s at waits None [] v d) →
+    (slot : Slot) (card : Card) (b : Break) (cabin : Cabin) (standing : Card → Standing)
+    → IsTornNext o done s at waits fewer v d e w slot card b cabin →
+    StandTorn o done s at waits v d e w card b cabin standing
+    → Behind o done s at waits fewer v (torn_values b cabin v) d e w
 
 -- or the unit failed behind that
-pub record FailedTearing (o : Origin) (done : List TraceSecond) (s : TraceSecond) (at : Phase) (waits : List Visit) (v : Values) (d e : Devices) (w : RecordInSecond o done s at waits None [] v d) (b : Break) (cabin : Cabin) : Type 0 where
+pub record FailedTearing (o : Origin) (done : List TraceSecond) (s : TraceSecond) (at : Phase) (waits : List Visit)
+    (v : Values) (d e : Devices) (w : RecordInSecond o done s at waits None [] v d) (b : Break) (cabin : Cabin) : Type
+    0 where
   pub standing : Card → Standing
-  pub powerless : DevicesUnpowered o.found (carried (torn_values b cabin v) w.due (kept_all w.new w.b.run.book) standing w.brought) e
+  pub powerless : DevicesUnpowered o.found
+      (carried (torn_values b cabin v) w.due (kept_all w.new w.b.run.book) standing w.brought) e
   pub broke : RoseBy 1 (w.b.broken Recorder) (breakdowns_of e Recorder)
   pub no_keeping : at ≡ Keeping → ⊥
 
 abbrev pub ATearingFails : (d e : Devices) → Type 0
-ATearingFails d e = (o : Origin) (done : List TraceSecond) (s : TraceSecond) (at : Phase) (waits fewer : List Visit) (v : Values) → (w : RecordInSecond o done s at waits None [] v d) →
-    (slot : Slot) (card : Card) (b : Break) (cabin : Cabin) → IsTornNext o done s at waits fewer v d e w slot card b cabin →
+ATearingFails d e = (o : Origin) (done : List TraceSecond) (s : TraceSecond) (at : Phase) (waits fewer : List Visit)
+    (v : Values) → (w : RecordInSecond o done s at waits None [] v d) →
+    (slot : Slot) (card : Card) (b : Break) (cabin : Cabin)
+    → IsTornNext o done s at waits fewer v d e w slot card b cabin →
     FailedTearing o done s at waits v d e w b cabin → RecordAtFailure o done s at fewer None (torn_values b cabin v) e

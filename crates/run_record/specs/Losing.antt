@@ -26,8 +26,11 @@ use Rattle.run_record.specs.Judging.{Behind, judged_values, torn_values, IsJudge
 abbrev pub lost_values : Find → Break → List Mark → (cabin after : Cabin) → Values → Values
 lost_values f b marks cabin after v = torn_values b after (judged_values f marks cabin v)
 
--- THE CARD WAS ACCEPTED, and a later call on it failed: behind that it is in no slot. `cabin` is the one in which it is accepted.
-pub record IsLostSo (o : Origin) (done : List TraceSecond) (s : TraceSecond) (at : Phase) (waits fewer : List Visit) (v : Values) (d e : Devices) (w : RecordInSecond o done s at waits None [] v d) (card : Card) (f : Find) (cabin after : Cabin) (b : Break) : Type 0 where
+-- THE CARD WAS ACCEPTED, and a later call on it failed: behind that it is in no slot. `cabin` is the one in which it is
+-- accepted.
+pub record IsLostSo (o : Origin) (done : List TraceSecond) (s : TraceSecond) (at : Phase) (waits fewer : List Visit)
+    (v : Values) (d e : Devices) (w : RecordInSecond o done s at waits None [] v d) (card : Card) (f : Find)
+    (cabin after : Cabin) (b : Break) : Type 0 where
   pub accepts : is_accepting f.verdict ≡ true
   pub torn_here : IsTearAt s at f.slot true b
   pub broke : BrokeDown card (breakdowns_of d) (breakdowns_of e)
@@ -35,23 +38,38 @@ pub record IsLostSo (o : Origin) (done : List TraceSecond) (s : TraceSecond) (at
   pub found : AreFoundCards o.found after.cards
   pub sessions : AreOld v.cabin.cards after.cards
 
-pub record StandLost (o : Origin) (done : List TraceSecond) (s : TraceSecond) (at : Phase) (waits : List Visit) (v : Values) (d e : Devices) (w : RecordInSecond o done s at waits None [] v d) (card : Card) (f : Find) (marks : List Mark) (cabin after : Cabin) (brought : Card → List ℕ) (b : Break) (standing : Card → Standing) : Type 0 where
-  pub powered : DevicesPowered o.found (carried (lost_values f b marks cabin after v) w.due (kept_all w.new w.b.run.book) standing brought) after.cards e
+pub record StandLost (o : Origin) (done : List TraceSecond) (s : TraceSecond) (at : Phase) (waits : List Visit)
+    (v : Values) (d e : Devices) (w : RecordInSecond o done s at waits None [] v d) (card : Card) (f : Find)
+    (marks : List Mark) (cabin after : Cabin) (brought : Card → List ℕ) (b : Break) (standing : Card → Standing) : Type
+    0 where
+  pub powered : DevicesPowered o.found (carried (lost_values f b marks cabin after v) w.due
+      (kept_all w.new w.b.run.book) standing brought) after.cards e
   pub others : (x : Card) → (x ≡ card → ⊥) → standing x ≡ w.standing x
 
 abbrev pub ACardIsLost : (d e : Devices) → Type 0
-ACardIsLost d e = (o : Origin) (done : List TraceSecond) (s : TraceSecond) (at : Phase) (waits fewer : List Visit) (v : Values) → (w : RecordInSecond o done s at waits None [] v d) →
-    (card : Card) (f : Find) (marks : List Mark) (cabin after : Cabin) (brought : Card → List ℕ) (b : Break) (standing : Card → Standing) → IsJudged o done s at waits fewer v d e w card f marks cabin brought →
-    IsLostSo o done s at waits fewer v d e w card f cabin after b → StandLost o done s at waits v d e w card f marks cabin after brought b standing → Behind o done s at waits fewer v (lost_values f b marks cabin after v) d e w
+ACardIsLost d e = (o : Origin) (done : List TraceSecond) (s : TraceSecond) (at : Phase) (waits fewer : List Visit)
+    (v : Values) → (w : RecordInSecond o done s at waits None [] v d) →
+    (card : Card) (f : Find) (marks : List Mark) (cabin after : Cabin) (brought : Card → List ℕ) (b : Break)
+    (standing : Card → Standing) → IsJudged o done s at waits fewer v d e w card f marks cabin brought →
+    IsLostSo o done s at waits fewer v d e w card f cabin after b
+    → StandLost o done s at waits v d e w card f marks cabin after brought b standing
+    → Behind o done s at waits fewer v (lost_values f b marks cabin after v) d e w
 
 -- or the unit failed behind that
-pub record FailedLosing (o : Origin) (done : List TraceSecond) (s : TraceSecond) (at : Phase) (waits : List Visit) (v : Values) (d e : Devices) (w : RecordInSecond o done s at waits None [] v d) (f : Find) (marks : List Mark) (cabin after : Cabin) (brought : Card → List ℕ) (b : Break) : Type 0 where
+pub record FailedLosing (o : Origin) (done : List TraceSecond) (s : TraceSecond) (at : Phase) (waits : List Visit)
+    (v : Values) (d e : Devices) (w : RecordInSecond o done s at waits None [] v d) (f : Find) (marks : List Mark)
+    (cabin after : Cabin) (brought : Card → List ℕ) (b : Break) : Type 0 where
   pub standing : Card → Standing
-  pub powerless : DevicesUnpowered o.found (carried (lost_values f b marks cabin after v) w.due (kept_all w.new w.b.run.book) standing brought) e
+  pub powerless : DevicesUnpowered o.found
+      (carried (lost_values f b marks cabin after v) w.due (kept_all w.new w.b.run.book) standing brought) e
   pub broke : RoseBy 1 (w.b.broken Recorder) (breakdowns_of e Recorder)
   pub no_keeping : at ≡ Keeping → ⊥
 
 abbrev pub ALosingFails : (d e : Devices) → Type 0
-ALosingFails d e = (o : Origin) (done : List TraceSecond) (s : TraceSecond) (at : Phase) (waits fewer : List Visit) (v : Values) → (w : RecordInSecond o done s at waits None [] v d) →
-    (card : Card) (f : Find) (marks : List Mark) (cabin after : Cabin) (brought : Card → List ℕ) (b : Break) → IsJudged o done s at waits fewer v d e w card f marks cabin brought →
-    IsLostSo o done s at waits fewer v d e w card f cabin after b → FailedLosing o done s at waits v d e w f marks cabin after brought b → RecordAtFailure o done s at fewer None (lost_values f b marks cabin after v) e
+ALosingFails d e = (o : Origin) (done : List TraceSecond) (s : TraceSecond) (at : Phase) (waits fewer : List Visit)
+    (v : Values) → (w : RecordInSecond o done s at waits None [] v d) →
+    (card : Card) (f : Find) (marks : List Mark) (cabin after : Cabin) (brought : Card → List ℕ) (b : Break)
+    → IsJudged o done s at waits fewer v d e w card f marks cabin brought →
+    IsLostSo o done s at waits fewer v d e w card f cabin after b
+    → FailedLosing o done s at waits v d e w f marks cabin after brought b
+    → RecordAtFailure o done s at fewer None (lost_values f b marks cabin after v) e

@@ -28,7 +28,10 @@ use Rattle.run_record.specs.Within.{Beginning, SecondGoesOn, RecordAtFailure, cu
 
 -- what a run has by value once its unit was read: of the cuts since it was read before it is known what was kept
 abbrev pub read_values : (k : ℕ) → Values → Values
-read_values k v = record v { log = record v.log { breaks = found_from v.unfound k v.log.breaks }; unfound = length (found_from v.unfound k v.log.breaks) }
+read_values k v = record v {
+  log = record v.log { breaks = found_from v.unfound k v.log.breaks };
+  unfound = length (found_from v.unfound k v.log.breaks);
+}
 
 -- and a span begins, for which these minutes stand
 abbrev pub begun_values : (k : ℕ) → Kept → Values → Values
@@ -42,40 +45,55 @@ odometer_found o before leg = odometer_after (odometer_at o.recording.unit) (bef
 abbrev pub counted_from : ℕ → Values → Values
 counted_from odometer v = record v { odometer = odometer }
 
--- what a power-on leaves of the devices, however it ended: no card has broken down, what they might have left before they might have
--- left still, and a card that was as at the start is so
+-- what a power-on leaves of the devices, however it ended: no card has broken down, what they might have left before
+-- they might have left still, and a card that was as at the start is so
 pub record GoOn (o : Origin) (d e : Devices) : Type 0 where
   pub breakdowns : IsMore (breakdowns_of d) (breakdowns_of e)
   pub left : HaveLeftMore o d e
   pub there : AreThere o.found d → AreThere o.found e
-  pub untouched : (c : Card) → IsUntouched (found_of o.found c) (card_of d c) → IsUntouched (found_of o.found c) (card_of e c)
+  pub untouched : (c : Card) → IsUntouched (found_of o.found c) (card_of d c)
+      → IsUntouched (found_of o.found c) (card_of e c)
 
 -- what was read as the last-kept minute stands in an image that the unit might have left
 abbrev pub WasRead : Origin → ℕ → Devices → Type 0
 WasRead o k e = (x : List ℕ) × e.unit.left_since o.found.unit.began x × (last_kept x ≡ k)
 
 -- THE UNIT WAS READ AND MENDED: it showed this last-kept minute, and an odometer of this leg; no card is accepted.
-pub record IsBack (o : Origin) (done : List TraceSecond) (supply : UnitPower) (v : Values) (d : Devices) (r : RecordBetweenSeconds o done supply v d) (k : ℕ) (minutes : Kept) (e : Devices) : Type 0 where
+pub record IsBack (o : Origin) (done : List TraceSecond) (supply : UnitPower) (v : Values) (d : Devices)
+    (r : RecordBetweenSeconds o done supply v d) (k : ℕ) (minutes : Kept) (e : Devices) : Type 0 where
   pub leg : ℕ
   pub shows : MayShow (first_of o) r.book r.travel k leg
   pub read : WasRead o k e
   pub stands : CountsSpan minutes (span_at (rule_of o) v.next [])
-  pub powered : DevicesPowered o.found (all_out (carried (begun_values k minutes v) r.due (found k r.book) r.standing r.brought)) v.cabin.cards e
+  pub powered : DevicesPowered o.found (all_out
+      (carried (begun_values k minutes v) r.due (found k r.book) r.standing r.brought)) v.cabin.cards e
   pub goes : GoOn o d e
   pub travels : HasTravelled (odometer_at o.recording.unit) (found k r.book) (resumed leg r.travel) e.unit
 
 -- how a second begins with power
-abbrev pub begun_again : (o : Origin) (done : List TraceSecond) (supply : UnitPower) (v : Values) (d : Devices) → RecordBetweenSeconds o done supply v d → (k leg : ℕ) (e : Devices) → Beginning
-begun_again o done supply v d r k leg e = record { run = found_again k (progress v supply r.book); span = []; travel = resumed leg r.travel; marks = v.marks; broken = breakdowns_of e; brought = r.brought }
+abbrev pub begun_again : (o : Origin) (done : List TraceSecond) (supply : UnitPower) (v : Values) (d : Devices)
+    → RecordBetweenSeconds o done supply v d → (k leg : ℕ) (e : Devices) → Beginning
+begun_again o done supply v d r k leg e = record {
+  run = found_again k (progress v supply r.book);
+  span = [];
+  travel = resumed leg r.travel;
+  marks = v.marks;
+  broken = breakdowns_of e;
+  brought = r.brought;
+}
 
 -- POWER IS BACK: the second begins with it, and each card in a slot waits to be judged anew.
 abbrev pub PowerIsBack : (d e : Devices) → Type 0
-PowerIsBack d e = (o : Origin) (done : List TraceSecond) (s : TraceSecond) (supply : UnitPower) (v : Values) → (r : RecordBetweenSeconds o done supply v d) → MayPower supply v.next → s.number ≡ v.next → s.has_power ≡ true →
+PowerIsBack d e = (o : Origin) (done : List TraceSecond) (s : TraceSecond) (supply : UnitPower) (v : Values)
+    → (r : RecordBetweenSeconds o done supply v d) → MayPower supply v.next → s.number ≡ v.next → s.has_power ≡ true →
     (k : ℕ) (minutes : Kept) → (back : IsBack o done supply v d r k minutes e) →
-    SecondGoesOn o done s (In 0) (fresh true (slots_of v done)).entered None [] (counted_from (odometer_found o r.travel.before back.leg) (begun_values k minutes v)) e (begun_again o done supply v d r k back.leg e) (s.number / 60)
+    SecondGoesOn o done s (In 0) (fresh true (slots_of v done)).entered None []
+    (counted_from (odometer_found o r.travel.before back.leg) (begun_values k minutes v)) e
+    (begun_again o done supply v d r k back.leg e) (s.number / 60)
 
 -- THE UNIT WAS READ, and its mending failed.
-pub record IsOnlyRead (o : Origin) (done : List TraceSecond) (supply : UnitPower) (v : Values) (d : Devices) (r : RecordBetweenSeconds o done supply v d) (k : ℕ) (e : Devices) : Type 0 where
+pub record IsOnlyRead (o : Origin) (done : List TraceSecond) (supply : UnitPower) (v : Values) (d : Devices)
+    (r : RecordBetweenSeconds o done supply v d) (k : ℕ) (e : Devices) : Type 0 where
   pub leg : ℕ
   pub shows : MayShow (first_of o) r.book r.travel k leg
   pub read : WasRead o k e
@@ -85,16 +103,21 @@ pub record IsOnlyRead (o : Origin) (done : List TraceSecond) (supply : UnitPower
   pub travels : HasTravelled (odometer_at o.recording.unit) (found k r.book) (resumed leg r.travel) e.unit
 
 abbrev pub AMendingFails : (d e : Devices) → Type 0
-AMendingFails d e = (o : Origin) (done : List TraceSecond) (s : TraceSecond) (supply : UnitPower) (v : Values) → (r : RecordBetweenSeconds o done supply v d) → MayPower supply v.next → s.number ≡ v.next → s.has_power ≡ true →
-    (k : ℕ) → (read : IsOnlyRead o done supply v d r k e) → RecordAtFailure o done s (In 0) (fresh true (slots_of v done)).entered None (counted_from (odometer_found o r.travel.before read.leg) (read_values k v)) e
+AMendingFails d e = (o : Origin) (done : List TraceSecond) (s : TraceSecond) (supply : UnitPower) (v : Values)
+    → (r : RecordBetweenSeconds o done supply v d) → MayPower supply v.next → s.number ≡ v.next → s.has_power ≡ true →
+    (k : ℕ) → (read : IsOnlyRead o done supply v d r k e)
+    → RecordAtFailure o done s (In 0) (fresh true (slots_of v done)).entered None
+    (counted_from (odometer_found o r.travel.before read.leg) (read_values k v)) e
 
 -- THE UNIT WAS NOT READ, since a call failed: nothing is found.
-pub record IsNotRead (o : Origin) (done : List TraceSecond) (supply : UnitPower) (v : Values) (d : Devices) (r : RecordBetweenSeconds o done supply v d) (e : Devices) : Type 0 where
+pub record IsNotRead (o : Origin) (done : List TraceSecond) (supply : UnitPower) (v : Values) (d : Devices)
+    (r : RecordBetweenSeconds o done supply v d) (e : Devices) : Type 0 where
   pub powerless : DevicesUnpowered o.found (carried v r.due r.book r.standing r.brought) e
   pub broke : RoseBy 1 (breakdowns_of d Recorder) (breakdowns_of e Recorder)
   pub goes : GoOn o d e
   pub travels : HasTravelled (odometer_at o.recording.unit) r.book r.travel e.unit
 
 abbrev pub AReadingFails : (d e : Devices) → Type 0
-AReadingFails d e = (o : Origin) (done : List TraceSecond) (s : TraceSecond) (supply : UnitPower) (v : Values) → (r : RecordBetweenSeconds o done supply v d) → MayPower supply v.next → s.number ≡ v.next → s.has_power ≡ true →
+AReadingFails d e = (o : Origin) (done : List TraceSecond) (s : TraceSecond) (supply : UnitPower) (v : Values)
+    → (r : RecordBetweenSeconds o done supply v d) → MayPower supply v.next → s.number ≡ v.next → s.has_power ≡ true →
     IsNotRead o done supply v d r e → RecordBetweenSeconds o (done ++ s ∷ []) Lost (cut_values s (In 0) v) e

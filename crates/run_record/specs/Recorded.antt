@@ -1,5 +1,7 @@
--- What the recorder with cards carries BETWEEN TWO SECONDS (profile): by its values, its devices, and the seconds of the trace so far.
-use Rattle.std.specs.Prelude.{◌≡◌, ◌⊎◌, ℕ, ◌-◌, ◌/◌, ◌≤◌, ◌<◌, true, false, Option, Some, None, IfSome, is_some, List, []}
+-- What the recorder with cards carries BETWEEN TWO SECONDS (profile): by its values, its devices, and the seconds of
+-- the trace so far.
+use Rattle.std.specs.Prelude.{◌≡◌, ◌⊎◌, ℕ, ◌-◌, ◌/◌, ◌≤◌, ◌<◌, true, false, Option, Some, None, IfSome, is_some, List}
+use Rattle.std.specs.Prelude.{[]}
 use Rattle.activity_codec.specs.declared.values.Slot.{Slot}
 use Rattle.trace_model.specs.declared.Card.{Card}
 use Rattle.trace_model.specs.Trace.{TraceSecond}
@@ -35,9 +37,9 @@ use Rattle.run_promise.specs.Beside.{AreFewFound}
 use Rattle.run_promise.specs.Ends.{recording_by, MayBeWritten, IsBeside}
 use Rattle.run_devices.specs.Presence.{PresentStand}
 
--- what a run has by value, as far as its record speaks of it: the lines and marks of its outcome, slots and sessions, the first break of
--- which it is not known what was kept, the number of the next second, how many actions the last one had, the minutes of the span, and the
--- odometer from which they are counted
+-- what a run has by value, as far as its record speaks of it: the lines and marks of its outcome, slots and sessions,
+-- the first break of which it is not known what was kept, the number of the next second, how many actions the last one
+-- had, the minutes of the span, and the odometer from which they are counted
 pub record Values : Type 0 where
   pub log : RunLog
   pub marks : List Mark
@@ -50,11 +52,25 @@ pub record Values : Type 0 where
 
 -- how far the run has gone
 abbrev pub progress : Values → UnitPower → Book → Progress
-progress v supply book = record { log = v.log; unfound = v.unfound; next = v.next; begun = v.begun; supply = supply; book = book; waiting = [] }
+progress v supply book = record {
+  log = v.log;
+  unfound = v.unfound;
+  next = v.next;
+  begun = v.begun;
+  supply = supply;
+  book = book;
+  waiting = [];
+}
 
 -- what is carried of unit and cards
 abbrev pub carried : Values → (due : ℕ) → Book → (Card → Standing) → (brought : Card → List ℕ) → RunLedger
-carried v due book standing brought = record { due = due; book = book; marks = v.marks; standing = standing; brought = brought }
+carried v due book standing brought = record {
+  due = due;
+  book = book;
+  marks = v.marks;
+  standing = standing;
+  brought = brought;
+}
 
 -- the slots as the log has them
 abbrev pub slots_of : Values → List TraceSecond → Slots
@@ -62,26 +78,31 @@ slots_of v done = (went v.log done).before.slots
 
 -- a card with a session left a slot last no later than in this minute
 abbrev pub AreBack : (low : ℕ) → Cabin → Type 0
-AreBack low cabin = (card : Card) → is_some (session_of cabin.cards card) ≡ true → IfSome (left_of cabin.slots.left card) (λ left. left ≤ low)
+AreBack low cabin = (card : Card) → is_some (session_of cabin.cards card) ≡ true
+    → IfSome (left_of cabin.slots.left card) (λ left. left ≤ low)
 
 -- a card sits in a slot, accepted
 abbrev pub SitsAccepted : SlotsKept → Card → Type 0
-SitsAccepted kept card = (slot : Slot) × (n : ℕ) × (seat_in kept.seats slot ≡ Some (record { card = card; newest = Some n }))
+SitsAccepted kept card = (slot : Slot) × (n : ℕ)
+    × (seat_in kept.seats slot ≡ Some (record { card = card; newest = Some n }))
 
 -- a card left in this minute, or later
 abbrev pub LeftSince : ℕ → Option ℕ → Type 0
 LeftSince minute None = ⊥
 LeftSince minute (Some left) = minute ≤ left
 
--- A card was judged in a second, to which its stored time at the start is not later; it sits accepted still, or has left since.
+-- A card was judged in a second, to which its stored time at the start is not later; it sits accepted still, or has
+-- left since.
 pub record IsWrittenSince (o : Origin) (kept : SlotsKept) (last : ℕ) (card : Card) (since : ℕ) : Type 0 where
   pub stored : (own_view (card_image o.recording card)).stored ≤ since
   pub past : since ≤ last
   pub stays : SitsAccepted kept card ⊎ LeftSince (since / 60) (left_of kept.left card)
 
--- Over a step in this second a card that sits accepted does so still, and left when it did; or it has left in the second's minute.
+-- Over a step in this second a card that sits accepted does so still, and left when it did; or it has left in the
+-- second's minute.
 abbrev pub GoesOnIn : (u : ℕ) → (kept after : SlotsKept) → Card → Type 0
-GoesOnIn u kept after card = ((SitsAccepted kept card → SitsAccepted after card) × (left_of after.left card ≡ left_of kept.left card)) ⊎ (left_of after.left card ≡ Some (u / 60))
+GoesOnIn u kept after card = ((SitsAccepted kept card → SitsAccepted after card)
+    × (left_of after.left card ≡ left_of kept.left card)) ⊎ (left_of after.left card ≡ Some (u / 60))
 
 -- A card may be written, and was judged in one of the seconds so far in which it entered.
 pub record IsWritten (o : Origin) (done : List TraceSecond) (v : Values) (card : Card) : Type 0 where
@@ -90,30 +111,37 @@ pub record IsWritten (o : Origin) (done : List TraceSecond) (v : Values) (card :
   pub since : IsWrittenSince o v.cabin.slots (v.next - 1) card time
   pub entered_then : 0 < entered_by (recording_by o done v.log) card time
 
--- each device tells its image; the clock of no card has gone back since the start; and each image that a stop might have left of a valid card
--- since then tells of its last use at the start, or of a whole minute
+-- each device tells its image; the clock of no card has gone back since the start; and each image that a stop might
+-- have left of a valid card since then tells of its last use at the start, or of a whole minute
 pub record AreThere (f : Found) (d : Devices) : Type 0 where
   pub unit : is_some d.unit.image ≡ true
   pub cards : (card : Card) → is_some (card_of d card).image ≡ true
   pub clocks : (card : Card) → (found_of f card).began ≤ (card_of d card).clock
-  pub timed : (card : Card) → IsOwnValid (found_of f card).image → AreTimedSince (found_of f card).image (found_of f card).began (card_of d card)
+  pub timed : (card : Card) → IsOwnValid (found_of f card).image
+      → AreTimedSince (found_of f card).image (found_of f card).began (card_of d card)
 
--- WHILE THERE IS POWER, with these seconds of the span: unit and cards may be called and are as the book says, the minutes stand for the
--- span, and who was present in the minutes that are still to be kept is told by the slots, and stands so.
-pub record RecordPowered (o : Origin) (done : List TraceSecond) (span : List ToldSecond) (v : Values) (w : RunLedger) (d : Devices) : Type 0 where
+-- WHILE THERE IS POWER, with these seconds of the span: unit and cards may be called and are as the book says, the
+-- minutes stand for the span, and who was present in the minutes that are still to be kept is told by the slots, and
+-- stands so.
+pub record RecordPowered (o : Origin) (done : List TraceSecond) (span : List ToldSecond) (v : Values) (w : RunLedger)
+    (d : Devices) : Type 0 where
   pub powered : DevicesPowered o.found w v.cabin.cards d
   pub due : w.due ≤ ungiven_of (span_at (rule_of o) v.next span)
   pub minutes : CountsSpan v.minutes (span_at (rule_of o) v.next span)
-  pub tells : SlotsTell (start_at o) (went v.log done).told w.book.sure [] (v.next - 1) (ungiven_of (span_at (rule_of o) v.next span)) (slots_of v done) v.cabin.slots
-  pub present : PresentStand o.found w.standing (went v.log done).told (fresh false (slots_of v done)) (v.next - 1) (ungiven_of (span_at (rule_of o) v.next span)) v.cabin
+  pub tells : SlotsTell (start_at o) (went v.log done).told w.book.sure [] (v.next - 1)
+      (ungiven_of (span_at (rule_of o) v.next span)) (slots_of v done) v.cabin.slots
+  pub present : PresentStand o.found w.standing (went v.log done).told (fresh false (slots_of v done)) (v.next - 1)
+      (ungiven_of (span_at (rule_of o) v.next span)) v.cabin
   pub back : AreBack (ungiven_of (span_at (rule_of o) v.next span)) v.cabin
   pub written : (card : Card) → is_some (session_of v.cabin.cards card) ≡ true → IsWritten o done v card
 
 -- WITHOUT POWER: no card is accepted, and no minute of before is to be kept any more.
-pub record RecordUnpowered (o : Origin) (done : List TraceSecond) (v : Values) (w : RunLedger) (d : Devices) : Type 0 where
+pub record RecordUnpowered (o : Origin) (done : List TraceSecond) (v : Values) (w : RunLedger) (d : Devices) : Type
+    0 where
   pub powerless : DevicesUnpowered o.found w d
   pub due : w.due ≤ v.next / 60
-  pub tells : SlotsTell (start_at o) (went v.log done).told w.book.sure [] (v.next - 1) (v.next / 60) (slots_of v done) v.cabin.slots
+  pub tells : SlotsTell (start_at o) (went v.log done).told w.book.sure [] (v.next - 1) (v.next / 60) (slots_of v done)
+      v.cabin.slots
   pub bare : (c : Card) → session_of v.cabin.cards c ≡ None
   pub driver : is_accepted (slots_of v done).driver ≡ false
   pub codriver : is_accepted (slots_of v done).codriver ≡ false
@@ -124,7 +152,8 @@ IsHeldBy o done (Lit span) v w d = RecordPowered o done span v w d
 IsHeldBy o done Due v w d = RecordUnpowered o done v w d
 IsHeldBy o done Lost v w d = RecordUnpowered o done v w d
 
--- the odometer from which minutes are counted is that of the start and of what was travelled each time before power came last
+-- the odometer from which minutes are counted is that of the start and of what was travelled each time before power
+-- came last
 abbrev pub IsCountedFrom : Origin → (before : List ℕ) → (odometer : ℕ) → Type 0
 IsCountedFrom o before odometer = odometer ≡ odometer_after (odometer_at o.recording.unit) before
 
@@ -135,7 +164,8 @@ IsCountedIn Due o before odometer = Unit {0}
 IsCountedIn Lost o before odometer = Unit {0}
 
 -- THE RECORD behind these seconds
-pub record RecordBetweenSeconds (o : Origin) (done : List TraceSecond) (supply : UnitPower) (v : Values) (d : Devices) : Type 0 where
+pub record RecordBetweenSeconds (o : Origin) (done : List TraceSecond) (supply : UnitPower) (v : Values)
+    (d : Devices) : Type 0 where
   pub book : Book
   pub travel : Travel
   pub due : ℕ

@@ -1,5 +1,7 @@
--- Cards are put into their slots and leave them in a run with cards (profile): what each of these actions makes of the record within a second.
-use Rattle.std.specs.Prelude.{◌≡◌, ℕ, suc, ◌+◌, ◌/◌, Bool, true, false, Some, None, List, [], ◌∷◌, ◌++◌, length, is_some}
+-- Cards are put into their slots and leave them in a run with cards (profile): what each of these actions makes of the
+-- record within a second.
+use Rattle.std.specs.Prelude.{◌≡◌, ℕ, suc, ◌+◌, ◌/◌, Bool, true, false, Some, None, List, [], ◌∷◌, ◌++◌, length}
+use Rattle.std.specs.Prelude.{is_some}
 use Rattle.std.specs.List.{AllByRecursion}
 use Rattle.activity_codec.specs.declared.values.Slot.{Slot}
 use Rattle.activity_codec.specs.Activity.{same_slot}
@@ -45,35 +47,51 @@ put_values slot card minutes v = record v { cabin = with_card_in slot card v.cab
 abbrev pub entered_alone : Slot → Moved
 entered_alone slot = record { enters = same_slot slot; leaving = λ other. [] }
 
--- A CARD WAS PUT INTO A SLOT: it enters with this moment and waits, and nothing was found at it; this decides the minutes before this one, which
--- are still to be kept.
-pub record IsPutIntoSlot (o : Origin) (done : List TraceSecond) (s : TraceSecond) (v : Values) (d : Devices) (front : List Action) (slot : Slot) (card : Card) (minutes : Kept) (decided : List Minute) (w : RecordInSecond o done s (In (length front)) [] None [] v d) : Type 0 where
-  pub goes : SecondGoesOn o done s (In (suc (length front))) (entering_by (length front) (Insert slot card)) None decided (put_values slot card minutes v) d w.b w.from
+-- A CARD WAS PUT INTO A SLOT: it enters with this moment and waits, and nothing was found at it; this decides the
+-- minutes before this one, which are still to be kept.
+pub record IsPutIntoSlot (o : Origin) (done : List TraceSecond) (s : TraceSecond) (v : Values) (d : Devices)
+    (front : List Action) (slot : Slot) (card : Card) (minutes : Kept) (decided : List Minute)
+    (w : RecordInSecond o done s (In (length front)) [] None [] v d) : Type 0 where
+  pub goes : SecondGoesOn o done s (In (suc (length front))) (entering_by (length front) (Insert slot card)) None
+      decided (put_values slot card minutes v) d w.b w.from
   pub moved : moved_at v.log (went goes.within.b.run.log done).before s (In (suc (length front))) ≡ entered_alone slot
   pub none : (x : Slot) → found_in v.log s.number (In (suc (length front))) x ≡ []
   pub settles : (course_in goes.within.b done s (In (suc (length front))) v.log).settled ≡ true
   pub to_here : goes.within.from + length decided ≡ s.number / 60
 
 abbrev pub ACardIsPutIn : Devices → Type 0
-ACardIsPutIn d = (o : Origin) (done : List TraceSecond) (s : TraceSecond) (v : Values) (front : List Action) (slot : Slot) (card : Card) (rest : List Action) → s.actions ≡ front ++ Insert slot card ∷ rest →
-    (w : RecordInSecond o done s (In (length front)) [] None [] v d) → refusal (course_in w.b done s (In (length front)) v.log).slots s.speed (Insert slot card) ≡ None →
-    (minutes : Kept) → CountsSpan minutes (settled w.sp) → (decided : List Minute) → decided_in (settled w.sp) ≡ decided_in w.sp ++ decided →
+ACardIsPutIn d = (o : Origin) (done : List TraceSecond) (s : TraceSecond) (v : Values) (front : List Action)
+    (slot : Slot) (card : Card) (rest : List Action) → s.actions ≡ front ++ Insert slot card ∷ rest →
+    (w : RecordInSecond o done s (In (length front)) [] None [] v d)
+    → refusal (course_in w.b done s (In (length front)) v.log).slots s.speed (Insert slot card) ≡ None →
+    (minutes : Kept) → CountsSpan minutes (settled w.sp) → (decided : List Minute)
+    → decided_in (settled w.sp) ≡ decided_in w.sp ++ decided →
     IsPutIntoSlot o done s v d front slot card minutes decided w
 
 -- lines that tell of tears at a moment
 abbrev pub AreTearsAt : TraceSecond → Phase → List Break → Type 0
-AreTearsAt s at more = AllByRecursion (λ (b : Break). (slot : Slot) × (failed : Bool) × IsTearAt s at slot failed b) more
+AreTearsAt s at more = AllByRecursion (λ (b : Break). (slot : Slot) × (failed : Bool) × IsTearAt s at slot failed b)
+    more
 
 -- a card may be judged now, of which nothing was found at this moment
-pub record MayBeJudged (o : Origin) (done : List TraceSecond) (s : TraceSecond) (at : Phase) (waits : List Visit) (v : Values) (d : Devices) (w : RecordInSecond o done s at waits None [] v d) (slot : Slot) (card : Card) : Type 0 where
+pub record MayBeJudged (o : Origin) (done : List TraceSecond) (s : TraceSecond) (at : Phase) (waits : List Visit)
+    (v : Values) (d : Devices) (w : RecordInSecond o done s at waits None [] v d) (slot : Slot) (card : Card) : Type
+    0 where
   pub next : IsNext o done s at waits [] v d w slot card
   pub none : (x : Slot) → found_in v.log s.number at x ≡ []
 
--- BEHIND THE KEEPING of these minutes it may be judged: since then the log tells of tears alone, and it sits there still.
+-- BEHIND THE KEEPING of these minutes it may be judged: since then the log tells of tears alone, and it sits there
+-- still.
 abbrev pub AnEnteredCardIsNext : (d e : Devices) → Type 0
-AnEnteredCardIsNext d e = (o : Origin) (done : List TraceSecond) (s : TraceSecond) (v : Values) (front : List Action) (slot : Slot) (card : Card) (minutes : Kept) (decided : List Minute) → (w : RecordInSecond o done s (In (length front)) [] None [] v d) →
-    (put : IsPutIntoSlot o done s v d front slot card minutes decided w) → (later : Values) → (x : RecordInSecond o done s (In (suc (length front))) (entering_by (length front) (Insert slot card)) None [] later e) → x.b ≡ put.goes.within.b → x.from ≡ s.number / 60 →
-    (more : List Break) → later.log ≡ record v.log { breaks = v.log.breaks ++ more } → AreTearsAt s (In (suc (length front))) more → seat_in later.cabin.slots.seats slot ≡ Some (record { card = card; newest = None }) →
+AnEnteredCardIsNext d e = (o : Origin) (done : List TraceSecond) (s : TraceSecond) (v : Values) (front : List Action)
+    (slot : Slot) (card : Card) (minutes : Kept) (decided : List Minute)
+    → (w : RecordInSecond o done s (In (length front)) [] None [] v d) →
+    (put : IsPutIntoSlot o done s v d front slot card minutes decided w) → (later : Values)
+    → (x : RecordInSecond o done s (In (suc (length front))) (entering_by (length front) (Insert slot card)) None []
+    later e) → x.b ≡ put.goes.within.b → x.from ≡ s.number / 60 →
+    (more : List Break) → later.log ≡ record v.log { breaks = v.log.breaks ++ more }
+    → AreTearsAt s (In (suc (length front))) more
+    → seat_in later.cabin.slots.seats slot ≡ Some (record { card = card; newest = None }) →
     MayBeJudged o done s (In (suc (length front))) (entering_by (length front) (Insert slot card)) later e x slot card
 
 -- ---- a card is withdrawn
@@ -82,27 +100,38 @@ AnEnteredCardIsNext d e = (o : Origin) (done : List TraceSecond) (s : TraceSecon
 abbrev pub left_values : Slot → (second : ℕ) → Kept → Values → Values
 left_values slot second minutes v = record v { cabin = with_slot_left slot second v.cabin; minutes = minutes }
 
--- A CARD HAS LEFT ITS SLOT with this moment, and its session, if it has one, is not closed yet; this decides the minutes before this one.
-pub record IsLeft (o : Origin) (done : List TraceSecond) (s : TraceSecond) (v : Values) (d : Devices) (front : List Action) (slot : Slot) (card : Card) (minutes : Kept) (decided : List Minute) (w : RecordInSecond o done s (In (length front)) [] None [] v d) : Type 0 where
-  pub goes : SecondGoesOn o done s (In (suc (length front))) [] None decided (left_values slot s.number minutes v) d w.b w.from
+-- A CARD HAS LEFT ITS SLOT with this moment, and its session, if it has one, is not closed yet; this decides the
+-- minutes before this one.
+pub record IsLeft (o : Origin) (done : List TraceSecond) (s : TraceSecond) (v : Values) (d : Devices)
+    (front : List Action) (slot : Slot) (card : Card) (minutes : Kept) (decided : List Minute)
+    (w : RecordInSecond o done s (In (length front)) [] None [] v d) : Type 0 where
+  pub goes : SecondGoesOn o done s (In (suc (length front))) [] None decided (left_values slot s.number minutes v) d w.b
+      w.from
   pub leaving : is_some (session_of v.cabin.cards card) ≡ true →
-      IsLeaving v.log (went goes.within.b.run.log done).before s (In (suc (length front))) goes.within.from (goes.within.from + length decided) (with_slot_left slot s.number v.cabin) slot card
+      IsLeaving v.log (went goes.within.b.run.log done).before s (In (suc (length front))) goes.within.from
+      (goes.within.from + length decided) (with_slot_left slot s.number v.cabin) slot card
   pub settles : (course_in goes.within.b done s (In (suc (length front))) v.log).settled ≡ true
   pub to_here : goes.within.from + length decided ≡ s.number / 60
 
 abbrev pub ACardLeaves : Devices → Type 0
-ACardLeaves d = (o : Origin) (done : List TraceSecond) (s : TraceSecond) (v : Values) (front : List Action) (slot : Slot) (card : Card) (rest : List Action) → s.actions ≡ front ++ Withdraw slot ∷ rest →
-    (w : RecordInSecond o done s (In (length front)) [] None [] v d) → refusal (course_in w.b done s (In (length front)) v.log).slots s.speed (Withdraw slot) ≡ None → card_in (seat_in v.cabin.slots.seats slot) ≡ Some card →
-    (minutes : Kept) → CountsSpan minutes (settled w.sp) → (decided : List Minute) → decided_in (settled w.sp) ≡ decided_in w.sp ++ decided →
+ACardLeaves d = (o : Origin) (done : List TraceSecond) (s : TraceSecond) (v : Values) (front : List Action)
+    (slot : Slot) (card : Card) (rest : List Action) → s.actions ≡ front ++ Withdraw slot ∷ rest →
+    (w : RecordInSecond o done s (In (length front)) [] None [] v d)
+    → refusal (course_in w.b done s (In (length front)) v.log).slots s.speed (Withdraw slot) ≡ None
+    → card_in (seat_in v.cabin.slots.seats slot) ≡ Some card →
+    (minutes : Kept) → CountsSpan minutes (settled w.sp) → (decided : List Minute)
+    → decided_in (settled w.sp) ≡ decided_in w.sp ++ decided →
     IsLeft o done s v d front slot card minutes decided w
 
 -- A CALL FOR A CARD THAT IS LEAVING, behind the keeping of these minutes
-pub record IsCalledLeaving (o : Origin) (done : List TraceSecond) (s : TraceSecond) (at : Phase) (v : Values) (d e : Devices) (w : RecordInSecond o done s at [] None [] v d) (slot : Slot) (card : Card) : Type 0 where
+pub record IsCalledLeaving (o : Origin) (done : List TraceSecond) (s : TraceSecond) (at : Phase) (v : Values)
+    (d e : Devices) (w : RecordInSecond o done s at [] None [] v d) (slot : Slot) (card : Card) : Type 0 where
   pub low : ℕ
   pub leaving : IsLeaving v.log (went w.b.run.log done).before s at low low v.cabin slot card
   pub is_now : w.from ≡ s.number / 60
   pub goes : GoesOnSo o v.cabin.cards d e
-  pub travels : HasTravelled (odometer_at o.recording.unit) (kept_all w.new w.b.run.book) (all_travelled w.ds w.b.travel) e.unit
+  pub travels : HasTravelled (odometer_at o.recording.unit) (kept_all w.new w.b.run.book)
+      (all_travelled w.ds w.b.travel) e.unit
 
 -- what a run has by value once its session is closed
 abbrev pub closed_values : Card → Values → Values
@@ -110,16 +139,23 @@ closed_values card v = record v { cabin = with_session_of card None v.cabin }
 
 -- ITS SESSION IS CLOSED, and no card broke down: the card is not accepted any more;
 abbrev pub ASessionIsClosed : (d e : Devices) → Type 0
-ASessionIsClosed d e = (o : Origin) (done : List TraceSecond) (s : TraceSecond) (at : Phase) (v : Values) → (w : RecordInSecond o done s at [] None [] v d) → (slot : Slot) (card : Card) → IsCalledLeaving o done s at v d e w slot card →
+ASessionIsClosed d e = (o : Origin) (done : List TraceSecond) (s : TraceSecond) (at : Phase) (v : Values)
+    → (w : RecordInSecond o done s at [] None [] v d) → (slot : Slot) (card : Card)
+    → IsCalledLeaving o done s at v d e w slot card →
     IsMore (breakdowns_of d) (breakdowns_of e) →
-    DevicesPowered o.found (with_standing card Out (carried v w.due (kept_all w.new w.b.run.book) w.standing w.brought)) (closed_values card v).cabin.cards e →
+    DevicesPowered o.found (with_standing card Out (carried v w.due (kept_all w.new w.b.run.book) w.standing w.brought))
+    (closed_values card v).cabin.cards e →
     SecondGoesOn o done s at [] None [] (closed_values card v) e w.b w.from
 
 -- or the unit failed behind that.
 abbrev pub AClosingFails : (d e : Devices) → Type 0
-AClosingFails d e = (o : Origin) (done : List TraceSecond) (s : TraceSecond) (at : Phase) (v : Values) → (w : RecordInSecond o done s at [] None [] v d) → (slot : Slot) (card : Card) → IsCalledLeaving o done s at v d e w slot card →
+AClosingFails d e = (o : Origin) (done : List TraceSecond) (s : TraceSecond) (at : Phase) (v : Values)
+    → (w : RecordInSecond o done s at [] None [] v d) → (slot : Slot) (card : Card)
+    → IsCalledLeaving o done s at v d e w slot card →
     IsMore (breakdowns_of d) (breakdowns_of e) →
-    DevicesUnpowered o.found (with_standing card Out (carried v w.due (kept_all w.new w.b.run.book) w.standing w.brought)) e → RoseBy 1 (w.b.broken Recorder) (breakdowns_of e Recorder) → (at ≡ Keeping → ⊥) →
+    DevicesUnpowered o.found (with_standing card Out
+    (carried v w.due (kept_all w.new w.b.run.book) w.standing w.brought)) e
+    → RoseBy 1 (w.b.broken Recorder) (breakdowns_of e Recorder) → (at ≡ Keeping → ⊥) →
     RecordAtFailure o done s at [] None (closed_values card v) e
 
 -- what a run has by value where the card failed as its session was closed
@@ -128,16 +164,23 @@ fallen_values b card second v = torn_values b (torn_out card second (with_sessio
 
 -- THE CARD FAILED as its session was closed, and that is told: it is not accepted any more;
 abbrev pub ALeavingCardIsTorn : (d e : Devices) → Type 0
-ALeavingCardIsTorn d e = (o : Origin) (done : List TraceSecond) (s : TraceSecond) (at : Phase) (v : Values) → (w : RecordInSecond o done s at [] None [] v d) → (slot : Slot) (card : Card) → IsCalledLeaving o done s at v d e w slot card →
+ALeavingCardIsTorn d e = (o : Origin) (done : List TraceSecond) (s : TraceSecond) (at : Phase) (v : Values)
+    → (w : RecordInSecond o done s at [] None [] v d) → (slot : Slot) (card : Card)
+    → IsCalledLeaving o done s at v d e w slot card →
     (b : Break) → IsTearAt s at slot true b → BrokeDown card (breakdowns_of d) (breakdowns_of e) →
-    DevicesPowered o.found (with_standing card Out (carried v w.due (kept_all w.new w.b.run.book) w.standing w.brought)) (fallen_values b card s.number v).cabin.cards e →
+    DevicesPowered o.found (with_standing card Out (carried v w.due (kept_all w.new w.b.run.book) w.standing w.brought))
+    (fallen_values b card s.number v).cabin.cards e →
     SecondGoesOn o done s at [] None [] (fallen_values b card s.number v) e w.b w.from
 
 -- or the unit failed behind that.
 abbrev pub ALeavingTearFails : (d e : Devices) → Type 0
-ALeavingTearFails d e = (o : Origin) (done : List TraceSecond) (s : TraceSecond) (at : Phase) (v : Values) → (w : RecordInSecond o done s at [] None [] v d) → (slot : Slot) (card : Card) → IsCalledLeaving o done s at v d e w slot card →
+ALeavingTearFails d e = (o : Origin) (done : List TraceSecond) (s : TraceSecond) (at : Phase) (v : Values)
+    → (w : RecordInSecond o done s at [] None [] v d) → (slot : Slot) (card : Card)
+    → IsCalledLeaving o done s at v d e w slot card →
     (b : Break) → IsTearAt s at slot true b → BrokeDown card (breakdowns_of d) (breakdowns_of e) →
-    DevicesUnpowered o.found (with_standing card Out (carried v w.due (kept_all w.new w.b.run.book) w.standing w.brought)) e → RoseBy 1 (w.b.broken Recorder) (breakdowns_of e Recorder) → (at ≡ Keeping → ⊥) →
+    DevicesUnpowered o.found (with_standing card Out
+    (carried v w.due (kept_all w.new w.b.run.book) w.standing w.brought)) e
+    → RoseBy 1 (w.b.broken Recorder) (breakdowns_of e Recorder) → (at ≡ Keeping → ⊥) →
     RecordAtFailure o done s at [] None (fallen_values b card s.number v) e
 
 -- ---- a card is pulled out, or fails in its slot
@@ -148,9 +191,12 @@ pulled_line second begun slot = Tear second slot false begun false
 
 -- A CARD IS PULLED OUT of its slot, and no device is called.
 abbrev pub ACardIsPulledOut : Devices → Type 0
-ACardIsPulledOut d = (o : Origin) (done : List TraceSecond) (s : TraceSecond) (v : Values) (front : List Action) (slot : Slot) (card : Card) (rest : List Action) → s.actions ≡ front ++ Pull slot ∷ rest →
-    (w : RecordInSecond o done s (In (length front)) [] None [] v d) → card_in (seat_in v.cabin.slots.seats slot) ≡ Some card → (low : ℕ) → CabinIsSound low None v.cabin →
-    SecondGoesOn o done s (In (suc (length front))) [] None [] (torn_values (pulled_line s.number (suc (length front)) slot) (torn_out card s.number v.cabin) v) d w.b w.from
+ACardIsPulledOut d = (o : Origin) (done : List TraceSecond) (s : TraceSecond) (v : Values) (front : List Action)
+    (slot : Slot) (card : Card) (rest : List Action) → s.actions ≡ front ++ Pull slot ∷ rest →
+    (w : RecordInSecond o done s (In (length front)) [] None [] v d)
+    → card_in (seat_in v.cabin.slots.seats slot) ≡ Some card → (low : ℕ) → CabinIsSound low None v.cabin →
+    SecondGoesOn o done s (In (suc (length front))) [] None []
+    (torn_values (pulled_line s.number (suc (length front)) slot) (torn_out card s.number v.cabin) v) d w.b w.from
 
 -- how a card stands that is torn out, where no minute before this one is to be kept any more
 abbrev pub fallen : (floor : ℕ) → Standing → Standing
@@ -158,8 +204,11 @@ fallen floor Out = Out
 fallen floor (IsIn session newest) = Torn session newest floor
 fallen floor (Torn session newest low) = Torn session newest low
 
--- AN ACCEPTED CARD FAILED in its slot, as something was to be noted on it: with an action, in the keeping, or as power comes with the second.
-pub record IsCalledSeated (o : Origin) (done : List TraceSecond) (s : TraceSecond) (at : Phase) (v : Values) (d e : Devices) (w : RecordInSecond o done s at [] None [] v d) (slot : Slot) (card : Card) (b : Break) : Type 0 where
+-- AN ACCEPTED CARD FAILED in its slot, as something was to be noted on it: with an action, in the keeping, or as power
+-- comes with the second.
+pub record IsCalledSeated (o : Origin) (done : List TraceSecond) (s : TraceSecond) (at : Phase) (v : Values)
+    (d e : Devices) (w : RecordInSecond o done s at [] None [] v d) (slot : Slot) (card : Card) (b : Break) : Type
+    0 where
   pub sits_ : card_in (seat_in v.cabin.slots.seats slot) ≡ Some card
   pub session : is_some (session_of v.cabin.cards card) ≡ true
   pub low : ℕ
@@ -168,16 +217,24 @@ pub record IsCalledSeated (o : Origin) (done : List TraceSecond) (s : TraceSecon
   pub power : at ≡ In 0 → (went w.b.run.log done).before.running ≡ false
   pub broke : BrokeDown card (breakdowns_of d) (breakdowns_of e)
   pub goes : GoesOnSo o v.cabin.cards d e
-  pub travels : HasTravelled (odometer_at o.recording.unit) (kept_all w.new w.b.run.book) (all_travelled w.ds w.b.travel) e.unit
+  pub travels : HasTravelled (odometer_at o.recording.unit) (kept_all w.new w.b.run.book)
+      (all_travelled w.ds w.b.travel) e.unit
 
 -- That is told, and it is torn out;
 abbrev pub ASeatedCardIsTorn : (d e : Devices) → Type 0
-ASeatedCardIsTorn d e = (o : Origin) (done : List TraceSecond) (s : TraceSecond) (at : Phase) (v : Values) → (w : RecordInSecond o done s at [] None [] v d) → (slot : Slot) (card : Card) (b : Break) → IsCalledSeated o done s at v d e w slot card b →
-    DevicesPowered o.found (with_standing card (fallen w.from (w.standing card)) (carried v w.due (kept_all w.new w.b.run.book) w.standing w.brought)) (torn_out card s.number v.cabin).cards e →
+ASeatedCardIsTorn d e = (o : Origin) (done : List TraceSecond) (s : TraceSecond) (at : Phase) (v : Values)
+    → (w : RecordInSecond o done s at [] None [] v d) → (slot : Slot) (card : Card) (b : Break)
+    → IsCalledSeated o done s at v d e w slot card b →
+    DevicesPowered o.found (with_standing card (fallen w.from (w.standing card))
+    (carried v w.due (kept_all w.new w.b.run.book) w.standing w.brought)) (torn_out card s.number v.cabin).cards e →
     SecondGoesOn o done s at [] None [] (torn_values b (torn_out card s.number v.cabin) v) e w.b w.from
 
 -- or the unit failed behind that.
 abbrev pub ASeatedTearFails : (d e : Devices) → Type 0
-ASeatedTearFails d e = (o : Origin) (done : List TraceSecond) (s : TraceSecond) (at : Phase) (v : Values) → (w : RecordInSecond o done s at [] None [] v d) → (slot : Slot) (card : Card) (b : Break) → IsCalledSeated o done s at v d e w slot card b →
-    DevicesUnpowered o.found (with_standing card (fallen w.from (w.standing card)) (carried v w.due (kept_all w.new w.b.run.book) w.standing w.brought)) e → RoseBy 1 (w.b.broken Recorder) (breakdowns_of e Recorder) → (at ≡ Keeping → ⊥) →
+ASeatedTearFails d e = (o : Origin) (done : List TraceSecond) (s : TraceSecond) (at : Phase) (v : Values)
+    → (w : RecordInSecond o done s at [] None [] v d) → (slot : Slot) (card : Card) (b : Break)
+    → IsCalledSeated o done s at v d e w slot card b →
+    DevicesUnpowered o.found (with_standing card (fallen w.from (w.standing card))
+    (carried v w.due (kept_all w.new w.b.run.book) w.standing w.brought)) e
+    → RoseBy 1 (w.b.broken Recorder) (breakdowns_of e Recorder) → (at ≡ Keeping → ⊥) →
     RecordAtFailure o done s at [] None (torn_values b (torn_out card s.number v.cabin) v) e

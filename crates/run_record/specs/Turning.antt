@@ -1,5 +1,7 @@
--- So many seconds of one minute are fed at once, all but the first without actions (profile): those before the last decide nothing.
-use Rattle.std.specs.Prelude.{◌≡◌, ℕ, zero, suc, ◌+◌, ◌%◌, ◌<◌, ◌≤◌, true, false, None, Some, List, [], ◌∷◌, ◌++◌, length}
+-- So many seconds of one minute are fed at once, all but the first without actions (profile): those before the last
+-- decide nothing.
+use Rattle.std.specs.Prelude.{◌≡◌, ℕ, zero, suc, ◌+◌, ◌%◌, ◌<◌, ◌≤◌, true, false, None, Some, List, [], ◌∷◌, ◌++◌}
+use Rattle.std.specs.Prelude.{length}
 use Rattle.trace_model.specs.Trace.{TraceSecond, driven}
 use Rattle.minute_model.specs.declared.Minute.{Minute}
 use Rattle.minute_model.specs.Span.{Span, fed_many, decided_in}
@@ -27,7 +29,8 @@ abbrev pub turned_values : (n begun : ℕ) → Kept → Values → Values
 turned_values n begun minutes v = record v { minutes = minutes; next = v.next + n; begun = begun }
 
 -- behind the first of several
-pub record BehindFirst (o : Origin) (done : List TraceSecond) (s : TraceSecond) (v : Values) (d : Devices) : Type 0 where
+pub record BehindFirst (o : Origin) (done : List TraceSecond) (s : TraceSecond) (v : Values) (d : Devices) : Type
+    0 where
   pub told : ToldSecond
   pub span : List ToldSecond
   pub values : Values
@@ -38,9 +41,12 @@ pub record BehindFirst (o : Origin) (done : List TraceSecond) (s : TraceSecond) 
   pub next : values.next ≡ suc v.next
 
 -- THE SECONDS ARE FED: in the keeping of the last one these minutes are to be kept, from the same one on.
-pub record IsTurned (o : Origin) (done : List TraceSecond) (s : TraceSecond) (n : ℕ) (rest : List Minute) (minutes : Kept) (v : Values) (d : Devices) (w : RecordInSecond o done s (In (length s.actions)) [] None [] v d) : Type 0 where
+pub record IsTurned (o : Origin) (done : List TraceSecond) (s : TraceSecond) (n : ℕ) (rest : List Minute)
+    (minutes : Kept) (v : Values) (d : Devices)
+    (w : RecordInSecond o done s (In (length s.actions)) [] None [] v d) : Type 0 where
   pub begun : ℕ
-  pub fed : RecordInSecond o (before_last n s done) (last_of n s) Keeping [] (Some s.speed) rest (turned_values n begun minutes v) d
+  pub fed : RecordInSecond o (before_last n s done) (last_of n s) Keeping [] (Some s.speed) rest
+      (turned_values n begun minutes v) d
   pub travelled_before : fed.b.travel.before ≡ w.b.travel.before
   pub from : fed.from ≡ w.from
   -- the last one began as the first, where it is that; or within the span, where nothing was told since
@@ -49,10 +55,14 @@ pub record IsTurned (o : Origin) (done : List TraceSecond) (s : TraceSecond) (n 
   pub behind : 0 < n → BehindFirst o done s v d
 
 abbrev pub ATurnIsFed : Devices → Type 0
-ATurnIsFed d = (o : Origin) (done : List TraceSecond) (s : TraceSecond) (v : Values) → (w : RecordInSecond o done s (In (length s.actions)) [] None [] v d) → (n : ℕ) → s.number % 60 + suc n ≤ 60 →
-    (minutes : Kept) → ((span : Span) → CountsSpan v.minutes span → CountsSpan minutes (fed_many span s.speed (suc n))) →
-    (rest : List Minute) → ((span : Span) → CountsSpan v.minutes span → decided_in (fed_many span s.speed (suc n)) ≡ decided_in span ++ rest) → IsTurned o done s n rest minutes v d w
+ATurnIsFed d = (o : Origin) (done : List TraceSecond) (s : TraceSecond) (v : Values)
+    → (w : RecordInSecond o done s (In (length s.actions)) [] None [] v d) → (n : ℕ) → s.number % 60 + suc n ≤ 60 →
+    (minutes : Kept) → ((span : Span) → CountsSpan v.minutes span → CountsSpan minutes (fed_many span s.speed (suc n)))
+    →
+    (rest : List Minute) → ((span : Span) → CountsSpan v.minutes span
+    → decided_in (fed_many span s.speed (suc n)) ≡ decided_in span ++ rest) → IsTurned o done s n rest minutes v d w
 
 -- the last one ends them
 abbrev pub TheTurnEnds : Type 0
-TheTurnEnds = (done : List TraceSecond) (s : TraceSecond) (n : ℕ) → before_last n s done ++ last_of n s ∷ [] ≡ done ++ s ∷ driven n (s.number + 1) s.speed []
+TheTurnEnds = (done : List TraceSecond) (s : TraceSecond) (n : ℕ)
+    → before_last n s done ++ last_of n s ∷ [] ≡ done ++ s ∷ driven n (s.number + 1) s.speed []

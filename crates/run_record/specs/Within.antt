@@ -1,5 +1,8 @@
--- What the recorder with cards carries WITHIN A SECOND that has power (profile): at its power-on, at each of its actions, and in its keeping.
-use Rattle.std.specs.Prelude.{◌≡◌, ◌⊎◌, ◌&&◌, Bool, ℕ, suc, ◌+◌, ◌-◌, ◌*◌, ◌/◌, ◌≤◌, ◌<◌, true, false, Option, Some, None, IfSome, is_some, List, [], ◌∷◌, ◌++◌, Contains, length, filter, option_map, option_to_list}
+-- What the recorder with cards carries WITHIN A SECOND that has power (profile): at its power-on, at each of its
+-- actions, and in its keeping.
+use Rattle.std.specs.Prelude.{◌≡◌, ◌⊎◌, ◌&&◌, Bool, ℕ, suc, ◌+◌, ◌-◌, ◌*◌, ◌/◌, ◌≤◌, ◌<◌, true, false, Option, Some}
+use Rattle.std.specs.Prelude.{None, IfSome, is_some, List, [], ◌∷◌, ◌++◌, Contains, length, filter, option_map}
+use Rattle.std.specs.Prelude.{option_to_list}
 use Rattle.activity_codec.specs.declared.values.Slot.{Slot}
 use Rattle.activity_codec.specs.declared.values.Slot.TheVariants.{Driver, CoDriver}
 use Rattle.activity_codec.specs.declared.values.Pick.{Pick}
@@ -60,10 +63,11 @@ use Rattle.run_crew.specs.declared.cabin.Cabin.{Cabin}
 use Rattle.run_crew.specs.declared.cards.Cards.{Cards}
 use Rattle.run_crew.specs.Cards.{session_of}
 use Rattle.run_crew.specs.Cabin.{SitsNowhere, CabinIsSound, with_minute_ended, with_power_lost}
-use Rattle.run_record.specs.Recorded.{Values, progress, carried, IsWrittenSince, AreThere, IsCountedFrom, RecordBetweenSeconds}
+use Rattle.run_record.specs.Recorded.{Values, progress, carried, IsWrittenSince, AreThere, IsCountedFrom}
+use Rattle.run_record.specs.Recorded.{RecordBetweenSeconds}
 
--- as the second began, behind its power-on: how far the run had gone, the seconds of the span, what was travelled, the marks, how often each
--- device had broken down, and what acceptances had brought
+-- as the second began, behind its power-on: how far the run had gone, the seconds of the span, what was travelled, the
+-- marks, how often each device had broken down, and what acceptances had brought
 pub record Beginning : Type 0 where
   pub run : Progress
   pub span : List ToldSecond
@@ -79,73 +83,96 @@ told_before b done = (went b.run.log done).told
 abbrev pub course_in : Beginning → List TraceSecond → TraceSecond → Phase → RunLog → Course
 course_in b done s at log = course_at log (went b.run.log done).before s at
 
--- What may be found of a card in a second in whose minute it has entered so often (the same as `IsVerdict` of safety_model, by that number),
+-- What may be found of a card in a second in whose minute it has entered so often (the same as `IsVerdict` of
+-- safety_model, by that number),
 abbrev pub SeenBy : Origin → (often : ℕ) → (unit card : List ℕ → Type 0) → Card → ℕ → Verdict → Type 0
 SeenBy o often unit card c u (Accepted replayed) =
     IsOwnValid (card_image o.recording c) × ((own_view (card_image o.recording c)).stored ≤ u)
-    × ((i x : List ℕ) × unit i × card x × ((own_view x).stored ≤ u) × (length (owed c (unit_seen o.recording i) (own_view x)) ≡ replayed))
+    × ((i x : List ℕ) × unit i × card x × ((own_view x).stored ≤ u)
+    × (length (owed c (unit_seen o.recording i) (own_view x)) ≡ replayed))
 SeenBy o often unit card c u (NotValid fid place) = own_bad_file (card_image o.recording c) ≡ Some (fid, place)
-SeenBy o often unit card c u (TimeOverlap stored now) = IsOwnValid (card_image o.recording c) × (now ≡ u) × ((u < stored)
+SeenBy o often unit card c u (TimeOverlap stored now) = IsOwnValid (card_image o.recording c) × (now ≡ u)
+    × ((u < stored)
     × ((stored ≡ (own_view (card_image o.recording c)).stored)
-    ⊎ (((own_view (card_image o.recording c)).stored ≤ u) × (1 < often) × (stored ≡ 60 * suc (u / 60)) × ((x : List ℕ) × card x × ((own_view x).stored ≡ stored)))))
+    ⊎ (((own_view (card_image o.recording c)).stored ≤ u) × (1 < often) × (stored ≡ 60 * suc (u / 60))
+    × ((x : List ℕ) × card x × ((own_view x).stored ≡ stored)))))
 
 -- and what an acceptance brings, by that number and the seconds before (the same as `BringsAll` of run_promise).
 abbrev pub BringsBy : Origin → Beginning → List TraceSecond → (often : ℕ) → List Mark → Card → ℕ → Verdict → Type 0
-BringsBy o b done often marks c u (Accepted replayed) = IsAllOwed o.recording marks c replayed ⊎ ((1 < often) ⊎ ((t : ℕ) × (t < u) × (0 < entered_by (recording_by o done b.run.log) c t)))
+BringsBy o b done often marks c u (Accepted replayed) = IsAllOwed o.recording marks c replayed
+    ⊎ ((1 < often) ⊎ ((t : ℕ) × (t < u) × (0 < entered_by (recording_by o done b.run.log) c t)))
 BringsBy o b done often marks c u (NotValid fid place) = Unit {0}
 BringsBy o b done often marks c u (TimeOverlap stored now) = Unit {0}
 
-abbrev pub VerdictBy : Origin → Beginning → List TraceSecond → (often : ℕ) → List Mark → (unit card : List ℕ → Type 0) → Card → ℕ → Verdict → Type 0
+abbrev pub VerdictBy : Origin → Beginning → List TraceSecond → (often : ℕ) → List Mark → (unit card : List ℕ → Type 0)
+    → Card → ℕ → Verdict → Type 0
 VerdictBy o b done often marks unit card c u v = SeenBy o often unit card c u v × BringsBy o b done often marks c u v
 
 -- how often a card entered in the minute of a second, by what has come of that so far
 abbrev pub often : Origin → Beginning → List TraceSecond → Course → ℕ → Card → ℕ
 often o b done c u card = entered_by (recording_by o done b.run.log) card u + times_of card c.entered
 
--- WHAT WAS FOUND of cards in this second so far may be found of them; each acceptance is taken at the unit's last-kept minute, and
--- behind it no minute before this one is to be kept.
-pub record IsFoundSo (o : Origin) (b : Beginning) (done : List TraceSecond) (c : Course) (u from : ℕ) (new : List HistoryMinute) (marks : List Mark) (brought : Card → List ℕ) (d : Devices) : Type 0 where
+-- WHAT WAS FOUND of cards in this second so far may be found of them; each acceptance is taken at the unit's last-kept
+-- minute, and behind it no minute before this one is to be kept.
+pub record IsFoundSo (o : Origin) (b : Beginning) (done : List TraceSecond) (c : Course) (u from : ℕ)
+    (new : List HistoryMinute) (marks : List Mark) (brought : Card → List ℕ) (d : Devices) : Type 0 where
   pub may : (e : Visit) (v : Verdict) → Contains c.found (e, v) → (n : ℕ) × (n ≤ often o b done c u e.card)
-      × VerdictBy o b done n marks (d.unit.left_since o.found.unit.began) ((card_of d e.card).left_since (found_of o.found e.card).began) e.card u v
-  pub taken : (e : Visit) (v : Verdict) → Contains c.found (e, v) → is_accepting v ≡ true → (k : ℕ) × Contains (brought e.card) k × IsTakenAt (first_of o) b.run.book (kept_all new b.run.book) new k
+      × VerdictBy o b done n marks (d.unit.left_since o.found.unit.began)
+      ((card_of d e.card).left_since (found_of o.found e.card).began) e.card u v
+  pub taken : (e : Visit) (v : Verdict) → Contains c.found (e, v) → is_accepting v ≡ true
+      → (k : ℕ) × Contains (brought e.card) k × IsTakenAt (first_of o) b.run.book (kept_all new b.run.book) new k
   pub late : (e : Visit) (v : Verdict) → Contains c.found (e, v) → is_accepting v ≡ true → u / 60 ≤ from
 
 -- of what was found, what tells of a later time of a card
 abbrev pub overlaps_by : Origin → Card → List (Visit × Verdict) → List (Visit × Verdict)
 overlaps_by o card found = filter (λ f. same_card card f.0.card && is_overlap o.recording card f.1) found
 
--- A card may be written now, in the second of this number: it was valid, and entered more often than it was found to tell of a later time, where
--- it does not wait still to be judged; and it was judged in one of the seconds before in which it entered, or is in this one.
-pub record MayBeWrittenSo (o : Origin) (b : Beginning) (done : List TraceSecond) (c : Course) (waits : List Visit) (u : ℕ) (kept : SlotsKept) (card : Card) : Type 0 where
+-- A card may be written now, in the second of this number: it was valid, and entered more often than it was found to
+-- tell of a later time, where it does not wait still to be judged; and it was judged in one of the seconds before in
+-- which it entered, or is in this one.
+pub record MayBeWrittenSo (o : Origin) (b : Beginning) (done : List TraceSecond) (c : Course) (waits : List Visit)
+    (u : ℕ) (kept : SlotsKept) (card : Card) : Type 0 where
   pub valid : IsOwnValid (card_image o.recording card)
-  pub fewer : overlaps (recording_by o done b.run.log) card + length (overlaps_by o card c.found) + times_of card waits < entered (recording_by o done b.run.log) card + times_of card c.entered
+  pub fewer : overlaps (recording_by o done b.run.log) card + length (overlaps_by o card c.found) + times_of card waits
+      < entered (recording_by o done b.run.log) card + times_of card c.entered
   pub time : ℕ
   pub since : IsWrittenSince o kept u card time
-  pub entered_then : (0 < entered_by (recording_by o done b.run.log) card time) ⊎ ((time ≡ u) × (times_of card waits < times_of card c.entered))
+  pub entered_then : (0 < entered_by (recording_by o done b.run.log) card time)
+      ⊎ ((time ≡ u) × (times_of card waits < times_of card c.entered))
 
 -- A card is as it was, or may be written.
-abbrev pub IsSparedSo : Origin → Beginning → List TraceSecond → Course → (waits : List Visit) → (u : ℕ) → SlotsKept → Devices → Card → Type 0
-IsSparedSo o b done c waits u kept d card = IsUntouched (found_of o.found card) (card_of d card) ⊎ MayBeWrittenSo o b done c waits u kept card
+abbrev pub IsSparedSo : Origin → Beginning → List TraceSecond → Course → (waits : List Visit) → (u : ℕ) → SlotsKept
+    → Devices → Card → Type 0
+IsSparedSo o b done c waits u kept d card = IsUntouched (found_of o.found card) (card_of d card)
+    ⊎ MayBeWrittenSo o b done c waits u kept card
 
--- A CARD IS LEAVING a slot with this moment, and its session is not closed yet: it sits in none, and was not torn out. All minutes before this
--- one are to be kept by then; in those that are still to be kept, from one on, it was present in that slot, if at all.
-pub record IsLeaving (log : RunLog) (before : Before) (s : TraceSecond) (at : Phase) (low high : ℕ) (cabin : Cabin) (slot : Slot) (card : Card) : Type 0 where
+-- A CARD IS LEAVING a slot with this moment, and its session is not closed yet: it sits in none, and was not torn out.
+-- All minutes before this one are to be kept by then; in those that are still to be kept, from one on, it was present
+-- in that slot, if at all.
+pub record IsLeaving (log : RunLog) (before : Before) (s : TraceSecond) (at : Phase) (low high : ℕ) (cabin : Cabin)
+    (slot : Slot) (card : Card) : Type 0 where
   pub leaves : (moved_at log before s at).leaving slot ≡ record { phase = at; slot = slot; card = card } ∷ []
   pub empty : seat_in cabin.slots.seats slot ≡ None
   pub nowhere : SitsNowhere cabin.slots.seats card
   pub untorn : is_torn_in log s.number at slot ≡ false
   pub to : high ≡ s.number / 60
-  pub driver : (m : ℕ) (present : Present) → low ≤ m → present_in cabin.slots.past m ≡ Some present → present.driver ≡ Some card → slot ≡ Driver
-  pub codriver : (m : ℕ) (present : Present) → low ≤ m → present_in cabin.slots.past m ≡ Some present → present.codriver ≡ Some card → slot ≡ CoDriver
+  pub driver : (m : ℕ) (present : Present) → low ≤ m → present_in cabin.slots.past m ≡ Some present
+      → present.driver ≡ Some card → slot ≡ Driver
+  pub codriver : (m : ℕ) (present : Present) → low ≤ m → present_in cabin.slots.past m ≡ Some present
+      → present.codriver ≡ Some card → slot ≡ CoDriver
 
--- A card with a session left a slot last no later than in the first minute that is still to be kept; or it is leaving one.
+-- A card with a session left a slot last no later than in the first minute that is still to be kept; or it is leaving
+-- one.
 abbrev pub AreBackAt : RunLog → Before → TraceSecond → Phase → (low high : ℕ) → Cabin → Type 0
 AreBackAt log before s at low high cabin = (card : Card) → is_some (session_of cabin.cards card) ≡ true →
-    IfSome (left_of cabin.slots.left card) (λ left. left ≤ low) ⊎ ((slot : Slot) × IsLeaving log before s at low high cabin slot card)
+    IfSome (left_of cabin.slots.left card) (λ left. left ≤ low)
+    ⊎ ((slot : Slot) × IsLeaving log before s at low high cabin slot card)
 
--- THE RECORD AT A MOMENT of a second. These cards have entered at it and are not judged yet; one may be leaving its slot, whose session is
--- not closed yet; the second is fed, or not; and of the minutes that it has decided these are still to be kept.
-pub record RecordInSecond (o : Origin) (done : List TraceSecond) (s : TraceSecond) (at : Phase) (waits : List Visit) (speed : Option ℕ) (rest : List Minute) (v : Values) (d : Devices) : Type 0 where
+-- THE RECORD AT A MOMENT of a second. These cards have entered at it and are not judged yet; one may be leaving its
+-- slot, whose session is not closed yet; the second is fed, or not; and of the minutes that it has decided these are
+-- still to be kept.
+pub record RecordInSecond (o : Origin) (done : List TraceSecond) (s : TraceSecond) (at : Phase) (waits : List Visit)
+    (speed : Option ℕ) (rest : List Minute) (v : Values) (d : Devices) : Type 0 where
   -- as the second began
   pub b : Beginning
   pub lit : b.run.supply ≡ Lit b.span
@@ -158,8 +185,10 @@ pub record RecordInSecond (o : Origin) (done : List TraceSecond) (s : TraceSecon
   pub minutes : CountsSpan v.minutes sp
   pub ds : List Minute
   pub new : List HistoryMinute
-  pub decided : HasDecided (rule_of o) (start_at o) (told_before b done) b.run b.span (course_in b done s at v.log) speed sp ds rest new
-  -- the first minute that is still to be kept, behind those that are kept; with the others it is the first that is not decided
+  pub decided : HasDecided (rule_of o) (start_at o) (told_before b done) b.run b.span (course_in b done s at v.log)
+      speed sp ds rest new
+  -- the first minute that is still to be kept, behind those that are kept; with the others it is the first that is not
+  -- decided
   pub from : ℕ
   pub kept_to : from ≡ ungiven_of (span_at (rule_of o) b.run.next b.span) + length ds
   pub until : from + length rest ≡ ungiven_of sp
@@ -176,7 +205,8 @@ pub record RecordInSecond (o : Origin) (done : List TraceSecond) (s : TraceSecon
   pub late : due ≤ from
   pub more : (c : Card) (k : ℕ) → Contains (b.brought c) k → Contains (brought c) k
   -- who is present
-  pub tells : SlotsTell (start_at o) (told_before b done) (b.run.book.sure ++ new) (course_in b done s at v.log).left s.number from (course_in b done s at v.log).slots v.cabin.slots
+  pub tells : SlotsTell (start_at o) (told_before b done) (b.run.book.sure ++ new) (course_in b done s at v.log).left
+      s.number from (course_in b done s at v.log).slots v.cabin.slots
   pub present : PresentStand o.found standing (told_before b done) (course_in b done s at v.log) s.number from v.cabin
   pub back : AreBackAt v.log (went b.run.log done).before s at from (from + length rest) v.cabin
   -- what was found of cards, which may be written, and the odometer
@@ -185,23 +215,28 @@ pub record RecordInSecond (o : Origin) (done : List TraceSecond) (s : TraceSecon
   pub there : AreThere o.found d
   pub few : AreFewFound (recording_by o done b.run.log)
   pub spared : (c : Card) → IsSparedSo o b done (course_in b done s at v.log) waits s.number v.cabin.slots d c
-  pub written : (c : Card) → is_some (session_of v.cabin.cards c) ≡ true → MayBeWrittenSo o b done (course_in b done s at v.log) waits s.number v.cabin.slots c
+  pub written : (c : Card) → is_some (session_of v.cabin.cards c) ≡ true
+      → MayBeWrittenSo o b done (course_in b done s at v.log) waits s.number v.cabin.slots c
   pub travels : HasTravelled (odometer_at o.recording.unit) (kept_all new b.run.book) (all_travelled ds b.travel) d.unit
   pub odometer : IsCountedFrom o b.travel.before v.odometer
 
 -- THE SECOND GOES ON: it began so, and this is the first minute that is still to be kept.
-pub record SecondGoesOn (o : Origin) (done : List TraceSecond) (s : TraceSecond) (at : Phase) (waits : List Visit) (speed : Option ℕ) (rest : List Minute) (v : Values) (d : Devices) (b : Beginning) (first : ℕ) : Type 0 where
+pub record SecondGoesOn (o : Origin) (done : List TraceSecond) (s : TraceSecond) (at : Phase) (waits : List Visit)
+    (speed : Option ℕ) (rest : List Minute) (v : Values) (d : Devices) (b : Beginning) (first : ℕ) : Type 0 where
   pub within : RecordInSecond o done s at waits speed rest v d
   pub began : within.b ≡ b
   pub from : within.from ≡ first
 
 -- the minute whose keeping was broken off, with its cards
-abbrev pub lost_minute : Origin → Beginning → List TraceSecond → (new : List HistoryMinute) → Option Minute → Option HistoryMinute
-lost_minute o b done new lost = option_map {T = Minute} (seated (start_at o) (told_before b done) (b.run.book.sure ++ new)) lost
+abbrev pub lost_minute : Origin → Beginning → List TraceSecond → (new : List HistoryMinute) → Option Minute
+    → Option HistoryMinute
+lost_minute o b done new lost = option_map {T = Minute}
+    (seated (start_at o) (told_before b done) (b.run.book.sure ++ new)) lost
 
--- THE RECORD WHERE A CALL ON THE UNIT HAS FAILED at a moment of a second, and the power is about to be cut: of what is decided the next minute
--- may be kept or not.
-pub record RecordAtFailure (o : Origin) (done : List TraceSecond) (s : TraceSecond) (at : Phase) (waits : List Visit) (speed : Option ℕ) (v : Values) (d : Devices) : Type 0 where
+-- THE RECORD WHERE A CALL ON THE UNIT HAS FAILED at a moment of a second, and the power is about to be cut: of what is
+-- decided the next minute may be kept or not.
+pub record RecordAtFailure (o : Origin) (done : List TraceSecond) (s : TraceSecond) (at : Phase) (waits : List Visit)
+    (speed : Option ℕ) (v : Values) (d : Devices) : Type 0 where
   pub b : Beginning
   pub lit : b.run.supply ≡ Lit b.span
   pub began : HistoryIsRecorded o done b.run b.travel b.marks b.broken b.brought
@@ -216,7 +251,8 @@ pub record RecordAtFailure (o : Origin) (done : List TraceSecond) (s : TraceSeco
   pub lost : Option Minute
   pub rest : List Minute
   pub new : List HistoryMinute
-  pub decided : HasDecided (rule_of o) (start_at o) (told_before b done) b.run b.span (course_in b done s at v.log) speed sp ds (option_to_list lost ++ rest) new
+  pub decided : HasDecided (rule_of o) (start_at o) (told_before b done) b.run b.span (course_in b done s at v.log)
+      speed sp ds (option_to_list lost ++ rest) new
   pub fed : (at ≡ Keeping → ⊥) → speed ≡ None
   pub kept : at ≡ Keeping → speed ≡ Some s.speed
   pub from : ℕ
@@ -225,19 +261,24 @@ pub record RecordAtFailure (o : Origin) (done : List TraceSecond) (s : TraceSeco
   pub due : ℕ
   pub standing : Card → Standing
   pub brought : Card → List ℕ
-  pub powerless : DevicesUnpowered o.found (carried v due (broken_at (lost_minute o b done new lost) (kept_all new b.run.book)) standing brought) d
+  pub powerless : DevicesUnpowered o.found
+      (carried v due (broken_at (lost_minute o b done new lost) (kept_all new b.run.book)) standing brought) d
   pub found : AreFoundCards o.found v.cabin.cards
-  pub early : AreEarly (carried v due (broken_at (lost_minute o b done new lost) (kept_all new b.run.book)) standing brought)
+  pub early : AreEarly (carried v due (broken_at (lost_minute o b done new lost) (kept_all new b.run.book)) standing
+      brought)
   pub late : due ≤ s.number / 60
   pub low : from ≤ s.number / 60
   pub more : (c : Card) (k : ℕ) → Contains (b.brought c) k → Contains (brought c) k
-  pub tells : SlotsTell (start_at o) (told_before b done) (b.run.book.sure ++ new) (course_in b done s at v.log).left s.number from (course_in b done s at v.log).slots v.cabin.slots
+  pub tells : SlotsTell (start_at o) (told_before b done) (b.run.book.sure ++ new) (course_in b done s at v.log).left
+      s.number from (course_in b done s at v.log).slots v.cabin.slots
   pub verdicts : AreVerdicts o done b.run.log b.run.unfound b.marks d
   pub finds : IsFoundSo o b done (course_in b done s at v.log) s.number from new v.marks brought d
   pub there : AreThere o.found d
   pub few : AreFewFound (recording_by o done b.run.log)
   pub spared : (c : Card) → IsSparedSo o b done (course_in b done s at v.log) waits s.number v.cabin.slots d c
-  pub travels : HasTravelled (odometer_at o.recording.unit) (broken_at (lost_minute o b done new lost) (kept_all new b.run.book)) (stranded_at lost (all_travelled ds b.travel)) d.unit
+  pub travels : HasTravelled (odometer_at o.recording.unit)
+      (broken_at (lost_minute o b done new lost) (kept_all new b.run.book))
+      (stranded_at lost (all_travelled ds b.travel)) d.unit
   pub odometer : IsCountedFrom o b.travel.before v.odometer
 
 -- what a run has by value behind the cut of a second, once that has gone
@@ -251,7 +292,9 @@ cut_values s at v = record v {
 
 -- POWER IS CUT: behind the second all is recorded.
 abbrev pub ACutIsRecorded : Devices → Type 0
-ACutIsRecorded d = (o : Origin) (done : List TraceSecond) (s : TraceSecond) (at : Phase) (waits : List Visit) (speed : Option ℕ) (v : Values) → RecordAtFailure o done s at waits speed v d → (rest : List Action) → IsLeft s at rest →
+ACutIsRecorded d = (o : Origin) (done : List TraceSecond) (s : TraceSecond) (at : Phase) (waits : List Visit)
+    (speed : Option ℕ) (v : Values) → RecordAtFailure o done s at waits speed v d → (rest : List Action)
+    → IsLeft s at rest →
     RecordBetweenSeconds o (done ++ s ∷ []) Lost (cut_values s at v) d
 
 -- what a run has by value behind a second
@@ -259,91 +302,128 @@ abbrev pub passed_values : TraceSecond → Values → Values
 passed_values s v = record v { next = suc v.next; begun = length s.actions }
 
 -- THE RECORD with this travelled before the span
-pub record RecordedFrom (o : Origin) (done : List TraceSecond) (supply : UnitPower) (v : Values) (d : Devices) (before : List ℕ) : Type 0 where
+pub record RecordedFrom (o : Origin) (done : List TraceSecond) (supply : UnitPower) (v : Values) (d : Devices)
+    (before : List ℕ) : Type 0 where
   pub recorded : RecordBetweenSeconds o done supply v d
   pub travelled_before : recorded.travel.before ≡ before
 
 -- THE SECOND ENDS: all that it decided is kept, and behind it all is recorded.
 abbrev pub TheSecondIsOver : Devices → Type 0
-TheSecondIsOver d = (o : Origin) (done : List TraceSecond) (s : TraceSecond) (v : Values) → (w : RecordInSecond o done s Keeping [] (Some s.speed) [] v d) →
-    RecordedFrom o (done ++ s ∷ []) (Lit (w.b.span ++ next_told v.log done s ∷ [])) (passed_values s v) d w.b.travel.before
+TheSecondIsOver d = (o : Origin) (done : List TraceSecond) (s : TraceSecond) (v : Values)
+    → (w : RecordInSecond o done s Keeping [] (Some s.speed) [] v d) →
+    RecordedFrom o (done ++ s ∷ []) (Lit (w.b.span ++ next_told v.log done s ∷ [])) (passed_values s v) d
+    w.b.travel.before
 
 -- the first minute that a span has not decided
 abbrev pub undecided_from : Origin → List ToldSecond → Values → ℕ
 undecided_from o span v = ungiven_of (span_at (rule_of o) v.next span)
 
 -- how a second begins behind one with power
-abbrev pub begun_behind : (o : Origin) (done : List TraceSecond) (span : List ToldSecond) (v : Values) (d : Devices) → RecordBetweenSeconds o done (Lit span) v d → Beginning
-begun_behind o done span v d r = record { run = progress v (Lit span) r.book; span = span; travel = r.travel; marks = v.marks; broken = breakdowns_of d; brought = r.brought }
+abbrev pub begun_behind : (o : Origin) (done : List TraceSecond) (span : List ToldSecond) (v : Values) (d : Devices)
+    → RecordBetweenSeconds o done (Lit span) v d → Beginning
+begun_behind o done span v d r = record {
+  run = progress v (Lit span) r.book;
+  span = span;
+  travel = r.travel;
+  marks = v.marks;
+  broken = breakdowns_of d;
+  brought = r.brought;
+}
 
 -- A SECOND BEGINS behind one with power, in the same minute: nothing of it is told or decided yet.
 abbrev pub ASecondBegins : Devices → Type 0
-ASecondBegins d = (o : Origin) (done : List TraceSecond) (s : TraceSecond) (t : ToldSecond) (span : List ToldSecond) (v : Values) → (r : RecordBetweenSeconds o done (Lit (t ∷ span)) v d) → s.number ≡ v.next → s.has_power ≡ true →
-    v.next / 60 ≡ (v.next - 1) / 60 → SecondGoesOn o done s (In 0) [] None [] v d (begun_behind o done (t ∷ span) v d r) (undecided_from o (t ∷ span) v)
+ASecondBegins d = (o : Origin) (done : List TraceSecond) (s : TraceSecond) (t : ToldSecond) (span : List ToldSecond)
+    (v : Values) → (r : RecordBetweenSeconds o done (Lit (t ∷ span)) v d) → s.number ≡ v.next → s.has_power ≡ true →
+    v.next / 60 ≡ (v.next - 1) / 60
+    → SecondGoesOn o done s (In 0) [] None [] v d (begun_behind o done (t ∷ span) v d r)
+    (undecided_from o (t ∷ span) v)
 
 -- OR A MINUTE IS OVER: who was present in it is known.
 abbrev pub AMinuteIsOver : Devices → Type 0
-AMinuteIsOver d = (o : Origin) (done : List TraceSecond) (s : TraceSecond) (t : ToldSecond) (span : List ToldSecond) (v : Values) → (r : RecordBetweenSeconds o done (Lit (t ∷ span)) v d) → s.number ≡ v.next → s.has_power ≡ true →
+AMinuteIsOver d = (o : Origin) (done : List TraceSecond) (s : TraceSecond) (t : ToldSecond) (span : List ToldSecond)
+    (v : Values) → (r : RecordBetweenSeconds o done (Lit (t ∷ span)) v d) → s.number ≡ v.next → s.has_power ≡ true →
     ((card : Card) → (found_of o.found card).start ≡ card_start (start_at o) card) →
-    v.next / 60 ≡ (v.next - 1) / 60 + 1 → undecided_from o (t ∷ span) v ≤ (v.next - 1) / 60 → (v.next - 1) / 60 ≤ undecided_from o (t ∷ span) v + 3 →
+    v.next / 60 ≡ (v.next - 1) / 60 + 1 → undecided_from o (t ∷ span) v ≤ (v.next - 1) / 60
+    → (v.next - 1) / 60 ≤ undecided_from o (t ∷ span) v + 3 →
     CabinIsSound (undecided_from o (t ∷ span) v) None v.cabin →
-    SecondGoesOn o done s (In 0) [] None [] (record v { cabin = with_minute_ended ((v.next - 1) / 60) v.cabin }) d (begun_behind o done (t ∷ span) v d r) (undecided_from o (t ∷ span) v)
+    SecondGoesOn o done s (In 0) [] None [] (record v { cabin = with_minute_ended ((v.next - 1) / 60) v.cabin }) d
+    (begun_behind o done (t ∷ span) v d r) (undecided_from o (t ∷ span) v)
 
 -- THE SECOND IS FED behind all of its actions: these minutes are to be kept then.
 abbrev pub ASecondIsFed : Devices → Type 0
-ASecondIsFed d = (o : Origin) (done : List TraceSecond) (s : TraceSecond) (v : Values) → (w : RecordInSecond o done s (In (length s.actions)) [] None [] v d) →
-    (minutes : Kept) → CountsSpan minutes (fed w.sp s.speed) → (rest : List Minute) → decided_in (fed w.sp s.speed) ≡ decided_in w.sp ++ rest →
+ASecondIsFed d = (o : Origin) (done : List TraceSecond) (s : TraceSecond) (v : Values)
+    → (w : RecordInSecond o done s (In (length s.actions)) [] None [] v d) →
+    (minutes : Kept) → CountsSpan minutes (fed w.sp s.speed) → (rest : List Minute)
+    → decided_in (fed w.sp s.speed) ≡ decided_in w.sp ++ rest →
     SecondGoesOn o done s Keeping [] (Some s.speed) rest (record v { minutes = minutes }) d w.b w.from
 
 -- AN ACTION IS REFUSED, and that is told;
 abbrev pub refused_values : (second begun : ℕ) → SlotFault → Values → Values
-refused_values second begun fault v = record v { log = and_refused v.log (record { second = second; fault = fault; begun = begun }) }
+refused_values second begun fault v = record
+    v { log = and_refused v.log (record { second = second; fault = fault; begun = begun }) }
 
 abbrev pub ARefusalIsRecorded : Devices → Type 0
-ARefusalIsRecorded d = (o : Origin) (done : List TraceSecond) (s : TraceSecond) (v : Values) (front : List Action) (a : Action) (rest : List Action) → s.actions ≡ front ++ a ∷ rest →
-    (w : RecordInSecond o done s (In (length front)) [] None [] v d) → (fault : SlotFault) → refusal (course_in w.b done s (In (length front)) v.log).slots s.speed a ≡ Some fault →
-    SecondGoesOn o done s (In (suc (length front))) [] None [] (refused_values s.number (suc (length front)) fault v) d w.b w.from
+ARefusalIsRecorded d = (o : Origin) (done : List TraceSecond) (s : TraceSecond) (v : Values) (front : List Action)
+    (a : Action) (rest : List Action) → s.actions ≡ front ++ a ∷ rest →
+    (w : RecordInSecond o done s (In (length front)) [] None [] v d) → (fault : SlotFault)
+    → refusal (course_in w.b done s (In (length front)) v.log).slots s.speed a ≡ Some fault →
+    SecondGoesOn o done s (In (suc (length front))) [] None [] (refused_values s.number (suc (length front)) fault v) d
+    w.b w.from
 
 -- or an activity IS SELECTED.
 abbrev pub heard_values : Kept → Values → Values
 heard_values minutes v = record v { minutes = minutes }
 
 abbrev pub ASelectionIsRecorded : Devices → Type 0
-ASelectionIsRecorded d = (o : Origin) (done : List TraceSecond) (s : TraceSecond) (v : Values) (front : List Action) (slot : Slot) (pick : Pick) (rest : List Action) → s.actions ≡ front ++ Select slot pick ∷ rest →
-    (w : RecordInSecond o done s (In (length front)) [] None [] v d) → refusal (course_in w.b done s (In (length front)) v.log).slots s.speed (Select slot pick) ≡ None →
-    (minutes : Kept) → CountsSpan minutes (picked w.sp slot pick) → SecondGoesOn o done s (In (suc (length front))) [] None [] (heard_values minutes v) d w.b w.from
+ASelectionIsRecorded d = (o : Origin) (done : List TraceSecond) (s : TraceSecond) (v : Values) (front : List Action)
+    (slot : Slot) (pick : Pick) (rest : List Action) → s.actions ≡ front ++ Select slot pick ∷ rest →
+    (w : RecordInSecond o done s (In (length front)) [] None [] v d)
+    → refusal (course_in w.b done s (In (length front)) v.log).slots s.speed (Select slot pick) ≡ None →
+    (minutes : Kept) → CountsSpan minutes (picked w.sp slot pick)
+    → SecondGoesOn o done s (In (suc (length front))) [] None [] (heard_values minutes v) d w.b w.from
 
 -- AN ENTRY BY HAND that slots and speed let pass changes nothing.
 abbrev pub AnEntryByHandIsRecorded : Devices → Type 0
-AnEntryByHandIsRecorded d = (o : Origin) (done : List TraceSecond) (s : TraceSecond) (v : Values) (front : List Action) (slot : Slot) (pick : Pick) (minute : ℕ) (rest : List Action) →
+AnEntryByHandIsRecorded d = (o : Origin) (done : List TraceSecond) (s : TraceSecond) (v : Values) (front : List Action)
+    (slot : Slot) (pick : Pick) (minute : ℕ) (rest : List Action) →
     s.actions ≡ front ++ Manual slot pick minute ∷ rest →
-    (w : RecordInSecond o done s (In (length front)) [] None [] v d) → refusal (course_in w.b done s (In (length front)) v.log).slots s.speed (Manual slot pick minute) ≡ None →
+    (w : RecordInSecond o done s (In (length front)) [] None [] v d)
+    → refusal (course_in w.b done s (In (length front)) v.log).slots s.speed (Manual slot pick minute) ≡ None →
     SecondGoesOn o done s (In (suc (length front))) [] None [] v d w.b w.from
 
 -- no session is new
 abbrev pub AreOld : (old new : Cards) → Type 0
 AreOld old new = (card : Card) → is_some (session_of new card) ≡ true → is_some (session_of old card) ≡ true
 
--- what a call leaves of the devices, unit and cards by the book apart: what might have been left might be left still, and a card that was as it
--- was is so, or has a session
+-- what a call leaves of the devices, unit and cards by the book apart: what might have been left might be left still,
+-- and a card that was as it was is so, or has a session
 pub record GoesOnSo (o : Origin) (cards : Cards) (d e : Devices) : Type 0 where
   pub left : HaveLeftMore o d e
   pub there : AreThere o.found d → AreThere o.found e
-  pub untouched : (card : Card) → IsUntouched (found_of o.found card) (card_of d card) → IsUntouched (found_of o.found card) (card_of e card) ⊎ (is_some (session_of cards card) ≡ true)
+  pub untouched : (card : Card) → IsUntouched (found_of o.found card) (card_of d card)
+      → IsUntouched (found_of o.found card) (card_of e card) ⊎ (is_some (session_of cards card) ≡ true)
 
--- A CALL of which nothing is told, as one that notes an event or a place: no card broke down, and unit and cards are as the book says behind it too.
-pub record IsCalled (o : Origin) (done : List TraceSecond) (s : TraceSecond) (at : Phase) (waits : List Visit) (speed : Option ℕ) (rest : List Minute) (v : Values) (d e : Devices) (w : RecordInSecond o done s at waits speed rest v d) : Type 0 where
+-- A CALL of which nothing is told, as one that notes an event or a place: no card broke down, and unit and cards are as
+-- the book says behind it too.
+pub record IsCalled (o : Origin) (done : List TraceSecond) (s : TraceSecond) (at : Phase) (waits : List Visit)
+    (speed : Option ℕ) (rest : List Minute) (v : Values) (d e : Devices)
+    (w : RecordInSecond o done s at waits speed rest v d) : Type 0 where
   pub goes : GoesOnSo o v.cabin.cards d e
   pub breakdowns : IsMore (breakdowns_of d) (breakdowns_of e)
-  pub powered : DevicesPowered o.found (carried v w.due (kept_all w.new w.b.run.book) w.standing w.brought) v.cabin.cards e
-  pub travels : HasTravelled (odometer_at o.recording.unit) (kept_all w.new w.b.run.book) (all_travelled w.ds w.b.travel) e.unit
+  pub powered : DevicesPowered o.found (carried v w.due (kept_all w.new w.b.run.book) w.standing w.brought)
+      v.cabin.cards e
+  pub travels : HasTravelled (odometer_at o.recording.unit) (kept_all w.new w.b.run.book)
+      (all_travelled w.ds w.b.travel) e.unit
 
 abbrev pub ACallIsRecorded : (d e : Devices) → Type 0
-ACallIsRecorded d e = (o : Origin) (done : List TraceSecond) (s : TraceSecond) (at : Phase) (waits : List Visit) (speed : Option ℕ) (rest : List Minute) (v : Values) → (w : RecordInSecond o done s at waits speed rest v d) →
+ACallIsRecorded d e = (o : Origin) (done : List TraceSecond) (s : TraceSecond) (at : Phase) (waits : List Visit)
+    (speed : Option ℕ) (rest : List Minute) (v : Values) → (w : RecordInSecond o done s at waits speed rest v d) →
     IsCalled o done s at waits speed rest v d e w → SecondGoesOn o done s at waits speed rest v e w.b w.from
 
 -- A CALL IN WHICH THE UNIT FAILED: the next of the minutes that were to be kept may be kept or not, if it was begun.
-pub record HasFailed (o : Origin) (done : List TraceSecond) (s : TraceSecond) (at : Phase) (waits : List Visit) (speed : Option ℕ) (rest : List Minute) (v : Values) (d e : Devices) (w : RecordInSecond o done s at waits speed rest v d) : Type 0 where
+pub record HasFailed (o : Origin) (done : List TraceSecond) (s : TraceSecond) (at : Phase) (waits : List Visit)
+    (speed : Option ℕ) (rest : List Minute) (v : Values) (d e : Devices)
+    (w : RecordInSecond o done s at waits speed rest v d) : Type 0 where
   pub goes : GoesOnSo o v.cabin.cards d e
   pub breakdowns : IsMore (breakdowns_of d) (breakdowns_of e)
   pub broke : RoseBy 1 (w.b.broken Recorder) (breakdowns_of e Recorder)
@@ -357,16 +437,23 @@ pub record HasFailed (o : Origin) (done : List TraceSecond) (s : TraceSecond) (a
   pub due_late : due ≤ s.number / 60
   pub low : w.from ≤ s.number / 60
   pub standing : Card → Standing
-  pub powerless : DevicesUnpowered o.found (carried v due (broken_at (lost_minute o w.b done w.new lost) (kept_all w.new w.b.run.book)) standing w.brought) e
-  pub travels : HasTravelled (odometer_at o.recording.unit) (broken_at (lost_minute o w.b done w.new lost) (kept_all w.new w.b.run.book)) (stranded_at lost (all_travelled w.ds w.b.travel)) e.unit
+  pub powerless : DevicesUnpowered o.found
+      (carried v due (broken_at (lost_minute o w.b done w.new lost) (kept_all w.new w.b.run.book)) standing w.brought) e
+  pub travels : HasTravelled (odometer_at o.recording.unit)
+      (broken_at (lost_minute o w.b done w.new lost) (kept_all w.new w.b.run.book))
+      (stranded_at lost (all_travelled w.ds w.b.travel)) e.unit
 
 abbrev pub AFailureIsRecorded : (d e : Devices) → Type 0
-AFailureIsRecorded d e = (o : Origin) (done : List TraceSecond) (s : TraceSecond) (at : Phase) (waits : List Visit) (speed : Option ℕ) (rest : List Minute) (v : Values) → (w : RecordInSecond o done s at waits speed rest v d) →
+AFailureIsRecorded d e = (o : Origin) (done : List TraceSecond) (s : TraceSecond) (at : Phase) (waits : List Visit)
+    (speed : Option ℕ) (rest : List Minute) (v : Values) → (w : RecordInSecond o done s at waits speed rest v d) →
     HasFailed o done s at waits speed rest v d e w → RecordAtFailure o done s at waits speed v e
 
 -- A PLACE is told of: its note is a call of its own.
 abbrev pub APlaceIsRecorded : Devices → Type 0
-APlaceIsRecorded d = (o : Origin) (done : List TraceSecond) (s : TraceSecond) (v : Values) (front : List Action) (slot : Slot) (ending : Bool) (country region : ℕ) (rest : List Action) →
+APlaceIsRecorded d = (o : Origin) (done : List TraceSecond) (s : TraceSecond) (v : Values) (front : List Action)
+    (slot : Slot) (ending : Bool) (country region : ℕ) (rest : List Action) →
     s.actions ≡ front ++ Place slot ending country region ∷ rest →
-    (w : RecordInSecond o done s (In (length front)) [] None [] v d) → refusal (course_in w.b done s (In (length front)) v.log).slots s.speed (Place slot ending country region) ≡ None →
+    (w : RecordInSecond o done s (In (length front)) [] None [] v d)
+    → refusal (course_in w.b done s (In (length front)) v.log).slots s.speed (Place slot ending country region)
+    ≡ None →
     SecondGoesOn o done s (In (suc (length front))) [] None [] v d w.b w.from

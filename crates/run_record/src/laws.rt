@@ -1,11 +1,14 @@
 ghost use Rattle.run_promise.specs.Between.{devices};
-ghost use Rattle.run_record.specs.Within.{ACutIsRecorded, TheSecondIsOver, ASecondBegins, AMinuteIsOver, ASecondIsFed, ARefusalIsRecorded, ASelectionIsRecorded, AnEntryByHandIsRecorded, APlaceIsRecorded, ACallIsRecorded, AFailureIsRecorded};
+ghost use Rattle.run_record.specs.Within.{ACutIsRecorded, TheSecondIsOver, ASecondBegins, AMinuteIsOver, ASecondIsFed};
+ghost use Rattle.run_record.specs.Within.{ARefusalIsRecorded, ASelectionIsRecorded, AnEntryByHandIsRecorded};
+ghost use Rattle.run_record.specs.Within.{APlaceIsRecorded, ACallIsRecorded, AFailureIsRecorded};
 ghost use Rattle.run_record.specs.Judging.{ACardIsJudged, AJudgingFails, AWaitingCardIsTorn, ATearingFails};
 ghost use Rattle.run_record.specs.Losing.{ACardIsLost, ALosingFails};
 ghost use Rattle.run_record.specs.Powering.{PowerIsBack, AMendingFails, AReadingFails};
 ghost use Rattle.run_record.specs.Waking.{PowerWakes};
 ghost use Rattle.run_record.specs.Turning.{ATurnIsFed};
-ghost use Rattle.run_record.specs.Going.{DarkSecondsStayRecorded, AnOffLineStaysRecorded, AnOffCutStaysRecorded, QuietSecondsStayRecorded, ARunBegins};
+ghost use Rattle.run_record.specs.Going.{DarkSecondsStayRecorded, AnOffLineStaysRecorded, AnOffCutStaysRecorded};
+ghost use Rattle.run_record.specs.Going.{QuietSecondsStayRecorded, ARunBegins};
 
 use tach_media::{Chip, Medium};
 
@@ -58,7 +61,8 @@ pub fn a_call_is_recorded<M: Medium, C: Chip, D: Chip, N: Medium, E: Chip, F: Ch
     card_a: &E,
     card_b: &F,
 )
-    ensures { ACallIsRecorded (devices (M.state old_unit.now) (C.state old_a.now) (D.state old_b.now)) (devices (N.state unit.now) (E.state card_a.now) (F.state card_b.now)) }
+    ensures { ACallIsRecorded (devices (M.state old_unit.now) (C.state old_a.now) (D.state old_b.now))
+        (devices (N.state unit.now) (E.state card_a.now) (F.state card_b.now)) }
 {}
 
 /// A call fails on the unit.
@@ -70,7 +74,8 @@ pub fn a_failure_is_recorded<M: Medium, C: Chip, D: Chip, N: Medium, E: Chip, F:
     card_a: &E,
     card_b: &F,
 )
-    ensures { AFailureIsRecorded (devices (M.state old_unit.now) (C.state old_a.now) (D.state old_b.now)) (devices (N.state unit.now) (E.state card_a.now) (F.state card_b.now)) }
+    ensures { AFailureIsRecorded (devices (M.state old_unit.now) (C.state old_a.now) (D.state old_b.now))
+        (devices (N.state unit.now) (E.state card_a.now) (F.state card_b.now)) }
 {}
 
 /// A place is told of.
@@ -87,7 +92,8 @@ pub fn a_card_is_judged<M: Medium, C: Chip, D: Chip, N: Medium, E: Chip, F: Chip
     card_a: &E,
     card_b: &F,
 )
-    ensures { ACardIsJudged (devices (M.state old_unit.now) (C.state old_a.now) (D.state old_b.now)) (devices (N.state unit.now) (E.state card_a.now) (F.state card_b.now)) }
+    ensures { ACardIsJudged (devices (M.state old_unit.now) (C.state old_a.now) (D.state old_b.now))
+        (devices (N.state unit.now) (E.state card_a.now) (F.state card_b.now)) }
 {}
 
 /// The unit failed behind that: power is about to be cut.
@@ -99,7 +105,8 @@ pub fn a_judging_fails<M: Medium, C: Chip, D: Chip, N: Medium, E: Chip, F: Chip>
     card_a: &E,
     card_b: &F,
 )
-    ensures { AJudgingFails (devices (M.state old_unit.now) (C.state old_a.now) (D.state old_b.now)) (devices (N.state unit.now) (E.state card_a.now) (F.state card_b.now)) }
+    ensures { AJudgingFails (devices (M.state old_unit.now) (C.state old_a.now) (D.state old_b.now))
+        (devices (N.state unit.now) (E.state card_a.now) (F.state card_b.now)) }
 {}
 
 /// A card that waits is torn out before it is judged.
@@ -111,7 +118,8 @@ pub fn a_waiting_card_is_torn<M: Medium, C: Chip, D: Chip, N: Medium, E: Chip, F
     card_a: &E,
     card_b: &F,
 )
-    ensures { AWaitingCardIsTorn (devices (M.state old_unit.now) (C.state old_a.now) (D.state old_b.now)) (devices (N.state unit.now) (E.state card_a.now) (F.state card_b.now)) }
+    ensures { AWaitingCardIsTorn (devices (M.state old_unit.now) (C.state old_a.now) (D.state old_b.now))
+        (devices (N.state unit.now) (E.state card_a.now) (F.state card_b.now)) }
 {}
 
 /// The unit failed behind that: power is about to be cut.
@@ -123,7 +131,8 @@ pub fn a_tearing_fails<M: Medium, C: Chip, D: Chip, N: Medium, E: Chip, F: Chip>
     card_a: &E,
     card_b: &F,
 )
-    ensures { ATearingFails (devices (M.state old_unit.now) (C.state old_a.now) (D.state old_b.now)) (devices (N.state unit.now) (E.state card_a.now) (F.state card_b.now)) }
+    ensures { ATearingFails (devices (M.state old_unit.now) (C.state old_a.now) (D.state old_b.now))
+        (devices (N.state unit.now) (E.state card_a.now) (F.state card_b.now)) }
 {}
 
 /// A card that waits is accepted and torn out in one call.
@@ -135,7 +144,8 @@ pub fn a_card_is_lost<M: Medium, C: Chip, D: Chip, N: Medium, E: Chip, F: Chip>(
     card_a: &E,
     card_b: &F,
 )
-    ensures { ACardIsLost (devices (M.state old_unit.now) (C.state old_a.now) (D.state old_b.now)) (devices (N.state unit.now) (E.state card_a.now) (F.state card_b.now)) }
+    ensures { ACardIsLost (devices (M.state old_unit.now) (C.state old_a.now) (D.state old_b.now))
+        (devices (N.state unit.now) (E.state card_a.now) (F.state card_b.now)) }
 {}
 
 /// The unit failed behind that: power is about to be cut.
@@ -147,7 +157,8 @@ pub fn a_losing_fails<M: Medium, C: Chip, D: Chip, N: Medium, E: Chip, F: Chip>(
     card_a: &E,
     card_b: &F,
 )
-    ensures { ALosingFails (devices (M.state old_unit.now) (C.state old_a.now) (D.state old_b.now)) (devices (N.state unit.now) (E.state card_a.now) (F.state card_b.now)) }
+    ensures { ALosingFails (devices (M.state old_unit.now) (C.state old_a.now) (D.state old_b.now))
+        (devices (N.state unit.now) (E.state card_a.now) (F.state card_b.now)) }
 {}
 
 /// The unit was read and mended: the second begins with power.
@@ -159,7 +170,8 @@ pub fn power_is_back<M: Medium, C: Chip, D: Chip, N: Medium, E: Chip, F: Chip>(
     card_a: &E,
     card_b: &F,
 )
-    ensures { PowerIsBack (devices (M.state old_unit.now) (C.state old_a.now) (D.state old_b.now)) (devices (N.state unit.now) (E.state card_a.now) (F.state card_b.now)) }
+    ensures { PowerIsBack (devices (M.state old_unit.now) (C.state old_a.now) (D.state old_b.now))
+        (devices (N.state unit.now) (E.state card_a.now) (F.state card_b.now)) }
 {}
 
 /// The unit was read, and its mending failed: power is about to be cut.
@@ -171,7 +183,8 @@ pub fn a_mending_fails<M: Medium, C: Chip, D: Chip, N: Medium, E: Chip, F: Chip>
     card_a: &E,
     card_b: &F,
 )
-    ensures { AMendingFails (devices (M.state old_unit.now) (C.state old_a.now) (D.state old_b.now)) (devices (N.state unit.now) (E.state card_a.now) (F.state card_b.now)) }
+    ensures { AMendingFails (devices (M.state old_unit.now) (C.state old_a.now) (D.state old_b.now))
+        (devices (N.state unit.now) (E.state card_a.now) (F.state card_b.now)) }
 {}
 
 /// The unit was not read, since a call failed: behind the second all is recorded.
@@ -183,7 +196,8 @@ pub fn a_reading_fails<M: Medium, C: Chip, D: Chip, N: Medium, E: Chip, F: Chip>
     card_a: &E,
     card_b: &F,
 )
-    ensures { AReadingFails (devices (M.state old_unit.now) (C.state old_a.now) (D.state old_b.now)) (devices (N.state unit.now) (E.state card_a.now) (F.state card_b.now)) }
+    ensures { AReadingFails (devices (M.state old_unit.now) (C.state old_a.now) (D.state old_b.now))
+        (devices (N.state unit.now) (E.state card_a.now) (F.state card_b.now)) }
 {}
 
 /// At the power-on that the second begins with, each card in a slot may be judged.
@@ -195,7 +209,8 @@ pub fn power_wakes<M: Medium, C: Chip, D: Chip, N: Medium, E: Chip, F: Chip>(
     card_a: &E,
     card_b: &F,
 )
-    ensures { PowerWakes (devices (M.state old_unit.now) (C.state old_a.now) (D.state old_b.now)) (devices (N.state unit.now) (E.state card_a.now) (F.state card_b.now)) }
+    ensures { PowerWakes (devices (M.state old_unit.now) (C.state old_a.now) (D.state old_b.now))
+        (devices (N.state unit.now) (E.state card_a.now) (F.state card_b.now)) }
 {}
 
 /// Seconds after a failed call, up to the minute's end: the record goes on.

@@ -1,4 +1,5 @@
-//! What the recorder with cards carries from call to call (profile): definitions (specs/), and laws that its loop cites.
+//! What the recorder with cards carries from call to call (profile): definitions (specs/), and laws that its loop
+//! cites.
 #![tactic(auto)]
 
 mod laws;

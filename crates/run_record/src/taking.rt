@@ -1,6 +1,8 @@
 //! Cards are put into their slots and leave them.
 ghost use Rattle.run_promise.specs.Between.{devices};
-ghost use Rattle.run_record.specs.Taking.{ACardIsPutIn, AnEnteredCardIsNext, ACardLeaves, ASessionIsClosed, AClosingFails, ALeavingCardIsTorn, ALeavingTearFails, ACardIsPulledOut, ASeatedCardIsTorn, ASeatedTearFails};
+ghost use Rattle.run_record.specs.Taking.{ACardIsPutIn, AnEnteredCardIsNext, ACardLeaves, ASessionIsClosed};
+ghost use Rattle.run_record.specs.Taking.{AClosingFails, ALeavingCardIsTorn, ALeavingTearFails, ACardIsPulledOut};
+ghost use Rattle.run_record.specs.Taking.{ASeatedCardIsTorn, ASeatedTearFails};
 
 use tach_media::{Chip, Medium};
 
@@ -18,7 +20,8 @@ pub fn an_entered_card_is_next<M: Medium, C: Chip, D: Chip, N: Medium, E: Chip, 
     card_a: &E,
     card_b: &F,
 )
-    ensures { AnEnteredCardIsNext (devices (M.state old_unit.now) (C.state old_a.now) (D.state old_b.now)) (devices (N.state unit.now) (E.state card_a.now) (F.state card_b.now)) }
+    ensures { AnEnteredCardIsNext (devices (M.state old_unit.now) (C.state old_a.now) (D.state old_b.now))
+        (devices (N.state unit.now) (E.state card_a.now) (F.state card_b.now)) }
 {}
 
 /// The card of a slot leaves it, to be withdrawn: the minutes before this one are to be kept.
@@ -35,7 +38,8 @@ pub fn a_session_is_closed<M: Medium, C: Chip, D: Chip, N: Medium, E: Chip, F: C
     card_a: &E,
     card_b: &F,
 )
-    ensures { ASessionIsClosed (devices (M.state old_unit.now) (C.state old_a.now) (D.state old_b.now)) (devices (N.state unit.now) (E.state card_a.now) (F.state card_b.now)) }
+    ensures { ASessionIsClosed (devices (M.state old_unit.now) (C.state old_a.now) (D.state old_b.now))
+        (devices (N.state unit.now) (E.state card_a.now) (F.state card_b.now)) }
 {}
 
 /// The unit failed behind that: power is about to be cut.
@@ -47,7 +51,8 @@ pub fn a_closing_fails<M: Medium, C: Chip, D: Chip, N: Medium, E: Chip, F: Chip>
     card_a: &E,
     card_b: &F,
 )
-    ensures { AClosingFails (devices (M.state old_unit.now) (C.state old_a.now) (D.state old_b.now)) (devices (N.state unit.now) (E.state card_a.now) (F.state card_b.now)) }
+    ensures { AClosingFails (devices (M.state old_unit.now) (C.state old_a.now) (D.state old_b.now))
+        (devices (N.state unit.now) (E.state card_a.now) (F.state card_b.now)) }
 {}
 
 /// The card failed as its session was closed.
@@ -59,7 +64,8 @@ pub fn a_leaving_card_is_torn<M: Medium, C: Chip, D: Chip, N: Medium, E: Chip, F
     card_a: &E,
     card_b: &F,
 )
-    ensures { ALeavingCardIsTorn (devices (M.state old_unit.now) (C.state old_a.now) (D.state old_b.now)) (devices (N.state unit.now) (E.state card_a.now) (F.state card_b.now)) }
+    ensures { ALeavingCardIsTorn (devices (M.state old_unit.now) (C.state old_a.now) (D.state old_b.now))
+        (devices (N.state unit.now) (E.state card_a.now) (F.state card_b.now)) }
 {}
 
 /// The unit failed behind that: power is about to be cut.
@@ -71,7 +77,8 @@ pub fn a_leaving_tear_fails<M: Medium, C: Chip, D: Chip, N: Medium, E: Chip, F: 
     card_a: &E,
     card_b: &F,
 )
-    ensures { ALeavingTearFails (devices (M.state old_unit.now) (C.state old_a.now) (D.state old_b.now)) (devices (N.state unit.now) (E.state card_a.now) (F.state card_b.now)) }
+    ensures { ALeavingTearFails (devices (M.state old_unit.now) (C.state old_a.now) (D.state old_b.now))
+        (devices (N.state unit.now) (E.state card_a.now) (F.state card_b.now)) }
 {}
 
 /// A card is pulled out of its slot, without a write.
@@ -88,7 +95,8 @@ pub fn a_seated_card_is_torn<M: Medium, C: Chip, D: Chip, N: Medium, E: Chip, F:
     card_a: &E,
     card_b: &F,
 )
-    ensures { ASeatedCardIsTorn (devices (M.state old_unit.now) (C.state old_a.now) (D.state old_b.now)) (devices (N.state unit.now) (E.state card_a.now) (F.state card_b.now)) }
+    ensures { ASeatedCardIsTorn (devices (M.state old_unit.now) (C.state old_a.now) (D.state old_b.now))
+        (devices (N.state unit.now) (E.state card_a.now) (F.state card_b.now)) }
 {}
 
 /// The unit failed behind that: power is about to be cut.
@@ -100,5 +108,6 @@ pub fn a_seated_tear_fails<M: Medium, C: Chip, D: Chip, N: Medium, E: Chip, F: C
     card_a: &E,
     card_b: &F,
 )
-    ensures { ASeatedTearFails (devices (M.state old_unit.now) (C.state old_a.now) (D.state old_b.now)) (devices (N.state unit.now) (E.state card_a.now) (F.state card_b.now)) }
+    ensures { ASeatedTearFails (devices (M.state old_unit.now) (C.state old_a.now) (D.state old_b.now))
+        (devices (N.state unit.now) (E.state card_a.now) (F.state card_b.now)) }
 {}

@@ -2,8 +2,8 @@
 use Rattle.std.specs.Prelude.{◌≡◌, ◌⊎◌, ℕ, ◌+◌, ◌≤◌, List, [], ◌++◌, length}
 use Rattle.gated_ring.specs.Ring.{Shape, PointsInside, ring_list, IsDense}
 
--- A RING CARRIES what it showed at the start and these entries behind it: only where it is full, or lacks one entry, are some gone at its
--- old end. It is dense, so the next one takes the place of the oldest.
+-- A RING CARRIES what it showed at the start and these entries behind it: only where it is full, or lacks one entry,
+-- are some gone at its old end. It is dense, so the next one takes the place of the oldest.
 pub record RingKeeps (r : Shape) (start x : List ℕ) (more : List (List ℕ)) : Type 0 where
   pub points : PointsInside r x
   pub dense : IsDense r x

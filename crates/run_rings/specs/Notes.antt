@@ -1,5 +1,6 @@
 -- What a second notes in the rings up to some of its actions, by its log so far (profile).
-use Rattle.std.specs.Prelude.{◌≡◌, ℕ, ◌+◌, ◌<◌, ◌≤◌, Bool, true, false, ◌&&◌, nat_lt, is_some, Option, Some, None, List, [], ◌∷◌, ◌++◌, map, filter, length, if◌then◌else◌}
+use Rattle.std.specs.Prelude.{◌≡◌, ℕ, ◌+◌, ◌<◌, ◌≤◌, Bool, true, false, ◌&&◌, nat_lt, is_some, Option, Some, None, List}
+use Rattle.std.specs.Prelude.{[], ◌∷◌, ◌++◌, map, filter, length, if◌then◌else◌}
 use Rattle.activity_codec.specs.declared.values.Pick.{Pick}
 use Rattle.activity_codec.specs.declared.values.Slot.{Slot}
 use Rattle.activity_codec.specs.declared.values.Slot.TheVariants.{Driver, CoDriver}
@@ -22,24 +23,30 @@ accepted_in u p found =
     (filter (λ (f : Visit × Verdict). same_phase f.0.phase p && is_accepting f.1) found)
 
 -- an action that was carried out notes so; one that was refused notes nothing
-abbrev pub noted_if : Option SlotFault → RunLog → (second : ℕ) → CarriedOut → (found : List (Visit × Verdict)) → List Note
+abbrev pub noted_if : Option SlotFault → RunLog → (second : ℕ) → CarriedOut → (found : List (Visit × Verdict))
+    → List Note
 noted_if (Some fault) log u a found = []
 noted_if None log u a found = noted_by log u a a.action ++ accepted_in u (In (a.before + 1)) found
 
 -- what one action notes that has begun, with n before it
 abbrev pub action_notes : RunLog → TraceSecond → (n : ℕ) → Action → Course → List Note
 action_notes log s n a c =
-    noted_if (refusal c.slots s.speed a) log s.number (record { before = n; action = a; slots = c.slots; after = (acted log s n a c).slots }) (acted log s n a c).found
+    noted_if (refusal c.slots s.speed a) log s.number
+    (record { before = n; action = a; slots = c.slots; after = (acted log s n a c).slots })
+    (acted log s n a c).found
 
 -- what these note, one after another
 abbrev pub notes_from : RunLog → TraceSecond → (n : ℕ) → List Action → Course → List Note
 notes_from log s n [] c = []
 notes_from log s n (a ∷ actions) c =
-    (if begins (cut_in log s.number) n then action_notes log s n a c else []) ++ notes_from log s (n + 1) actions (acted log s n a c)
+    (if begins (cut_in log s.number) n then action_notes log s n a c else [])
+    ++ notes_from log s (n + 1) actions (acted log s n a c)
 
--- THE NOTES of a second with power, up to these of its actions: the cards that its power-on accepted, and what they note
+-- THE NOTES of a second with power, up to these of its actions: the cards that its power-on accepted, and what they
+-- note
 abbrev pub notes_to : RunLog → Before → TraceSecond → (front : List Action) → List Note
-notes_to log before s front = accepted_in s.number (In 0) (course_powered log before s).found ++ notes_from log s 0 front (course_powered log before s)
+notes_to log before s front = accepted_in s.number (In 0) (course_powered log before s).found
+    ++ notes_from log s 0 front (course_powered log before s)
 
 -- TWO LOGS TELL THE SAME of a second up to a moment, behind so many of its actions, and no cut before it
 pub record TellSameTo (log later : RunLog) (u : ℕ) (n : ℕ) : Type 0 where
@@ -50,19 +57,23 @@ pub record TellSameTo (log later : RunLog) (u : ℕ) (n : ℕ) : Type 0 where
 
 -- LATER LINES change no note that was made.
 abbrev pub LaterLinesChangeNoNote : Type 0
-LaterLinesChangeNoNote = (log later : RunLog) (before : Before) (s : TraceSecond) (front : List Action) → TellSameTo log later s.number (length front) → notes_to later before s front ≡ notes_to log before s front
+LaterLinesChangeNoNote = (log later : RunLog) (before : Before) (s : TraceSecond) (front : List Action)
+    → TellSameTo log later s.number (length front) → notes_to later before s front ≡ notes_to log before s front
 
 -- ONE ACTION MORE, by the course behind those before it
 abbrev pub AnActionNotes : Type 0
 AnActionNotes = (log : RunLog) (before : Before) (s : TraceSecond) (front : List Action) (a : Action) →
-    notes_to log before s (front ++ a ∷ []) ≡ notes_to log before s front ++ notes_from log s (length front) (a ∷ []) (all_acted log s 0 front (course_powered log before s))
+    notes_to log before s (front ++ a ∷ []) ≡ notes_to log before s front
+    ++ notes_from log s (length front) (a ∷ []) (all_acted log s 0 front (course_powered log before s))
 
 -- THE SECOND ENDS: these are its notes, up to its cut if it has one.
 abbrev pub ASecondHasNoted : Type 0
-ASecondHasNoted = (log : RunLog) (before : Before) (s : TraceSecond) → has_power before s ≡ true → noted_in log (done_by log before s) ≡ notes_to log before s s.actions
+ASecondHasNoted = (log : RunLog) (before : Before) (s : TraceSecond) → has_power before s ≡ true
+    → noted_in log (done_by log before s) ≡ notes_to log before s s.actions
 
 abbrev pub ACutNotesNoMore : Type 0
-ACutNotesNoMore = (log : RunLog) (before : Before) (s : TraceSecond) (front rest : List Action) → cut_in log s.number ≡ Some (length front) → notes_to log before s (front ++ rest) ≡ notes_to log before s front
+ACutNotesNoMore = (log : RunLog) (before : Before) (s : TraceSecond) (front rest : List Action)
+    → cut_in log s.number ≡ Some (length front) → notes_to log before s (front ++ rest) ≡ notes_to log before s front
 
 -- ---- what each action notes
 
@@ -72,7 +83,8 @@ course_behind log before s front = all_acted log s 0 front (course_powered log b
 
 -- a card of which this was found, in this order: it is noted where it is accepted
 abbrev pub accepts_by : (second : ℕ) → Slot → Card → List Verdict → List Note
-accepts_by u slot card verdicts = map (λ (v : Verdict). Accepts (record { second = u; slot = slot; card = card })) (filter is_accepting verdicts)
+accepts_by u slot card verdicts = map (λ (v : Verdict). Accepts (record { second = u; slot = slot; card = card }))
+    (filter is_accepting verdicts)
 
 -- the card that sits in a slot, if there is one
 abbrev pub sits_accepted : (second : ℕ) → Slot → Option Sitting → List Verdict → List Note
@@ -85,39 +97,54 @@ NotesMore log before s front a more = notes_to log before s (front ++ a ∷ []) 
 
 -- A SELECTION notes nothing, nor does a card that is pulled out, nor an entry by hand, nor an action that is refused;
 abbrev pub SelectionsNoteNothing : Type 0
-SelectionsNoteNothing = (log : RunLog) (before : Before) (s : TraceSecond) (front : List Action) (slot : Slot) (pick : Pick) → NotesMore log before s front (Select slot pick) []
+SelectionsNoteNothing = (log : RunLog) (before : Before) (s : TraceSecond) (front : List Action) (slot : Slot)
+    (pick : Pick) → NotesMore log before s front (Select slot pick) []
 
 abbrev pub PullsNoteNothing : Type 0
-PullsNoteNothing = (log : RunLog) (before : Before) (s : TraceSecond) (front : List Action) (slot : Slot) → NotesMore log before s front (Tear slot) []
+PullsNoteNothing = (log : RunLog) (before : Before) (s : TraceSecond) (front : List Action) (slot : Slot)
+    → NotesMore log before s front (Tear slot) []
 
 abbrev pub EntriesByHandNoteNothing : Type 0
-EntriesByHandNoteNothing = (log : RunLog) (before : Before) (s : TraceSecond) (front : List Action) (slot : Slot) (pick : Pick) (minute : ℕ) → NotesMore log before s front (Manual slot pick minute) []
+EntriesByHandNoteNothing = (log : RunLog) (before : Before) (s : TraceSecond) (front : List Action) (slot : Slot)
+    (pick : Pick) (minute : ℕ) → NotesMore log before s front (Manual slot pick minute) []
 
 abbrev pub RefusalsNoteNothing : Type 0
-RefusalsNoteNothing = (log : RunLog) (before : Before) (s : TraceSecond) (front : List Action) (a : Action) (fault : SlotFault) → refusal (course_behind log before s front).slots s.speed a ≡ Some fault → NotesMore log before s front a []
+RefusalsNoteNothing = (log : RunLog) (before : Before) (s : TraceSecond) (front : List Action) (a : Action)
+    (fault : SlotFault) → refusal (course_behind log before s front).slots s.speed a ≡ Some fault
+    → NotesMore log before s front a []
 
 -- a place is noted of the accepted card of its slot;
 abbrev pub PlacesAreNoted : Type 0
-PlacesAreNoted = (log : RunLog) (before : Before) (s : TraceSecond) (front : List Action) → begins (cut_in log s.number) (length front) ≡ true → (slot : Slot) (ending : Bool) (country region : ℕ) (x : Sitting) →
+PlacesAreNoted = (log : RunLog) (before : Before) (s : TraceSecond) (front : List Action)
+    → begins (cut_in log s.number) (length front) ≡ true
+    → (slot : Slot) (ending : Bool) (country region : ℕ) (x : Sitting) →
     in_slot (course_behind log before s front).slots slot ≡ Some x → is_some x.accepted ≡ true →
-    NotesMore log before s front (Place slot ending country region) (Enters (record { second = s.number; card = x.card; ending = ending; country = country; region = region }) ∷ [])
+    NotesMore log before s front (Place slot ending country region)
+    (Enters (record { second = s.number; card = x.card; ending = ending; country = country; region = region }) ∷ [])
 
 -- a withdrawal of the accepted card of a slot, where it is not torn out in that;
 abbrev pub WithdrawalsAreNoted : Type 0
-WithdrawalsAreNoted = (log : RunLog) (before : Before) (s : TraceSecond) (front : List Action) → begins (cut_in log s.number) (length front) ≡ true → (slot : Slot) (x : Sitting) →
+WithdrawalsAreNoted = (log : RunLog) (before : Before) (s : TraceSecond) (front : List Action)
+    → begins (cut_in log s.number) (length front) ≡ true → (slot : Slot) (x : Sitting) →
     in_slot (course_behind log before s front).slots slot ≡ Some x → nat_lt 0 s.speed ≡ false →
     (is_torn_in log s.number (In (length front + 1)) slot ≡ true → NotesMore log before s front (Withdraw slot) [])
     × (x.accepted ≡ None → NotesMore log before s front (Withdraw slot) [])
-    × (is_torn_in log s.number (In (length front + 1)) slot ≡ false → is_some x.accepted ≡ true → NotesMore log before s front (Withdraw slot) (Withdraws (record { second = s.number; card = x.card }) ∷ []))
+    × (is_torn_in log s.number (In (length front + 1)) slot ≡ false → is_some x.accepted ≡ true
+    → NotesMore log before s front (Withdraw slot) (Withdraws (record { second = s.number; card = x.card }) ∷ []))
 
 -- and the insertion of a card that is put in, where it is accepted.
 abbrev pub InsertionsAreNoted : Type 0
-InsertionsAreNoted = (log : RunLog) (before : Before) (s : TraceSecond) (front : List Action) → begins (cut_in log s.number) (length front) ≡ true → (slot : Slot) (card : Card) →
+InsertionsAreNoted = (log : RunLog) (before : Before) (s : TraceSecond) (front : List Action)
+    → begins (cut_in log s.number) (length front) ≡ true → (slot : Slot) (card : Card) →
     refusal (course_behind log before s front).slots s.speed (Insert slot card) ≡ None →
-    NotesMore log before s front (Insert slot card) (accepts_by s.number slot card (found_in log s.number (In (length front + 1)) slot))
+    NotesMore log before s front (Insert slot card)
+    (accepts_by s.number slot card (found_in log s.number (In (length front + 1)) slot))
 
--- AT A POWER-ON the cards in the slots are noted that are accepted; in no other second is anything noted before its actions.
+-- AT A POWER-ON the cards in the slots are noted that are accepted; in no other second is anything noted before its
+-- actions.
 abbrev pub PowerOnsAreNoted : Type 0
 PowerOnsAreNoted = (log : RunLog) (before : Before) (s : TraceSecond) →
-    (before.running ≡ false → notes_to log before s [] ≡ sits_accepted s.number Driver before.slots.driver (found_in log s.number (In 0) Driver) ++ sits_accepted s.number CoDriver before.slots.codriver (found_in log s.number (In 0) CoDriver))
+    (before.running ≡ false → notes_to log before s []
+    ≡ sits_accepted s.number Driver before.slots.driver (found_in log s.number (In 0) Driver)
+    ++ sits_accepted s.number CoDriver before.slots.codriver (found_in log s.number (In 0) CoDriver))
     × (before.running ≡ true → notes_to log before s [] ≡ [])

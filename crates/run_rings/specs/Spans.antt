@@ -15,15 +15,18 @@ go_on_from (s ∷ next ∷ spans) base t = s ∷ go_on_from (next ∷ spans) bas
 
 -- one second more: a new span where power begins with it, at this odometer
 abbrev pub with_second : List SpanFrom → (base : ℕ) → ToldSecond → List SpanFrom
-with_second spans base t = if t.lit then (if t.starts then spans ++ record { base = base; span = t ∷ [] } ∷ [] else go_on_from spans base t) else spans
+with_second spans base t = if t.lit
+    then (if t.starts then spans ++ record { base = base; span = t ∷ [] } ∷ [] else go_on_from spans base t) else spans
 
 -- THEY ARE THE POWER SPANS of the seconds.
 abbrev pub TheyAreTheSpans : Type 0
-TheyAreTheSpans = (spans : List SpanFrom) (base : ℕ) (t : ToldSecond) → map (λ (s : SpanFrom). s.span) (with_second spans base t) ≡ spans_with (map (λ (s : SpanFrom). s.span) spans) t
+TheyAreTheSpans = (spans : List SpanFrom) (base : ℕ) (t : ToldSecond)
+    → map (λ (s : SpanFrom). s.span) (with_second spans base t) ≡ spans_with (map (λ (s : SpanFrom). s.span) spans) t
 
 -- ODOMETERS STAY, those before a later second;
 abbrev pub EarlierOdometersStay : Type 0
-EarlierOdometersStay = (spans : List SpanFrom) (base : ℕ) (t : ToldSecond) (u : ℕ) → u < t.second.number → odometer_at u (with_second spans base t) ≡ odometer_at u spans
+EarlierOdometersStay = (spans : List SpanFrom) (base : ℕ) (t : ToldSecond) (u : ℕ) → u < t.second.number
+    → odometer_at u (with_second spans base t) ≡ odometer_at u spans
 
 -- and all of them, whatever is told of a second more: its number and its speed count, and whether power began with it.
 pub record AreAlike (t x : ToldSecond) : Type 0 where
@@ -33,7 +36,8 @@ pub record AreAlike (t x : ToldSecond) : Type 0 where
   pub starts : x.starts ≡ t.starts
 
 abbrev pub AlikeSecondsCountAlike : Type 0
-AlikeSecondsCountAlike = (spans : List SpanFrom) (base : ℕ) (t x : ToldSecond) → AreAlike t x → (u : ℕ) → odometer_at u (with_second spans base x) ≡ odometer_at u (with_second spans base t)
+AlikeSecondsCountAlike = (spans : List SpanFrom) (base : ℕ) (t x : ToldSecond) → AreAlike t x → (u : ℕ)
+    → odometer_at u (with_second spans base x) ≡ odometer_at u (with_second spans base t)
 
 -- these seconds, and all of these spans, come before a second
 abbrev pub AreBefore : ℕ → List Second → Type 0
@@ -42,11 +46,14 @@ AreBefore u seconds = AllByRecursion (λ (s : Second). s.number < u) seconds
 abbrev pub AreAllBefore : ℕ → List SpanFrom → Type 0
 AreAllBefore u spans = AllByRecursion (λ (s : SpanFrom). AreBefore u (seconds_in s.span)) spans
 
--- THE ODOMETER OF NOW, in a second with power: that of the span that goes on, and what was travelled in it; or that with which a span begins.
+-- THE ODOMETER OF NOW, in a second with power: that of the span that goes on, and what was travelled in it; or that
+-- with which a span begins.
 abbrev pub odometer_on : (base : ℕ) → List Second → ℕ
 odometer_on base seconds = min HIGHEST_ODOMETER (base + sum_by (λ (s : Second). s.speed) seconds / 3600)
 
 abbrev pub TheOdometerOfNow : Type 0
-TheOdometerOfNow = (spans : List SpanFrom) (base : ℕ) (t : ToldSecond) → t.lit ≡ true → AreAllBefore t.second.number spans →
+TheOdometerOfNow = (spans : List SpanFrom) (base : ℕ) (t : ToldSecond) → t.lit ≡ true
+    → AreAllBefore t.second.number spans →
     (t.starts ≡ true → odometer_at t.second.number (with_second spans base t) ≡ odometer_on base [])
-    × ((earlier : List SpanFrom) (s : SpanFrom) → t.starts ≡ false → spans ≡ earlier ++ s ∷ [] → odometer_at t.second.number (with_second spans base t) ≡ odometer_on s.base (seconds_in s.span))
+    × ((earlier : List SpanFrom) (s : SpanFrom) → t.starts ≡ false → spans ≡ earlier ++ s ∷ []
+    → odometer_at t.second.number (with_second spans base t) ≡ odometer_on s.base (seconds_in s.span))

@@ -1,4 +1,5 @@
--- What a unit carries of the blocks of detailed speed of a run (profile): in each image that a stop might have left of it.
+-- What a unit carries of the blocks of detailed speed of a run (profile): in each image that a stop might have left of
+-- it.
 use Rattle.std.specs.Prelude.{◌≡◌, ◌⊎◌, ℕ, ◌≤◌, Bool, true, false, Option, IfSome, is_some, option_to_list, List, ◌++◌}
 use Rattle.std.specs.List.{AllByRecursion}
 use Rattle.card_layout.specs.Images.{bytes_at}
@@ -19,8 +20,8 @@ abbrev pub HasSpeedRing : List ℕ → Type 0
 HasSpeedRing x = PointsInside speed_ring x × IsDense speed_ring x
 
 module _ (is_sure : Block → Bool) (start : List ℕ) where
-  -- AN IMAGE CARRIES THESE BLOCKS behind those of the start, but for some that are not sure; blocks are gone only at the old end of a ring
-  -- that is full, or lacks one
+  -- AN IMAGE CARRIES THESE BLOCKS behind those of the start, but for some that are not sure; blocks are gone only at
+  -- the old end of a ring that is full, or lacks one
   pub record CarriesBlocks (blocks : List Block) (x : List ℕ) : Type 0 where
     pub more : List (List ℕ)
     pub stand : Stand is_sure IsBlock blocks more
@@ -37,8 +38,8 @@ module _ (is_sure : Block → Bool) (start : List ℕ) where
   abbrev pub AreSure : List Block → Type 0
   AreSure blocks = AllByRecursion (λ b. is_sure b ≡ true) blocks
 
-  -- A UNIT CARRIES THE BLOCKS OF A RUN so far: each image that a stop might have left since it began carries the first of them, each that it
-  -- may leave now all of them; and where each is sure, that is the newest 1440.
+  -- A UNIT CARRIES THE BLOCKS OF A RUN so far: each image that a stop might have left since it began carries the first
+  -- of them, each that it may leave now all of them; and where each is sure, that is the newest 1440.
   pub record HasSpeeds (began : ℕ) (blocks : List Block) (unit : State) : Type 0 where
     pub later : began ≤ unit.clock
     pub since : (x : List ℕ) → unit.left_since began x → CarriesSome blocks x
@@ -51,17 +52,20 @@ module _ (is_sure : Block → Bool) (start : List ℕ) where
 abbrev pub HasSameSpeeds : (x c : List ℕ) → Type 0
 HasSameSpeeds x c = bytes_at c speed_ring.base (size_of speed_ring) ≡ bytes_at x speed_ring.base (size_of speed_ring)
 
--- CALLS LEAVE THE RING as it is, at each moment: each image that a stop may leave behind them, or might have left since an earlier time, was left
--- before, or has the ring of one that might be left then
+-- CALLS LEAVE THE RING as it is, at each moment: each image that a stop may leave behind them, or might have left since
+-- an earlier time, was left before, or has the ring of one that might be left then
 pub record LeavesSpeeds (old new : State) : Type 0 where
   pub later : old.clock ≤ new.clock
   pub now : (c : List ℕ) → new.may_leave c → (x : List ℕ) × old.may_leave x × HasSameSpeeds x c
-  pub since : (t : ℕ) (c : List ℕ) → t ≤ old.clock → new.left_since t c → old.left_since t c ⊎ ((x : List ℕ) × old.may_leave x × HasSameSpeeds x c)
+  pub since : (t : ℕ) (c : List ℕ) → t ≤ old.clock → new.left_since t c
+      → old.left_since t c ⊎ ((x : List ℕ) × old.may_leave x × HasSameSpeeds x c)
 
 -- ---- a block more
 
--- CALLS CARRY A BLOCK, if there is one, behind all that the unit carries; where one of them failed, a block that is not sure
+-- CALLS CARRY A BLOCK, if there is one, behind all that the unit carries; where one of them failed, a block that is not
+-- sure
 pub record CarriesBlock (block : Option Block) (failed : Bool) (old new : State) : Type 0 where
   pub later : old.clock ≤ new.clock
-  pub carries : is_some old.image ≡ true → (is_sure : Block → Bool) (start : List ℕ) (began : ℕ) (blocks : List Block) → (failed ≡ true → IfSome block (λ b. is_sure b ≡ false)) →
+  pub carries : is_some old.image ≡ true → (is_sure : Block → Bool) (start : List ℕ) (began : ℕ) (blocks : List Block)
+      → (failed ≡ true → IfSome block (λ b. is_sure b ≡ false)) →
       HasSpeeds is_sure start began blocks old → HasSpeeds is_sure start began (blocks ++ option_to_list block) new

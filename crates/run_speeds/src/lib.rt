@@ -1,5 +1,5 @@
-//! What the ring of detailed speed carries of a run (profile), as definitions and laws: over the calls that add a block, whether they fail
-//! or not, and over all other calls.
+//! What the ring of detailed speed carries of a run (profile), as definitions and laws: over the calls that add a
+//! block, whether they fail or not, and over all other calls.
 #![tactic(auto)]
 
 mod laws;

@@ -1,5 +1,6 @@
 -- What is known of a run of a unit alone between two turns: how its book follows the history (profile).
-use Rattle.std.specs.Prelude.{◌≡◌, ◌⊎◌, ℕ, ◌+◌, ◌-◌, ◌%◌, ◌/◌, ◌<◌, ◌≤◌, true, false, nat_lt, Some, None, List, [], ◌∷◌, ◌++◌, length, take, map}
+use Rattle.std.specs.Prelude.{◌≡◌, ◌⊎◌, ℕ, ◌+◌, ◌-◌, ◌%◌, ◌/◌, ◌<◌, ◌≤◌, true, false, nat_lt, Some, None, List, [], ◌∷◌}
+use Rattle.std.specs.Prelude.{◌++◌, length, take, map}
 use Rattle.std.specs.List.{AllByRecursion}
 use Rattle.trace_model.specs.declared.Action.{Action}
 use Rattle.trace_model.specs.Trace.{TraceSecond}
@@ -18,15 +19,16 @@ use Rattle.run_unit_course.specs.Turn.{IsSelection, empty_slots, ArePlain}
 use Rattle.run_unit_course.specs.Keeping.{plain}
 use Rattle.run_unit_course.specs.Lines.{log_of, IsCutBefore, tells_cut}
 
--- whether the unit has power: with the seconds of the span so far, none where it begins with the next second; or none, but from
--- the next second on that the trace gives it power; or none, since a call failed, before the next minute or an `off` line
+-- whether the unit has power: with the seconds of the span so far, none where it begins with the next second; or none,
+-- but from the next second on that the trace gives it power; or none, since a call failed, before the next minute or an
+-- `off` line
 pub data UnitPower : Type 0 where
   Lit : List ToldSecond → UnitPower
   Due : UnitPower
   Lost : UnitPower
 
--- how far a run has gone: its breaks, from which index on it is not known what was kept, the number of the next second, how many
--- actions the last one had, the power, the book, and the decided minutes whose keeping has not begun
+-- how far a run has gone: its breaks, from which index on it is not known what was kept, the number of the next second,
+-- how many actions the last one had, the power, the book, and the decided minutes whose keeping has not begun
 pub record Progress : Type 0 where
   pub breaks : List Break
   pub unfound : ℕ
@@ -119,25 +121,31 @@ cuts_from Lost next = next
 
 -- a span that has ended decided nothing, or these breaks tell of its cut
 abbrev pub IsKnown : Rule → List Break → List ToldSecond → Type 0
-IsKnown rule found span = (decided_of rule span ≡ []) ⊎ ((u : ℕ) × (cut_second (last span) ≡ Some u) × (tells_cut u found ≡ true))
+IsKnown rule found span = (decided_of rule span ≡ [])
+    ⊎ ((u : ℕ) × (cut_second (last span) ≡ Some u) × (tells_cut u found ≡ true))
 
 -- the histories with a lost minute of spans all of whose cuts have their limits
 abbrev pub closed_lost : Rule → Start → RunLog → List ToldSecond → List (List ToldSecond) → List (List HistoryMinute)
 closed_lost rule start log told spans = lost_by rule start (closed_limit log) told [] spans
 
--- It is known what was kept after each cut but those of spans that decided nothing: the minutes of the spans that have ended, each
--- up to its limit, and then all decided minutes of the span that goes on, are the sure ones and those that wait.
-pub record IsShut (rule : Rule) (start : Start) (breaks found : List Break) (told : List ToldSecond) (ended : List (List ToldSecond)) (span : List ToldSecond)
+-- It is known what was kept after each cut but those of spans that decided nothing: the minutes of the spans that have
+-- ended, each up to its limit, and then all decided minutes of the span that goes on, are the sure ones and those that
+-- wait.
+pub record IsShut (rule : Rule) (start : Start) (breaks found : List Break) (told : List ToldSecond)
+    (ended : List (List ToldSecond)) (span : List ToldSecond)
     (b : Book) (waiting : List HistoryMinute) : Type 0 where
   pub known : AllByRecursion (IsKnown rule found) ended
   pub none : b.maybe ≡ None
-  pub minutes : closed_history rule start (log_of breaks) told ended ++ map plain (decided_of rule span) ≡ b.sure ++ waiting
+  pub minutes : closed_history rule start (log_of breaks) told ended ++ map plain (decided_of rule span) ≡ b.sure
+      ++ waiting
   pub begins : (rest : List HistoryMinute) × (b.sure ≡ closed_history rule start (log_of breaks) told ended ++ rest)
   pub whole : (waiting ≡ []) ⊎ (nat_lt 1 (length span) ≡ true)
   pub lost : AreLost (closed_lost rule start (log_of breaks) told ended) b
 
--- It is not known yet what was kept after the cut of the last span with more than one second; the spans behind it decided nothing.
-pub record IsOpen (rule : Rule) (start : Start) (breaks found : List Break) (told : List ToldSecond) (ended : List (List ToldSecond)) (b : Book) : Type 0 where
+-- It is not known yet what was kept after the cut of the last span with more than one second; the spans behind it
+-- decided nothing.
+pub record IsOpen (rule : Rule) (start : Start) (breaks found : List Break) (told : List ToldSecond)
+    (ended : List (List ToldSecond)) (b : Book) : Type 0 where
   pub front : List (List ToldSecond)
   pub span : List ToldSecond
   pub short : List (List ToldSecond)
@@ -154,18 +162,22 @@ pub record IsOpen (rule : Rule) (start : Start) (breaks found : List Break) (tol
   pub lost : AreLost (closed_lost rule start (log_of breaks) told front) b
 
 -- without power no minute waits, and the last cut is found or not
-abbrev pub IsEnded : Rule → Start → List Break → List Break → List ToldSecond → List (List ToldSecond) → Book → List HistoryMinute → Type 0
+abbrev pub IsEnded : Rule → Start → List Break → List Break → List ToldSecond → List (List ToldSecond) → Book
+    → List HistoryMinute → Type 0
 IsEnded rule start breaks found told ended b waiting =
     (waiting ≡ []) × (IsShut rule start breaks found told ended [] b [] ⊎ IsOpen rule start breaks found told ended b)
 
-abbrev pub IsTied : Rule → Start → List Break → List Break → List ToldSecond → List (List ToldSecond) → UnitPower → Book → List HistoryMinute → Type 0
-IsTied rule start breaks found told ended (Lit span) b waiting = IsShut rule start breaks found told ended span b waiting
+abbrev pub IsTied : Rule → Start → List Break → List Break → List ToldSecond → List (List ToldSecond) → UnitPower → Book
+    → List HistoryMinute → Type 0
+IsTied rule start breaks found told ended (Lit span) b waiting = IsShut rule start breaks found told ended span b
+    waiting
 IsTied rule start breaks found told ended Due b waiting = IsEnded rule start breaks found told ended b waiting
 IsTied rule start breaks found told ended Lost b waiting = IsEnded rule start breaks found told ended b waiting
 
--- The run so far is followed: `from` is the number of its first second, `first` the last-kept minute at its start, `done` its
--- seconds so far, by the trace.
-pub record BookFollowsUnitRun (rule : Rule) (start : Start) (from first : ℕ) (done : List TraceSecond) (p : Progress) : Type 0 where
+-- The run so far is followed: `from` is the number of its first second, `first` the last-kept minute at its start,
+-- `done` its seconds so far, by the trace.
+pub record BookFollowsUnitRun (rule : Rule) (start : Start) (from first : ℕ) (done : List TraceSecond)
+    (p : Progress) : Type 0 where
   pub early : first < from / 60
   pub order : AreInOrder from done
   pub next : p.next ≡ from + length done
@@ -176,6 +188,7 @@ pub record BookFollowsUnitRun (rule : Rule) (start : Start) (from first : ℕ) (
   pub last : IsLastOf p.supply p.breaks done p.begun
   pub ended : List (List ToldSecond)
   pub spans : spans_of (went (log_of p.breaks) done).told ≡ ended ++ as_spans (going_on p.supply)
-  pub tied : IsTied rule start p.breaks (take p.unfound p.breaks) (went (log_of p.breaks) done).told ended p.supply p.book p.waiting
+  pub tied : IsTied rule start p.breaks (take p.unfound p.breaks) (went (log_of p.breaks) done).told ended p.supply
+      p.book p.waiting
   pub follows : Follows (unit_history rule start (log_of p.breaks) (went (log_of p.breaks) done).told)
       (with_lost rule start (log_of p.breaks) (went (log_of p.breaks) done).told) p.book

@@ -6,7 +6,11 @@ use Rattle.history_model.specs.Book.{Book, kept, broken}
 
 -- a decided minute in which no card is present
 abbrev pub plain : Minute → HistoryMinute
-plain d = record { minute = d.minute; driver = record { act = d.driver; card = None }; codriver = record { act = d.codriver; card = None } }
+plain d = record {
+  minute = d.minute;
+  driver = record { act = d.driver; card = None };
+  codriver = record { act = d.codriver; card = None };
+}
 
 -- these minutes are kept, one after another
 abbrev pub kept_all : List Minute → Book → Book

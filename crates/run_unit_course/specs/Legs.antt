@@ -1,5 +1,6 @@
 -- What a run has travelled, in km/h times seconds: of each time that there was power, and of each power span (profile).
-use Rattle.std.specs.Prelude.{◌≡◌, ◌⊎◌, ℕ, ◌/◌, ◌≤◌, Option, Some, None, List, [], ◌∷◌, ◌++◌, All, sum_by, map, filter, find, nat_le, nat_lt, unwrap_or}
+use Rattle.std.specs.Prelude.{◌≡◌, ◌⊎◌, ℕ, ◌/◌, ◌≤◌, Option, Some, None, List, [], ◌∷◌, ◌++◌, All, sum_by, map, filter}
+use Rattle.std.specs.Prelude.{find, nat_le, nat_lt, unwrap_or}
 use Rattle.minute_model.specs.declared.Rule.{Rule}
 use Rattle.minute_model.specs.declared.Minute.{Minute}
 use Rattle.log_model.specs.Course.{ToldSecond}
@@ -11,9 +12,9 @@ pub record Reckoned : Type 0 where
   pub before : List ℕ
   pub leg : ℕ
 
--- What was travelled, in km/h times seconds: each time before power came last, up to the minute of which the odometer was found
--- then; since, up to the last-kept minute; and up to the one of which the keeping was broken off. And what the unit had at the start,
--- and up to which minutes it was reckoned since.
+-- What was travelled, in km/h times seconds: each time before power came last, up to the minute of which the odometer
+-- was found then; since, up to the last-kept minute; and up to the one of which the keeping was broken off. And what
+-- the unit had at the start, and up to which minutes it was reckoned since.
 pub record Travel : Type 0 where
   pub image : List ℕ
   pub begun : List Reckoned
@@ -61,21 +62,27 @@ travelled_by [] = 0
 travelled_by (d ∷ []) = d.travelled
 travelled_by (d ∷ e ∷ ds) = travelled_by (e ∷ ds)
 
--- a leg: what was travelled up to the last of these minutes that is not later than the last-kept one, or up to the first later
--- one, of which the keeping was broken off
+-- a leg: what was travelled up to the last of these minutes that is not later than the last-kept one, or up to the
+-- first later one, of which the keeping was broken off
 abbrev pub IsLeg : (kept : ℕ) → List Minute → ℕ → Type 0
-IsLeg k ds leg = (leg ≡ travelled_by (filter (λ d. nat_le d.minute k) ds)) ⊎ ((d : Minute) × (find (λ d. nat_lt k d.minute) ds ≡ Some d) × (leg ≡ d.travelled))
+IsLeg k ds leg = (leg ≡ travelled_by (filter (λ d. nat_le d.minute k) ds))
+    ⊎ ((d : Minute) × (find (λ d. nat_lt k d.minute) ds ≡ Some d) × (leg ≡ d.travelled))
 
 -- the legs of the spans, each by the limit of its cut, or where it has none by the last-kept minute
-abbrev pub AreLegs : Rule → (limit : List ToldSecond → List (List ToldSecond) → Option ℕ) → (kept : ℕ) → List (List ToldSecond) → List ℕ → Type 0
+abbrev pub AreLegs : Rule → (limit : List ToldSecond → List (List ToldSecond) → Option ℕ) → (kept : ℕ)
+    → List (List ToldSecond) → List ℕ → Type 0
 AreLegs rule limit k [] legs = legs ≡ []
 AreLegs rule limit k (span ∷ later) [] = ⊥
-AreLegs rule limit k (span ∷ later) (leg ∷ legs) = IsLeg (unwrap_or (limit span later) k) (decided_of rule span) leg × AreLegs rule limit k later legs
+AreLegs rule limit k (span ∷ later) (leg ∷ legs) = IsLeg (unwrap_or (limit span later) k) (decided_of rule span) leg
+    × AreLegs rule limit k later legs
 
--- each minute that these spans have decided is no later than the limit of its span's cut, or where it has none than the last-kept one
-abbrev pub AreWhole : Rule → (limit : List ToldSecond → List (List ToldSecond) → Option ℕ) → (kept : ℕ) → List (List ToldSecond) → Type 0
+-- each minute that these spans have decided is no later than the limit of its span's cut, or where it has none than the
+-- last-kept one
+abbrev pub AreWhole : Rule → (limit : List ToldSecond → List (List ToldSecond) → Option ℕ) → (kept : ℕ)
+    → List (List ToldSecond) → Type 0
 AreWhole rule limit k [] = Unit {0}
-AreWhole rule limit k (span ∷ later) = All (λ d. d.minute ≤ unwrap_or (limit span later) k) (decided_of rule span) × AreWhole rule limit k later
+AreWhole rule limit k (span ∷ later) = All (λ d. d.minute ≤ unwrap_or (limit span later) k) (decided_of rule span)
+    × AreWhole rule limit k later
 
 -- what was travelled in each span, up to the last minute that it has decided
 abbrev pub whole_legs : Rule → List (List ToldSecond) → List ℕ

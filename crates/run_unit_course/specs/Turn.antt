@@ -53,7 +53,8 @@ lit_second number speed picks starts cut = record {
 -- n seconds with power at one speed, the first with these selections, with which power may begin
 abbrev pub lit_seconds : ℕ → (number speed : ℕ) → List (Slot × Pick) → (starts : Bool) → List ToldSecond
 lit_seconds zero number speed picks starts = []
-lit_seconds (suc n) number speed picks starts = lit_second number speed picks starts false ∷ lit_seconds n (number + 1) speed [] false
+lit_seconds (suc n) number speed picks starts = lit_second number speed picks starts false
+    ∷ lit_seconds n (number + 1) speed [] false
 
 -- a second without power, which the trace gives power or not: its actions are refused
 abbrev pub dark_second : (number speed : ℕ) → (given : Bool) → List Action → ToldSecond
@@ -69,7 +70,8 @@ dark_second number speed given actions = record {
 -- n seconds without power, the first with these actions
 abbrev pub dark_seconds : ℕ → (number speed : ℕ) → (given : Bool) → List Action → List ToldSecond
 dark_seconds zero number speed given actions = []
-dark_seconds (suc n) number speed given actions = dark_second number speed given actions ∷ dark_seconds n (number + 1) speed given []
+dark_seconds (suc n) number speed given actions = dark_second number speed given actions
+    ∷ dark_seconds n (number + 1) speed given []
 
 -- the second turns out to be a cut's
 abbrev pub cut_at_end : ToldSecond → ToldSecond

@@ -1,5 +1,5 @@
-//! How the run of a unit alone goes, turn by turn: what its seconds, its log and its keeping have to do with the history of
-//! the run, as definitions (specs/) and lemmas (proofs/) that a recorder's loop cites.
+//! How the run of a unit alone goes, turn by turn: what its seconds, its log and its keeping have to do with the
+//! history of the run, as definitions (specs/) and lemmas (proofs/) that a recorder's loop cites.
 #![tactic(auto)]
 
 mod laws;

@@ -10,7 +10,8 @@ use Rattle.card_session.specs.Inserting.{IsCardInserted, IsCardInserting}
 use Rattle.card_session.specs.Repairs.{lacked_by}
 use Rattle.safety_laws.specs.Whole.{MayBegin, brought_in, IsShown}
 
--- of the owed entries an insertion brings all that the card lacks: so it is where a session was left open, and where the card lacks none
+-- of the owed entries an insertion brings all that the card lacks: so it is where a session was left open, and where
+-- the card lacks none
 abbrev pub BringsAll : (image : List ℕ) → (owed : List Entry) → Type 0
 BringsAll image owed = lacked_by (own_sizes image) image owed ≡ brought_in image owed
 
@@ -22,7 +23,8 @@ pub record IsBrokenOff (image : List ℕ) (owed : List Entry) (left : List ℕ) 
   pub may : MayBegin registration now owed
   pub moment : IsCardInserting (own_sizes image) registration odometer owed now image left
 
--- ANOTHER INSERTION of the card that was left, which is handed the same owed entries, in whatever second and vehicle, has ended so.
+-- ANOTHER INSERTION of the card that was left, which is handed the same owed entries, in whatever second and vehicle,
+-- has ended so.
 pub record IsBegunAgain (image : List ℕ) (owed : List Entry) (left ended : List ℕ) : Type 0 where
   pub registration : Registration
   pub odometer : ℕ
@@ -33,7 +35,7 @@ pub record IsBegunAgain (image : List ℕ) (owed : List Entry) (left ended : Lis
   pub same : session.application ≡ own_sizes image
   pub knows : IsSession session ended
 
--- What an insertion ends with that is not stopped: the card shows its own entries and all that were brought, but for what the stated
--- overwriting took.
+-- What an insertion ends with that is not stopped: the card shows its own entries and all that were brought, but for
+-- what the stated overwriting took.
 abbrev pub EndsWith : (image : List ℕ) → (brought : List Entry) → List ℕ → Type 0
 EndsWith image brought x = IsShown image brought x × AllUpTo (end_mark (own_sizes image) x) brought

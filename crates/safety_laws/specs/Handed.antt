@@ -13,7 +13,8 @@ use Rattle.safety_model.specs.Unit.{UnitShows, marks_of}
 
 -- What is handed out of this image, by what a run promises of its unit.
 pub record IsHandedOut (start : List ShownDay)
-    (past : List HistoryMinute) (lost : List (List HistoryMinute)) (marks : List Mark) (unit : State) (x : List ℕ) : Type 0 where
+    (past : List HistoryMinute) (lost : List (List HistoryMinute)) (marks : List Mark) (unit : State)
+    (x : List ℕ) : Type 0 where
   -- a download of it is a file of the grammar
   pub file : IsUnitFile (messages_of x) (unit_file x)
   -- whatever a view shows of that file are the image's minutes

@@ -14,15 +14,18 @@ use tach_media::Medium;
 
 /// Whatever minutes a view shows of a unit's file are those of the unit's image.
 pub fn a_view_shows_the_unit()
-    ensures { (x : List ℕ) (shown : List UnitMinute) → IsUnitImage x → ShowsUnitFile None (unit_file x) shown → shown ≡ unit_minutes x }
+    ensures { (x : List ℕ) (shown : List UnitMinute) → IsUnitImage x → ShowsUnitFile None (unit_file x) shown
+        → shown ≡ unit_minutes x }
 {}
 
-/// Of each image that a stop might have left of a unit that is safe, a download is a file, a view of that shows the image's
-/// minutes, and these are of the start and of the history from its front, every minute among them that was acknowledged before, but
-/// for the oldest days.
+/// Of each image that a stop might have left of a unit that is safe, a download is a file, a view of that shows the
+/// image's minutes, and these are of the start and of the history from its front, every minute among them that was
+/// acknowledged before, but for the oldest days.
 pub fn what_is_kept_is_handed_out<U: Medium>(unit: &U)
-    ensures { (start : List ShownDay) (past : List HistoryMinute) (lost : List (List HistoryMinute)) (marks : List Mark) (since : ℕ) (x : List ℕ) →
-        UnitSafe start past lost marks since (U.state unit.now) → (U.state unit.now).left_since since x → length x ≡ IMAGE_SIZE →
+    ensures { (start : List ShownDay) (past : List HistoryMinute) (lost : List (List HistoryMinute)) (marks : List Mark)
+        (since : ℕ) (x : List ℕ) →
+        UnitSafe start past lost marks since (U.state unit.now) → (U.state unit.now).left_since since x
+        → length x ≡ IMAGE_SIZE →
         IsHandedOut start past lost marks (U.state unit.now) x }
 {
     unit.holds_bytes();

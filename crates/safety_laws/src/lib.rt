@@ -1,7 +1,7 @@
 //! A card's session, whole (profile): from whatever valid card on, what each image shows that a stop may leave in it.
 //!
-//! What comes out of a unit after any stops (profile): laws, that join what a run keeps with the file that a download makes of it and
-//! with the view of that file.
+//! What comes out of a unit after any stops (profile): laws, that join what a run keeps with the file that a download
+//! makes of it and with the view of that file.
 #![tactic(auto)]
 
 // a card's whole session

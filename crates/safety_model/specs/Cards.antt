@@ -1,5 +1,6 @@
 -- What a run promises of its cards, and of a unit and a card together (profile).
-use Rattle.std.specs.Prelude.{◌≡◌, ◌⊎◌, ℕ, ◌/◌, ◌<◌, ◌≤◌, Bool, true, false, ◌&&◌, List, [], ◌++◌, All, Contains, length, filter, map, flat_map, nat_lt, nat_le, not}
+use Rattle.std.specs.Prelude.{◌≡◌, ◌⊎◌, ℕ, ◌/◌, ◌<◌, ◌≤◌, Bool, true, false, ◌&&◌, List, [], ◌++◌, All, Contains}
+use Rattle.std.specs.Prelude.{length, filter, map, flat_map, nat_lt, nat_le, not}
 use Rattle.std.specs.List.{list_any}
 use Rattle.activity_codec.specs.declared.entries.Entry.{Entry}
 use Rattle.activity_codec.specs.declared.values.Slot.{Slot}
@@ -25,12 +26,13 @@ use Rattle.safety_model.specs.Unit.{marks_of, Increase}
 
 -- a cut before a second, after which the unit was found not to have kept this minute
 abbrev pub shows_lost : (second minute : ℕ) → Break → Bool
-shows_lost u minute (Cut second kept failed begun) = nat_lt second u && nat_lt kept minute && nat_le minute (second / 60)
+shows_lost u minute (Cut second kept failed begun) = nat_lt second u && nat_lt kept minute
+    && nat_le minute (second / 60)
 shows_lost u minute (Tear second slot failed begun late) = false
 
 module _ (r : Recording) (c : Card) where
-  -- An image shows the card's entries at the start and some of the others that are expected, from their front, but for the days
-  -- that overwriting took.
+  -- An image shows the card's entries at the start and some of the others that are expected, from their front, but for
+  -- the days that overwriting took.
   pub record CardShows (x : List ℕ) : Type 0 where
     pub more : List Entry
     pub rest : List Entry
@@ -55,39 +57,43 @@ module _ (r : Recording) (c : Card) where
   abbrev pub MayNotWrite : Type 0
   MayNotWrite = (IsOwnValid (card_image r c) → ⊥) ⊎ (entered ≡ overlaps)
 
-  -- an acknowledged minute is that of an entry that the card is to have beside those at the start, and every image since shows that
-  -- very one, unless overwriting took its day
+  -- an acknowledged minute is that of an entry that the card is to have beside those at the start, and every image
+  -- since shows that very one, unless overwriting took its day
   pub record CardMarkHolds (card : State) (m : Mark) : Type 0 where
     pub e : Entry
     pub minute : e.minute ≡ m.minute
     pub stands : Contains ((brought r c).owed ++ card_history c (history_of r)) e
     pub clock : m.clock ≤ card.clock
-    pub shown : (x : List ℕ) → card.left_since m.clock x → (s : CardShows x) × Contains ((brought r c).entries ++ s.more) e
+    pub shown : (x : List ℕ) → card.left_since m.clock x
+        → (s : CardShows x) × Contains ((brought r c).entries ++ s.more) e
 
   -- the seconds in which it was accepted
   abbrev pub acceptances : List ℕ
   acceptances = flat_map
-      (λ t. map (λ f. t.second.number) (filter (λ f. same_card c f.0.card && is_accepting f.1) t.course.found)) (told_of r)
+      (λ t. map (λ f. t.second.number) (filter (λ f. same_card c f.0.card && is_accepting f.1) t.course.found))
+      (told_of r)
 
   -- the unit had kept a minute before a second: it is earlier, and no cut before that second shows that it was not
   abbrev pub was_kept : ℕ → ℕ → Bool
   was_kept u minute = nat_lt minute (u / 60) && not (list_any (shows_lost u minute) r.log.breaks)
 
-  -- after each acceptance every image at the end shows the expected entries up to the minute that the unit had kept last at
-  -- that time, and all that was owed at the start; with them it shows all that was acknowledged
+  -- after each acceptance every image at the end shows the expected entries up to the minute that the unit had kept
+  -- last at that time, and all that was owed at the start; with them it shows all that was acknowledged
   pub record IsRepaired (marks : List Mark) (x : List ℕ) : Type 0 where
     pub shows : CardShows x
     pub brought : (u : ℕ) → Contains acceptances u → All (λ e. was_kept u e.minute ≡ false) shows.rest
     pub owes_none : (u : ℕ) → Contains acceptances u → All (λ e. last_kept r.unit < e.minute) shows.rest
-    pub acknowledged : (m : Mark) → Contains (marks_of (device_of c) marks) m → All (λ e. m.minute < e.minute) shows.rest
+    pub acknowledged : (m : Mark) → Contains (marks_of (device_of c) marks) m
+        → All (λ e. m.minute < e.minute) shows.rest
 
-  -- A CARD: what every image that a stop might have left since a clock shows, where it was valid: it is valid, and has its number
-  -- still; one that may not be written is as it was; the acknowledged minutes increase, and hold, and one that was not valid has
-  -- none; and at the end it is repaired
+  -- A CARD: what every image that a stop might have left since a clock shows, where it was valid: it is valid, and has
+  -- its number still; one that may not be written is as it was; the acknowledged minutes increase, and hold, and one
+  -- that was not valid has none; and at the end it is repaired
   pub record CardSafe (marks : List Mark) (since : ℕ) (card : State) : Type 0 where
     pub entries : IsOwnValid (card_image r c) → (x : List ℕ) → card.left_since since x → CardShows x
     pub valid : IsOwnValid (card_image r c) → (x : List ℕ) → card.left_since since x → IsOwnValid x
-    pub number : IsOwnValid (card_image r c) → (x : List ℕ) → card.left_since since x → own_number x ≡ own_number (card_image r c)
+    pub number : IsOwnValid (card_image r c) → (x : List ℕ) → card.left_since since x
+        → own_number x ≡ own_number (card_image r c)
     pub untouched : MayNotWrite → (x : List ℕ) → card.left_since since x → x ≡ card_image r c
     pub in_order : Increase (marks_of (device_of c) marks)
     pub marked : (m : Mark) → Contains (marks_of (device_of c) marks) m → CardMarkHolds card m
@@ -102,7 +108,8 @@ module _ (r : Recording) (c : Card) where
   -- an entry stands in the unit's minutes as present
   abbrev pub StandsInUnit : List UnitMinute → Entry → Type 0
   StandsInUnit known e =
-      (m : UnitMinute) × Contains known m × (m.minute ≡ e.minute) × (slot_state e.slot m ≡ record { act = e.act; present = true })
+      (m : UnitMinute) × Contains known m × (m.minute ≡ e.minute)
+      × (slot_state e.slot m ≡ record { act = e.act; present = true })
 
   -- one of these days
   abbrev pub HasDay : List ShownDay → ℕ → Type 0

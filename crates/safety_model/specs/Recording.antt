@@ -13,7 +13,8 @@ use Rattle.history_model.specs.History.{unit_history, with_lost}
 use Rattle.device_rule.specs.Own.{own_view, own_number}
 use Rattle.device_rule.specs.Views.{UnitView, unit_view, owed, beyond}
 
--- a run: the rule of minutes, the images that a read gives at the end of the opening, the seconds of the trace, and the log
+-- a run: the rule of minutes, the images that a read gives at the end of the opening, the seconds of the trace, and the
+-- log
 pub record Recording : Type 0 where
   pub rule : Rule
   pub unit : List ℕ

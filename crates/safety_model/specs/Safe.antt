@@ -1,5 +1,6 @@
 -- The crash-safety theorem (profile): what a run promises of its unit, of each card, and of both together.
-use Rattle.std.specs.Prelude.{◌≡◌, ◌≢◌, ◌⊎◌, ℕ, suc, ◌*◌, ◌/◌, ◌<◌, ◌≤◌, ◌&&◌, Option, Some, None, List, [], ◌∷◌, Contains, length, filter, flat_map, nat_eq, nat_le, if◌then◌else◌}
+use Rattle.std.specs.Prelude.{◌≡◌, ◌≢◌, ◌⊎◌, ℕ, suc, ◌*◌, ◌/◌, ◌<◌, ◌≤◌, ◌&&◌, Option, Some, None, List, [], ◌∷◌}
+use Rattle.std.specs.Prelude.{Contains, length, filter, flat_map, nat_eq, nat_le, if◌then◌else◌}
 use Rattle.trace_model.specs.declared.Card.{Card}
 use Rattle.trace_model.specs.declared.Card.TheVariants.{A, B}
 use Rattle.trace_model.specs.Trace.{TraceSecond}
@@ -58,24 +59,28 @@ module _ (r : Recording) where
   -- how often a card entered a slot, or met power there, in the minute of a second, up to that second
   abbrev pub entered_by : Card → ℕ → ℕ
   entered_by c u = length (flat_map
-      (λ t. if nat_le t.second.number u && nat_eq (t.second.number / 60) (u / 60) then filter (λ e. same_card c e.card) t.course.entered else [])
+      (λ t. if nat_le t.second.number u && nat_eq (t.second.number / 60) (u / 60)
+      then filter (λ e. same_card c e.card) t.course.entered else [])
       (told_of r))
 
-  -- The later time that a valid card is found to store: that at the start; or, where that is not later than this second and the card
-  -- entered in its minute before, the minute behind, where its closing word stands then, by an image that it might have left.
+  -- The later time that a valid card is found to store: that at the start; or, where that is not later than this second
+  -- and the card entered in its minute before, the minute behind, where its closing word stands then, by an image that
+  -- it might have left.
   abbrev pub IsLater : (card : List ℕ → Type 0) → Card → (second stored : ℕ) → Type 0
   IsLater card c u stored = (u < stored)
       × ((stored ≡ (own_view (card_image r c)).stored)
       ⊎ (((own_view (card_image r c)).stored ≤ u) × (1 < entered_by c u) × (stored ≡ 60 * suc (u / 60))
       × ((x : List ℕ) × card x × ((own_view x).stored ≡ stored))))
 
-  -- What may be found of a card in a second. By its image at the start it is not valid, and that is the first file that fails. Or it
-  -- stores a later time than the second. Or else it is accepted: neither at the start nor by an image that it might have left it
-  -- stores a later one, and so many entries are brought as that image lacks and some image of the unit owes to it.
+  -- What may be found of a card in a second. By its image at the start it is not valid, and that is the first file that
+  -- fails. Or it stores a later time than the second. Or else it is accepted: neither at the start nor by an image that
+  -- it might have left it stores a later one, and so many entries are brought as that image lacks and some image of the
+  -- unit owes to it.
   abbrev pub IsVerdict : (unit card : List ℕ → Type 0) → Card → ℕ → Verdict → Type 0
   IsVerdict unit card c u (Accepted replayed) =
       IsOwnValid (card_image r c) × ((own_view (card_image r c)).stored ≤ u)
-      × ((i x : List ℕ) × unit i × card x × ((own_view x).stored ≤ u) × (length (owed c (unit_seen r i) (own_view x)) ≡ replayed))
+      × ((i x : List ℕ) × unit i × card x × ((own_view x).stored ≤ u)
+      × (length (owed c (unit_seen r i) (own_view x)) ≡ replayed))
   IsVerdict unit card c u (NotValid fid place) = own_bad_file (card_image r c) ≡ Some (fid, place)
   IsVerdict unit card c u (TimeOverlap stored now) = IsOwnValid (card_image r c) × (now ≡ u) × IsLater card c u stored
 
@@ -91,15 +96,17 @@ module _ (r : Recording) where
   -- CAUSES: each line of the log has its cause, and what happened has its line
   pub record IsCaused (marks : List Mark) (began now : Devices) : Type 0 where
     pub causes : HasCauses
-        (λ c u v. IsVerdict (now.unit.left_since began.unit.clock) ((card_of now c).left_since (card_of began c).clock) c u v)
+        (λ c u v. IsVerdict (now.unit.left_since began.unit.clock) ((card_of now c).left_since (card_of began c).clock)
+        c u v)
         (breakdowns_of began) (breakdowns_of now) r.trace r.log
     -- it was found what was kept after a cut, but where no card was accepted behind it
     pub kept : (b : Break) → Contains r.log.breaks b → WasFound (now.unit.left_since began.unit.clock) b
-        ⊎ (IsUnfound b × ((c : Card) (u : ℕ) → IsOwnValid (card_image r c) → Contains (acceptances r c) u → u ≤ second_of b))
+        ⊎ (IsUnfound b × ((c : Card) (u : ℕ) → IsOwnValid (card_image r c) → Contains (acceptances r c) u
+        → u ≤ second_of b))
     pub complete : IsComplete r.rule (start_of r) r.log (told_of r) marks
 
-  -- a run begins where the unit's image decodes, the trace's first second lies in a later minute than the last-kept one, and
-  -- the cards that are valid have two numbers
+  -- a run begins where the unit's image decodes, the trace's first second lies in a later minute than the last-kept
+  -- one, and the cards that are valid have two numbers
   pub record MayBegin : Type 0 where
     pub decodes : Decodes r.unit
     pub clock : (s : TraceSecond) → first_of r.trace ≡ Some s → last_kept r.unit < s.number / 60

@@ -1,5 +1,6 @@
 -- What a run promises of its unit (profile).
-use Rattle.std.specs.Prelude.{◌≡◌, ℕ, ◌-◌, ◌<◌, ◌≤◌, Option, is_some, List, [], ◌∷◌, ◌++◌, Contains, filter, Bool, true, false}
+use Rattle.std.specs.Prelude.{◌≡◌, ℕ, ◌-◌, ◌<◌, ◌≤◌, Option, is_some, List, [], ◌∷◌, ◌++◌, Contains, filter, Bool, true}
+use Rattle.std.specs.Prelude.{false}
 use Rattle.minute_model.specs.declared.Rule.{Rule}
 use Rattle.minute_model.specs.declared.Minute.{Minute}
 use Rattle.run_model.specs.declared.Device.{Device}
@@ -17,16 +18,19 @@ use Rattle.history_model.specs.History.{decided_of}
 use Rattle.device_rule.specs.Filling.{FillsDays, filled_with}
 use Rattle.safety_model.specs.Recording.{IsPassed, MayCome}
 
--- What a unit was issued with, and no call writes: the bytes before the last-kept minute (version, vehicle, speed limit, identification, sensor and
--- certificates), and the spare ones behind the counts, behind the owed rows and behind the faults.
+-- What a unit was issued with, and no call writes: the bytes before the last-kept minute (version, vehicle, speed
+-- limit, identification, sensor and certificates), and the spare ones behind the counts, behind the owed rows and
+-- behind the faults.
 abbrev pub issued_bytes : List ℕ → List ℕ
 issued_bytes x =
     bytes_at x 0 LAST_KEPT.place
-    ++ (bytes_at x SPARE_COUNTS.place SPARE_COUNTS.size ++ (bytes_at x SPARE_ROWS.place SPARE_ROWS.size ++ bytes_at x SPARE_FAULTS.place SPARE_FAULTS.size))
+    ++ (bytes_at x SPARE_COUNTS.place SPARE_COUNTS.size
+    ++ (bytes_at x SPARE_ROWS.place SPARE_ROWS.size ++ bytes_at x SPARE_FAULTS.place SPARE_FAULTS.size))
 
--- An image shows the start's days filled with these minutes, of which only the oldest days may be gone: the newest 366 are
--- there, or one fewer where the minute that may come next begins a further day.
-pub record UnitShows (start : List ShownDay) (past : List HistoryMinute) (lost : List (List HistoryMinute)) (x : List ℕ) : Type 0 where
+-- An image shows the start's days filled with these minutes, of which only the oldest days may be gone: the newest 366
+-- are there, or one fewer where the minute that may come next begins a further day.
+pub record UnitShows (start : List ShownDay) (past : List HistoryMinute) (lost : List (List HistoryMinute))
+    (x : List ℕ) : Type 0 where
   pub some : List HistoryMinute
   pub passed : IsPassed past lost some
   pub next : Option HistoryMinute
@@ -55,14 +59,16 @@ Increase [] = Unit {0}
 Increase (m ∷ []) = Unit {0}
 Increase (m ∷ n ∷ marks) = (m.minute < n.minute) × Increase (n ∷ marks)
 
--- A mark is told at once: twelve writes before its clock, as many as a keep begins at most, a stop might have left an image that had not come to
--- its minute yet.
+-- A mark is told at once: twelve writes before its clock, as many as a keep begins at most, a stop might have left an
+-- image that had not come to its minute yet.
 abbrev pub IsPrompt : State → Mark → Type 0
 IsPrompt unit m = is_some unit.image ≡ true → (x : List ℕ) × unit.left_since (m.clock - 12) x × (last_kept x < m.minute)
 
--- an acknowledged minute stands in the history, and every image since shows that very one, unless its day was given up as the oldest
+-- an acknowledged minute stands in the history, and every image since shows that very one, unless its day was given up
+-- as the oldest
 pub record UnitMarkHolds
-    (start : List ShownDay) (past : List HistoryMinute) (lost : List (List HistoryMinute)) (unit : State) (m : Mark) : Type 0 where
+    (start : List ShownDay) (past : List HistoryMinute) (lost : List (List HistoryMinute)) (unit : State)
+    (m : Mark) : Type 0 where
   pub i : HistoryMinute
   pub minute : i.minute ≡ m.minute
   pub stands : Contains past i
@@ -70,10 +76,11 @@ pub record UnitMarkHolds
   pub prompt : IsPrompt unit m
   pub shown : (x : List ℕ) → unit.left_since m.clock x → (s : UnitShows start past lost x) × Contains s.some i
 
--- THE UNIT: every image that a stop might have left since a clock shows the start and a part of the history from its front, and
--- decodes; the acknowledged minutes increase, and hold
+-- THE UNIT: every image that a stop might have left since a clock shows the start and a part of the history from its
+-- front, and decodes; the acknowledged minutes increase, and hold
 pub record UnitSafe (start : List ShownDay)
-    (past : List HistoryMinute) (lost : List (List HistoryMinute)) (marks : List Mark) (since : ℕ) (unit : State) : Type 0 where
+    (past : List HistoryMinute) (lost : List (List HistoryMinute)) (marks : List Mark) (since : ℕ) (unit : State) : Type
+    0 where
   pub minutes : (x : List ℕ) → unit.left_since since x → UnitShows start past lost x
   pub decodes : (x : List ℕ) → unit.left_since since x → Decodes x
   pub in_order : Increase (marks_of Recorder marks)
@@ -81,7 +88,8 @@ pub record UnitSafe (start : List ShownDay)
 
 -- WHERE NO CALL ON IT FAILED: each decided minute of these seconds stands in the history,
 abbrev pub HasEachDecided : Rule → List ToldSecond → (past : List HistoryMinute) → Type 0
-HasEachDecided rule told past = (span : List ToldSecond) (d : Minute) → Contains (spans_of told) span → Contains (decided_of rule span) d →
+HasEachDecided rule told past = (span : List ToldSecond) (d : Minute) → Contains (spans_of told) span
+    → Contains (decided_of rule span) d →
     (i : HistoryMinute) × Contains past i × (i.minute ≡ d.minute)
 
 -- and an image's days are the start's with all of these minutes, of which the newest 366 are retained.

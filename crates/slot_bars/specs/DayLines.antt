@@ -1,5 +1,6 @@
 -- The lines of days.
-use Rattle.std.specs.Prelude.{◌≡◌, ℕ, zero, suc, ◌<◌, ◌≤◌, ◌==◌, ◌&&◌, nat_lt, Bool, true, false, if◌then◌else◌, List, [], ◌∷◌, length}
+use Rattle.std.specs.Prelude.{◌≡◌, ℕ, zero, suc, ◌<◌, ◌≤◌, ◌==◌, ◌&&◌, nat_lt, Bool, true, false, if◌then◌else◌, List}
+use Rattle.std.specs.Prelude.{[], ◌∷◌, length}
 use Rattle.tacho_types.specs.declared.calendar.TheConstants.{DAYS}
 use Rattle.view_model.specs.declared.Line.{Line}
 use Rattle.view_model.specs.Lines.{day_of_minute}
@@ -9,7 +10,8 @@ use Rattle.slot_bars.specs.Runs.{is_run}
 -- each of these lines has minutes, of one day that a time of four bytes can name
 abbrev pub AreDayLines : {X : Type 0} → List (Line X) → Type 0
 AreDayLines [] = Unit {0}
-AreDayLines (line ∷ lines) = (is_run line.first line.last ≡ true) × (day_of_minute line.first < DAYS) × AreDayLines lines
+AreDayLines (line ∷ lines) = (is_run line.first line.last ≡ true) × (day_of_minute line.first < DAYS)
+    × AreDayLines lines
 
 -- a line begins behind another, on the same day
 abbrev pub is_behind : {X : Type 0} → (line next : Line X) → Bool

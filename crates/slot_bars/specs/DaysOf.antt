@@ -25,7 +25,9 @@ day_of [] = 0
 day_of (m ∷ minutes) = day_of_minute m.minute
 
 -- pieces of text, one for each day: by the day's place in their row, its date and its minutes
-abbrev pub AreEach : {X : Type 0} → (ℕ → List ℕ → List (Viewed X) → List ℕ) → ℕ → List (List (Viewed X)) → List ℕ → Type 0
+abbrev pub AreEach : {X : Type 0} → (ℕ → List ℕ → List (Viewed X) → List ℕ) → ℕ → List (List (Viewed X)) → List ℕ
+    → Type 0
 AreEach piece place [] text = text ≡ []
 AreEach piece place (day ∷ days) text =
-    (date : List ℕ) × (rest : List ℕ) × IsDateText (day_of day) date × (text ≡ piece place date day ++ rest) × AreEach piece (place + 1) days rest
+    (date : List ℕ) × (rest : List ℕ) × IsDateText (day_of day) date × (text ≡ piece place date day ++ rest)
+    × AreEach piece (place + 1) days rest

@@ -10,7 +10,11 @@ use Rattle.slot_bars.specs.Seeing.{same_seen}
 
 -- what is seen as a unit would show it, where the co-driver's card stands for a minute that was recorded
 as_shown : Seen → UnitShown
-as_shown s = record { driver = record { act = s.act; present = s.present }; codriver = record { act = s.act; present = s.known }; crew = s.crew }
+as_shown s = record {
+  driver = record { act = s.act; present = s.present };
+  codriver = record { act = s.act; present = s.known };
+  crew = s.crew;
+}
 
 seen_back : UnitShown → Seen
 seen_back u = record { act = u.driver.act; present = u.driver.present; crew = u.crew; known = u.codriver.present }
@@ -27,4 +31,5 @@ unfolding as_shown seen_back
 seen_exact one other is =
     ap seen_back
     (unit_exact (as_shown one) (as_shown other)
-    (all_pass (same_activity one.act other.act) (same_bool one.present other.present) (same_bool one.crew other.crew) (same_bool one.known other.known) is))
+    (all_pass (same_activity one.act other.act) (same_bool one.present other.present) (same_bool one.crew other.crew)
+    (same_bool one.known other.known) is))

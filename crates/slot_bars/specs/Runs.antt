@@ -16,12 +16,17 @@ is_run first last = nat_le first last && day_of_minute first == day_of_minute la
 
 -- a line's minutes are some, of one day, and the same is seen of the slot in each
 abbrev pub is_plain : List Gap → Slot → Line UnitShown → Bool
-is_plain gaps slot line = is_run line.first line.last && ((state_in slot line.shown).present || not (meets_gap gaps line.first line.last))
+is_plain gaps slot line = is_run line.first line.last
+    && ((state_in slot line.shown).present || not (meets_gap gaps line.first line.last))
 
 -- a line as a slot is seen in its first minute
 abbrev pub seen_run : List Gap → Slot → Line UnitShown → Line Seen
 seen_run gaps slot line =
-    record { first = line.first; last = line.last; shown = (slot_seen gaps slot (record { minute = line.first; shown = line.shown })).shown }
+    record {
+      first = line.first;
+      last = line.last;
+      shown = (slot_seen gaps slot (record { minute = line.first; shown = line.shown })).shown;
+    }
 
 -- the last bar ends with a later minute
 abbrev pub with_last : ℕ → List (Line Seen) → List (Line Seen)
@@ -35,5 +40,9 @@ as_unit line =
     record {
       first = line.first;
       last = line.last;
-      shown = record { driver = record { act = line.shown.act; present = true }; codriver = record { act = Rest; present = false }; crew = line.shown.crew };
+      shown = record {
+        driver = record { act = line.shown.act; present = true };
+        codriver = record { act = Rest; present = false };
+        crew = line.shown.crew;
+      };
     }

@@ -42,11 +42,15 @@ slot_seen gaps slot m =
 
 -- the card of a card file is present in each of its minutes
 abbrev pub card_seen : Viewed CardShown → Viewed Seen
-card_seen m = record { minute = m.minute; shown = record { act = m.shown.act; present = true; crew = m.shown.crew; known = true } }
+card_seen m = record {
+  minute = m.minute;
+  shown = record { act = m.shown.act; present = true; crew = m.shown.crew; known = true };
+}
 
 -- the same is seen in two minutes
 abbrev pub same_seen : Seen → Seen → Bool
-same_seen a b = same_activity a.act b.act && same_bool a.present b.present && same_bool a.crew b.crew && same_bool a.known b.known
+same_seen a b = same_activity a.act b.act && same_bool a.present b.present && same_bool a.crew b.crew
+    && same_bool a.known b.known
 
 -- what is said beside the activity
 abbrev pub beside_words : Seen → List ℕ

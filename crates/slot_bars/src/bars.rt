@@ -12,8 +12,8 @@ use std::alloc::{AllocError, Global};
 use view_model::{CardShown, Line, State, UnitShown, Viewed};
 use view_text::add_minute;
 
-/// The bars of a slot of a unit, by the lines of its view. A line goes in at once, but for one without a card that meets a gap,
-/// which goes in minute by minute.
+/// The bars of a slot of a unit, by the lines of its view. A line goes in at once, but for one without a card that
+/// meets a gap, which goes in minute by minute.
 pub fn unit_bars(
     alloc: Global,
     lines: &[Line<UnitShown>],

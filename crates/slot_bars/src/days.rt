@@ -13,7 +13,8 @@ pub fn first_day<T: Copy>(lines: &[Line<T>]) -> usize
     requires some { 0 < length lines.now }
     ensures some { 0 < result }
     ensures within { result ≤ length lines.now }
-    ensures days { days_of (minutes_on lines.now) ≡ minutes_on (take result lines.now) ∷ days_of (minutes_on (drop result lines.now)) }
+    ensures days { days_of (minutes_on lines.now) ≡ minutes_on (take result lines.now)
+        ∷ days_of (minutes_on (drop result lines.now)) }
     ensures one { IsOneDay (take result lines.now) }
     ensures more { AreDayLines (drop result lines.now) }
 {

@@ -1,4 +1,5 @@
-//! The minutes of a view by days, and those of one slot as bars: the longest runs of minutes of which the same is seen (profile).
+//! The minutes of a view by days, and those of one slot as bars: the longest runs of minutes of which the same is seen
+//! (profile).
 #![tactic(auto)]
 
 mod bars;

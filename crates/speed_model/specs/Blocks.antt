@@ -1,5 +1,6 @@
 -- The blocks of detailed speed of a power span, by its seconds (Annex IB, section III.12; profile).
-use Rattle.std.specs.Prelude.{ℕ, ◌/◌, ◌==◌, ◌&&◌, Bool, false, Option, Some, None, List, [], ◌∷◌, ◌++◌, length, fold, flat_map, nat_lt, if◌then◌else◌}
+use Rattle.std.specs.Prelude.{ℕ, ◌/◌, ◌==◌, ◌&&◌, Bool, false, Option, Some, None, List, [], ◌∷◌, ◌++◌, length, fold}
+use Rattle.std.specs.Prelude.{flat_map, nat_lt, if◌then◌else◌}
 use Rattle.std.specs.List.{filter_map, list_any}
 use Rattle.std.specs.Int.{to_be_bytes, w32}
 use Rattle.event_model.specs.Spans.{SpeedSecond, first_of, numbers, speeds}

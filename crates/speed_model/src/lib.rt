@@ -1,5 +1,5 @@
-//! Detailed speed, as definitions (Annex IB, section III.12; the blocks and their ring: profile): the blocks of the minutes of a
-//! power span, and those of a unit's image.
+//! Detailed speed, as definitions (Annex IB, section III.12; the blocks and their ring: profile): the blocks of the
+//! minutes of a power span, and those of a unit's image.
 #![tactic(auto)]
 
 mod block;

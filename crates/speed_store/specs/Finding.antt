@@ -16,7 +16,8 @@ turned first step = if nat_lt (first + step) BLOCK_SLOTS then first + step else 
 
 -- one place more, with a block there or without
 abbrev pub picked : Found → (there : Bool) → (index : ℕ) → Found
-picked found there index = if there then record { left = found.left - 1; index = if found.left == 1 then index else found.index } else found
+picked found there index = if there
+    then record { left = found.left - 1; index = if found.left == 1 then index else found.index } else found
 
 -- so many blocks are to come, with the one of this number; and where it is among those so far, it stands at this index
 pub record IsFound (nth : ℕ) (so_far : List ℕ) (found : Found) : Type 0 where

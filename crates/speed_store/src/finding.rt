@@ -24,7 +24,8 @@ pub(crate) struct Found {
 /// The index of the block of this number.
 pub(crate) fn index_of<M: Medium>(unit: &mut M, nth: u16) -> Result<u32, Failed>
     requires unit { (M.state unit.old).size ≡ IMAGE_SIZE }
-    ensures index { IfOk result (λ index. IfSome (M.state unit.old).image (λ x. PointsInside speed_ring x → nth < length (indices speed_ring x) → index ≡ get_or (indices speed_ring x) nth 0)) }
+    ensures index { IfOk result (λ index. IfSome (M.state unit.old).image (λ x. PointsInside speed_ring x → nth < length
+        (indices speed_ring x) → index ≡ get_or (indices speed_ring x) nth 0)) }
     ensures below { IfOk result (λ index. index < BLOCK_SLOTS) }
     ensures reads { Reads (M.state unit.old) (M.state unit.new) (is_err result) }
 {

@@ -1,5 +1,5 @@
-//! The detailed speed of a unit (Annex IB, section III.12; the blocks and their ring: profile): the speeds of a minute as its seconds
-//! come, and the ring of the blocks of the last minutes that moved.
+//! The detailed speed of a unit (Annex IB, section III.12; the blocks and their ring: profile): the speeds of a minute
+//! as its seconds come, and the ring of the blocks of the last minutes that moved.
 #![tactic(auto)]
 
 mod fault;

@@ -1,5 +1,6 @@
 //! The speeds of a minute as its seconds come.
-ghost use Rattle.std.specs.Prelude.{◌≡◌, ℕ, ◌+◌, ◌%◌, ◌<◌, ◌≤◌, ◌^◌, List, [], ◌++◌, length, replicate, option_to_list, IfSome};
+ghost use Rattle.std.specs.Prelude.{◌≡◌, ℕ, ◌+◌, ◌%◌, ◌<◌, ◌≤◌, ◌^◌, List, [], ◌++◌, length, replicate, option_to_list};
+ghost use Rattle.std.specs.Prelude.{IfSome};
 ghost use Rattle.event_model.specs.Spans.{SpeedSecond, at_speed};
 ghost use Rattle.speed_model.specs.Blocks.{blocks_of, is_moving};
 ghost use Rattle.speed_store.specs.Feeding.{KeepsSpeedsOf, Follows, block_in};
@@ -10,7 +11,8 @@ use std::marker::Model;
 /// How many seconds a minute has.
 const SECONDS: u32 = 60;
 
-/// The speeds of the minute that goes on, as far as they were fed: all of its seconds, or those from the span's first on.
+/// The speeds of the minute that goes on, as far as they were fed: all of its seconds, or those from the span's first
+/// on.
 #[derive(Drop)]
 pub struct SpeedMinute {
     speeds: [u8; 60],
@@ -39,15 +41,17 @@ impl SpeedMinute {
         }
     }
 
-    /// So many seconds of one minute at one speed, one at least, which follow those before. The block of the minute, where it ends
-    /// with them, all of its seconds were fed since `new`, and one of them is moving.
+    /// So many seconds of one minute at one speed, one at least, which follow those before. The block of the minute,
+    /// where it ends with them, all of its seconds were fed since `new`, and one of them is moving.
     pub fn feed(&mut self, second: u32, n: u32, speed: u8) -> Option<Block>
         requires some { 0 < n }
         requires minute { second % 60 + n ≤ 60 }
         requires fits { second + n ≤ 2 ^ 32 }
         requires follows { Follows self.old second }
-        ensures fed { (seconds : List SpeedSecond) → KeepsSpeedsOf self.old seconds second → KeepsSpeedsOf self.new (seconds ++ at_speed second n speed) (second + n) }
-        ensures given { (seconds : List SpeedSecond) → KeepsSpeedsOf self.old seconds second → blocks_of (seconds ++ at_speed second n speed) ≡ blocks_of seconds ++ option_to_list result }
+        ensures fed { (seconds : List SpeedSecond) → KeepsSpeedsOf self.old seconds second
+            → KeepsSpeedsOf self.new (seconds ++ at_speed second n speed) (second + n) }
+        ensures given { (seconds : List SpeedSecond) → KeepsSpeedsOf self.old seconds second
+            → blocks_of (seconds ++ at_speed second n speed) ≡ blocks_of seconds ++ option_to_list result }
         ensures time { IfSome result (λ b. b.time + 60 ≡ second + n) }
         ensures whole { IfSome result (λ b. length b.speeds ≡ 60) }
     {

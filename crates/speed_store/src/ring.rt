@@ -34,8 +34,8 @@ fn write_block(block: &Block, out: &mut [u8])
     speeds.copy_from_slice(&block.speeds);
 }
 
-/// Adds the newest block to a unit whose image decodes. A stop leaves the blocks before, those without the oldest where all places
-/// were taken, or those with the new one; no other byte of the unit changes.
+/// Adds the newest block to a unit whose image decodes. A stop leaves the blocks before, those without the oldest where
+/// all places were taken, or those with the new one; no other byte of the unit changes.
 ///
 /// # Errors
 ///
@@ -43,13 +43,16 @@ fn write_block(block: &Block, out: &mut [u8])
 pub fn add_block<M: Medium>(unit: &mut M, block: &Block) -> Result<(), Failed>
     requires unit { IsUnit (M.state unit.old) }
     requires time { block.now.time ≢ 0 }
-    ensures added { OnOk result (IfSome (M.state unit.old).image (λ x. IfSome (M.state unit.new).image (IsAdded speed_ring (block_bytes block.now) x))) }
+    ensures added { OnOk result (IfSome (M.state unit.old).image
+        (λ x. IfSome (M.state unit.new).image (IsAdded speed_ring (block_bytes block.now) x))) }
     ensures moments { LeavesOnly (M.state unit.old) (M.state unit.new) (IsAdding speed_ring (block_bytes block.now)) }
     ensures settled { OnOk result ((M.state unit.new).clock < last_count → IsSettled (M.state unit.new)) }
     ensures clock { OnOk result (Rose (M.state unit.old).clock (M.state unit.new).clock) }
     ensures cause { HasCause (M.state unit.old) (M.state unit.new) (is_err result) }
     ensures most { (M.state unit.new).clock ≤ (M.state unit.old).clock + 5 }
-    ensures writes { IfSome (M.state unit.old).image (λ x. PointsInside speed_ring x → (M.state unit.new).clock ≤ (M.state unit.old).clock + adding_writes speed_ring x) }
+    ensures writes { IfSome (M.state unit.old).image
+        (λ x. PointsInside speed_ring x
+        → (M.state unit.new).clock ≤ (M.state unit.old).clock + adding_writes speed_ring x) }
 {
     let mut bytes = [0; BLOCK_SIZE as usize];
     write_block(block, &mut bytes);

@@ -1,5 +1,6 @@
 //! The blocks of a unit, counted and read.
-ghost use Rattle.std.specs.Prelude.{◌≡◌, ◌≢◌, ◌≤◌, ◌<◌, ◌+◌, ◌==◌, true, IfOk, IfErr, IfSome, OnOk, is_err, if◌then◌else◌, get_or};
+ghost use Rattle.std.specs.Prelude.{◌≡◌, ◌≢◌, ◌≤◌, ◌<◌, ◌+◌, ◌==◌, true, IfOk, IfErr, IfSome, OnOk, is_err};
+ghost use Rattle.std.specs.Prelude.{if◌then◌else◌, get_or};
 ghost use Rattle.tach_media.specs.Medium.{LeavesOnly, Reads, HasCause, IsSettled, Rose, last_count};
 ghost use Rattle.gated_ring.specs.Ring.{pointer, gate_of, indices};
 ghost use Rattle.gated_ring.specs.Change.{IsAdding, IsAdded};
@@ -46,7 +47,8 @@ impl SpeedStore {
     pub fn load<M: Medium>(unit: &mut M) -> Result<SpeedStore, SpeedFault>
         requires unit { IsUnit (M.state unit.old) }
         ensures holds { IfOk result (λ count. IfSome (M.state unit.old).image (HoldsBlocks count)) }
-        ensures bad { IfErr result (λ fault. IfBadPointer fault (λ v. (BLOCK_SLOTS ≤ v) × IfSome (M.state unit.old).image (λ x. pointer speed_ring x ≡ v))) }
+        ensures bad { IfErr result (λ fault. IfBadPointer fault (λ v. (BLOCK_SLOTS ≤ v) × IfSome
+            (M.state unit.old).image (λ x. pointer speed_ring x ≡ v))) }
         ensures reads { Reads (M.state unit.old) (M.state unit.new) (has_failed result) }
     {
         Ring::load(unit, SPEEDS.place, BLOCK_SIZE, BLOCK_SLOTS, POINTER, 0)?;
@@ -70,7 +72,9 @@ impl SpeedStore {
     pub fn block<M: Medium>(&self, unit: &mut M, nth: u16) -> Result<Block, Failed>
         requires unit { IsUnit (M.state unit.old) }
         requires nth { nth < self.now }
-        ensures block { IfOk result (λ block. IfSome (M.state unit.old).image (λ x. HoldsBlocks self.now x → IsBlockAt x (get_or (indices speed_ring x) nth 0) block)) }
+        ensures block { IfOk result (λ block.
+            IfSome (M.state unit.old).image (λ x. HoldsBlocks self.now x → IsBlockAt x
+            (get_or (indices speed_ring x) nth 0) block)) }
         ensures reads { Reads (M.state unit.old) (M.state unit.new) (is_err result) }
     {
         let index = index_of(unit, nth)?;
@@ -78,8 +82,8 @@ impl SpeedStore {
         Ok(block)
     }
 
-    /// Adds the newest block. A stop leaves the blocks before, those without the oldest where all places were taken, or those with
-    /// the new one; no other byte of the unit changes.
+    /// Adds the newest block. A stop leaves the blocks before, those without the oldest where all places were taken, or
+    /// those with the new one; no other byte of the unit changes.
     ///
     /// # Errors
     ///
@@ -87,9 +91,12 @@ impl SpeedStore {
     pub fn add<M: Medium>(&mut self, unit: &mut M, block: &Block) -> Result<(), Failed>
         requires unit { IsUnit (M.state unit.old) }
         requires time { block.now.time ≢ 0 }
-        ensures holds { OnOk result (IfSome (M.state unit.old).image (λ x. HoldsBlocks self.old x → IfSome (M.state unit.new).image (HoldsBlocks self.new))) }
-        ensures added { OnOk result (IfSome (M.state unit.old).image (λ x. IfSome (M.state unit.new).image (IsAdded speed_ring (block_bytes block.now) x))) }
-        ensures moments { LeavesOnly (M.state unit.old) (M.state unit.new) (IsAdding speed_ring (block_bytes block.now)) }
+        ensures holds { OnOk result (IfSome (M.state unit.old).image
+            (λ x. HoldsBlocks self.old x → IfSome (M.state unit.new).image (HoldsBlocks self.new))) }
+        ensures added { OnOk result (IfSome (M.state unit.old).image
+            (λ x. IfSome (M.state unit.new).image (IsAdded speed_ring (block_bytes block.now) x))) }
+        ensures moments { LeavesOnly (M.state unit.old) (M.state unit.new)
+            (IsAdding speed_ring (block_bytes block.now)) }
         ensures settled { OnOk result ((M.state unit.new).clock < last_count → IsSettled (M.state unit.new)) }
         ensures clock { OnOk result (Rose (M.state unit.old).clock (M.state unit.new).clock) }
         ensures cause { HasCause (M.state unit.old) (M.state unit.new) (is_err result) }

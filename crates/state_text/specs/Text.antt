@@ -7,12 +7,15 @@ use Rattle.view_model.specs.Text.{two_digits, clock_text}
 use Rattle.state_text.specs.declared.line.Line.{Line}
 use Rattle.state_text.specs.declared.line.OwedTo.{OwedTo}
 use Rattle.state_text.specs.declared.line.Value.{Value}
-use Rattle.state_text.specs.declared.line.Value.TheVariants.{Valid, Unread, BadAt, BadField, BadFile, Nothing, Count, ByRule, Vin, Plate, Card, Holder, Owed, Day, Minute, Second}
+use Rattle.state_text.specs.declared.line.Value.TheVariants.{Valid, Unread, BadAt, BadField, BadFile, Nothing, Count}
+use Rattle.state_text.specs.declared.line.Value.TheVariants.{ByRule, Vin, Plate, Card, Holder, Owed, Day, Minute}
+use Rattle.state_text.specs.declared.line.Value.TheVariants.{Second}
 use Rattle.run_model.specs.Names.{device_name}
 use Rattle.state_text.specs.Lines.{name_text, rule_name, day_of}
 use Rattle.state_text.specs.Shown.{four_hex, shown}
 
--- a registration: the nation's number and the plate, as `13 M-AB-1`; between them stands the code page, which is not told
+-- a registration: the nation's number and the plate, as `13 M-AB-1`; between them stands the code page, which is not
+-- told
 abbrev pub plate_text : Registration → List ℕ
 plate_text r = decimal (slice_index r.0 0) ++ codes " " ++ shown (drop 2 r.0)
 
@@ -33,7 +36,8 @@ abbrev pub minute_text : (date : List ℕ) → ℕ → List ℕ
 minute_text date minute = date ++ codes "T" ++ clock_text minute ++ codes "Z"
 
 abbrev pub second_text : (date : List ℕ) → ℕ → List ℕ
-second_text date second = date ++ codes "T" ++ clock_text (second / 60) ++ codes ":" ++ two_digits (second % 60) ++ codes "Z"
+second_text date second = date ++ codes "T" ++ clock_text (second / 60) ++ codes ":" ++ two_digits (second % 60)
+    ++ codes "Z"
 
 -- a value, which lies on the day of this date
 abbrev pub value_text : (date : List ℕ) → Value → List ℕ
@@ -56,7 +60,8 @@ value_text date (Second second) = second_text date second
 
 -- the device's name, the line's, and the value
 abbrev pub line_text : (date : List ℕ) → Line → List ℕ
-line_text date line = device_name line.device ++ name_text line.name ++ codes " " ++ value_text date line.value ++ codes "\n"
+line_text date line = device_name line.device ++ name_text line.name ++ codes " " ++ value_text date line.value
+    ++ codes "\n"
 
 -- a line at the end of a text
 abbrev pub AddsLine : (old new : List ℕ) → Line → Type 0
@@ -66,4 +71,5 @@ AddsLine old new line = (date : List ℕ) × IsDateText (day_of line.value) date
 abbrev pub AreLinesText : List Line → List ℕ → Type 0
 AreLinesText [] text = text ≡ []
 AreLinesText (line ∷ lines) text =
-    (date : List ℕ) × (rest : List ℕ) × IsDateText (day_of line.value) date × (text ≡ line_text date line ++ rest) × AreLinesText lines rest
+    (date : List ℕ) × (rest : List ℕ) × IsDateText (day_of line.value) date × (text ≡ line_text date line ++ rest)
+    × AreLinesText lines rest

@@ -5,7 +5,8 @@ ghost use Rattle.state_text.specs.Shown.{cut, is_plain, hex_digit, two_hex, byte
 
 use std::alloc::AllocError;
 
-/// Adds bytes as text: without the spaces at their end, and what is no printable character of ASCII as `\x` and two digits.
+/// Adds bytes as text: without the spaces at their end, and what is no printable character of ASCII as `\x` and two
+/// digits.
 pub(crate) fn write_shown(text: &mut Vec<u8>, bytes: &[u8]) -> Result<(), AllocError>
     ensures { OnOk result (text.new.items ≡ text.old.items ++ shown bytes.now) }
 {

@@ -3,7 +3,8 @@ ghost use Rattle.std.specs.Prelude.{◌≡◌, ◌<◌, ◌++◌, IfOk, OnOk, �
 ghost use Rattle.tacho_types.specs.declared.calendar.TheConstants.{DAYS};
 ghost use Rattle.state_text.specs.Lines.{day_of, AreDated};
 ghost use Rattle.state_text.specs.Shown.{shown};
-ghost use Rattle.state_text.specs.Text.{plate_text, card_text, owed_text, bad_file_text, minute_text, second_text, value_text, AddsLine, AreLinesText};
+ghost use Rattle.state_text.specs.Text.{plate_text, card_text, owed_text, bad_file_text, minute_text, second_text};
+ghost use Rattle.state_text.specs.Text.{value_text, AddsLine, AreLinesText};
 
 use crate::line::{Line, OwedTo, Value, day_of, device_name, name_text, rule_name};
 use crate::shown::{write_shown, write_two_hex};

@@ -1,7 +1,8 @@
 -- What a command does to what a card tells of its flat image.
 use Rattle.std.specs.Prelude.{◌≡◌, ℕ, ◌+◌, ◌<◌, ◌≤◌, Bool, false, option_map, List, length}
 use Rattle.card_layout.specs.Outcomes.{Effect, nothing, gives, puts}
-use Rattle.tach_media.specs.Medium.{State, LeavesOnly, Reads, IsSettled, HasCause, IsPartlyWritten, put, Rose, last_count, most_writes}
+use Rattle.tach_media.specs.Medium.{State, LeavesOnly, Reads, IsSettled, HasCause, IsPartlyWritten, put, Rose}
+use Rattle.tach_media.specs.Medium.{last_count, most_writes}
 
 -- What a call does that writes these bytes at a place.
 pub record WritesAt (place : ℕ) (bytes : List ℕ) (old new : State) (failed : Bool) : Type 0 where

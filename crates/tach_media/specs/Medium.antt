@@ -1,5 +1,6 @@
 -- What a medium tells of itself, and what its calls do to that.
-use Rattle.std.specs.Prelude.{◌≡◌, ◌⊎◌, ℕ, ◌+◌, ◌≤◌, ◌<◌, ◌^◌, ◌-◌, ◌/◌, min, max, ◌&&◌, if◌then◌else◌, Bool, true, false, not, List, [], ◌∷◌, length, Option, Some, is_some, option_map}
+use Rattle.std.specs.Prelude.{◌≡◌, ◌⊎◌, ℕ, ◌+◌, ◌≤◌, ◌<◌, ◌^◌, ◌-◌, ◌/◌, min, max, ◌&&◌, if◌then◌else◌, Bool, true}
+use Rattle.std.specs.Prelude.{false, not, List, [], ◌∷◌, length, Option, Some, is_some, option_map}
 use Rattle.std.specs.Borrow.{GName}
 pub use Rattle.card_layout.specs.Images.{bytes_at, put, SameOutside}
 use Rattle.card_layout.specs.Fields.{IsBytes}
@@ -59,9 +60,11 @@ most_writes len = max 1 ((len + 254) / 255)
 -- the range lies inside one of these
 abbrev pub LiesInside : List (ℕ × ℕ) → ℕ → ℕ → Type 0
 LiesInside [] place len = ⊥
-LiesInside (range ∷ ranges) place len = ((range.0 ≤ place) × (place + len ≤ range.0 + range.1)) ⊎ LiesInside ranges place len
+LiesInside (range ∷ ranges) place len = ((range.0 ≤ place) × (place + len ≤ range.0 + range.1))
+    ⊎ LiesInside ranges place len
 
--- A write of these bytes that is cut short: of at most four all are written or none, of more there may be any bytes in the range.
+-- A write of these bytes that is cut short: of at most four all are written or none, of more there may be any bytes in
+-- the range.
 pub record IsPartlyWritten (place : ℕ) (bytes old new : List ℕ) : Type 0 where
   pub outside : SameOutside place (length bytes) old new
   pub whole : length bytes ≤ 4 → (new ≡ old) ⊎ (new ≡ put place bytes old)
@@ -70,8 +73,8 @@ pub record IsPartlyWritten (place : ℕ) (bytes old new : List ℕ) : Type 0 whe
 abbrev pub Unchanged : List ℕ → List ℕ → Type 0
 Unchanged old new = ⊥
 
--- What a run of calls does. Where the image is told, a stop at a moment of the run leaves an image that is so related to
--- the one before the run, and at no earlier moment another than was told before.
+-- What a run of calls does. Where the image is told, a stop at a moment of the run leaves an image that is so related
+-- to the one before the run, and at no earlier moment another than was told before.
 pub record LeavesOnly (old new : State) (R : List ℕ → List ℕ → Type 0) : Type 0 where
   pub size : new.size ≡ old.size
   pub behind : new.behind ≡ old.behind
@@ -79,7 +82,8 @@ pub record LeavesOnly (old new : State) (R : List ℕ → List ℕ → Type 0) :
   pub layers : new.layers ≡ old.layers
   pub tells : is_some new.image ≡ is_some old.image
   pub later : old.clock ≤ new.clock
-  pub since : (t : ℕ) (c : List ℕ) → t ≤ old.clock → new.left_since t c → old.left_since t c ⊎ ((x : List ℕ) × (old.image ≡ Some x) × R x c)
+  pub since : (t : ℕ) (c : List ℕ) → t ≤ old.clock → new.left_since t c
+      → old.left_since t c ⊎ ((x : List ℕ) × (old.image ≡ Some x) × R x c)
   pub now : (c : List ℕ) → new.may_leave c → old.may_leave c ⊎ ((x : List ℕ) × (old.image ≡ Some x) × R x c)
   -- what might have been left before might still
   pub keeps : (t : ℕ) (c : List ℕ) → t ≤ old.clock → old.left_since t c → new.left_since t c
@@ -100,8 +104,8 @@ pub record HasCause (old new : State) (failed : Bool) : Type 0 where
   pub unbroken : failed ≡ false → new.breakdowns ≡ old.breakdowns
   pub already : old.works ≡ false → new.breakdowns ≡ old.breakdowns
 
--- Over calls, however they ended, and calls of `revive`: so many of them at least broke the medium, or that count stands at its
--- last value.
+-- Over calls, however they ended, and calls of `revive`: so many of them at least broke the medium, or that count
+-- stands at its last value.
 pub record HasBroken (old new : State) (times : ℕ) : Type 0 where
   pub faults : old.faults ≤ new.faults
   pub breakdowns : min (old.breakdowns + times) last_count ≤ new.breakdowns
@@ -121,9 +125,10 @@ pub record Reads (old new : State) (failed : Bool) : Type 0 where
 abbrev pub StaysSettled : (old new : State) → Type 0
 StaysSettled old new = (old.clock < new.clock) ⊎ IsSettled old → new.clock < last_count → IsSettled new
 
--- What a call does that writes: after Ok the image is turned by f, and a stop at a moment of the call leaves an image that is
--- so related to the one before. It begins so many writes at least, after Ok, and at most.
-pub record Writes (old new : State) (failed : Bool) (least most : ℕ) (f : List ℕ → List ℕ) (R : List ℕ → List ℕ → Type 0) : Type 0 where
+-- What a call does that writes: after Ok the image is turned by f, and a stop at a moment of the call leaves an image
+-- that is so related to the one before. It begins so many writes at least, after Ok, and at most.
+pub record Writes (old new : State) (failed : Bool) (least most : ℕ) (f : List ℕ → List ℕ)
+    (R : List ℕ → List ℕ → Type 0) : Type 0 where
   pub written : failed ≡ false → new.image ≡ option_map f old.image
   pub leaves : LeavesOnly old new R
   pub settled : failed ≡ false → StaysSettled old new
@@ -136,7 +141,14 @@ abbrev pub lent : GName → State → State
 lent name s = record s { layers = Reference name ∷ s.layers }
 
 pub lent_coherent : (name : GName) (s : State) → IsCoherent s → IsCoherent (lent name s)
-lent_coherent name s whole = record { sized = whole.sized; left_sized = whole.left_sized; is_left = whole.is_left; only = whole.only; counts_now = whole.counts_now; earlier = whole.earlier }
+lent_coherent name s whole = record {
+  sized = whole.sized;
+  left_sized = whole.left_sized;
+  is_left = whole.is_left;
+  only = whole.only;
+  counts_now = whole.counts_now;
+  earlier = whole.earlier;
+}
 
 -- as if the medium worked: a `revive` that fails is a breakdown too
 abbrev pub revivable : State → State

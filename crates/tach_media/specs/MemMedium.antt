@@ -1,5 +1,6 @@
 -- What a medium in memory tells of itself.
-use Rattle.std.specs.Prelude.{◌≡◌, ℕ, ◌==◌, ◌&&◌, ◌||◌, not, is_some, Bool, List, [], ◌∷◌, length, Option, Some, find, option_map, unwrap_or, if◌then◌else◌}
+use Rattle.std.specs.Prelude.{◌≡◌, ℕ, ◌==◌, ◌&&◌, ◌||◌, not, is_some, Bool, List, [], ◌∷◌, length, Option, Some, find}
+use Rattle.std.specs.Prelude.{option_map, unwrap_or, if◌then◌else◌}
 use Rattle.std.proofs.Common.{ap, arith}
 use Rattle.tach_media.specs.Counting.{failed_once}
 use Rattle.tach_media.specs.Medium.{State, IsCoherent}
@@ -49,7 +50,8 @@ next_stop m = option_map (λ s. s.left) (find (λ s. s.call == m.calls) m.stops)
 
 -- the log after a write: it is begun where the medium works and there is room, and a stop leaves of it what it says
 abbrev pub log_after : MemView → ℕ → List ℕ → History
-log_after m place bytes = if m.counts.works && has_room m.log (length bytes) then add m.log place (unwrap_or (next_stop m) After) bytes else m.log
+log_after m place bytes = if m.counts.works && has_room m.log (length bytes)
+    then add m.log place (unwrap_or (next_stop m) After) bytes else m.log
 
 -- the counts after a call
 abbrev pub counts_after : Counts → (failed : Bool) → Counts

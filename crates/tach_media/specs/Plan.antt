@@ -51,7 +51,8 @@ PutsAll old new failed ps = Writes old new failed (length ps) (length ps) (put_a
 
 -- The same where the writes depend on the image, which was read before.
 abbrev pub PutsBy : (old new : State) → Bool → (least most : ℕ) → (List ℕ → List Piece) → Type 0
-PutsBy old new failed least most plan = Writes old new failed least most (λ x. put_all (plan x) x) (λ x c. IsPartway (plan x) x c)
+PutsBy old new failed least most plan = Writes old new failed least most (λ x. put_all (plan x) x)
+    (λ x c. IsPartway (plan x) x c)
 
 -- none has more than four bytes
 abbrev pub AreShort : List Piece → Type 0

@@ -28,4 +28,13 @@ slice_bytes bytes fit = record {
 }
 
 pub slice_coherent : (bytes : List ℕ) → IsCoherent (slice_state bytes)
-slice_coherent bytes = record { sized = λ x is. let same : x ≡ bytes = cc in omega (arith, ap length same); left_sized = λ c left. let same : c ≡ bytes = cc in omega (arith, ap length same); is_left = λ x is. is; only = λ x works left. left; counts_now = λ t x le left. left; earlier = λ t u x le high left. left }
+slice_coherent bytes = record {
+  sized = λ x is. let same : x
+      ≡ bytes = cc in omega (arith, ap length same);
+  left_sized = λ c left. let same : c
+      ≡ bytes = cc in omega (arith, ap length same);
+  is_left = λ x is. is;
+  only = λ x works left. left;
+  counts_now = λ t x le left. left;
+  earlier = λ t u x le high left. left;
+}

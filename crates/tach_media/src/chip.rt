@@ -1,7 +1,8 @@
 ghost use Rattle.std.specs.Prelude.{◌≡◌, ◌≤◌, ◌<◌, [], length, option_map, OnOk, OnErr, is_err};
 ghost use Rattle.std.specs.Option.{ForSome};
 ghost use Rattle.card_layout.specs.declared.command.CardState.{CardState};
-ghost use Rattle.tach_media.specs.Medium.{State, IsCoherent, HoldsBytes, LeavesOnly, IsSettled, HasCause, Unchanged, Rose, put, last_count, revivable};
+ghost use Rattle.tach_media.specs.Medium.{State, IsCoherent, HoldsBytes, LeavesOnly, IsSettled, HasCause, Unchanged};
+ghost use Rattle.tach_media.specs.Medium.{Rose, put, last_count, revivable};
 ghost use Rattle.card_layout.specs.Outcomes.{outcome_of, IsAnswered, just_issued, after_reset};
 ghost use Rattle.card_layout.specs.Issue.{IsIssued};
 ghost use Rattle.tach_media.specs.Chip.{Does};
@@ -29,8 +30,10 @@ pub trait Chip {
 
     /// Sends a command and takes its answer, data and status word.
     fn transmit(&mut self, command: &[u8], answer: &mut Answer) -> Result<(), Failed>
-        ensures answered { OnOk result (IsAnswered command.now (state self.old).image (card self.old) (card self.new) answer.new.items) }
-        ensures image { Does (outcome_of (card self.old) command.now).effect (state self.old) (state self.new) (is_err result) }
+        ensures answered { OnOk result (IsAnswered command.now (state self.old).image (card self.old) (card self.new)
+            answer.new.items) }
+        ensures image { Does (outcome_of (card self.old) command.now).effect (state self.old) (state self.new)
+            (is_err result) }
         ensures kept { OnErr result (card self.new ≡ card self.old) }
         ensures no_answer { OnErr result (answer.new.items ≡ []) };
 
@@ -46,8 +49,8 @@ pub trait Chip {
         ensures state { card self.new ≡ just_issued }
         ensures cause { HasCause (state self.old) (state self.new) (is_err result) };
 
-    /// Makes a chip work again after a failure, with one of the images that a stop may leave, and resets it. The image of
-    /// a chip that works stays.
+    /// Makes a chip work again after a failure, with one of the images that a stop may leave, and resets it. The image
+    /// of a chip that works stays.
     fn revive(&mut self) -> Result<(), Failed>
         ensures moments { LeavesOnly (state self.old) (state self.new) Unchanged }
         ensures clock { (state self.new).clock ≡ (state self.old).clock }

@@ -60,19 +60,20 @@ enum Backing {
     Unopened,
     // It is locked: nobody else who asks for its lock has it, or only such as read.
     Open(File),
-    // It can be neither opened nor made, or somebody else has its lock, or a write could not be synchronised, so that nobody
-    // knows what a power cut leaves of it: every call fails.
+    // It can be neither opened nor made, or somebody else has its lock, or a write could not be synchronised, so that
+    // nobody knows what a power cut leaves of it: every call fails.
     Lost,
     // Its file system lacks this: every call fails.
     Lacking(Missing),
 }
 
-/// A file, as a medium of a fixed size: of a longer file only the front, of a shorter one a read past its end is a fault.
+/// A file, as a medium of a fixed size: of a longer file only the front, of a shorter one a read past its end is a
+/// fault.
 ///
-/// The first call opens the file, and makes it, as zeros, where it is missing or has no byte, as a making that was stopped leaves
-/// it. From then on it is locked; where another program has locked it, every call fails. Every write stands on the disk before
-/// `Ok`, and so does the name of a file that was made. Where the file system lacks what that takes every call fails too, and
-/// `missing` tells what. It tells nothing of its content.
+/// The first call opens the file, and makes it, as zeros, where it is missing or has no byte, as a making that was
+/// stopped leaves it. From then on it is locked; where another program has locked it, every call fails. Every write
+/// stands on the disk before `Ok`, and so does the name of a file that was made. Where the file system lacks what that
+/// takes every call fails too, and `missing` tells what. It tells nothing of its content.
 #[derive(Drop)]
 pub struct FileMedium<'a, R: Files<File = File>> {
     files: &'a R,
@@ -102,8 +103,8 @@ impl<'a, R: Files<File = File>> FileMedium<'a, R> {
         FileMedium::asking(files, path, size, Access::Passing)
     }
 
-    /// The same for what only reads: the file may be one that can't be written, and others that only read may have it at the
-    /// same time. Every write fails.
+    /// The same for what only reads: the file may be one that can't be written, and others that only read may have it
+    /// at the same time. Every write fails.
     pub fn for_reading(files: &'a R, path: &'a str, size: u32) -> FileMedium<'a, R>
         ensures untouched { IsUntouched size (⟦<FileMedium<'a, R> as Medium>⟧.state result) }
         ensures missing { missing_in result.backing ≡ None }
@@ -127,7 +128,8 @@ impl<'a, R: Files<File = File>> FileMedium<'a, R> {
         }
     }
 
-    /// What the file system lacks, where a call has failed for that. The medium does not work then, and each call fails.
+    /// What the file system lacks, where a call has failed for that. The medium does not work then, and each call
+    /// fails.
     pub fn missing(&self) -> Option<Missing>
         ensures told { result ≡ missing_in self.now.backing }
         ensures works { is_some result ≡ true → (⟦<FileMedium<'a, R> as Medium>⟧.state self.now).works ≡ false }
@@ -143,7 +145,8 @@ impl<'a, R: Files<File = File>> Medium for FileMedium<'a, R> {
     ghost use Rattle.std.specs.Prelude.{[], ◌∷◌};
     ghost use Rattle.tach_media.specs.Untold.{untold_state, untold};
 
-    ghost state = { λ m. untold_state m.size ((0, m.size) ∷ []) m.clock m.counts.works m.counts.faults m.counts.breakdowns };
+    ghost state = { λ m. untold_state m.size ((0, m.size) ∷ []) m.clock m.counts.works m.counts.faults
+        m.counts.breakdowns };
 
     ghost coherent = { λ m. untold m.size ((0, m.size) ∷ []) m.clock m.counts.works m.counts.faults m.counts.breakdowns };
 
@@ -289,7 +292,8 @@ fn unlocked(refusal: TryLockError) -> Unreached
     }
 }
 
-// Whether a file has no byte. Whoever makes one holds its lock, so of one that is locked here it says that a making was stopped.
+// Whether a file has no byte. Whoever makes one holds its lock, so of one that is locked here it says that a making was
+// stopped.
 fn is_empty(file: &File) -> bool {
     matches!(file.read_at(&mut [0; 1], 0), Ok(0))
 }
@@ -302,8 +306,8 @@ fn is_pipe<R: Files<File = File>>(files: &R, path: &str) -> bool {
     }
 }
 
-// A new file of so many zeros. One that could be neither locked nor filled, or whose name does not stand in its folder, is taken
-// away again; one that another program has locked meanwhile is left to it, which fills it.
+// A new file of so many zeros. One that could be neither locked nor filled, or whose name does not stand in its folder,
+// is taken away again; one that another program has locked meanwhile is left to it, which fills it.
 fn made<R: Files<File = File>>(files: &R, path: &str, size: u32) -> Result<File, Unreached> {
     let mut options = OpenOptions::new();
     options.read(true).write(true).create_new(true);
@@ -336,8 +340,8 @@ fn refilled<R: Files<File = File>>(
     done
 }
 
-// Fills a file with so many zeros, and waits until they and its name stand on the disk. It has its name still: another program
-// that could not fill it may have taken it away before this one locked it.
+// Fills a file with so many zeros, and waits until they and its name stand on the disk. It has its name still: another
+// program that could not fill it may have taken it away before this one locked it.
 fn filled<R: Files<File = File>>(
     files: &R,
     path: &str,

@@ -1,7 +1,8 @@
 //! The outside of the tachograph: sources and sinks of bytes, media and chips that a stop may cut off at any
 //! moment, and what stands for each of them in memory, in a file, or where there is none.
 //!
-//! Writes that are known before the first of them: a plan of pieces, each a place and its bytes, and the one call that writes it.
+//! Writes that are known before the first of them: a plan of pieces, each a place and its bytes, and the one call that
+//! writes it.
 #![tactic(auto)]
 
 // what stops, fails and is counted

@@ -41,10 +41,23 @@ impl Model for Log {
 
     ghost Value = { History };
 
-    ghost view = { λ l. record { start = l.start.items; entries = l.entries.items; written = l.written.items; most_writes = l.most_writes; most_bytes = l.most_bytes } };
+    ghost view = { λ l. record {
+      start = l.start.items;
+      entries = l.entries.items;
+      written = l.written.items;
+      most_writes = l.most_writes;
+      most_bytes = l.most_bytes;
+    } };
 
     ghost invariant = { λ l. record {
-      now : l.image.items ≡ image_of (record { start = l.start.items; entries = l.entries.items; written = l.written.items; most_writes = l.most_writes; most_bytes = l.most_bytes });
+      now : l.image.items ≡ image_of
+          (record {
+            start = l.start.items;
+            entries = l.entries.items;
+            written = l.written.items;
+            most_writes = l.most_writes;
+            most_bytes = l.most_bytes;
+          });
       whole : bytes_of l.entries.items ≡ length l.written.items;
       short : length l.image.items < 2 ^ 32;
       entries_fit : l.most_writes ≤ vec_capacity l.entries;
@@ -61,7 +74,14 @@ impl Log {
         log_bytes: u32,
     ) -> Result<Log, AllocError>
         requires { length image.items < 2 ^ 32 }
-        ensures { IfOk result (λ log. log ≡ record { start = image.items; entries = []; written = []; most_writes = writes; most_bytes = log_bytes }) }
+        ensures { IfOk result (λ log. log
+            ≡ record {
+              start = image.items;
+              entries = [];
+              written = [];
+              most_writes = writes;
+              most_bytes = log_bytes;
+            }) }
     {
         Ok(Log {
             start: image.clone()?,

@@ -1,14 +1,17 @@
-ghost use Rattle.std.specs.Prelude.{◌≡◌, ◌↔◌, ◌⊎◌, ◌<◌, ◌≤◌, ◌^◌, ◌+◌, length, min, true, false, [], IfOk, IfSome, IsErr, IsOk, IsSome, OnOk, option_map, find, is_err, ◌==◌};
-ghost use Rattle.tach_media.specs.Medium.{IsNew, bytes_at, put, last_count, LeavesOnly, Reads, IsSettled, HasCause, IsPartlyWritten, Rose, Unchanged, most_writes, revivable};
+ghost use Rattle.std.specs.Prelude.{◌≡◌, ◌↔◌, ◌⊎◌, ◌<◌, ◌≤◌, ◌^◌, ◌+◌, length, min, true, false, [], IfOk, IfSome};
+ghost use Rattle.std.specs.Prelude.{IsErr, IsOk, IsSome, OnOk, option_map, find, is_err, ◌==◌};
+ghost use Rattle.tach_media.specs.Medium.{IsNew, bytes_at, put, last_count, LeavesOnly, Reads, IsSettled, HasCause};
+ghost use Rattle.tach_media.specs.Medium.{IsPartlyWritten, Rose, Unchanged, most_writes, revivable};
 ghost use Rattle.tach_media.specs.Log.{has_room};
-ghost use Rattle.tach_media.specs.MemMedium.{memory_state, coherent, next_stop, read_fails, write_fails, log_after, counts_after};
+ghost use Rattle.tach_media.specs.MemMedium.{memory_state, coherent, next_stop, read_fails, write_fails, log_after};
+ghost use Rattle.tach_media.specs.MemMedium.{counts_after};
 
 use crate::{Counts, Failed, Left, Log, Medium, Memory, Stop};
 use std::alloc::Global;
 use std::marker::Model;
 
-/// A medium in memory, which keeps each write that was begun. No call on it fails but at a stop, after one up to the next
-/// `revive`, or a write for which its log has no room.
+/// A medium in memory, which keeps each write that was begun. No call on it fails but at a stop, after one up to the
+/// next `revive`, or a write for which its log has no room.
 #[derive(Drop)]
 pub struct MemMedium {
     log: Log,
@@ -36,7 +39,14 @@ impl MemMedium {
     ) -> Result<MemMedium, Memory>
         requires { length image.items < 2 ^ 32 }
         ensures new { IfOk result (λ medium. IsNew image.items (memory_state medium.log medium.counts)) }
-        ensures log { IfOk result (λ medium. medium.log ≡ record { start = image.items; entries = []; written = []; most_writes = writes; most_bytes = log_bytes }) }
+        ensures log { IfOk result (λ medium. medium.log
+            ≡ record {
+              start = image.items;
+              entries = [];
+              written = [];
+              most_writes = writes;
+              most_bytes = log_bytes;
+            }) }
         ensures stops { IfOk result (λ medium. (medium.stops ≡ stops.items) × (medium.calls ≡ 0)) }
     {
         Ok(MemMedium {
@@ -70,8 +80,10 @@ impl Medium for MemMedium {
 
     fn read_at(&mut self, place: u32, out: &mut [u8]) -> Result<(), Failed>
         requires { place + length out.old ≤ (memory_state self.old.log self.old.counts).size }
-        ensures bytes { OnOk result (IfSome (memory_state self.old.log self.old.counts).image (λ x. out.new ≡ bytes_at x place (length out.old))) }
-        ensures reads { Reads (memory_state self.old.log self.old.counts) (memory_state self.new.log self.new.counts) (is_err result) }
+        ensures bytes { OnOk result (IfSome (memory_state self.old.log self.old.counts).image
+            (λ x. out.new ≡ bytes_at x place (length out.old))) }
+        ensures reads { Reads (memory_state self.old.log self.old.counts) (memory_state self.new.log self.new.counts)
+            (is_err result) }
 
         // It fails at a stop and on a broken medium alone.
         ensures fails { is_err result ≡ read_fails self.old }
@@ -91,12 +103,19 @@ impl Medium for MemMedium {
 
     fn write_at(&mut self, place: u32, bytes: &[u8]) -> Result<(), Failed>
         requires inside { place + length bytes.now ≤ (memory_state self.old.log self.old.counts).size }
-        ensures written { OnOk result ((memory_state self.new.log self.new.counts).image ≡ option_map (put place bytes.now) (memory_state self.old.log self.old.counts).image) }
-        ensures moments { LeavesOnly (memory_state self.old.log self.old.counts) (memory_state self.new.log self.new.counts) (IsPartlyWritten place bytes.now) }
-        ensures settled { OnOk result (0 < length bytes.now → (memory_state self.new.log self.new.counts).clock < last_count → IsSettled (memory_state self.new.log self.new.counts)) }
-        ensures clock { OnOk result (0 < length bytes.now → Rose (memory_state self.old.log self.old.counts).clock (memory_state self.new.log self.new.counts).clock) }
-        ensures few { (memory_state self.new.log self.new.counts).clock ≤ (memory_state self.old.log self.old.counts).clock + most_writes (length bytes.now) }
-        ensures cause { HasCause (memory_state self.old.log self.old.counts) (memory_state self.new.log self.new.counts) (is_err result) }
+        ensures written { OnOk result ((memory_state self.new.log self.new.counts).image ≡ option_map
+            (put place bytes.now) (memory_state self.old.log self.old.counts).image) }
+        ensures moments { LeavesOnly (memory_state self.old.log self.old.counts)
+            (memory_state self.new.log self.new.counts) (IsPartlyWritten place bytes.now) }
+        ensures settled { OnOk result (0 < length bytes.now → (memory_state self.new.log self.new.counts).clock
+            < last_count → IsSettled (memory_state self.new.log self.new.counts)) }
+        ensures clock { OnOk result (0 < length bytes.now
+            → Rose (memory_state self.old.log self.old.counts).clock
+            (memory_state self.new.log self.new.counts).clock) }
+        ensures few { (memory_state self.new.log self.new.counts).clock
+            ≤ (memory_state self.old.log self.old.counts).clock + most_writes (length bytes.now) }
+        ensures cause { HasCause (memory_state self.old.log self.old.counts) (memory_state self.new.log self.new.counts)
+            (is_err result) }
 
         // It fails at a stop, on a broken medium, and where the log has no room.
         ensures fails { is_err result ≡ write_fails self.old (length bytes.now) }
@@ -119,9 +138,12 @@ impl Medium for MemMedium {
     }
 
     fn revive(&mut self) -> Result<(), Failed>
-        ensures moments { LeavesOnly (memory_state self.old.log self.old.counts) (memory_state self.new.log self.new.counts) Unchanged }
-        ensures clock { (memory_state self.new.log self.new.counts).clock ≡ (memory_state self.old.log self.old.counts).clock }
-        ensures cause { HasCause (revivable (memory_state self.old.log self.old.counts)) (memory_state self.new.log self.new.counts) (is_err result) }
+        ensures moments { LeavesOnly (memory_state self.old.log self.old.counts)
+            (memory_state self.new.log self.new.counts) Unchanged }
+        ensures clock { (memory_state self.new.log self.new.counts).clock
+            ≡ (memory_state self.old.log self.old.counts).clock }
+        ensures cause { HasCause (revivable (memory_state self.old.log self.old.counts))
+            (memory_state self.new.log self.new.counts) (is_err result) }
 
         // It never fails, and leaves all but that the medium works.
         ensures ok { IsOk result }

@@ -1,4 +1,5 @@
-ghost use Rattle.std.specs.Prelude.{◌≡◌, ◌↔◌, ◌⊎◌, ◌+◌, ◌-◌, ◌<◌, ◌≤◌, drop, take, min, length, vec_capacity, Contains, IfOk, IsErr};
+ghost use Rattle.std.specs.Prelude.{◌≡◌, ◌↔◌, ◌⊎◌, ◌+◌, ◌-◌, ◌<◌, ◌≤◌, drop, take, min, length, vec_capacity, Contains};
+ghost use Rattle.std.specs.Prelude.{IfOk, IsErr};
 ghost use Rattle.std.specs.declared.option.Option.TheVariants.{Some as Told};
 ghost use Rattle.std.specs.Io.{ReadsAtMost, WritesAtMost};
 ghost use Rattle.std.specs.Io.KnownBytes.{ReadConsumes};
@@ -24,7 +25,12 @@ impl Model for MemSource {
 
     ghost Value = { SourceView };
 
-    ghost view = { λ s. record { left = drop s.at s.bytes.items; fails = s.fails.items; calls = s.calls; faults = s.faults } };
+    ghost view = { λ s. record {
+      left = drop s.at s.bytes.items;
+      fails = s.fails.items;
+      calls = s.calls;
+      faults = s.faults;
+    } };
 }
 
 impl MemSource {
@@ -100,15 +106,28 @@ impl Model for MemSink {
 
     ghost Value = { SinkView };
 
-    ghost view = { λ s. record { held = s.bytes.items; room = s.room; fails = s.fails.items; calls = s.calls; faults = s.faults } };
+    ghost view = { λ s. record {
+      held = s.bytes.items;
+      room = s.room;
+      fails = s.fails.items;
+      calls = s.calls;
+      faults = s.faults;
+    } };
 
     ghost invariant = { λ s. (length s.bytes.items ≤ s.room) × (s.room ≤ vec_capacity s.bytes) };
 }
 
 impl MemSink {
-    /// A sink behind these bytes, which takes as many as there is room for. The calls of these numbers fail, counted from 0.
+    /// A sink behind these bytes, which takes as many as there is room for. The calls of these numbers fail, counted
+    /// from 0.
     pub fn new(room: Vec<u8>, fails: Vec<u64>) -> MemSink
-        ensures { result ≡ record { held = room.items; room = vec_capacity room; fails = fails.items; calls = 0; faults = 0 } }
+        ensures { result ≡ record {
+          held = room.items;
+          room = vec_capacity room;
+          fails = fails.items;
+          calls = 0;
+          faults = 0;
+        } }
     {
         MemSink {
             room: room.capacity(),
@@ -137,9 +156,10 @@ impl Sink for MemSink {
         ensures bytes { Takes (Told self.old.held) (Told self.new.held) result piece.now }
         ensures cause { CountsFaults self.old.faults self.new.faults result }
 
-        // Only the listed calls fail, each of them does, and so does a write of some bytes where no room is left; any other
-        // takes all, or fills the room.
-        ensures fails { IsErr result ↔ (Contains self.old.fails self.old.calls ⊎ ((0 < length piece.now) × (length self.old.held ≡ self.old.room))) }
+        // Only the listed calls fail, each of them does, and so does a write of some bytes where no room is left; any
+        // other takes all, or fills the room.
+        ensures fails { IsErr result ↔ (Contains self.old.fails self.old.calls
+            ⊎ ((0 < length piece.now) × (length self.old.held ≡ self.old.room))) }
         ensures count { IfOk result (λ n. n ≡ min (length piece.now) (self.old.room - length self.old.held)) }
         ensures calls { self.new.calls ≡ min (self.old.calls + 1) last_count }
         ensures listed { (self.new.fails ≡ self.old.fails) × (self.new.room ≡ self.old.room) }

@@ -74,8 +74,8 @@ fn kept<const B: usize>(bytes: &[u8]) -> ArrayVec<u8, B>
     room
 }
 
-/// Writes the pieces of a plan, one after the other. At each moment of the call those before one are written, and that one
-/// is cut short; where none has more than four bytes, the first few are written.
+/// Writes the pieces of a plan, one after the other. At each moment of the call those before one are written, and that
+/// one is cut short; where none has more than four bytes, the first few are written.
 pub fn put_pieces<M: Medium, const N: usize, const B: usize>(
     medium: &mut M,
     plan: &Plan<N, B>,
@@ -84,7 +84,8 @@ pub fn put_pieces<M: Medium, const N: usize, const B: usize>(
     requires inside { plan.now.end ≤ (M.state medium.old).size }
     requires writable { LiesInside (M.state medium.old).writable plan.now.from (plan.now.end - plan.now.from) }
     ensures puts { PutsAll (M.state medium.old) (M.state medium.new) (is_err result) plan.now.pieces }
-    ensures whole { AreShort plan.now.pieces → LeavesOnly (M.state medium.old) (M.state medium.new) (IsAfterSome plan.now.pieces) }
+    ensures whole { AreShort plan.now.pieces
+        → LeavesOnly (M.state medium.old) (M.state medium.new) (IsAfterSome plan.now.pieces) }
 {
     for held in plan.pieces.as_slice() {
         medium.write_at(held.place, held.bytes.as_slice())?;

@@ -47,7 +47,8 @@ impl<'a> Medium for SliceMedium<'a> {
 
     fn read_at(&mut self, place: u32, out: &mut [u8]) -> Result<(), Failed>
         requires { place + length out.old ≤ (slice_state self.old).size }
-        ensures bytes { OnOk result (IfSome (slice_state self.old).image (λ x. out.new ≡ bytes_at x place (length out.old))) }
+        ensures bytes { OnOk result (IfSome (slice_state self.old).image
+            (λ x. out.new ≡ bytes_at x place (length out.old))) }
         ensures reads { Reads (slice_state self.old) (slice_state self.new) (is_err result) }
         ensures ok { IsOk result }
         ensures same { self.new ≡ self.old }

@@ -6,8 +6,8 @@ use crate::{Failed, Sink, Source};
 use std::io;
 use std::io::{Error, ErrorKind, Read, Write};
 
-/// A reader, as standard input, as a source. It tells what is left where the reader does; standard input tells nothing. A read
-/// that a signal interrupts is no fault, and is made again.
+/// A reader, as standard input, as a source. It tells what is left where the reader does; standard input tells nothing.
+/// A read that a signal interrupts is no fault, and is made again.
 #[derive(Drop)]
 pub struct StdSource<R: Read> {
     inner: R,
@@ -40,8 +40,8 @@ impl<R: Read> Source for StdSource<R> {
     }
 }
 
-/// A writer, as standard output, as a sink. It tells what it holds where the writer does; standard output tells nothing. A write
-/// that a signal interrupts is no fault, and is made again.
+/// A writer, as standard output, as a sink. It tells what it holds where the writer does; standard output tells
+/// nothing. A write that a signal interrupts is no fault, and is made again.
 #[derive(Drop)]
 pub struct StdSink<W: Write> {
     inner: W,

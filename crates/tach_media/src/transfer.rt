@@ -24,7 +24,8 @@ pub fn take_all<S: Source>(alloc: Global, source: &mut S, most: u32) -> Result<V
 
     ensures read_fault { IsErrOf result TakeFault.ReadFault → Rose (S.faults source.old) (S.faults source.new) }
     ensures too_long { IsErrOf result TakeFault.TooLong → IsLongerThan most (S.left source.old) }
-    ensures exactly { OnErr result (Came (S.left source.old) (S.left source.new) (λ n. (IsErrOf result TakeFault.TooLong) ↔ (most < n))) }
+    ensures exactly { OnErr result (Came (S.left source.old) (S.left source.new)
+        (λ n. (IsErrOf result TakeFault.TooLong) ↔ (most < n))) }
     ensures later { S.faults source.old ≤ S.faults source.new }
 {
     let mut bytes = Vec::new(alloc);

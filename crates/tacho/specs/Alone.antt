@@ -99,37 +99,48 @@ pub record ShowsOld (ring : Shape) (x y : List ℕ) : Type 0 where
   pub shown : ring_list ring y ≡ ring_list ring x
   pub dense : IsDense ring y
 
--- WHAT A RUN HAS RECORDED on the unit alone of a trace, that began with this image, at this clock: the crash-safety theorem of the unit, by the rule
--- of minutes of that image.
-pub record IsAlone (cards : Start) (x : List ℕ) (start : ℕ) (items : List Item) (clock : ℕ) (o : Outcome) (unit : State) : Type 0 where
-  pub safe : UnitSafe (recorded x) (history_of (rule_of x) cards o start items) (lost_of (rule_of x) cards o start items) o.marks.items clock unit
+-- WHAT A RUN HAS RECORDED on the unit alone of a trace, that began with this image, at this clock: the crash-safety
+-- theorem of the unit, by the rule of minutes of that image.
+pub record IsAlone (cards : Start) (x : List ℕ) (start : ℕ) (items : List Item) (clock : ℕ) (o : Outcome)
+    (unit : State) : Type 0 where
+  pub safe : UnitSafe (recorded x) (history_of (rule_of x) cards o start items)
+      (lost_of (rule_of x) cards o start items) o.marks.items clock unit
   -- no minute is told as acknowledged by a card
   pub none : (c : Card) → marks_of (device_of c) o.marks.items ≡ []
   -- what the unit was issued with stays, in every image that a stop might have left since
   pub issued : (y : List ℕ) → unit.left_since clock y → issued_bytes y ≡ issued_bytes x
   -- and what is owed to any card, in each of them
   pub owed : (y : List ℕ) → unit.left_since clock y → OwesStill x y
-  -- the odometer of each image that a stop may leave is the start's and the whole kilometres of each span; and so it is stored
-  pub odometer : (y : List ℕ) → unit.may_leave y → OdometerSafe (rule_of x) (log_of o) (told_of o start items) (odometer_at x) y
+  -- the odometer of each image that a stop may leave is the start's and the whole kilometres of each span; and so it is
+  -- stored
+  pub odometer : (y : List ℕ) → unit.may_leave y
+      → OdometerSafe (rule_of x) (log_of o) (told_of o start items) (odometer_at x) y
   pub stored : (y : List ℕ) → unit.may_leave y → ShowsStored x start items o y
-  -- and so is that of each day that it records: as at the start, or that at the end of the first minute with which the run began the day
-  pub days : (y : List ℕ) → unit.may_leave y → (day odometer : ℕ) → RecordsDay y day odometer → RecordsDay x day odometer ⊎ IsBegunIn (recording_of x no_image no_image start items o) y day odometer
-  -- of each type of event none of which was noted in a second in which a call on the unit failed, each image that a stop may leave
-  -- holds those of the run; so it is with the first over speeding and their number
-  pub events : (number : Card → List ℕ) (sessions : ℕ → Visit → ℕ) (t : Tearing) (y : List ℕ) → unit.may_leave y → ShowsRun number x (log_of o) (seconds_of start items) sessions t y
+  -- and so is that of each day that it records: as at the start, or that at the end of the first minute with which the
+  -- run began the day
+  pub days : (y : List ℕ) → unit.may_leave y → (day odometer : ℕ) → RecordsDay y day odometer
+      → RecordsDay x day odometer ⊎ IsBegunIn (recording_of x no_image no_image start items o) y day odometer
+  -- of each type of event none of which was noted in a second in which a call on the unit failed, each image that a
+  -- stop may leave holds those of the run; so it is with the first over speeding and their number
+  pub events : (number : Card → List ℕ) (sessions : ℕ → Visit → ℕ) (t : Tearing) (y : List ℕ) → unit.may_leave y
+      → ShowsRun number x (log_of o) (seconds_of start items) sessions t y
   -- the rings of insertions and places show what they showed
   pub insertions : IsDense insertion_ring x → (y : List ℕ) → unit.may_leave y → ShowsOld insertion_ring x y
   pub places : IsDense unit_place_ring x → (y : List ℕ) → unit.may_leave y → ShowsOld unit_place_ring x y
   -- where its ring was dense, each image that a stop may leave carries the blocks of detailed speed of the run
-  pub speeds : HasSpeedRing x → HasSpeeds (is_sure_block (log_of o)) x clock (blocks_by (log_of o) (seconds_of start items)) unit
+  pub speeds : HasSpeedRing x → HasSpeeds (is_sure_block (log_of o)) x clock
+      (blocks_by (log_of o) (seconds_of start items)) unit
   -- what was found kept after its cuts was so
   pub kept : TellsKept (recording_of x no_image no_image start items o) clock unit
-  -- the last-kept minute of each image that a stop might have left since the start is that of the last minute which it shows
+  -- the last-kept minute of each image that a stop might have left since the start is that of the last minute which it
+  -- shows
   pub last : TellsLast (last_kept x) safe
   -- each decided minute is acknowledged, but where a call failed in the second that decided it
   pub complete : AreMarked (rule_of x) (log_of o) (seconds_of start items) o.marks.items
-  -- where no call on the unit failed, each decided minute stands in the history, and each image that a stop may leave has all of it
-  pub whole : cuts true (log_of o) ≡ [] → HasEachDecided (rule_of x) (told_of o start items) (history_of (rule_of x) cards o start items)
+  -- where no call on the unit failed, each decided minute stands in the history, and each image that a stop may leave
+  -- has all of it
+  pub whole : cuts true (log_of o) ≡ []
+      → HasEachDecided (rule_of x) (told_of o start items) (history_of (rule_of x) cards o start items)
       × ((y : List ℕ) → unit.may_leave y → IsFilled (recorded x) (history_of (rule_of x) cards o start items) y)
 
 -- ---- or why it is not
@@ -141,7 +152,8 @@ IsUnitFault old new (BadUnit place) = Unit {0}
 IsUnitFault old new (ClockBack kept second) = Unit {0}
 IsUnitFault old new (SameCard number) = ⊥
 
--- A RUN IS REFUSED, whatever the unit tells: by the opening, for one of its causes, with the unit as it was and no line told; or later by a unit that
--- was read anew at a power-on.
+-- A RUN IS REFUSED, whatever the unit tells: by the opening, for one of its causes, with the unit as it was and no line
+-- told; or later by a unit that was read anew at a power-on.
 abbrev pub IsRefusedAlone : (start : ℕ) → (before after : Outcome) → (old new : State) → RunFault → Type 0
-IsRefusedAlone start before after old new fault = (IsUnitRefused start old new fault × LeavesOnly old new Unchanged × (after ≡ before)) ⊎ IsFoundLater fault
+IsRefusedAlone start before after old new
+    fault = (IsUnitRefused start old new fault × LeavesOnly old new Unchanged × (after ≡ before)) ⊎ IsFoundLater fault

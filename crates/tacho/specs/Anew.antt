@@ -23,7 +23,11 @@ at_clock clock s = record s { clock = clock }
 
 -- the devices as the run began, at these clocks of the unit and of card a; as often as before each had broken down
 abbrev pub began_at : (unit_clock card_clock : ℕ) → Devices → Devices
-began_at unit_clock card_clock old = record { unit = at_clock unit_clock old.unit; card_a = at_clock card_clock old.card_a; card_b = old.card_b }
+began_at unit_clock card_clock old = record {
+  unit = at_clock unit_clock old.unit;
+  card_a = at_clock card_clock old.card_a;
+  card_b = old.card_b;
+}
 
 -- Unit and card a tell an image, which goes, and card b began with this image alone.
 pub record MayBeAnew (card_b : List ℕ) (old : Devices) : Type 0 where
@@ -31,9 +35,10 @@ pub record MayBeAnew (card_b : List ℕ) (old : Devices) : Type 0 where
   pub card_tells : is_some old.card_a.image ≡ true
   pub of_b : BeginsAs card_b old.card_b
 
--- THE TRACE WAS RECORDED on a new unit, a new card a, and card b, with these images: once those were made, at these clocks, all is recorded
--- that a run promises.
-pub record EndsAnew (unit card_a card_b : List ℕ) (start : ℕ) (items : List Item) (out : Outcome) (old now : Devices) : Type 0 where
+-- THE TRACE WAS RECORDED on a new unit, a new card a, and card b, with these images: once those were made, at these
+-- clocks, all is recorded that a run promises.
+pub record EndsAnew (unit card_a card_b : List ℕ) (start : ℕ) (items : List Item) (out : Outcome)
+    (old now : Devices) : Type 0 where
   pub unit_clock : ℕ
   pub card_clock : ℕ
   pub unit_later : old.unit.clock ≤ unit_clock

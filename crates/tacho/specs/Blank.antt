@@ -15,7 +15,8 @@ zeros n = replicate n 0
 abbrev pub no_image : List ℕ
 no_image = zeros LARGEST_IMAGE
 
--- What it tells of itself. Each write fails, and the first one breaks it for good: the clock and both counts say so from then on.
+-- What it tells of itself. Each write fails, and the first one breaks it for good: the clock and both counts say so
+-- from then on.
 abbrev pub blank_state : (broken : Bool) → State
 blank_state broken = record {
   size = LARGEST_IMAGE;
@@ -37,7 +38,9 @@ length-zeros n = length-replicate n 0
 
 zeros-bytes : (n : ℕ) → IsBytes (zeros n)
 unfolding zeros
-zeros-bytes n i = ⊎_elim (λ inside. omega (arith, get_or-replicate {A = ℕ} n i 0 0 inside)) (λ past. omega (arith, get_or_past {X = ℕ} (replicate n 0) i 0 (omega (arith, past, length-replicate {A = ℕ} n 0)))) (cases_lt i n)
+zeros-bytes n i = ⊎_elim (λ inside. omega (arith, get_or-replicate {A = ℕ} n i 0 0 inside))
+    (λ past. omega (arith, get_or_past {X = ℕ} (replicate n 0) i 0 (omega (arith, past, length-replicate {A = ℕ} n 0))))
+    (cases_lt i n)
 
 pub blank_bytes : (broken : Bool) → HoldsBytes (blank_state broken)
 blank_bytes broken = record {

@@ -1,4 +1,5 @@
--- What the commands `card a` and `card b` do: the card is read by its commands, and its card file is written to the sink.
+-- What the commands `card a` and `card b` do: the card is read by its commands, and its card file is written to the
+-- sink.
 use Rattle.std.specs.Prelude.{◌≡◌, ◌⊎◌, ℕ, IfSome, Result, Ok, Err}
 use Rattle.tach_media.specs.Medium.{Reads, Rose}
 use Rattle.run_model.specs.declared.Device.{Device}
@@ -22,10 +23,12 @@ pub record EndsCard (device : Device) (old new : CardTold) (before after : SinkT
   -- It ends as the writing of a card file does.
   pub ended : Result (Unit {0}) CardFileFault
   pub ends : fault ≡ end_of_card device ended
-  -- Of a card that tells its image, the sink gained the card file of that image, and nothing else; where the sink or the card failed
-  -- a front of it; and where a field of Application_Identification is out of its range, nothing: the first such field is named.
+  -- Of a card that tells its image, the sink gained the card file of that image, and nothing else; where the sink or
+  -- the card failed a front of it; and where a field of Application_Identification is out of its range, nothing: the
+  -- first such field is named.
   pub writes : IfSome old.memory.image (λ x. Writes ended x before.held after.held)
   -- The card is read, and never written.
   pub card : Reads old.memory new.memory (is_medium_fault fault)
   -- Where neither failed, all is done, or a field is named.
-  pub finishes : (Rose old.memory.faults new.memory.faults → ⊥) → (Rose before.faults after.faults → ⊥) → (fault ≡ Done) ⊎ ((field : ℕ) × (fault ≡ BadCard field))
+  pub finishes : (Rose old.memory.faults new.memory.faults → ⊥) → (Rose before.faults after.faults → ⊥)
+      → (fault ≡ Done) ⊎ ((field : ℕ) × (fault ≡ BadCard field))

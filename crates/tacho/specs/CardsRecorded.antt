@@ -41,7 +41,8 @@ pub record AreSound (old new : Outside) : Type 0 where
 abbrev pub HaveCounts : Devices → Type 0
 HaveCounts d = (device : Device) → breakdowns_of d device < last_count
 
--- IT WAS REFUSED IN THE OPENING, whatever the devices tell: for the cause that this names, with each device as it was and no outcome.
+-- IT WAS REFUSED IN THE OPENING, whatever the devices tell: for the cause that this names, with each device as it was
+-- and no outcome.
 pub record IsRefusedInOpening (start : ℕ) (old new : Devices) (outcome : Outcome) (by : RunFault) : Type 0 where
   pub cause : IsRefused start old new by
   pub same_unit : IsAsItWas old.unit new.unit
@@ -55,8 +56,8 @@ pub record IsNotRecorded (start : ℕ) (old new : Devices) (outcome : Outcome) (
   pub is : fault ≡ refusal_of_run by
   pub when : IsRefusedInOpening start old new outcome by ⊎ IsFoundLater by
 
--- THE TRACE WAS KEPT FROM BEING RECORDED, for the cause that this end names: a call failed in the opening; or by these images the unit's does
--- not decode, the clock is back, or both cards have one number. Each device is as it was.
+-- THE TRACE WAS KEPT FROM BEING RECORDED, for the cause that this end names: a call failed in the opening; or by these
+-- images the unit's does not decode, the clock is back, or both cards have one number. Each device is as it was.
 pub record IsRefusedBy (unit card_a card_b : List ℕ) (start : ℕ) (old new : Outside) (fault : Fault) : Type 0 where
   pub by : RunFault
   pub is : fault ≡ refusal_of_run by
@@ -66,31 +67,44 @@ pub record IsRefusedBy (unit card_a card_b : List ℕ) (start : ℕ) (old new : 
 pub record EndsWithCards (old new : Outside) (outcome : Outcome) (fault : Fault) : Type 0 where
   -- One of its lines is a card's.
   pub with_cards : (start : ℕ) (items : List Item) → SourceTells old start items → IsForUnit items → ⊥
-  -- THE RUN of the trace, where it was recorded: the crash-safety theorem of unit and cards, the auxiliary records that the unit shows, and the events that the cards show.
-  pub run : (start : ℕ) (items : List Item) (unit card_a card_b : List ℕ) → StartWith unit card_a card_b start items old new → IsRun fault
+  -- THE RUN of the trace, where it was recorded: the crash-safety theorem of unit and cards, the auxiliary records that
+  -- the unit shows, and the events that the cards show.
+  pub run : (start : ℕ) (items : List Item) (unit card_a card_b : List ℕ)
+      → StartWith unit card_a card_b start items old new → IsRun fault
       → EndsTrace unit card_a card_b start items outcome (devices_of old) (devices_of new)
   -- Each refusal has its cause; the devices are as they were, and there is no outcome.
-  pub refused : (start : ℕ) (items : List Item) (unit card_a card_b : List ℕ) → StartWith unit card_a card_b start items old new → IsRefusal fault
+  pub refused : (start : ℕ) (items : List Item) (unit card_a card_b : List ℕ)
+      → StartWith unit card_a card_b start items old new → IsRefusal fault
       → IsRefusedBy unit card_a card_b start old new fault × IsEmpty outcome
   -- And each cause has its end, where nothing failed: what can be recorded is.
-  pub records : (start : ℕ) (items : List Item) (unit card_a card_b : List ℕ) → StartWith unit card_a card_b start items old new → AreSound old new
+  pub records : (start : ℕ) (items : List Item) (unit card_a card_b : List ℕ)
+      → StartWith unit card_a card_b start items old new → AreSound old new
       → MayRecord unit card_a card_b start → fault ≡ Done
-  pub finds : (start : ℕ) (items : List Item) (unit card_a card_b : List ℕ) → StartWith unit card_a card_b start items old new → AreSound old new
+  pub finds : (start : ℕ) (items : List Item) (unit card_a card_b : List ℕ)
+      → StartWith unit card_a card_b start items old new → AreSound old new
       → (MayRecord unit card_a card_b start → ⊥) → IsRefusedBy unit card_a card_b start old new fault
-  -- WHATEVER THE DEVICES TELL: no clock and no count has fallen, and none broke down but where a call failed; and a refusal came in the opening,
-  -- with each device as it was and no outcome, or of a unit that was read anew at a power-on.
+  -- WHATEVER THE DEVICES TELL: no clock and no count has fallen, and none broke down but where a call failed; and a
+  -- refusal came in the opening, with each device as it was and no outcome, or of a unit that was read anew at a
+  -- power-on.
   pub later : AreAfter (devices_of old) (devices_of new)
-  pub early : (start : ℕ) (items : List Item) → SourceTells old start items → IsRefusal fault → IsNotRecorded start (devices_of old) (devices_of new) outcome fault
+  pub early : (start : ℕ) (items : List Item) → SourceTells old start items → IsRefusal fault
+      → IsNotRecorded start (devices_of old) (devices_of new) outcome fault
   -- Each cut that a failed call made is a breakdown of the unit more.
   pub broke : HasBroken old.unit new.unit (length (cuts true (log_of outcome)))
   -- And where the trace was recorded and no failed call has cut the power, the unit has not broken down.
   pub calm : IsRun fault → cuts true (log_of outcome) ≡ [] → new.unit.breakdowns ≡ old.unit.breakdowns
   -- And where no failed call has torn a card out, neither card has.
-  pub still : IsRun fault → tears true (log_of outcome) ≡ [] → (new.card_a.memory.breakdowns ≡ old.card_a.memory.breakdowns) × (new.card_b.memory.breakdowns ≡ old.card_b.memory.breakdowns)
+  pub still : IsRun fault → tears true (log_of outcome) ≡ []
+      → (new.card_a.memory.breakdowns ≡ old.card_a.memory.breakdowns)
+      × (new.card_b.memory.breakdowns ≡ old.card_b.memory.breakdowns)
   -- Where nothing failed, no call has cut the power or torn out a card.
-  pub unbroken : (start : ℕ) (items : List Item) (unit card_a card_b : List ℕ) → StartWith unit card_a card_b start items old new → AreSound old new
+  pub unbroken : (start : ℕ) (items : List Item) (unit card_a card_b : List ℕ)
+      → StartWith unit card_a card_b start items old new → AreSound old new
       → HaveCounts (devices_of old) → NothingFailed (log_of outcome)
-  -- WHERE NOTHING FAILED, EVERY MINUTE IS THERE: each decided one stands in the history, the unit has all of it in its newest days, with each whole
-  -- kilometre, and a card that was accepted all of its entries, retained, but those behind whose minute a `tear` line pulled it out.
-  pub whole : (start : ℕ) (items : List Item) (unit card_a card_b : List ℕ) → StartWith unit card_a card_b start items old new → AreSound old new
-      → HaveCounts (devices_of old) → IsRun fault → IsAllThere (recording_of unit card_a card_b start items outcome) (devices_of new)
+  -- WHERE NOTHING FAILED, EVERY MINUTE IS THERE: each decided one stands in the history, the unit has all of it in its
+  -- newest days, with each whole kilometre, and a card that was accepted all of its entries, retained, but those behind
+  -- whose minute a `tear` line pulled it out.
+  pub whole : (start : ℕ) (items : List Item) (unit card_a card_b : List ℕ)
+      → StartWith unit card_a card_b start items old new → AreSound old new
+      → HaveCounts (devices_of old) → IsRun fault
+      → IsAllThere (recording_of unit card_a card_b start items outcome) (devices_of new)

@@ -1,4 +1,5 @@
--- How `demo` ends: a unit and a card are made new, a demonstration is recorded on them, and the unit is downloaded (profile).
+-- How `demo` ends: a unit and a card are made new, a demonstration is recorded on them, and the unit is downloaded
+-- (profile).
 use Rattle.std.specs.Prelude.{◌≡◌, ◌⊎◌, ℕ, List, ◌++◌, codes, Some, IfSome}
 use Rattle.std.specs.Io.KnownBytes.{Appends, Keeps}
 use Rattle.tach_media.specs.Medium.{State}
@@ -18,7 +19,9 @@ use Rattle.unit_download.specs.declared.measuring.FileSize.{FileSize}
 use Rattle.unit_download.specs.Measures.{IsSizeOf}
 use Rattle.tacho.specs.declared.demo_command.TheConstants.{VEHICLE, CARD}
 use Rattle.tacho.specs.declared.end.Fault.{Fault}
-use Rattle.tacho.specs.declared.end.Fault.TheVariants.{Done, Usage, BadTrace, TooLong, BadUnit, ReadFault, WriteFault, MediumFault, Memory, BadFile, BadCard, Changed, FileFault, LinkEnded}
+use Rattle.tacho.specs.declared.end.Fault.TheVariants.{Done, Usage, BadTrace, TooLong, BadUnit, ReadFault, WriteFault}
+use Rattle.tacho.specs.declared.end.Fault.TheVariants.{MediumFault, Memory, BadFile, BadCard, Changed, FileFault}
+use Rattle.tacho.specs.declared.end.Fault.TheVariants.{LinkEnded}
 use Rattle.tacho.specs.Outside.{Outside}
 use Rattle.tacho.specs.Outcomes.{IsEmpty, IsRun, refusal_of_run, count_line, outcome_text}
 use Rattle.tacho.specs.CardsRecorded.{devices_of, AreSound}
@@ -26,7 +29,8 @@ use Rattle.tacho.specs.Formatting.{card_image, unit_image}
 
 -- THE SEVEN LINES: those of the outcome, the bytes of the unit's file, and its messages of a day
 abbrev pub demo_text : Outcome → FileSize → List ℕ
-demo_text outcome size = outcome_text outcome ++ (count_line (codes "file") size.bytes ++ count_line (codes "days") size.days)
+demo_text outcome size = outcome_text outcome
+    ++ (count_line (codes "file") size.bytes ++ count_line (codes "days") size.days)
 
 -- the end where a device failed as it was made new, or the trace was kept from being recorded
 abbrev pub refusal_anew : AnewFault → Fault
@@ -60,7 +64,8 @@ pub record StartAnew (card_b : List ℕ) (old new : Outside) : Type 0 where
 
 -- the demonstration was recorded on a new unit, a new card, and card b with this image
 abbrev pub IsDemonstrated : (seed : ℕ) → (card_b : List ℕ) → (old new : Outside) → Outcome → Type 0
-IsDemonstrated seed card_b old new outcome = EndsAnew (unit_image VEHICLE) (card_image CARD) card_b FIRST_SECOND (demo_items seed) outcome (devices_of old) (devices_of new)
+IsDemonstrated seed card_b old new outcome = EndsAnew (unit_image VEHICLE) (card_image CARD) card_b FIRST_SECOND
+    (demo_items seed) outcome (devices_of old) (devices_of new)
 
 -- the seven lines went out, with the size of the unit's file, where the unit tells its image
 pub record TellsDemo (Puts : List ℕ → Type 0) (outcome : Outcome) (unit : State) : Type 0 where
@@ -74,14 +79,16 @@ pub record EndsDemo (seed : ℕ) (old new : Outside) (outcome : Outcome) (fault 
   -- THE RUN, where all is done but for what is printed: the crash-safety theorem of a new unit, a new card, and card b.
   pub run : (card_b : List ℕ) → StartAnew card_b old new → IsRun fault → IsDemonstrated seed card_b old new outcome
   -- And however it ends, it was recorded so, or nothing is put down.
-  pub put_down : (card_b : List ℕ) → StartAnew card_b old new → IsDemonstrated seed card_b old new outcome ⊎ IsEmpty outcome
+  pub put_down : (card_b : List ℕ) → StartAnew card_b old new
+      → IsDemonstrated seed card_b old new outcome ⊎ IsEmpty outcome
   -- Done: exactly the seven lines were printed; at a write fault a front of them; and else nothing.
   pub printed : fault ≡ Done → TellsDemo (Appends old.sink.held new.sink.held) outcome new.unit
   pub front : fault ≡ WriteFault → TellsDemo (AppendsFront old.sink.held new.sink.held) outcome new.unit
   pub nothing : (fault ≡ Done → ⊥) → (fault ≡ WriteFault → ⊥) → Keeps old.sink.held new.sink.held
   -- No unit that tells its image gives no answer, or one that the loader refuses.
   pub changed : fault ≡ Changed → IfSome new.unit.image (λ u. ⊥)
-  -- Where nothing failed, memory was there, a run may begin on what was made with card b, whose number is then another than the new card's, and
-  -- the unit tells its image, all is done.
-  pub finishes : (card_b u : List ℕ) → StartAnew card_b old new → AreSound old new → (fault ≡ Memory → ⊥) → MayRecord (unit_image VEHICLE) (card_image CARD) card_b FIRST_SECOND
+  -- Where nothing failed, memory was there, a run may begin on what was made with card b, whose number is then another
+  -- than the new card's, and the unit tells its image, all is done.
+  pub finishes : (card_b u : List ℕ) → StartAnew card_b old new → AreSound old new → (fault ≡ Memory → ⊥)
+      → MayRecord (unit_image VEHICLE) (card_image CARD) card_b FIRST_SECOND
       → new.unit.image ≡ Some u → fault ≡ Done

@@ -27,7 +27,8 @@ end_of_download (Err download.Memory) = Memory
 
 -- HOW `download` ENDS.
 pub record EndsDownload (old new : Outside) (wire : List Passed) (fault : Fault) : Type 0 where
-  -- It ends as a download does: the wire is a run of the tables of loader and unit, and what the loader put out went to the sink.
+  -- It ends as a download does: the wire is a run of the tables of loader and unit, and what the loader put out went to
+  -- the sink.
   pub ended : Result (Unit {0}) DownloadFault
   pub ends : fault ≡ end_of_download ended
   pub downloaded : IsDownload ended old.unit.image wire old.sink.held new.sink.held
@@ -39,7 +40,8 @@ pub record EndsDownload (old new : Outside) (wire : List Passed) (fault : Fault)
   pub nothing : (place : ℕ) → fault ≡ BadUnit place → Keeps old.sink.held new.sink.held
   -- No unit that tells its image gives no answer, or one that the loader refuses.
   pub changed : fault ≡ Changed → IfSome old.unit.image (λ x. ⊥)
-  -- Where neither the unit nor the sink failed, a unit that tells its image is downloaded, or is bad, or memory ran out.
+  -- Where neither the unit nor the sink failed, a unit that tells its image is downloaded, or is bad, or memory ran
+  -- out.
   pub finishes : (Rose old.unit.faults new.unit.faults → ⊥) → (Rose old.sink.faults new.sink.faults → ⊥)
       → IfSome old.unit.image (λ x. (fault ≡ Done) ⊎ ((fault ≡ Memory) ⊎ ((place : ℕ) × (fault ≡ BadUnit place))))
   -- The unit is read, if at all, and never written.

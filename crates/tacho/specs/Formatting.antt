@@ -52,7 +52,8 @@ IsFormatEnd device Memory = Unit {0}
 IsFormatEnd device _ = ⊥
 
 -- How a command ends that makes a device new, and then prints so.
-pub record EndsFormat (device : Device) (image : List ℕ) (IsMoment : List ℕ → List ℕ → Type 0) (old new : State) (before after : SinkTold) (fault : Fault) : Type 0 where
+pub record EndsFormat (device : Device) (image : List ℕ) (IsMoment : List ℕ → List ℕ → Type 0) (old new : State)
+    (before after : SinkTold) (fault : Fault) : Type 0 where
   pub ends : IsFormatEnd device fault
   pub done : fault ≡ Done → IsMade image old new × Appends before.held after.held formatted_line
   -- a front of the line was printed, of the device that was made new
@@ -64,12 +65,15 @@ pub record EndsFormat (device : Device) (image : List ℕ) (IsMoment : List ℕ 
   pub cause : (fault ≡ Memory → ⊥) → HasCause old new (is_medium_fault fault)
   pub write_fault : fault ≡ WriteFault → Rose before.faults after.faults
   -- where neither fails, all is done or memory ran out
-  pub finishes : (Rose old.faults new.faults → ⊥) → (Rose before.faults after.faults → ⊥) → (fault ≡ Done) ⊎ (fault ≡ Memory)
+  pub finishes : (Rose old.faults new.faults → ⊥) → (Rose before.faults after.faults → ⊥)
+      → (fault ≡ Done) ⊎ (fault ≡ Memory)
 
--- How `format a` and `format b` end: the card is issued to an identity, and answers as a card that was just issued, also where
--- the issue failed.
-pub record EndsIssue (device : Device) (identity : CardIdentity) (old new : CardTold) (before after : SinkTold) (fault : Fault) : Type 0 where
-  pub made : EndsFormat device (card_image identity) (IsIssuing (card_image identity)) old.memory new.memory before after fault
+-- How `format a` and `format b` end: the card is issued to an identity, and answers as a card that was just issued,
+-- also where the issue failed.
+pub record EndsIssue (device : Device) (identity : CardIdentity) (old new : CardTold) (before after : SinkTold)
+    (fault : Fault) : Type 0 where
+  pub made : EndsFormat device (card_image identity) (IsIssuing (card_image identity)) old.memory new.memory before
+      after fault
   pub state : (fault ≡ Memory → ⊥) → new.state ≡ just_issued
 
 -- How `format unit` ends: the unit is made new, of an identity. It takes no memory.

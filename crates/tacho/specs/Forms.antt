@@ -1,5 +1,6 @@
 -- The forms of words that the program knows (profile).
-use Rattle.std.specs.Prelude.{ℕ, ◌&&◌, ◌||◌, if◌then◌else◌, Option, Some, None, option_map, List, [], ◌∷◌, codes, bytes_eq}
+use Rattle.std.specs.Prelude.{ℕ, ◌&&◌, ◌||◌, if◌then◌else◌, Option, Some, None, option_map, List, [], ◌∷◌, codes}
+use Rattle.std.specs.Prelude.{bytes_eq}
 use Rattle.trace_model.specs.Names.{card_named}
 use Rattle.minute_model.specs.declared.Rule.TheVariants.{Original, Amended}
 use Rattle.tacho_types.specs.declared.texts.Name36.{Name36}
@@ -7,10 +8,13 @@ use Rattle.tacho_types.specs.declared.texts.Registration.{Registration}
 use Rattle.card_files.specs.declared.new_card.CardIdentity.{CardIdentity}
 use Rattle.unit_memory.specs.declared.format.Identity.{Identity}
 use Rattle.tacho.specs.declared.forms.Form.{Form}
-use Rattle.tacho.specs.declared.forms.Form.TheVariants.{Minutes, Record, FormatCard, FormatUnit, Upgrade, State, Serve, ServeHex, ServePackets, Download, DownloadNoisy, DownloadPackets, Read, CardFile, Demo, Help, Version}
+use Rattle.tacho.specs.declared.forms.Form.TheVariants.{Minutes, Record, FormatCard, FormatUnit, Upgrade, State, Serve}
+use Rattle.tacho.specs.declared.forms.Form.TheVariants.{ServeHex, ServePackets, Download, DownloadNoisy}
+use Rattle.tacho.specs.declared.forms.Form.TheVariants.{DownloadPackets, Read, CardFile, Demo, Help, Version}
 use Rattle.tacho.specs.declared.forms.Reading.{Reading}
 use Rattle.tacho.specs.declared.forms.Reading.TheVariants.{View, ByHand, Match, MatchAll, Totals, Chart, Speeds}
-use Rattle.tacho.specs.declared.forms.TheConstants.{CARD_NUMBER, NAME, PLATE, VIN, NATION_MOST, LIMIT_LEAST, LIMIT_MOST, LAST_LEAST, LAST_MOST, SPEEDS_MOST, SEED_MOST}
+use Rattle.tacho.specs.declared.forms.TheConstants.{CARD_NUMBER, NAME, PLATE, VIN, NATION_MOST, LIMIT_LEAST, LIMIT_MOST}
+use Rattle.tacho.specs.declared.forms.TheConstants.{LAST_LEAST, LAST_MOST, SPEEDS_MOST, SEED_MOST}
 use Rattle.tacho_types.specs.Texts.{padded_text}
 use Rattle.tacho.specs.Texts.{word_in, number_in}
 
@@ -24,8 +28,8 @@ None >>= rest = None
 abbrev pub name_in : List ℕ → Option Name36
 name_in text = option_map (λ name. record { 0 = padded_text NAME name }) (word_in 1 NAME text)
 
--- what N, NUMBER, SURNAME and FIRST tell of a card: the state, a number from 0 to 255, the card's number of 16 characters, and
--- two names
+-- what N, NUMBER, SURNAME and FIRST tell of a card: the state, a number from 0 to 255, the card's number of 16
+-- characters, and two names
 abbrev pub card_in : (state number surname first : List ℕ) → Option CardIdentity
 card_in state number surname first = do
   state ← number_in 0 NATION_MOST state
@@ -63,7 +67,8 @@ read_form word = do
   reading ← reading_of word
   Some (Read reading)
 
--- `minutes`, `record`, `serve`, `download`, `upgrade` and `state`; `help`, also `--help`, and `--version`; and what is told of a file
+-- `minutes`, `record`, `serve`, `download`, `upgrade` and `state`; `help`, also `--help`, and `--version`; and what is
+-- told of a file
 abbrev pub form_of_one : List ℕ → Option Form
 form_of_one word =
     if bytes_eq word (codes "minutes") then Some (Minutes Original)
@@ -87,8 +92,8 @@ demo_of seed = do
   seed ← number_in 0 SEED_MOST seed
   Some (Demo seed)
 
--- `minutes 2009`, `match all` and `view manual`; `serve --hex`, of which the second word alone begins with `-`; `serve packets` and `download packets`;
--- `card` and `demo`, and what follows them
+-- `minutes 2009`, `match all` and `view manual`; `serve --hex`, of which the second word alone begins with `-`; `serve
+-- packets` and `download packets`; `card` and `demo`, and what follows them
 abbrev pub form_of_two : (command option : List ℕ) → Option Form
 form_of_two command option =
     if bytes_eq command (codes "minutes") && bytes_eq option (codes "2009") then Some (Minutes Amended)
@@ -115,7 +120,8 @@ card_form letter state number surname first = do
 
 abbrev pub format_of : (what first second third fourth : List ℕ) → Option Form
 format_of what first second third fourth =
-    if bytes_eq what (codes "unit") then unit_form first second third fourth else card_form what first second third fourth
+    if bytes_eq what (codes "unit") then unit_form first second third fourth
+    else card_form what first second third fourth
 
 -- `format` and what follows it
 abbrev pub form_of_six : (command what first second third fourth : List ℕ) → Option Form

@@ -59,14 +59,18 @@ IsMinutesEnd _ = ⊥
 -- How they end, each by its rule.
 pub record EndsMinutes (rule : Rule) (old new : Outside) (fault : Fault) : Type 0 where
   pub ends : IsMinutesEnd fault
-  -- Done: the sink gained exactly the view text of the decided minutes of the source's trace, and nothing of the source is
-  -- left.
-  pub printed : (text : List ℕ) → old.source.left ≡ Some text → fault ≡ Done → (out : List ℕ) × PrintsMinutes rule text out × Appends old.sink.held new.sink.held out
+  -- Done: the sink gained exactly the view text of the decided minutes of the source's trace, and nothing of the source
+  -- is left.
+  pub printed : (text : List ℕ) → old.source.left ≡ Some text → fault ≡ Done
+      → (out : List ℕ) × PrintsMinutes rule text out × Appends old.sink.held new.sink.held out
   pub read : fault ≡ Done → IsAtEnd new.source.left
   -- A bad or a long text is refused by its line.
   pub judges : JudgesTrace Minutes old.source new.source fault
   -- And a trace is printed where neither stream fails, unless memory runs out.
-  pub prints : (text : List ℕ) (start : ℕ) (items : List Item) → old.source.left ≡ Some text → IsTraceText Minutes text start items
-      → (Rose old.source.faults new.source.faults → ⊥) → (Rose old.sink.faults new.sink.faults → ⊥) → (fault ≡ Done) ⊎ (fault ≡ Memory)
+  pub prints : (text : List ℕ) (start : ℕ) (items : List Item) → old.source.left ≡ Some text
+      → IsTraceText Minutes text start items
+      → (Rose old.source.faults new.source.faults → ⊥) → (Rose old.sink.faults new.sink.faults → ⊥)
+      → (fault ≡ Done) ⊎ (fault ≡ Memory)
   -- At a write fault a front of what Done appends was appended.
-  pub front : (text : List ℕ) → old.source.left ≡ Some text → fault ≡ WriteFault → (out : List ℕ) × PrintsMinutes rule text out × AppendsFront old.sink.held new.sink.held out
+  pub front : (text : List ℕ) → old.source.left ≡ Some text → fault ≡ WriteFault
+      → (out : List ℕ) × PrintsMinutes rule text out × AppendsFront old.sink.held new.sink.held out

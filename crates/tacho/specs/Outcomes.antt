@@ -1,4 +1,5 @@
--- What `record` tells of a run: its outcome, the five lines that are printed of it, and how the command can end (profile).
+-- What `record` tells of a run: its outcome, the five lines that are printed of it, and how the command can end
+-- (profile).
 use Rattle.std.specs.Prelude.{◌≡◌, ℕ, Some, Option, List, [], ◌∷◌, ◌++◌, length, count_by, codes, decimal}
 use Rattle.run_model.specs.declared.Device.{Device}
 use Rattle.run_model.specs.declared.Device.TheVariants.{Unit as OfUnit, CardA, CardB}
@@ -12,7 +13,8 @@ use Rattle.trace_model.specs.declared.Item.{Item}
 use Rattle.trace_text.specs.declared.lines_trace.Form.TheVariants.{Whole}
 use Rattle.trace_text.specs.Judged.{IsTraceText}
 use Rattle.tacho.specs.declared.end.Fault.{Fault}
-use Rattle.tacho.specs.declared.end.Fault.TheVariants.{Done, Usage, BadUnit, ClockBack, SameCard, WriteFault, MediumFault, BadFile, BadCard, Changed, FileFault, LinkEnded}
+use Rattle.tacho.specs.declared.end.Fault.TheVariants.{Done, Usage, BadUnit, ClockBack, SameCard, WriteFault}
+use Rattle.tacho.specs.declared.end.Fault.TheVariants.{MediumFault, BadFile, BadCard, Changed, FileFault, LinkEnded}
 use Rattle.tacho.specs.Outside.{Outside}
 
 -- an outcome has no line
@@ -55,7 +57,8 @@ IsRun Done = Unit {0}
 IsRun WriteFault = Unit {0}
 IsRun _ = ⊥
 
--- what keeps a trace from being recorded: a device failed, the unit's image does not decode, the clock is back, or both cards are one
+-- what keeps a trace from being recorded: a device failed, the unit's image does not decode, the clock is back, or both
+-- cards are one
 abbrev pub IsRefusal : Fault → Type 0
 IsRefusal (BadUnit place) = Unit {0}
 IsRefusal (ClockBack kept second) = Unit {0}

@@ -29,7 +29,8 @@ pub record Outside : Type 1 where
   pub card_b : CardTold
 
 -- what five values tell, by what each kind of them tells
-abbrev pub outside : {S K U C : Type 0} → (S → Option (List ℕ)) → (S → ℕ) → (K → Option (List ℕ)) → (K → ℕ) → (U → State) → (C → State) → (C → CardState) → S → K → U → C → C → Outside
+abbrev pub outside : {S K U C : Type 0} → (S → Option (List ℕ)) → (S → ℕ) → (K → Option (List ℕ)) → (K → ℕ)
+    → (U → State) → (C → State) → (C → CardState) → S → K → U → C → C → Outside
 outside left read_faults held write_faults unit_memory card_memory card_state source sink unit card_a card_b = record {
   source = record { left = left source; faults = read_faults source };
   sink = record { held = held sink; faults = write_faults sink };

@@ -11,7 +11,8 @@ use Rattle.packet_service.specs.Loading.{Sinks, ArePacketsLoaded}
 use Rattle.tacho.specs.declared.forms.Form.{Form}
 use Rattle.tacho.specs.declared.forms.Form.TheVariants.{DownloadPackets}
 use Rattle.tacho.specs.declared.end.Fault.{Fault}
-use Rattle.tacho.specs.declared.end.Fault.TheVariants.{Done, TooLong, BadUnit, ReadFault, WriteFault, Memory, Changed, FileFault, LinkEnded}
+use Rattle.tacho.specs.declared.end.Fault.TheVariants.{Done, TooLong, BadUnit, ReadFault, WriteFault, Memory, Changed}
+use Rattle.tacho.specs.declared.end.Fault.TheVariants.{FileFault, LinkEnded}
 use Rattle.tacho.specs.End.{is_medium_fault}
 use Rattle.tacho.specs.Outside.{Outside}
 use Rattle.tacho.specs.Serving.{end_of_service}
@@ -21,7 +22,8 @@ pub record EndsServePackets (old new : Outside) (fault : Fault) : Type 0 where
   -- It ends as a service of packets does.
   pub ended : Result (Unit {0}) ServeFault
   pub ends : fault ≡ end_of_service ended
-  -- The sink gained the answers to the packets that came, each new one once, in the order of numbers; less where it failed, or the unit.
+  -- The sink gained the answers to the packets that came, each new one once, in the order of numbers; less where it
+  -- failed, or the unit.
   pub served : ArePacketsServed ended old.unit.image old.source.left new.source.left old.sink.held new.sink.held
   -- Done: nothing of the source is left.
   pub read : fault ≡ Done → IsAtEnd new.source.left
@@ -53,15 +55,20 @@ IsPacketsEnd LinkEnded = Unit {0}
 IsPacketsEnd Memory = Unit {0}
 IsPacketsEnd _ = ⊥
 
--- HOW `download packets` ENDS, of what is left of the source, of what link and file hold, and of whether the file failed.
-pub record EndsDownloadPackets (left unread : Option (List ℕ)) (held sunk : Sinks) (failed : Type 0) (fault : Fault) : Type 0 where
-  -- It ends as a download by packets does: the link has the requests, and the file what the answers that were taken put out.
+-- HOW `download packets` ENDS, of what is left of the source, of what link and file hold, and of whether the file
+-- failed.
+pub record EndsDownloadPackets (left unread : Option (List ℕ)) (held sunk : Sinks) (failed : Type 0)
+    (fault : Fault) : Type 0 where
+  -- It ends as a download by packets does: the link has the requests, and the file what the answers that were taken put
+  -- out.
   pub ended : Result (Unit {0}) PacketsFault
   pub ends : fault ≡ end_of_packets ended
   pub loaded : ArePacketsLoaded ended left unread held sunk
   pub file_fault : fault ≡ FileFault → failed
 
 -- the file is that of a download by packets; no other form writes it
-abbrev pub WritesFile : Option Form → (left unread : Option (List ℕ)) → (held sunk : Sinks) → (failed same : Type 0) → Fault → Type 0
-WritesFile (Some DownloadPackets) left unread held sunk failed same fault = EndsDownloadPackets left unread held sunk failed fault
+abbrev pub WritesFile : Option Form → (left unread : Option (List ℕ)) → (held sunk : Sinks) → (failed same : Type 0)
+    → Fault → Type 0
+WritesFile (Some DownloadPackets) left unread held sunk failed same fault = EndsDownloadPackets left unread held sunk
+    failed fault
 WritesFile asked left unread held sunk failed same fault = same

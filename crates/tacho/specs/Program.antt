@@ -1,5 +1,6 @@
--- THE PROGRAM: how its one call ends, and what it leaves untouched (profile). What each form promises stands in the form's own
--- file: Minutes, Recorded, Serving, Downloading, Packets, Read, CardFile, Formatting, Upgrading, State, Demo, Help.
+-- THE PROGRAM: how its one call ends, and what it leaves untouched (profile). What each form promises stands in the
+-- form's own file: Minutes, Recorded, Serving, Downloading, Packets, Read, CardFile, Formatting, Upgrading, State,
+-- Demo, Help.
 use Rattle.std.specs.Prelude.{◌≡◌, ◌↔◌, ◌≤◌, List, [], Option, Some, None, IfSome}
 use Rattle.tach_media.specs.Medium.{State, Rose}
 use Rattle.trace_model.specs.declared.Card.TheVariants.{A, B}
@@ -12,7 +13,10 @@ use Rattle.tacho.specs.declared.end.Ended.{Ended}
 use Rattle.run_outcome.specs.declared.outcome.Outcome.{Outcome}
 use Rattle.unit_download.specs.declared.wire.Passed.{Passed}
 use Rattle.tacho.specs.declared.forms.Form.{Form}
-use Rattle.tacho.specs.declared.forms.Form.TheVariants.{Minutes, Record, FormatCard, FormatUnit, Upgrade, State as AskState, Serve, ServeHex, ServePackets, Download, DownloadNoisy, DownloadPackets, Read, CardFile, Demo, Help, Version}
+use Rattle.tacho.specs.declared.forms.Form.TheVariants.{Minutes, Record, FormatCard, FormatUnit, Upgrade}
+use Rattle.tacho.specs.declared.forms.Form.TheVariants.{State as AskState, Serve, ServeHex, ServePackets, Download}
+use Rattle.tacho.specs.declared.forms.Form.TheVariants.{DownloadNoisy, DownloadPackets, Read, CardFile, Demo, Help}
+use Rattle.tacho.specs.declared.forms.Form.TheVariants.{Version}
 use Rattle.tacho.specs.End.{status_of, IsBeforeDevices}
 use Rattle.tacho.specs.Outside.{Outside, memory_of}
 use Rattle.tacho.specs.Minutes.{EndsMinutes}
@@ -39,8 +43,10 @@ pub record AreDevices (unit card_a card_b : State) : Type 0 where
 abbrev pub EndsForm : Form → (old new : Outside) → Ended → Type 0
 EndsForm (Minutes rule) old new ended = EndsMinutes rule old new ended.fault
 EndsForm Record old new ended = EndsRecord old new ended.outcome ended.fault
-EndsForm (FormatCard A identity) old new ended = EndsIssue CardA identity old.card_a new.card_a old.sink new.sink ended.fault
-EndsForm (FormatCard B identity) old new ended = EndsIssue CardB identity old.card_b new.card_b old.sink new.sink ended.fault
+EndsForm (FormatCard A identity) old new ended = EndsIssue CardA identity old.card_a new.card_a old.sink new.sink
+    ended.fault
+EndsForm (FormatCard B identity) old new ended = EndsIssue CardB identity old.card_b new.card_b old.sink new.sink
+    ended.fault
 EndsForm (FormatUnit identity) old new ended = EndsMaking identity old.unit new.unit old.sink new.sink ended.fault
 EndsForm Upgrade old new ended = EndsUpgrade old.unit new.unit old.sink new.sink ended.fault
 EndsForm AskState old new ended = EndsState old new ended.fault
@@ -96,7 +102,8 @@ LeavesOthers (Some Version) source unit card_a card_b = source × unit × card_a
 pub record HasCauses (old new : Outside) (fault : Fault) : Type 0 where
   pub read_fault : fault ≡ ReadFault → Rose old.source.faults new.source.faults
   pub write_fault : fault ≡ WriteFault → Rose old.sink.faults new.sink.faults
-  pub medium_fault : (device : Device) → fault ≡ MediumFault device → Rose (memory_of device old).faults (memory_of device new).faults
+  pub medium_fault : (device : Device) → fault ≡ MediumFault device
+      → Rose (memory_of device old).faults (memory_of device new).faults
   pub reads : old.source.faults ≤ new.source.faults
   pub writes : old.sink.faults ≤ new.sink.faults
 
@@ -110,9 +117,9 @@ pub record Ends (asked : Option Form) (old new : Outside) (ended : Ended) : Type
   pub unpassed : IsUnpassed asked ended.wire
   pub causes : HasCauses old new ended.fault
 
--- what reads all of its source before it uses a device or prints, if it reads any: each form but `serve`, `serve --hex`, `download`,
--- `download noisy`, `serve packets`, `download packets`, `card a` and `card b`, which write as they read, and `state` and `demo`,
--- which read none
+-- what reads all of its source before it uses a device or prints, if it reads any: each form but `serve`, `serve
+-- --hex`, `download`, `download noisy`, `serve packets`, `download packets`, `card a` and `card b`, which write as they
+-- read, and `state` and `demo`, which read none
 abbrev pub ReadsFirst : Option Form → Type 0
 ReadsFirst (Some AskState) = ⊥
 ReadsFirst (Some Serve) = ⊥
@@ -131,9 +138,11 @@ NamesField (Some (CardFile card)) (BadCard field) = Unit {0}
 NamesField asked fault = ⊥
 
 -- WHAT IT LEAVES UNTOUCHED. Each argument says that one of what it is handed is as it was.
-pub record Spares (asked : Option Form) (fault : Fault) (for_unit source sink unit card_a card_b : Type 0) : Type 0 where
+pub record Spares (asked : Option Form) (fault : Fault) (for_unit source sink unit card_a card_b : Type 0) : Type
+    0 where
   pub others : LeavesOthers asked source unit card_a card_b
-  -- `record` leaves the cards as they were where the source told a trace of the unit alone, which the first argument says.
+  -- `record` leaves the cards as they were where the source told a trace of the unit alone, which the first argument
+  -- says.
   pub cards : asked ≡ Some Record → for_unit → card_a × card_b
   -- Where no trace was read the devices are as they were; and memory runs out only before the first call on them.
   pub before : ReadsFirst asked → IsBeforeDevices fault → unit × card_a × card_b

@@ -55,21 +55,26 @@ IsReadingEnd WriteFault = Unit {0}
 IsReadingEnd Memory = Unit {0}
 IsReadingEnd _ = ⊥
 
--- How a form ends that reads a file to its end, and prints what it tells: the first two arguments say what is printed of bytes, and at which
--- place bytes are bad.
-pub record EndsReading (Prints : (bytes out : List ℕ) → Type 0) (IsBad : (place : ℕ) → List ℕ → Type 0) (old new : Outside) (fault : Fault) : Type 0 where
+-- How a form ends that reads a file to its end, and prints what it tells: the first two arguments say what is printed
+-- of bytes, and at which place bytes are bad.
+pub record EndsReading (Prints : (bytes out : List ℕ) → Type 0) (IsBad : (place : ℕ) → List ℕ → Type 0)
+    (old new : Outside) (fault : Fault) : Type 0 where
   pub ends : IsReadingEnd fault
   -- Done: the sink gained exactly what is printed of the file, and nothing of the source is left.
-  pub printed : (bytes : List ℕ) → old.source.left ≡ Some bytes → fault ≡ Done → (out : List ℕ) × Prints bytes out × Appends old.sink.held new.sink.held out
+  pub printed : (bytes : List ℕ) → old.source.left ≡ Some bytes → fault ≡ Done
+      → (out : List ℕ) × Prints bytes out × Appends old.sink.held new.sink.held out
   pub read : fault ≡ Done → IsAtEnd new.source.left
   -- A file outside the grammar is refused with the place where it first fails, and one of too many bytes at line 0.
   pub bad_file : (bytes : List ℕ) (place : ℕ) → old.source.left ≡ Some bytes → fault ≡ BadFile place → IsBad place bytes
-  pub too_long : (bytes : List ℕ) (n : ℕ) → old.source.left ≡ Some bytes → fault ≡ TooLong n → (n ≡ 0) × (most_bytes < length bytes)
-  -- And each file is judged where neither stream fails, unless memory runs out: printed, or refused with its place. No file is
-  -- both, by the laws of file_view and card_match.
+  pub too_long : (bytes : List ℕ) (n : ℕ) → old.source.left ≡ Some bytes → fault ≡ TooLong n
+      → (n ≡ 0) × (most_bytes < length bytes)
+  -- And each file is judged where neither stream fails, unless memory runs out: printed, or refused with its place. No
+  -- file is both, by the laws of file_view and card_match.
   pub judges : (bytes : List ℕ) → old.source.left ≡ Some bytes → length bytes ≤ most_bytes
-      → (Rose old.source.faults new.source.faults → ⊥) → (Rose old.sink.faults new.sink.faults → ⊥) → (fault ≡ Done) ⊎ ((fault ≡ Memory) ⊎ ((place : ℕ) × (fault ≡ BadFile place)))
+      → (Rose old.source.faults new.source.faults → ⊥) → (Rose old.sink.faults new.sink.faults → ⊥)
+      → (fault ≡ Done) ⊎ ((fault ≡ Memory) ⊎ ((place : ℕ) × (fault ≡ BadFile place)))
   pub finds_too_long : (bytes : List ℕ) → old.source.left ≡ Some bytes → most_bytes < length bytes
       → (Rose old.source.faults new.source.faults → ⊥) → (fault ≡ TooLong 0) ⊎ (fault ≡ Memory)
   -- At a write fault a front of what Done appends was appended.
-  pub front : (bytes : List ℕ) → old.source.left ≡ Some bytes → fault ≡ WriteFault → (out : List ℕ) × Prints bytes out × AppendsFront old.sink.held new.sink.held out
+  pub front : (bytes : List ℕ) → old.source.left ≡ Some bytes → fault ≡ WriteFault
+      → (out : List ℕ) × Prints bytes out × AppendsFront old.sink.held new.sink.held out

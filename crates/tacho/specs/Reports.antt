@@ -5,8 +5,10 @@ use Rattle.tacho.specs.View.{is_unit_file}
 
 -- `totals` prints this of a file
 abbrev pub PrintsTotals : Option ℕ → (bytes out : List ℕ) → Type 0
-PrintsTotals last bytes out = MatchBool (is_unit_file bytes) (PrintsUnitTotals last bytes out) (PrintsCardTotals last bytes out)
+PrintsTotals last bytes out = MatchBool (is_unit_file bytes) (PrintsUnitTotals last bytes out)
+    (PrintsCardTotals last bytes out)
 
 -- `chart` prints this of a file
 abbrev pub PrintsChart : Option ℕ → (bytes out : List ℕ) → Type 0
-PrintsChart last bytes out = MatchBool (is_unit_file bytes) (PrintsUnitChart last bytes out) (PrintsCardChart last bytes out)
+PrintsChart last bytes out = MatchBool (is_unit_file bytes) (PrintsUnitChart last bytes out)
+    (PrintsCardChart last bytes out)

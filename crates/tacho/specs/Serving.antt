@@ -1,4 +1,5 @@
--- What the commands `serve` and `serve --hex` do: the unit answers the bytes of the source on the link, or those that its lines spell.
+-- What the commands `serve` and `serve --hex` do: the unit answers the bytes of the source on the link, or those that
+-- its lines spell.
 use Rattle.std.specs.Prelude.{◌≡◌, ℕ, ⊤, List, Option, Some, IfSome, Result, Ok, Err}
 use Rattle.std.specs.Io.KnownBytes.{Appends, IsAtEnd}
 use Rattle.run_model.specs.declared.Device.TheVariants.{Unit as OfUnit}
@@ -17,7 +18,8 @@ use Rattle.packet_service.specs.Serving.{AllAnswered}
 use Rattle.packet_service.specs.Loading.{LinkInTime}
 use Rattle.tacho.specs.declared.forms.Form.TheVariants.{Serve, ServeHex, ServePackets, DownloadPackets}
 use Rattle.tacho.specs.declared.end.Fault.{Fault}
-use Rattle.tacho.specs.declared.end.Fault.TheVariants.{Done, BadTrace, TooLong, BadUnit, ReadFault, WriteFault, MediumFault, Memory}
+use Rattle.tacho.specs.declared.end.Fault.TheVariants.{Done, BadTrace, TooLong, BadUnit, ReadFault, WriteFault}
+use Rattle.tacho.specs.declared.end.Fault.TheVariants.{MediumFault, Memory}
 use Rattle.tacho.specs.End.{is_medium_fault}
 use Rattle.tacho.specs.Outside.{Outside}
 
@@ -46,9 +48,10 @@ pub record EndsServe (old new : Outside) (fault : Fault) : Type 0 where
   -- It ends as a service of the link does.
   pub ended : Result (Unit {0}) ServeFault
   pub ends : fault ≡ end_of_service ended
-  -- Over a unit that tells its image, the sink gained the answers to what came from the source, by the messages of that image,
-  -- and nothing else; where the sink or the unit failed, or the unit is bad, less, as `Sends` says for each end.
-  pub served : IfSome old.unit.image (λ x. IsServed ended (content_sent x) old.source.left new.source.left old.sink.held new.sink.held)
+  -- Over a unit that tells its image, the sink gained the answers to what came from the source, by the messages of that
+  -- image, and nothing else; where the sink or the unit failed, or the unit is bad, less, as `Sends` says for each end.
+  pub served : IfSome old.unit.image (λ x. IsServed ended (content_sent x) old.source.left new.source.left old.sink.held
+      new.sink.held)
   -- Done: nothing of the source is left.
   pub read : fault ≡ Done → IsAtEnd new.source.left
   -- A unit is bad at the first place of its image that fails.
@@ -56,25 +59,30 @@ pub record EndsServe (old new : Outside) (fault : Fault) : Type 0 where
   -- The unit is read, if at all, and never written.
   pub unit : ReadsIfAny old.unit new.unit (is_medium_fault fault)
 
--- HOW `serve --hex` ENDS: as `serve`, of the bytes that the source's lines spell, each answer as a line; a line that spells none is
--- refused by its number, from 1, and memory may run out behind answers.
+-- HOW `serve --hex` ENDS: as `serve`, of the bytes that the source's lines spell, each answer as a line; a line that
+-- spells none is refused by its number, from 1, and memory may run out behind answers.
 pub record EndsServeHex (old new : Outside) (fault : Fault) : Type 0 where
   pub ended : Result (Unit {0}) LinesFault
   pub ends : fault ≡ end_of_lines ended
-  pub served : IfSome old.unit.image (λ x. AreServed ended (content_sent x) old.source.left new.source.left old.sink.held new.sink.held)
+  pub served : IfSome old.unit.image (λ x. AreServed ended (content_sent x) old.source.left new.source.left
+      old.sink.held new.sink.held)
   pub read : fault ≡ Done → IsAtEnd new.source.left
   pub bad_unit : (place : ℕ) → fault ≡ BadUnit place → IfSome old.unit.image (λ x. first_bad_place x ≡ Some place)
   pub unit : ReadsIfAny old.unit new.unit (is_medium_fault fault)
 
--- WHAT A LOADER HAS SEEN at each read of its bytes, where it tells: over a unit that tells its image, the answers to all that it had sent;
--- of lines, to all that had ended; of packets, to all that were whole. And a unit that waits for a loader's packets has had those that are sent
--- behind all that came. Of other forms nothing is said.
+-- WHAT A LOADER HAS SEEN at each read of its bytes, where it tells: over a unit that tells its image, the answers to
+-- all that it had sent; of lines, to all that had ended; of packets, to all that were whole. And a unit that waits for
+-- a loader's packets has had those that are sent behind all that came. Of other forms nothing is said.
 abbrev pub FormInTime : Form → (old new : Outside) → (before now : Option (List Asking)) → Type 0
-FormInTime Serve old new before now = IfSome old.unit.image (λ x. AnswersInTime (λ came held sunk. Appends held sunk (answers_to (content_sent x) came))
+FormInTime Serve old new before now = IfSome old.unit.image
+    (λ x. AnswersInTime (λ came held sunk. Appends held sunk (answers_to (content_sent x) came))
     old.source.left new.source.left old.sink.held before now)
-FormInTime ServeHex old new before now = IfSome old.unit.image (λ x. AnswersInTime (WholeAnswered (content_sent x)) old.source.left new.source.left old.sink.held before now)
-FormInTime ServePackets old new before now = AnswersInTime (AllAnswered old.unit.image) old.source.left new.source.left old.sink.held before now
-FormInTime DownloadPackets old new before now = AnswersInTime LinkInTime old.source.left new.source.left old.sink.held before now
+FormInTime ServeHex old new before now = IfSome old.unit.image
+    (λ x. AnswersInTime (WholeAnswered (content_sent x)) old.source.left new.source.left old.sink.held before now)
+FormInTime ServePackets old new before now = AnswersInTime (AllAnswered old.unit.image) old.source.left new.source.left
+    old.sink.held before now
+FormInTime DownloadPackets old new before now = AnswersInTime LinkInTime old.source.left new.source.left old.sink.held
+    before now
 FormInTime form old new before now = ⊤
 
 -- a loader that waits for answers has had them, where the words ask for a service

@@ -1,4 +1,5 @@
--- What the command `state` does (profile): the unit and the cards are read, and what they tell of themselves is printed, a line each.
+-- What the command `state` does (profile): the unit and the cards are read, and what they tell of themselves is
+-- printed, a line each.
 use Rattle.std.specs.Prelude.{◌≡◌, ℕ, List, IfSome}
 use Rattle.std.specs.Io.KnownBytes.{Appends, Keeps}
 use Rattle.tach_media.specs.Medium.{Reads, Rose}
@@ -22,7 +23,8 @@ IsStateEnd WriteFault = Unit {0}
 IsStateEnd Memory = Unit {0}
 IsStateEnd _ = ⊥
 
--- how the printing of these lines ends: at Done exactly their text went to the sink, at a write fault a front of it, and else nothing
+-- how the printing of these lines ends: at Done exactly their text went to the sink, at a write fault a front of it,
+-- and else nothing
 pub record PrintsState (lines : List Line) (before after : SinkTold) (fault : Fault) : Type 0 where
   pub ends : IsStateEnd fault
   pub printed : fault ≡ Done → (out : List ℕ) × AreLinesText lines out × Appends before.held after.held out
@@ -30,7 +32,8 @@ pub record PrintsState (lines : List Line) (before after : SinkTold) (fault : Fa
   pub nothing : fault ≡ Memory → Keeps before.held after.held
   pub write_fault : fault ≡ WriteFault → Rose before.faults after.faults
 
--- WHAT THE DEVICES TELL is what their images tell; each is read, and never written. Of one that failed nothing is known.
+-- WHAT THE DEVICES TELL is what their images tell; each is read, and never written. Of one that failed nothing is
+-- known.
 pub record AreTold (told : DevicesTold) (old new : Outside) : Type 0 where
   pub unit : IfSome old.unit.image (TellsUnit (cards_seen told.card_a told.card_b) told.unit)
   pub card_a : IfSome old.card_a.memory.image (TellsCard told.card_a)

@@ -41,13 +41,19 @@ pub record Starts (x : List ℕ) (old new : State) : Type 0 where
 abbrev pub IsRecorded : (x : List ℕ) → (start : ℕ) → List Item → (clock : ℕ) → Outcome → State → Type 0
 IsRecorded x start items clock outcome unit = (cards : Start) → IsAlone cards x start items clock outcome unit
 
--- each decided minute of a trace stands in the history, whatever the cards bring, and each image that a stop may leave has the start's days
--- with all of it, of which the newest 366 are retained, and its odometer with each whole kilometre; and so is that of each day that it records: as at
--- the start, or with the whole kilometres of each span before and of the span up to the end of the day's first minute
+-- each decided minute of a trace stands in the history, whatever the cards bring, and each image that a stop may leave
+-- has the start's days with all of it, of which the newest 366 are retained, and its odometer with each whole
+-- kilometre; and so is that of each day that it records: as at the start, or with the whole kilometres of each span
+-- before and of the span up to the end of the day's first minute
 abbrev pub IsAllThere : (x : List ℕ) → (start : ℕ) → List Item → Outcome → State → Type 0
-IsAllThere x start items outcome unit = (cards : Start) → HasEachDecided (rule_of x) (told_of outcome start items) (history_of (rule_of x) cards outcome start items)
-    × ((y : List ℕ) → unit.may_leave y → IsFilled (recorded x) (history_of (rule_of x) cards outcome start items) y × HasWholeOdometer (rule_of x) (told_of outcome start items) (odometer_at x) y
-    × ((day odometer : ℕ) → RecordsDay y day odometer → RecordsDay x day odometer ⊎ HasDayOdometer (recording_of x no_image no_image start items outcome) day odometer))
+IsAllThere x start items outcome unit = (cards : Start)
+    → HasEachDecided (rule_of x) (told_of outcome start items) (history_of (rule_of x) cards outcome start items)
+    × ((y : List ℕ) → unit.may_leave y
+    → IsFilled (recorded x) (history_of (rule_of x) cards outcome start items) y
+    × HasWholeOdometer (rule_of x) (told_of outcome start items) (odometer_at x) y
+    × ((day odometer : ℕ) → RecordsDay y day odometer
+    → RecordsDay x day odometer ⊎ HasDayOdometer (recording_of x no_image no_image start items outcome) day
+    odometer))
 
 -- how often each device broke down
 abbrev pub breakdowns_in : Outside → Device → ℕ
@@ -55,14 +61,15 @@ breakdowns_in told = counts told.unit.breakdowns told.card_a.memory.breakdowns t
 
 -- each line of the run log of a trace has its cause, and what happened has its line
 abbrev pub IsCaused : (old new : Outside) → (start : ℕ) → List Item → Outcome → Type 0
-IsCaused old new start items outcome = HasCauses NoVerdict (breakdowns_in old) (breakdowns_in new) (seconds_of start items) (log_of outcome)
+IsCaused old new start items outcome = HasCauses NoVerdict (breakdowns_in old) (breakdowns_in new)
+    (seconds_of start items) (log_of outcome)
 
 -- no device has broken down so often that its count stands at the last value
 abbrev pub HaveCounts : Outside → Type 0
 HaveCounts told = (device : Device) → breakdowns_in told device < last_count
 
--- IT WAS REFUSED, whatever the unit tells: in the opening, for the cause that this names, with the unit as it was and no outcome; or by a unit that was
--- read anew at a power-on.
+-- IT WAS REFUSED, whatever the unit tells: in the opening, for the cause that this names, with the unit as it was and
+-- no outcome; or by a unit that was read anew at a power-on.
 pub record IsNotRecorded (start : ℕ) (old new : State) (outcome : Outcome) (fault : Fault) : Type 0 where
   pub by : RunFault
   pub is : fault ≡ refusal_of_run by
@@ -74,32 +81,46 @@ pub record EndsOnUnit (old new : Outside) (outcome : Outcome) (fault : Fault) : 
   pub for_unit : (start : ℕ) (items : List Item) → SourceTells old start items → IsForUnit items
   pub only : (device : Device) → fault ≡ MediumFault device → device ≡ OfUnit
   -- THE RUN of the trace, where it was recorded.
-  pub run : (start : ℕ) (items : List Item) (x : List ℕ) → SourceTells old start items → Starts x old.unit new.unit → IsRun fault
+  pub run : (start : ℕ) (items : List Item) (x : List ℕ) → SourceTells old start items → Starts x old.unit new.unit
+      → IsRun fault
       → IsRecorded x start items old.unit.clock outcome new.unit
-  -- Its refused actions are those of the seconds without power, and each cut was an `off` line's or a breakdown of the unit.
-  pub caused : (start : ℕ) (items : List Item) (x : List ℕ) → SourceTells old start items → Starts x old.unit new.unit → IsRun fault
+  -- Its refused actions are those of the seconds without power, and each cut was an `off` line's or a breakdown of the
+  -- unit.
+  pub caused : (start : ℕ) (items : List Item) (x : List ℕ) → SourceTells old start items → Starts x old.unit new.unit
+      → IsRun fault
       → IsCaused old new start items outcome
-  -- Each refusal by the unit has its cause in the image that it started with; the unit is as it was, and there is no outcome.
-  pub bad_unit : (place : ℕ) (x : List ℕ) → Starts x old.unit new.unit → fault ≡ BadUnit place → first_bad_place x ≡ Some place
+  -- Each refusal by the unit has its cause in the image that it started with; the unit is as it was, and there is no
+  -- outcome.
+  pub bad_unit : (place : ℕ) (x : List ℕ) → Starts x old.unit new.unit → fault ≡ BadUnit place
+      → first_bad_place x ≡ Some place
   pub clock_back : (kept second : ℕ) (x : List ℕ) → Starts x old.unit new.unit → fault ≡ ClockBack kept second
       → Decodes x × (last_kept x ≡ kept) × (second / 60 ≤ kept)
-  pub refused : (x : List ℕ) → Starts x old.unit new.unit → IsRefusal fault → LeavesOnly old.unit new.unit Unchanged × IsEmpty outcome
+  pub refused : (x : List ℕ) → Starts x old.unit new.unit → IsRefusal fault
+      → LeavesOnly old.unit new.unit Unchanged × IsEmpty outcome
   -- And each cause has its end, where nothing failed: what can be recorded is.
-  pub records : (start : ℕ) (items : List Item) (x : List ℕ) → SourceTells old start items → Starts x old.unit new.unit → IsSound old new
+  pub records : (start : ℕ) (items : List Item) (x : List ℕ) → SourceTells old start items → Starts x old.unit new.unit
+      → IsSound old new
       → Decodes x → last_kept x < start / 60 → fault ≡ Done
-  pub finds_bad_unit : (start : ℕ) (items : List Item) (x : List ℕ) (place : ℕ) → SourceTells old start items → Starts x old.unit new.unit → IsSound old new
+  pub finds_bad_unit : (start : ℕ) (items : List Item) (x : List ℕ) (place : ℕ) → SourceTells old start items
+      → Starts x old.unit new.unit → IsSound old new
       → first_bad_place x ≡ Some place → fault ≡ BadUnit place
-  pub finds_clock_back : (start : ℕ) (items : List Item) (x : List ℕ) → SourceTells old start items → Starts x old.unit new.unit → IsSound old new
+  pub finds_clock_back : (start : ℕ) (items : List Item) (x : List ℕ) → SourceTells old start items
+      → Starts x old.unit new.unit → IsSound old new
       → Decodes x → start / 60 ≤ last_kept x → fault ≡ ClockBack (last_kept x) start
-  -- Whatever the unit tells, a refusal came in the opening, with the unit as it was and no outcome, or of a unit that was read anew at a power-on.
-  pub early : (start : ℕ) (items : List Item) → SourceTells old start items → IsRefusal fault → IsNotRecorded start old.unit new.unit outcome fault
+  -- Whatever the unit tells, a refusal came in the opening, with the unit as it was and no outcome, or of a unit that
+  -- was read anew at a power-on.
+  pub early : (start : ℕ) (items : List Item) → SourceTells old start items → IsRefusal fault
+      → IsNotRecorded start old.unit new.unit outcome fault
   -- Each cut that a failed call made is a breakdown of the unit more.
   pub broke : HasBroken old.unit new.unit (length (cuts true (log_of outcome)))
   -- And where the trace was recorded and no failed call has cut the power, the unit has not broken down.
   pub calm : IsRun fault → cuts true (log_of outcome) ≡ [] → new.unit.breakdowns ≡ old.unit.breakdowns
   -- Where nothing failed, no call has cut the power.
-  pub unbroken : (start : ℕ) (items : List Item) (x : List ℕ) → SourceTells old start items → Starts x old.unit new.unit → IsSound old new → HaveCounts old
+  pub unbroken : (start : ℕ) (items : List Item) (x : List ℕ) → SourceTells old start items → Starts x old.unit new.unit
+      → IsSound old new → HaveCounts old
       → NothingFailed (log_of outcome)
-  -- WHERE NOTHING FAILED, EVERY MINUTE IS THERE: each decided one stands in the history, and the unit has all of it in its newest days.
-  pub whole : (start : ℕ) (items : List Item) (x : List ℕ) → SourceTells old start items → Starts x old.unit new.unit → IsSound old new → HaveCounts old
+  -- WHERE NOTHING FAILED, EVERY MINUTE IS THERE: each decided one stands in the history, and the unit has all of it in
+  -- its newest days.
+  pub whole : (start : ℕ) (items : List Item) (x : List ℕ) → SourceTells old start items → Starts x old.unit new.unit
+      → IsSound old new → HaveCounts old
       → IsRun fault → IsAllThere x start items outcome new.unit

@@ -10,7 +10,8 @@ ghost use Rattle.unit_model.specs.Image.{IsUnit, last_kept};
 ghost use Rattle.run_outcome.specs.Room.{IsReserved};
 ghost use Rattle.run_opening.specs.Units.{IsUnitRefused};
 ghost use Rattle.recorder_with_cards.specs.Words.{log_of, largest_number};
-ghost use Rattle.tacho.specs.Alone.{needs_no_card, IsForUnit, NoVerdict, counts, StartsAs, IsAlone, IsUnitFault, IsRefusedAlone};
+ghost use Rattle.tacho.specs.Alone.{needs_no_card, IsForUnit, NoVerdict, counts, StartsAs, IsAlone, IsUnitFault};
+ghost use Rattle.tacho.specs.Alone.{IsRefusedAlone};
 
 use crate::blank::no_card;
 use recorder_with_cards::{RunFault, run_trace};
@@ -45,9 +46,9 @@ fn needs_no_card(item: Item) -> bool
 ///
 /// # Errors
 ///
-/// In the opening, before any write: `MediumFault(Unit)` only where the unit failed, `BadUnit` with the place of the first field that fails, and
-/// `ClockBack` exactly where the minute of the first second is not later than the last-kept minute. A unit that tells its image gives none of them
-/// later.
+/// In the opening, before any write: `MediumFault(Unit)` only where the unit failed, `BadUnit` with the place of the
+/// first field that fails, and `ClockBack` exactly where the minute of the first second is not later than the last-kept
+/// minute. A unit that tells its image gives none of them later.
 pub fn record_alone<U: Medium>(
     trace: &Trace,
     unit: &mut U,
@@ -58,23 +59,34 @@ pub fn record_alone<U: Medium>(
     requires reserved { IsReserved trace.now.items outcome.old }
     requires unit { IsUnit (U.state unit.old) }
     // The crash-safety theorem of the unit, with its auxiliary records.
-    ensures recorded { (cards : Start) (x : List ℕ) → StartsAs x (U.state unit.old) → (U.state unit.new).clock < last_count → length trace.now.items ≤ largest_number
-        → OnOk result (IsAlone cards x trace.now.start trace.now.items (U.state unit.old).clock outcome.new (U.state unit.new)) }
-    // Each line of the run log has its cause, and what happened has its line, however often the cards, which are not called, have broken down.
-    ensures causes { (x : List ℕ) (a b : ℕ) → StartsAs x (U.state unit.old) → (U.state unit.new).clock < last_count → length trace.now.items ≤ largest_number
-        → OnOk result (HasCauses NoVerdict (counts (U.state unit.old).breakdowns a b) (counts (U.state unit.new).breakdowns a b) (seconds_of trace.now.start trace.now.items) (log_of outcome.new)) }
-    // Each cut that a failed call made is a breakdown of the unit more; and where none has cut the power of a run that is recorded, it has not
-    // broken down, nor where no call on it failed.
+    ensures recorded { (cards : Start) (x : List ℕ) → StartsAs x (U.state unit.old)
+        → (U.state unit.new).clock < last_count → length trace.now.items ≤ largest_number
+        → OnOk result (IsAlone cards x trace.now.start trace.now.items (U.state unit.old).clock outcome.new
+        (U.state unit.new)) }
+    // Each line of the run log has its cause, and what happened has its line, however often the cards, which are not
+    // called, have broken down.
+    ensures causes { (x : List ℕ) (a b : ℕ) → StartsAs x (U.state unit.old) → (U.state unit.new).clock < last_count
+        → length trace.now.items ≤ largest_number
+        → OnOk result (HasCauses NoVerdict (counts (U.state unit.old).breakdowns a b)
+        (counts (U.state unit.new).breakdowns a b) (seconds_of trace.now.start trace.now.items) (log_of outcome.new)) }
+    // Each cut that a failed call made is a breakdown of the unit more; and where none has cut the power of a run that
+    // is recorded, it has not broken down, nor where no call on it failed.
     ensures broke { HasBroken (U.state unit.old) (U.state unit.new) (length (cuts true (log_of outcome.new))) }
-    ensures calm { OnOk result (cuts true (log_of outcome.new) ≡ [] → (U.state unit.new).breakdowns ≡ (U.state unit.old).breakdowns) }
-    ensures unbroken { Rose (U.state unit.old).faults (U.state unit.new).faults ⊎ ((U.state unit.new).breakdowns ≡ (U.state unit.old).breakdowns) }
-    // A run that is recorded began on a unit that decodes, in a later minute than its last-kept one; and what keeps one from being recorded is the
-    // unit, in the opening, as it was, or read anew at a power-on.
-    ensures begun { (x : List ℕ) → StartsAs x (U.state unit.old) → OnOk result (Decodes x × (last_kept x < trace.now.start / 60)) }
+    ensures calm { OnOk result (cuts true (log_of outcome.new) ≡ []
+        → (U.state unit.new).breakdowns ≡ (U.state unit.old).breakdowns) }
+    ensures unbroken { Rose (U.state unit.old).faults (U.state unit.new).faults
+        ⊎ ((U.state unit.new).breakdowns ≡ (U.state unit.old).breakdowns) }
+    // A run that is recorded began on a unit that decodes, in a later minute than its last-kept one; and what keeps one
+    // from being recorded is the unit, in the opening, as it was, or read anew at a power-on.
+    ensures begun { (x : List ℕ) → StartsAs x (U.state unit.old)
+        → OnOk result (Decodes x × (last_kept x < trace.now.start / 60)) }
     ensures fault { IfErr result (IsUnitFault (U.state unit.old) (U.state unit.new)) }
-    ensures early { IfErr result (IsRefusedAlone trace.now.start outcome.old outcome.new (U.state unit.old) (U.state unit.new)) }
-    ensures refused { IfErr result (λ fault. (x : List ℕ) → StartsAs x (U.state unit.old) → (U.state unit.new).clock < last_count → length trace.now.items ≤ largest_number
-        → IsUnitRefused trace.now.start (U.state unit.old) (U.state unit.new) fault × LeavesOnly (U.state unit.old) (U.state unit.new) Unchanged × (outcome.new ≡ outcome.old)) }
+    ensures early { IfErr result (IsRefusedAlone trace.now.start outcome.old outcome.new (U.state unit.old)
+        (U.state unit.new)) }
+    ensures refused { IfErr result (λ fault. (x : List ℕ) → StartsAs x (U.state unit.old) → (U.state unit.new).clock
+        < last_count → length trace.now.items ≤ largest_number
+        → IsUnitRefused trace.now.start (U.state unit.old) (U.state unit.new) fault
+        × LeavesOnly (U.state unit.old) (U.state unit.new) Unchanged × (outcome.new ≡ outcome.old)) }
     ensures unit { IsUnit (U.state unit.new) }
 {
     let mut card_a = no_card();

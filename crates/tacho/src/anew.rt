@@ -47,16 +47,26 @@ pub fn run_anew<U: Medium, C: Chip>(
     requires behind_a { (C.state card_a.old).behind ≡ 0 }
     requires size_b { LARGEST_IMAGE ≤ (C.state card_b.old).size }
     // THE CRASH-SAFETY THEOREM of the run, once the devices are new.
-    ensures recorded { (b : List ℕ) → MayBeAnew b (devices (U.state unit.old) (C.state card_a.old) (C.state card_b.old)) → HaveTime (devices (U.state unit.new) (C.state card_a.new) (C.state card_b.new)) → length trace.now.items ≤ largest_number
-        → OnOk result (EndsAnew (unit_image vehicle.now) image.now b trace.now.start trace.now.items outcome.new (devices (U.state unit.old) (C.state card_a.old) (C.state card_b.old)) (devices (U.state unit.new) (C.state card_a.new) (C.state card_b.new))) }
+    ensures recorded { (b : List ℕ) → MayBeAnew b (devices (U.state unit.old) (C.state card_a.old) (C.state card_b.old))
+        → HaveTime (devices (U.state unit.new) (C.state card_a.new) (C.state card_b.new))
+        → length trace.now.items ≤ largest_number
+        → OnOk result (EndsAnew (unit_image vehicle.now) image.now b trace.now.start trace.now.items outcome.new
+        (devices (U.state unit.old) (C.state card_a.old) (C.state card_b.old))
+        (devices (U.state unit.new) (C.state card_a.new) (C.state card_b.new))) }
     // Where it was not recorded nothing is put down.
-    ensures nothing { (b : List ℕ) → MayBeAnew b (devices (U.state unit.old) (C.state card_a.old) (C.state card_b.old)) → HaveTime (devices (U.state unit.new) (C.state card_a.new) (C.state card_b.new)) → length trace.now.items ≤ largest_number
+    ensures nothing { (b : List ℕ) → MayBeAnew b (devices (U.state unit.old) (C.state card_a.old) (C.state card_b.old))
+        → HaveTime (devices (U.state unit.new) (C.state card_a.new) (C.state card_b.new))
+        → length trace.now.items ≤ largest_number
         → IfErr result (λ fault. outcome.new ≡ outcome.old) }
     // Where a run may begin with the new images and card b's, only a failed call keeps it from being recorded.
-    ensures kept { (b : List ℕ) → MayBeAnew b (devices (U.state unit.old) (C.state card_a.old) (C.state card_b.old)) → HaveTime (devices (U.state unit.new) (C.state card_a.new) (C.state card_b.new)) → length trace.now.items ≤ largest_number
+    ensures kept { (b : List ℕ) → MayBeAnew b (devices (U.state unit.old) (C.state card_a.old) (C.state card_b.old))
+        → HaveTime (devices (U.state unit.new) (C.state card_a.new) (C.state card_b.new))
+        → length trace.now.items ≤ largest_number
         → MayRecord (unit_image vehicle.now) image.now b trace.now.start → IfErr result IsFailure }
     // A device that is told to have failed has failed.
-    ensures failed { IfErr result (λ fault. IsFailed fault (devices (U.state unit.old) (C.state card_a.old) (C.state card_b.old)) (devices (U.state unit.new) (C.state card_a.new) (C.state card_b.new))) }
+    ensures failed { IfErr result (λ fault.
+        IsFailed fault (devices (U.state unit.old) (C.state card_a.old) (C.state card_b.old))
+        (devices (U.state unit.new) (C.state card_a.new) (C.state card_b.new))) }
     ensures faults { (U.state unit.old).faults ≤ (U.state unit.new).faults }
     ensures unit { IsUnit (U.state unit.new) }
 {

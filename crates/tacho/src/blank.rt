@@ -6,7 +6,8 @@ use card_commands::SimCard;
 use card_layout::LARGEST_IMAGE;
 use tach_media::{Failed, Medium};
 
-/// A memory of zeros of the largest card's size. It takes no file and no memory. No write is kept: the first one breaks it for good.
+/// A memory of zeros of the largest card's size. It takes no file and no memory. No write is kept: the first one breaks
+/// it for good.
 #[derive(Drop)]
 pub struct Blank {
     broken: bool,

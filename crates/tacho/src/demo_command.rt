@@ -51,8 +51,8 @@ pub const CARD: CardIdentity = CardIdentity {
 /// For so many bytes of the unit's file there is room.
 pub const ROOM: usize = 300000;
 
-/// The command `demo`, by the number that the demonstration is drawn from. The outcome is what was recorded; it stays as it was where nothing
-/// is. All memory is taken before the first write.
+/// The command `demo`, by the number that the demonstration is drawn from. The outcome is what was recorded; it stays
+/// as it was where nothing is. All memory is taken before the first write.
 pub fn demo<S: Source, K: Sink, U: Medium, C: Chip>(
     alloc: Global,
     seed: u32,
@@ -68,12 +68,16 @@ pub fn demo<S: Source, K: Sink, U: Medium, C: Chip>(
     requires card_b { IsCard (C.state card_b.old) }
     requires empty { IsEmpty outcome.old }
     ensures ends { EndsDemo seed
-        (outside S.left S.faults K.held K.faults U.state C.state C.card source.old sink.old unit.old card_a.old card_b.old)
-        (outside S.left S.faults K.held K.faults U.state C.state C.card source.new sink.new unit.new card_a.new card_b.new) outcome.new (end_of result) }
+        (outside S.left S.faults K.held K.faults U.state C.state C.card source.old sink.old unit.old card_a.old
+        card_b.old)
+        (outside S.left S.faults K.held K.faults U.state C.state C.card source.new sink.new unit.new card_a.new
+        card_b.new) outcome.new (end_of result) }
     ensures source { source.new ≡ source.old }
     ensures causes { HasCauses
-        (outside S.left S.faults K.held K.faults U.state C.state C.card source.old sink.old unit.old card_a.old card_b.old)
-        (outside S.left S.faults K.held K.faults U.state C.state C.card source.new sink.new unit.new card_a.new card_b.new) (end_of result) }
+        (outside S.left S.faults K.held K.faults U.state C.state C.card source.old sink.old unit.old card_a.old
+        card_b.old)
+        (outside S.left S.faults K.held K.faults U.state C.state C.card source.new sink.new unit.new card_a.new
+        card_b.new) (end_of result) }
 {
     let Ok(trace) = demo_trace(alloc, seed) else {
         return Err(Fault::Memory);
@@ -137,7 +141,8 @@ fn refusal_of_file(fault: DownloadFault) -> Fault
 /// Prints the seven lines.
 fn print_demo<K: Sink>(outcome: &Outcome, size: FileSize, sink: &mut K) -> Result<(), Fault>
     ensures ok { OnOk result (Appends (K.held sink.old) (K.held sink.new) (text_of_demo outcome.now size)) }
-    ensures err { IfErr result (λ fault. (fault ≡ Fault.WriteFault) × AppendsFront (K.held sink.old) (K.held sink.new) (text_of_demo outcome.now size)) }
+    ensures err { IfErr result (λ fault. (fault ≡ Fault.WriteFault)
+        × AppendsFront (K.held sink.old) (K.held sink.new) (text_of_demo outcome.now size)) }
     ensures cause { IfErr result (λ fault. Rose (K.faults sink.old) (K.faults sink.new)) }
     ensures counts { K.faults sink.old ≤ K.faults sink.new }
 {

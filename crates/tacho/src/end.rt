@@ -18,7 +18,8 @@ pub enum Fault {
     TooLong(u32),
     /// The unit's image does not decode: the place of the first field, in order of places, that fails.
     BadUnit(u32),
-    /// The unit's last-kept minute, and the trace's first second (since 1970-01-01 00:00 GMT), whose minute is not later.
+    /// The unit's last-kept minute, and the trace's first second (since 1970-01-01 00:00 GMT), whose minute is not
+    /// later.
     ClockBack(u32, u32),
     /// Both cards are valid and have this number.
     SameCard(FullCardNumber),
@@ -26,8 +27,8 @@ pub enum Fault {
     ReadFault,
     /// The sink failed.
     WriteFault,
-    /// The source is no file that `view` reads: the place of the first message or entry that is not in its grammar, or the file's
-    /// length where a needed entry is missing.
+    /// The source is no file that `view` reads: the place of the first message or entry that is not in its grammar, or
+    /// the file's length where a needed entry is missing.
     BadFile(u32),
     /// The card's Application_Identification is bad: the number, from 1, of the first field that is out of its range.
     BadCard(u8),

@@ -27,8 +27,10 @@ pub fn format_card<K: Sink, C: Chip>(
     sink: &mut K,
 ) -> Result<(), Fault>
     requires { IsCard (C.state card.old) }
-    ensures ends { EndsFormat device (card_image identity.now) (IsIssuing (card_image identity.now)) (C.state card.old) (C.state card.new)
-        (record { held = K.held sink.old; faults = K.faults sink.old }) (record { held = K.held sink.new; faults = K.faults sink.new }) (end_of result) }
+    ensures ends { EndsFormat device (card_image identity.now) (IsIssuing (card_image identity.now)) (C.state card.old)
+        (C.state card.new)
+        (record { held = K.held sink.old; faults = K.faults sink.old })
+        (record { held = K.held sink.new; faults = K.faults sink.new }) (end_of result) }
     ensures state { result ≢ Err Fault.Memory → C.card card.new ≡ just_issued }
     ensures memory { result ≡ Err Fault.Memory → card.new ≡ card.old }
     ensures nothing { IfErr result (λ fault. fault ≢ Fault.WriteFault → sink.new ≡ sink.old) }
@@ -50,8 +52,10 @@ pub fn make_unit<K: Sink, U: Medium>(
     sink: &mut K,
 ) -> Result<(), Fault>
     requires { IsUnit (U.state unit.old) }
-    ensures ends { EndsFormat OfUnit (unit_image identity.now) (IsFormatting (unit_image identity.now)) (U.state unit.old) (U.state unit.new)
-        (record { held = K.held sink.old; faults = K.faults sink.old }) (record { held = K.held sink.new; faults = K.faults sink.new }) (end_of result) }
+    ensures ends { EndsFormat OfUnit (unit_image identity.now) (IsFormatting (unit_image identity.now))
+        (U.state unit.old) (U.state unit.new)
+        (record { held = K.held sink.old; faults = K.faults sink.old })
+        (record { held = K.held sink.new; faults = K.faults sink.new }) (end_of result) }
     ensures some { end_of result ≢ Fault.Memory }
     ensures nothing { IfErr result (λ fault. fault ≢ Fault.WriteFault → sink.new ≡ sink.old) }
     ensures counts { K.faults sink.old ≤ K.faults sink.new }
@@ -65,7 +69,8 @@ pub fn make_unit<K: Sink, U: Medium>(
 /// Prints that a device was made new.
 fn print_formatted<K: Sink>(sink: &mut K) -> Result<(), Fault>
     ensures ok { OnOk result (Appends (K.held sink.old) (K.held sink.new) formatted_line) }
-    ensures err { IfErr result (λ fault. (fault ≡ Fault.WriteFault) × AppendsFront (K.held sink.old) (K.held sink.new) formatted_line) }
+    ensures err { IfErr result (λ fault. (fault ≡ Fault.WriteFault)
+        × AppendsFront (K.held sink.old) (K.held sink.new) formatted_line) }
     ensures cause { IfErr result (λ fault. Rose (K.faults sink.old) (K.faults sink.new)) }
     ensures counts { K.faults sink.old ≤ K.faults sink.new }
 {

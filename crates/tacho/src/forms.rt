@@ -3,7 +3,9 @@ ghost use Rattle.std.specs.Prelude.{◌≡◌, ◌∷◌, ◌+◌, ◌≤◌, If
 ghost use Rattle.std.specs.List.{list_all};
 ghost use Rattle.tacho_types.specs.Texts.{padded_text};
 ghost use Rattle.tacho.specs.Texts.{is_character, is_word, begins_with_dash, word_in, number_in};
-ghost use Rattle.tacho.specs.Forms.{name_in, card_in, registration_in, unit_in, reading_of, form_of_one, form_of_two, file_of, demo_of, last_in, days_form, last_form, speeds_of, noisy_of, form_of_three, format_of, form_of_six, form_of};
+ghost use Rattle.tacho.specs.Forms.{name_in, card_in, registration_in, unit_in, reading_of, form_of_one, form_of_two};
+ghost use Rattle.tacho.specs.Forms.{file_of, demo_of, last_in, days_form, last_form, speeds_of, noisy_of};
+ghost use Rattle.tacho.specs.Forms.{form_of_three, format_of, form_of_six, form_of};
 
 use crate::words::Words;
 use card_files::CardIdentity;
@@ -69,7 +71,8 @@ pub enum Form {
     ServePackets,
     /// `download`: the unit's file is written.
     Download,
-    /// `download noisy X`: the same over a link that loses, repeats and delays, as it is drawn from this number, from 0 to 2147483647.
+    /// `download noisy X`: the same over a link that loses, repeats and delays, as it is drawn from this number, from 0
+    /// to 2147483647.
     DownloadNoisy { seed: u32 },
     /// `download packets`: the loader's end of a link of packets; the unit's file goes to a file.
     DownloadPackets,

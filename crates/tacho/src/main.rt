@@ -1,5 +1,5 @@
-//! The program: it hands its words and its streams to the top call, prints on standard error what a device's file system lacks, a line for each
-//! call that failed in a run, and the fault's, and ends with its status.
+//! The program: it hands its words and its streams to the top call, prints on standard error what a device's file
+//! system lacks, a line for each call that failed in a run, and the fault's, and ends with its status.
 #![tactic(auto)]
 
 ghost use Rattle.tach_media.specs.Medium.{IsUntouched};
@@ -120,9 +120,10 @@ fn path_there<'a>(rt: &HostRuntime, path: &'a str) -> &'a str {
     }
 }
 
-/// The top call over the program's streams, and over the unit and the cards in the working folder's files. A stream that is closed has left its number
-/// free: a folder takes it, which can be neither read nor written, so that no device's file gets it, over which then would be written what is printed.
-/// Where a device's file system lacks what its file asks of it, one line on standard error says what.
+/// The top call over the program's streams, and over the unit and the cards in the working folder's files. A stream
+/// that is closed has left its number free: a folder takes it, which can be neither read nor written, so that no
+/// device's file gets it, over which then would be written what is printed. Where a device's file system lacks what its
+/// file asks of it, one line on standard error says what.
 fn run(rt: &HostRuntime) -> Ended {
     let _first = File::open(rt, "/");
     let _second = File::open(rt, "/");

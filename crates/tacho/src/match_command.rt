@@ -1,4 +1,5 @@
-//! What `match` and `match all` print: whether the entries of a card file stand in a unit file, both from one source; and which do not.
+//! What `match` and `match all` print: whether the entries of a card file stand in a unit file, both from one source;
+//! and which do not.
 ghost use Rattle.std.specs.Prelude.{◌<◌, ◌^◌, IfOk, IfErr, length};
 ghost use Rattle.card_match.specs.Files.{IsBadSource};
 ghost use Rattle.tacho.specs.Read.{IsUnshown};

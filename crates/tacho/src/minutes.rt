@@ -40,7 +40,8 @@ pub fn lines_of(
 ) -> Result<Vec<Line<UnitShown>>, AllocError>
     requires well { IsWellFormed trace.now.start trace.now.items }
     requires known { AllByRecursion (IsKnown FormOfMinutes) trace.now.items }
-    ensures { IfOk result (λ lines. lines.items ≡ lines_of same_unit (minutes_printed rule trace.now.start trace.now.items)) }
+    ensures { IfOk result (λ lines. lines.items
+        ≡ lines_of same_unit (minutes_printed rule trace.now.start trace.now.items)) }
 {
     let mut minutes = Minutes::new(rule, trace.start);
     let mut lines = Vec::new(alloc);
@@ -59,7 +60,8 @@ fn feed_item(
 ) -> Result<(), AllocError>
     requires fits { minutes.old.next + item_seconds item ≤ LAST_TIME }
     requires known { IsKnown FormOfMinutes item }
-    ensures stands { (span : Span) → CountsSpan minutes.old span → OnOk result (CountsSpan minutes.new (fed_item span item)) }
+    ensures stands { (span : Span) → CountsSpan minutes.old span
+        → OnOk result (CountsSpan minutes.new (fed_item span item)) }
     ensures lines { (span : Span) → CountsSpan minutes.old span → lines.old.items ≡ lines_shown (decided_in span)
         → OnOk result (lines.new.items ≡ lines_shown (decided_in (fed_item span item))) }
     ensures next { OnOk result (minutes.new.next ≡ minutes.old.next + item_seconds item) }
@@ -82,7 +84,8 @@ fn run(
     speed: u8,
 ) -> Result<(), AllocError>
     requires { minutes.old.next + seconds ≤ LAST_TIME }
-    ensures stands { (span : Span) → CountsSpan minutes.old span → OnOk result (CountsSpan minutes.new (fed_many span speed seconds)) }
+    ensures stands { (span : Span) → CountsSpan minutes.old span
+        → OnOk result (CountsSpan minutes.new (fed_many span speed seconds)) }
     ensures lines { (span : Span) → CountsSpan minutes.old span → lines.old.items ≡ lines_shown (decided_in span)
         → OnOk result (lines.new.items ≡ lines_shown (decided_in (fed_many span speed seconds))) }
     ensures next { OnOk result (minutes.new.next ≡ minutes.old.next + seconds) }
@@ -102,7 +105,8 @@ fn run_pieces<L: Ledger>(
     requires parts { blank.parts ≡ L.parts }
     requires some { 0 < blank.parts }
     requires fits { minutes.old.next + seconds ≤ LAST_TIME }
-    ensures stands { (span : Span) → CountsSpan minutes.old span → OnOk result (CountsSpan minutes.new (fed_many span speed seconds)) }
+    ensures stands { (span : Span) → CountsSpan minutes.old span
+        → OnOk result (CountsSpan minutes.new (fed_many span speed seconds)) }
     ensures lines { (span : Span) → CountsSpan minutes.old span → lines.old.items ≡ lines_shown (decided_in span)
         → OnOk result (lines.new.items ≡ lines_shown (decided_in (fed_many span speed seconds))) }
     ensures next { OnOk result (minutes.new.next ≡ minutes.old.next + seconds) }
@@ -120,7 +124,8 @@ fn run_pieces<L: Ledger>(
 /// Further minutes that are decided alike.
 fn show(lines: &mut Vec<Line<UnitShown>>, alike: &Alike) -> Result<(), AllocError>
     requires { AllByRecursion (λ m. m.minute + alike.now.times ≤ LAST_TIME) alike.now.decided.items }
-    ensures { (speed : ℕ) (before : List Decided) → lines.old.items ≡ lines_shown before → OnOk result (lines.new.items ≡ lines_shown (before ++ decided_alike speed alike.now)) }
+    ensures { (speed : ℕ) (before : List Decided) → lines.old.items ≡ lines_shown before
+        → OnOk result (lines.new.items ≡ lines_shown (before ++ decided_alike speed alike.now)) }
 {
     let decided = alike.decided.as_slice();
     let count = decided.len();
@@ -137,7 +142,8 @@ fn show_each(
     times: u32,
 ) -> Result<(), AllocError>
     requires { AllByRecursion (λ m. m.minute + times ≤ LAST_TIME) minutes.now }
-    ensures { (speed : ℕ) (before : List Decided) → lines.old.items ≡ lines_shown before → OnOk result (lines.new.items ≡ lines_shown (before ++ repeated speed times minutes.now)) }
+    ensures { (speed : ℕ) (before : List Decided) → lines.old.items ≡ lines_shown before
+        → OnOk result (lines.new.items ≡ lines_shown (before ++ repeated speed times minutes.now)) }
 {
     for turn in 0..times {
         show_later(lines, minutes, turn)?;
@@ -152,7 +158,8 @@ fn show_run(
     times: u32,
 ) -> Result<(), AllocError>
     requires { minute.minute + times ≤ LAST_TIME }
-    ensures { (before : List (ViewedMinute UnitShown)) → lines.old.items ≡ lines_of same_unit before → OnOk result (lines.new.items ≡ lines_of same_unit (before ++ shown_run minute times)) }
+    ensures { (before : List (ViewedMinute UnitShown)) → lines.old.items ≡ lines_of same_unit before
+        → OnOk result (lines.new.items ≡ lines_of same_unit (before ++ shown_run minute times)) }
 {
     let mut done = 0;
     while done < times {
@@ -185,7 +192,8 @@ fn show_later(
     later: u32,
 ) -> Result<(), AllocError>
     requires { AllByRecursion (λ m. m.minute + later ≤ LAST_TIME) minutes.now }
-    ensures { (speed : ℕ) (before : List Decided) → lines.old.items ≡ lines_shown before → OnOk result (lines.new.items ≡ lines_shown (before ++ map (minute_later later speed) minutes.now)) }
+    ensures { (speed : ℕ) (before : List Decided) → lines.old.items ≡ lines_shown before
+        → OnOk result (lines.new.items ≡ lines_shown (before ++ map (minute_later later speed) minutes.now)) }
 {
     for minute in minutes {
         add_minute(lines, with_no_card(*minute, later))?;

@@ -1,4 +1,5 @@
-//! The commands `minutes` and `minutes 2009`: the view text of a trace's decided minutes, by the original and by the amended rule.
+//! The commands `minutes` and `minutes 2009`: the view text of a trace's decided minutes, by the original and by the
+//! amended rule.
 ghost use Rattle.std.specs.Prelude.{◌≡◌, ◌≢◌, ◌≤◌, ◌⊎◌, ℕ, List, Some, Err, OnOk, IfOk, IfErr, IsErrAnd};
 ghost use Rattle.std.specs.Io.KnownBytes.{Appends, IsAtEnd};
 ghost use Rattle.tach_media.specs.Medium.{Rose};
@@ -31,11 +32,14 @@ pub fn print_minutes<S: Source, K: Sink>(
     ensures printed { (text : List ℕ) → S.left source.old ≡ Some text
         → OnOk result ((out : List ℕ) × PrintsMinutes rule text out × Appends (K.held sink.old) (K.held sink.new) out) }
     ensures read { OnOk result (IsAtEnd (S.left source.new)) }
-    ensures bad_trace { (text : List ℕ) (n : ℕ) → S.left source.old ≡ Some text → result ≡ Err (Fault.BadTrace n) → IsBadText FormOfMinutes text n }
-    ensures too_long { (text : List ℕ) (n : ℕ) → S.left source.old ≡ Some text → result ≡ Err (Fault.TooLong n) → IsLongText FormOfMinutes text n }
+    ensures bad_trace { (text : List ℕ) (n : ℕ) → S.left source.old ≡ Some text → result ≡ Err (Fault.BadTrace n)
+        → IsBadText FormOfMinutes text n }
+    ensures too_long { (text : List ℕ) (n : ℕ) → S.left source.old ≡ Some text → result ≡ Err (Fault.TooLong n)
+        → IsLongText FormOfMinutes text n }
     ensures read_fault { result ≡ Err Fault.ReadFault → Rose (S.faults source.old) (S.faults source.new) }
     ensures write_fault { result ≡ Err Fault.WriteFault → Rose (K.faults sink.old) (K.faults sink.new) }
-    ensures prints { (text : List ℕ) (start : ℕ) (items : List Item) → S.left source.old ≡ Some text → IsTraceText FormOfMinutes text start items
+    ensures prints { (text : List ℕ) (start : ℕ) (items : List Item) → S.left source.old ≡ Some text
+        → IsTraceText FormOfMinutes text start items
         → IfErr result IsUnprinted }
     ensures finds_bad_trace { (text : List ℕ) (n : ℕ) → S.left source.old ≡ Some text → IsBadText FormOfMinutes text n
         → IsErrAnd result (λ fault. (fault ≡ Fault.BadTrace n) ⊎ IsUnread fault) }

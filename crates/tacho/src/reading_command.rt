@@ -1,5 +1,6 @@
 //! The forms that read a file to its end and print what it tells.
-ghost use Rattle.std.specs.Prelude.{◌≡◌, ◌≢◌, ◌≤◌, ◌<◌, ◌^◌, ◌⊎◌, ℕ, List, Some, Err, OnOk, IfOk, IfErr, IsErrAnd, length};
+ghost use Rattle.std.specs.Prelude.{◌≡◌, ◌≢◌, ◌≤◌, ◌<◌, ◌^◌, ◌⊎◌, ℕ, List, Some, Err, OnOk, IfOk, IfErr, IsErrAnd};
+ghost use Rattle.std.specs.Prelude.{length};
 ghost use Rattle.std.specs.Io.KnownBytes.{Appends, IsAtEnd};
 ghost use Rattle.tach_media.specs.Medium.{Rose};
 ghost use Rattle.tach_media.specs.Streams.{AppendsFront};
@@ -27,8 +28,10 @@ pub fn print_reading<S: Source, K: Sink>(
     ensures printed { (bytes : List ℕ) → S.left source.old ≡ Some bytes
         → OnOk result ((out : List ℕ) × Prints reading bytes out × Appends (K.held sink.old) (K.held sink.new) out) }
     ensures read { OnOk result (IsAtEnd (S.left source.new)) }
-    ensures bad_file { (bytes : List ℕ) (place : ℕ) → S.left source.old ≡ Some bytes → result ≡ Err (Fault.BadFile place) → IsBad reading place bytes }
-    ensures too_long { (bytes : List ℕ) (n : ℕ) → S.left source.old ≡ Some bytes → result ≡ Err (Fault.TooLong n) → (n ≡ 0) × (most_bytes < length bytes) }
+    ensures bad_file { (bytes : List ℕ) (place : ℕ) → S.left source.old ≡ Some bytes
+        → result ≡ Err (Fault.BadFile place) → IsBad reading place bytes }
+    ensures too_long { (bytes : List ℕ) (n : ℕ) → S.left source.old ≡ Some bytes → result ≡ Err (Fault.TooLong n)
+        → (n ≡ 0) × (most_bytes < length bytes) }
     ensures finds_too_long { (bytes : List ℕ) → S.left source.old ≡ Some bytes → most_bytes < length bytes
         → IsErrAnd result (λ fault. (fault ≡ Fault.TooLong 0) ⊎ IsUnread fault) }
     ensures read_fault { result ≡ Err Fault.ReadFault → Rose (S.faults source.old) (S.faults source.new) }

@@ -21,8 +21,8 @@ use std::alloc::Global;
 use tach_media::{Chip, Medium, Sink, Source, put_all};
 use trace_text::{Form, read_trace};
 
-/// The command `record`. A trace without a card's line is recorded on the unit alone, and any other on the unit and both cards. The outcome
-/// is what was recorded; it stays as it was where the trace is not recorded.
+/// The command `record`. A trace without a card's line is recorded on the unit alone, and any other on the unit and
+/// both cards. The outcome is what was recorded; it stays as it was where the trace is not recorded.
 pub fn record<S: Source, K: Sink, U: Medium, C: Chip>(
     alloc: Global,
     source: &mut S,
@@ -37,14 +37,19 @@ pub fn record<S: Source, K: Sink, U: Medium, C: Chip>(
     requires card_b { IsCard (C.state card_b.old) }
     requires empty { IsEmpty outcome.old }
     ensures ends { EndsRecord
-        (outside S.left S.faults K.held K.faults U.state C.state C.card source.old sink.old unit.old card_a.old card_b.old)
-        (outside S.left S.faults K.held K.faults U.state C.state C.card source.new sink.new unit.new card_a.new card_b.new) outcome.new (end_of result) }
-    ensures before { IfErr result (λ fault. IsBeforeDevices fault → (unit.new ≡ unit.old) × (card_a.new ≡ card_a.old) × (card_b.new ≡ card_b.old)) }
+        (outside S.left S.faults K.held K.faults U.state C.state C.card source.old sink.old unit.old card_a.old
+        card_b.old)
+        (outside S.left S.faults K.held K.faults U.state C.state C.card source.new sink.new unit.new card_a.new
+        card_b.new) outcome.new (end_of result) }
+    ensures before { IfErr result (λ fault. IsBeforeDevices fault
+        → (unit.new ≡ unit.old) × (card_a.new ≡ card_a.old) × (card_b.new ≡ card_b.old)) }
     ensures nothing { IfErr result (λ fault. fault ≢ Fault.WriteFault → sink.new ≡ sink.old) }
     ensures for_unit { IsToldForUnit (S.left source.old) → (card_a.new ≡ card_a.old) × (card_b.new ≡ card_b.old) }
     ensures causes { HasCauses
-        (outside S.left S.faults K.held K.faults U.state C.state C.card source.old sink.old unit.old card_a.old card_b.old)
-        (outside S.left S.faults K.held K.faults U.state C.state C.card source.new sink.new unit.new card_a.new card_b.new) (end_of result) }
+        (outside S.left S.faults K.held K.faults U.state C.state C.card source.old sink.old unit.old card_a.old
+        card_b.old)
+        (outside S.left S.faults K.held K.faults U.state C.state C.card source.new sink.new unit.new card_a.new
+        card_b.new) (end_of result) }
 {
     let trace = match read_trace(alloc, source, Form::Whole) {
         Ok(trace) => trace,
@@ -81,7 +86,8 @@ pub fn refusal_of_run(fault: RunFault) -> Fault
 /// Prints the five lines of an outcome.
 fn print_outcome<K: Sink>(outcome: &Outcome, sink: &mut K) -> Result<(), Fault>
     ensures ok { OnOk result (Appends (K.held sink.old) (K.held sink.new) (text_of_outcome outcome.now)) }
-    ensures err { IfErr result (λ fault. (fault ≡ Fault.WriteFault) × AppendsFront (K.held sink.old) (K.held sink.new) (text_of_outcome outcome.now)) }
+    ensures err { IfErr result (λ fault. (fault ≡ Fault.WriteFault)
+        × AppendsFront (K.held sink.old) (K.held sink.new) (text_of_outcome outcome.now)) }
     ensures cause { IfErr result (λ fault. Rose (K.faults sink.old) (K.faults sink.new)) }
     ensures counts { K.faults sink.old ≤ K.faults sink.new }
 {

@@ -1,5 +1,5 @@
-//! What `totals`, `chart` and `speeds` print: the hours of each day of a unit file or of a card file, a picture of the days, and the
-//! detailed speed of a unit file.
+//! What `totals`, `chart` and `speeds` print: the hours of each day of a unit file or of a card file, a picture of the
+//! days, and the detailed speed of a unit file.
 ghost use Rattle.std.specs.Prelude.{◌<◌, ◌^◌, IfOk, IfErr, length};
 ghost use Rattle.file_view.specs.CardFiles.{IsBadCardFile};
 ghost use Rattle.file_view.specs.UnitFiles.{IsBadUnitFile};

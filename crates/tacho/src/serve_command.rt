@@ -1,4 +1,5 @@
-//! The commands `serve` and `serve --hex`: the unit answers the bytes of the source on the link, or those that its lines spell.
+//! The commands `serve` and `serve --hex`: the unit answers the bytes of the source on the link, or those that its
+//! lines spell.
 ghost use Rattle.std.specs.Prelude.{◌≡◌};
 ghost use Rattle.tacho.specs.Serving.{end_of_service, end_of_lines, serve_refusal_of};
 

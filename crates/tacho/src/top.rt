@@ -2,7 +2,8 @@
 ghost use Rattle.std.specs.Prelude.{◌≡◌, Some};
 ghost use Rattle.tacho.specs.Forms.{form_of};
 ghost use Rattle.tacho.specs.Outside.{outside};
-ghost use Rattle.tacho.specs.declared.forms.Form.TheVariants.{Record as FormOfRecord, FormatCard as FormOfFormat, CardFile as FormOfCard, Demo as FormOfDemo};
+ghost use Rattle.tacho.specs.declared.forms.Form.TheVariants.{Record as FormOfRecord, FormatCard as FormOfFormat};
+ghost use Rattle.tacho.specs.declared.forms.Form.TheVariants.{CardFile as FormOfCard, Demo as FormOfDemo};
 ghost use Rattle.tacho.specs.Outcomes.{IsEmpty, IsToldForUnit};
 ghost use Rattle.tacho.specs.Program.{AreDevices, Ends, Spares};
 ghost use Rattle.tacho.specs.Serving.{AnswersWaiting};
@@ -38,25 +39,22 @@ use unit_download::{Wire, download};
 
 /// Does what the words ask for.
 ///
-/// `minutes` reads a trace from the source, and writes the view text of its decided minutes, no card present, to the sink; `minutes 2009`
-/// the same by the amended rule.
-/// `record` reads a trace, records it on the unit and the cards, and writes five lines of counts to the sink; a trace without a card's
-/// line is recorded on the unit alone.
-/// `serve` answers the frames among the bytes of the source by the messages of the unit, and writes the answers to the sink;
-/// `serve --hex` the same of lines of hexadecimal digits; `serve packets` answers packets, and `download packets` asks by them, and writes
-/// the unit's file to the file.
-/// `download` downloads the unit, and writes its file, message by message, to the sink; `download noisy X` the same over a link that loses,
-/// repeats and delays.
-/// `view` reads a unit file or a card file from the source, and writes the view text of its minutes or entries to the sink.
-/// `match` reads a unit file and a card file from the source, and writes whether the card's entries stand in the unit file to the sink;
-/// `match all` all that differ.
-/// `card a` and `card b` read the card by its commands, and write its card file to the sink.
-/// `demo X` makes the unit and card a new, records a demonstration on the unit and the cards, downloads the unit, and writes seven lines of
-/// counts to the sink.
-/// `format a` and `format b` issue the card anew, of the largest sizes, `format unit` makes the unit new; they write
-/// `formatted` to the sink. `upgrade` gives the unit version 2 with the amended rule of minutes, and writes `upgraded`, or `already 2`
-/// where the unit had it. `state` reads the unit and the cards, and writes what they tell of themselves, a line each. No other device is used than the form's.
-/// `help` and `--help` write the forms to the sink, a line each, and `--version` the version.
+/// `minutes` reads a trace from the source, and writes the view text of its decided minutes, no card present, to the
+/// sink; `minutes 2009` the same by the amended rule. `record` reads a trace, records it on the unit and the cards, and
+/// writes five lines of counts to the sink; a trace without a card's line is recorded on the unit alone. `serve`
+/// answers the frames among the bytes of the source by the messages of the unit, and writes the answers to the sink;
+/// `serve --hex` the same of lines of hexadecimal digits; `serve packets` answers packets, and `download packets` asks
+/// by them, and writes the unit's file to the file. `download` downloads the unit, and writes its file, message by
+/// message, to the sink; `download noisy X` the same over a link that loses, repeats and delays. `view` reads a unit
+/// file or a card file from the source, and writes the view text of its minutes or entries to the sink. `match` reads a
+/// unit file and a card file from the source, and writes whether the card's entries stand in the unit file to the sink;
+/// `match all` all that differ. `card a` and `card b` read the card by its commands, and write its card file to the
+/// sink. `demo X` makes the unit and card a new, records a demonstration on the unit and the cards, downloads the unit,
+/// and writes seven lines of counts to the sink. `format a` and `format b` issue the card anew, of the largest sizes,
+/// `format unit` makes the unit new; they write `formatted` to the sink. `upgrade` gives the unit version 2 with the
+/// amended rule of minutes, and writes `upgraded`, or `already 2` where the unit had it. `state` reads the unit and the
+/// cards, and writes what they tell of themselves, a line each. No other device is used than the form's. `help` and
+/// `--help` write the forms to the sink, a line each, and `--version` the version.
 pub fn tacho<S: Peer<K>, K: Sink, F: Sink, U: Medium, C: Chip>(
     alloc: Global,
     words: &Words,
@@ -69,27 +67,34 @@ pub fn tacho<S: Peer<K>, K: Sink, F: Sink, U: Medium, C: Chip>(
 ) -> Ended
     requires { AreDevices (U.state unit.old) (C.state card_a.old) (C.state card_b.old) }
 
-    // The call ends as the form of the words says, at usage exactly where they are in none, with the fault's status; and what is
-    // told to have failed has failed.
+    // The call ends as the form of the words says, at usage exactly where they are in none, with the fault's status;
+    // and what is told to have failed has failed.
     ensures ends { Ends (form_of words.now)
-        (outside S.left S.faults K.held K.faults U.state C.state C.card source.old sink.old unit.old card_a.old card_b.old)
-        (outside S.left S.faults K.held K.faults U.state C.state C.card source.new sink.new unit.new card_a.new card_b.new) result }
+        (outside S.left S.faults K.held K.faults U.state C.state C.card source.old sink.old unit.old card_a.old
+        card_b.old)
+        (outside S.left S.faults K.held K.faults U.state C.state C.card source.new sink.new unit.new card_a.new
+        card_b.new) result }
 
-    // What the form does not name is as it was, and so are the cards where `record` reads a trace without a card's line; so are the devices where
-    // memory ran out, and the sink where nothing is to be
-    // printed, but for `serve`, `serve --hex` and `download`, which write as they read, and for `card a` and `card b`, which leave
-    // the sink as it was where a field is named.
+    // What the form does not name is as it was, and so are the cards where `record` reads a trace without a card's
+    // line; so are the devices where memory ran out, and the sink where nothing is to be printed, but for `serve`,
+    // `serve --hex` and `download`, which write as they read, and for `card a` and `card b`, which leave the sink as it
+    // was where a field is named.
     ensures spares { Spares (form_of words.now) result.fault (IsToldForUnit (S.left source.old))
-        (source.new ≡ source.old) (sink.new ≡ sink.old) (unit.new ≡ unit.old) (card_a.new ≡ card_a.old) (card_b.new ≡ card_b.old) }
+        (source.new ≡ source.old) (sink.new ≡ sink.old) (unit.new ≡ unit.old) (card_a.new ≡ card_a.old)
+        (card_b.new ≡ card_b.old) }
 
     // A loader that waits for the answers to what it has sent has them before more is read.
     ensures in_time { AnswersWaiting (form_of words.now)
-        (outside S.left S.faults K.held K.faults U.state C.state C.card source.old sink.old unit.old card_a.old card_b.old)
-        (outside S.left S.faults K.held K.faults U.state C.state C.card source.new sink.new unit.new card_a.new card_b.new) (S.asked source.old) (S.asked source.new) }
+        (outside S.left S.faults K.held K.faults U.state C.state C.card source.old sink.old unit.old card_a.old
+        card_b.old)
+        (outside S.left S.faults K.held K.faults U.state C.state C.card source.new sink.new unit.new card_a.new
+        card_b.new) (S.asked source.old) (S.asked source.new) }
 
     // The file has what a download by packets put out; no other form touches it.
-    ensures file { WritesFile (form_of words.now) (S.left source.old) (S.left source.new) (record { link = K.held sink.old; file = F.held file.old })
-        (record { link = K.held sink.new; file = F.held file.new }) (Rose (F.faults file.old) (F.faults file.new)) (file.new ≡ file.old) result.fault }
+    ensures file { WritesFile (form_of words.now) (S.left source.old) (S.left source.new)
+        (record { link = K.held sink.old; file = F.held file.old })
+        (record { link = K.held sink.new; file = F.held file.new }) (Rose (F.faults file.old) (F.faults file.new))
+        (file.new ≡ file.old) result.fault }
 {
     match form_of(words) {
         None => Ended::of(alloc, nothing(alloc), Fault::Usage),
@@ -110,15 +115,22 @@ fn perform<S: Peer<K>, K: Sink, F: Sink, U: Medium, C: Chip>(
 ) -> Ended
     requires { AreDevices (U.state unit.old) (C.state card_a.old) (C.state card_b.old) }
     ensures ends { Ends (Some form)
-        (outside S.left S.faults K.held K.faults U.state C.state C.card source.old sink.old unit.old card_a.old card_b.old)
-        (outside S.left S.faults K.held K.faults U.state C.state C.card source.new sink.new unit.new card_a.new card_b.new) result }
+        (outside S.left S.faults K.held K.faults U.state C.state C.card source.old sink.old unit.old card_a.old
+        card_b.old)
+        (outside S.left S.faults K.held K.faults U.state C.state C.card source.new sink.new unit.new card_a.new
+        card_b.new) result }
     ensures spares { Spares (Some form) result.fault (IsToldForUnit (S.left source.old))
-        (source.new ≡ source.old) (sink.new ≡ sink.old) (unit.new ≡ unit.old) (card_a.new ≡ card_a.old) (card_b.new ≡ card_b.old) }
+        (source.new ≡ source.old) (sink.new ≡ sink.old) (unit.new ≡ unit.old) (card_a.new ≡ card_a.old)
+        (card_b.new ≡ card_b.old) }
     ensures in_time { AnswersWaiting (Some form)
-        (outside S.left S.faults K.held K.faults U.state C.state C.card source.old sink.old unit.old card_a.old card_b.old)
-        (outside S.left S.faults K.held K.faults U.state C.state C.card source.new sink.new unit.new card_a.new card_b.new) (S.asked source.old) (S.asked source.new) }
-    ensures file { WritesFile (Some form) (S.left source.old) (S.left source.new) (record { link = K.held sink.old; file = F.held file.old })
-        (record { link = K.held sink.new; file = F.held file.new }) (Rose (F.faults file.old) (F.faults file.new)) (file.new ≡ file.old) result.fault }
+        (outside S.left S.faults K.held K.faults U.state C.state C.card source.old sink.old unit.old card_a.old
+        card_b.old)
+        (outside S.left S.faults K.held K.faults U.state C.state C.card source.new sink.new unit.new card_a.new
+        card_b.new) (S.asked source.old) (S.asked source.new) }
+    ensures file { WritesFile (Some form) (S.left source.old) (S.left source.new)
+        (record { link = K.held sink.old; file = F.held file.old })
+        (record { link = K.held sink.new; file = F.held file.new }) (Rose (F.faults file.old) (F.faults file.new))
+        (file.new ≡ file.old) result.fault }
 {
     let nothing = nothing(alloc);
     match form {
@@ -190,10 +202,13 @@ fn perform_record<S: Source, K: Sink, U: Medium, C: Chip>(
 ) -> Ended
     requires { AreDevices (U.state unit.old) (C.state card_a.old) (C.state card_b.old) }
     ensures ends { Ends (Some FormOfRecord)
-        (outside S.left S.faults K.held K.faults U.state C.state C.card source.old sink.old unit.old card_a.old card_b.old)
-        (outside S.left S.faults K.held K.faults U.state C.state C.card source.new sink.new unit.new card_a.new card_b.new) result }
+        (outside S.left S.faults K.held K.faults U.state C.state C.card source.old sink.old unit.old card_a.old
+        card_b.old)
+        (outside S.left S.faults K.held K.faults U.state C.state C.card source.new sink.new unit.new card_a.new
+        card_b.new) result }
     ensures spares { Spares (Some FormOfRecord) result.fault (IsToldForUnit (S.left source.old))
-        (source.new ≡ source.old) (sink.new ≡ sink.old) (unit.new ≡ unit.old) (card_a.new ≡ card_a.old) (card_b.new ≡ card_b.old) }
+        (source.new ≡ source.old) (sink.new ≡ sink.old) (unit.new ≡ unit.old) (card_a.new ≡ card_a.old)
+        (card_b.new ≡ card_b.old) }
 {
     let mut outcome = nothing(alloc);
     let done = record(alloc, source, sink, unit, card_a, card_b, &mut outcome);
@@ -213,10 +228,13 @@ fn perform_format<S: Source, K: Sink, U: Medium, C: Chip>(
 ) -> Ended
     requires { AreDevices (U.state unit.old) (C.state card_a.old) (C.state card_b.old) }
     ensures ends { Ends (Some (FormOfFormat card identity.now))
-        (outside S.left S.faults K.held K.faults U.state C.state C.card source.old sink.old unit.old card_a.old card_b.old)
-        (outside S.left S.faults K.held K.faults U.state C.state C.card source.new sink.new unit.new card_a.new card_b.new) result }
+        (outside S.left S.faults K.held K.faults U.state C.state C.card source.old sink.old unit.old card_a.old
+        card_b.old)
+        (outside S.left S.faults K.held K.faults U.state C.state C.card source.new sink.new unit.new card_a.new
+        card_b.new) result }
     ensures spares { Spares (Some (FormOfFormat card identity.now)) result.fault (IsToldForUnit (S.left source.old))
-        (source.new ≡ source.old) (sink.new ≡ sink.old) (unit.new ≡ unit.old) (card_a.new ≡ card_a.old) (card_b.new ≡ card_b.old) }
+        (source.new ≡ source.old) (sink.new ≡ sink.old) (unit.new ≡ unit.old) (card_a.new ≡ card_a.old)
+        (card_b.new ≡ card_b.old) }
 {
     let outcome = nothing(alloc);
     match card {
@@ -245,10 +263,13 @@ fn perform_card<S: Source, K: Sink, U: Medium, C: Chip>(
 ) -> Ended
     requires { AreDevices (U.state unit.old) (C.state card_a.old) (C.state card_b.old) }
     ensures ends { Ends (Some (FormOfCard card))
-        (outside S.left S.faults K.held K.faults U.state C.state C.card source.old sink.old unit.old card_a.old card_b.old)
-        (outside S.left S.faults K.held K.faults U.state C.state C.card source.new sink.new unit.new card_a.new card_b.new) result }
+        (outside S.left S.faults K.held K.faults U.state C.state C.card source.old sink.old unit.old card_a.old
+        card_b.old)
+        (outside S.left S.faults K.held K.faults U.state C.state C.card source.new sink.new unit.new card_a.new
+        card_b.new) result }
     ensures spares { Spares (Some (FormOfCard card)) result.fault (IsToldForUnit (S.left source.old))
-        (source.new ≡ source.old) (sink.new ≡ sink.old) (unit.new ≡ unit.old) (card_a.new ≡ card_a.old) (card_b.new ≡ card_b.old) }
+        (source.new ≡ source.old) (sink.new ≡ sink.old) (unit.new ≡ unit.old) (card_a.new ≡ card_a.old)
+        (card_b.new ≡ card_b.old) }
 {
     let outcome = nothing(alloc);
     match card {
@@ -277,10 +298,13 @@ fn perform_demo<S: Source, K: Sink, U: Medium, C: Chip>(
 ) -> Ended
     requires { AreDevices (U.state unit.old) (C.state card_a.old) (C.state card_b.old) }
     ensures ends { Ends (Some (FormOfDemo seed))
-        (outside S.left S.faults K.held K.faults U.state C.state C.card source.old sink.old unit.old card_a.old card_b.old)
-        (outside S.left S.faults K.held K.faults U.state C.state C.card source.new sink.new unit.new card_a.new card_b.new) result }
+        (outside S.left S.faults K.held K.faults U.state C.state C.card source.old sink.old unit.old card_a.old
+        card_b.old)
+        (outside S.left S.faults K.held K.faults U.state C.state C.card source.new sink.new unit.new card_a.new
+        card_b.new) result }
     ensures spares { Spares (Some (FormOfDemo seed)) result.fault (IsToldForUnit (S.left source.old))
-        (source.new ≡ source.old) (sink.new ≡ sink.old) (unit.new ≡ unit.old) (card_a.new ≡ card_a.old) (card_b.new ≡ card_b.old) }
+        (source.new ≡ source.old) (sink.new ≡ sink.old) (unit.new ≡ unit.old) (card_a.new ≡ card_a.old)
+        (card_b.new ≡ card_b.old) }
 {
     let mut outcome = nothing(alloc);
     let done = demo(

@@ -1,11 +1,13 @@
-//! What `view`, `view last N` and `view manual` print: the view text of a unit file or of a card file, or of a card file's entries by hand.
+//! What `view`, `view last N` and `view manual` print: the view text of a unit file or of a card file, or of a card
+//! file's entries by hand.
 ghost use Rattle.std.specs.Prelude.{◌≡◌, ◌<◌, ◌^◌, IfOk, IfErr, length};
 ghost use Rattle.file_view.specs.Faults.{IfBadFile};
 ghost use Rattle.file_view.specs.CardFiles.{IsBadCardFile};
 ghost use Rattle.file_view.specs.UnitFiles.{IsBadUnitFile};
 ghost use Rattle.file_view.specs.Showing.{ShowsCardFile};
 ghost use Rattle.file_view.specs.UnitShowing.{ShowsUnitFile};
-ghost use Rattle.tacho.specs.View.{is_unit_file, PrintsUnit, PrintsCard, PrintsFile, IsBadFile, PrintsHands, PrintsByHand, IsNoCardFile, view_refusal_of};
+ghost use Rattle.tacho.specs.View.{is_unit_file, PrintsUnit, PrintsCard, PrintsFile, IsBadFile, PrintsHands};
+ghost use Rattle.tacho.specs.View.{PrintsByHand, IsNoCardFile, view_refusal_of};
 ghost use Rattle.tacho.specs.Read.{IsUnshown};
 
 use crate::end::Fault;

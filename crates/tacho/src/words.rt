@@ -1,5 +1,6 @@
 //! The words of the command line.
-ghost use Rattle.std.specs.Prelude.{◌≡◌, ◌==◌, ◌<◌, [], ◌∷◌, ◌++◌, IfSome, IfNone, OnOk, OnErr, length, slice_get, Some};
+ghost use Rattle.std.specs.Prelude.{◌≡◌, ◌==◌, ◌<◌, [], ◌∷◌, ◌++◌, IfSome, IfNone, OnOk, OnErr, length, slice_get};
+ghost use Rattle.std.specs.Prelude.{Some};
 
 use std::alloc::Global;
 use std::marker::Model;

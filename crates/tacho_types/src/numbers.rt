@@ -1,6 +1,7 @@
 //! Times, odometer values and distances.
 ghost use Rattle.std.specs.Prelude.{◌≡◌, ◌^◌, ◌<◌, length};
-ghost use Rattle.tacho_types.specs.Numbers.{time_bytes, time_of, odometer_bytes, odometer_of, distance_bytes, distance_of};
+ghost use Rattle.tacho_types.specs.Numbers.{time_bytes, time_of, odometer_bytes, odometer_of, distance_bytes};
+ghost use Rattle.tacho_types.specs.Numbers.{distance_of};
 
 use byteorder::{BigEndian, ByteOrder};
 

@@ -20,12 +20,14 @@ in_front (Some byte) (Some bytes) = Some (byte ∷ bytes)
 in_front (Some byte) None = None
 in_front None bytes = None
 
--- the bytes that a text spells, one or more: two digits each, and where a space stands between two bytes it is passed over
+-- the bytes that a text spells, one or more: two digits each, and where a space stands between two bytes it is passed
+-- over
 unfoldable pub some_bytes : List ℕ → Option (List ℕ)
 some_bytes [] = None
 some_bytes (high ∷ []) = None
 some_bytes (high ∷ low ∷ []) = in_front (byte_of high low) (Some [])
-some_bytes (high ∷ low ∷ c ∷ rest) = in_front (byte_of high low) (if c == 32 then some_bytes rest else some_bytes (c ∷ rest))
+some_bytes (high ∷ low ∷ c ∷ rest) = in_front (byte_of high low)
+    (if c == 32 then some_bytes rest else some_bytes (c ∷ rest))
 
 -- the bytes that stand behind one: none, or one or more, behind a space or not
 abbrev pub behind_byte : List ℕ → Option (List ℕ)

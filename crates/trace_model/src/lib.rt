@@ -1,4 +1,5 @@
-//! A trace alone (profile): what its lines ask for, and, as definitions over whole lists (specs/), which seconds they spell.
+//! A trace alone (profile): what its lines ask for, and, as definitions over whole lists (specs/), which seconds they
+//! spell.
 #![tactic(auto)]
 
 use activity_codec::{Pick, Slot};

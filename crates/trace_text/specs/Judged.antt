@@ -8,11 +8,12 @@ use Rattle.trace_text.specs.declared.lines_trace.TraceFault.TheVariants.{ReadFau
 use Rattle.trace_text.specs.Text.{text_lines, counted}
 use Rattle.trace_text.specs.Trace.{Spells, IsTraceOf, IsWithinLimits, InGrammar, BeginsWell, opened, ended}
 
--- Line n is the first outside the grammar, and no limit is passed before it: the lines before it begin a trace, and with
--- it they do not. Where no line counts, it is the one after the last.
+-- Line n is the first outside the grammar, and no limit is passed before it: the lines before it begin a trace, and
+-- with it they do not. Where no line counts, it is the one after the last.
 pub data IsFirstBad (form : Form) (lines : List (List ℕ)) (n : ℕ) : Type 0 where
   bad_line : (before : List (ℕ × List (List ℕ))) (fields : List (List ℕ)) (after : List (ℕ × List (List ℕ)))
-      → counted lines ≡ before ++ (n, fields) ∷ after → BeginsWell form before → (InGrammar form (before ++ (n, fields) ∷ []) → ⊥)
+      → counted lines ≡ before ++ (n, fields) ∷ after → BeginsWell form before
+      → (InGrammar form (before ++ (n, fields) ∷ []) → ⊥)
       → IsFirstBad form lines n
   no_start : counted lines ≡ [] → n ≡ length lines + 1 → IsFirstBad form lines n
 

@@ -30,8 +30,8 @@ item_fields (Act (Place slot ending country region)) =
     codes "place" ∷ slot_name slot ∷ ending_word ending ∷ decimal country ∷ decimal region ∷ []
 item_fields (Act (Manual slot pick minute)) = codes "manual" ∷ slot_name slot ∷ pick_name pick ∷ decimal minute ∷ []
 
--- the lines that a form knows behind `start`: the form of minutes `run` and `select`, that of the unit alone `off` too, and the
--- whole form all but `manual`, which no form knows: so it is a bad line in each trace
+-- the lines that a form knows behind `start`: the form of minutes `run` and `select`, that of the unit alone `off` too,
+-- and the whole form all but `manual`, which no form knows: so it is a bad line in each trace
 abbrev pub knows : Form → Item → Bool
 knows Minutes (Run seconds speed) = true
 knows Minutes (Off seconds) = false

@@ -17,7 +17,8 @@ abbrev pub items_of : List (ℕ × Item) → List Item
 items_of placed = map (λ p. p.1) placed
 
 -- these lines are `start` at this second, and then these items
-pub record Spells (form : Form) (lines : List (ℕ × List (List ℕ))) (start : ℕ) (written : List (ℕ × Item)) : Type 0 where
+pub record Spells (form : Form) (lines : List (ℕ × List (List ℕ))) (start : ℕ) (written : List (ℕ × Item)) : Type
+    0 where
   pub start_line : ℕ
   pub text : lines ≡ (start_line, start_fields start) ∷ map line_of written
   pub first : IsFirstSecond start
@@ -75,8 +76,8 @@ HasRuns (Run seconds speed ∷ items) = HasRuns items
 HasRuns (Off seconds ∷ items) = HasRuns items
 HasRuns (Act action ∷ items) = RunComes items × HasRuns items
 
--- A trace is well formed: within its limits, each number in its range, and behind each action a run before the next `off`
--- and before the end.
+-- A trace is well formed: within its limits, each number in its range, and behind each action a run before the next
+-- `off` and before the end.
 pub record IsWellFormed (start : ℕ) (items : List Item) : Type 0 where
   pub first : IsFirstSecond start
   pub within : IsWithinLimits start (total_seconds items)
@@ -98,4 +99,5 @@ InGrammar form lines = (lines ≡ []) ⊎ ((start : ℕ) × (written : List (ℕ
 abbrev pub BeginsWell : Form → List (ℕ × List (List ℕ)) → Type 0
 BeginsWell form lines =
     (lines ≡ [])
-    ⊎ ((start : ℕ) × (written : List (ℕ × Item)) × Spells form lines start written × IsWithinLimits start (total_seconds (items_of (opened written))))
+    ⊎ ((start : ℕ) × (written : List (ℕ × Item)) × Spells form lines start written
+    × IsWithinLimits start (total_seconds (items_of (opened written))))

@@ -4,7 +4,8 @@ ghost use Rattle.trace_model.specs.Trace.{total_seconds};
 ghost use Rattle.trace_text.specs.Demo.{parts_of, day_of, demo_items};
 ghost use Rattle.trace_text.specs.declared.drawn_trace.TheConstants.{PARTS, DAYS, DAY_SECONDS};
 
-/// The parts of a day leave four hours of it at least, so that each day has its seconds, and the trace those of its days.
+/// The parts of a day leave four hours of it at least, so that each day has its seconds, and the trace those of its
+/// days.
 pub fn a_demonstration_has_its_seconds()
     ensures parts { (x : ℕ) → total_seconds (parts_of PARTS x) + 14400 ≤ DAY_SECONDS }
     ensures day { (x : ℕ) → total_seconds (day_of x) ≡ DAY_SECONDS }

@@ -113,7 +113,8 @@ fn read_action(word: &[u8], rest: &[u8]) -> Option<Item>
 /// The item of `run` with these fields.
 fn read_run(rest: &[u8]) -> Option<Item>
     ensures found { IfSome result (λ item. (codes "run" ∷ pieces 32 rest.now ≡ item_fields item) × InRange item) }
-    ensures none { IfNone result ((item : Each) → codes "run" ∷ pieces 32 rest.now ≡ item_fields item → InRange item → ⊥) }
+    ensures none { IfNone result ((item : Each) → codes "run" ∷ pieces 32 rest.now ≡ item_fields item → InRange item
+        → ⊥) }
 {
     let Some((seconds, speed)) = two_fields(rest) else {
         return None;
@@ -130,7 +131,8 @@ fn read_run(rest: &[u8]) -> Option<Item>
 /// The item of `off` with these fields.
 fn read_off(rest: &[u8]) -> Option<Item>
     ensures found { IfSome result (λ item. (codes "off" ∷ pieces 32 rest.now ≡ item_fields item) × InRange item) }
-    ensures none { IfNone result ((item : Each) → codes "off" ∷ pieces 32 rest.now ≡ item_fields item → InRange item → ⊥) }
+    ensures none { IfNone result ((item : Each) → codes "off" ∷ pieces 32 rest.now ≡ item_fields item → InRange item
+        → ⊥) }
 {
     let Some(seconds) = one_field(rest) else {
         return None;
@@ -144,7 +146,8 @@ fn read_off(rest: &[u8]) -> Option<Item>
 /// The item of `select` with these fields.
 fn read_select(rest: &[u8]) -> Option<Item>
     ensures found { IfSome result (λ item. (codes "select" ∷ pieces 32 rest.now ≡ item_fields item) × InRange item) }
-    ensures none { IfNone result ((item : Each) → codes "select" ∷ pieces 32 rest.now ≡ item_fields item → InRange item → ⊥) }
+    ensures none { IfNone result ((item : Each) → codes "select" ∷ pieces 32 rest.now ≡ item_fields item → InRange item
+        → ⊥) }
 {
     let Some((slot, pick)) = two_fields(rest) else {
         return None;
@@ -161,7 +164,8 @@ fn read_select(rest: &[u8]) -> Option<Item>
 /// The item of `insert` with these fields.
 fn read_insert(rest: &[u8]) -> Option<Item>
     ensures found { IfSome result (λ item. (codes "insert" ∷ pieces 32 rest.now ≡ item_fields item) × InRange item) }
-    ensures none { IfNone result ((item : Each) → codes "insert" ∷ pieces 32 rest.now ≡ item_fields item → InRange item → ⊥) }
+    ensures none { IfNone result ((item : Each) → codes "insert" ∷ pieces 32 rest.now ≡ item_fields item → InRange item
+        → ⊥) }
 {
     let Some((slot, card)) = two_fields(rest) else {
         return None;
@@ -178,7 +182,8 @@ fn read_insert(rest: &[u8]) -> Option<Item>
 /// The item of `withdraw` with these fields.
 fn read_withdraw(rest: &[u8]) -> Option<Item>
     ensures found { IfSome result (λ item. (codes "withdraw" ∷ pieces 32 rest.now ≡ item_fields item) × InRange item) }
-    ensures none { IfNone result ((item : Each) → codes "withdraw" ∷ pieces 32 rest.now ≡ item_fields item → InRange item → ⊥) }
+    ensures none { IfNone result ((item : Each) → codes "withdraw" ∷ pieces 32 rest.now ≡ item_fields item
+        → InRange item → ⊥) }
 {
     let Some(slot) = one_field(rest) else {
         return None;
@@ -192,7 +197,8 @@ fn read_withdraw(rest: &[u8]) -> Option<Item>
 /// The item of `tear` with these fields.
 fn read_tear(rest: &[u8]) -> Option<Item>
     ensures found { IfSome result (λ item. (codes "tear" ∷ pieces 32 rest.now ≡ item_fields item) × InRange item) }
-    ensures none { IfNone result ((item : Each) → codes "tear" ∷ pieces 32 rest.now ≡ item_fields item → InRange item → ⊥) }
+    ensures none { IfNone result ((item : Each) → codes "tear" ∷ pieces 32 rest.now ≡ item_fields item → InRange item
+        → ⊥) }
 {
     let Some(slot) = one_field(rest) else {
         return None;
@@ -206,7 +212,8 @@ fn read_tear(rest: &[u8]) -> Option<Item>
 /// The item of `place` with these fields.
 fn read_place(rest: &[u8]) -> Option<Item>
     ensures found { IfSome result (λ item. (codes "place" ∷ pieces 32 rest.now ≡ item_fields item) × InRange item) }
-    ensures none { IfNone result ((item : Each) → codes "place" ∷ pieces 32 rest.now ≡ item_fields item → InRange item → ⊥) }
+    ensures none { IfNone result ((item : Each) → codes "place" ∷ pieces 32 rest.now ≡ item_fields item → InRange item
+        → ⊥) }
 {
     let Some((slot, ending, country, region)) = four_fields(rest) else {
         return None;
@@ -234,7 +241,8 @@ fn read_place(rest: &[u8]) -> Option<Item>
 /// The item of `manual` with these fields.
 fn read_manual(rest: &[u8]) -> Option<Item>
     ensures found { IfSome result (λ item. (codes "manual" ∷ pieces 32 rest.now ≡ item_fields item) × InRange item) }
-    ensures none { IfNone result ((item : Each) → codes "manual" ∷ pieces 32 rest.now ≡ item_fields item → InRange item → ⊥) }
+    ensures none { IfNone result ((item : Each) → codes "manual" ∷ pieces 32 rest.now ≡ item_fields item → InRange item
+        → ⊥) }
 {
     let Some((slot, pick, minute)) = three_fields(rest) else {
         return None;

@@ -95,7 +95,8 @@ impl Items {
     }
 }
 
-/// A trace. The seconds that are put in, where no run follows actions before the next `off` or the end, are among its items.
+/// A trace. The seconds that are put in, where no run follows actions before the next `off` or the end, are among its
+/// items.
 #[derive(Drop)]
 pub struct Trace {
     /// The first second, in seconds since 1970-01-01 00:00 GMT: 86400 to 4294880895.

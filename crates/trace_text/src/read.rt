@@ -1,5 +1,6 @@
 //! Reading a trace from a source.
-ghost use Rattle.std.specs.Prelude.{◌≡◌, ℕ, ◌<◌, ◌≤◌, ◌^◌, ◌∷◌, List, length, IfOk, OnOk, IsErrOf, IsErrAnd, ◌⊎◌, Some, Err, MatchResult};
+ghost use Rattle.std.specs.Prelude.{◌≡◌, ℕ, ◌<◌, ◌≤◌, ◌^◌, ◌∷◌, List, length, IfOk, OnOk, IsErrOf, IsErrAnd, ◌⊎◌, Some};
+ghost use Rattle.std.specs.Prelude.{Err, MatchResult};
 ghost use Rattle.trace_text.specs.declared.read.TheConstants.{MOST_BYTES};
 ghost use Rattle.std.specs.Io.KnownBytes.{IsAtEnd};
 ghost use Rattle.tach_media.specs.Medium.{Rose};
@@ -24,7 +25,8 @@ const MOST_BYTES: u32 = 16777216;
 #[tactic(auto, unfolding(crate::specs::Judged::IsTraceText, crate::specs::Judged::IsBadText, crate::specs::Judged::IsLongText))]
 pub fn read_trace<S: Source>(alloc: Global, source: &mut S, form: Form) -> Result<Trace, TraceFault>
     // What is read is the trace that the source told, and nothing of the source is left.
-    ensures trace { (text : List ℕ) → S.left source.old ≡ Some text → IfOk result (λ t. IsTraceText form text t.start t.items) }
+    ensures trace { (text : List ℕ) → S.left source.old ≡ Some text
+        → IfOk result (λ t. IsTraceText form text t.start t.items) }
     ensures end { OnOk result (IsAtEnd (S.left source.new)) }
     // It is well formed and each of its items is one of the form's, whether or not the source tells its content.
     ensures well_formed { IfOk result (λ t. IsWellFormed t.start t.items) }
@@ -60,7 +62,8 @@ pub fn read_trace<S: Source>(alloc: Global, source: &mut S, form: Form) -> Resul
 /// The trace of a text.
 fn trace_of(alloc: Global, text: &[u8], form: Form) -> Result<Trace, TraceFault>
     requires { length text.now ≤ MOST_BYTES }
-    ensures { MatchResult result (λ t. IsTraceOf form (text_lines text.now) t.start t.items) (IsFaultOf form (text_lines text.now)) }
+    ensures { MatchResult result (λ t. IsTraceOf form (text_lines text.now) t.start t.items)
+        (IsFaultOf form (text_lines text.now)) }
 {
     let mut reading = Reading::new(alloc, form);
     let mut rest = text;

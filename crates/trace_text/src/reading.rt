@@ -29,7 +29,8 @@ pub struct Reading {
 }
 
 impl Reading {
-    ghost use Rattle.std.specs.Prelude.{◌^◌, ◌-◌, ◌≡◌, ◌+◌, ◌<◌, ℕ, List, [], ◌∷◌, ◌++◌, OnOk, IfErr, MatchResult, None as NoSecond, Some as Second, true};
+    ghost use Rattle.std.specs.Prelude.{◌^◌, ◌-◌, ◌≡◌, ◌+◌, ◌<◌, ℕ, List, [], ◌∷◌, ◌++◌, OnOk, IfErr, MatchResult};
+    ghost use Rattle.std.specs.Prelude.{None as NoSecond, Some as Second, true};
     ghost use Rattle.trace_model.specs.declared.Item.{Item as Each};
     ghost use Rattle.trace_text.specs.Text.{counts};
     ghost use Rattle.trace_text.specs.Trace.{IsTraceOf, put_in, added, waits};
@@ -54,7 +55,8 @@ impl Reading {
     /// Reads one more line.
     pub fn take(&mut self, line: &[u8]) -> Result<(), TraceFault>
         requires { self.old.lines < 2 ^ 32 - 1 }
-        ensures ok { (lines : List (List ℕ)) → HasRead lines self.old → OnOk result (HasRead (lines ++ line.now ∷ []) self.new) }
+        ensures ok { (lines : List (List ℕ)) → HasRead lines self.old
+            → OnOk result (HasRead (lines ++ line.now ∷ []) self.new) }
         ensures fault { (lines behind : List (List ℕ)) → HasRead lines self.old
             → IfErr result (IsFaultOf self.old.form (lines ++ line.now ∷ behind)) }
         ensures form { self.new.form ≡ self.old.form }
@@ -75,7 +77,8 @@ impl Reading {
         requires lines { self.old.lines < 2 ^ 32 - 1 }
         requires first { self.old.start ≡ NoSecond }
         requires counted { counts line.now ≡ true }
-        ensures ok { (lines : List (List ℕ)) → HasRead lines self.old → OnOk result (HasRead (lines ++ line.now ∷ []) self.new) }
+        ensures ok { (lines : List (List ℕ)) → HasRead lines self.old
+            → OnOk result (HasRead (lines ++ line.now ∷ []) self.new) }
         ensures fault { (lines behind : List (List ℕ)) → HasRead lines self.old
             → IfErr result (IsFaultOf self.old.form (lines ++ line.now ∷ behind)) }
         ensures form { self.new.form ≡ self.old.form }
@@ -94,7 +97,8 @@ impl Reading {
         requires lines { self.old.lines < 2 ^ 32 - 1 }
         requires later { self.old.start ≡ Second start }
         requires counted { counts line.now ≡ true }
-        ensures ok { (lines : List (List ℕ)) → HasRead lines self.old → OnOk result (HasRead (lines ++ line.now ∷ []) self.new) }
+        ensures ok { (lines : List (List ℕ)) → HasRead lines self.old
+            → OnOk result (HasRead (lines ++ line.now ∷ []) self.new) }
         ensures fault { (lines behind : List (List ℕ)) → HasRead lines self.old
             → IfErr result (IsFaultOf self.old.form (lines ++ line.now ∷ behind)) }
         ensures form { self.new.form ≡ self.old.form }
@@ -167,7 +171,8 @@ impl Reading {
         Ok(())
     }
 
-    /// The trace of the lines that were read, with the second that is put in where no run follows the actions at the end.
+    /// The trace of the lines that were read, with the second that is put in where no run follows the actions at the
+    /// end.
     pub fn finish(mut self) -> Result<Trace, TraceFault>
         requires { self.lines < 2 ^ 32 - 1 }
         ensures { (lines : List (List ℕ)) → HasRead lines self

@@ -1,5 +1,6 @@
 -- How a download ends.
-use Rattle.std.specs.Prelude.{◌≡◌, ◌⊎◌, ℕ, ◌<◌, Bool, true, false, List, [], ◌∷◌, ◌++◌, length, Option, Some, None, IfSome, Result, Ok, Err}
+use Rattle.std.specs.Prelude.{◌≡◌, ◌⊎◌, ℕ, ◌<◌, Bool, true, false, List, [], ◌∷◌, ◌++◌, length, Option, Some, None}
+use Rattle.std.specs.Prelude.{IfSome, Result, Ok, Err}
 use Rattle.std.specs.Io.KnownBytes.{Appends, Keeps}
 use Rattle.tach_media.specs.Streams.{AppendsFront}
 use Rattle.card_layout.specs.Fields.{IsBytes}
@@ -39,12 +40,15 @@ abbrev pub has_failed : {T : Type 0} → Result T DownloadFault → Bool
 has_failed (Err Failed) = true
 has_failed _ = false
 
--- No answer of the unit came on the wire: the unit failed, or is bad, at a frame whose answer hangs on it; its table gives no
--- answer; or memory ran out as a frame was to be added.
-abbrev pub IsUnanswered : (image : Option (List ℕ)) → DownloadFault → LinkState → (sent : List ℕ) → (behind : List Passed) → Type 0
+-- No answer of the unit came on the wire: the unit failed, or is bad, at a frame whose answer hangs on it; its table
+-- gives no answer; or memory ran out as a frame was to be added.
+abbrev pub IsUnanswered : (image : Option (List ℕ)) → DownloadFault → LinkState → (sent : List ℕ)
+    → (behind : List Passed) → Type 0
 IsUnanswered image Failed state sent behind = (behind ≡ of_loader sent ∷ []) × (asks_unit state (Right sent) ≡ true)
-IsUnanswered image (BadUnit place) state sent behind = (behind ≡ of_loader sent ∷ []) × (asks_unit state (Right sent) ≡ true)
-IsUnanswered image Changed state sent behind = (behind ≡ of_loader sent ∷ []) × ((after : LinkState) × Replies image state sent (record { answer = None; state = after }))
+IsUnanswered image (BadUnit place) state sent behind = (behind ≡ of_loader sent ∷ [])
+    × (asks_unit state (Right sent) ≡ true)
+IsUnanswered image Changed state sent behind = (behind ≡ of_loader sent ∷ [])
+    × ((after : LinkState) × Replies image state sent (record { answer = None; state = after }))
 IsUnanswered image WriteFault state sent behind = ⊥
 IsUnanswered image Memory state sent behind = (behind ≡ []) ⊎ (behind ≡ of_loader sent ∷ [])
 
@@ -56,19 +60,24 @@ IsOfFrame (load.Broken wanted counter) = Unit {0}
 IsOfFrame load.WriteFault = ⊥
 IsOfFrame load.Memory = ⊥
 
--- The loader did not take the unit's answer: it is a negative one that is not passed over, a broken piece, or unexpected; the sink
--- failed at the message that it finished, of which a front went out; or it is a piece of more than the longest message of a unit.
+-- The loader did not take the unit's answer: it is a negative one that is not passed over, a broken piece, or
+-- unexpected; the sink failed at the message that it finished, of which a front went out; or it is a piece of more than
+-- the longest message of a unit.
 abbrev pub IsUntaken : DownloadFault → Loading → (frame : List ℕ) → (held sunk : Option (List ℕ)) → Type 0
 IsUntaken Failed loader frame held sunk = ⊥
 IsUntaken (BadUnit place) loader frame held sunk = ⊥
-IsUntaken Changed loader frame held sunk = ((fault : LoadFault) × IsOfFrame fault × IsRefused loader frame fault) × Keeps held sunk
-IsUntaken WriteFault loader frame held sunk = (m : Message) × Finishes loader frame m × AppendsFront held sunk (message_bytes m)
+IsUntaken Changed loader frame held sunk = ((fault : LoadFault) × IsOfFrame fault × IsRefused loader frame fault)
+    × Keeps held sunk
+IsUntaken WriteFault loader frame held sunk = (m : Message) × Finishes loader frame m
+    × AppendsFront held sunk (message_bytes m)
 IsUntaken Memory loader frame held sunk =
-    ((request : Request) × (kind_of loader.stage frame ≡ Piece request)) × (LONGEST < length (with_piece loader.bytes frame)) × Keeps held sunk
+    ((request : Request) × (kind_of loader.stage frame ≡ Piece request))
+    × (LONGEST < length (with_piece loader.bytes frame)) × Keeps held sunk
 
--- An answer of the unit that the loader did not take: both frames are on the wire. No unit that tells its image, of bytes, sends more than
--- there is room for.
-pub record Answers (image : Option (List ℕ)) (fault : DownloadFault) (talk : Talk) (sent : List ℕ) (behind : List Passed) (held sunk : Option (List ℕ)) : Type 0 where
+-- An answer of the unit that the loader did not take: both frames are on the wire. No unit that tells its image, of
+-- bytes, sends more than there is room for.
+pub record Answers (image : Option (List ℕ)) (fault : DownloadFault) (talk : Talk) (sent : List ℕ)
+    (behind : List Passed) (held sunk : Option (List ℕ)) : Type 0 where
   pub frame : List ℕ
   pub after : LinkState
   pub answers : Replies image talk.unit sent (record { answer = Some frame; state = after })
@@ -77,19 +86,23 @@ pub record Answers (image : Option (List ℕ)) (fault : DownloadFault) (talk : T
   pub long : fault ≡ Memory → IfSome image (λ x. IsBytes x → ⊥)
 
 -- A download ended at an exchange: at the frame that the loader sent, or at the answer that it did not take.
-pub record StopsAt (image : Option (List ℕ)) (fault : DownloadFault) (talk : Talk) (behind : List Passed) (held sunk : Option (List ℕ)) : Type 0 where
+pub record StopsAt (image : Option (List ℕ)) (fault : DownloadFault) (talk : Talk) (behind : List Passed)
+    (held sunk : Option (List ℕ)) : Type 0 where
   pub sent : List ℕ
   pub sends : sent_at talk.loader.stage ≡ Some sent
-  pub stops : (IsUnanswered image fault talk.unit sent behind × Keeps held sunk) ⊎ Answers image fault talk sent behind held sunk
+  pub stops : (IsUnanswered image fault talk.unit sent behind × Keeps held sunk)
+      ⊎ Answers image fault talk sent behind held sunk
 
 -- where exchanges have led: the download is finished, or it ended at the next exchange
-abbrev pub Ends : {T : Type 0} → Result T DownloadFault → (image : Option (List ℕ)) → Talk → (behind : List Passed) → (held sunk : Option (List ℕ)) → Type 0
+abbrev pub Ends : {T : Type 0} → Result T DownloadFault → (image : Option (List ℕ)) → Talk → (behind : List Passed)
+    → (held sunk : Option (List ℕ)) → Type 0
 Ends (Ok done) image talk behind held sunk = (talk.loader.stage ≡ Finished) × (behind ≡ []) × Keeps held sunk
 Ends (Err fault) image talk behind held sunk = StopsAt image fault talk behind held sunk
 
--- HOW A DOWNLOAD ENDS, whatever the unit tells: the wire is a run of both tables, and behind it what of the last exchange passed. What
--- the loader put out has gone to the sink, behind what that held.
-pub record IsDownload {T : Type 0} (result : Result T DownloadFault) (image : Option (List ℕ)) (wire : List Passed) (held sunk : Option (List ℕ)) : Type 0 where
+-- HOW A DOWNLOAD ENDS, whatever the unit tells: the wire is a run of both tables, and behind it what of the last
+-- exchange passed. What the loader put out has gone to the sink, behind what that held.
+pub record IsDownload {T : Type 0} (result : Result T DownloadFault) (image : Option (List ℕ)) (wire : List Passed)
+    (held sunk : Option (List ℕ)) : Type 0 where
   pub exchanges : List Passed
   pub behind : List Passed
   pub wire_is : wire ≡ exchanges ++ behind

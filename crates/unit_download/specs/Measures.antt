@@ -1,7 +1,9 @@
 -- What is measured of a unit's file (profile).
 use Rattle.std.specs.Prelude.{◌≡◌, ℕ, ◌+◌, List, [], ◌∷◌, length}
 use Rattle.link_model.specs.declared.request.Request.{Request}
-use Rattle.link_model.specs.declared.request.Request.TheVariants.{Overview as AskOverview, Day as AskDay, Events as AskEvents, Speed as AskSpeed, Technical as AskTechnical}
+use Rattle.link_model.specs.declared.request.Request.TheVariants.{Overview as AskOverview, Day as AskDay}
+use Rattle.link_model.specs.declared.request.Request.TheVariants.{Events as AskEvents, Speed as AskSpeed}
+use Rattle.link_model.specs.declared.request.Request.TheVariants.{Technical as AskTechnical}
 use Rattle.message_model.specs.Messages.{Message}
 use Rattle.message_model.specs.Sending.{unit_file, sent_days}
 use Rattle.unit_messages.specs.Reading.{request_of}

@@ -21,12 +21,14 @@ of_unit frame = record { from = side.Unit; frame = frame }
 abbrev pub talk_of : LinkState → Loading → (out : List ℕ) → Talk
 talk_of unit loader out = record { unit = unit; loader = loader; out = out }
 
--- What the unit does about a frame, by its table: over the messages of its image, or, where it does not tell that, over some.
+-- What the unit does about a frame, by its table: over the messages of its image, or, where it does not tell that, over
+-- some.
 abbrev pub Replies : (image : Option (List ℕ)) → LinkState → (sent : List ℕ) → Reply → Type 0
 Replies (Some x) state sent reply = reply ≡ answered (content_sent x) state (Right sent)
 Replies None state sent reply = (messages : Request → Option (List ℕ)) × (reply ≡ answered messages state (Right sent))
 
--- One exchange: the loader sends the frame of its stage, the unit answers by its table, and the loader takes that frame.
+-- One exchange: the loader sends the frame of its stage, the unit answers by its table, and the loader takes that
+-- frame.
 pub record Exchanged (image : Option (List ℕ)) (old : Talk) (first second : Passed) (new : Talk) : Type 0 where
   pub by_loader : first.from ≡ side.Loader
   pub sends : sent_at old.loader.stage ≡ Some first.frame
@@ -40,4 +42,5 @@ pub record Exchanged (image : Option (List ℕ)) (old : Talk) (first second : Pa
 abbrev pub Runs : (image : Option (List ℕ)) → List Passed → Talk → Talk → Type 0
 Runs image [] old new = new ≡ old
 Runs image (first ∷ []) old new = ⊥
-Runs image (first ∷ second ∷ wire) old new = (mid : Talk) × Exchanged image old first second mid × Runs image wire mid new
+Runs image (first ∷ second ∷ wire) old new = (mid : Talk) × Exchanged image old first second mid
+    × Runs image wire mid new

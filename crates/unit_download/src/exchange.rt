@@ -1,6 +1,7 @@
 //! One exchange of a download: the loader's frame, and the unit's answer, which the loader takes.
 ghost use Rattle.unit_model.specs.declared.layout.TheConstants.{IMAGE_SIZE};
-ghost use Rattle.std.specs.Prelude.{◌≡◌, ◌≤◌, ◌<◌, ◌^◌, ◌||◌, true, false, [], ◌∷◌, ℕ, List, Some, IfOk, OnOk, IfErr, IfSome, IsErrOf};
+ghost use Rattle.std.specs.Prelude.{◌≡◌, ◌≤◌, ◌<◌, ◌^◌, ◌||◌, true, false, [], ◌∷◌, ℕ, List, Some, IfOk, OnOk, IfErr};
+ghost use Rattle.std.specs.Prelude.{IfSome, IsErrOf};
 ghost use Rattle.std.specs.Io.KnownBytes.{Appends};
 ghost use Rattle.tach_media.specs.Medium.{Rose};
 ghost use Rattle.link_model.specs.Frames.{Right};
@@ -36,16 +37,23 @@ pub fn answer_to<U: Medium, T: Tape>(
 ) -> Result<Frame, DownloadFault>
     requires unit { (U.state unit.old).size ≡ IMAGE_SIZE }
     requires knows { IfSome (U.state unit.old).image (Knows session.old) }
-    ensures answered { IfOk result (λ frame. Replies (U.state unit.old).image session.old.state sent (record { answer = Some frame; state = session.new.state })) }
-    ensures passed { IfOk result (λ frame. HasMore (T.frames wire.old) (T.frames wire.new) (of_loader sent ∷ of_unit frame ∷ [])) }
+    ensures answered { IfOk result (λ frame. Replies (U.state unit.old).image session.old.state sent
+        (record { answer = Some frame; state = session.new.state })) }
+    ensures passed { IfOk result (λ frame.
+        HasMore (T.frames wire.old) (T.frames wire.new) (of_loader sent ∷ of_unit frame ∷ [])) }
     ensures knows { OnOk result (IfSome (U.state unit.old).image (Knows session.new)) }
-    ensures judged { OnOk result (is_judged session.new ≡ (is_judged session.old || asks_unit session.old.state (Right sent))) }
+    ensures judged { OnOk result (is_judged session.new
+        ≡ (is_judged session.old || asks_unit session.old.state (Right sent))) }
     ensures more { OnOk result (T.count wire.old < T.count wire.new) }
     ensures few { OnOk result (T.count wire.old < 2 ^ 64) }
-    ensures stops { IfErr result (λ fault. (behind : List Passed) × HasMore (T.frames wire.old) (T.frames wire.new) behind × IsUnanswered (U.state unit.old).image fault session.old.state sent behind) }
+    ensures stops { IfErr result (λ fault. (behind : List Passed)
+        × HasMore (T.frames wire.old) (T.frames wire.new) behind
+        × IsUnanswered (U.state unit.old).image fault session.old.state sent behind) }
     // A unit that was asked, and gives no answer, decodes.
-    ensures found { IsErrOf result DownloadFault.Changed → asks_unit session.old.state (Right sent) ≡ true → IfSome (U.state unit.old).image Decodes }
-    ensures bad { IfErr result (λ fault. IfBad fault (λ p. (is_judged session.old ≡ false) × IfSome (U.state unit.old).image (λ x. first_bad_place x ≡ Some p))) }
+    ensures found { IsErrOf result DownloadFault.Changed → asks_unit session.old.state (Right sent) ≡ true
+        → IfSome (U.state unit.old).image Decodes }
+    ensures bad { IfErr result (λ fault. IfBad fault (λ p. (is_judged session.old ≡ false) × IfSome
+        (U.state unit.old).image (λ x. first_bad_place x ≡ Some p))) }
     ensures unit { ReadsIfAny (U.state unit.old) (U.state unit.new) (has_failed result) }
 {
     let seen = Seen::Whole(copy_of(&sent));
@@ -62,17 +70,19 @@ pub fn answer_to<U: Medium, T: Tape>(
 ///
 /// # Errors
 ///
-/// `Changed` where it refuses the frame, `WriteFault` where the sink failed, and `Memory` for a piece of a message that is longer than
-/// the longest of a unit.
+/// `Changed` where it refuses the frame, `WriteFault` where the sink failed, and `Memory` for a piece of a message that
+/// is longer than the longest of a unit.
 pub fn take<K: Sink>(
     loader: &mut Downloader,
     frame: &Frame,
     sink: &mut K,
 ) -> Result<(), DownloadFault>
     requires room { LONGEST ≤ loader.old.room }
-    ensures taken { OnOk result ((put : List ℕ) × Takes loader.old.loading frame.now loader.new.loading put × Appends (K.held sink.old) (K.held sink.new) put) }
+    ensures taken { OnOk result ((put : List ℕ) × Takes loader.old.loading frame.now loader.new.loading put
+        × Appends (K.held sink.old) (K.held sink.new) put) }
     ensures room { loader.old.room ≤ loader.new.room }
-    ensures stops { IfErr result (λ fault. IsUntaken fault loader.old.loading frame.now (K.held sink.old) (K.held sink.new)) }
+    ensures stops { IfErr result (λ fault.
+        IsUntaken fault loader.old.loading frame.now (K.held sink.old) (K.held sink.new)) }
     ensures cause { IsErrOf result DownloadFault.WriteFault → Rose (K.faults sink.old) (K.faults sink.new) }
     ensures counts { K.faults sink.old ≤ K.faults sink.new }
 {

@@ -1,5 +1,5 @@
-//! A unit downloaded (Annex IB, Appendix 7): the loader's side and the unit's run against each other, and the finished messages go
-//! to a sink, which then has the unit's file. The unit is read, and never written.
+//! A unit downloaded (Annex IB, Appendix 7): the loader's side and the unit's run against each other, and the finished
+//! messages go to a sink, which then has the unit's file. The unit is read, and never written.
 //!
 //! How long a unit's file is, and how many of its messages are of a day (profile). The file is downloaded into memory.
 #![tactic(auto)]

@@ -22,15 +22,17 @@ use link_session::Session;
 use std::alloc::Global;
 use tach_media::{Medium, Sink};
 
-/// Downloads a unit: the loader's side and the unit's run against each other until the download is finished. The finished messages
-/// go to the sink, which then has the unit's file behind what it held, and the frames that pass to the wire. The unit is read, and
-/// never written. The room for a message is taken before the first frame; behind that memory is taken for the wire alone.
+/// Downloads a unit: the loader's side and the unit's run against each other until the download is finished. The
+/// finished messages go to the sink, which then has the unit's file behind what it held, and the frames that pass to
+/// the wire. The unit is read, and never written. The room for a message is taken before the first frame; behind that
+/// memory is taken for the wire alone.
 ///
 /// # Errors
 ///
-/// `Failed` where the unit failed, and `BadUnit` with the place of the first field of its image, in order of places, that fails:
-/// nothing has gone to the sink then. `Changed` where the unit gave no answer, or one that the loader refuses, as no unit does that
-/// keeps what it tells. `WriteFault` where the sink failed, and `Memory`. A front of the unit's file has gone to the sink.
+/// `Failed` where the unit failed, and `BadUnit` with the place of the first field of its image, in order of places,
+/// that fails: nothing has gone to the sink then. `Changed` where the unit gave no answer, or one that the loader
+/// refuses, as no unit does that keeps what it tells. `WriteFault` where the sink failed, and `Memory`. A front of the
+/// unit's file has gone to the sink.
 pub fn download<K: Sink, U: Medium>(
     alloc: Global,
     sink: &mut K,
@@ -39,15 +41,19 @@ pub fn download<K: Sink, U: Medium>(
 ) -> Result<(), DownloadFault>
     requires unit { IsUnit (U.state unit.old) }
     requires fresh { wire.old ≡ [] }
-    // The wire is a run of the tables of both sides, up to where the download ended; and what they put out has gone to the sink.
+    // The wire is a run of the tables of both sides, up to where the download ended; and what they put out has gone to
+    // the sink.
     ensures downloaded { IsDownload result (U.state unit.old).image wire.new (K.held sink.old) (K.held sink.new) }
     // At the end the image decodes, and the sink has its file.
-    ensures file { OnOk result (IfSome (U.state unit.old).image (λ x. Decodes x × Appends (K.held sink.old) (K.held sink.new) (unit_file x))) }
+    ensures file { OnOk result (IfSome (U.state unit.old).image
+        (λ x. Decodes x × Appends (K.held sink.old) (K.held sink.new) (unit_file x))) }
     // Else a front of it.
-    ensures front { OnErr result (IfSome (U.state unit.old).image (λ x. AppendsFront (K.held sink.old) (K.held sink.new) (unit_file x))) }
+    ensures front { OnErr result (IfSome (U.state unit.old).image
+        (λ x. AppendsFront (K.held sink.old) (K.held sink.new) (unit_file x))) }
     // No unit that tells its image gives no answer, or one that the loader refuses.
     ensures changed { IsErrOf result DownloadFault.Changed → IfSome (U.state unit.old).image (λ x. ⊥) }
-    ensures bad { IfErr result (λ fault. IfBad fault (λ p. IfSome (U.state unit.old).image (λ x. first_bad_place x ≡ Some p))) }
+    ensures bad { IfErr result (λ fault. IfBad fault (λ p. IfSome (U.state unit.old).image
+        (λ x. first_bad_place x ≡ Some p))) }
     ensures nothing { IfErr result (λ fault. IfBad fault (λ p. Keeps (K.held sink.old) (K.held sink.new))) }
     ensures cause { IsErrOf result DownloadFault.WriteFault → Rose (K.faults sink.old) (K.faults sink.new) }
     ensures counts { K.faults sink.old ≤ K.faults sink.new }
@@ -59,12 +65,13 @@ pub fn download<K: Sink, U: Medium>(
     exchange_all(&mut loader, sink, unit, wire)
 }
 
-/// Runs a loader that has room for the longest message, and has heard nothing yet, against a unit until the download is finished. The
-/// finished messages go to the sink, and the frames that pass to a tape.
+/// Runs a loader that has room for the longest message, and has heard nothing yet, against a unit until the download is
+/// finished. The finished messages go to the sink, and the frames that pass to a tape.
 ///
 /// # Errors
 ///
-/// Those of [`download`]; `Memory` where the tape has none, or at a piece of a message that is longer than the longest of a unit.
+/// Those of [`download`]; `Memory` where the tape has none, or at a piece of a message that is longer than the longest
+/// of a unit.
 pub fn exchange_all<K: Sink, U: Medium, T: Tape>(
     loader: &mut Downloader,
     sink: &mut K,
@@ -75,15 +82,20 @@ pub fn exchange_all<K: Sink, U: Medium, T: Tape>(
     requires begun { loader.old.loading ≡ begun }
     requires room { LONGEST ≤ loader.old.room }
     requires fresh { HasFrames (T.frames wire.old) [] }
-    // The wire is a run of the tables of both sides, up to where the download ended; and what they put out has gone to the sink.
-    ensures downloaded { (passed : List Passed) × HasFrames (T.frames wire.new) passed × IsDownload result (U.state unit.old).image passed (K.held sink.old) (K.held sink.new) }
+    // The wire is a run of the tables of both sides, up to where the download ended; and what they put out has gone to
+    // the sink.
+    ensures downloaded { (passed : List Passed) × HasFrames (T.frames wire.new) passed
+        × IsDownload result (U.state unit.old).image passed (K.held sink.old) (K.held sink.new) }
     // At the end the image decodes, and the sink has its file.
-    ensures file { OnOk result (IfSome (U.state unit.old).image (λ x. Decodes x × Appends (K.held sink.old) (K.held sink.new) (unit_file x))) }
+    ensures file { OnOk result (IfSome (U.state unit.old).image
+        (λ x. Decodes x × Appends (K.held sink.old) (K.held sink.new) (unit_file x))) }
     // Else a front of it.
-    ensures front { OnErr result (IfSome (U.state unit.old).image (λ x. AppendsFront (K.held sink.old) (K.held sink.new) (unit_file x))) }
+    ensures front { OnErr result (IfSome (U.state unit.old).image
+        (λ x. AppendsFront (K.held sink.old) (K.held sink.new) (unit_file x))) }
     // No unit that tells its image gives no answer, or one that the loader refuses.
     ensures changed { IsErrOf result DownloadFault.Changed → IfSome (U.state unit.old).image (λ x. ⊥) }
-    ensures bad { IfErr result (λ fault. IfBad fault (λ p. IfSome (U.state unit.old).image (λ x. first_bad_place x ≡ Some p))) }
+    ensures bad { IfErr result (λ fault. IfBad fault (λ p. IfSome (U.state unit.old).image
+        (λ x. first_bad_place x ≡ Some p))) }
     ensures nothing { IfErr result (λ fault. IfBad fault (λ p. Keeps (K.held sink.old) (K.held sink.new))) }
     ensures cause { IsErrOf result DownloadFault.WriteFault → Rose (K.faults sink.old) (K.faults sink.new) }
     ensures counts { K.faults sink.old ≤ K.faults sink.new }

@@ -38,7 +38,8 @@ pub fn measure<U: Medium>(
     ensures measured { IfOk result (λ m. IfSome (U.state unit.old).image (λ x. IsSizeOf x m)) }
     // No unit that tells its image gives no answer, or one that the loader refuses.
     ensures changed { IsErrOf result DownloadFault.Changed → IfSome (U.state unit.old).image (λ x. ⊥) }
-    ensures bad { IfErr result (λ fault. IfBad fault (λ p. IfSome (U.state unit.old).image (λ x. first_bad_place x ≡ Some p))) }
+    ensures bad { IfErr result (λ fault. IfBad fault (λ p. IfSome (U.state unit.old).image
+        (λ x. first_bad_place x ≡ Some p))) }
     ensures unit { ReadsIfAny (U.state unit.old) (U.state unit.new) (has_failed result) }
 {
     U::holds_bytes(unit);

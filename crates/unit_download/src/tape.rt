@@ -20,7 +20,8 @@ pub trait Tape {
     ///
     /// `Memory`; it has what it had.
     fn push(&mut self, from: End, frame: Frame) -> Result<(), Memory>
-        ensures ok { OnOk result (HasMore (frames self.old) (frames self.new) (record { from = from; frame = frame } ∷ [])) }
+        ensures ok { OnOk result (HasMore (frames self.old) (frames self.new)
+            (record { from = from; frame = frame } ∷ [])) }
         ensures err { OnErr result (frames self.new ≡ frames self.old) }
         ensures more { OnOk result (count self.new ≡ count self.old + 1) }
         // A number of 64 bits counts them.

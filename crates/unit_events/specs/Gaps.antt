@@ -22,13 +22,15 @@ IsUntold breaks found span = (tells_cut (last_in span) found ≡ false) × (kept
 -- between two spans it is known what was kept; or that is not known yet, and the power-on failed
 abbrev pub IsKnownGap : List Break → (found : List Break) → List ToldSecond → List ToldSecond → Type 0
 IsKnownGap breaks found span next =
-    UnitCutIsTold found span ⊎ ((has_failed_in (log_of breaks) (first_in next) ≡ true) × (kept_after (log_of breaks) (last_in span) ≡ 0))
+    UnitCutIsTold found span ⊎ ((has_failed_in (log_of breaks) (first_in next) ≡ true)
+    × (kept_after (log_of breaks) (last_in span) ≡ 0))
 
 -- so it is between all of these
 abbrev pub AreKnownGaps : List Break → (found : List Break) → List (List ToldSecond) → Type 0
 AreKnownGaps breaks found [] = Unit {0}
 AreKnownGaps breaks found (span ∷ []) = Unit {0}
-AreKnownGaps breaks found (span ∷ next ∷ spans) = IsKnownGap breaks found span next × AreKnownGaps breaks found (next ∷ spans)
+AreKnownGaps breaks found (span ∷ next ∷ spans) = IsKnownGap breaks found span next
+    × AreKnownGaps breaks found (next ∷ spans)
 
 -- the last of these spans, if there is one
 abbrev pub OfLast : (List ToldSecond → Type 0) → List (List ToldSecond) → Type 0
@@ -42,7 +44,8 @@ IsKnownLast (Lit span) breaks found ended = OfLast (UnitCutIsTold found) ended
 IsKnownLast Due breaks found ended = OfLast (IsUntold breaks found) ended
 IsKnownLast Lost breaks found ended = OfLast (IsUntold breaks found) ended
 
--- Behind these seconds each span that has ended has its cut, and between the spans it is known what was kept, or the power-on failed.
+-- Behind these seconds each span that has ended has its cut, and between the spans it is known what was kept, or the
+-- power-on failed.
 pub record HasGaps (done : List TraceSecond) (p : Progress) : Type 0 where
   pub ended : List (List ToldSecond)
   pub spans : spans_of (went (log_of p.breaks) done).told ≡ ended ++ as_spans (going_on p.supply)

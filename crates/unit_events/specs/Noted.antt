@@ -73,8 +73,8 @@ are_sure log events = list_all (λ e. not (has_failed_in log (noting_second e)))
 abbrev pub StayFailed : (log later : RunLog) → Type 0
 StayFailed log later = (u : ℕ) → has_failed_in log u ≡ true → has_failed_in later u ≡ true
 
--- A step of a run leads from these events to those, by noting these few more: where the later ones are sure, the earlier ones were,
--- and the later ones are both in order.
+-- A step of a run leads from these events to those, by noting these few more: where the later ones are sure, the
+-- earlier ones were, and the later ones are both in order.
 abbrev pub Leads : (log : RunLog) → (events more : List Event) → (later : RunLog) → (now : List Event) → Type 0
 Leads log events more later now = are_sure later now ≡ true → (are_sure log events ≡ true) × (now ≡ events ++ more)
 

@@ -1,6 +1,7 @@
--- The events of a run in which no card bears on any second, by its power spans as they went (Annex IB, section III.12; the moments:
--- profile).
-use Rattle.std.specs.Prelude.{◌≡◌, ℕ, ◌==◌, nat_lt, true, Option, Some, None, List, [], ◌∷◌, ◌++◌, map, flat_map, option_to_list, if◌then◌else◌}
+-- The events of a run in which no card bears on any second, by its power spans as they went (Annex IB, section III.12;
+-- the moments: profile).
+use Rattle.std.specs.Prelude.{◌≡◌, ℕ, ◌==◌, nat_lt, true, Option, Some, None, List, [], ◌∷◌, ◌++◌, map, flat_map}
+use Rattle.std.specs.Prelude.{option_to_list, if◌then◌else◌}
 use Rattle.std.specs.List.{AllByRecursion}
 use Rattle.trace_model.specs.Trace.{TraceSecond}
 use Rattle.minute_model.specs.Activity.{last}
@@ -38,7 +39,15 @@ abbrev pub bare_event : Span → Event
 bare_event s = noted_with DRIVING_WITHOUT_CARD s.begin s.end nobody
 
 abbrev pub over_event : Over → Event
-over_event o = record { kind = OVER_SPEEDING; begin = o.begin; end = o.end; most = o.most; average = o.average; at_begin = nobody; at_end = nobody }
+over_event o = record {
+  kind = OVER_SPEEDING;
+  begin = o.begin;
+  end = o.end;
+  most = o.most;
+  average = o.average;
+  at_begin = nobody;
+  at_end = nobody;
+}
 
 abbrev pub gap_event : Span → Event
 gap_event s = noted_with POWER_INTERRUPTION s.begin s.end nobody

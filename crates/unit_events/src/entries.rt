@@ -9,7 +9,8 @@ use event_model::{DRIVING_WITHOUT_CARD, POWER_INTERRUPTION, Span};
 use tacho_types::{FullCardNumber, Nation, TimeReal};
 use unit_notes::UnitEvent;
 
-/// Why driving without a card and an interruption are recorded: as the longest of one of the last ten days of occurrence.
+/// Why driving without a card and an interruption are recorded: as the longest of one of the last ten days of
+/// occurrence.
 const LONGEST: u8 = 1;
 
 /// No card.

@@ -1,8 +1,9 @@
-//! The events of a run in which no card bears on any second, turn by turn: which of them are to be noted by now, and what every
-//! image of the unit shows of them, as definitions (specs/) and lemmas (proofs/) that a recorder's loop cites.
+//! The events of a run in which no card bears on any second, turn by turn: which of them are to be noted by now, and
+//! what every image of the unit shows of them, as definitions (specs/) and lemmas (proofs/) that a recorder's loop
+//! cites.
 //!
-//! The events of a run that come without any card, noted on a unit (Annex IB, section III.12): driving without a card, over
-//! speedings, and interruptions of power. A note leaves the bytes of the journal alone.
+//! The events of a run that come without any card, noted on a unit (Annex IB, section III.12): driving without a card,
+//! over speedings, and interruptions of power. A note leaves the bytes of the journal alone.
 #![tactic(auto)]
 
 // events without cards

@@ -23,7 +23,8 @@ fn note_bare<M: Medium>(
     requires works { (M.state unit.old).works ≡ true }
     requires begin { IfSome ended (λ s. 0 < s.begin) }
     ensures noted { AreNotedBy (is_err result) (ended_in ended None) (M.state unit.old) (M.state unit.new) }
-    ensures bare { OnOk result (IfSome (M.state unit.old).image (λ x. IfSome (M.state unit.new).image (λ y. HasBare ended x y))) }
+    ensures bare { OnOk result (IfSome (M.state unit.old).image
+        (λ x. IfSome (M.state unit.new).image (λ y. HasBare ended x y))) }
     ensures aside { LeavesOnly (M.state unit.old) (M.state unit.new) (LeavesPlaces OVER_SPEEDING) }
     ensures journal { LeavesOnly (M.state unit.old) (M.state unit.new) LeavesJournal }
     ensures unit { IsUnit (M.state unit.new) }
@@ -58,7 +59,8 @@ fn note_over<M: Medium>(
     }
 }
 
-/// Notes what has ended with the second before, with no card in either slot: driving without a card, and then an over speeding.
+/// Notes what has ended with the second before, with no card in either slot: driving without a card, and then an over
+/// speeding.
 ///
 /// # Errors
 ///
@@ -84,8 +86,8 @@ pub fn note_ended<M: Medium>(
     note_over(memory, over, unit)
 }
 
-/// Notes the interruption of power that ends with a second, with no card in either slot, where minute `kept` was found kept:
-/// none where `kept` is 0.
+/// Notes the interruption of power that ends with a second, with no card in either slot, where minute `kept` was found
+/// kept: none where `kept` is 0.
 ///
 /// # Errors
 ///

@@ -1,4 +1,5 @@
-//! The events of a power span without cards, as its seconds come: they are fed by runs, and noted where they have ended.
+//! The events of a power span without cards, as its seconds come: they are fed by runs, and noted where they have
+//! ended.
 ghost use Rattle.std.specs.Prelude.{◌≡◌, ◌+◌, ◌<◌, ◌≤◌, ◌^◌, true, [], is_err};
 ghost use Rattle.tach_media.specs.Medium.{HasCause, LeavesOnly};
 ghost use Rattle.unit_model.specs.Image.{IsUnit};
@@ -10,8 +11,8 @@ use event_rules::{NoCardRun, Overspeed};
 use tach_media::{Failed, Medium};
 use unit_memory::UnitMemory;
 
-/// The runs of a power span's seconds that are watched: those without a card, and those above the limit. It keeps a few counts and
-/// no second.
+/// The runs of a power span's seconds that are watched: those without a card, and those above the limit. It keeps a few
+/// counts and no second.
 #[derive(Drop)]
 pub struct Watch {
     pub bare: NoCardRun,
@@ -30,8 +31,9 @@ impl Watch {
         }
     }
 
-    /// So many seconds more at one speed, one at least, from `first` on, with no accepted card in the driver slot: what has ended
-    /// with the second before them is noted, driving without a card first. It takes the same for one second and for many.
+    /// So many seconds more at one speed, one at least, from `first` on, with no accepted card in the driver slot: what
+    /// has ended with the second before them is noted, driving without a card first. It takes the same for one second
+    /// and for many.
     ///
     /// # Errors
     ///
@@ -51,7 +53,8 @@ impl Watch {
         requires unit { IsUnit (M.state unit.old) }
         requires works { (M.state unit.old).works ≡ true }
         ensures watches { Watches self.new (first + n) }
-        ensures watched { IsWatched (is_err result) self.old self.new first n speed (M.state unit.old) (M.state unit.new) }
+        ensures watched { IsWatched (is_err result) self.old self.new first n speed (M.state unit.old)
+            (M.state unit.new) }
         ensures journal { LeavesOnly (M.state unit.old) (M.state unit.new) LeavesJournal }
         ensures unit { IsUnit (M.state unit.new) }
         ensures cause { HasCause (M.state unit.old) (M.state unit.new) (is_err result) }

@@ -1,7 +1,9 @@
 -- The distances of days, and the interruptions of the power, that a unit file tells (profile).
-use Rattle.std.specs.Prelude.{◌≡◌, ℕ, ◌+◌, ◌-◌, ◌/◌, ◌==◌, ◌&&◌, nat_lt, nat_le, if◌then◌else◌, List, [], ◌∷◌, ◌++◌, map}
+use Rattle.std.specs.Prelude.{◌≡◌, ℕ, ◌+◌, ◌-◌, ◌/◌, ◌==◌, ◌&&◌, nat_lt, nat_le, if◌then◌else◌, List, [], ◌∷◌, ◌++◌}
+use Rattle.std.specs.Prelude.{map}
 use Rattle.card_layout.specs.Images.{number_at}
-use Rattle.message_model.specs.Messages.{Message, DayMessage, AnOverview, ADay, AnEventList, ASpeedList, ATechnical, IsUnitFile}
+use Rattle.message_model.specs.Messages.{Message, DayMessage, AnOverview, ADay, AnEventList, ASpeedList, ATechnical}
+use Rattle.message_model.specs.Messages.{IsUnitFile}
 use Rattle.slot_bars.specs.declared.seen.Gap.{Gap}
 use Rattle.day_totals.specs.declared.figures.Distance.{Distance}
 use Rattle.file_view.specs.UnitFiles.{days_told}
@@ -46,10 +48,12 @@ midnight_of m = record { date = m.date; odometer = m.odometer }
 -- what the odometer gained from a midnight to a later one
 abbrev pub gained : Midnight → Midnight → List Distance
 gained day next =
-    if nat_lt day.date next.date && nat_le day.odometer next.odometer then record { day = day.date / 86400; km = next.odometer - day.odometer } ∷ []
+    if nat_lt day.date next.date && nat_le day.odometer next.odometer
+    then record { day = day.date / 86400; km = next.odometer - day.odometer } ∷ []
     else []
 
--- THE DISTANCES of days: what the odometer gained until the next midnight that is told, where that is later and the odometer no less
+-- THE DISTANCES of days: what the odometer gained until the next midnight that is told, where that is later and the
+-- odometer no less
 abbrev pub distances_of : List Midnight → List Distance
 distances_of [] = []
 distances_of (day ∷ []) = []

@@ -1,5 +1,5 @@
-//! What a unit file tells beside its minutes: where its messages stand, the distances of its days, and the interruptions of the
-//! power among its events (Annex IB, Appendix 7, 2.2.6).
+//! What a unit file tells beside its minutes: where its messages stand, the distances of its days, and the
+//! interruptions of the power among its events (Annex IB, Appendix 7, 2.2.6).
 #![tactic(auto)]
 
 mod marks;

@@ -1,12 +1,14 @@
 //! The distances of days, and the interruptions of the power, that a unit file tells.
-ghost use Rattle.std.specs.Prelude.{◌≡◌, ◌+◌, ◌*◌, ◌≤◌, ◌<◌, ◌++◌, ◌∷◌, [], ◌^◌, ℕ, List, length, map, IfOk, IfErr, OnOk};
+ghost use Rattle.std.specs.Prelude.{◌≡◌, ◌+◌, ◌*◌, ◌≤◌, ◌<◌, ◌++◌, ◌∷◌, [], ◌^◌, ℕ, List, length, map, IfOk, IfErr};
+ghost use Rattle.std.specs.Prelude.{OnOk};
 ghost use Rattle.card_layout.specs.Images.{bytes_at, number_at};
 ghost use Rattle.message_model.specs.Messages.{Message as FileMessage, DayMessage, EventMessage, ADay, AnEventList};
 ghost use Rattle.unit_messages.specs.Reading.{BeginsWith};
 ghost use Rattle.file_view.specs.Faults.{IfBadFile};
 ghost use Rattle.file_view.specs.UnitFiles.{IsBadUnitFile, days_told};
 ghost use Rattle.unit_marks.specs.Places.{ArePlaced, IsPlaced};
-ghost use Rattle.unit_marks.specs.Marks.{TellsMarks, gap_of, gaps_of, gaps_told, midnight_of, gained, distances_of, whole_minutes};
+ghost use Rattle.unit_marks.specs.Marks.{TellsMarks, gap_of, gaps_of, gaps_told, midnight_of, gained, distances_of};
+ghost use Rattle.unit_marks.specs.Marks.{whole_minutes};
 
 use crate::places::{MessageAt, messages_at};
 use byteorder::{BigEndian, ByteOrder};
@@ -68,7 +70,8 @@ pub fn marks_of(alloc: Global, b: &[u8]) -> Result<Marks, ViewFault>
 /// The interruptions of the power among the events of messages.
 fn gaps_in(alloc: Global, b: &[u8], all: &[MessageAt]) -> Result<Vec<Gap>, AllocError>
     requires { (messages : List FileMessage) × ArePlaced b.now all.now messages }
-    ensures { (messages : List FileMessage) → ArePlaced b.now all.now messages → IfOk result (λ gaps. gaps.items ≡ gaps_told messages) }
+    ensures { (messages : List FileMessage) → ArePlaced b.now all.now messages
+        → IfOk result (λ gaps. gaps.items ≡ gaps_told messages) }
 {
     let mut gaps = Vec::new(alloc);
     for at in all {
@@ -80,7 +83,8 @@ fn gaps_in(alloc: Global, b: &[u8], all: &[MessageAt]) -> Result<Vec<Gap>, Alloc
 /// Adds the interruptions that a message tells.
 fn add_message_gaps(gaps: &mut Vec<Gap>, b: &[u8], at: MessageAt) -> Result<(), AllocError>
     requires { (m : FileMessage) × IsPlaced b.now at m }
-    ensures { (m : FileMessage) → IsPlaced b.now at m → OnOk result (gaps.new.items ≡ gaps.old.items ++ gaps_told (m ∷ [])) }
+    ensures { (m : FileMessage) → IsPlaced b.now at m
+        → OnOk result (gaps.new.items ≡ gaps.old.items ++ gaps_told (m ∷ [])) }
 {
     match at.request {
         Request::Events => {
@@ -94,7 +98,8 @@ fn add_message_gaps(gaps: &mut Vec<Gap>, b: &[u8], at: MessageAt) -> Result<(), 
 /// The midnights that messages of days tell.
 fn midnights_in(alloc: Global, b: &[u8], all: &[MessageAt]) -> Result<Vec<Midnight>, AllocError>
     requires { (messages : List FileMessage) × ArePlaced b.now all.now messages }
-    ensures { (messages : List FileMessage) → ArePlaced b.now all.now messages → IfOk result (λ midnights. midnights.items ≡ map midnight_of (days_told messages)) }
+    ensures { (messages : List FileMessage) → ArePlaced b.now all.now messages
+        → IfOk result (λ midnights. midnights.items ≡ map midnight_of (days_told messages)) }
 {
     let mut midnights = Vec::new(alloc);
     for at in all {
@@ -106,7 +111,8 @@ fn midnights_in(alloc: Global, b: &[u8], all: &[MessageAt]) -> Result<Vec<Midnig
 /// Adds the midnight that a message tells.
 fn add_midnight(midnights: &mut Vec<Midnight>, b: &[u8], at: MessageAt) -> Result<(), AllocError>
     requires { (m : FileMessage) × IsPlaced b.now at m }
-    ensures { (m : FileMessage) → IsPlaced b.now at m → OnOk result (midnights.new.items ≡ midnights.old.items ++ map midnight_of (days_told (m ∷ []))) }
+    ensures { (m : FileMessage) → IsPlaced b.now at m
+        → OnOk result (midnights.new.items ≡ midnights.old.items ++ map midnight_of (days_told (m ∷ []))) }
 {
     match at.request {
         Request::Day(date) => {
@@ -129,7 +135,8 @@ fn odometer_in(message: &[u8]) -> u32
 /// Adds the interruptions among the events of the message at the front.
 fn add_gaps(gaps: &mut Vec<Gap>, message: &[u8]) -> Result<(), AllocError>
     requires { (m : EventMessage) × BeginsWith (AnEventList m) message.now }
-    ensures { (m : EventMessage) → BeginsWith (AnEventList m) message.now → OnOk result (gaps.new.items ≡ gaps.old.items ++ gaps_of m.events) }
+    ensures { (m : EventMessage) → BeginsWith (AnEventList m) message.now
+        → OnOk result (gaps.new.items ≡ gaps.old.items ++ gaps_of m.events) }
 {
     let faults = byte_at(message, 2) as usize;
     let place = 3 + FAULT as usize * faults;

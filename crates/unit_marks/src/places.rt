@@ -25,7 +25,8 @@ pub struct MessageAt {
 /// As those of `file_view::read_download`.
 pub fn messages_at(alloc: Global, b: &[u8]) -> Result<Vec<MessageAt>, ViewFault>
     requires { length b.now < 2 ^ 32 }
-    ensures placed { IfOk result (λ all. (messages : List FileMessage) × IsUnitFile messages b.now × ArePlaced b.now all.items messages) }
+    ensures placed { IfOk result (λ all. (messages : List FileMessage) × IsUnitFile messages b.now
+        × ArePlaced b.now all.items messages) }
     ensures bad { IfErr result (λ fault. IfBadFile fault (λ place. IsBadUnitFile place b.now)) }
 {
     let mut all = Vec::new(alloc);
@@ -46,7 +47,8 @@ pub fn messages_at(alloc: Global, b: &[u8]) -> Result<Vec<MessageAt>, ViewFault>
 fn take_message(all: &mut Vec<MessageAt>, b: &[u8], place: usize) -> Result<usize, ViewFault>
     requires inside { place ≤ length b.now }
     requires short { length b.now < 2 ^ 32 }
-    ensures taken { IfOk result (λ end. (m : FileMessage) × IsNext b.now place end m × (all.new.items ≡ all.old.items ++ record { place = place; len = end - place; request = request_of m } ∷ [])) }
+    ensures taken { IfOk result (λ end. (m : FileMessage) × IsNext b.now place end m
+        × (all.new.items ≡ all.old.items ++ record { place = place; len = end - place; request = request_of m } ∷ [])) }
     ensures bad { IfErr result (λ fault. IfBadFile fault (λ at. (at ≡ place) × HasNoMessage (drop place b.now))) }
 {
     let read = match read_message(&b[place..]) {

@@ -15,4 +15,5 @@ IsFormatting new x c = (c ≡ x) ⊎ (IsBlank x c ⊎ (c ≡ new))
 
 -- an image with the identification number, the registration and the speed limit
 abbrev pub identified : (vin registration : List ℕ) → (limit : ℕ) → List ℕ → List ℕ
-identified vin registration limit x = put SPEED_LIMIT.place (limit ∷ []) (put REGISTRATION.place registration (put VIN.place vin x))
+identified vin registration limit x = put SPEED_LIMIT.place (limit ∷ [])
+    (put REGISTRATION.place registration (put VIN.place vin x))

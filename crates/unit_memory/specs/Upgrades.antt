@@ -15,8 +15,8 @@ upgraded_from image = if version_of image == PLAIN_VERSION then upgraded image e
 abbrev pub version_before : (newly : Rattle.std.specs.Prelude.Bool) → ℕ
 version_before newly = if newly then PLAIN_VERSION else RULED_VERSION
 
--- A moment of an upgrade: the image decodes, its version is the old one or 2 with the amended rule, and beside the version and
--- the rule byte no byte is another. So no minute is, no owed row, and no ring.
+-- A moment of an upgrade: the image decodes, its version is the old one or 2 with the amended rule, and beside the
+-- version and the rule byte no byte is another. So no minute is, no owed row, and no ring.
 pub record IsUpgrading (x c : List ℕ) : Type 0 where
   pub same : IsSameButRule x c
   pub decodes : Decodes c

@@ -22,10 +22,24 @@ walk_start = record { latest = 0; last_index = 0; last_date = 0; today = None; t
 
 -- with an empty slot more, and with one that is there
 abbrev pub with_gap : Walk → Walk
-with_gap s = record { latest = s.latest; last_index = s.last_index; last_date = s.last_date; today = s.today; there = s.there; density = after_gap s.density }
+with_gap s = record {
+  latest = s.latest;
+  last_index = s.last_index;
+  last_date = s.last_date;
+  today = s.today;
+  there = s.there;
+  density = after_gap s.density;
+}
 
 abbrev pub with_day : (day : ℕ) → Walk → (index date : ℕ) → Walk
-with_day day s index date = record { latest = max s.latest date; last_index = index; last_date = date; today = if date / 86400 == day then Some index else s.today; there = s.there + 1; density = after_day s.density }
+with_day day s index date = record {
+  latest = max s.latest date;
+  last_index = index;
+  last_date = date;
+  today = if date / 86400 == day then Some index else s.today;
+  there = s.there + 1;
+  density = after_day s.density;
+}
 
 -- with the slot of one index more, which has this date
 abbrev pub next_walk : (day : ℕ) → Walk → (index date : ℕ) → Walk

@@ -1,6 +1,7 @@
 ghost use Rattle.std.specs.Prelude.{◌≡◌, ◌≤◌, ◌<◌, ◌+◌, ◌-◌, length, IfOk, OnOk, IfSome, is_err, option_map, true};
 ghost use Rattle.unit_model.specs.declared.layout.TheConstants.{IMAGE_SIZE};
-ghost use Rattle.tach_media.specs.Medium.{LeavesOnly, HasCause, IsSettled, IsPartlyWritten, SameOutside, last_count, put};
+ghost use Rattle.tach_media.specs.Medium.{LeavesOnly, HasCause, IsSettled, IsPartlyWritten, SameOutside, last_count};
+ghost use Rattle.tach_media.specs.Medium.{put};
 ghost use Rattle.unit_model.specs.Image.{IsUnit};
 ghost use Rattle.unit_model.specs.NewImage.{zeros, new_image};
 ghost use Rattle.unit_memory.specs.Formats.{IsFormatting, identified};
@@ -26,12 +27,14 @@ fn chunk() -> [u8; 4096]
     [0; 4096]
 }
 
-/// Makes a new unit of this identity: zeros where nothing else is known (profile). The version is written last, and is 0 as
-/// long as this goes on: a stop leaves the old image, one whose version is 0, or the new one.
+/// Makes a new unit of this identity: zeros where nothing else is known (profile). The version is written last, and is
+/// 0 as long as this goes on: a stop leaves the old image, one whose version is 0, or the new one.
 pub fn format_unit<M: Medium>(unit: &mut M, identity: &Identity) -> Result<(), Failed>
     requires unit { IsUnit (M.state unit.old) }
-    ensures formatted { OnOk result ((M.state unit.new).image ≡ option_map (λ _. new_image identity.now.vin identity.now.registration.0 identity.now.limit) (M.state unit.old).image) }
-    ensures moments { LeavesOnly (M.state unit.old) (M.state unit.new) (IsFormatting (new_image identity.now.vin identity.now.registration.0 identity.now.limit)) }
+    ensures formatted { OnOk result ((M.state unit.new).image ≡ option_map
+        (λ _. new_image identity.now.vin identity.now.registration.0 identity.now.limit) (M.state unit.old).image) }
+    ensures moments { LeavesOnly (M.state unit.old) (M.state unit.new)
+        (IsFormatting (new_image identity.now.vin identity.now.registration.0 identity.now.limit)) }
     ensures settled { OnOk result ((M.state unit.new).clock < last_count → IsSettled (M.state unit.new)) }
     ensures cause { HasCause (M.state unit.old) (M.state unit.new) (is_err result) }
 {
@@ -48,7 +51,8 @@ fn identify<M: Medium>(unit: &mut M, identity: &Identity) -> Result<(), Failed>
     requires unit { IsUnit (M.state unit.old) }
     ensures vin { OnOk result (length identity.now.vin ≡ 17) }
     ensures registration { OnOk result (length identity.now.registration.0 ≡ 15) }
-    ensures identified { OnOk result ((M.state unit.new).image ≡ option_map (identified identity.now.vin identity.now.registration.0 identity.now.limit) (M.state unit.old).image) }
+    ensures identified { OnOk result ((M.state unit.new).image ≡ option_map
+        (identified identity.now.vin identity.now.registration.0 identity.now.limit) (M.state unit.old).image) }
     ensures moments { LeavesOnly (M.state unit.old) (M.state unit.new) (SameOutside 4 33) }
     ensures cause { HasCause (M.state unit.old) (M.state unit.new) (is_err result) }
 {
@@ -64,7 +68,8 @@ fn clear<M: Medium>(unit: &mut M, from: u32, to: u32) -> Result<(), Failed>
     requires unit { IsUnit (M.state unit.old) }
     requires order { from + 4 < to }
     requires inside { to ≤ IMAGE_SIZE }
-    ensures cleared { OnOk result ((M.state unit.new).image ≡ option_map (put from (zeros (to - from))) (M.state unit.old).image) }
+    ensures cleared { OnOk result ((M.state unit.new).image
+        ≡ option_map (put from (zeros (to - from))) (M.state unit.old).image) }
     ensures moments { LeavesOnly (M.state unit.old) (M.state unit.new) (IsPartlyWritten from (zeros (to - from))) }
     ensures cause { HasCause (M.state unit.old) (M.state unit.new) (is_err result) }
 {

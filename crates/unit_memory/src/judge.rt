@@ -15,8 +15,8 @@ use unit_model::layout::{
     cell_place,
 };
 
-/// What judging an image tells: the place of the first field that fails, the last-kept minute, the pointer of the days, and
-/// how their slots stand.
+/// What judging an image tells: the place of the first field that fails, the last-kept minute, the pointer of the days,
+/// and how their slots stand.
 #[derive(Clone, Copy, Debug, PartialEq, Eq)]
 pub struct Judged {
     pub bad: Option<u32>,
@@ -38,7 +38,8 @@ fn or_failing(found: Option<u32>, place: u32, passes: bool) -> Option<u32>
 // The version, the rule byte, the last-kept minute, the odometer, the number of over speedings.
 fn bad_front<M: Medium>(unit: &mut M, kept: u32, has_today: bool) -> Result<Option<u32>, Failed>
     requires unit { (M.state unit.old).size ≡ IMAGE_SIZE }
-    ensures found { IfOk result (λ found. IfSome (M.state unit.old).image (λ x. found ≡ first_failing (front_by kept has_today x))) }
+    ensures found { IfOk result (λ found. IfSome (M.state unit.old).image (λ x. found ≡ first_failing
+        (front_by kept has_today x))) }
     ensures reads { Reads (M.state unit.old) (M.state unit.new) (is_err result) }
 {
     let version = read_number(unit, VERSION.place, VERSION.size)?;
@@ -80,7 +81,8 @@ fn front_place(
 fn bad_cell<M: Medium>(unit: &mut M) -> Result<Option<u32>, Failed>
     requires works { (M.state unit.old).works ≡ true }
     requires unit { (M.state unit.old).size ≡ IMAGE_SIZE }
-    ensures found { IfOk result (λ found. IfSome (M.state unit.old).image (λ x. found ≡ first_failing (cell_checks x))) }
+    ensures found { IfOk result (λ found. IfSome (M.state unit.old).image (λ x. found ≡ first_failing
+        (cell_checks x))) }
     ensures reads { Reads (M.state unit.old) (M.state unit.new) (is_err result) }
 {
     let mut found = None;
@@ -102,7 +104,8 @@ fn cell_passes(minute: u32, word: u32) -> bool
 // The pointers of insertions, places and detailed speed.
 fn bad_ring<M: Medium>(unit: &mut M) -> Result<Option<u32>, Failed>
     requires unit { (M.state unit.old).size ≡ IMAGE_SIZE }
-    ensures found { IfOk result (λ found. IfSome (M.state unit.old).image (λ x. found ≡ first_failing (ring_checks x))) }
+    ensures found { IfOk result (λ found. IfSome (M.state unit.old).image (λ x. found ≡ first_failing
+        (ring_checks x))) }
     ensures reads { Reads (M.state unit.old) (M.state unit.new) (is_err result) }
 {
     let insertion = read_number(unit, INSERTIONS.place, 4)?;

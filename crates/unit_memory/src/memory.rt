@@ -15,7 +15,8 @@ use tach_media::{Failed, Medium, read_number};
 use tacho_types::Registration;
 use unit_model::layout::{PLAIN_VERSION, REGISTRATION, RULE_BYTE, SPEED_LIMIT, VERSION, VIN};
 
-/// What the memory of a unit says of it: its vehicle, its version, which is 1 or 2, and its rule byte, which is 0 for version 1.
+/// What the memory of a unit says of it: its vehicle, its version, which is 1 or 2, and its rule byte, which is 0 for
+/// version 1.
 #[derive(Clone, Copy, Debug, PartialEq, Eq)]
 pub struct UnitFacts {
     pub vin: [u8; 17],
@@ -46,12 +47,14 @@ impl UnitMemory {
     ///
     /// # Errors
     ///
-    /// `Failed` where the medium failed, and `BadUnit` with the place of the first field, in order of places, that fails.
+    /// `Failed` where the medium failed, and `BadUnit` with the place of the first field, in order of places, that
+    /// fails.
     pub fn load<M: Medium>(unit: &mut M) -> Result<UnitMemory, UnitFault>
         requires unit { (M.state unit.old).size ≡ IMAGE_SIZE }
         ensures facts { IfOk result (λ memory. IfSome (M.state unit.old).image (AreFacts memory)) }
         ensures decodes { OnOk result (IfSome (M.state unit.old).image Decodes) }
-        ensures bad { IfErr result (λ fault. IfBadUnit fault (λ p. IfSome (M.state unit.old).image (λ x. first_bad_place x ≡ Some p))) }
+        ensures bad { IfErr result (λ fault. IfBadUnit fault (λ p. IfSome (M.state unit.old).image
+            (λ x. first_bad_place x ≡ Some p))) }
         ensures reads { Reads (M.state unit.old) (M.state unit.new) (has_failed result) }
     {
         let judged = judge_image(unit)?;
@@ -64,8 +67,8 @@ impl UnitMemory {
         }
     }
 
-    /// Reads a memory whose image is known to decode, as from the load of another part of the unit: it is not judged again.
-    /// It writes nothing.
+    /// Reads a memory whose image is known to decode, as from the load of another part of the unit: it is not judged
+    /// again. It writes nothing.
     pub fn read<M: Medium>(unit: &mut M) -> Result<UnitMemory, Failed>
         requires unit { (M.state unit.old).size ≡ IMAGE_SIZE }
         requires decodes { IfSome (M.state unit.old).image Decodes }
@@ -120,7 +123,13 @@ impl UnitMemory {
 
 // What is said of a unit, together.
 fn facts_of(identity: Identity, version: u8, rule_byte: u8) -> UnitFacts
-    ensures { result ≡ record { vin = identity.vin; registration = identity.registration; limit = identity.limit; version = version; rule_byte = rule_byte } }
+    ensures { result ≡ record {
+      vin = identity.vin;
+      registration = identity.registration;
+      limit = identity.limit;
+      version = version;
+      rule_byte = rule_byte;
+    } }
 {
     let vin = identity.vin;
     UnitFacts {
@@ -174,7 +183,8 @@ fn version_known(version: u32) -> u8
 fn read_rule_byte<M: Medium>(unit: &mut M, version: u8) -> Result<u8, Failed>
     requires works { (M.state unit.old).works ≡ true }
     requires unit { (M.state unit.old).size ≡ IMAGE_SIZE }
-    ensures rule_byte { IfOk result (λ byte. IfSome (M.state unit.old).image (λ x. byte ≡ rule_byte_by version (number_of x RULE_BYTE))) }
+    ensures rule_byte { IfOk result (λ byte. IfSome (M.state unit.old).image
+        (λ x. byte ≡ rule_byte_by version (number_of x RULE_BYTE))) }
     ensures reads { Reads (M.state unit.old) (M.state unit.new) (is_err result) }
 {
     let mut byte = [0; 1];

@@ -7,7 +7,8 @@ ghost use Rattle.gated_ring.specs.Ring.{number_at};
 ghost use Rattle.unit_model.specs.Image.{slot_date};
 ghost use Rattle.unit_model.specs.Decoding.{first_failing, or_else};
 ghost use Rattle.unit_memory.specs.Walks.{next_walk, walk_from};
-ghost use Rattle.unit_memory.specs.Judging.{date_passes, day_front, day_checks_by, slot_checks_by, slots_by, head_in, head_at, failed_of};
+ghost use Rattle.unit_memory.specs.Judging.{date_passes, day_front, day_checks_by, slot_checks_by, slots_by, head_in};
+ghost use Rattle.unit_memory.specs.Judging.{head_at, failed_of};
 
 use crate::walk::{Walk, next_walk};
 use crate::words::{Scan, scan_day, word_in};
@@ -83,7 +84,8 @@ fn bad_day<M: Medium>(
     requires works { (M.state unit.old).works ≡ true }
     requires unit { (M.state unit.old).size ≡ IMAGE_SIZE }
     requires index { index < DAY_SLOTS }
-    ensures found { IfOk result (λ found. IfSome (M.state unit.old).image (λ x. found ≡ first_failing (day_checks_by kept latest head x index))) }
+    ensures found { IfOk result (λ found. IfSome (M.state unit.old).image (λ x. found ≡ first_failing
+        (day_checks_by kept latest head x index))) }
     ensures reads { Reads (M.state unit.old) (M.state unit.new) (is_err result) }
 {
     let place = DAYS.place + 4 + index * DAY_SLOT_SIZE;
@@ -144,8 +146,10 @@ fn judge_slot<M: Medium>(
     requires unit { (M.state unit.old).size ≡ IMAGE_SIZE }
     requires index { index < DAY_SLOTS }
     requires few { walk.there < DAY_SLOTS }
-    ensures walk { IfOk result (λ found. IfSome (M.state unit.old).image (λ x. found.0 ≡ next_walk (kept / 1440) walk index (slot_date x index))) }
-    ensures bad { IfOk result (λ found. IfSome (M.state unit.old).image (λ x. found.1 ≡ first_failing (slot_checks_by kept walk.latest x index))) }
+    ensures walk { IfOk result (λ found. IfSome (M.state unit.old).image (λ x. found.0 ≡ next_walk (kept / 1440) walk
+        index (slot_date x index))) }
+    ensures bad { IfOk result (λ found. IfSome (M.state unit.old).image (λ x. found.1 ≡ first_failing
+        (slot_checks_by kept walk.latest x index))) }
     ensures few { IfOk result (λ found. found.0.there ≤ walk.there + 1) }
     ensures reads { Reads (M.state unit.old) (M.state unit.new) (is_err result) }
 {
@@ -171,8 +175,10 @@ pub fn judge_slots<M: Medium>(
     requires order { from ≤ to }
     requires below { to ≤ DAY_SLOTS }
     requires few { start.there + (to - from) ≤ DAY_SLOTS }
-    ensures walk { IfOk result (λ found. IfSome (M.state unit.old).image (λ x. found.0 ≡ walk_from (kept / 1440) x start (range_with_len from (to - from)))) }
-    ensures bad { IfOk result (λ found. IfSome (M.state unit.old).image (λ x. found.1 ≡ first_failing (slots_by kept x start.latest (range_with_len from (to - from))))) }
+    ensures walk { IfOk result (λ found. IfSome (M.state unit.old).image (λ x. found.0 ≡ walk_from (kept / 1440) x start
+        (range_with_len from (to - from)))) }
+    ensures bad { IfOk result (λ found. IfSome (M.state unit.old).image (λ x. found.1 ≡ first_failing
+        (slots_by kept x start.latest (range_with_len from (to - from))))) }
     ensures few { IfOk result (λ found. found.0.there ≤ start.there + (to - from)) }
     ensures reads { Reads (M.state unit.old) (M.state unit.new) (is_err result) }
 {

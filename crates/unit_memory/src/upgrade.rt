@@ -13,22 +13,26 @@ use tach_media::{Failed, Medium};
 use unit_model::layout::{RULE_BYTE, VERSION};
 
 impl UnitMemory {
-    /// Gives an image of version 1 the version 2 with the amended rule (profile), and tells that it did; of version 2 it writes
-    /// nothing. A stop leaves an image of the old version, or of version 2 with the amended rule, and nothing else is another.
+    /// Gives an image of version 1 the version 2 with the amended rule (profile), and tells that it did; of version 2
+    /// it writes nothing. A stop leaves an image of the old version, or of version 2 with the amended rule, and nothing
+    /// else is another.
     ///
     /// # Errors
     ///
     /// `Failed` where the medium failed, and `BadUnit` as a load has it; then nothing was written.
     pub fn upgrade<M: Medium>(unit: &mut M) -> Result<bool, UnitFault>
         requires unit { IsUnit (M.state unit.old) }
-        ensures version { IfOk result (λ newly. IfSome (M.state unit.old).image (λ x. version_of x ≡ version_before newly)) }
+        ensures version { IfOk result (λ newly. IfSome (M.state unit.old).image
+            (λ x. version_of x ≡ version_before newly)) }
         ensures upgraded { OnOk result ((M.state unit.new).image ≡ option_map upgraded_from (M.state unit.old).image) }
         ensures decodes { OnOk result (IfSome (M.state unit.old).image Decodes) }
-        ensures bad { IfErr result (λ fault. IfBadUnit fault (λ p. IfSome (M.state unit.old).image (λ x. first_bad_place x ≡ Some p))) }
+        ensures bad { IfErr result (λ fault. IfBadUnit fault (λ p. IfSome (M.state unit.old).image
+            (λ x. first_bad_place x ≡ Some p))) }
         ensures moments { LeavesOnly (M.state unit.old) (M.state unit.new) IsUpgrading }
         ensures settled { result ≡ Ok true → (M.state unit.new).clock < last_count → IsSettled (M.state unit.new) }
         ensures nothing { result ≡ Ok false → (M.state unit.new).clock ≡ (M.state unit.old).clock }
-        ensures refused { IfErr result (λ fault. IfBadUnit fault (λ _. (M.state unit.new).clock ≡ (M.state unit.old).clock)) }
+        ensures refused { IfErr result (λ fault. IfBadUnit fault
+            (λ _. (M.state unit.new).clock ≡ (M.state unit.old).clock)) }
         ensures cause { HasCause (M.state unit.old) (M.state unit.new) (has_failed result) }
     {
         let memory = UnitMemory::load(unit)?;

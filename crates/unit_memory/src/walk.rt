@@ -17,8 +17,9 @@ pub enum Density {
     Broken,
 }
 
-/// What the dates of day slots say, as far as they were read: the latest date, the index and the date of the last slot that
-/// is there, the index of the last-kept minute's day, how many are there, and how they stand. A date is 0 where none is there.
+/// What the dates of day slots say, as far as they were read: the latest date, the index and the date of the last slot
+/// that is there, the index of the last-kept minute's day, how many are there, and how they stand. A date is 0 where
+/// none is there.
 #[derive(Clone, Copy, Debug, PartialEq, Eq)]
 pub struct Walk {
     pub latest: u32,

@@ -11,8 +11,8 @@ use unit_model::layout::{DAY_MINUTES, DAY_SLOT_SIZE, DAY_WORDS, DAYS, WORD_MINUT
 // How many words of a day are read at once.
 const BLOCK: u32 = 240;
 
-/// What the words of a day say, as far as they were read: how many are not later than a minute of the day, the bits of the
-/// states after these, the last word's minute, and for each slot the first minute that its next word may have.
+/// What the words of a day say, as far as they were read: how many are not later than a minute of the day, the bits of
+/// the states after these, the last word's minute, and for each slot the first minute that its next word may have.
 #[derive(Clone, Copy, Debug, PartialEq, Eq)]
 pub struct Scan {
     pub count: u32,
@@ -113,7 +113,8 @@ pub fn word_in(bytes: &[u8], place: u32) -> u32
     u32::from(u16::from_be_bytes([bytes[from], bytes[from + 1]]))
 }
 
-// Goes on over so many words in these bytes, behind so many words of a day whose first word stands at this place of the image.
+// Goes on over so many words in these bytes, behind so many words of a day whose first word stands at this place of the
+// image.
 fn scan_words(
     kept: u32,
     base: u32,
@@ -154,7 +155,8 @@ fn scan_block<M: Medium>(
     requires room { nth + 240 ≤ DAY_WORD_LIMIT }
     requires base { base + 2 * DAY_WORD_LIMIT < 2 ^ 32 }
     requires inside { base + 2 * DAY_WORD_LIMIT ≤ (M.state unit.old).size }
-    ensures scan { IfOk result (λ found. IfSome (M.state unit.old).image (λ x. found ≡ scan_from kept base nth start (words_at x (base + 2 * nth) count))) }
+    ensures scan { IfOk result (λ found. IfSome (M.state unit.old).image (λ x. found ≡ scan_from kept base nth start
+        (words_at x (base + 2 * nth) count))) }
     ensures few { IfOk result (λ found. IfOk found (λ scan. scan.count ≤ nth + count)) }
     ensures reads { Reads (M.state unit.old) (M.state unit.new) (is_err result) }
 {
@@ -163,8 +165,8 @@ fn scan_block<M: Medium>(
     Ok(scan_words(kept, base, nth, count, start, &bytes))
 }
 
-/// Judges the words of a day slot, and tells what those say that are not later than a minute of the day; or the place of
-/// the first word that may not stand there. It reads 240 words at once.
+/// Judges the words of a day slot, and tells what those say that are not later than a minute of the day; or the place
+/// of the first word that may not stand there. It reads 240 words at once.
 pub fn scan_day<M: Medium>(
     unit: &mut M,
     index: u32,
@@ -175,7 +177,8 @@ pub fn scan_day<M: Medium>(
     requires unit { (M.state unit.old).size ≡ IMAGE_SIZE }
     requires index { index < DAY_SLOTS }
     requires count { count ≤ DAY_WORD_LIMIT }
-    ensures scan { IfOk result (λ found. IfSome (M.state unit.old).image (λ x. found ≡ scan_from kept (slot_place index + 16) 0 start (slot_words x index count))) }
+    ensures scan { IfOk result (λ found. IfSome (M.state unit.old).image (λ x. found ≡ scan_from kept
+        (slot_place index + 16) 0 start (slot_words x index count))) }
     ensures reads { Reads (M.state unit.old) (M.state unit.new) (is_err result) }
 {
     let base = DAYS.place + 4 + index * DAY_SLOT_SIZE + DAY_WORDS.place;

@@ -2,7 +2,8 @@
 use Rattle.std.specs.Prelude.{ℕ, ◌+◌, ◌*◌, ◌≤◌, Bool, true, not, ◌&&◌, ◌==◌, cond, List, [], ◌∷◌, map, filter}
 use Rattle.card_layout.specs.Images.{number_at}
 use Rattle.gated_ring.specs.Ring.{Shape, is_there, entry_at, ring_list}
-use Rattle.unit_model.specs.declared.layout.TheConstants.{INSERTIONS, INSERTION_SLOTS, PLACES, PLACE_SLOTS, SPEEDS, SPEED_SLOTS, IMAGE_SIZE}
+use Rattle.unit_model.specs.declared.layout.TheConstants.{INSERTIONS, INSERTION_SLOTS, PLACES, PLACE_SLOTS, SPEEDS}
+use Rattle.unit_model.specs.declared.layout.TheConstants.{SPEED_SLOTS, IMAGE_SIZE}
 use Rattle.message_model.specs.Sending.{touches_day, place_in_day}
 use Rattle.unit_messages.specs.declared.entries.Choice.{Choice}
 use Rattle.unit_messages.specs.declared.entries.Choice.TheVariants.{Each, Touching, PlaceOn}
@@ -45,7 +46,14 @@ pub record AreEntries (e : Entries) : Type 0 where
 
 -- the insertions that touch a day, its places, the blocks of detailed speed, and all entries of a table
 abbrev pub insertions_on : ℕ → Entries
-insertions_on date = record { base = INSERTIONS.place + 4; width = 129; count = INSERTION_SLOTS; gate = 94; choice = Touching date }
+insertions_on date = record {
+  base = INSERTIONS.place
+      + 4;
+  width = 129;
+  count = INSERTION_SLOTS;
+  gate = 94;
+  choice = Touching date;
+}
 
 abbrev pub places_on : ℕ → Entries
 places_on date = record { base = PLACES.place + 4; width = 28; count = PLACE_SLOTS; gate = 18; choice = PlaceOn date }

@@ -26,12 +26,17 @@ abbrev pub counted_on : Entries → (x js : List ℕ) → ℕ
 counted_on e x js = length (chosen_at (shape_of e) e.choice x js)
 
 abbrev pub CountsEach : Dated → (first : ℕ) → (x js counts : List ℕ) → Type 0
-CountsEach kind first x js counts = (i : ℕ) → i < DATES → slice_index_or counts i 0 ≡ counted_on (entries_on kind (first + DAY_SECONDS * i)) x js
+CountsEach kind first x js counts = (i : ℕ) → i < DATES
+    → slice_index_or counts i 0 ≡ counted_on (entries_on kind (first + DAY_SECONDS * i)) x js
 
 -- the counts are those of the unit's image, each of its date
 pub record AreCounted (c : Counts) (x : List ℕ) : Type 0 where
-  pub insertions : (i : ℕ) → i < DATES → slice_index_or c.insertions i 0 ≡ length (filter (touches_day (c.first + DAY_SECONDS * i)) (ring_list insertion_ring x))
-  pub places : (i : ℕ) → i < DATES → slice_index_or c.places i 0 ≡ length (filter (place_in_day (c.first + DAY_SECONDS * i)) (ring_list unit_place_ring x))
+  pub insertions : (i : ℕ) → i < DATES
+      → slice_index_or c.insertions i 0
+      ≡ length (filter (touches_day (c.first + DAY_SECONDS * i)) (ring_list insertion_ring x))
+  pub places : (i : ℕ) → i < DATES
+      → slice_index_or c.places i 0
+      ≡ length (filter (place_in_day (c.first + DAY_SECONDS * i)) (ring_list unit_place_ring x))
 
 -- they have their ranges, also of a unit that tells nothing
 pub record AreInRange (c : Counts) : Type 0 where

@@ -5,7 +5,9 @@ use Rattle.unit_memory.specs.declared.fault.UnitFault.TheVariants.{Failed as Uni
 use Rattle.unit_messages.specs.declared.sending.PieceFault.{PieceFault}
 use Rattle.unit_messages.specs.declared.sending.PieceFault.TheVariants.{Failed, BadUnit}
 use Rattle.unit_messages.specs.declared.sending.MessageFault.{MessageFault}
-use Rattle.unit_messages.specs.declared.sending.MessageFault.TheVariants.{Failed as MessageFailed, Memory as MessageMemory, BadUnit as MessageBad}
+use Rattle.unit_messages.specs.declared.sending.MessageFault.TheVariants.{Failed as MessageFailed}
+use Rattle.unit_messages.specs.declared.sending.MessageFault.TheVariants.{Memory as MessageMemory}
+use Rattle.unit_messages.specs.declared.sending.MessageFault.TheVariants.{BadUnit as MessageBad}
 
 abbrev pub of_unit : UnitFault → PieceFault
 of_unit UnitFailed = Failed

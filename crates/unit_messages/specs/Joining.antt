@@ -1,5 +1,6 @@
 -- Messages in pieces: where a piece stands, and pieces that are joined.
-use Rattle.std.specs.Prelude.{◌≡◌, ◌≢◌, ℕ, ◌+◌, ◌-◌, ◌*◌, ◌%◌, ◌==◌, ◌||◌, nat_lt, min, List, [], ◌∷◌, ◌++◌, take, drop, Option, Some, None, if◌then◌else◌}
+use Rattle.std.specs.Prelude.{◌≡◌, ◌≢◌, ℕ, ◌+◌, ◌-◌, ◌*◌, ◌%◌, ◌==◌, ◌||◌, nat_lt, min, List, [], ◌∷◌, ◌++◌, take, drop}
+use Rattle.std.specs.Prelude.{Option, Some, None, if◌then◌else◌}
 use Rattle.card_layout.specs.Images.{number_at}
 use Rattle.unit_messages.specs.declared.joining.JoinFault.{JoinFault}
 use Rattle.unit_messages.specs.declared.joining.JoinFault.TheVariants.{Broken, Memory}
@@ -7,7 +8,8 @@ use Rattle.unit_messages.specs.declared.joining.JoinFault.TheVariants.{Broken, M
 -- where the piece of a counter stands in so many bytes, and how many it has
 abbrev pub piece_range : (len counter : ℕ) → Option (ℕ × ℕ)
 piece_range len counter =
-    if counter == 0 || nat_lt len (251 * (counter - 1)) then None else Some (251 * (counter - 1), min (len - 251 * (counter - 1)) 251)
+    if counter == 0 || nat_lt len (251 * (counter - 1)) then None
+    else Some (251 * (counter - 1), min (len - 251 * (counter - 1)) 251)
 
 -- how many pieces were joined, as a counter of two bytes, the bytes, and for how many there is room
 pub record Joined : Type 0 where

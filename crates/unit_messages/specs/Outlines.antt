@@ -1,18 +1,23 @@
 -- What the outline of a message says of the unit's image.
 use Rattle.std.specs.Prelude.{◌≡◌, ℕ, ◌+◌, ◌*◌, ◌≤◌, List, length, filter, Option, Some, None, option_map}
-use Rattle.unit_model.specs.declared.layout.TheConstants.{FIRST_OVER, OVER_COUNT, DAY_WORDS, DAY_WORD_LIMIT, HIGHEST_ODOMETER, IMAGE_SIZE, INSERTION_SLOTS, PLACE_SLOTS}
+use Rattle.unit_model.specs.declared.layout.TheConstants.{FIRST_OVER, OVER_COUNT, DAY_WORDS, DAY_WORD_LIMIT}
+use Rattle.unit_model.specs.declared.layout.TheConstants.{HIGHEST_ODOMETER, IMAGE_SIZE, INSERTION_SLOTS, PLACE_SLOTS}
 use Rattle.unit_model.specs.Days.{StoredDay}
 use Rattle.unit_model.specs.Image.{number_of as number_in, last_kept, words_at}
 use Rattle.gated_ring.specs.Ring.{ring_list, PointsInside}
 use Rattle.link_model.specs.declared.request.Request.{Request}
-use Rattle.link_model.specs.declared.request.Request.TheVariants.{Overview as AskOverview, Day as AskDay, Events as AskEvents, Speed as AskSpeed, Technical as AskTechnical}
+use Rattle.link_model.specs.declared.request.Request.TheVariants.{Overview as AskOverview, Day as AskDay}
+use Rattle.link_model.specs.declared.request.Request.TheVariants.{Events as AskEvents, Speed as AskSpeed}
+use Rattle.link_model.specs.declared.request.Request.TheVariants.{Technical as AskTechnical}
 use Rattle.message_model.specs.declared.sizes.TheConstants.{INSERTION, PLACE, FAULT, EVENT, OVER, SPEED_BLOCK}
 use Rattle.message_model.specs.Records.{insertion_ring, unit_place_ring, speed_ring}
 use Rattle.message_model.specs.Messages.{message_bytes}
-use Rattle.message_model.specs.Sending.{message_of, sent_days, day_at, period_of, entries_in, event_table, over_table, fault_table, touches_day, place_in_day}
+use Rattle.message_model.specs.Sending.{message_of, sent_days, day_at, period_of, entries_in, event_table, over_table}
+use Rattle.message_model.specs.Sending.{fault_table, touches_day, place_in_day}
 use Rattle.unit_messages.specs.Counts.{AreCounted, AreInRange}
 use Rattle.unit_messages.specs.Windows.{Sight, passed}
-use Rattle.unit_messages.specs.declared.outline.TheConstants.{OVERVIEW_LENGTH, DAY_LENGTH, EVENTS_LENGTH, SPEED_LENGTH, TECHNICAL_LENGTH}
+use Rattle.unit_messages.specs.declared.outline.TheConstants.{OVERVIEW_LENGTH, DAY_LENGTH, EVENTS_LENGTH, SPEED_LENGTH}
+use Rattle.unit_messages.specs.declared.outline.TheConstants.{TECHNICAL_LENGTH}
 use Rattle.unit_messages.specs.declared.outline.Times.{Times}
 use Rattle.unit_messages.specs.declared.outline.DayOutline.{DayOutline}
 use Rattle.unit_messages.specs.declared.outline.EventOutline.{EventOutline}
@@ -67,8 +72,8 @@ pub record AreTimes (x : List ℕ) (t : Times) : Type 0 where
   pub begin : t.begin ≡ (period_of (60 * last_kept x) (sent_days x)).0
   pub end : t.end ≡ (period_of (60 * last_kept x) (sent_days x)).1
 
--- a recorded day, with its words where they stand, and how many insertions and places it has; the pointers of their rings are indices, and the
--- dates beside it are counted
+-- a recorded day, with its words where they stand, and how many insertions and places it has; the pointers of their
+-- rings are indices, and the dates beside it are counted
 pub record IsDayOf (x : List ℕ) (d : DayOutline) : Type 0 where
   pub day : StoredDay
   pub found : day_at d.date (sent_days x) ≡ Some day

@@ -1,20 +1,25 @@
 -- The parts of which messages are made, one after the other, and where bytes are read as them.
-use Rattle.std.specs.Prelude.{◌≡◌, ℕ, ◌+◌, ◌-◌, ◌*◌, ◌%◌, ◌==◌, ◌&&◌, nat_le, nat_lt, Bool, List, [], ◌∷◌, length, slice_index, Option, Some, None, option_and_then, if◌then◌else◌}
+use Rattle.std.specs.Prelude.{◌≡◌, ℕ, ◌+◌, ◌-◌, ◌*◌, ◌%◌, ◌==◌, ◌&&◌, nat_le, nat_lt, Bool, List, [], ◌∷◌, length}
+use Rattle.std.specs.Prelude.{slice_index, Option, Some, None, option_and_then, if◌then◌else◌}
 use Rattle.std.specs.List.{list_all}
 use Rattle.card_layout.specs.Images.{number_at}
 use Rattle.unit_model.specs.Days.{word_minute}
 use Rattle.unit_model.specs.Image.{words_at}
 use Rattle.link_model.specs.declared.request.Request.{Request}
-use Rattle.link_model.specs.declared.request.Request.TheVariants.{Overview as AskOverview, Day as AskDay, Events as AskEvents, Speed as AskSpeed, Technical as AskTechnical}
+use Rattle.link_model.specs.declared.request.Request.TheVariants.{Overview as AskOverview, Day as AskDay}
+use Rattle.link_model.specs.declared.request.Request.TheVariants.{Events as AskEvents, Speed as AskSpeed}
+use Rattle.link_model.specs.declared.request.Request.TheVariants.{Technical as AskTechnical}
 use Rattle.message_model.specs.Messages.{counted, AreEntries}
 use Rattle.unit_messages.specs.declared.parts.Part.{Part}
 use Rattle.unit_messages.specs.declared.parts.Part.TheVariants.{Field, Few, Many}
-use Rattle.unit_messages.specs.declared.parts.TheConstants.{SERVICE, OVERVIEW_PARTS, DAY_PARTS, EVENT_PARTS, SPEED_PARTS, TECHNICAL_PARTS}
+use Rattle.unit_messages.specs.declared.parts.TheConstants.{SERVICE, OVERVIEW_PARTS, DAY_PARTS, EVENT_PARTS}
+use Rattle.unit_messages.specs.declared.parts.TheConstants.{SPEED_PARTS, TECHNICAL_PARTS}
 use Rattle.unit_messages.specs.declared.reading.MessageRead.{MessageRead}
 
 -- entries of one size behind their count
 abbrev pub AreCounted : (width size : ℕ) → List ℕ → Type 0
-AreCounted width size bytes = (entries : List (List ℕ)) × AreEntries width size entries × (bytes ≡ counted width entries)
+AreCounted width size bytes = (entries : List (List ℕ)) × AreEntries width size entries
+    × (bytes ≡ counted width entries)
 
 -- the bytes of a part
 abbrev pub IsPart : Part → List ℕ → Type 0
@@ -82,10 +87,13 @@ day_at_front bytes (Some end) =
 
 abbrev pub numbered_at_front : List ℕ → ℕ → Option MessageRead
 numbered_at_front bytes number =
-    if number == 1 then read_as AskOverview (parts_end bytes OVERVIEW_PARTS 2) else if number == 2 then day_at_front bytes (parts_end bytes DAY_PARTS 2)
-    else if number == 3 then read_as AskEvents (parts_end bytes EVENT_PARTS 2) else if number == 4 then read_as AskSpeed (parts_end bytes SPEED_PARTS 2)
+    if number == 1 then read_as AskOverview (parts_end bytes OVERVIEW_PARTS 2) else if number == 2
+    then day_at_front bytes (parts_end bytes DAY_PARTS 2)
+    else if number == 3 then read_as AskEvents (parts_end bytes EVENT_PARTS 2) else if number == 4
+    then read_as AskSpeed (parts_end bytes SPEED_PARTS 2)
     else if number == 5 then read_as AskTechnical (parts_end bytes TECHNICAL_PARTS 2) else None
 
 -- what is read at the front of bytes
 abbrev pub at_front : List ℕ → Option MessageRead
-at_front bytes = if nat_le 2 (length bytes) && slice_index bytes 0 == SERVICE then numbered_at_front bytes (slice_index bytes 1) else None
+at_front bytes = if nat_le 2 (length bytes) && slice_index bytes 0 == SERVICE
+    then numbered_at_front bytes (slice_index bytes 1) else None

@@ -1,8 +1,11 @@
 -- What is read of the messages of a download.
 use Rattle.std.specs.Prelude.{◌≡◌, ℕ, List, ◌++◌, length}
 use Rattle.link_model.specs.declared.request.Request.{Request}
-use Rattle.link_model.specs.declared.request.Request.TheVariants.{Overview as AskOverview, Day as AskDay, Events as AskEvents, Speed as AskSpeed, Technical as AskTechnical}
-use Rattle.message_model.specs.Messages.{Overview, Message, AnOverview, ADay, AnEventList, ASpeedList, ATechnical, message_bytes, IsMessage}
+use Rattle.link_model.specs.declared.request.Request.TheVariants.{Overview as AskOverview, Day as AskDay}
+use Rattle.link_model.specs.declared.request.Request.TheVariants.{Events as AskEvents, Speed as AskSpeed}
+use Rattle.link_model.specs.declared.request.Request.TheVariants.{Technical as AskTechnical}
+use Rattle.message_model.specs.Messages.{Overview, Message, AnOverview, ADay, AnEventList, ASpeedList, ATechnical}
+use Rattle.message_model.specs.Messages.{message_bytes, IsMessage}
 use Rattle.unit_messages.specs.declared.reading.MessageRead.{MessageRead}
 use Rattle.unit_messages.specs.declared.reading.OverviewRead.{OverviewRead}
 

@@ -7,4 +7,5 @@ use Rattle.unit_messages.specs.Outlines.{bytes_sent}
 -- at most 252 bytes of the message that answers a request, from a place on, and the message's length
 abbrev pub IsPiece : List ℕ → Request → (from : ℕ) → Option ℕ → (items : List ℕ) → Type 0
 IsPiece x request from None items = message_of x request ≡ None
-IsPiece x request from (Some len) items = (bytes : List ℕ) × (bytes_sent x request ≡ Some bytes) × (len ≡ length bytes) × (items ≡ take 252 (drop from bytes))
+IsPiece x request from (Some len) items = (bytes : List ℕ) × (bytes_sent x request ≡ Some bytes) × (len ≡ length bytes)
+    × (items ≡ take 252 (drop from bytes))

@@ -8,7 +8,11 @@ pub record Sight : Type 0 where
 
 -- after these bytes have passed by
 abbrev pub passed : Sight → List ℕ → Sight
-passed w bytes = record { skip = w.skip - length bytes; held = w.held ++ take (252 - length w.held) (drop w.skip bytes) }
+passed w bytes = record {
+  skip = w.skip - length bytes;
+  held = w.held
+      ++ take (252 - length w.held) (drop w.skip bytes);
+}
 
 -- a window that takes no more
 pub record IsFull (w : Sight) : Type 0 where

@@ -1,6 +1,7 @@
 //! The entries of the unit's memory that a message has, read in blocks in the order of their ring.
 ghost use Rattle.unit_model.specs.declared.layout.TheConstants.{IMAGE_SIZE};
-ghost use Rattle.std.specs.Prelude.{◌≡◌, ◌==◌, ◌≤◌, ◌<◌, ◌+◌, ◌*◌, ◌-◌, not, ℕ, List, IfOk, OnOk, IfSome, length, is_err};
+ghost use Rattle.std.specs.Prelude.{◌≡◌, ◌==◌, ◌≤◌, ◌<◌, ◌+◌, ◌*◌, ◌-◌, not, ℕ, List, IfOk, OnOk, IfSome, length};
+ghost use Rattle.std.specs.Prelude.{is_err};
 ghost use Rattle.std.specs.List.{range_with_len};
 ghost use Rattle.card_layout.specs.Images.{bytes_at, number_at};
 ghost use Rattle.card_layout.specs.Fields.{joined};
@@ -16,8 +17,8 @@ use crate::window::Window;
 use tach_media::{Failed, Medium};
 use unit_model::layout::DAY_SECONDS;
 
-/// Which entries of a ring are meant: each, the insertions of which the insertion or the withdrawal lies in a day, or the places
-/// of a day. A day is told by its first second.
+/// Which entries of a ring are meant: each, the insertions of which the insertion or the withdrawal lies in a day, or
+/// the places of a day. A day is told by its first second.
 #[derive(Clone, Copy, Debug, PartialEq, Eq)]
 pub enum Choice {
     Each,
@@ -164,7 +165,10 @@ impl Entries {
         requires entries { AreEntries self.now }
         requires few { count ≤ AT_ONCE }
         requires whole { length block.now ≡ count * self.now.width }
-        ensures { (x : List ℕ) (index : ℕ) → block.now ≡ bytes_at x (self.now.base + index * self.now.width) (count * self.now.width) → window.new ≡ passed window.old (joined (chosen_at (shape_of self.now) self.now.choice x (range_with_len index count))) }
+        ensures { (x : List ℕ) (index : ℕ)
+            → block.now ≡ bytes_at x (self.now.base + index * self.now.width) (count * self.now.width)
+            → window.new ≡ passed window.old (joined
+            (chosen_at (shape_of self.now) self.now.choice x (range_with_len index count))) }
     {
         for turn in 0..count {
             let entry = self.entry_in(block, turn);
@@ -184,7 +188,9 @@ impl Entries {
         requires entries { AreEntries self.now }
         requires few { count ≤ AT_ONCE }
         requires inside { index + count ≤ self.now.count }
-        ensures passed { OnOk result (IfSome (M.state unit.old).image (λ x. window.new ≡ passed window.old (joined (chosen_at (shape_of self.now) self.now.choice x (range_with_len index count))))) }
+        ensures passed { OnOk result (IfSome (M.state unit.old).image
+            (λ x. window.new ≡ passed window.old
+            (joined (chosen_at (shape_of self.now) self.now.choice x (range_with_len index count))))) }
         ensures reads { Reads (M.state unit.old) (M.state unit.new) (is_err result) }
     {
         let mut room = [0u8; BLOCK];
@@ -208,7 +214,9 @@ impl Entries {
         requires entries { AreEntries self.now }
         requires order { from ≤ to }
         requires below { to ≤ self.now.count }
-        ensures passed { OnOk result (IfSome (M.state unit.old).image (λ x. window.new ≡ passed window.old (joined (chosen_at (shape_of self.now) self.now.choice x (range_with_len from (to - from)))))) }
+        ensures passed { OnOk result (IfSome (M.state unit.old).image
+            (λ x. window.new ≡ passed window.old
+            (joined (chosen_at (shape_of self.now) self.now.choice x (range_with_len from (to - from)))))) }
         ensures reads { ReadsIfAny (M.state unit.old) (M.state unit.new) (is_err result) }
     {
         let mut index = from;
@@ -224,8 +232,8 @@ impl Entries {
         Ok(())
     }
 
-    /// The entries that are there and meant pass by, from the one at an index on and round the end. None is read where the
-    /// window is full.
+    /// The entries that are there and meant pass by, from the one at an index on and round the end. None is read where
+    /// the window is full.
     pub fn pass<M: Medium>(
         &self,
         unit: &mut M,
@@ -235,7 +243,9 @@ impl Entries {
         requires unit { (M.state unit.old).size ≡ IMAGE_SIZE }
         requires entries { AreEntries self.now }
         requires turn { turn ≤ self.now.count }
-        ensures passed { OnOk result (IfSome (M.state unit.old).image (λ x. window.new ≡ passed window.old (joined (chosen_at (shape_of self.now) self.now.choice x (order (shape_of self.now) turn))))) }
+        ensures passed { OnOk result (IfSome (M.state unit.old).image
+            (λ x. window.new ≡ passed window.old
+            (joined (chosen_at (shape_of self.now) self.now.choice x (order (shape_of self.now) turn))))) }
         ensures reads { ReadsIfAny (M.state unit.old) (M.state unit.new) (is_err result) }
     {
         self.pass_from(unit, turn, self.count, window)?;
@@ -248,7 +258,9 @@ impl Entries {
         requires unit { (M.state unit.old).size ≡ IMAGE_SIZE }
         requires entries { AreEntries self.now }
         requires wide { 0 < self.now.width }
-        ensures count { IfOk result (λ count. IfSome (M.state unit.old).image (λ x. count ≡ length (chosen_at (shape_of self.now) self.now.choice x (range_with_len 0 self.now.count)))) }
+        ensures count { IfOk result (λ count.
+            IfSome (M.state unit.old).image (λ x. count ≡ length
+            (chosen_at (shape_of self.now) self.now.choice x (range_with_len 0 self.now.count)))) }
         ensures few { IfOk result (λ count. count ≤ self.now.count) }
         ensures reads { ReadsIfAny (M.state unit.old) (M.state unit.new) (is_err result) }
     {

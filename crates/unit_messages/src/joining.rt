@@ -1,6 +1,7 @@
-//! Messages in pieces (Annex IB, Appendix 7; the counter of two bytes: profile): where a piece stands in what follows the
-//! message's number, and pieces that are joined.
-ghost use Rattle.std.specs.Prelude.{◌≡◌, ◌≢◌, ◌≤◌, ◌<◌, ◌+◌, ◌-◌, ◌⊎◌, ◌↔◌, ℕ, List, [], nat_lt, length, false, IfOk, OnOk, OnErr, IfErr, IfSome, IfNone, IsErrOf};
+//! Messages in pieces (Annex IB, Appendix 7; the counter of two bytes: profile): where a piece stands in what follows
+//! the message's number, and pieces that are joined.
+ghost use Rattle.std.specs.Prelude.{◌≡◌, ◌≢◌, ◌≤◌, ◌<◌, ◌+◌, ◌-◌, ◌⊎◌, ◌↔◌, ℕ, List, [], nat_lt, length, false, IfOk};
+ghost use Rattle.std.specs.Prelude.{OnOk, OnErr, IfErr, IfSome, IfNone, IsErrOf};
 ghost use Rattle.card_layout.specs.Images.{bytes_at};
 ghost use Rattle.link_model.specs.Answers.{cut, has_piece};
 ghost use Rattle.unit_messages.specs.declared.joining.TheConstants.{LONGEST};
@@ -16,17 +17,20 @@ use unit_model::layout::{DAY_WORDS, INSERTIONS, PLACES};
 /// How many bytes of a message a piece holds, but for the last, which holds fewer.
 pub const PIECE: u32 = 251;
 
-/// The length of the longest message of a unit: that of a day with all insertions, words and places that the unit has room for.
-/// Beside them it has 144 bytes, and a ring's pointer of four bytes is none of them.
+/// The length of the longest message of a unit: that of a day with all insertions, words and places that the unit has
+/// room for. Beside them it has 144 bytes, and a ring's pointer of four bytes is none of them.
 pub const LONGEST: u32 = 136 + INSERTIONS.size + DAY_WORDS.size + PLACES.size;
 
-/// Where the piece of a counter, from 1 on, stands in so many bytes behind a message's number, and how many it has; `None`
-/// exactly where they have no such piece.
+/// Where the piece of a counter, from 1 on, stands in so many bytes behind a message's number, and how many it has;
+/// `None` exactly where they have no such piece.
 pub fn split_at(len: u32, counter: u16) -> Option<(u32, u32)>
     ensures range { result ≡ piece_range len counter }
-    ensures cut { (content : List ℕ) → length content ≡ len → IfSome result (λ part. bytes_at content part.0 part.1 ≡ cut content counter) }
-    ensures some { (content : List ℕ) → length content ≡ len → IfSome result (λ part. part.1 ≡ length (cut content counter)) }
-    ensures none { (content : List ℕ) → length content ≡ len → IfNone result ((counter ≡ 0) ⊎ (has_piece content counter ≡ false)) }
+    ensures cut { (content : List ℕ) → length content ≡ len
+        → IfSome result (λ part. bytes_at content part.0 part.1 ≡ cut content counter) }
+    ensures some { (content : List ℕ) → length content ≡ len
+        → IfSome result (λ part. part.1 ≡ length (cut content counter)) }
+    ensures none { (content : List ℕ) → length content ≡ len
+        → IfNone result ((counter ≡ 0) ⊎ (has_piece content counter ≡ false)) }
 {
     if counter == 0 {
         return None;
@@ -86,7 +90,8 @@ impl Joiner {
         ensures pieces { OnOk result (self.new.pieces ≡ wanted self.old) }
         ensures bytes { OnOk result (self.new.bytes ≡ with_piece self.old frame.now) }
         ensures same { OnErr result (self.new ≡ self.old) }
-        ensures broken { (IsErrOf result (JoinFault.Broken (wanted self.old) (counter_in frame.now))) ↔ (counter_in frame.now ≢ wanted self.old) }
+        ensures broken { (IsErrOf result (JoinFault.Broken (wanted self.old) (counter_in frame.now)))
+            ↔ (counter_in frame.now ≢ wanted self.old) }
         ensures fault { IfErr result (IsFaultOf (wanted self.old) (counter_in frame.now)) }
         ensures room { self.old.room ≤ self.new.room }
         ensures enough { IsErrOf result JoinFault.Memory → self.old.room < length (with_piece self.old frame.now) }

@@ -1,5 +1,5 @@
-//! The messages of a download (Annex IB, Appendix 7, 2.2.6): read by their grammar, made of a unit's image in pieces, and
-//! joined of pieces.
+//! The messages of a download (Annex IB, Appendix 7, 2.2.6): read by their grammar, made of a unit's image in pieces,
+//! and joined of pieces.
 #![tactic(auto)]
 
 mod entries;

@@ -1,5 +1,5 @@
-//! What a message of the unit's image is made of, known before its bytes (Annex IB, Appendix 7, 2.2.6; what this unit puts
-//! into the fields: profile).
+//! What a message of the unit's image is made of, known before its bytes (Annex IB, Appendix 7, 2.2.6; what this unit
+//! puts into the fields: profile).
 ghost use Rattle.unit_model.specs.declared.layout.TheConstants.{IMAGE_SIZE};
 ghost use Rattle.std.specs.Prelude.{ℕ, List, Some, min, ◌≡◌, ◌≤◌, ◌+◌, ◌*◌, ◌-◌, OnOk, IfSome, is_err, length};
 ghost use Rattle.unit_minutes.specs.Reading.{ReadsIfAny};
@@ -7,7 +7,8 @@ ghost use Rattle.unit_messages.specs.declared.joining.TheConstants.{LONGEST};
 ghost use Rattle.unit_messages.specs.Sent.{IsPiece};
 ghost use Rattle.message_model.specs.Records.{speed_ring};
 ghost use Rattle.unit_messages.specs.Counts.{AreCounted, AreInRange};
-ghost use Rattle.unit_messages.specs.Outlines.{Outlines, HasPassed, IsDayInRange, IsEventInRange, bytes_sent, asked, length_of};
+ghost use Rattle.unit_messages.specs.Outlines.{Outlines, HasPassed, IsDayInRange, IsEventInRange, bytes_sent, asked};
+ghost use Rattle.unit_messages.specs.Outlines.{length_of};
 
 mod content;
 mod counts;
@@ -47,8 +48,9 @@ pub struct Times {
     pub end: u32,
 }
 
-/// A day as its message has it: its first second, the odometer then, where its words stand and how many they are, and how many
-/// insertions and places it has; and how many the dates beside it have, so that the rings are not looked through for each day.
+/// A day as its message has it: its first second, the odometer then, where its words stand and how many they are, and
+/// how many insertions and places it has; and how many the dates beside it have, so that the rings are not looked
+/// through for each day.
 #[derive(Clone, Copy, Debug, PartialEq, Eq)]
 pub struct DayOutline {
     pub date: u32,
@@ -128,15 +130,16 @@ impl Outline {
     /// How many bytes the message has, with 76 and its number in front.
     pub fn len(&self) -> u32
         ensures len { result ≡ length_of self.now }
-        ensures told { (x : List ℕ) → IMAGE_SIZE ≤ length x → Outlines self.now x → IfSome (bytes_sent x (asked self.now)) (λ bytes. result ≡ length bytes) }
+        ensures told { (x : List ℕ) → IMAGE_SIZE ≤ length x → Outlines self.now x
+            → IfSome (bytes_sent x (asked self.now)) (λ bytes. result ≡ length bytes) }
         ensures some { 2 ≤ result }
         ensures few { result ≤ LONGEST }
     {
         self.total()
     }
 
-    /// Reads at most 252 bytes of the message, from a place on; none at its end and behind it. Of a unit that changed since, as
-    /// one that tells nothing may, it gives as many bytes as the outline says.
+    /// Reads at most 252 bytes of the message, from a place on; none at its end and behind it. Of a unit that changed
+    /// since, as one that tells nothing may, it gives as many bytes as the outline says.
     pub fn read<M: Medium>(
         &self,
         unit: &mut M,
@@ -145,7 +148,8 @@ impl Outline {
     ) -> Result<(), Failed>
         requires unit { (M.state unit.old).size ≡ IMAGE_SIZE }
         requires outlines { IfSome (M.state unit.old).image (Outlines self.now) }
-        ensures piece { OnOk result (IfSome (M.state unit.old).image (λ x. IsPiece x (asked self.now) from (Some (length_of self.now)) out.new.items)) }
+        ensures piece { OnOk result (IfSome (M.state unit.old).image
+            (λ x. IsPiece x (asked self.now) from (Some (length_of self.now)) out.new.items)) }
         ensures fits { OnOk result (length out.new.items ≡ min 252 (length_of self.now - from)) }
         ensures reads { ReadsIfAny (M.state unit.old) (M.state unit.new) (is_err result) }
     {
@@ -183,7 +187,8 @@ impl Outline {
     // The bytes of the message pass by.
     fn pass<M: Medium>(&self, unit: &mut M, window: &mut Window) -> Result<(), Failed>
         requires unit { (M.state unit.old).size ≡ IMAGE_SIZE }
-        ensures passed { OnOk result (IfSome (M.state unit.old).image (λ x. Outlines self.now x → HasPassed self.now x window.old window.new)) }
+        ensures passed { OnOk result (IfSome (M.state unit.old).image
+            (λ x. Outlines self.now x → HasPassed self.now x window.old window.new)) }
         ensures reads { ReadsIfAny (M.state unit.old) (M.state unit.new) (is_err result) }
     {
         match self.plan {

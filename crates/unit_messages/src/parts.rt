@@ -17,8 +17,8 @@ pub const SERVICE: u8 = 0x76;
 /// How many bytes stand before a message's first part.
 pub const HEADER: usize = 2;
 
-/// Certificates of the state and the unit, vehicle, registration, the unit's time, the period's begin and end, the slots' cards,
-/// the last download, locks, controls, signature.
+/// Certificates of the state and the unit, vehicle, registration, the unit's time, the period's begin and end, the
+/// slots' cards, the last download, locks, controls, signature.
 pub const OVERVIEW_PARTS: [Part; 12] = [
     Part::Field(194),
     Part::Field(194),
@@ -165,7 +165,8 @@ fn part_at(parts: &[Part], index: usize) -> Part
     parts[index]
 }
 
-/// Where the last of these parts ends, of which the first stands behind the number; `None` where the bytes end before it.
+/// Where the last of these parts ends, of which the first stands behind the number; `None` where the bytes end before
+/// it.
 pub fn parts_end(bytes: &[u8], parts: &[Part]) -> Option<usize>
     requires begun { 2 ≤ length bytes.now }
     requires small { 2 + most_of parts.now < 2 ^ 32 }

@@ -4,7 +4,8 @@ ghost use Rattle.card_layout.specs.Images.{number_at};
 ghost use Rattle.unit_model.specs.Image.{words_at};
 ghost use Rattle.message_model.specs.Messages.{Overview, DayMessage, AnOverview, ADay};
 ghost use Rattle.unit_messages.specs.Reading.{BeginsWith, IsReadAs, BeginsNoMessage, IsOverviewRead};
-ghost use Rattle.unit_messages.specs.Parts.{parts_end, read_as, words_place, word_count, are_words, day_at_front, numbered_at_front, at_front};
+ghost use Rattle.unit_messages.specs.Parts.{parts_end, read_as, words_place, word_count, are_words, day_at_front};
+ghost use Rattle.unit_messages.specs.Parts.{numbered_at_front, at_front};
 
 use crate::parts::{
     DAY_PARTS, EVENT_PARTS, HEADER, OVERVIEW_PARTS, Part, SERVICE, SPEED_PARTS, TECHNICAL_PARTS,
@@ -13,7 +14,8 @@ use crate::parts::{
 use link_model::Request;
 use tacho_types::{Registration, TimeReal, read_registration, read_time};
 
-/// A message at the front of bytes: the request that it answers, and its length in bytes with the two in front of its parts.
+/// A message at the front of bytes: the request that it answers, and its length in bytes with the two in front of its
+/// parts.
 #[derive(Clone, Copy, Debug, PartialEq, Eq)]
 pub struct MessageRead {
     pub request: Request,
@@ -24,8 +26,8 @@ pub struct MessageRead {
 #[derive(Clone, Copy, Debug, PartialEq, Eq)]
 pub struct BadMessage(pub u32);
 
-/// What an overview tells: the vehicle's registration, the unit's time, and the first and the last time of the period that can
-/// be downloaded.
+/// What an overview tells: the vehicle's registration, the unit's time, and the first and the last time of the period
+/// that can be downloaded.
 #[derive(Clone, Copy, Debug, PartialEq, Eq)]
 pub struct OverviewRead {
     pub registration: Registration,
@@ -34,8 +36,8 @@ pub struct OverviewRead {
     pub end: TimeReal,
 }
 
-/// Reads the message at the front of the bytes, whatever follows it (Appendix 7, 2.2.6). A message of a day is one only where
-/// its date is a day's first second and each of its change words stands in the day.
+/// Reads the message at the front of the bytes, whatever follows it (Appendix 7, 2.2.6). A message of a day is one only
+/// where its date is a day's first second and each of its change words stands in the day.
 ///
 /// # Errors
 ///
@@ -165,7 +167,8 @@ pub fn overview(b: &[u8]) -> OverviewRead
 /// (Appendix 7, 2.2.6.3).
 pub fn day_words(b: &[u8]) -> (u32, u16)
     requires { (m : DayMessage) × BeginsWith (ADay m) b.now }
-    ensures words { (m : DayMessage) → BeginsWith (ADay m) b.now → (result.1 ≡ length m.words) × (m.words ≡ words_at b.now result.0 result.1) }
+    ensures words { (m : DayMessage) → BeginsWith (ADay m) b.now
+        → (result.1 ≡ length m.words) × (m.words ≡ words_at b.now result.0 result.1) }
     ensures inside { result.0 + 2 * result.1 ≤ length b.now }
 {
     words_of(b)

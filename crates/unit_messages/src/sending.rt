@@ -1,6 +1,7 @@
 //! The messages of a unit's image, piece after piece, of a unit that is judged first (Annex IB, Appendix 7, 2.2.6).
 ghost use Rattle.unit_model.specs.declared.layout.TheConstants.{IMAGE_SIZE};
-ghost use Rattle.std.specs.Prelude.{◌≡◌, ◌≤◌, ◌<◌, ◌+◌, IfOk, IfErr, IfNone, OnOk, IfSome, Some, is_some, true, option_map, ◌++◌, ◌-◌, min, length};
+ghost use Rattle.std.specs.Prelude.{◌≡◌, ◌≤◌, ◌<◌, ◌+◌, IfOk, IfErr, IfNone, OnOk, IfSome, Some, is_some, true};
+ghost use Rattle.std.specs.Prelude.{option_map, ◌++◌, ◌-◌, min, length};
 ghost use Rattle.tach_media.specs.Medium.{Reads};
 ghost use Rattle.unit_model.specs.Decoding.{Decodes, first_bad_place};
 ghost use Rattle.unit_messages.specs.Faults.{IfBadPiece, piece_failed, IfBadMessage, message_failed};
@@ -87,10 +88,10 @@ impl From<UnitFault> for PieceFault {
     }
 }
 
-/// Reads at most 252 bytes of the message that answers a request, from a place on, and tells the message's length; at its end
-/// and behind it there are none. `None` exactly where there is no such message: for a day that is not recorded. Then
-/// `out` is as it was. The unit is judged first; nothing is written to it. Of a unit that tells nothing
-/// there are as many bytes as the length that is told says.
+/// Reads at most 252 bytes of the message that answers a request, from a place on, and tells the message's length; at
+/// its end and behind it there are none. `None` exactly where there is no such message: for a day that is not recorded.
+/// Then `out` is as it was. The unit is judged first; nothing is written to it. Of a unit that tells nothing there are
+/// as many bytes as the length that is told says.
 ///
 /// # Errors
 ///
@@ -102,11 +103,13 @@ pub fn piece<M: Medium>(
     out: &mut ArrayVec<u8, ROOM>,
 ) -> Result<Option<u32>, PieceFault>
     requires { (M.state unit.old).size ≡ IMAGE_SIZE }
-    ensures piece { IfOk result (λ found. IfSome (M.state unit.old).image (λ x. IsPiece x request.now from found out.new.items)) }
+    ensures piece { IfOk result (λ found. IfSome (M.state unit.old).image (λ x. IsPiece x request.now from found
+        out.new.items)) }
     ensures fits { IfOk result (λ found. IfSome found (λ len. length out.new.items ≡ min 252 (len - from))) }
     ensures none { IfOk result (λ found. IfNone found (out.new ≡ out.old)) }
     ensures decodes { OnOk result (IfSome (M.state unit.old).image Decodes) }
-    ensures bad { IfErr result (λ fault. IfBadPiece fault (λ p. IfSome (M.state unit.old).image (λ x. first_bad_place x ≡ Some p))) }
+    ensures bad { IfErr result (λ fault. IfBadPiece fault (λ p. IfSome (M.state unit.old).image
+        (λ x. first_bad_place x ≡ Some p))) }
     ensures reads { Reads (M.state unit.old) (M.state unit.new) (piece_failed result) }
 {
     let journal = Journal::load(unit)?;
@@ -126,7 +129,8 @@ fn piece_of<M: Medium>(
 ) -> Result<Option<u32>, PieceFault>
     requires unit { (M.state unit.old).size ≡ IMAGE_SIZE }
     requires outlines { IfSome (M.state unit.old).image (Outlines outline.now) }
-    ensures piece { IfOk result (λ found. IfSome (M.state unit.old).image (λ x. IsPiece x (asked outline.now) from found out.new.items)) }
+    ensures piece { IfOk result (λ found. IfSome (M.state unit.old).image (λ x. IsPiece x (asked outline.now) from found
+        out.new.items)) }
     ensures fits { IfOk result (λ found. IfSome found (λ len. length out.new.items ≡ min 252 (len - from))) }
     ensures some { IfOk result (λ found. is_some found ≡ true) }
     ensures failed { IfErr result (λ fault. fault ≡ PieceFault.Failed) }
@@ -137,22 +141,24 @@ fn piece_of<M: Medium>(
     Ok(Some(len))
 }
 
-/// Reads the message that answers a request. `None` exactly where there is no such message: for a day that is not recorded. The
-/// unit is judged first; nothing is written to it.
+/// Reads the message that answers a request. `None` exactly where there is no such message: for a day that is not
+/// recorded. The unit is judged first; nothing is written to it.
 ///
 /// # Errors
 ///
-/// `Failed` where the medium failed, `BadUnit` with the place of the first field, in order of places, that fails, and `Memory`
-/// where there is no memory for the message.
+/// `Failed` where the medium failed, `BadUnit` with the place of the first field, in order of places, that fails, and
+/// `Memory` where there is no memory for the message.
 pub fn message<M: Medium>(
     alloc: Global,
     unit: &mut M,
     request: &Request,
 ) -> Result<Option<Vec<u8>>, MessageFault>
     requires { (M.state unit.old).size ≡ IMAGE_SIZE }
-    ensures message { IfOk result (λ found. IfSome (M.state unit.old).image (λ x. option_map (λ v. v.items) found ≡ bytes_sent x request.now)) }
+    ensures message { IfOk result (λ found.
+        IfSome (M.state unit.old).image (λ x. option_map (λ v. v.items) found ≡ bytes_sent x request.now)) }
     ensures decodes { OnOk result (IfSome (M.state unit.old).image Decodes) }
-    ensures bad { IfErr result (λ fault. IfBadMessage fault (λ p. IfSome (M.state unit.old).image (λ x. first_bad_place x ≡ Some p))) }
+    ensures bad { IfErr result (λ fault. IfBadMessage fault (λ p. IfSome (M.state unit.old).image
+        (λ x. first_bad_place x ≡ Some p))) }
     ensures reads { Reads (M.state unit.old) (M.state unit.new) (message_failed result) }
 {
     let journal = Journal::load(unit)?;
@@ -171,7 +177,8 @@ fn whole<M: Medium>(
 ) -> Result<Option<Vec<u8>>, MessageFault>
     requires unit { (M.state unit.old).size ≡ IMAGE_SIZE }
     requires outlines { IfSome (M.state unit.old).image (Outlines outline.now) }
-    ensures message { IfOk result (λ found. IfSome (M.state unit.old).image (λ x. option_map (λ v. v.items) found ≡ bytes_sent x (asked outline.now))) }
+    ensures message { IfOk result (λ found.
+        IfSome (M.state unit.old).image (λ x. option_map (λ v. v.items) found ≡ bytes_sent x (asked outline.now))) }
     ensures failed { IfErr result (λ fault. IfBadMessage fault (λ p. ⊥)) }
     ensures reads { ReadsIfAny (M.state unit.old) (M.state unit.new) (message_failed result) }
 {

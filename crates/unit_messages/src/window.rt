@@ -1,5 +1,6 @@
 //! Bytes that pass by, part after part, of which those from a place on are held, at most 252.
-ghost use Rattle.std.specs.Prelude.{ℕ, List, ◌/◌, ◌≡◌, ◌≤◌, ◌<◌, ◌+◌, ◌*◌, ◌-◌, ◌^◌, ◌↔◌, ◌++◌, [], min, OnOk, IfSome, IsTrue, IsFalse, length, is_err};
+ghost use Rattle.std.specs.Prelude.{ℕ, List, ◌/◌, ◌≡◌, ◌≤◌, ◌<◌, ◌+◌, ◌*◌, ◌-◌, ◌^◌, ◌↔◌, ◌++◌, [], min, OnOk, IfSome};
+ghost use Rattle.std.specs.Prelude.{IsTrue, IsFalse, length, is_err};
 ghost use Rattle.card_layout.specs.Images.{bytes_at};
 ghost use Rattle.card_layout.specs.Fields.{joined};
 ghost use Rattle.unit_model.specs.Image.{words_at};
@@ -132,7 +133,8 @@ impl Window {
     ) -> Result<(), Failed>
         requires inside { place + len ≤ (M.state unit.old).size }
         requires short { place + len < 2 ^ 32 }
-        ensures passed { OnOk result (IfSome (M.state unit.old).image (λ x. self.new ≡ passed self.old (bytes_at x place len))) }
+        ensures passed { OnOk result (IfSome (M.state unit.old).image
+            (λ x. self.new ≡ passed self.old (bytes_at x place len))) }
         ensures reads { ReadsIfAny (M.state unit.old) (M.state unit.new) (is_err result) }
     {
         let over = self.over(len as usize);
@@ -175,12 +177,14 @@ impl Window {
     // Words that were read pass by.
     fn pass_words(&mut self, bytes: &[u8])
         ensures passed { self.new ≡ passed self.old bytes.now }
-        ensures spelled { (n : ℕ) → length bytes.now ≡ 2 * n → joined (word_bytes (words_at bytes.now 0 n)) ≡ bytes.now }
+        ensures spelled { (n : ℕ) → length bytes.now ≡ 2 * n
+            → joined (word_bytes (words_at bytes.now 0 n)) ≡ bytes.now }
     {
         self.pass(bytes)
     }
 
-    /// Words of two bytes, which stand in the unit's image from a place on, pass by; those that it takes are read at once.
+    /// Words of two bytes, which stand in the unit's image from a place on, pass by; those that it takes are read at
+    /// once.
     pub fn pass_words_at<M: Medium>(
         &mut self,
         unit: &mut M,
@@ -189,7 +193,8 @@ impl Window {
     ) -> Result<(), Failed>
         requires inside { place + 2 * count ≤ (M.state unit.old).size }
         requires short { place + 2 * count < 2 ^ 32 }
-        ensures passed { OnOk result (IfSome (M.state unit.old).image (λ x. self.new ≡ passed self.old (joined (word_bytes (words_at x place count))))) }
+        ensures passed { OnOk result (IfSome (M.state unit.old).image
+            (λ x. self.new ≡ passed self.old (joined (word_bytes (words_at x place count))))) }
         ensures reads { ReadsIfAny (M.state unit.old) (M.state unit.new) (is_err result) }
     {
         let over = self.words_over(count);

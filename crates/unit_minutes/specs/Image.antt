@@ -1,13 +1,16 @@
 -- What a journal notes of the image of its unit. What its calls leave there stands in Keeping and Mends.
 use Rattle.std.specs.Option.{ForSome}
-use Rattle.std.specs.Prelude.{Option, MatchOption, ◌≡◌, ◌≢◌, ℕ, suc, ◌+◌, ◌-◌, ◌*◌, ◌/◌, ◌%◌, ◌<◌, ◌≤◌, List, [], ◌∷◌, ◌++◌, length, drop, map}
+use Rattle.std.specs.Prelude.{Option, MatchOption, ◌≡◌, ◌≢◌, ℕ, suc, ◌+◌, ◌-◌, ◌*◌, ◌/◌, ◌%◌, ◌<◌, ◌≤◌, List, [], ◌∷◌}
+use Rattle.std.specs.Prelude.{◌++◌, length, drop, map}
 pub use Rattle.unit_minutes.specs.declared.notes.Notes.{Notes}
-pub use Rattle.unit_minutes.specs.Keeping.{SameBesides, IsGivenUp, IsBeforeLastKept, IsBehindLastKept, IsKeeping, IsKept}
+pub use Rattle.unit_minutes.specs.Keeping.{SameBesides, IsGivenUp, IsBeforeLastKept, IsBehindLastKept, IsKeeping}
+pub use Rattle.unit_minutes.specs.Keeping.{IsKept}
 use Rattle.unit_minutes.specs.declared.today.Today.{Today}
 use Rattle.gated_ring.specs.Ring.{Shape, pointer, entry_at, next, taken}
 use Rattle.unit_model.specs.declared.layout.TheConstants.{DAY_SLOTS, DAY_WORD_LIMIT, LAST_MINUTE, HIGHEST_ODOMETER}
 use Rattle.unit_model.specs.Days.{word_minute, state_at, day_of, Each}
-use Rattle.unit_model.specs.Image.{day_ring, last_kept, odometer_at, words_at, unit_day, indices, slot_date, slot_count, slot_words, stray_list}
+use Rattle.unit_model.specs.Image.{day_ring, last_kept, odometer_at, words_at, unit_day, indices, slot_date, slot_count}
+use Rattle.unit_model.specs.Image.{slot_words, stray_list}
 use Rattle.unit_model.specs.Writing.{behind_index, free_place}
 
 -- the later day's index is one, and of the last-kept minute's day there is a word for each slot and minute at most;
@@ -88,7 +91,8 @@ pub record IsFound (j : Notes) (stray : Option ℕ) (stored : ℕ) (x : List ℕ
 abbrev pub IsFoundBy : Notes → List ℕ → Type 0
 IsFoundBy j x = IsFound j j.stray j.stored x
 
--- What is read of the last-kept minute's day: its stored count, how many words are not later, and the bits of the states after them.
+-- What is read of the last-kept minute's day: its stored count, how many words are not later, and the bits of the
+-- states after them.
 pub record IsToday (kept i : ℕ) (t : Today) (x : List ℕ) : Type 0 where
   pub stored_is : slot_count x i ≡ t.stored
   pub cut : t.count ≤ t.stored

@@ -11,7 +11,8 @@ use Rattle.unit_model.specs.Image.{last_kept, odometer_at, recorded}
 -- nothing but the last-kept minute, the odometer and the days may have changed
 pub record SameBesides (x c : List ℕ) : Type 0 where
   pub before : take LAST_KEPT.place c ≡ take LAST_KEPT.place x
-  pub between : bytes_at c FIRST_OVER.place (DAYS.place - FIRST_OVER.place) ≡ bytes_at x FIRST_OVER.place (DAYS.place - FIRST_OVER.place)
+  pub between : bytes_at c FIRST_OVER.place (DAYS.place - FIRST_OVER.place)
+      ≡ bytes_at x FIRST_OVER.place (DAYS.place - FIRST_OVER.place)
   pub after : drop INSERTIONS.place c ≡ drop INSERTIONS.place x
   pub same_length : length c ≡ length x
 
@@ -21,8 +22,8 @@ pub record IsGivenUp (k : UnitMinute) (x c : List ℕ) : Type 0 where
   pub begins : IsTrue (begins_day (k.minute ∷ []) (recorded x))
   pub newest : recorded c ≡ newest_of (DAY_SLOTS - 1) (recorded x)
 
--- A moment before the mark is written: the last-kept minute is the old one, and so are the recorded days, their oldest gone
--- where it makes room.
+-- A moment before the mark is written: the last-kept minute is the old one, and so are the recorded days, their oldest
+-- gone where it makes room.
 pub record IsBeforeLastKept (k : UnitMinute) (odometer : ℕ) (x c : List ℕ) : Type 0 where
   pub last : last_kept c ≡ last_kept x
   pub odometer_is : (odometer_at c ≡ odometer_at x) ⊎ (odometer_at c ≡ odometer)

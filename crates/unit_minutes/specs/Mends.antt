@@ -1,5 +1,7 @@
--- What a mending at power-on leaves of an image: later cells emptied, a later day's gate shut, later words cut off (profile).
-use Rattle.std.specs.Prelude.{◌≡◌, ◌⊎◌, ℕ, zero, suc, ◌+◌, ◌<◌, ◌≤◌, ◌==◌, nat_lt, if◌then◌else◌, List, [], ◌∷◌, ◌++◌, take, drop, length, replicate, Option, Some, None}
+-- What a mending at power-on leaves of an image: later cells emptied, a later day's gate shut, later words cut off
+-- (profile).
+use Rattle.std.specs.Prelude.{◌≡◌, ◌⊎◌, ℕ, zero, suc, ◌+◌, ◌<◌, ◌≤◌, ◌==◌, nat_lt, if◌then◌else◌, List, [], ◌∷◌, ◌++◌}
+use Rattle.std.specs.Prelude.{take, drop, length, replicate, Option, Some, None}
 use Rattle.std.specs.Int.{to_be_bytes, w16}
 use Rattle.tach_media.specs.Medium.{put, bytes_at}
 use Rattle.tach_media.specs.Plan.{Piece, piece}
@@ -33,12 +35,13 @@ IsGateShut (Some s) x = bytes_at x (slot_place s) 4 ≡ replicate 4 0
 abbrev pub IsMendable : Notes → List ℕ → Type 0
 IsMendable j x = IsFoundBy j x ⊎ (IsGateShut j.stray x × (IsFound j None j.stored x ⊎ IsFound j None j.count x))
 
--- A moment of a `mend`: no minute changes and no recorded day's odometer, each cell is as it was or mended, the image still decodes, and it
--- may be mended again.
+-- A moment of a `mend`: no minute changes and no recorded day's odometer, each cell is as it was or mended, the image
+-- still decodes, and it may be mended again.
 pub record IsMending (j : Notes) (x c : List ℕ) : Type 0 where
   pub outside : SameButRowsAndSlots x c
   pub rows : SameButMinutes x c
-  pub cells : (n : ℕ) → n < 32 → (cell_minute c n ≡ cell_minute x n) ⊎ (cell_minute c n ≡ minute_kept (last_kept x) (cell_minute x n))
+  pub cells : (n : ℕ) → n < 32 → (cell_minute c n ≡ cell_minute x n)
+      ⊎ (cell_minute c n ≡ minute_kept (last_kept x) (cell_minute x n))
   pub minutes : recorded c ≡ recorded x
   pub odometers : (day odometer : ℕ) → RecordsDay c day odometer → RecordsDay x day odometer
   pub decodes : Decodes x → Decodes c
@@ -95,7 +98,9 @@ gate_shut (Some s) = piece (slot_place s) (replicate 4 0) ∷ []
 
 -- the count of the last-kept minute's day is cut, where it differs
 abbrev pub count_cut : Notes → List Piece
-count_cut j = if j.kept == 0 then [] else (if j.stored == j.count then [] else piece (slot_place j.index + DAY_COUNT.place) (to_be_bytes w16 j.count) ∷ [])
+count_cut j = if j.kept == 0 then []
+    else (if j.stored == j.count then [] else piece (slot_place j.index + DAY_COUNT.place) (to_be_bytes w16 j.count)
+    ∷ [])
 
 -- all of them, in their order
 abbrev pub mending : Notes → (x : List ℕ) → List Piece

@@ -24,7 +24,8 @@ word_pieces place (w ∷ ws) = piece place (to_be_bytes w16 w) ∷ word_pieces (
 
 -- words behind those of a slot, and then its count
 abbrev pub counted : (index count : ℕ) → List ℕ → List Piece
-counted i count ws = word_pieces (free_place i count) ws ++ piece (slot_place i + DAY_COUNT.place) (to_be_bytes w16 (count + length ws)) ∷ []
+counted i count ws = word_pieces (free_place i count) ws
+    ++ piece (slot_place i + DAY_COUNT.place) (to_be_bytes w16 (count + length ws)) ∷ []
 
 -- the last-kept minute
 abbrev pub mark : ℕ → List Piece
@@ -32,11 +33,14 @@ mark minute = piece LAST_KEPT.place (to_be_bytes w32 minute) ∷ []
 
 -- a minute on the day of the last-kept one: the odometer, the words and their count, and the mark
 abbrev pub going : Notes → Coming → List Piece
-going j m = piece ODOMETER.place (to_be_bytes w32 m.odometer) ∷ (counted j.index j.count (words_on j m) ++ mark m.minute)
+going j m = piece ODOMETER.place (to_be_bytes w32 m.odometer)
+    ∷ (counted j.index j.count (words_on j m) ++ mark m.minute)
 
 -- the end of the day of the last-kept minute
 abbrev pub closing : Notes → List Piece
-closing j = if j.kept == 0 then [] else (if j.kept % 1440 + 1 == 1440 then [] else counted j.index j.count (changes_to (j.kept % 1440 + 1) j.bits bare_bits))
+closing j = if j.kept == 0 then []
+    else (if j.kept % 1440 + 1 == 1440 then []
+    else counted j.index j.count (changes_to (j.kept % 1440 + 1) j.bits bare_bits))
 
 -- before a new day: the odometer, and the end of that day
 abbrev pub turning : Notes → (odometer : ℕ) → List Piece
@@ -46,7 +50,8 @@ turning j odometer = piece ODOMETER.place (to_be_bytes w32 odometer) ∷ closing
 abbrev pub beginning : (index : ℕ) → Coming → List Piece
 beginning i m = counted i 2 (further m) ++ mark m.minute
 
--- A minute on a further day: the end of the day before, the new day's slot, its further words and their count, and the mark.
+-- A minute on a further day: the end of the day before, the new day's slot, its further words and their count, and the
+-- mark.
 abbrev pub renewing_at : Notes → Room → Coming → List Piece
 renewing_at j room m = turning j m.odometer ++ (placing_pieces day_ring room (new_head m) ++ beginning room.index m)
 

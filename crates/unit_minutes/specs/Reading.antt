@@ -1,10 +1,12 @@
 -- What the reading calls tell of the recorded days.
-use Rattle.std.specs.Prelude.{◌≡◌, ◌≢◌, ◌⊎◌, ℕ, ◌+◌, ◌-◌, ◌%◌, ◌<◌, ◌≤◌, min, Bool, false, Option, Some, None, List, length, All, slice_get}
+use Rattle.std.specs.Prelude.{◌≡◌, ◌≢◌, ◌⊎◌, ℕ, ◌+◌, ◌-◌, ◌%◌, ◌<◌, ◌≤◌, min, Bool, false, Option, Some, None, List}
+use Rattle.std.specs.Prelude.{length, All, slice_get}
 use Rattle.tach_media.specs.Medium.{State, Reads}
 use Rattle.gated_ring.specs.Loading.{MadeNoCall}
 use Rattle.unit_model.specs.declared.layout.TheConstants.{DAY_SLOTS, DAY_WORD_LIMIT, HIGHEST_ODOMETER}
 use Rattle.unit_model.specs.Days.{day_shown}
-use Rattle.unit_model.specs.Image.{last_kept, recorded, recorded_indices, recorded_words, slot_place, slot_date, slot_odometer, slot_count}
+use Rattle.unit_model.specs.Image.{last_kept, recorded, recorded_indices, recorded_words, slot_place, slot_date}
+use Rattle.unit_model.specs.Image.{slot_odometer, slot_count}
 use Rattle.unit_minutes.specs.Image.{Notes, Agrees, IsFoundBy}
 use Rattle.unit_minutes.specs.declared.journal.reading.UnitDay.{UnitDay}
 
@@ -23,12 +25,14 @@ pub record IsDayIn (x : List ℕ) (i words : ℕ) (d : UnitDay) : Type 0 where
   pub odometer : d.odometer.0 ≡ min (slot_odometer x i) HIGHEST_ODOMETER
   pub words_are : d.words ≡ words
 
--- the n-th recorded day, counted from the oldest, which stands in the slot of this index; its minutes are those that its
--- recorded words show, where its count is in range
+-- the n-th recorded day, counted from the oldest, which stands in the slot of this index; its minutes are those that
+-- its recorded words show, where its count is in range
 pub record IsRecordedDay (x : List ℕ) (n i : ℕ) (d : UnitDay) : Type 0 where
   pub nth : slice_get (recorded_indices x) n ≡ Some i
   pub day : IsDayIn x i (length (recorded_words x i)) d
-  pub minutes : slot_count x i ≤ DAY_WORD_LIMIT → slice_get (recorded x) n ≡ Some (day_shown (last_kept x) (record { date = slot_date x i; odometer = slot_odometer x i; words = recorded_words x i }))
+  pub minutes : slot_count x i ≤ DAY_WORD_LIMIT
+      → slice_get (recorded x) n ≡ Some (day_shown (last_kept x)
+      (record { date = slot_date x i; odometer = slot_odometer x i; words = recorded_words x i }))
 
 -- what is found of a date: no recorded day has it, or this one
 abbrev pub IsOfDate : List ℕ → ℕ → Option UnitDay → Type 0

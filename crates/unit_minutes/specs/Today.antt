@@ -6,7 +6,11 @@ use Rattle.unit_minutes.specs.Coming.{bare_bits}
 
 -- what a scan of the day says, within its ranges
 abbrev pub today_of : (last stored : ℕ) → Result Scan ℕ → Today
-today_of last stored (Ok s) = record { stored = stored; count = min s.count (2 * (last + 1)); bits = record { driver = s.driver % 16; codriver = s.codriver % 16 } }
+today_of last stored (Ok s) = record {
+  stored = stored;
+  count = min s.count (2 * (last + 1));
+  bits = record { driver = s.driver % 16; codriver = s.codriver % 16 };
+}
 today_of last stored (Err p) = record { stored = stored; count = 0; bits = bare_bits }
 
 -- of so many days that are there, a later one is not recorded

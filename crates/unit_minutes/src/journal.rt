@@ -1,4 +1,5 @@
-ghost use Rattle.std.specs.Prelude.{IfErr, Some, None, ◌≡◌, ◌≤◌, ◌<◌, ◌+◌, ◌*◌, ◌-◌, ◌/◌, ◌%◌, min, length, IfOk, OnOk, OnErr, IfSome, is_err, option_map, true};
+ghost use Rattle.std.specs.Prelude.{IfErr, Some, None, ◌≡◌, ◌≤◌, ◌<◌, ◌+◌, ◌*◌, ◌-◌, ◌/◌, ◌%◌, min, length, IfOk, OnOk};
+ghost use Rattle.std.specs.Prelude.{OnErr, IfSome, is_err, option_map, true};
 ghost use Rattle.unit_model.specs.declared.layout.TheConstants.{DAY_SLOTS, HIGHEST_ODOMETER, IMAGE_SIZE, LAST_MINUTE};
 ghost use Rattle.tach_media.specs.Medium.{LeavesOnly, Reads, HasCause, IsSettled, last_count, StaysSettled};
 ghost use Rattle.unit_model.specs.Image.{day_ring, IsUnit};
@@ -8,7 +9,8 @@ ghost use Rattle.unit_minutes.specs.Keeping.{IsKeeping, IsKept};
 ghost use Rattle.unit_minutes.specs.Minute.{notes_on, notes_begun, notes_after};
 ghost use Rattle.tach_media.specs.Plan.{PutsAll, PutsBy, more, none};
 ghost use Rattle.unit_minutes.specs.Plans.{going, turning, renewing, keeping, most_kept};
-ghost use Rattle.unit_minutes.specs.Mends.{IsMendable, IsMending, IsMended, HasNothingLater, notes_mended, mended, mending};
+ghost use Rattle.unit_minutes.specs.Mends.{IsMendable, IsMending, IsMended, HasNothingLater, notes_mended, mended};
+ghost use Rattle.unit_minutes.specs.Mends.{mending};
 ghost use Rattle.unit_minutes.specs.Kept.{kept_minute, keeping_of, HasDaysWith, HasDaysBetween};
 ghost use Rattle.gated_ring.specs.Ring.{pointer, taken};
 
@@ -60,12 +62,14 @@ impl Journal {
     ///
     /// # Errors
     ///
-    /// `Failed` where the medium failed, and `BadUnit` with the place of the first field, in order of places, that fails.
+    /// `Failed` where the medium failed, and `BadUnit` with the place of the first field, in order of places, that
+    /// fails.
     pub fn load<M: Medium>(unit: &mut M) -> Result<Journal, UnitFault>
         requires unit { (M.state unit.old).size ≡ IMAGE_SIZE }
         ensures found { IfOk result (λ journal. IfSome (M.state unit.old).image (IsFoundBy journal)) }
         ensures decodes { OnOk result (IfSome (M.state unit.old).image Decodes) }
-        ensures bad { IfErr result (λ fault. IfBadUnit fault (λ p. IfSome (M.state unit.old).image (λ x. first_bad_place x ≡ Some p))) }
+        ensures bad { IfErr result (λ fault. IfBadUnit fault (λ p. IfSome (M.state unit.old).image
+            (λ x. first_bad_place x ≡ Some p))) }
         ensures reads { Reads (M.state unit.old) (M.state unit.new) (has_failed result) }
     {
         let judged = judge_image(unit)?;
@@ -148,7 +152,8 @@ impl Journal {
         Ok(())
     }
 
-    // The writes before a new day: the odometer, and what closes the day of the last-kept minute where it isn't at its end.
+    // The writes before a new day: the odometer, and what closes the day of the last-kept minute where it isn't at its
+    // end.
     fn turning(&self, odometer: u32) -> Writing
         requires { odometer ≤ HIGHEST_ODOMETER }
         ensures plan { result ≡ more (none 0 IMAGE_SIZE) (turning self.now odometer) }
@@ -176,7 +181,8 @@ impl Journal {
         requires unit { IsUnit (M.state unit.old) }
         requires known { IfSome (M.state unit.old).image (λ x. pointer day_ring x < DAY_SLOTS) }
         requires coming { IsComing coming }
-        ensures notes { OnOk result (IfSome (M.state unit.old).image (λ x. self.new ≡ notes_begun (taken day_ring x) (min (self.old.day_count + 1) DAY_SLOTS) coming)) }
+        ensures notes { OnOk result (IfSome (M.state unit.old).image
+            (λ x. self.new ≡ notes_begun (taken day_ring x) (min (self.old.day_count + 1) DAY_SLOTS) coming)) }
         ensures kept { OnOk result ((self.new.kept ≡ coming.minute) × (self.new.odometer ≡ coming.odometer)) }
         ensures same { OnErr result (self.new ≡ self.old) }
         ensures shape { IsNotes self.old }
@@ -203,7 +209,8 @@ impl Journal {
         ensures kept { OnOk result ((self.new.kept ≡ coming.minute) × (self.new.odometer ≡ coming.odometer)) }
         ensures same { OnErr result (self.new ≡ self.old) }
         ensures shape { IsNotes self.old }
-        ensures puts { PutsBy (M.state unit.old) (M.state unit.new) (is_err result) 3 (most_kept self.old.kept coming.minute) (keeping self.old coming) }
+        ensures puts { PutsBy (M.state unit.old) (M.state unit.new) (is_err result) 3
+            (most_kept self.old.kept coming.minute) (keeping self.old coming) }
     {
         if coming.minute / 1440 == self.notes.kept / 1440 {
             return self.go_on(unit, coming);
@@ -211,13 +218,14 @@ impl Journal {
         self.renew(unit, coming)
     }
 
-    /// Keeps a minute: of the recorded days with it the newest 366 are retained, and a minute of its day that was not kept
-    /// before stands as no card, rest, single. The odometer is written first and the last-kept minute last, which counts.
-    /// A slot of which nothing has changed gets no word; a day that is begun has the odometer of its first minute.
+    /// Keeps a minute: of the recorded days with it the newest 366 are retained, and a minute of its day that was not
+    /// kept before stands as no card, rest, single. The odometer is written first and the last-kept minute last, which
+    /// counts. A slot of which nothing has changed gets no word; a day that is begun has the odometer of its first
+    /// minute.
     ///
     /// A stop at a moment of the call leaves the days before, their oldest gone where a further day begins, or the days
-    /// with the minute: the last-kept minute tells which. After an error the journal is as it was. It begins at most seven
-    /// writes, or twelve where it begins a day.
+    /// with the minute: the last-kept minute tells which. After an error the journal is as it was. It begins at most
+    /// seven writes, or twelve where it begins a day.
     pub fn keep<M: Medium>(&mut self, unit: &mut M, kept: &KeptMinute) -> Result<(), Failed>
         requires unit { IsUnit (M.state unit.old) }
         requires agrees { IfSome (M.state unit.old).image (Agrees self.old) }
@@ -228,10 +236,14 @@ impl Journal {
         ensures notes { OnOk result ((self.new.kept ≡ kept.now.minute) × (self.new.odometer ≡ kept.now.odometer.0)) }
         ensures same { OnErr result (self.new ≡ self.old) }
         ensures agrees { OnOk result (IfSome (M.state unit.new).image (Agrees self.new)) }
-        ensures kept { OnOk result (IfSome (M.state unit.old).image (λ x. IfSome (M.state unit.new).image (IsKept (kept_minute kept.now) x))) }
-        ensures days { OnOk result (IfSome (M.state unit.old).image (λ x. IfSome (M.state unit.new).image (HasDaysWith kept.now x))) }
-        ensures puts { PutsBy (M.state unit.old) (M.state unit.new) (is_err result) 3 (most_kept self.old.kept kept.now.minute) (keeping_of self.old kept.now) }
-        ensures moments { LeavesOnly (M.state unit.old) (M.state unit.new) (IsKeeping (kept_minute kept.now) kept.now.odometer.0) }
+        ensures kept { OnOk result (IfSome (M.state unit.old).image
+            (λ x. IfSome (M.state unit.new).image (IsKept (kept_minute kept.now) x))) }
+        ensures days { OnOk result (IfSome (M.state unit.old).image
+            (λ x. IfSome (M.state unit.new).image (HasDaysWith kept.now x))) }
+        ensures puts { PutsBy (M.state unit.old) (M.state unit.new) (is_err result) 3
+            (most_kept self.old.kept kept.now.minute) (keeping_of self.old kept.now) }
+        ensures moments { LeavesOnly (M.state unit.old) (M.state unit.new)
+            (IsKeeping (kept_minute kept.now) kept.now.odometer.0) }
         ensures words { LeavesOnly (M.state unit.old) (M.state unit.new) (HasDaysBetween kept.now) }
         ensures settled { OnOk result ((M.state unit.new).clock < last_count → IsSettled (M.state unit.new)) }
         ensures cause { HasCause (M.state unit.old) (M.state unit.new) (is_err result) }
@@ -239,8 +251,8 @@ impl Journal {
         self.write_minute(unit, coming_of(kept))
     }
 
-    /// Mends the unit at a power-on: empties each cell of the owed rows that is later than the last-kept minute, shuts the
-    /// gate of a later day, and cuts the later words off. It writes nothing where nothing is later (profile).
+    /// Mends the unit at a power-on: empties each cell of the owed rows that is later than the last-kept minute, shuts
+    /// the gate of a later day, and cuts the later words off. It writes nothing where nothing is later (profile).
     ///
     /// At each moment of the call no minute has changed, and the unit may be mended again with the journal as it was.
     ///
@@ -253,11 +265,14 @@ impl Journal {
         ensures notes { OnOk result (self.new ≡ notes_mended self.old) }
         ensures same { OnErr result (self.new ≡ self.old) }
         ensures agrees { OnOk result (IfSome (M.state unit.new).image (Agrees self.new)) }
-        ensures mended { OnOk result (IfSome (M.state unit.old).image (λ x. IfSome (M.state unit.new).image (IsMended x))) }
-        ensures written { OnOk result ((M.state unit.new).image ≡ option_map (mended self.old) (M.state unit.old).image) }
+        ensures mended { OnOk result (IfSome (M.state unit.old).image
+            (λ x. IfSome (M.state unit.new).image (IsMended x))) }
+        ensures written { OnOk result ((M.state unit.new).image ≡ option_map (mended self.old)
+            (M.state unit.old).image) }
         ensures puts { PutsBy (M.state unit.old) (M.state unit.new) (is_err result) 0 34 (mending self.old) }
         ensures moments { LeavesOnly (M.state unit.old) (M.state unit.new) (IsMending self.old) }
-        ensures idle { OnOk result (IfSome (M.state unit.old).image (λ x. HasNothingLater self.old x → (M.state unit.new).clock ≡ (M.state unit.old).clock)) }
+        ensures idle { OnOk result (IfSome (M.state unit.old).image
+            (λ x. HasNothingLater self.old x → (M.state unit.new).clock ≡ (M.state unit.old).clock)) }
         ensures settled { OnOk result (StaysSettled (M.state unit.old) (M.state unit.new)) }
         ensures cause { HasCause (M.state unit.old) (M.state unit.new) (is_err result) }
         ensures most { (M.state unit.new).clock ≤ (M.state unit.old).clock + 34 }
@@ -272,7 +287,8 @@ impl Journal {
     fn write_mends<M: Medium>(&self, unit: &mut M) -> Result<(), Failed>
         requires unit { IsUnit (M.state unit.old) }
         ensures puts { PutsBy (M.state unit.old) (M.state unit.new) (is_err result) 0 34 (mending self.now) }
-        ensures idle { OnOk result (IfSome (M.state unit.old).image (λ x. HasNothingLater self.now x → (M.state unit.new).clock ≡ (M.state unit.old).clock)) }
+        ensures idle { OnOk result (IfSome (M.state unit.old).image
+            (λ x. HasNothingLater self.now x → (M.state unit.new).clock ≡ (M.state unit.old).clock)) }
         ensures shape { IsNotes self.now }
     {
         let _days = &self.days;

@@ -1,8 +1,8 @@
 use tacho_types::Odometer;
 use unit_model::State;
 
-/// A minute that is kept: its number, what the unit holds of both slots, and the odometer at its end, in kilometres. It is
-/// CREW where both slots have a present card, else SINGLE (Annex IB, section III).
+/// A minute that is kept: its number, what the unit holds of both slots, and the odometer at its end, in kilometres. It
+/// is CREW where both slots have a present card, else SINGLE (Annex IB, section III).
 #[derive(Clone, Copy, Debug, PartialEq, Eq)]
 pub struct KeptMinute {
     /// Seconds since 1970-01-01 00:00 GMT, divided by 60.

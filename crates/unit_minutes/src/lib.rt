@@ -1,5 +1,5 @@
-//! The minutes of the unit (Annex IB, section III; the memory: profile): each is kept behind a mark, the last-kept minute,
-//! which is written last, so that a stop leaves the minutes before or those with the new one.
+//! The minutes of the unit (Annex IB, section III; the memory: profile): each is kept behind a mark, the last-kept
+//! minute, which is written last, so that a stop leaves the minutes before or those with the new one.
 #![tactic(auto)]
 
 mod bits;

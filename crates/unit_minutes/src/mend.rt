@@ -13,7 +13,8 @@ use unit_model::layout::{
     CELL_MINUTE, CELLS, DAY_COUNT, IMAGE_SIZE, OWED_ROWS, cell_place, slot_place,
 };
 
-/// The writes of a mend: each cell of the owed rows, the gate of a later day, and the count of the last-kept minute's day.
+/// The writes of a mend: each cell of the owed rows, the gate of a later day, and the count of the last-kept minute's
+/// day.
 pub type Mending = Plan<34, 4>;
 
 // Adds the emptying of a cell, where it is later than the last-kept minute.
@@ -28,10 +29,12 @@ fn add_emptied(plan: &mut Mending, place: u32, kept: u32, minute: u32)
     }
 }
 
-/// The cells of the owed rows that are later than the last-kept minute, row by row, cell by cell: each is to be emptied.
+/// The cells of the owed rows that are later than the last-kept minute, row by row, cell by cell: each is to be
+/// emptied.
 pub fn late_cells<M: Medium>(unit: &mut M, kept: u32) -> Result<Mending, Failed>
     requires unit { IsUnit (M.state unit.old) }
-    ensures plan { IfOk result (λ plan. IfSome (M.state unit.old).image (λ x. plan ≡ more (none 0 IMAGE_SIZE) (late_cells kept 32 x))) }
+    ensures plan { IfOk result (λ plan. IfSome (M.state unit.old).image (λ x. plan ≡ more (none 0 IMAGE_SIZE)
+        (late_cells kept 32 x))) }
     ensures room { IfOk result (HasRoom 2 34) }
     ensures reads { Reads (M.state unit.old) (M.state unit.new) (is_err result) }
 {

@@ -7,8 +7,8 @@ use crate::coming::Coming;
 use unit_model::layout::DAY_SLOTS;
 
 /// What a journal keeps of the image: the last-kept minute, the odometer, and of the last-kept minute's day its slot's
-/// index, how many words it has, and the bits of the states after them. As it was found: the index of a later day, and the
-/// stored count. And how many days are recorded, that day with them.
+/// index, how many words it has, and the bits of the states after them. As it was found: the index of a later day, and
+/// the stored count. And how many days are recorded, that day with them.
 #[derive(Clone, Copy, Debug, PartialEq, Eq)]
 pub struct Notes {
     pub kept: u32,

@@ -19,12 +19,13 @@ use unit_model::layout::{
     DAY_COUNT, DAY_MINUTES, DAY_WORDS, LAST_KEPT, WORD_MINUTES, WORD_SLOT, slot_place,
 };
 
-/// The writes of a minute. On the last-kept minute's day the odometer, at most four words, their count, and the mark; on a
-/// further day the odometer, three that close the day before, four of the new slot, two words, their count, and the mark.
-/// A slot's beginning has 20 bytes.
+/// The writes of a minute. On the last-kept minute's day the odometer, at most four words, their count, and the mark;
+/// on a further day the odometer, three that close the day before, four of the new slot, two words, their count, and
+/// the mark. A slot's beginning has 20 bytes.
 pub type Writing = Plan<12, 20>;
 
-/// Adds the word of a slot's state where it differs, behind so many words of a day, and answers how many there are then.
+/// Adds the word of a slot's state where it differs, behind so many words of a day, and answers how many there are
+/// then.
 pub fn add_change(
     plan: &mut Writing,
     index: u32,
@@ -85,7 +86,8 @@ pub fn add_new(plan: &mut Writing, notes: &Notes, coming: Coming) -> u32
     requires order { notes.now.kept % 1440 < coming.minute % 1440 }
     requires coming { IsComing coming }
     ensures count { result ≡ notes.now.count + length (words_on notes.now coming) }
-    ensures plan { plan.new ≡ more plan.old (word_pieces (free_place notes.now.index notes.now.count) (words_on notes.now coming)) }
+    ensures plan { plan.new ≡ more plan.old
+        (word_pieces (free_place notes.now.index notes.now.count) (words_on notes.now coming)) }
     ensures length { length plan.new.pieces ≤ length plan.old.pieces + 4 }
 {
     let index = notes.index;

@@ -1,4 +1,5 @@
-ghost use Rattle.std.specs.Prelude.{◌≡◌, ◌≤◌, ◌<◌, ◌+◌, ◌*◌, ◌-◌, ◌%◌, IfOk, IfErr, IfSome, is_err, true, None, [], min, unwrap_or};
+ghost use Rattle.std.specs.Prelude.{◌≡◌, ◌≤◌, ◌<◌, ◌+◌, ◌*◌, ◌-◌, ◌%◌, IfOk, IfErr, IfSome, is_err, true, None, []};
+ghost use Rattle.std.specs.Prelude.{min, unwrap_or};
 ghost use Rattle.unit_model.specs.declared.layout.TheConstants.{DAY_SLOTS, DAY_WORD_LIMIT, DAY_WORDS, IMAGE_SIZE};
 ghost use Rattle.std.specs.Option.{ForSome};
 ghost use Rattle.tach_media.specs.Medium.{Reads};
@@ -18,8 +19,8 @@ use unit_model::layout::{
     slot_place,
 };
 
-/// What is read of the last-kept minute's day: its stored count, how many of its words are not later, and the bits of the
-/// states after them.
+/// What is read of the last-kept minute's day: its stored count, how many of its words are not later, and the bits of
+/// the states after them.
 #[derive(Clone, Copy, Debug, PartialEq, Eq)]
 pub struct Today {
     pub stored: u32,
@@ -77,8 +78,8 @@ pub fn index_of(today: Option<u32>) -> u32
     }
 }
 
-/// The index of the pointer, where the last day that is there, of this date, is later than the last-kept minute's: then it
-/// stands at the pointer.
+/// The index of the pointer, where the last day that is there, of this date, is later than the last-kept minute's: then
+/// it stands at the pointer.
 pub fn later_day(kept: u32, pointer: u32, date: u32) -> Option<u32>
     requires index { pointer < DAY_SLOTS }
     ensures stray { result ≡ stray_of kept pointer date }
@@ -98,7 +99,9 @@ pub fn read_today<M: Medium>(unit: &mut M, kept: u32, index: u32) -> Result<Toda
     requires works { (M.state unit.old).works ≡ true }
     requires unit { (M.state unit.old).size ≡ IMAGE_SIZE }
     requires index { index < DAY_SLOTS }
-    ensures found { IfOk result (λ today. IfSome (M.state unit.old).image (λ x. 0 < kept → slot_count x index ≤ DAY_WORD_LIMIT → first_failing (word_checks (slot_place index + DAY_WORDS.place) [] (slot_words x index (slot_count x index))) ≡ None → IsToday kept index today x)) }
+    ensures found { IfOk result (λ today. IfSome (M.state unit.old).image (λ x. 0 < kept → slot_count x index
+        ≤ DAY_WORD_LIMIT → first_failing (word_checks (slot_place index + DAY_WORDS.place) []
+        (slot_words x index (slot_count x index))) ≡ None → IsToday kept index today x)) }
     ensures count { IfOk result (λ today. today.count ≤ 2 * (kept % 1440 + 1)) }
     ensures driver { IfOk result (λ today. today.bits.driver < 16) }
     ensures codriver { IfOk result (λ today. today.bits.codriver < 16) }

@@ -1,5 +1,6 @@
 -- The days of a unit, by their words, and the minutes that these show up to the last-kept minute.
-use Rattle.std.specs.Prelude.{ℕ, ◌+◌, ◌-◌, ◌*◌, ◌/◌, ◌%◌, Bool, ◌&&◌, List, [], ◌∷◌, ◌++◌, length, drop, map, filter, nat_le, ◌==◌, if◌then◌else◌, fold, flat_map}
+use Rattle.std.specs.Prelude.{ℕ, ◌+◌, ◌-◌, ◌*◌, ◌/◌, ◌%◌, Bool, ◌&&◌, List, [], ◌∷◌, ◌++◌, length, drop, map, filter}
+use Rattle.std.specs.Prelude.{nat_le, ◌==◌, if◌then◌else◌, fold, flat_map}
 use Rattle.std.specs.List.{range_with_len}
 use Rattle.activity_codec.specs.Words.{activity_numbered}
 pub use Rattle.activity_codec.specs.Words.{word_minute}
@@ -48,7 +49,12 @@ pub record UnitMinute : Type 0 where
 
 -- a minute by the bits of both slots' states
 abbrev pub minute_by : (minute driver codriver : ℕ) → UnitMinute
-minute_by minute driver codriver = record { minute = minute; driver = state_in driver; codriver = state_in codriver; crew = is_crew_in driver }
+minute_by minute driver codriver = record {
+  minute = minute;
+  driver = state_in driver;
+  codriver = state_in codriver;
+  crew = is_crew_in driver;
+}
 
 -- a day with its minutes from 00:00 on
 pub record ShownDay : Type 0 where
@@ -87,7 +93,11 @@ unknown_minute m = minute_by m bare bare
 
 -- a day with its minutes up to that many; those that it lacked stand as unknown
 abbrev pub padded : ℕ → ShownDay → ShownDay
-padded n d = record { day = d.day; minutes = d.minutes ++ map (λ t. unknown_minute (1440 * d.day + t)) (range_with_len (length d.minutes) (n - length d.minutes)) }
+padded n d = record {
+  day = d.day;
+  minutes = d.minutes
+      ++ map (λ t. unknown_minute (1440 * d.day + t)) (range_with_len (length d.minutes) (n - length d.minutes));
+}
 
 -- a day with one minute more
 abbrev pub with_minute : UnitMinute → ShownDay → ShownDay
@@ -121,7 +131,12 @@ Each P (x ∷ xs) = P x × Each P xs
 
 -- the words of the last-kept minute's day that are not later
 abbrev pub day_kept : ℕ → StoredDay → StoredDay
-day_kept kept d = if day_of d == kept / 1440 then record { date = d.date; odometer = d.odometer; words = filter (λ w. nat_le (word_minute w) (kept % 1440)) d.words } else d
+day_kept kept d = if day_of d == kept / 1440
+    then record {
+      date = d.date;
+      odometer = d.odometer;
+      words = filter (λ w. nat_le (word_minute w) (kept % 1440)) d.words;
+    } else d
 
 -- the days not later than that of the last-kept minute, without later words
 abbrev pub days_kept : ℕ → List StoredDay → List StoredDay

@@ -1,10 +1,17 @@
 -- When the image of a unit decodes: each field with the condition that it meets, in order of places (profile).
-use Rattle.std.specs.Prelude.{ℕ, ◌+◌, ◌-◌, ◌*◌, ◌/◌, ◌%◌, Bool, true, false, not, ◌&&◌, ◌||◌, ◌==◌, Option, Some, None, List, [], ◌∷◌, ◌++◌, length, map, filter, nat_le, nat_lt, if◌then◌else◌, flat_map, IsTrue}
+use Rattle.std.specs.Prelude.{ℕ, ◌+◌, ◌-◌, ◌*◌, ◌/◌, ◌%◌, Bool, true, false, not, ◌&&◌, ◌||◌, ◌==◌, Option, Some, None}
+use Rattle.std.specs.Prelude.{List, [], ◌∷◌, ◌++◌, length, map, filter, nat_le, nat_lt, if◌then◌else◌, flat_map, IsTrue}
 use Rattle.std.specs.List.{range_with_len, list_all, list_any}
 use Rattle.gated_ring.specs.Ring.{number_at, pointer, is_there, next, order}
-use Rattle.unit_model.specs.declared.layout.TheConstants.{VERSION, RULE_BYTE, PLAIN_VERSION, RULED_VERSION, LAST_KEPT, ODOMETER, OVER_COUNT, OWED, OWED_ROWS, OWED_ROW_SIZE, CELLS, CELL_SIZE, ROW_CELLS, CELL_MINUTE, CELL_WORD, DAYS, DAY_SLOTS, DAY_ODOMETER, DAY_COUNT, DAY_WORDS, DAY_WORD_LIMIT, INSERTIONS, INSERTION_SLOTS, PLACES, PLACE_SLOTS, SPEEDS, SPEED_SLOTS, MOST_OVERS, LAST_MINUTE, HIGHEST_ODOMETER}
+use Rattle.unit_model.specs.declared.layout.TheConstants.{VERSION, RULE_BYTE, PLAIN_VERSION, RULED_VERSION, LAST_KEPT}
+use Rattle.unit_model.specs.declared.layout.TheConstants.{ODOMETER, OVER_COUNT, OWED, OWED_ROWS, OWED_ROW_SIZE, CELLS}
+use Rattle.unit_model.specs.declared.layout.TheConstants.{CELL_SIZE, ROW_CELLS, CELL_MINUTE, CELL_WORD, DAYS, DAY_SLOTS}
+use Rattle.unit_model.specs.declared.layout.TheConstants.{DAY_ODOMETER, DAY_COUNT, DAY_WORDS, DAY_WORD_LIMIT}
+use Rattle.unit_model.specs.declared.layout.TheConstants.{INSERTIONS, INSERTION_SLOTS, PLACES, PLACE_SLOTS, SPEEDS}
+use Rattle.unit_model.specs.declared.layout.TheConstants.{SPEED_SLOTS, MOST_OVERS, LAST_MINUTE, HIGHEST_ODOMETER}
 use Rattle.unit_model.specs.Days.{slot_bit, word_minute}
-use Rattle.unit_model.specs.Image.{number_of, last_kept, odometer_at, day_ring, slot_place, indices, slot_date, slot_odometer, slot_count, slot_words}
+use Rattle.unit_model.specs.Image.{number_of, last_kept, odometer_at, day_ring, slot_place, indices, slot_date}
+use Rattle.unit_model.specs.Image.{slot_odometer, slot_count, slot_words}
 
 -- a field by its place, and whether it meets its condition
 pub record Check : Type 0 where
@@ -29,7 +36,8 @@ has_day image day = list_any (λ i. is_there day_ring image i && slot_day image 
 
 -- the last-kept minute is a minute, and where it is not 0, a slot of its day is there
 abbrev pub is_kept_good : List ℕ → Bool
-is_kept_good image = nat_le (last_kept image) LAST_MINUTE && (last_kept image == 0 || has_day image (last_kept image / 1440))
+is_kept_good image = nat_le (last_kept image) LAST_MINUTE
+    && (last_kept image == 0 || has_day image (last_kept image / 1440))
 
 -- the version is 1 or 2, and version 2 has a rule byte that is 0 or 1
 abbrev pub is_version_good : ℕ → Bool
@@ -60,12 +68,14 @@ cell_word image n = number_at image (cell_place n + CELL_WORD.place) CELL_WORD.s
 
 -- a cell that is not empty has a word below 1440, also in an empty row
 abbrev pub cell_check : List ℕ → ℕ → Check
-cell_check image n = check (cell_place n + CELL_WORD.place) (cell_minute image n == 0 || nat_lt (word_minute (cell_word image n)) 1440)
+cell_check image n = check (cell_place n + CELL_WORD.place)
+    (cell_minute image n == 0 || nat_lt (word_minute (cell_word image n)) 1440)
 
 abbrev pub cell_checks : List ℕ → List Check
 cell_checks image = map (cell_check image) (range_with_len 0 (OWED_ROWS * CELLS))
 
--- of slots from the oldest place to the pointer's: empty ones, then ones that are there up to the pointer's or to the one before it
+-- of slots from the oldest place to the pointer's: empty ones, then ones that are there up to the pointer's or to the
+-- one before it
 abbrev pub is_filled_on : List Bool → Bool
 is_filled_on [] = true
 is_filled_on (true ∷ there) = is_filled_on there
@@ -86,7 +96,8 @@ is_last_good image p (i ∷ j ∷ js) = is_last_good image p (j ∷ js)
 abbrev pub is_pointer_good : List ℕ → Bool
 is_pointer_good image =
     let p : ℕ = pointer day_ring image in
-    nat_lt p DAY_SLOTS && (are_dense (map (is_there day_ring image) (order day_ring (next day_ring p))) && is_last_good image p (indices image))
+    nat_lt p DAY_SLOTS && (are_dense (map (is_there day_ring image) (order day_ring (next day_ring p)))
+    && is_last_good image p (indices image))
 
 -- the indices of the slots that are there before one, from the oldest
 abbrev pub indices_before : List ℕ → ℕ → List ℕ
@@ -108,7 +119,9 @@ is_first_good place w = if nat_lt 1 place then true else slot_bit w == place && 
 -- a word is below 1440, not earlier than those before it, and the only one of its slot in its minute
 abbrev pub is_word_good : (before : List ℕ) → ℕ → Bool
 is_word_good before w =
-    nat_lt (word_minute w) 1440 && (list_all (λ v. nat_le (word_minute v) (word_minute w) && not (slot_bit v == slot_bit w && word_minute v == word_minute w)) before
+    nat_lt (word_minute w) 1440 && (list_all
+    (λ v. nat_le (word_minute v) (word_minute w)
+    && not (slot_bit v == slot_bit w && word_minute v == word_minute w)) before
     && is_first_good (length before) w)
 
 abbrev pub word_checks : (place : ℕ) → (before words : List ℕ) → List Check
@@ -118,9 +131,11 @@ word_checks place before (w ∷ ws) = check place (is_word_good before w) ∷ wo
 -- the date, the odometer, the count and the words of a slot that is there
 abbrev pub day_checks : List ℕ → ℕ → List Check
 day_checks image i =
-    check (slot_place i) (is_date_good (last_kept image) (map (slot_date image) (indices_before image i)) (slot_date image i))
+    check (slot_place i) (is_date_good (last_kept image) (map (slot_date image) (indices_before image i))
+    (slot_date image i))
     ∷ check (slot_place i + DAY_ODOMETER.place) (nat_le (slot_odometer image i) HIGHEST_ODOMETER)
-    ∷ check (slot_place i + DAY_COUNT.place) (nat_le 2 (slot_count image i) && nat_le (slot_count image i) DAY_WORD_LIMIT)
+    ∷ check (slot_place i + DAY_COUNT.place)
+    (nat_le 2 (slot_count image i) && nat_le (slot_count image i) DAY_WORD_LIMIT)
     ∷ word_checks (slot_place i + DAY_WORDS.place) [] (slot_words image i (slot_count image i))
 
 abbrev pub slot_checks : List ℕ → ℕ → List Check

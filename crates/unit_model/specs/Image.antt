@@ -1,10 +1,13 @@
 -- What the image of a unit says of its days and minutes (profile).
-use Rattle.std.specs.Prelude.{◌≡◌, ℕ, ◌+◌, ◌*◌, ◌/◌, ◌%◌, min, Option, Some, None, List, [], ◌∷◌, map, filter, nat_le, ◌==◌, if◌then◌else◌}
+use Rattle.std.specs.Prelude.{◌≡◌, ℕ, ◌+◌, ◌*◌, ◌/◌, ◌%◌, min, Option, Some, None, List, [], ◌∷◌, map, filter, nat_le}
+use Rattle.std.specs.Prelude.{◌==◌, if◌then◌else◌}
 use Rattle.std.specs.List.{range_with_len}
 use Rattle.tach_media.specs.Medium.{State, LiesInside, bytes_at}
 use Rattle.gated_ring.specs.Ring.{Shape, number_at, ring_list, indices as ring_indices}
 use Rattle.unit_model.specs.declared.layout.Field.{Field}
-use Rattle.unit_model.specs.declared.layout.TheConstants.{IMAGE_SIZE, DAYS, DAY_SLOTS, DAY_SLOT_SIZE, DAY_DATE, DAY_ODOMETER, DAY_COUNT, DAY_SPARE, DAY_WORDS, DAY_WORD_LIMIT, LAST_KEPT, ODOMETER}
+use Rattle.unit_model.specs.declared.layout.TheConstants.{IMAGE_SIZE, DAYS, DAY_SLOTS, DAY_SLOT_SIZE, DAY_DATE}
+use Rattle.unit_model.specs.declared.layout.TheConstants.{DAY_ODOMETER, DAY_COUNT, DAY_SPARE, DAY_WORDS, DAY_WORD_LIMIT}
+use Rattle.unit_model.specs.declared.layout.TheConstants.{LAST_KEPT, ODOMETER}
 use Rattle.unit_model.specs.Days.{StoredDay, ShownDay, UnitMinute, word_minute, days_shown, minutes_of}
 
 -- a medium that is a unit's: it has its size, and all of it may be written
@@ -27,7 +30,13 @@ odometer_at image = number_of image ODOMETER
 
 -- the ring of the day slots: a pointer of four bytes, and a slot is there where its date is not 0
 abbrev pub day_ring : Shape
-day_ring = record { base = DAYS.place; width = DAY_SLOT_SIZE; count = DAY_SLOTS; pointer_width = 4; gate = DAY_DATE.place }
+day_ring = record {
+  base = DAYS.place;
+  width = DAY_SLOT_SIZE;
+  count = DAY_SLOTS;
+  pointer_width = 4;
+  gate = DAY_DATE.place;
+}
 
 -- where the slot of an index begins
 abbrev pub slot_place : ℕ → ℕ
@@ -39,7 +48,11 @@ words_at image place count = map (λ j. number_at image (place + 2 * j) 2) (rang
 
 -- the day of a slot's bytes: its date, its odometer, and the words that its count covers
 abbrev pub unit_day : List ℕ → StoredDay
-unit_day slot = record { date = number_of slot DAY_DATE; odometer = number_of slot DAY_ODOMETER; words = words_at slot DAY_WORDS.place (number_of slot DAY_COUNT) }
+unit_day slot = record {
+  date = number_of slot DAY_DATE;
+  odometer = number_of slot DAY_ODOMETER;
+  words = words_at slot DAY_WORDS.place (number_of slot DAY_COUNT);
+}
 
 -- the indices of the slots that are there, oldest first
 unfoldable pub indices : List ℕ → List ℕ
@@ -74,7 +87,8 @@ spare_bytes image i = bytes_at image (slot_place i + DAY_SPARE.place) DAY_SPARE.
 abbrev pub slot_words : List ℕ → ℕ → ℕ → List ℕ
 slot_words image i count = words_at image (slot_place i + DAY_WORDS.place) count
 
--- the indices of the recorded days' slots, oldest first: a day is recorded where it is not later than the last-kept minute's
+-- the indices of the recorded days' slots, oldest first: a day is recorded where it is not later than the last-kept
+-- minute's
 unfoldable pub recorded_indices : List ℕ → List ℕ
 recorded_indices x = filter (λ i. nat_le (slot_date x i / 86400) (last_kept x / 1440)) (indices x)
 

@@ -1,11 +1,18 @@
 -- The fields of a unit's image, one after the other, as one table (profile).
 use Rattle.std.specs.Prelude.{ℕ, ◌+◌, Bool, ◌&&◌, ◌==◌, List, [], ◌∷◌}
 use Rattle.unit_model.specs.declared.layout.Field.{Field}
-use Rattle.unit_model.specs.declared.layout.TheConstants.{VERSION, VIN, REGISTRATION, SPEED_LIMIT, IDENTIFICATION, SENSOR, STATE_CERTIFICATE, UNIT_CERTIFICATE, RULE_BYTE, SPARE, LAST_KEPT, ODOMETER, FIRST_OVER, OVER_COUNT, SPARE_COUNTS, OWED, SPARE_ROWS, DAYS, INSERTIONS, PLACES, EVENTS, OVERS, FAULTS, SPARE_FAULTS, SPEEDS, DAY_DATE, DAY_ODOMETER, DAY_COUNT, DAY_SPARE, DAY_WORDS, ROW_SESSION, ROW_NUMBER, ROW_SPARE, ROW_CELLS, CELL_MINUTE, CELL_WORD}
+use Rattle.unit_model.specs.declared.layout.TheConstants.{VERSION, VIN, REGISTRATION, SPEED_LIMIT, IDENTIFICATION}
+use Rattle.unit_model.specs.declared.layout.TheConstants.{SENSOR, STATE_CERTIFICATE, UNIT_CERTIFICATE, RULE_BYTE, SPARE}
+use Rattle.unit_model.specs.declared.layout.TheConstants.{LAST_KEPT, ODOMETER, FIRST_OVER, OVER_COUNT, SPARE_COUNTS}
+use Rattle.unit_model.specs.declared.layout.TheConstants.{OWED, SPARE_ROWS, DAYS, INSERTIONS, PLACES, EVENTS, OVERS}
+use Rattle.unit_model.specs.declared.layout.TheConstants.{FAULTS, SPARE_FAULTS, SPEEDS, DAY_DATE, DAY_ODOMETER}
+use Rattle.unit_model.specs.declared.layout.TheConstants.{DAY_COUNT, DAY_SPARE, DAY_WORDS, ROW_SESSION, ROW_NUMBER}
+use Rattle.unit_model.specs.declared.layout.TheConstants.{ROW_SPARE, ROW_CELLS, CELL_MINUTE, CELL_WORD}
 
 abbrev pub image_fields : List Field
 image_fields =
-    VERSION ∷ VIN ∷ REGISTRATION ∷ SPEED_LIMIT ∷ IDENTIFICATION ∷ SENSOR ∷ STATE_CERTIFICATE ∷ UNIT_CERTIFICATE ∷ RULE_BYTE ∷ SPARE
+    VERSION ∷ VIN ∷ REGISTRATION ∷ SPEED_LIMIT ∷ IDENTIFICATION ∷ SENSOR ∷ STATE_CERTIFICATE ∷ UNIT_CERTIFICATE
+    ∷ RULE_BYTE ∷ SPARE
     ∷ LAST_KEPT ∷ ODOMETER ∷ FIRST_OVER ∷ OVER_COUNT ∷ SPARE_COUNTS ∷ OWED ∷ SPARE_ROWS
     ∷ DAYS ∷ INSERTIONS ∷ PLACES ∷ EVENTS ∷ OVERS ∷ FAULTS ∷ SPARE_FAULTS ∷ SPEEDS ∷ []
 

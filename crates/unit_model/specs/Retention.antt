@@ -18,7 +18,9 @@ last_day (d ∷ e ∷ days) = last_day (e ∷ days)
 abbrev pub begins_day : List ℕ → List ShownDay → Bool
 begins_day next days = list_any (λ m. nat_lt (last_day days) (m / 1440)) next
 
--- A unit shows these days of all, where these minutes may come next: the newest 366, or 365 of 366 and more where a further day may have been begun.
+-- A unit shows these days of all, where these minutes may come next: the newest 366, or 365 of 366 and more where a
+-- further day may have been begun.
 abbrev pub UnitRetains : List ShownDay → List ℕ → List ShownDay → Type 0
 UnitRetains all next shown =
-    (shown ≡ newest_days DAY_SLOTS all) ⊎ (IsTrue (begins_day next all && nat_le DAY_SLOTS (length all)) × (shown ≡ newest_days (DAY_SLOTS - 1) all))
+    (shown ≡ newest_days DAY_SLOTS all)
+    ⊎ (IsTrue (begins_day next all && nat_le DAY_SLOTS (length all)) × (shown ≡ newest_days (DAY_SLOTS - 1) all))

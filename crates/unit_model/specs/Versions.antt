@@ -32,7 +32,8 @@ ruled image = put RULE_BYTE.place (1 ∷ []) image
 abbrev pub upgraded : List ℕ → List ℕ
 upgraded image = put VERSION.place (0 ∷ 0 ∷ 0 ∷ 2 ∷ []) (ruled image)
 
--- Images that differ in the version and the rule byte alone; and the version is the old one, or 2 with the amended rule.
+-- Images that differ in the version and the rule byte alone; and the version is the old one, or 2 with the amended
+-- rule.
 pub record IsSameButRule (x c : List ℕ) : Type 0 where
   pub between : bytes_at c VIN.place (RULE_BYTE.place - VIN.place) ≡ bytes_at x VIN.place (RULE_BYTE.place - VIN.place)
   pub behind : SameOutside VERSION.place (RULE_BYTE.place + RULE_BYTE.size) x c

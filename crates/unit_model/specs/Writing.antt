@@ -23,7 +23,8 @@ free_place i count = slot_place i + DAY_WORDS.place + 2 * count
 abbrev pub DiffersBehind : (index count : ℕ) → List ℕ → List ℕ → Type 0
 DiffersBehind i count x c = SameOutside (free_place i count) (DAY_WORDS.size - 2 * count) x c
 
--- an image with another odometer, another count of a slot, another last-kept minute, and more words of a slot with their count
+-- an image with another odometer, another count of a slot, another last-kept minute, and more words of a slot with
+-- their count
 abbrev pub with_odometer : ℕ → List ℕ → List ℕ
 with_odometer odometer x = put ODOMETER.place (to_be_bytes w32 odometer) x
 

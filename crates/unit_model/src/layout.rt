@@ -1,11 +1,12 @@
-//! The layout of a unit's image, versions 1 and 2 (profile): each field with its place and its size in bytes. A number stands with
-//! its highest byte first. Days, insertions and places begin with a pointer of four bytes, and so does the detailed speed.
+//! The layout of a unit's image, versions 1 and 2 (profile): each field with its place and its size in bytes. A number
+//! stands with its highest byte first. Days, insertions and places begin with a pointer of four bytes, and so does the
+//! detailed speed.
 ghost use Rattle.std.specs.Prelude.{◌≡◌, ◌≤◌, ◌<◌};
 ghost use Rattle.unit_model.specs.Image.{slot_place};
 ghost use Rattle.unit_model.specs.Decoding.{cell_place};
 
-/// A field of the image: its place and its size in bytes. The fields of a day slot, of an owed row and of a cell have places
-/// that are counted from its own begin.
+/// A field of the image: its place and its size in bytes. The fields of a day slot, of an owed row and of a cell have
+/// places that are counted from its own begin.
 #[derive(Clone, Copy, Debug, PartialEq, Eq)]
 pub struct Field {
     pub place: u32,

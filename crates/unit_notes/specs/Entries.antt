@@ -13,13 +13,15 @@ use Rattle.event_model.specs.Kinds.{purpose_of, purpose_number}
 use Rattle.unit_notes.specs.declared.insertion.Insertion.{Insertion}
 use Rattle.unit_notes.specs.declared.unit_event.UnitEvent.{UnitEvent}
 
--- the fields of an insertion, by message_model's `insertion_widths`: what is known of the card's holder, and the card's use
+-- the fields of an insertion, by message_model's `insertion_widths`: what is known of the card's holder, and the card's
+-- use
 abbrev pub holder_fields : Insertion → List (List ℕ)
 holder_fields v = v.surname.0 ∷ v.first.0 ∷ card_number_bytes v.number ∷ time_bytes v.expiry ∷ []
 
 abbrev pub use_fields : Insertion → List (List ℕ)
 use_fields v =
-    time_bytes v.time ∷ odometer_bytes v.odometer ∷ (v.slot ∷ []) ∷ time_bytes v.out_time ∷ odometer_bytes v.out_odometer
+    time_bytes v.time ∷ odometer_bytes v.odometer ∷ (v.slot ∷ []) ∷ time_bytes v.out_time
+    ∷ odometer_bytes v.out_odometer
     ∷ v.previous.0 ∷ time_bytes v.previous_time ∷ (v.manual ∷ []) ∷ []
 
 abbrev pub insertion_fields : Insertion → List (List ℕ)

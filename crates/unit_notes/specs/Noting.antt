@@ -37,7 +37,8 @@ pub record IsWithdrawn (i : ℕ) (time : TimeReal) (odometer : Odometer) (x y : 
   pub pointer_is : pointer insertion_ring y ≡ pointer insertion_ring x
   pub indices_are : PointsInside insertion_ring x → indices insertion_ring y ≡ indices insertion_ring x
   pub list_is : PointsInside insertion_ring x → ring_list insertion_ring y
-      ≡ map (λ j. if j == i then with_withdrawal time odometer (entry_at insertion_ring x i) else entry_at insertion_ring x j) (indices insertion_ring x)
+      ≡ map (λ j. if j == i then with_withdrawal time odometer (entry_at insertion_ring x i)
+      else entry_at insertion_ring x j) (indices insertion_ring x)
 
 -- a moment of it: nothing is written yet, or the time alone, or both
 abbrev pub IsWithdrawing : (i : ℕ) → TimeReal → Odometer → List ℕ → List ℕ → Type 0
@@ -46,17 +47,21 @@ IsWithdrawing i time odometer x c =
 
 -- ---- events and faults
 
--- The event stands at the place that it takes, with the similar events of its day; where it takes none, the event of its day
--- counts one more, if one is held.
+-- The event stands at the place that it takes, with the similar events of its day; where it takes none, the event of
+-- its day counts one more, if one is held.
 abbrev pub IsNotedAt : (kind : ℕ) → (front x : List ℕ) → (place day : Option ℕ) → List ℕ → Type 0
-IsNotedAt kind front x (Some i) day y = IsReplaced (table_of kind) i (with_similar kind (similar_next kind x day) front) x y
-IsNotedAt kind front x None (Some i) y = IsSet (table_of kind) i (similar_place kind) (similar_next kind x (Some i) ∷ []) x y
+IsNotedAt kind front x (Some i) day y = IsReplaced (table_of kind) i (with_similar kind (similar_next kind x day) front)
+    x y
+IsNotedAt kind front x None (Some i) y = IsSet (table_of kind) i (similar_place kind)
+    (similar_next kind x (Some i) ∷ []) x y
 IsNotedAt kind front x None None y = y ≡ x
 
 -- a moment of it: that place is as it was, or empty, or has the event; and a count is whole or absent
 abbrev pub IsNotingAt : (kind : ℕ) → (front x : List ℕ) → (place day : Option ℕ) → List ℕ → Type 0
-IsNotingAt kind front x (Some i) day c = IsReplacingEntry (table_of kind) i (with_similar kind (similar_next kind x day) front) x c
-IsNotingAt kind front x None (Some i) c = OrUnwritten (IsSet (table_of kind) i (similar_place kind) (similar_next kind x (Some i) ∷ [])) x c
+IsNotingAt kind front x (Some i) day c = IsReplacingEntry (table_of kind) i
+    (with_similar kind (similar_next kind x day) front) x c
+IsNotingAt kind front x None (Some i) c = OrUnwritten
+    (IsSet (table_of kind) i (similar_place kind) (similar_next kind x (Some i) ∷ [])) x c
 IsNotingAt kind front x None None c = c ≡ x
 
 -- a moment of the noting of an event: nothing changes but the places of its type
@@ -77,7 +82,8 @@ with_first begin x = if number_of x FIRST_OVER == 0 then put FIRST_OVER.place (t
 -- at most 255
 abbrev pub with_one_more : List ℕ → List ℕ
 with_one_more x =
-    if nat_lt (number_of x OVER_COUNT) 255 then put OVER_COUNT.place (to_be_bytes w32 (number_of x OVER_COUNT + 1)) x else x
+    if nat_lt (number_of x OVER_COUNT) 255 then put OVER_COUNT.place (to_be_bytes w32 (number_of x OVER_COUNT + 1)) x
+    else x
 
 -- a write of a number is whole or absent
 abbrev pub OrTurned : (List ℕ → List ℕ) → List ℕ → List ℕ → Type 0
@@ -87,7 +93,9 @@ OrTurned f x c = (c ≡ x) ⊎ (c ≡ f x)
 abbrev pub IsNotingOver : (begin : ℕ) → (front x c : List ℕ) → Type 0
 IsNotingOver begin front x c =
     IsNotingEvent OVER_SPEEDING front x c
-    ⊎ ((y : List ℕ) × IsEventNoted OVER_SPEEDING front x y × ((c ≡ with_first begin y) ⊎ (c ≡ with_one_more (with_first begin y))))
+    ⊎ ((y : List ℕ) × IsEventNoted OVER_SPEEDING front x y
+    × ((c ≡ with_first begin y) ⊎ (c ≡ with_one_more (with_first begin y))))
 
 abbrev pub IsOverNoted : (begin : ℕ) → (front x c : List ℕ) → Type 0
-IsOverNoted begin front x c = (y : List ℕ) × IsEventNoted OVER_SPEEDING front x y × (c ≡ with_one_more (with_first begin y))
+IsOverNoted begin front x c = (y : List ℕ) × IsEventNoted OVER_SPEEDING front x y
+    × (c ≡ with_one_more (with_first begin y))

@@ -17,7 +17,8 @@ all_events = record { base = EVENTS.place; width = total_width event_widths; cou
 
 -- the entries in the bytes of the places of a type
 abbrev pub rows_in : ℕ → List ℕ → List (List ℕ)
-rows_in kind bytes = map (λ i. bytes_at bytes (i * total_width (widths_of kind)) (total_width (widths_of kind))) (range_with_len 0 (places_of kind))
+rows_in kind bytes = map (λ i. bytes_at bytes (i * total_width (widths_of kind)) (total_width (widths_of kind)))
+    (range_with_len 0 (places_of kind))
 
 -- the held events of a type, one at each place; an empty place has the begin 0
 unfoldable pub held_table : ℕ → List ℕ → List Held

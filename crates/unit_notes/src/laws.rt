@@ -23,25 +23,33 @@ pub fn an_entry_tells_its_insertion()
 
 /// The entry of a place tells it, with the card's number.
 pub fn an_entry_tells_its_place()
-    ensures { (number : FullCardNumber) (v : PlaceEntry) → length (card_number_bytes number) ≡ 18 → v.time.0 < 2 ^ 32 → v.odometer.0 < 2 ^ 24 → TellsPlace number v (unit_place_bytes number v) }
+    ensures { (number : FullCardNumber) (v : PlaceEntry) → length (card_number_bytes number) ≡ 18 → v.time.0 < 2 ^ 32
+        → v.odometer.0 < 2 ^ 24 → TellsPlace number v (unit_place_bytes number v) }
 {}
 
 /// What is noted of an event or a fault of a run tells it: all types but over speeding.
 pub fn a_front_tells_its_event()
-    ensures { (number : Card → List ℕ) (e : Event) (v : UnitEvent) → ((card : Card) → length (number card) ≡ 18) → e.kind ≢ OVER_SPEEDING → e.begin < 2 ^ 32 → e.end < 2 ^ 32 → IsEventOf number e v → IsFrontOf number e (fault_bytes v) }
+    ensures { (number : Card → List ℕ) (e : Event) (v : UnitEvent) → ((card : Card) → length (number card) ≡ 18)
+        → e.kind ≢ OVER_SPEEDING → e.begin < 2 ^ 32 → e.end < 2 ^ 32 → IsEventOf number e v
+        → IsFrontOf number e (fault_bytes v) }
 {}
 
 /// And of an over speeding.
 pub fn a_front_tells_its_over_speeding()
-    ensures { (number : Card → List ℕ) (e : Event) (over : Over) (driver : FullCardNumber) → ((card : Card) → length (number card) ≡ 18) → e.begin < 2 ^ 32 → e.end < 2 ^ 32 → IsOverOf number e over driver → IsFrontOf number e (over_bytes over driver) }
+    ensures { (number : Card → List ℕ) (e : Event) (over : Over) (driver : FullCardNumber)
+        → ((card : Card) → length (number card) ≡ 18) → e.begin < 2 ^ 32 → e.end < 2 ^ 32
+        → IsOverOf number e over driver → IsFrontOf number e (over_bytes over driver) }
 {}
 
 /// After the noting of an event of a run the places of its type hold it as the run is to leave it there.
 pub fn the_places_of_its_type_have_it_noted()
-    ensures { (number : Card → List ℕ) (e : Event) (front x y : List ℕ) → length x ≡ IMAGE_SIZE → IsFrontOf number e front → IsEventNoted e.kind front x y → IsNoted number (table_in e.kind x) e (table_in e.kind y) }
+    ensures { (number : Card → List ℕ) (e : Event) (front x y : List ℕ) → length x ≡ IMAGE_SIZE
+        → IsFrontOf number e front → IsEventNoted e.kind front x y
+        → IsNoted number (table_in e.kind x) e (table_in e.kind y) }
 {}
 
 /// The events that a unit holds of a type after a note are those that were held, with this one noted.
 pub fn the_held_events_are_those_noted()
-    ensures { (kind : ℕ) (front x y : List ℕ) → length x ≡ IMAGE_SIZE → length front ≡ front_size kind → IsEventNoted kind front x y → held_table kind y ≡ noted kind (held_table kind x) (held_in kind front) }
+    ensures { (kind : ℕ) (front x y : List ℕ) → length x ≡ IMAGE_SIZE → length front ≡ front_size kind
+        → IsEventNoted kind front x y → held_table kind y ≡ noted kind (held_table kind x) (held_in kind front) }
 {}

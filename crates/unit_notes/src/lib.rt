@@ -1,6 +1,6 @@
-//! What a unit notes beside its minutes (profile): insertions and withdrawals of cards, places, events, over speedings and
-//! faults, each in its ring. An entry appears whole: a stop at a moment of a call leaves the entry whose place is taken, no
-//! entry there, or the new one. Which event makes room for a new one: Annex IB, section III.12.
+//! What a unit notes beside its minutes (profile): insertions and withdrawals of cards, places, events, over speedings
+//! and faults, each in its ring. An entry appears whole: a stop at a moment of a call leaves the entry whose place is
+//! taken, no entry there, or the new one. Which event makes room for a new one: Annex IB, section III.12.
 #![tactic(auto)]
 
 mod insertion;

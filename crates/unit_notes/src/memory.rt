@@ -10,7 +10,8 @@ ghost use Rattle.message_model.specs.Records.{insertion_ring, unit_place_ring};
 ghost use Rattle.note_model.specs.Tables.{table_of};
 ghost use Rattle.unit_notes.specs.Entries.{insertion_bytes, unit_place_bytes, fault_bytes, over_bytes};
 ghost use Rattle.unit_notes.specs.Journal.{LeavesJournal};
-ghost use Rattle.unit_notes.specs.Noting.{IsWithdrawing, IsWithdrawn, IsNotingEvent, IsEventNoted, IsNotingOver, IsOverNoted};
+ghost use Rattle.unit_notes.specs.Noting.{IsWithdrawing, IsWithdrawn, IsNotingEvent, IsEventNoted, IsNotingOver};
+ghost use Rattle.unit_notes.specs.Noting.{IsOverNoted};
 ghost use Rattle.unit_notes.specs.Tables.{all_events};
 
 use crate::insertion::write_insertion;
@@ -28,11 +29,12 @@ use tach_media::{Failed, Medium};
 use tacho_types::{FullCardNumber, Odometer, PlaceEntry, TimeReal, write_odometer, write_time};
 use unit_memory::UnitMemory;
 
-/// What the memory of a unit notes beside its minutes, in its rings (profile). The unit is the one that the memory was loaded
-/// from, so the pointers of its rings are indices, as each note leaves them.
+/// What the memory of a unit notes beside its minutes, in its rings (profile). The unit is the one that the memory was
+/// loaded from, so the pointers of its rings are indices, as each note leaves them.
 ///
-/// An entry appears whole: a stop at a moment of a call leaves the entry whose place is taken, no entry there, or the new one.
-/// Version and vehicle, last-kept minute, odometer, owed rows and days stay, at each moment, and a unit that decoded still does.
+/// An entry appears whole: a stop at a moment of a call leaves the entry whose place is taken, no entry there, or the
+/// new one. Version and vehicle, last-kept minute, odometer, owed rows and days stay, at each moment, and a unit that
+/// decoded still does.
 pub trait UnitNotes {
     /// The ring of insertions, for reading.
     fn insertions(&self) -> Ring
@@ -42,8 +44,8 @@ pub trait UnitNotes {
     fn places(&self) -> Ring
         ensures { result ≡ unit_place_ring };
 
-    /// The places of all events but over speedings, for reading: ten of each of the types 01, 03, 04, 05, 06 and 08, one type
-    /// after the other.
+    /// The places of all events but over speedings, for reading: ten of each of the types 01, 03, 04, 05, 06 and 08,
+    /// one type after the other.
     fn events(&self) -> Ring
         ensures { result ≡ all_events };
 
@@ -65,19 +67,25 @@ pub trait UnitNotes {
         requires time { entry.now.time.0 ≢ 0 }
         requires odometer { entry.now.odometer.0 < 2 ^ 24 }
         requires out_odometer { entry.now.out_odometer.0 < 2 ^ 24 }
-        ensures index { IfOk result (λ index. IfSome (M.state unit.old).image (λ x. PointsInside insertion_ring x → index ≡ taken insertion_ring x)) }
+        ensures index { IfOk result (λ index.
+            IfSome (M.state unit.old).image (λ x. PointsInside insertion_ring x → index ≡ taken insertion_ring x)) }
         ensures below { IfOk result (λ index. index < insertion_ring.count) }
-        ensures noted { OnOk result (IfSome (M.state unit.old).image (λ x. IfSome (M.state unit.new).image (IsAdded insertion_ring (insertion_bytes entry.now) x))) }
-        ensures moments { LeavesOnly (M.state unit.old) (M.state unit.new) (IsAdding insertion_ring (insertion_bytes entry.now)) }
+        ensures noted { OnOk result (IfSome (M.state unit.old).image
+            (λ x. IfSome (M.state unit.new).image (IsAdded insertion_ring (insertion_bytes entry.now) x))) }
+        ensures moments { LeavesOnly (M.state unit.old) (M.state unit.new)
+            (IsAdding insertion_ring (insertion_bytes entry.now)) }
         ensures journal { LeavesOnly (M.state unit.old) (M.state unit.new) LeavesJournal }
         ensures settled { OnOk result ((M.state unit.new).clock < last_count → IsSettled (M.state unit.new)) }
         ensures clock { OnOk result (Rose (M.state unit.old).clock (M.state unit.new).clock) }
         ensures cause { HasCause (M.state unit.old) (M.state unit.new) (is_err result) }
         ensures most { (M.state unit.new).clock ≤ (M.state unit.old).clock + 5 }
-        ensures writes { IfSome (M.state unit.old).image (λ x. PointsInside insertion_ring x → (M.state unit.new).clock ≤ (M.state unit.old).clock + adding_writes insertion_ring x) };
+        ensures writes { IfSome (M.state unit.old).image
+            (λ x. PointsInside insertion_ring x
+            → (M.state unit.new).clock ≤ (M.state unit.old).clock + adding_writes insertion_ring x) };
 
-    /// Notes the withdrawal of the card of an insertion, by the index that [`note_insertion`](UnitNotes::note_insertion)
-    /// answered: the time, and then the odometer. A stop leaves each of them written or not, the odometer only behind the time.
+    /// Notes the withdrawal of the card of an insertion, by the index that
+    /// [`note_insertion`](UnitNotes::note_insertion) answered: the time, and then the odometer. A stop leaves each of
+    /// them written or not, the odometer only behind the time.
     ///
     /// # Errors
     ///
@@ -92,7 +100,8 @@ pub trait UnitNotes {
         requires unit { IsUnit (M.state unit.old) }
         requires index { index < insertion_ring.count }
         requires odometer { odometer.0 < 2 ^ 24 }
-        ensures noted { OnOk result (IfSome (M.state unit.old).image (λ x. IfSome (M.state unit.new).image (IsWithdrawn index time odometer x))) }
+        ensures noted { OnOk result (IfSome (M.state unit.old).image
+            (λ x. IfSome (M.state unit.new).image (IsWithdrawn index time odometer x))) }
         ensures moments { LeavesOnly (M.state unit.old) (M.state unit.new) (IsWithdrawing index time odometer) }
         ensures journal { LeavesOnly (M.state unit.old) (M.state unit.new) LeavesJournal }
         ensures settled { OnOk result ((M.state unit.new).clock < last_count → IsSettled (M.state unit.new)) }
@@ -114,18 +123,23 @@ pub trait UnitNotes {
         requires unit { IsUnit (M.state unit.old) }
         requires time { entry.now.time.0 ≢ 0 }
         requires odometer { entry.now.odometer.0 < 2 ^ 24 }
-        ensures noted { OnOk result (IfSome (M.state unit.old).image (λ x. IfSome (M.state unit.new).image (IsAdded unit_place_ring (unit_place_bytes number.now entry.now) x))) }
-        ensures moments { LeavesOnly (M.state unit.old) (M.state unit.new) (IsAdding unit_place_ring (unit_place_bytes number.now entry.now)) }
+        ensures noted { OnOk result (IfSome (M.state unit.old).image
+            (λ x. IfSome (M.state unit.new).image
+            (IsAdded unit_place_ring (unit_place_bytes number.now entry.now) x))) }
+        ensures moments { LeavesOnly (M.state unit.old) (M.state unit.new)
+            (IsAdding unit_place_ring (unit_place_bytes number.now entry.now)) }
         ensures journal { LeavesOnly (M.state unit.old) (M.state unit.new) LeavesJournal }
         ensures settled { OnOk result ((M.state unit.new).clock < last_count → IsSettled (M.state unit.new)) }
         ensures clock { OnOk result (Rose (M.state unit.old).clock (M.state unit.new).clock) }
         ensures cause { HasCause (M.state unit.old) (M.state unit.new) (is_err result) }
         ensures most { (M.state unit.new).clock ≤ (M.state unit.old).clock + 5 }
-        ensures writes { IfSome (M.state unit.old).image (λ x. PointsInside unit_place_ring x → (M.state unit.new).clock ≤ (M.state unit.old).clock + adding_writes unit_place_ring x) };
+        ensures writes { IfSome (M.state unit.old).image
+            (λ x. PointsInside unit_place_ring x
+            → (M.state unit.new).clock ≤ (M.state unit.old).clock + adding_writes unit_place_ring x) };
 
-    /// Notes an event of the types 01, 03, 04, 05, 06 or 08, with its purpose (Annex IB, section III.12): at the place of the
-    /// event of its day where that measures less, else in an empty place, else in that of the earliest begin, where it begins
-    /// later. Where it is not kept, the event of its day counts it as similar.
+    /// Notes an event of the types 01, 03, 04, 05, 06 or 08, with its purpose (Annex IB, section III.12): at the place
+    /// of the event of its day where that measures less, else in an empty place, else in that of the earliest begin,
+    /// where it begins later. Where it is not kept, the event of its day counts it as similar.
     ///
     /// # Errors
     ///
@@ -135,16 +149,18 @@ pub trait UnitNotes {
         requires kind { IsTrue (is_event event.now.kind && not (event.now.kind == OVER_SPEEDING)) }
         requires purpose { event.now.purpose ≡ purpose_number (purpose_of event.now.kind) }
         requires begin { event.now.begin.0 ≢ 0 }
-        ensures noted { OnOk result (IfSome (M.state unit.old).image (λ x. IfSome (M.state unit.new).image (IsEventNoted event.now.kind (fault_bytes event.now) x))) }
-        ensures moments { LeavesOnly (M.state unit.old) (M.state unit.new) (IsNotingEvent event.now.kind (fault_bytes event.now)) }
+        ensures noted { OnOk result (IfSome (M.state unit.old).image
+            (λ x. IfSome (M.state unit.new).image (IsEventNoted event.now.kind (fault_bytes event.now) x))) }
+        ensures moments { LeavesOnly (M.state unit.old) (M.state unit.new)
+            (IsNotingEvent event.now.kind (fault_bytes event.now)) }
         ensures journal { LeavesOnly (M.state unit.old) (M.state unit.new) LeavesJournal }
         ensures settled { OnOk result (StaysSettled (M.state unit.old) (M.state unit.new)) }
         ensures cause { HasCause (M.state unit.old) (M.state unit.new) (is_err result) }
         ensures most { (M.state unit.new).clock ≤ (M.state unit.old).clock + 4 };
 
-    /// Notes an over speeding with the driver's card number at its begin, zeros without a card (Annex IB, section III.12): its
-    /// entry as an event of one of the last ten days, of the highest average speed; then its begin as that of the first one,
-    /// where none is held; then the number of over speedings, one more, at most 255 (profile).
+    /// Notes an over speeding with the driver's card number at its begin, zeros without a card (Annex IB, section
+    /// III.12): its entry as an event of one of the last ten days, of the highest average speed; then its begin as that
+    /// of the first one, where none is held; then the number of over speedings, one more, at most 255 (profile).
     ///
     /// # Errors
     ///
@@ -157,14 +173,17 @@ pub trait UnitNotes {
     ) -> Result<(), Failed>
         requires unit { IsUnit (M.state unit.old) }
         requires begin { over.now.begin ≢ 0 }
-        ensures noted { OnOk result (IfSome (M.state unit.old).image (λ x. IfSome (M.state unit.new).image (IsOverNoted over.now.begin (over_bytes over.now driver.now) x))) }
-        ensures moments { LeavesOnly (M.state unit.old) (M.state unit.new) (IsNotingOver over.now.begin (over_bytes over.now driver.now)) }
+        ensures noted { OnOk result (IfSome (M.state unit.old).image
+            (λ x. IfSome (M.state unit.new).image (IsOverNoted over.now.begin (over_bytes over.now driver.now) x))) }
+        ensures moments { LeavesOnly (M.state unit.old) (M.state unit.new)
+            (IsNotingOver over.now.begin (over_bytes over.now driver.now)) }
         ensures journal { LeavesOnly (M.state unit.old) (M.state unit.new) LeavesJournal }
         ensures settled { OnOk result (StaysSettled (M.state unit.old) (M.state unit.new)) }
         ensures cause { HasCause (M.state unit.old) (M.state unit.new) (is_err result) }
         ensures most { (M.state unit.new).clock ≤ (M.state unit.old).clock + 6 };
 
-    /// Notes a fault of type 40, with its purpose: in an empty place, else in that of the earliest begin, where it begins later.
+    /// Notes a fault of type 40, with its purpose: in an empty place, else in that of the earliest begin, where it
+    /// begins later.
     ///
     /// # Errors
     ///
@@ -174,8 +193,10 @@ pub trait UnitNotes {
         requires kind { event.now.kind ≡ CARD_FAULT }
         requires purpose { event.now.purpose ≡ purpose_number (purpose_of event.now.kind) }
         requires begin { event.now.begin.0 ≢ 0 }
-        ensures noted { OnOk result (IfSome (M.state unit.old).image (λ x. IfSome (M.state unit.new).image (IsEventNoted event.now.kind (fault_bytes event.now) x))) }
-        ensures moments { LeavesOnly (M.state unit.old) (M.state unit.new) (IsNotingEvent event.now.kind (fault_bytes event.now)) }
+        ensures noted { OnOk result (IfSome (M.state unit.old).image
+            (λ x. IfSome (M.state unit.new).image (IsEventNoted event.now.kind (fault_bytes event.now) x))) }
+        ensures moments { LeavesOnly (M.state unit.old) (M.state unit.new)
+            (IsNotingEvent event.now.kind (fault_bytes event.now)) }
         ensures journal { LeavesOnly (M.state unit.old) (M.state unit.new) LeavesJournal }
         ensures settled { OnOk result (StaysSettled (M.state unit.old) (M.state unit.new)) }
         ensures cause { HasCause (M.state unit.old) (M.state unit.new) (is_err result) }

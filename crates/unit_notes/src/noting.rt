@@ -1,5 +1,6 @@
 //! The noting of events and faults.
-ghost use Rattle.std.specs.Prelude.{◌≡◌, ◌≢◌, ◌≤◌, ◌<◌, ◌+◌, ◌*◌, [], ◌∷◌, length, map, IfOk, IfSome, None, OnOk, is_err, true};
+ghost use Rattle.std.specs.Prelude.{◌≡◌, ◌≢◌, ◌≤◌, ◌<◌, ◌+◌, ◌*◌, [], ◌∷◌, length, map, IfOk, IfSome, None, OnOk};
+ghost use Rattle.std.specs.Prelude.{is_err, true};
 ghost use Rattle.card_layout.specs.Fields.{total_width};
 ghost use Rattle.tach_media.specs.Medium.{Reads, LeavesOnly, HasCause, IsSettled, StaysSettled, last_count};
 ghost use Rattle.unit_model.specs.Image.{IsUnit};
@@ -7,7 +8,8 @@ ghost use Rattle.event_model.specs.Kinds.{places_of};
 ghost use Rattle.event_model.specs.Places.{place_of, day_place, similar_after};
 ghost use Rattle.gated_ring.specs.Change.{IsReplaced, IsReplacingEntry, IsSet, OrUnwritten};
 ghost use Rattle.note_model.specs.Tables.{widths_of, table_of, held_in, similar_field, similar_at};
-ghost use Rattle.unit_notes.specs.Tables.{rows_in, place_taken, place_of_day, similar_next, similar_place, front_size, with_similar};
+ghost use Rattle.unit_notes.specs.Tables.{rows_in, place_taken, place_of_day, similar_next, similar_place, front_size};
+ghost use Rattle.unit_notes.specs.Tables.{with_similar};
 ghost use Rattle.unit_notes.specs.Noting.{IsNotingEvent, IsEventNoted};
 
 use crate::tables::{
@@ -31,7 +33,8 @@ fn choice_in(kind: u8, table: &[u8], event: &Held) -> Choice
     requires { length table.now ≡ places_of kind * total_width (widths_of kind) }
     ensures place { result.place ≡ place_of kind (map (held_in kind) (rows_in kind table.now)) event.now }
     ensures day { result.day ≡ day_place kind (map (held_in kind) (rows_in kind table.now)) event.now }
-    ensures similar { result.similar ≡ similar_after (similar_at kind (rows_in kind table.now) (similar_field kind) result.day) }
+    ensures similar { result.similar
+        ≡ similar_after (similar_at kind (rows_in kind table.now) (similar_field kind) result.day) }
     ensures place_below { IfSome result.place (λ i. i < places_of kind) }
     ensures day_below { IfSome result.day (λ i. i < places_of kind) }
 {
@@ -87,8 +90,11 @@ fn put_entry<M: Medium>(
     requires place { place < places_of kind }
     requires front { length front.now ≡ front_size kind }
     requires begin { (held_in kind front.now).begin ≢ 0 }
-    ensures replaced { OnOk result (IfSome (M.state unit.old).image (λ x. IfSome (M.state unit.new).image (IsReplaced (table_of kind) place (with_similar kind similar front.now) x))) }
-    ensures moments { LeavesOnly (M.state unit.old) (M.state unit.new) (IsReplacingEntry (table_of kind) place (with_similar kind similar front.now)) }
+    ensures replaced { OnOk result (IfSome (M.state unit.old).image
+        (λ x. IfSome (M.state unit.new).image
+        (IsReplaced (table_of kind) place (with_similar kind similar front.now) x))) }
+    ensures moments { LeavesOnly (M.state unit.old) (M.state unit.new)
+        (IsReplacingEntry (table_of kind) place (with_similar kind similar front.now)) }
     ensures settled { OnOk result ((M.state unit.new).clock < last_count → IsSettled (M.state unit.new)) }
     ensures cause { HasCause (M.state unit.old) (M.state unit.new) (is_err result) }
     ensures most { (M.state unit.new).clock ≤ (M.state unit.old).clock + 4 }
@@ -101,8 +107,10 @@ fn put_entry<M: Medium>(
 fn count_similar<M: Medium>(unit: &mut M, kind: u8, place: u8, similar: u8) -> Result<(), Failed>
     requires unit { IsUnit (M.state unit.old) }
     requires place { place < places_of kind }
-    ensures set { OnOk result (IfSome (M.state unit.old).image (λ x. IfSome (M.state unit.new).image (IsSet (table_of kind) place (similar_place kind) (similar ∷ []) x))) }
-    ensures moments { LeavesOnly (M.state unit.old) (M.state unit.new) (OrUnwritten (IsSet (table_of kind) place (similar_place kind) (similar ∷ []))) }
+    ensures set { OnOk result (IfSome (M.state unit.old).image
+        (λ x. IfSome (M.state unit.new).image (IsSet (table_of kind) place (similar_place kind) (similar ∷ []) x))) }
+    ensures moments { LeavesOnly (M.state unit.old) (M.state unit.new)
+        (OrUnwritten (IsSet (table_of kind) place (similar_place kind) (similar ∷ []))) }
     ensures settled { OnOk result ((M.state unit.new).clock < last_count → IsSettled (M.state unit.new)) }
     ensures cause { HasCause (M.state unit.old) (M.state unit.new) (is_err result) }
     ensures most { (M.state unit.new).clock ≤ (M.state unit.old).clock + 1 }
@@ -116,7 +124,8 @@ pub fn note<M: Medium>(unit: &mut M, kind: u8, front: &[u8]) -> Result<(), Faile
     requires unit { IsUnit (M.state unit.old) }
     requires front { length front.now ≡ front_size kind }
     requires begin { (held_in kind front.now).begin ≢ 0 }
-    ensures noted { OnOk result (IfSome (M.state unit.old).image (λ x. IfSome (M.state unit.new).image (IsEventNoted kind front.now x))) }
+    ensures noted { OnOk result (IfSome (M.state unit.old).image
+        (λ x. IfSome (M.state unit.new).image (IsEventNoted kind front.now x))) }
     ensures moments { LeavesOnly (M.state unit.old) (M.state unit.new) (IsNotingEvent kind front.now) }
     ensures settled { OnOk result (StaysSettled (M.state unit.old) (M.state unit.new)) }
     ensures cause { HasCause (M.state unit.old) (M.state unit.new) (is_err result) }
@@ -142,7 +151,8 @@ fn count_on_day<M: Medium>(
     requires day { IfSome (M.state unit.old).image (λ x. choice.day ≡ place_of_day kind front.now x) }
     requires similar { IfSome (M.state unit.old).image (λ x. choice.similar ≡ similar_next kind x choice.day) }
     requires day_below { IfSome choice.day (λ i. i < places_of kind) }
-    ensures noted { OnOk result (IfSome (M.state unit.old).image (λ x. IfSome (M.state unit.new).image (IsEventNoted kind front.now x))) }
+    ensures noted { OnOk result (IfSome (M.state unit.old).image
+        (λ x. IfSome (M.state unit.new).image (IsEventNoted kind front.now x))) }
     ensures moments { LeavesOnly (M.state unit.old) (M.state unit.new) (IsNotingEvent kind front.now) }
     ensures settled { OnOk result (StaysSettled (M.state unit.old) (M.state unit.new)) }
     ensures cause { HasCause (M.state unit.old) (M.state unit.new) (is_err result) }

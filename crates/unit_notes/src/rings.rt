@@ -67,8 +67,10 @@ pub fn set_part<M: Medium>(
     requires inside { offset + length bytes.now ≤ Insertion.SIZE }
     requires some { 0 < length bytes.now }
     requires few { length bytes.now ≤ 4 }
-    ensures set { OnOk result (IfSome (M.state unit.old).image (λ x. IfSome (M.state unit.new).image (IsSet insertion_ring index offset bytes.now x))) }
-    ensures moments { LeavesOnly (M.state unit.old) (M.state unit.new) (OrUnwritten (IsSet insertion_ring index offset bytes.now)) }
+    ensures set { OnOk result (IfSome (M.state unit.old).image
+        (λ x. IfSome (M.state unit.new).image (IsSet insertion_ring index offset bytes.now x))) }
+    ensures moments { LeavesOnly (M.state unit.old) (M.state unit.new)
+        (OrUnwritten (IsSet insertion_ring index offset bytes.now)) }
     ensures settled { OnOk result ((M.state unit.new).clock < last_count → IsSettled (M.state unit.new)) }
     ensures clock { OnOk result (Rose (M.state unit.old).clock (M.state unit.new).clock) }
     ensures cause { HasCause (M.state unit.old) (M.state unit.new) (is_err result) }

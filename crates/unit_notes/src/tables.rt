@@ -109,8 +109,8 @@ pub fn table_of(kind: u8) -> Ring
     places_at(base_of(kind), width_of(kind), count_of(kind))
 }
 
-/// The places of all events but over speedings, for reading: ten of each of the types 01, 03, 04, 05, 06 and 08, one type
-/// after the other.
+/// The places of all events but over speedings, for reading: ten of each of the types 01, 03, 04, 05, 06 and 08, one
+/// type after the other.
 pub fn events() -> Ring
     ensures { result ≡ all_events }
 {

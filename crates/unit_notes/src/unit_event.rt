@@ -21,8 +21,8 @@ pub struct UnitEvent {
     pub codriver_begin: FullCardNumber,
     pub driver_end: FullCardNumber,
     pub codriver_end: FullCardNumber,
-    /// The number of similar events of its day. A call that notes an event counts them itself, and looks at no number that is
-    /// handed in.
+    /// The number of similar events of its day. A call that notes an event counts them itself, and looks at no number
+    /// that is handed in.
     pub similar: u8,
 }
 
@@ -50,7 +50,8 @@ pub fn write_fault(v: &UnitEvent, out: &mut [u8])
 // Writes the card numbers of an event.
 fn write_cards(v: &UnitEvent, out: &mut [u8])
     requires size { length out.old ≡ 72 }
-    ensures bytes { out.new ≡ joined (card_number_bytes v.now.driver_begin ∷ card_number_bytes v.now.codriver_begin ∷ card_number_bytes v.now.driver_end ∷ card_number_bytes v.now.codriver_end ∷ []) }
+    ensures bytes { out.new ≡ joined (card_number_bytes v.now.driver_begin ∷ card_number_bytes v.now.codriver_begin
+        ∷ card_number_bytes v.now.driver_end ∷ card_number_bytes v.now.codriver_end ∷ []) }
 {
     let (driver_begin, out) = out.split_at_mut(FullCardNumber::SIZE);
     write_card_number(&v.driver_begin, driver_begin);

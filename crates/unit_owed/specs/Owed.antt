@@ -1,12 +1,15 @@
--- What a unit owes to cards: eight rows, each with the session time of a card, its number, and four cells of a minute and a word (profile).
-use Rattle.std.specs.Prelude.{ℕ, ◌+◌, ◌*◌, ◌/◌, ◌%◌, Bool, not, ◌&&◌, ◌==◌, nat_eq, nat_le, nat_lt, Option, Some, None, List, [], ◌∷◌, find, filter, fold, map, option_map, if◌then◌else◌}
+-- What a unit owes to cards: eight rows, each with the session time of a card, its number, and four cells of a minute
+-- and a word (profile).
+use Rattle.std.specs.Prelude.{ℕ, ◌+◌, ◌*◌, ◌/◌, ◌%◌, Bool, not, ◌&&◌, ◌==◌, nat_eq, nat_le, nat_lt, Option, Some, None}
+use Rattle.std.specs.Prelude.{List, [], ◌∷◌, find, filter, fold, map, option_map, if◌then◌else◌}
 use Rattle.std.specs.List.{range_with_len, insert, prefix_len}
 use Rattle.std.specs.Cmp.Lexicographic.{pointwise}
 use Rattle.activity_codec.specs.declared.entries.Entry.{Entry}
 use Rattle.activity_codec.specs.Words.{word_slot, word_crew, word_act}
 use Rattle.tach_media.specs.Medium.{bytes_at}
 use Rattle.unit_model.specs.Ring.{number_at}
-use Rattle.unit_model.specs.declared.layout.TheConstants.{OWED, OWED_ROWS, OWED_ROW_SIZE, CELLS, CELL_SIZE, ROW_SESSION, ROW_NUMBER, ROW_CELLS, CELL_MINUTE, CELL_WORD}
+use Rattle.unit_model.specs.declared.layout.TheConstants.{OWED, OWED_ROWS, OWED_ROW_SIZE, CELLS, CELL_SIZE, ROW_SESSION}
+use Rattle.unit_model.specs.declared.layout.TheConstants.{ROW_NUMBER, ROW_CELLS, CELL_MINUTE, CELL_WORD}
 use Rattle.unit_model.specs.Image.{last_kept}
 
 -- the bytes of the rows; the places below are counted from their begin
@@ -37,7 +40,10 @@ abbrev pub number_in : List ℕ → ℕ → List ℕ
 number_in rows r = bytes_at rows (row_begin r + ROW_NUMBER.place) ROW_NUMBER.size
 
 abbrev pub cell_in : List ℕ → (row cell : ℕ) → Cell
-cell_in rows r i = record { minute = number_at rows (cell_begin r i) CELL_MINUTE.size; word = number_at rows (cell_begin r i + CELL_WORD.place) CELL_WORD.size }
+cell_in rows r i = record {
+  minute = number_at rows (cell_begin r i) CELL_MINUTE.size;
+  word = number_at rows (cell_begin r i + CELL_WORD.place) CELL_WORD.size;
+}
 
 abbrev pub row_in : List ℕ → ℕ → OwedRow
 row_in rows r = record { session = session_in rows r; cells = map (cell_in rows r) (range_with_len 0 CELLS) }
@@ -73,7 +79,8 @@ placed es e = insert es (prefix_len (λ f. nat_lt f.minute e.minute) es) e
 abbrev pub in_order : List Entry → List Entry
 in_order es = fold placed [] es
 
--- a minute counts that is not earlier than the session's, later than what the card holds, and not later than the last-kept one
+-- a minute counts that is not earlier than the session's, later than what the card holds, and not later than the
+-- last-kept one
 abbrev pub counts : (session after kept minute : ℕ) → Bool
 counts session after kept m = nat_le (session / 60) m && (nat_lt after m && nat_le m kept)
 
@@ -83,7 +90,8 @@ counted session after kept es = filter (λ e. counts session after kept e.minute
 -- what is owed of a row, where its session is the card's
 abbrev pub owed_of : (session after kept : ℕ) → Option OwedRow → List Entry
 owed_of session after kept None = []
-owed_of session after kept (Some row) = if row.session == session then in_order (counted session after kept (cell_entries 0 row.cells)) else []
+owed_of session after kept (Some row) = if row.session == session
+    then in_order (counted session after kept (cell_entries 0 row.cells)) else []
 
 -- the entries owed to the card of a number, in order of minutes
 unfoldable pub owed_to : (image number : List ℕ) → (session after : ℕ) → List Entry

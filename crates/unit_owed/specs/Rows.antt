@@ -1,5 +1,6 @@
 -- The writes that begin a row and that put an entry into one, and what they leave (profile).
-use Rattle.std.specs.Prelude.{◌≡◌, ◌≢◌, ◌⊎◌, ℕ, ◌+◌, ◌%◌, ◌<◌, Bool, false, ◌==◌, nat_lt, Option, Some, None, List, [], ◌∷◌, slice_set, map, find, fold, if◌then◌else◌}
+use Rattle.std.specs.Prelude.{◌≡◌, ◌≢◌, ◌⊎◌, ℕ, ◌+◌, ◌%◌, ◌<◌, Bool, false, ◌==◌, nat_lt, Option, Some, None, List, []}
+use Rattle.std.specs.Prelude.{◌∷◌, slice_set, map, find, fold, if◌then◌else◌}
 use Rattle.std.specs.List.{range_with_len}
 use Rattle.std.specs.Int.{to_be_bytes, w16, w32}
 use Rattle.activity_codec.specs.declared.entries.Entry.{Entry}
@@ -8,11 +9,18 @@ use Rattle.tach_media.specs.Medium.{SameOutside}
 use Rattle.tach_media.specs.Plan.{Piece, piece}
 use Rattle.unit_model.specs.declared.layout.TheConstants.{OWED, OWED_ROWS, ROW_NUMBER, CELL_WORD}
 use Rattle.unit_model.specs.Decoding.{Decodes}
-use Rattle.unit_owed.specs.Owed.{Cell, OwedRow, rows_in, row_begin, cell_begin, session_in, number_in, row_in, row_index, row_of}
+use Rattle.unit_owed.specs.Owed.{Cell, OwedRow, rows_in, row_begin, cell_begin, session_in, number_in, row_in}
+use Rattle.unit_owed.specs.Owed.{row_index, row_of}
 
 -- the word of an entry: its slot, its crew and its activity, with a card, at its minute of the day
 abbrev pub entry_word : Entry → ℕ
-entry_word e = word_of (record { slot = e.slot; crew_or_known = e.crew; absent = false; act = e.act; minute = e.minute % 1440 })
+entry_word e = word_of (record {
+  slot = e.slot;
+  crew_or_known = e.crew;
+  absent = false;
+  act = e.act;
+  minute = e.minute % 1440;
+})
 
 -- an entry into a row's cell at its minute modulo 4: the minute to 0, the word, the minute
 abbrev pub cell_pieces : (row minute word : ℕ) → List Piece
@@ -44,7 +52,8 @@ is_this_row (Some s) r = s == r
 
 abbrev pub lesser : (rows : List ℕ) → (spared : Option ℕ) → Option ℕ → ℕ → Option ℕ
 lesser rows spared None r = if is_this_row spared r then None else Some r
-lesser rows spared (Some b) r = if is_this_row spared r then Some b else (if nat_lt (session_in rows r) (session_in rows b) then Some r else Some b)
+lesser rows spared (Some b) r = if is_this_row spared r then Some b
+    else (if nat_lt (session_in rows r) (session_in rows b) then Some r else Some b)
 
 abbrev pub least : (rows : List ℕ) → (spared : Option ℕ) → Option ℕ
 least rows spared = fold (lesser rows spared) None (range_with_len 0 OWED_ROWS)
@@ -61,9 +70,11 @@ abbrev pub spared_index : Option (List ℕ) → (rows : List ℕ) → Option ℕ
 spared_index None rows = None
 spared_index (Some number) rows = row_index number rows
 
--- the row that is begun for a number: its own, else the lowest empty one, else the one with the least session time, but not the spared number's
+-- the row that is begun for a number: its own, else the lowest empty one, else the one with the least session time, but
+-- not the spared number's
 abbrev pub begun_index : (number : List ℕ) → (spared : Option (List ℕ)) → (rows : List ℕ) → Option ℕ
-begun_index number spared rows = or_else (row_index number rows) (or_else (empty_index rows) (least rows (spared_index spared rows)))
+begun_index number spared rows = or_else (row_index number rows)
+    (or_else (empty_index rows) (least rows (spared_index spared rows)))
 
 abbrev pub pieces_at : (number : List ℕ) → (session : ℕ) → Option ℕ → List Piece
 pieces_at number session None = []
@@ -82,19 +93,24 @@ IsPuttingCell e old new =
     (new ≡ old) ⊎ (((word : ℕ) × (new ≡ with_cell (e.minute % 4) (record { minute = 0; word = word }) old))
     ⊎ (new ≡ with_cell (e.minute % 4) (record { minute = e.minute; word = entry_word e }) old))
 
--- a moment of a `put_owed`: nothing but the number's row changes, and it is as it was, or without the cell, or with the entry
+-- a moment of a `put_owed`: nothing but the number's row changes, and it is as it was, or without the cell, or with the
+-- entry
 pub record IsPutting (number : List ℕ) (e : Entry) (x c : List ℕ) : Type 0 where
   pub outside : SameOutside OWED.place OWED.size x c
   pub indices : (n : List ℕ) → row_index n (rows_in c) ≡ row_index n (rows_in x)
-  pub rows : (s : ℕ) → s < 8 → row_index number (rows_in x) ≢ Some s → (number_in (rows_in c) s ≡ number_in (rows_in x) s) × (row_in (rows_in c) s ≡ row_in (rows_in x) s)
+  pub rows : (s : ℕ) → s < 8 → row_index number (rows_in x) ≢ Some s
+      → (number_in (rows_in c) s ≡ number_in (rows_in x) s) × (row_in (rows_in c) s ≡ row_in (rows_in x) s)
   pub others : (n : List ℕ) → n ≢ number → row_of n c ≡ row_of n x
-  pub own : (r : ℕ) → row_index number (rows_in x) ≡ Some r → IsPuttingCell e (row_in (rows_in x) r) (row_in (rows_in c) r)
+  pub own : (r : ℕ) → row_index number (rows_in x) ≡ Some r
+      → IsPuttingCell e (row_in (rows_in x) r) (row_in (rows_in c) r)
   pub decodes : Decodes x → Decodes c
 
 -- after a `put_owed` the entry stands in the number's row
 pub record OwedRowHas (number : List ℕ) (e : Entry) (x y : List ℕ) : Type 0 where
   pub putting : IsPutting number e x y
-  pub entry : (r : ℕ) → row_index number (rows_in x) ≡ Some r → row_in (rows_in y) r ≡ with_cell (e.minute % 4) (record { minute = e.minute; word = entry_word e }) (row_in (rows_in x) r)
+  pub entry : (r : ℕ) → row_index number (rows_in x) ≡ Some r
+      → row_in (rows_in y) r ≡ with_cell (e.minute % 4) (record { minute = e.minute; word = entry_word e })
+      (row_in (rows_in x) r)
 
 -- the number has a row
 abbrev pub HasRow : (number image : List ℕ) → Type 0
@@ -117,13 +133,17 @@ pub record IsTaken (number : List ℕ) (session r : ℕ) (x y : List ℕ) : Type
   pub named : number_in (rows_in y) r ≡ number
   pub row : row_in (rows_in y) r ≡ emptied session (row_in (rows_in x) r)
 
--- a moment of a `begin_owed`: nothing but one row changes, which is not the spared number's; it is as it was, or has session 0, or is begun
+-- a moment of a `begin_owed`: nothing but one row changes, which is not the spared number's; it is as it was, or has
+-- session 0, or is begun
 pub record IsRowBeginning (number : List ℕ) (session : ℕ) (spared : Option (List ℕ)) (x c : List ℕ) : Type 0 where
   pub outside : SameOutside OWED.place OWED.size x c
-  pub rows : (s : ℕ) → s < 8 → begun_index number spared (rows_in x) ≢ Some s → (number_in (rows_in c) s ≡ number_in (rows_in x) s) × (row_in (rows_in c) s ≡ row_in (rows_in x) s)
-  pub others : (n : List ℕ) → n ≢ number → row_index n (rows_in x) ≢ begun_index number spared (rows_in x) → row_of n c ≡ row_of n x
+  pub rows : (s : ℕ) → s < 8 → begun_index number spared (rows_in x) ≢ Some s
+      → (number_in (rows_in c) s ≡ number_in (rows_in x) s) × (row_in (rows_in c) s ≡ row_in (rows_in x) s)
+  pub others : (n : List ℕ) → n ≢ number → row_index n (rows_in x) ≢ begun_index number spared (rows_in x)
+      → row_of n c ≡ row_of n x
   pub spares : (n : List ℕ) → n ≢ number → spared ≡ Some n → row_of n c ≡ row_of n x
-  pub own : (r : ℕ) → begun_index number spared (rows_in x) ≡ Some r → (c ≡ x) ⊎ ((session_in (rows_in c) r ≡ 0) ⊎ IsTaken number session r x c)
+  pub own : (r : ℕ) → begun_index number spared (rows_in x) ≡ Some r
+      → (c ≡ x) ⊎ ((session_in (rows_in c) r ≡ 0) ⊎ IsTaken number session r x c)
   pub decodes : Decodes x → Decodes c
 
 -- after a `begin_owed` the number's row is the one that was taken

@@ -11,7 +11,8 @@ or_this None row is = if is then Some row else None
 
 -- entries with that of a cell, where it holds one that is owed
 abbrev pub with_owed : (session after kept : ℕ) → List Entry → (place : ℕ) → Cell → List Entry
-with_owed session after kept es i c = if holds i c && counts session after kept c.minute then placed es (entry_of c) else es
+with_owed session after kept es i c = if holds i c && counts session after kept c.minute then placed es (entry_of c)
+    else es
 
 -- what is owed: minutes that rise, later than one and not later than another, and none of the first day
 abbrev pub IsSane : (after kept : ℕ) → List Entry → Type 0

@@ -1,4 +1,5 @@
--- The owed rows of an image as a run goes on from another one, in which rows are begun and entries put for some numbers alone (profile).
+-- The owed rows of an image as a run goes on from another one, in which rows are begun and entries put for some numbers
+-- alone (profile).
 use Rattle.std.specs.Prelude.{◌≡◌, ◌⊎◌, ℕ, ◌<◌, ◌≤◌, true, List, [], ◌∷◌, Option, Some}
 use Rattle.std.specs.List.{AllByRecursion}
 use Rattle.unit_model.specs.Image.{last_kept}
@@ -19,8 +20,8 @@ AreKept kept (w ∷ was) (n ∷ now) = IsKept kept w n × AreKept kept was now
 abbrev pub AreLow : (kept : ℕ) → List Cell → Type 0
 AreLow kept cells = AllByRecursion (λ (c : Cell). c.minute ≤ kept) cells
 
--- A ROW STANDS as it stood while the first of these was the last-kept minute, which is the second now: it has the session time and the cells
--- that it had, but for later ones; and no cell that was later counts now.
+-- A ROW STANDS as it stood while the first of these was the last-kept minute, which is the second now: it has the
+-- session time and the cells that it had, but for later ones; and no cell that was later counts now.
 pub record IsStanding (first last : ℕ) (was now : OwedRow) : Type 0 where
   pub session : now.session ≡ was.session
   pub cells : AreKept first was.cells now.cells
@@ -28,13 +29,15 @@ pub record IsStanding (first last : ℕ) (was now : OwedRow) : Type 0 where
 
 -- a row of an image among rows with this last-kept minute
 abbrev pub RowStands : (start rows : List ℕ) → (last r : ℕ) → Type 0
-RowStands start rows last r = (number_in rows r ≡ number_in (rows_in start) r) × IsStanding (last_kept start) last (row_in (rows_in start) r) (row_in rows r)
+RowStands start rows last r = (number_in rows r ≡ number_in (rows_in start) r)
+    × IsStanding (last_kept start) last (row_in (rows_in start) r) (row_in rows r)
 
 -- no two rows are empty
 abbrev pub HasOneEmpty : List ℕ → Type 0
 HasOneEmpty x = (r s : ℕ) → r < 8 → s < 8 → session_in (rows_in x) r ≡ 0 → session_in (rows_in x) s ≡ 0 → r ≡ s
 
--- A ROW WAS TAKEN for a number of some: it is empty, or that number's; and it was one's of them, or empty, or no two rows were empty.
+-- A ROW WAS TAKEN for a number of some: it is empty, or that number's; and it was one's of them, or empty, or no two
+-- rows were empty.
 pub record IsTakenFor (mine : List ℕ → Type 0) (start rows : List ℕ) (r : ℕ) : Type 0 where
   pub number : List ℕ
   pub whose : mine number
@@ -46,7 +49,8 @@ abbrev pub HasOne : (number start rows : List ℕ) → Type 0
 HasOne number start rows = (r s : ℕ) → r < 8 → s < 8 → is_row_of number rows r ≡ true → is_row_of number rows s ≡ true →
     (r ≡ s) ⊎ ((is_row_of number (rows_in start) r ≡ true) × (is_row_of number (rows_in start) s ≡ true))
 
--- THE ROWS GO ON from those of an image: each stands as it stood, or was taken for a number of some, of which none has taken two.
+-- THE ROWS GO ON from those of an image: each stands as it stood, or was taken for a number of some, of which none has
+-- taken two.
 pub record RowsGoOn (mine : List ℕ → Type 0) (start rows : List ℕ) (last : ℕ) : Type 0 where
   pub on : last_kept start ≤ last
   pub each : (r : ℕ) → r < 8 → RowStands start rows last r ⊎ IsTakenFor mine start rows r
@@ -54,7 +58,8 @@ pub record RowsGoOn (mine : List ℕ → Type 0) (start rows : List ℕ) (last :
 
 -- and no cell of one that stands is later than the last-kept minute was
 abbrev pub AreMended : (mine : List ℕ → Type 0) → (start rows : List ℕ) → Type 0
-AreMended mine start rows = (r : ℕ) → r < 8 → AreLow (last_kept start) (row_in rows r).cells ⊎ IsTakenFor mine start rows r
+AreMended mine start rows = (r : ℕ) → r < 8
+    → AreLow (last_kept start) (row_in rows r).cells ⊎ IsTakenFor mine start rows r
 
 -- a number is one of two, where they are
 abbrev pub IsOneOf : (a b : Option (List ℕ)) → (number : List ℕ) → Type 0

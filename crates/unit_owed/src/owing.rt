@@ -1,4 +1,5 @@
-ghost use Rattle.std.specs.Prelude.{◌≡◌, ◌≤◌, ◌<◌, ◌+◌, ◌%◌, ◌==◌, ◌&&◌, ◌↔◌, [], fold, is_some, length, nat_lt, nat_le, true, IfOk, IfSome, is_err, option_map};
+ghost use Rattle.std.specs.Prelude.{◌≡◌, ◌≤◌, ◌<◌, ◌+◌, ◌%◌, ◌==◌, ◌&&◌, ◌↔◌, [], fold, is_some, length, nat_lt};
+ghost use Rattle.std.specs.Prelude.{nat_le, true, IfOk, IfSome, is_err, option_map};
 ghost use Rattle.unit_model.specs.declared.layout.TheConstants.{OWED};
 ghost use Rattle.std.specs.List.{prefix_len, range_with_len};
 ghost use Rattle.unit_model.specs.Ring.{number_at};
@@ -65,7 +66,8 @@ fn add_cell(owed: &mut Owed, cell: u32, minute: u32, word: u32, session: u32, af
     requires cell { cell < 4 }
     requires word { word < 65536 }
     requires room { length owed.old.items ≤ cell }
-    ensures added { owed.new.items ≡ with_owed session after kept owed.old.items cell (record { minute = minute; word = word }) }
+    ensures added { owed.new.items
+        ≡ with_owed session after kept owed.old.items cell (record { minute = minute; word = word }) }
     ensures room { length owed.new.items ≤ cell + 1 }
 {
     if is_owed(cell, minute, session, after, kept) {
@@ -94,7 +96,8 @@ fn word_in(rows: &[u8], place: u32) -> u32
 fn owed_cells(rows: &[u8], row: u32, session: u32, after: u32, kept: u32) -> Owed
     requires sized { length rows.now ≡ OWED.size }
     requires row { row < 8 }
-    ensures items { result.items ≡ fold (λ es i. with_owed session after kept es i (cell_in rows.now row i)) [] (range_with_len 0 4) }
+    ensures items { result.items ≡ fold (λ es i. with_owed session after kept es i (cell_in rows.now row i)) []
+        (range_with_len 0 4) }
     ensures sane { IsSane after kept result.items }
 {
     let mut owed = Owed::new();
@@ -126,7 +129,8 @@ fn owed_in(rows: &[u8], row: Option<u32>, session: u32, after: u32, kept: u32) -
     }
 }
 
-/// The entries that are owed to the card of a number in a session, in order of minutes, of a unit whose last-kept minute is given.
+/// The entries that are owed to the card of a number in a session, in order of minutes, of a unit whose last-kept
+/// minute is given.
 pub fn owed<M: Medium>(
     unit: &mut M,
     kept: u32,
@@ -137,7 +141,8 @@ pub fn owed<M: Medium>(
     requires unit { IsUnit (M.state unit.old) }
     requires kept { IfSome (M.state unit.old).image (λ x. kept ≡ last_kept x) }
     ensures sane { IfOk result (λ es. IsSane after kept es.items) }
-    ensures owed { IfOk result (λ es. IfSome (M.state unit.old).image (λ x. es.items ≡ owed_to x number.now session after)) }
+    ensures owed { IfOk result (λ es. IfSome (M.state unit.old).image (λ x. es.items ≡ owed_to x number.now session
+        after)) }
     ensures reads { Reads (M.state unit.old) (M.state unit.new) (is_err result) }
 {
     let rows = read_rows(unit)?;
@@ -156,8 +161,10 @@ pub fn ask<M: Medium>(
     requires unit { IsUnit (M.state unit.old) }
     requires kept { IfSome (M.state unit.old).image (λ x. kept ≡ last_kept x) }
     ensures sane { IfOk result (λ a. IsSane after kept a.owed.items) }
-    ensures owed { IfOk result (λ a. IfSome (M.state unit.old).image (λ x. a.owed.items ≡ owed_to x number.now session after)) }
-    ensures row { IfOk result (λ a. IfSome (M.state unit.old).image (IsRowFor a.row number.now (option_map (λ s. s.now) spared.entry))) }
+    ensures owed { IfOk result (λ a. IfSome (M.state unit.old).image (λ x. a.owed.items ≡ owed_to x number.now session
+        after)) }
+    ensures row { IfOk result (λ a. IfSome (M.state unit.old).image (IsRowFor a.row number.now
+        (option_map (λ s. s.now) spared.entry))) }
     ensures low { IfOk result (λ a. a.row < 8) }
     ensures reads { Reads (M.state unit.old) (M.state unit.new) (is_err result) }
 {

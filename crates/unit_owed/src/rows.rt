@@ -1,5 +1,6 @@
 //! The bytes of all rows, read in one read, and what stands in them.
-ghost use Rattle.std.specs.Prelude.{◌≡◌, ◌≤◌, ◌<◌, ◌+◌, ◌*◌, ◌==◌, Some, length, IfOk, IfSome, is_err, not, ◌&&◌, nat_eq, option_map};
+ghost use Rattle.std.specs.Prelude.{◌≡◌, ◌≤◌, ◌<◌, ◌+◌, ◌*◌, ◌==◌, Some, length, IfOk, IfSome, is_err, not, ◌&&◌};
+ghost use Rattle.std.specs.Prelude.{nat_eq, option_map};
 ghost use Rattle.unit_model.specs.declared.layout.TheConstants.{OWED};
 ghost use Rattle.std.specs.Cmp.Lexicographic.{pointwise};
 ghost use Rattle.tach_media.specs.Medium.{Reads};
@@ -149,8 +150,8 @@ fn spared_index(rows: &[u8], spared: Option<&[u8]>) -> Option<u32>
     }
 }
 
-/// The row that is begun for a number: its own, else the lowest empty one, else the one with the least session time, but not
-/// the row of the number that is spared.
+/// The row that is begun for a number: its own, else the lowest empty one, else the one with the least session time,
+/// but not the row of the number that is spared.
 pub fn begun_index(rows: &[u8], number: &[u8], spared: Option<&[u8]>) -> Option<u32>
     requires sized { length rows.now ≡ OWED.size }
     ensures row { result ≡ begun_index number.now (option_map (λ s. s.now) spared.entry) rows.now }

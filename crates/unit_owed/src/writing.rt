@@ -1,4 +1,5 @@
-ghost use Rattle.std.specs.Prelude.{◌≡◌, ◌≢◌, ◌≤◌, ◌<◌, ◌+◌, ℕ, Option, List, length, min, IfOk, OnOk, IfSome, is_err, option_map};
+ghost use Rattle.std.specs.Prelude.{◌≡◌, ◌≢◌, ◌≤◌, ◌<◌, ◌+◌, ℕ, Option, List, length, min, IfOk, OnOk, IfSome, is_err};
+ghost use Rattle.std.specs.Prelude.{option_map};
 ghost use Rattle.unit_model.specs.declared.layout.TheConstants.{IMAGE_SIZE};
 ghost use Rattle.std.specs.Option.{ForSome};
 ghost use Rattle.tach_media.specs.Medium.{LeavesOnly, HasCause, StaysSettled, IsSettled, last_count};
@@ -6,7 +7,8 @@ ghost use Rattle.tach_media.specs.Plan.{PutsAll, PutsBy, more, none};
 ghost use Rattle.unit_model.specs.Image.{IsUnit};
 ghost use Rattle.unit_model.specs.Days.{word_minute};
 ghost use Rattle.unit_owed.specs.Owed.{rows_in};
-ghost use Rattle.unit_owed.specs.Rows.{entry_word, cell_pieces, row_pieces, pieces_into, putting, pieces_at, beginning, HasRow, IsRowAt, IsRowFor, OwedRowHas, IsPutting, IsRowBegun, IsRowBeginning};
+ghost use Rattle.unit_owed.specs.Rows.{entry_word, cell_pieces, row_pieces, pieces_into, putting, pieces_at, beginning};
+ghost use Rattle.unit_owed.specs.Rows.{HasRow, IsRowAt, IsRowFor, OwedRowHas, IsPutting, IsRowBegun, IsRowBeginning};
 
 use crate::rows::{begun_index, read_rows, row_index};
 use activity_codec::{Change, Entry, encode_change};
@@ -69,8 +71,10 @@ fn beginning(row: Option<u32>, number: &[u8], session: u32) -> Plan<7, 18>
 // Reads the rows, and writes an entry into that of a number.
 fn write_entry<M: Medium>(unit: &mut M, number: &[u8], minute: u32, word: u16) -> Result<(), Failed>
     requires unit { IsUnit (M.state unit.old) }
-    ensures puts { PutsBy (M.state unit.old) (M.state unit.new) (is_err result) 0 3 (λ x. putting number.now minute word (rows_in x)) }
-    ensures wrote { OnOk result (IfSome (M.state unit.old).image (λ x. HasRow number.now x → min ((M.state unit.old).clock + 3) last_count ≤ (M.state unit.new).clock)) }
+    ensures puts { PutsBy (M.state unit.old) (M.state unit.new) (is_err result) 0 3
+        (λ x. putting number.now minute word (rows_in x)) }
+    ensures wrote { OnOk result (IfSome (M.state unit.old).image
+        (λ x. HasRow number.now x → min ((M.state unit.old).clock + 3) last_count ≤ (M.state unit.new).clock)) }
     ensures minute { minute < 4294967296 }
     ensures word { word < 65536 }
 {
@@ -79,13 +83,17 @@ fn write_entry<M: Medium>(unit: &mut M, number: &[u8], minute: u32, word: u16) -
     put_pieces(unit, &plan)
 }
 
-/// Puts an entry into the row of a number, in its cell; a unit that doesn't tell its image may have no such row, and is left alone then.
+/// Puts an entry into the row of a number, in its cell; a unit that doesn't tell its image may have no such row, and is
+/// left alone then.
 pub fn put_owed<M: Medium>(unit: &mut M, number: &[u8], entry: &Entry) -> Result<(), Failed>
     requires unit { IsUnit (M.state unit.old) }
     requires row { IfSome (M.state unit.old).image (HasRow number.now) }
-    ensures puts { PutsBy (M.state unit.old) (M.state unit.new) (is_err result) 0 3 (λ x. putting number.now entry.now.minute (entry_word entry.now) (rows_in x)) }
-    ensures wrote { OnOk result (IfSome (M.state unit.old).image (λ x. min ((M.state unit.old).clock + 3) last_count ≤ (M.state unit.new).clock)) }
-    ensures put { OnOk result (IfSome (M.state unit.old).image (λ x. IfSome (M.state unit.new).image (OwedRowHas number.now entry.now x))) }
+    ensures puts { PutsBy (M.state unit.old) (M.state unit.new) (is_err result) 0 3
+        (λ x. putting number.now entry.now.minute (entry_word entry.now) (rows_in x)) }
+    ensures wrote { OnOk result (IfSome (M.state unit.old).image
+        (λ x. min ((M.state unit.old).clock + 3) last_count ≤ (M.state unit.new).clock)) }
+    ensures put { OnOk result (IfSome (M.state unit.old).image
+        (λ x. IfSome (M.state unit.new).image (OwedRowHas number.now entry.now x))) }
     ensures moments { LeavesOnly (M.state unit.old) (M.state unit.new) (IsPutting number.now entry.now) }
     ensures settled { OnOk result (StaysSettled (M.state unit.old) (M.state unit.new)) }
     ensures cause { HasCause (M.state unit.old) (M.state unit.new) (is_err result) }
@@ -109,9 +117,13 @@ fn write_into<M: Medium>(unit: &mut M, row: u32, minute: u32, word: u16) -> Resu
 pub fn put_owed_at<M: Medium>(unit: &mut M, row: u32, entry: &Entry) -> Result<(), Failed>
     requires unit { IsUnit (M.state unit.old) }
     requires low { row < 8 }
-    ensures puts { PutsAll (M.state unit.old) (M.state unit.new) (is_err result) (cell_pieces row entry.now.minute (entry_word entry.now)) }
-    ensures put { (number : List ℕ) → IfSome (M.state unit.old).image (IsRowAt row number) → OnOk result (IfSome (M.state unit.old).image (λ x. IfSome (M.state unit.new).image (OwedRowHas number entry.now x))) }
-    ensures moments { (number : List ℕ) → IfSome (M.state unit.old).image (IsRowAt row number) → LeavesOnly (M.state unit.old) (M.state unit.new) (IsPutting number entry.now) }
+    ensures puts { PutsAll (M.state unit.old) (M.state unit.new) (is_err result)
+        (cell_pieces row entry.now.minute (entry_word entry.now)) }
+    ensures put { (number : List ℕ) → IfSome (M.state unit.old).image (IsRowAt row number)
+        → OnOk result (IfSome (M.state unit.old).image
+        (λ x. IfSome (M.state unit.new).image (OwedRowHas number entry.now x))) }
+    ensures moments { (number : List ℕ) → IfSome (M.state unit.old).image (IsRowAt row number)
+        → LeavesOnly (M.state unit.old) (M.state unit.new) (IsPutting number entry.now) }
     ensures settled { OnOk result ((M.state unit.new).clock < last_count → IsSettled (M.state unit.new)) }
     ensures cause { HasCause (M.state unit.old) (M.state unit.new) (is_err result) }
 {
@@ -127,7 +139,8 @@ fn write_row<M: Medium>(
 ) -> Result<(), Failed>
     requires unit { IsUnit (M.state unit.old) }
     requires number { length number.now ≡ 18 }
-    ensures puts { PutsBy (M.state unit.old) (M.state unit.new) (is_err result) 7 7 (λ x. beginning number.now session (option_map (λ s. s.now) spared.entry) (rows_in x)) }
+    ensures puts { PutsBy (M.state unit.old) (M.state unit.new) (is_err result) 7 7
+        (λ x. beginning number.now session (option_map (λ s. s.now) spared.entry) (rows_in x)) }
     ensures session { session < 4294967296 }
 {
     let rows = read_rows(unit)?;
@@ -135,8 +148,8 @@ fn write_row<M: Medium>(
     put_pieces(unit, &plan)
 }
 
-/// Begins a row for a number, with a session time and without an entry: its own row, else the lowest empty one, else the one
-/// with the least session time, but not the row of the number that is spared.
+/// Begins a row for a number, with a session time and without an entry: its own row, else the lowest empty one, else
+/// the one with the least session time, but not the row of the number that is spared.
 pub fn begin_owed<M: Medium>(
     unit: &mut M,
     number: &[u8],
@@ -146,9 +159,13 @@ pub fn begin_owed<M: Medium>(
     requires unit { IsUnit (M.state unit.old) }
     requires number { length number.now ≡ 18 }
     requires session { 0 < session }
-    ensures puts { PutsBy (M.state unit.old) (M.state unit.new) (is_err result) 7 7 (λ x. beginning number.now session (option_map (λ s. s.now) spared.entry) (rows_in x)) }
-    ensures begun { OnOk result (IfSome (M.state unit.old).image (λ x. IfSome (M.state unit.new).image (IsRowBegun number.now session (option_map (λ s. s.now) spared.entry) x))) }
-    ensures moments { LeavesOnly (M.state unit.old) (M.state unit.new) (IsRowBeginning number.now session (option_map (λ s. s.now) spared.entry)) }
+    ensures puts { PutsBy (M.state unit.old) (M.state unit.new) (is_err result) 7 7
+        (λ x. beginning number.now session (option_map (λ s. s.now) spared.entry) (rows_in x)) }
+    ensures begun { OnOk result (IfSome (M.state unit.old).image
+        (λ x. IfSome (M.state unit.new).image
+        (IsRowBegun number.now session (option_map (λ s. s.now) spared.entry) x))) }
+    ensures moments { LeavesOnly (M.state unit.old) (M.state unit.new)
+        (IsRowBeginning number.now session (option_map (λ s. s.now) spared.entry)) }
     ensures settled { OnOk result ((M.state unit.new).clock < last_count → IsSettled (M.state unit.new)) }
     ensures cause { HasCause (M.state unit.old) (M.state unit.new) (is_err result) }
 {
@@ -172,8 +189,8 @@ fn write_row_at<M: Medium>(
     put_pieces(unit, &plan)
 }
 
-/// Begins the row at an index for a number, with a session time and without an entry. Nothing is read: that it is the row which is begun for
-/// this number, while another one is spared, was found before (`ask`).
+/// Begins the row at an index for a number, with a session time and without an entry. Nothing is read: that it is the
+/// row which is begun for this number, while another one is spared, was found before (`ask`).
 pub fn begin_owed_at<M: Medium>(
     unit: &mut M,
     row: u32,
@@ -185,8 +202,11 @@ pub fn begin_owed_at<M: Medium>(
     requires number { length number.now ≡ 18 }
     requires session { 0 < session }
     ensures puts { PutsAll (M.state unit.old) (M.state unit.new) (is_err result) (row_pieces row number.now session) }
-    ensures begun { (spared : Option (List ℕ)) → IfSome (M.state unit.old).image (IsRowFor row number.now spared) → OnOk result (IfSome (M.state unit.old).image (λ x. IfSome (M.state unit.new).image (IsRowBegun number.now session spared x))) }
-    ensures moments { (spared : Option (List ℕ)) → IfSome (M.state unit.old).image (IsRowFor row number.now spared) → LeavesOnly (M.state unit.old) (M.state unit.new) (IsRowBeginning number.now session spared) }
+    ensures begun { (spared : Option (List ℕ)) → IfSome (M.state unit.old).image (IsRowFor row number.now spared)
+        → OnOk result (IfSome (M.state unit.old).image
+        (λ x. IfSome (M.state unit.new).image (IsRowBegun number.now session spared x))) }
+    ensures moments { (spared : Option (List ℕ)) → IfSome (M.state unit.old).image (IsRowFor row number.now spared)
+        → LeavesOnly (M.state unit.old) (M.state unit.new) (IsRowBeginning number.now session spared) }
     ensures settled { OnOk result ((M.state unit.new).clock < last_count → IsSettled (M.state unit.new)) }
     ensures cause { HasCause (M.state unit.old) (M.state unit.new) (is_err result) }
 {

@@ -14,13 +14,14 @@ use Rattle.unit_rule.specs.Rule.{Started, seen_unit, IsRuled, HasRowsOn, HasRows
 pub record MarkIsKept (s : Started) (b : Book) (unit : State) (m : Mark) : Type 0 where
   pub began : s.began ≤ m.clock
   pub prompt : IsPrompt unit m
-  pub holds : (number_a number_b : List ℕ) → Acknowledges (λ u. u.last) m.minute m.clock (seen_unit number_a number_b unit)
+  pub holds : (number_a number_b : List ℕ)
+      → Acknowledges (λ u. u.last) m.minute m.clock (seen_unit number_a number_b unit)
   pub sure : (i : HistoryMinute) × Contains b.sure i × (i.minute ≡ m.minute)
 
--- Between two calls: the unit's rule, whatever numbers the cards have; every image that a stop might have left since the start
--- decodes, has what the unit was issued with, and owed rows that go on from the start's; once the unit was mended, each that it may leave
--- now has no later cell in the rows that stand; and of the marks those of the unit are held, increase, and are earlier than what is decided
--- next.
+-- Between two calls: the unit's rule, whatever numbers the cards have; every image that a stop might have left since
+-- the start decodes, has what the unit was issued with, and owed rows that go on from the start's; once the unit was
+-- mended, each that it may leave now has no later cell in the rows that stand; and of the marks those of the unit are
+-- held, increase, and are earlier than what is decided next.
 pub record UnitFollowsBook (s : Started) (due : ℕ) (b : Book) (marks : List Mark) (unit : State) : Type 0 where
   pub unit_holds : (number_a number_b : List ℕ) → IsRuled s due b (seen_unit number_a number_b unit)
   pub decodes : (x : List ℕ) → unit.left_since s.began x → Decodes x

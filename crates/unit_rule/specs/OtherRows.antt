@@ -22,8 +22,10 @@ IsOfCards a b number = (IsOwnValid a × (own_number a ≡ number)) ⊎ (IsOwnVal
 abbrev pub OwesStill : (start y : List ℕ) → Type 0
 OwesStill start y = (number : List ℕ) → IsOwedStill start y number
 
--- THE OWED ROWS of an image of the unit, beside two cards: each stands as it stood, or was taken for the number of one of them that is valid; and so
--- each other number is owed what was owed to it, or has lost its row, where no two rows were empty.
+-- THE OWED ROWS of an image of the unit, beside two cards: each stands as it stood, or was taken for the number of one
+-- of them that is valid; and so each other number is owed what was owed to it, or has lost its row, where no two rows
+-- were empty.
 pub record KeepsRows (start card_a card_b y : List ℕ) : Type 0 where
   pub rows : RowsGoOn (IsOfCards card_a card_b) start (rows_in y) (last_kept y)
-  pub others : (number : List ℕ) → (IsOfCards card_a card_b number → ⊥) → IsOwedStill start y number ⊎ HasLostRow (IsOfCards card_a card_b) start y number
+  pub others : (number : List ℕ) → (IsOfCards card_a card_b number → ⊥)
+      → IsOwedStill start y number ⊎ HasLostRow (IsOfCards card_a card_b) start y number

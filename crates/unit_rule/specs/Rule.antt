@@ -12,8 +12,8 @@ use Rattle.device_rule.specs.Filling.{FillsDays}
 use Rattle.device_rule.specs.Rules.{UnitHolds}
 use Rattle.safety_model.specs.Unit.{issued_bytes}
 
--- what the opening found: the recorded days, the last-kept minute, what the unit was issued with, the clock, the image, and of each card that is valid
--- its number; and whether the unit was mended since it has power
+-- what the opening found: the recorded days, the last-kept minute, what the unit was issued with, the clock, the image,
+-- and of each card that is valid its number; and whether the unit was mended since it has power
 pub record Started : Type 0 where
   pub days : List ShownDay
   pub first : ℕ
@@ -45,7 +45,8 @@ once_mended s = record s { mended = true }
 abbrev pub IsCards : Started → List ℕ → Type 0
 IsCards s number = IsOneOf s.number_a s.number_b number
 
--- the owed rows of an image go on from the start's, and no cell of one that stands is later than the last-kept minute was
+-- the owed rows of an image go on from the start's, and no cell of one that stands is later than the last-kept minute
+-- was
 abbrev pub HasRowsOn : Started → List ℕ → Type 0
 HasRowsOn s x = RowsGoOn (IsOneOf s.number_a s.number_b) s.image (rows_in x) (last_kept x)
 

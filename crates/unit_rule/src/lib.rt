@@ -1,6 +1,6 @@
-//! What the images of a unit hold of a run, as definitions (specs/) with their laws: at each moment the days at the start
-//! with a front of the run's minutes, retained, and each minute that was acknowledged (profile). And that the journal's steps, seen by
-//! the views of the joint rule, are its steps.
+//! What the images of a unit hold of a run, as definitions (specs/) with their laws: at each moment the days at the
+//! start with a front of the run's minutes, retained, and each minute that was acknowledged (profile). And that the
+//! journal's steps, seen by the views of the joint rule, are its steps.
 #![tactic(auto)]
 
 mod laws;

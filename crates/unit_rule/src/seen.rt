@@ -6,16 +6,18 @@ ghost use Rattle.unit_model.specs.NewImage.{new_image};
 ghost use Rattle.gated_ring.specs.Ring.{PointsInside};
 ghost use Rattle.history_model.specs.Minutes.{HistoryMinute};
 ghost use Rattle.unit_owed.specs.Owed.{owed_to, row_view};
-ghost use Rattle.unit_owed.specs.Rows.{IsPutting as IsPuttingRow, OwedRowHas as IsPutRow, IsRowBeginning, IsRowBegun, HasRow};
+ghost use Rattle.unit_owed.specs.Rows.{IsPutting as IsPuttingRow, OwedRowHas as IsPutRow, IsRowBeginning, IsRowBegun};
+ghost use Rattle.unit_owed.specs.Rows.{HasRow};
 ghost use Rattle.unit_minutes.specs.declared.notes.Notes.{Notes};
 ghost use Rattle.unit_minutes.specs.Image.{IsKeeping as IsKeepingImage, IsKept as IsKeptImage};
 ghost use Rattle.unit_minutes.specs.Mends.{IsMending as IsMendingImage, IsMended as IsMendedImage};
 ghost use Rattle.device_rule.specs.Views.{unit_view};
-ghost use Rattle.device_rule.specs.Steps.{IsKeeping, IsKept, IsPutting, UnitOwes, IsBeginning, IsBegun, IsMending, IsMended, cleared};
+ghost use Rattle.device_rule.specs.Steps.{IsKeeping, IsKept, IsPutting, UnitOwes, IsBeginning, IsBegun, IsMending};
+ghost use Rattle.device_rule.specs.Steps.{IsMended, cleared};
 ghost use Rattle.device_rule.specs.Filling.{seen_by_unit, KeepsMinute, GivesUpDay};
 
-/// A moment of the keeping of a minute of the history is one of the rule's keeping: the minute kept, or not yet, with the oldest
-/// day given up for it or not. At its end it is kept.
+/// A moment of the keeping of a minute of the history is one of the rule's keeping: the minute kept, or not yet, with
+/// the oldest day given up for it or not. At its end it is kept.
 pub fn a_keeping_is_seen()
     ensures moments { (a b : List ℕ) (i : HistoryMinute) (odometer : ℕ) (x c : List ℕ) →
         IsKeepingImage (seen_by_unit i) odometer x c →
@@ -40,8 +42,8 @@ pub fn a_row_is_begun()
         IsRowBegun b session (Some a) x c → IsBegun B session (unit_view a b x) (unit_view a b c) }
 {}
 
-/// A moment of the putting of an entry that is later than the row's others is one of the rule's putting: as it was, without the
-/// cell of its place, or with the entry behind the others.
+/// A moment of the putting of an entry that is later than the row's others is one of the rule's putting: as it was,
+/// without the cell of its place, or with the entry behind the others.
 pub fn a_putting_is_seen()
     ensures first { (a b : List ℕ) (e : Entry) (x c : List ℕ) → a ≢ b → PointsInside day_ring x → 1440 ≤ e.minute →
         All (λ d. d.minute < e.minute) (cleared e (row_view a x)).cells →
@@ -70,8 +72,16 @@ pub fn a_mending_is_seen()
 
 /// A new unit is seen with no day, no minute and no row, and owes nothing to any card.
 pub fn a_new_unit_owes_nothing()
-    ensures seen { (vin registration : List ℕ) (limit : ℕ) → length vin ≡ 17 → length registration ≡ 15 → (a b : List ℕ) →
-        unit_view a b (new_image vin registration limit) ≡ record { days = []; last = 0; row_a = record { session = 0; cells = [] }; row_b = record { session = 0; cells = [] } } }
-    ensures owed { (vin registration : List ℕ) (limit : ℕ) → length vin ≡ 17 → length registration ≡ 15 → (number : List ℕ) (session after : ℕ) →
+    ensures seen { (vin registration : List ℕ) (limit : ℕ) → length vin ≡ 17 → length registration ≡ 15 → (a b : List ℕ)
+        →
+        unit_view a b (new_image vin registration limit)
+        ≡ record {
+          days = [];
+          last = 0;
+          row_a = record { session = 0; cells = [] };
+          row_b = record { session = 0; cells = [] };
+        } }
+    ensures owed { (vin registration : List ℕ) (limit : ℕ) → length vin ≡ 17 → length registration ≡ 15
+        → (number : List ℕ) (session after : ℕ) →
         owed_to (new_image vin registration limit) number session after ≡ [] }
 {}

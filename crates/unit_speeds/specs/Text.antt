@@ -14,7 +14,8 @@ figure_text name number = name ++ decimal number
 -- what stands behind the date: ` 09:05 max 87 mean 63 moving 60`
 abbrev pub speed_words : SpeedLine → List ℕ
 speed_words line =
-    codes " " ++ duration_text (line.time / 60 % 1440) ++ figure_text (codes " max ") line.most ++ figure_text (codes " mean ") line.mean
+    codes " " ++ duration_text (line.time / 60 % 1440) ++ figure_text (codes " max ") line.most
+    ++ figure_text (codes " mean ") line.mean
     ++ figure_text (codes " moving ") line.moving ++ codes "\n"
 
 -- the date of a day at the end of a text, and a line
@@ -22,13 +23,15 @@ abbrev pub AddsDate : (old new : List ℕ) → (day : ℕ) → Type 0
 AddsDate old new day = (date : List ℕ) × IsDateText day date × (new ≡ old ++ date)
 
 abbrev pub AddsSpeedLine : (old new : List ℕ) → SpeedLine → Type 0
-AddsSpeedLine old new line = (date : List ℕ) × IsDateText (line.time / 86400) date × (new ≡ old ++ date ++ speed_words line)
+AddsSpeedLine old new line = (date : List ℕ) × IsDateText (line.time / 86400) date
+    × (new ≡ old ++ date ++ speed_words line)
 
 -- a line each, one after another
 abbrev pub AreSpeedLines : List SpeedLine → List ℕ → Type 0
 AreSpeedLines [] text = text ≡ []
 AreSpeedLines (line ∷ lines) text =
-    (date : List ℕ) × (rest : List ℕ) × IsDateText (line.time / 86400) date × (text ≡ date ++ speed_words line ++ rest) × AreSpeedLines lines rest
+    (date : List ℕ) × (rest : List ℕ) × IsDateText (line.time / 86400) date × (text ≡ date ++ speed_words line ++ rest)
+    × AreSpeedLines lines rest
 
 -- the last so many lines, or all
 abbrev pub last_lines : Option ℕ → List SpeedLine → List SpeedLine

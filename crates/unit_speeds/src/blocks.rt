@@ -23,7 +23,8 @@ pub(crate) fn lines_in(
     all: &[MessageAt],
 ) -> Result<Vec<SpeedLine>, AllocError>
     requires { (messages : List FileMessage) × ArePlaced b.now all.now messages }
-    ensures { (messages : List FileMessage) → ArePlaced b.now all.now messages → IfOk result (λ lines. lines.items ≡ speeds_told messages) }
+    ensures { (messages : List FileMessage) → ArePlaced b.now all.now messages
+        → IfOk result (λ lines. lines.items ≡ speeds_told messages) }
 {
     let mut lines = Vec::new(alloc);
     for at in all {
@@ -35,7 +36,8 @@ pub(crate) fn lines_in(
 /// Adds what a message tells of speeds.
 fn add_message(lines: &mut Vec<SpeedLine>, b: &[u8], at: MessageAt) -> Result<(), AllocError>
     requires { (m : FileMessage) × IsPlaced b.now at m }
-    ensures { (m : FileMessage) → IsPlaced b.now at m → OnOk result (lines.new.items ≡ lines.old.items ++ speeds_told (m ∷ [])) }
+    ensures { (m : FileMessage) → IsPlaced b.now at m
+        → OnOk result (lines.new.items ≡ lines.old.items ++ speeds_told (m ∷ [])) }
 {
     match at.request {
         Request::Speed => {
@@ -49,7 +51,8 @@ fn add_message(lines: &mut Vec<SpeedLine>, b: &[u8], at: MessageAt) -> Result<()
 /// Adds what is told of the blocks of the message at the front.
 fn add_blocks(lines: &mut Vec<SpeedLine>, message: &[u8]) -> Result<(), AllocError>
     requires { (m : SpeedMessage) × BeginsWith (ASpeedList m) message.now }
-    ensures { (m : SpeedMessage) → BeginsWith (ASpeedList m) message.now → OnOk result (lines.new.items ≡ lines.old.items ++ map line_of m.blocks) }
+    ensures { (m : SpeedMessage) → BeginsWith (ASpeedList m) message.now
+        → OnOk result (lines.new.items ≡ lines.old.items ++ map line_of m.blocks) }
 {
     let count = count_in(message) as usize;
     for i in 0..count {

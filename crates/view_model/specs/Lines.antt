@@ -29,7 +29,8 @@ day_of_minute minute = minute / 1440
 
 -- a minute is the one before a line, on the same day, and the same is shown of it
 abbrev pub goes_on : {X : Type 0} → (X → X → Bool) → Viewed X → Line X → Bool
-goes_on same m line = m.minute + 1 == line.first && day_of_minute m.minute == day_of_minute line.first && same m.shown line.shown
+goes_on same m line = m.minute + 1 == line.first && day_of_minute m.minute == day_of_minute line.first
+    && same m.shown line.shown
 
 -- lines with one more minute in front
 abbrev pub with_minute : {X : Type 0} → (X → X → Bool) → Viewed X → List (Line X) → List (Line X)

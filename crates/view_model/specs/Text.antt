@@ -31,7 +31,8 @@ state_words state = activity_name state.act ++ codes "," ++ presence_word state.
 -- `driver=ACT,IN codriver=ACT,IN CREW`
 abbrev pub unit_words : UnitShown → List ℕ
 unit_words shown =
-    codes "driver=" ++ state_words shown.driver ++ codes " codriver=" ++ state_words shown.codriver ++ codes " " ++ crew_word shown.crew
+    codes "driver=" ++ state_words shown.driver ++ codes " codriver=" ++ state_words shown.codriver ++ codes " "
+    ++ crew_word shown.crew
 
 -- `SLOT=ACT CREW`
 abbrev pub card_words : CardShown → List ℕ
@@ -39,13 +40,15 @@ card_words shown = slot_name shown.slot ++ codes "=" ++ activity_name shown.act 
 
 -- a line behind its date: ` HH:MM-HH:MM WORDS`
 abbrev pub line_text : {X : Type 0} → (X → List ℕ) → Line X → List ℕ
-line_text words line = codes " " ++ clock_text line.first ++ codes "-" ++ clock_text line.last ++ codes " " ++ words line.shown ++ codes "\n"
+line_text words line = codes " " ++ clock_text line.first ++ codes "-" ++ clock_text line.last ++ codes " "
+    ++ words line.shown ++ codes "\n"
 
 -- the text of lines, one after another
 abbrev pub IsTextOf : {X : Type 0} → (X → List ℕ) → List (Line X) → List ℕ → Type 0
 IsTextOf words [] text = text ≡ []
 IsTextOf words (line ∷ lines) text =
-    (date : List ℕ) × (rest : List ℕ) × IsDateText (day_of_minute line.first) date × (text ≡ date ++ line_text words line ++ rest) × IsTextOf words lines rest
+    (date : List ℕ) × (rest : List ℕ) × IsDateText (day_of_minute line.first) date
+    × (text ≡ date ++ line_text words line ++ rest) × IsTextOf words lines rest
 
 -- the view text of a unit's minutes
 unfoldable pub IsUnitView : List (Viewed UnitShown) → List ℕ → Type 0

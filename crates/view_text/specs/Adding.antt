@@ -11,4 +11,5 @@ AddsDay old new day = (date : List ℕ) × IsDateText day date × (new ≡ old +
 
 -- a line at the end
 abbrev pub AddsLine : {X : Type 0} → (X → List ℕ) → (old new : List ℕ) → Line X → Type 0
-AddsLine words old new line = (date : List ℕ) × IsDateText (day_of_minute line.first) date × (new ≡ old ++ date ++ line_text words line)
+AddsLine words old new line = (date : List ℕ) × IsDateText (day_of_minute line.first) date
+    × (new ≡ old ++ date ++ line_text words line)

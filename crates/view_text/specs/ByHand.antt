@@ -8,14 +8,17 @@ use Rattle.view_model.specs.Text.{clock_text}
 
 -- a line behind its date: ` HH:MM SLOT=ACT by hand`
 abbrev pub by_hand_words : Manual → List ℕ
-by_hand_words e = codes " " ++ clock_text e.minute ++ codes " " ++ slot_name e.slot ++ codes "=" ++ activity_name e.act ++ codes " by hand\n"
+by_hand_words e = codes " " ++ clock_text e.minute ++ codes " " ++ slot_name e.slot ++ codes "=" ++ activity_name e.act
+    ++ codes " by hand\n"
 
 -- a line for each, in their order
 abbrev pub IsByHandView : List Manual → List ℕ → Type 0
 IsByHandView [] text = text ≡ []
 IsByHandView (e ∷ es) text =
-    (date : List ℕ) × (rest : List ℕ) × IsDateText (day_of_minute e.minute) date × (text ≡ date ++ by_hand_words e ++ rest) × IsByHandView es rest
+    (date : List ℕ) × (rest : List ℕ) × IsDateText (day_of_minute e.minute) date
+    × (text ≡ date ++ by_hand_words e ++ rest) × IsByHandView es rest
 
 -- one more line at the end of a text
 abbrev pub AddsByHand : (old new : List ℕ) → Manual → Type 0
-AddsByHand old new e = (date : List ℕ) × IsDateText (day_of_minute e.minute) date × (new ≡ old ++ date ++ by_hand_words e)
+AddsByHand old new e = (date : List ℕ) × IsDateText (day_of_minute e.minute) date
+    × (new ≡ old ++ date ++ by_hand_words e)

@@ -40,20 +40,24 @@ state_exact : (one other : State) → same_state one other ≡ true → one ≡ 
 state_exact one other is =
     let parts = both (same_activity one.act other.act) (same_bool one.present other.present) is in
     let of : Activity → Bool → State = λ act present. record { act = act; present = present } in
-    ap (λ (act : Activity). of act one.present) (activity_exact one.act other.act parts.0) ∙ ap (of other.act) (bool_exact one.present other.present parts.1)
+    ap (λ (act : Activity). of act one.present) (activity_exact one.act other.act parts.0)
+    ∙ ap (of other.act) (bool_exact one.present other.present parts.1)
 
 pub unit_exact : (one other : UnitShown) → same_unit one other ≡ true → one ≡ other
 unit_exact one other is =
-    let parts = both (same_state one.driver other.driver && same_state one.codriver other.codriver) (same_bool one.crew other.crew) is in
+    let parts = both (same_state one.driver other.driver && same_state one.codriver other.codriver)
+    (same_bool one.crew other.crew) is in
     let states = both (same_state one.driver other.driver) (same_state one.codriver other.codriver) parts.0 in
-    let of : State → State → Bool → UnitShown = λ driver codriver crew. record { driver = driver; codriver = codriver; crew = crew } in
+    let of : State → State → Bool → UnitShown = λ driver codriver crew.
+    record { driver = driver; codriver = codriver; crew = crew } in
     ap (λ (s : State). of s one.codriver one.crew) (state_exact one.driver other.driver states.0)
     ∙ ap (λ (s : State). of other.driver s one.crew) (state_exact one.codriver other.codriver states.1)
     ∙ ap (of other.driver other.codriver) (bool_exact one.crew other.crew parts.1)
 
 pub card_exact : (one other : CardShown) → same_card one other ≡ true → one ≡ other
 card_exact one other is =
-    let parts = both (same_slot one.slot other.slot && same_activity one.act other.act) (same_bool one.crew other.crew) is in
+    let parts = both (same_slot one.slot other.slot && same_activity one.act other.act) (same_bool one.crew other.crew)
+    is in
     let front = both (same_slot one.slot other.slot) (same_activity one.act other.act) parts.0 in
     let of : Slot → Activity → Bool → CardShown = λ slot act crew. record { slot = slot; act = act; crew = crew } in
     ap (λ (s : Slot). of s one.act one.crew) (slot_exact one.slot other.slot front.0)

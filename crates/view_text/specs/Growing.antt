@@ -6,7 +6,8 @@ use Rattle.view_model.specs.Lines.{day_of_minute}
 
 -- a minute is the next one behind a line, on the same day, and the same is shown of it
 abbrev pub follows : {X : Type 0} → (X → X → Bool) → Line X → Viewed X → Bool
-follows same line m = line.last + 1 == m.minute && day_of_minute line.last == day_of_minute m.minute && same line.shown m.shown
+follows same line m = line.last + 1 == m.minute && day_of_minute line.last == day_of_minute m.minute
+    && same line.shown m.shown
 
 -- a line of one minute
 abbrev pub line_at : {X : Type 0} → Viewed X → Line X

@@ -1,5 +1,5 @@
-//! The view of a unit's minutes, or of a card's entries, as text (profile): one line for each change of what is shown, and for
-//! each day that begins. A minute that shows what the one before it shows only moves the end of the last line.
+//! The view of a unit's minutes, or of a card's entries, as text (profile): one line for each change of what is shown,
+//! and for each day that begins. A minute that shows what the one before it shows only moves the end of the last line.
 #![tactic(auto)]
 
 mod by_hand;

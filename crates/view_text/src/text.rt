@@ -82,7 +82,8 @@ pub fn write_clock(text: &mut Vec<u8>, minute: u32) -> Result<(), AllocError>
 
 /// The times of day of the first and of the last minute, behind the date.
 fn write_span(text: &mut Vec<u8>, first: u32, last: u32) -> Result<(), AllocError>
-    ensures { OnOk result (text.new.items ≡ text.old.items ++ (codes " " ++ clock_text first ++ codes "-" ++ clock_text last ++ codes " ")) }
+    ensures { OnOk result (text.new.items ≡ text.old.items
+        ++ (codes " " ++ clock_text first ++ codes "-" ++ clock_text last ++ codes " ")) }
 {
     let hour = first % 1440 / 60;
     let minute = first % 60;

@@ -109,7 +109,8 @@ fn malformed_commands(rt: HostRuntime) -> Result<(), Fail> {
     Ok(())
 }
 
-/// What is left of an issue of a card whose nth call fails so: the place of the card type, and whether all is as issued.
+/// What is left of an issue of a card whose nth call fails so: the place of the card type, and whether all is as
+/// issued.
 fn issue_stopped(alloc: Global, call: u64, left: Left) -> Result<(bool, u8, bool, bool), Fail> {
     let stops = vec![in alloc; Stop { call, left }]?;
     let old = vec![in alloc; 0x11u8; LARGEST_IMAGE as usize]?;

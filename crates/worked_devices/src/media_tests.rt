@@ -9,8 +9,8 @@ use tach_media::{
     StdSource, Stop, TakeFault, put_all, take_all,
 };
 
-/// A layer above, as an example: a value, and then the mark in front of it that says that it is there. A stop leaves the
-/// old mark with whatever stands behind it, or the mark and the value.
+/// A layer above, as an example: a value, and then the mark in front of it that says that it is there. A stop leaves
+/// the old mark with whatever stands behind it, or the mark and the value.
 fn put_marked<M: Medium>(
     medium: &mut M,
     place: u32,
@@ -19,8 +19,10 @@ fn put_marked<M: Medium>(
 ) -> Result<(), Failed>
     requires inside { place + 4 + length value.now ≤ (M.state medium.old).size }
     requires writable { LiesInside (M.state medium.old).writable place (4 + length value.now) }
-    ensures written { OnOk result ((M.state medium.new).image ≡ option_map (λ x. put place mark.now (put (place + 4) value.now x)) (M.state medium.old).image) }
-    ensures moments { LeavesOnly (M.state medium.old) (M.state medium.new) (λ x c. IsPartlyWritten (place + 4) value.now x c ⊎ (c ≡ put place mark.now (put (place + 4) value.now x))) }
+    ensures written { OnOk result ((M.state medium.new).image
+        ≡ option_map (λ x. put place mark.now (put (place + 4) value.now x)) (M.state medium.old).image) }
+    ensures moments { LeavesOnly (M.state medium.old) (M.state medium.new)
+        (λ x c. IsPartlyWritten (place + 4) value.now x c ⊎ (c ≡ put place mark.now (put (place + 4) value.now x))) }
     ensures cause { HasCause (M.state medium.old) (M.state medium.new) (is_err result) }
 {
     let _size = medium.size();

@@ -97,8 +97,8 @@ fn new_image(alloc: Global) -> Result<Vec<u8>, AllocError>
     Ok(image)
 }
 
-/// Where the calls on a unit fail, and what they leave: of notes that are begun again each time, with one call before the first and
-/// three after each, at the first call of a note, at its second, and so on, of each twice.
+/// Where the calls on a unit fail, and what they leave: of notes that are begun again each time, with one call before
+/// the first and three after each, at the first call of a note, at its second, and so on, of each twice.
 const STOPS: [(u64, Left); 22] = [
     (1, Left::After),
     (5, Left::Torn(0x55)),
@@ -281,7 +281,8 @@ fn noted<M: Medium>(memory: &UnitMemory, unit: &mut M, kind: Note) -> Result<[u8
     first_entry(unit, kind)
 }
 
-/// After a note that was stopped the first entry is the one before, the one that is noted, or what may stand there within the note. That before is set again.
+/// After a note that was stopped the first entry is the one before, the one that is noted, or what may stand there
+/// within the note. That before is set again.
 fn after_stop<M: Medium>(
     rt: &impl Abort,
     unit: &mut M,
@@ -398,7 +399,8 @@ fn a_card_is_used<M: Medium>(
     Ok(())
 }
 
-/// The ring of insertions with its pointer at the last one, where that and the first one are there: the next one is the first.
+/// The ring of insertions with its pointer at the last one, where that and the first one are there: the next one is the
+/// first.
 fn round_the_end<M: Medium>(
     rt: &impl Abort,
     memory: &UnitMemory,
@@ -547,8 +549,8 @@ fn the_newest_faults_are_kept(rt: HostRuntime) -> Result<(), Fail> {
     Ok(())
 }
 
-/// A card is torn out at 00:03:59 and put in again two minutes later, with its session still open: its fault, the driving without
-/// it, and the session.
+/// A card is torn out at 00:03:59 and put in again two minutes later, with its session still open: its fault, the
+/// driving without it, and the session.
 fn a_card_is_torn_out<M: Medium>(
     rt: &impl Abort,
     memory: &UnitMemory,

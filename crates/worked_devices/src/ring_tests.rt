@@ -168,7 +168,8 @@ const ROWS: [Row; 6] = [
     },
 ];
 
-// As many calls as an `add` or a `put_at` makes, with the `load` before it; at the last of these numbers no call of it fails.
+// As many calls as an `add` or a `put_at` makes, with the `load` before it; at the last of these numbers no call of it
+// fails.
 const CALLS: u64 = 9;
 
 #[test]

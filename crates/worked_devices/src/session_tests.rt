@@ -35,8 +35,8 @@ const IDENTITY: CardIdentity = CardIdentity {
 
 const REGISTRATION: Registration = Registration(*b"\x0D\x01DEMO         ");
 
-/// The size of its image in bytes; where the sizes stand; where the events of type 06 begin; the file of days; the file of
-/// vehicles; and that of the current use.
+/// The size of its image in bytes; where the sizes stand; where the events of type 06 begin; the file of days; the file
+/// of vehicles; and that of the current use.
 const SIZE: usize = 11411;
 
 const SIZES: u32 = 33;
@@ -433,8 +433,8 @@ fn stopping(alloc: Global, image: Vec<u8>, call: u64, left: Left) -> Result<MemM
     MemMedium::new(alloc, image, 128, 4096, stops)
 }
 
-// Inserts a new card that was left open, which stops at a call behind that, and then once more. `None` where no call was stopped, else
-// whether the second insertion ends with the same days, vehicle and current use.
+// Inserts a new card that was left open, which stops at a call behind that, and then once more. `None` where no call
+// was stopped, else whether the second insertion ends with the same days, vehicle and current use.
 fn stopped(alloc: Global, call: u64, left: Left) -> Result<Option<bool>, Memory> {
     let mut card = new_card(alloc)?;
     if !left_open(&mut card) {
@@ -516,8 +516,8 @@ fn once_more(card: &mut MemMedium) -> Result<Inserted, InsertFault> {
     inserted(card, BEGIN + 300, 104, &owed)
 }
 
-// Keeps the first minute of a day on a full card, which stops at a call in it, and inserts the card. `None` where no call was stopped,
-// else whether all owed minutes are on it, and of the oldest days two have gone.
+// Keeps the first minute of a day on a full card, which stops at a call in it, and inserts the card. `None` where no
+// call was stopped, else whether all owed minutes are on it, and of the oldest days two have gone.
 fn stopped_keep(alloc: Global, call: u64, left: Left) -> Result<Option<bool>, Memory> {
     let mut card = full_card(alloc)?;
     let Ok(mut begun) = first(&mut card, BEGIN) else {
@@ -538,8 +538,8 @@ fn stopped_keep(alloc: Global, call: u64, left: Left) -> Result<Option<bool>, Me
     Ok(Some(back && days && vehicle && current))
 }
 
-// Withdraws a card, which stops at a call in that, and inserts it. `None` where no call was stopped, else whether its minute is closed,
-// by the one or by the other.
+// Withdraws a card, which stops at a call in that, and inserts it. `None` where no call was stopped, else whether its
+// minute is closed, by the one or by the other.
 fn stopped_close(alloc: Global, call: u64, left: Left) -> Result<Option<bool>, Memory> {
     let mut card = new_card(alloc)?;
     let Ok(mut begun) = first(&mut card, BEGIN) else {

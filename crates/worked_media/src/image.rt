@@ -42,8 +42,9 @@ pub fn put_word(image: &mut [u8], index: usize, nth: usize, word: u16) {
     }
 }
 
-/// A unit of 2010-02-27, 2010-02-28 and 2010-03-01, of which minute 100 of the second day is the last-kept one: the third
-/// day is a later one, which a stop has left. No card until 00:10, then the driver drives and the co-driver is available.
+/// A unit of 2010-02-27, 2010-02-28 and 2010-03-01, of which minute 100 of the second day is the last-kept one: the
+/// third day is a later one, which a stop has left. No card until 00:10, then the driver drives and the co-driver is
+/// available.
 pub fn small(alloc: Global) -> Result<Vec<u8>, AllocError> {
     let mut image = empty(alloc, 14668 * 1440 + 100, 1234, 2)?;
     for index in 0..3 {
@@ -60,8 +61,8 @@ pub fn small(alloc: Global) -> Result<Vec<u8>, AllocError> {
     Ok(image)
 }
 
-/// The same unit with a word behind the last-kept minute on its day, and with two owed minutes: the first is later than the
-/// last-kept one, the second is that.
+/// The same unit with a word behind the last-kept minute on its day, and with two owed minutes: the first is later than
+/// the last-kept one, the second is that.
 pub fn unmended(alloc: Global) -> Result<Vec<u8>, AllocError> {
     let mut image = small(alloc)?;
     let slice = image.as_mut_slice();

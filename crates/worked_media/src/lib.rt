@@ -1,5 +1,5 @@
-//! What tests and programs are made with: units and cards in memory whose calls stop, the images of units, and what a unit and a card hold of a day,
-//! read again.
+//! What tests and programs are made with: units and cards in memory whose calls stop, the images of units, and what a
+//! unit and a card hold of a day, read again.
 #![tactic(auto)]
 
 mod fault;

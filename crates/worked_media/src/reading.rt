@@ -13,7 +13,8 @@ use tacho_types::TimeReal;
 use unit_minutes::Journal;
 use unit_model::layout::IMAGE_SIZE;
 
-/// Where the days of the largest card begin: two pointers, and then, where there is one day alone, its head and its words.
+/// Where the days of the largest card begin: two pointers, and then, where there is one day alone, its head and its
+/// words.
 pub const DAYS: u32 = 2923;
 
 const HEAD: usize = 12;

@@ -1,5 +1,5 @@
-//! Keeps minutes on worked cards, and prints how many commands each takes, and how many writes: on a card with room, and on
-//! cards that are full, where days go. Its tests keep days and vehicles through a port.
+//! Keeps minutes on worked cards, and prints how many commands each takes, and how many writes: on a card with room,
+//! and on cards that are full, where days go. Its tests keep days and vehicles through a port.
 mod counted;
 #[cfg(test)]
 mod days;

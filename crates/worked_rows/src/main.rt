@@ -1,7 +1,8 @@
-//! Worked rows, and the tests that cross crates but need no recorder. The program loads units of worked images and keeps minutes on worked cards, and
-//! prints what each answers and takes; the tests stop calls of units, cards and openings; and the checker computes worked minutes and worked runs on the
-//! definitions themselves (proofs/). Behind the program's name, `full` loads the full unit alone, `reads` prints how many reads that makes, `image` writes
-//! its image to standard output, `file` loads `unit.img`, and `cards` keeps the minutes of cards alone.
+//! Worked rows, and the tests that cross crates but need no recorder. The program loads units of worked images and
+//! keeps minutes on worked cards, and prints what each answers and takes; the tests stop calls of units, cards and
+//! openings; and the checker computes worked minutes and worked runs on the definitions themselves (proofs/). Behind
+//! the program's name, `full` loads the full unit alone, `reads` prints how many reads that makes, `image` writes its
+//! image to standard output, `file` loads `unit.img`, and `cards` keeps the minutes of cards alone.
 #![tactic(auto)]
 
 mod card;

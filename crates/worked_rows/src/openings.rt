@@ -82,7 +82,8 @@ fn unit(alloc: Global, image: Vec<u8>, stops: Vec<Stop>) -> Result<MemMedium, Me
     unit_with(alloc, image, NO_ROOM, stops)
 }
 
-/// One of the cards: each as it was issued, of the smallest sizes; one of zeros; and the first with a pointer to the newest vehicle that is none.
+/// One of the cards: each as it was issued, of the smallest sizes; one of zeros; and the first with a pointer to the
+/// newest vehicle that is none.
 #[derive(Clone, Copy)]
 enum Card {
     A,
@@ -222,7 +223,8 @@ fn a_damaged_card_is_no_second_one(rt: HostRuntime) -> Result<(), Fail> {
     Ok(())
 }
 
-/// The last-kept minute of a new unit is 0: a run begins in minute 1, and not before. Cards are judged behind the clock.
+/// The last-kept minute of a new unit is 0: a run begins in minute 1, and not before. Cards are judged behind the
+/// clock.
 #[test]
 fn the_clock(rt: HostRuntime) -> Result<(), Fail> {
     let alloc = rt.alloc();

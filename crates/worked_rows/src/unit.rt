@@ -1,6 +1,6 @@
-//! Loads units of worked images, and prints what each load answers: a small unit with one number changed in each row, one
-//! of version 2 with each rule byte, one whose reads fail, units whose last `keep` or `mend` stopped at one of its calls,
-//! and a full one of 366 days with 2880 words each, with the number of reads that it takes.
+//! Loads units of worked images, and prints what each load answers: a small unit with one number changed in each row,
+//! one of version 2 with each rule byte, one whose reads fail, units whose last `keep` or `mend` stopped at one of its
+//! calls, and a full one of 366 days with 2880 words each, with the number of reads that it takes.
 ghost use Rattle.std.specs.Prelude.{IfOk};
 ghost use Rattle.tach_media.specs.MemMedium.{memory_state};
 ghost use Rattle.unit_model.specs.Image.{IsUnit};
@@ -79,7 +79,8 @@ const ROWS: [(u32, u32); 49] = [
     (1044, 0x2001_A000),
     (1044, 0x2000_A001),
     (12596, 0xA000_2000),
-    // further words: after 23:59, earlier than those before, a second of a slot in a minute, later than the last-kept one
+    // further words: after 23:59, earlier than those before, a second of a slot in a minute, later than the last-kept
+    // one
     (1048, 0x1DA0_880A),
     (6824, 0x180A_8809),
     (6824, 0x180A_100A),

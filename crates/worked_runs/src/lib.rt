@@ -1,4 +1,5 @@
-//! Tests of runs on a unit alone and with cards, and of downloads behind them, whose calls are stopped. No other crate stands on it.
+//! Tests of runs on a unit alone and with cards, and of downloads behind them, whose calls are stopped. No other crate
+//! stands on it.
 #![tactic(auto)]
 
 #[cfg(test)]

@@ -1,4 +1,5 @@
-//! Runs on a unit and two cards, and what passes where a unit is downloaded behind one. Their calls are stopped before, after and torn.
+//! Runs on a unit and two cards, and what passes where a unit is downloaded behind one. Their calls are stopped before,
+//! after and torn.
 mod downloads;
 mod matching;
 mod ran;

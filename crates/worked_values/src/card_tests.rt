@@ -39,7 +39,8 @@ fn push_places(image: &mut Vec<u8>, places: Range<u32>) -> Result<(), AllocError
     Ok(())
 }
 
-/// The image of a card with these bytes of Application_Identification, in which the bytes of each other file tell their places.
+/// The image of a card with these bytes of Application_Identification, in which the bytes of each other file tell their
+/// places.
 fn image(alloc: Global, sizes: &[u8; 10]) -> Result<Vec<u8>, AllocError> {
     let mut image = Vec::new(alloc);
     push_places(&mut image, 0..33)?;

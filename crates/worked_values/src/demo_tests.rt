@@ -39,8 +39,8 @@ fn has_part(items: &Items, at: usize, part: &Part) -> bool {
         && *items.get(at + 2) == act(select)
 }
 
-/// Whether the items are so many: first a card is put in, then come these eight parts, and the vehicle stands up to midnight; and in the
-/// end it stands so long.
+/// Whether the items are so many: first a card is put in, then come these eight parts, and the vehicle stands up to
+/// midnight; and in the end it stands so long.
 fn is_demo(trace: &Trace, parts: &[Part], standing: u32, last: u32) -> bool {
     let items = &trace.items;
     if items.len() != ALL || parts.len() != 8 {

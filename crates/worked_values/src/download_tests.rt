@@ -9,7 +9,8 @@ use tach_media::{AbsentMedium, Medium, MemMedium, MemSink, Memory};
 use unit_download::{DownloadFault, Passed, Unlisted, Wire, download, exchange_all};
 use unit_model::layout::IMAGE_SIZE;
 
-/// What stands in front of the image of a new unit: its version, the identification number, the registration and the limit.
+/// What stands in front of the image of a new unit: its version, the identification number, the registration and the
+/// limit.
 const FRONT: [u8; 37] = *b"\x00\x00\x00\x01TACHODEMO00000001\x0D\x01DEMO         Z";
 
 /// An image of this front, zeros up to 564, these bytes, and zeros.
@@ -22,8 +23,8 @@ fn image(alloc: Global, front: &[u8], bytes: &[u8]) -> Result<Vec<u8>, AllocErro
     Ok(image)
 }
 
-/// What stands from 564 on where one day is recorded: the last-kept minute, the odometer, and behind zeros the day, 2010-03-01,
-/// with four words.
+/// What stands from 564 on where one day is recorded: the last-kept minute, the odometer, and behind zeros the day,
+/// 2010-03-01, with four words.
 fn one_day(alloc: Global) -> Result<Vec<u8>, AllocError> {
     let mut bytes = Vec::new(alloc);
     bytes.extend_from_slice(&[0x01, 0x42, 0x51, 0x59, 0, 0, 0, 0x2F])?;

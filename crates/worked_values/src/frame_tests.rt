@@ -4,8 +4,8 @@ use link_frames::{End, Frame, Scanner, Seen, write_frame};
 use std::alloc::Global;
 use std::test::*;
 
-// What one side hears of a stream that comes in pieces of so many bytes: each frame with its length before it, and 0 with the
-// first byte where the sum is wrong.
+// What one side hears of a stream that comes in pieces of so many bytes: each frame with its length before it, and 0
+// with the first byte where the sum is wrong.
 fn heard(alloc: Global, end: End, bytes: &[u8], piece: usize) -> Vec<u8>
     requires { 0 < piece }
 {

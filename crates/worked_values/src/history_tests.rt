@@ -8,9 +8,9 @@ use std::process::Abort;
 use std::test::Fail;
 use tach_media::Memory;
 
-/// A card file of the least sizes: Application_Identification at 0, Driver_Activity_Data at 15, Vehicles_Used at 5568. Its
-/// string has 2010-03-01 with a driver's words from 00:02 to 00:04, and 2010-03-02 with no card; the end mark is 2010-03-01
-/// 00:03.
+/// A card file of the least sizes: Application_Identification at 0, Driver_Activity_Data at 15, Vehicles_Used at 5568.
+/// Its string has 2010-03-01 with a driver's words from 00:02 to 00:04, and 2010-03-02 with no card; the end mark is
+/// 2010-03-01 00:03.
 fn file(alloc: Global) -> Result<Vec<u8>, AllocError> {
     let mut bytes = Vec::new(alloc);
     bytes.extend_from_slice(&[0x05, 0x01, 0, 0, 10])?;
@@ -95,8 +95,9 @@ fn a_file_fails_at_its_first_bad_entry(rt: HostRuntime) -> Result<(), Fail> {
     Ok(())
 }
 
-/// A unit file of an overview, whose time is 2010-03-02 00:02, and the messages of 2010-03-01 and 2010-03-02. The first day's
-/// words are not in the order of their minutes: the driver's second one, of 00:00, decides after the first, of 00:02.
+/// A unit file of an overview, whose time is 2010-03-02 00:02, and the messages of 2010-03-01 and 2010-03-02. The first
+/// day's words are not in the order of their minutes: the driver's second one, of 00:00, decides after the first, of
+/// 00:02.
 fn unit_file(alloc: Global) -> Result<Vec<u8>, AllocError> {
     let mut bytes = Vec::new(alloc);
     bytes.extend_from_slice(&[0x76, 1])?;

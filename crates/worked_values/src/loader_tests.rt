@@ -6,8 +6,8 @@ use tach_media::MemSink;
 
 const UPLOAD: [u8; 10] = [0x35, 0, 0, 0, 0, 0, 0xFF, 0xFF, 0xFF, 0xFF];
 
-// The overview of a unit with one day, 2010-03-01: its period's begin stands in bytes 426 to 429, and its end, 00:20, in the four
-// behind these.
+// The overview of a unit with one day, 2010-03-01: its period's begin stands in bytes 426 to 429, and its end, 00:20,
+// in the four behind these.
 fn overview() -> [u8; 623] {
     let mut bytes = [0u8; 623];
     bytes[0] = 0x76;
@@ -57,8 +57,8 @@ fn asks_for_the_overview(alloc: Global, sink: &mut MemSink) -> Downloader {
     loader
 }
 
-// What ends the download where this comes as the answer to the request of the overview; a loader whose download is over sends
-// nothing.
+// What ends the download where this comes as the answer to the request of the overview; a loader whose download is over
+// sends nothing.
 fn ends_with(alloc: Global, answer: &Frame) -> Option<LoadFault> {
     let mut sink = MemSink::new(Vec::new(alloc), Vec::new(alloc));
     let mut loader = asks_for_the_overview(alloc, &mut sink);

@@ -110,8 +110,8 @@ fn sends_a_new_unit(rt: HostRuntime) -> Result<(), Fail> {
     Ok(())
 }
 
-// A message of technical data with no calibration has 267 bytes: 251 of its content stand in the first piece, and 14 in the
-// last.
+// A message of technical data with no calibration has 267 bytes: 251 of its content stand in the first piece, and 14 in
+// the last.
 #[test]
 fn joins_pieces(rt: HostRuntime) {
     assert_eq!(rt; split_at(265, 1), Some((0, 251)));

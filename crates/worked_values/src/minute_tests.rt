@@ -150,8 +150,8 @@ fn longest(acts: &[Activity]) -> Activity {
 
 /// A span: its seconds, and before which of them a card was inserted or withdrawn.
 impl Whole {
-    /// How many seconds are known when this minute is judged: up to the last of the second (amended: third) minute after it,
-    /// or up to the one before the first settling in a later minute.
+    /// How many seconds are known when this minute is judged: up to the last of the second (amended: third) minute
+    /// after it, or up to the one before the first settling in a later minute.
     fn known(&self, minute: usize) -> usize {
         let ahead = match self.rule {
             Rule::Original => 3,

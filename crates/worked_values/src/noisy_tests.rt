@@ -12,7 +12,8 @@ use tach_media::{Medium, MemMedium, MemSink, Memory};
 use unit_download::{Wire, download};
 use unit_model::layout::IMAGE_SIZE;
 
-/// What stands in front of the image of a new unit: its version, the identification number, the registration and the limit.
+/// What stands in front of the image of a new unit: its version, the identification number, the registration and the
+/// limit.
 const FRONT: [u8; 37] = *b"\x00\x00\x00\x01TACHODEMO00000001\x0D\x01DEMO         Z";
 
 /// The image of a new unit.

@@ -114,7 +114,8 @@ fn sent_behind(
 /// The first request: the start of communication with number 1.
 const FIRST: [u8; 12] = *b"\x00\x0A\x4E\x00\x00\x00\x00\x00\x00\x00\x01\x81";
 
-// An empty datagram lets the loader's end send again; one that is no packet does not, and a length of more than 264 ends it.
+// An empty datagram lets the loader's end send again; one that is no packet does not, and a length of more than 264
+// ends it.
 #[test]
 fn an_empty_datagram_is_a_tick(rt: HostRuntime) -> Result<(), Fail> {
     let alloc = rt.alloc();

@@ -6,8 +6,8 @@ use std::test::*;
 use tach_media::{AbsentMedium, Failed, MemSink, MemSource, Sink, Source};
 use unit_model::layout::IMAGE_SIZE;
 
-/// From the start of communication to its end, with a request before the upload, an unknown service, one that is too short, a wrong
-/// sum, and a frame of no length.
+/// From the start of communication to its end, with a request before the upload, an unknown service, one that is too
+/// short, a wrong sum, and a frame of no length.
 const HEARD: [u8; 73] = [
     0x81, 0xEE, 0xF0, 0x81, 0xE0, 0x80, 0xEE, 0xF0, 0x02, 0x36, 0x01, 0x97, 0x80, 0xEE, 0xF0, 0x02,
     0x10, 0x81, 0xF1, 0x80, 0xEE, 0xF0, 0x0A, 0x35, 0x00, 0x00, 0x00, 0x00, 0x00, 0xFF, 0xFF, 0xFF,
@@ -54,7 +54,8 @@ impl<K: Sink> Peer<K> for Pieces {
     }
 }
 
-/// A loader that sends its next byte only where the sink holds the answers to those before it: after so many bytes, so many.
+/// A loader that sends its next byte only where the sink holds the answers to those before it: after so many bytes, so
+/// many.
 #[derive(Drop)]
 struct Loader {
     at: usize,
@@ -126,8 +127,8 @@ fn answers_in_any_pieces(rt: HostRuntime) -> Result<(), Fail> {
     Ok(())
 }
 
-/// A service of these bytes, over a unit that is not there: how it ends, and what the sink holds. These calls of the source and of the
-/// sink fail, each counted from 0; the sink has so much room.
+/// A service of these bytes, over a unit that is not there: how it ends, and what the sink holds. These calls of the
+/// source and of the sink fail, each counted from 0; the sink has so much room.
 fn served(
     alloc: Global,
     bytes: &[u8],

@@ -1,6 +1,8 @@
-ghost use Rattle.std.specs.Prelude.{◌≡◌, ◌≤◌, ◌<◌, ◌+◌, ◌*◌, List, length, IfOk, OnOk, IfSome, is_err, option_map, true, [], ◌≢◌};
+ghost use Rattle.std.specs.Prelude.{◌≡◌, ◌≤◌, ◌<◌, ◌+◌, ◌*◌, List, length, IfOk, OnOk, IfSome, is_err, option_map};
+ghost use Rattle.std.specs.Prelude.{true, [], ◌≢◌};
 ghost use Rattle.card_model.specs.declared.lengths.TheConstants.{DAYS_MOST};
-ghost use Rattle.tach_media.specs.Medium.{LeavesOnly, Reads, HasCause, LiesInside, IsPartlyWritten, IsSettled, last_count, put};
+ghost use Rattle.tach_media.specs.Medium.{LeavesOnly, Reads, HasCause, LiesInside, IsPartlyWritten, IsSettled};
+ghost use Rattle.tach_media.specs.Medium.{last_count, put};
 ghost use Rattle.card_model.specs.Days.{Day};
 ghost use Rattle.card_model.specs.Bytes.{two_bytes};
 ghost use Rattle.card_model.specs.Changes.{early, until, date_of, cut};
@@ -8,7 +10,8 @@ ghost use Rattle.card_model.specs.Image.{HoldsDays, IsAt, IsPointer, IsStringSha
 ghost use Rattle.card_days.specs.Moments.{FileFitsIn};
 ghost use Rattle.card_days.specs.Rears.{IsRear, LiesOn};
 ghost use Rattle.card_days.specs.Steps.{SettlesIfSettled};
-ghost use Rattle.card_days.specs.Trim.{IsWithoutLast, IsLosingLast, IsTrimming, IsTrimmed, WritesOrReads, IsCutLast, IsCuttingLast, IsTrim, IsTrimMoment, WritesWhereDays};
+ghost use Rattle.card_days.specs.Trim.{IsWithoutLast, IsLosingLast, IsTrimming, IsTrimmed, WritesOrReads, IsCutLast};
+ghost use Rattle.card_days.specs.Trim.{IsCuttingLast, IsTrim, IsTrimMoment, WritesWhereDays};
 
 use super::Circle;
 use crate::bytes::write_two;
@@ -22,8 +25,10 @@ impl Circle {
         requires fits { FileFitsIn self.now (M.state medium.old) }
         requires writable { LiesInside (M.state medium.old).writable self.now.base (4 + self.now.size) }
         requires pointer { IsPointer self.now.size n }
-        ensures written { OnOk result ((M.state medium.new).image ≡ option_map (put (self.now.base + 2) (two_bytes n)) (M.state medium.old).image) }
-        ensures moments { LeavesOnly (M.state medium.old) (M.state medium.new) (IsPartlyWritten (self.now.base + 2) (two_bytes n)) }
+        ensures written { OnOk result ((M.state medium.new).image ≡ option_map (put (self.now.base + 2) (two_bytes n))
+            (M.state medium.old).image) }
+        ensures moments { LeavesOnly (M.state medium.old) (M.state medium.new)
+            (IsPartlyWritten (self.now.base + 2) (two_bytes n)) }
         ensures settled { OnOk result ((M.state medium.new).clock < last_count → IsSettled (M.state medium.new)) }
         ensures cause { HasCause (M.state medium.old) (M.state medium.new) (is_err result) }
         ensures most { (M.state medium.new).clock ≤ (M.state medium.old).clock + 1 }
@@ -38,7 +43,8 @@ impl Circle {
         requires shape { IsStringShape self.now }
         requires lies { LiesOn self.now rear }
         requires known { IfSome (M.state medium.old).image (IsRear self.now rear) }
-        ensures shortened { OnOk result (IfSome (M.state medium.old).image (λ x. IfSome (M.state medium.new).image (IsWithoutLast self.now x))) }
+        ensures shortened { OnOk result (IfSome (M.state medium.old).image
+            (λ x. IfSome (M.state medium.new).image (IsWithoutLast self.now x))) }
         ensures moments { LeavesOnly (M.state medium.old) (M.state medium.new) (IsLosingLast self.now) }
         ensures settled { OnOk result ((M.state medium.new).clock < last_count → IsSettled (M.state medium.new)) }
         ensures cause { HasCause (M.state medium.old) (M.state medium.new) (is_err result) }
@@ -56,20 +62,26 @@ impl Circle {
         self.rear_at(medium, rear.oldest, newest, rear.block)
     }
 
-    // Drops the days later than a date, the newest first, each by a write of its own; their heads are read in blocks. A stop
-    // at a moment of the call leaves a list between the days before and those up to the date.
+    // Drops the days later than a date, the newest first, each by a write of its own; their heads are read in blocks. A
+    // stop at a moment of the call leaves a list between the days before and those up to the date.
     pub(crate) fn drop_later<M: Medium>(&self, medium: &mut M, date: u64) -> Result<(), Failed>
         requires fits { FileFitsIn self.now (M.state medium.old) }
         requires writable { LiesInside (M.state medium.old).writable self.now.base (4 + self.now.size) }
         ensures shape { IsStringShape self.now }
-        ensures trimmed { OnOk result (IfSome (M.state medium.old).image (λ x. IfSome (M.state medium.new).image (IsTrimmed self.now date x))) }
+        ensures trimmed { OnOk result (IfSome (M.state medium.old).image
+            (λ x. IfSome (M.state medium.new).image (IsTrimmed self.now date x))) }
         ensures moments { LeavesOnly (M.state medium.old) (M.state medium.new) (IsTrimming self.now date 0) }
         ensures settled { OnOk result (WritesOrReads (M.state medium.old) (M.state medium.new)) }
-        ensures empty { IfSome (M.state medium.old).image (λ x. HoldsDays self.now x [] → Reads (M.state medium.old) (M.state medium.new) (is_err result)) }
+        ensures empty { IfSome (M.state medium.old).image
+            (λ x. HoldsDays self.now x [] → Reads (M.state medium.old) (M.state medium.new) (is_err result)) }
         ensures cause { HasCause (M.state medium.old) (M.state medium.new) (is_err result) }
         ensures most { (M.state medium.new).clock ≤ (M.state medium.old).clock + DAYS_MOST }
-        ensures writes { IfSome (M.state medium.old).image (λ x. (days : List Day) → HoldsDays self.now x days → (M.state medium.new).clock + length (until date days) ≤ (M.state medium.old).clock + (length days + 1)) }
-        ensures drops { OnOk result (IfSome (M.state medium.old).image (λ x. (days : List Day) → HoldsDays self.now x days → (M.state medium.new).clock + length (until date days) ≤ (M.state medium.old).clock + length days)) }
+        ensures writes { IfSome (M.state medium.old).image
+            (λ x. (days : List Day) → HoldsDays self.now x days
+            → (M.state medium.new).clock + length (until date days) ≤ (M.state medium.old).clock + (length days + 1)) }
+        ensures drops { OnOk result (IfSome (M.state medium.old).image
+            (λ x. (days : List Day) → HoldsDays self.now x days
+            → (M.state medium.new).clock + length (until date days) ≤ (M.state medium.old).clock + length days)) }
     {
         let mut rear = self.rear(medium)?;
         let mut later = rear.is_later(date);
@@ -82,8 +94,8 @@ impl Circle {
         Ok(())
     }
 
-    // How many words of the day at a place are not later than a minute of the day. They ascend, so each word that is read
-    // halves those that are left to look at.
+    // How many words of the day at a place are not later than a minute of the day. They ascend, so each word that is
+    // read halves those that are left to look at.
     pub(crate) fn words_until<M: Medium>(
         &self,
         medium: &mut M,
@@ -96,7 +108,8 @@ impl Circle {
         requires pointer { IsPointer self.now.size place }
         requires few { count ≤ 1440 }
         requires shape { IsStringShape self.now }
-        ensures words { IfOk result (λ k. IfSome (M.state medium.old).image (λ x. (d : Day) → IsAt self.now x place d → count ≡ length d.words → k ≡ length (early minute d.words))) }
+        ensures words { IfOk result (λ k. IfSome (M.state medium.old).image (λ x. (d : Day) → IsAt self.now x place d
+            → count ≡ length d.words → k ≡ length (early minute d.words))) }
         ensures most { IfOk result (λ k. k ≤ count) }
         ensures reads { Reads (M.state medium.old) (M.state medium.new) (is_err result) }
     {
@@ -128,7 +141,8 @@ impl Circle {
         requires pointer { IsPointer self.now.size place }
         requires few { count ≤ 1440 }
         requires shape { IsStringShape self.now }
-        ensures kept { IfOk result (λ k. IfSome (M.state medium.old).image (λ x. (d : Day) → IsAt self.now x place d → count ≡ length d.words → date ≡ d.date → k ≡ length (cut minute d).words)) }
+        ensures kept { IfOk result (λ k. IfSome (M.state medium.old).image (λ x. (d : Day) → IsAt self.now x place d
+            → count ≡ length d.words → date ≡ d.date → k ≡ length (cut minute d).words)) }
         ensures most { IfOk result (λ k. k ≤ count) }
         ensures reads { Reads (M.state medium.old) (M.state medium.new) (is_err result) }
     {
@@ -142,10 +156,12 @@ impl Circle {
     fn cut<M: Medium>(&self, medium: &mut M, minute: u32) -> Result<(), Failed>
         requires fits { FileFitsIn self.now (M.state medium.old) }
         requires writable { LiesInside (M.state medium.old).writable self.now.base (4 + self.now.size) }
-        ensures cut { OnOk result (IfSome (M.state medium.old).image (λ x. IfSome (M.state medium.new).image (IsCutLast self.now minute x))) }
+        ensures cut { OnOk result (IfSome (M.state medium.old).image
+            (λ x. IfSome (M.state medium.new).image (IsCutLast self.now minute x))) }
         ensures moments { LeavesOnly (M.state medium.old) (M.state medium.new) (IsCuttingLast self.now minute) }
         ensures settled { OnOk result (WritesWhereDays self.now (M.state medium.old) (M.state medium.new)) }
-        ensures empty { IfSome (M.state medium.old).image (λ x. HoldsDays self.now x [] → Reads (M.state medium.old) (M.state medium.new) (is_err result)) }
+        ensures empty { IfSome (M.state medium.old).image
+            (λ x. HoldsDays self.now x [] → Reads (M.state medium.old) (M.state medium.new) (is_err result)) }
         ensures cause { HasCause (M.state medium.old) (M.state medium.new) (is_err result) }
         ensures most { (M.state medium.new).clock ≤ (M.state medium.old).clock + 1 }
     {
@@ -161,19 +177,26 @@ impl Circle {
     }
 
     // Leaves no day and no word later than a minute: the days later than the minute's day go, the newest first, and
-    // then the words of the newest day that are later. A stop at a moment of the call leaves a list of days between. Where
-    // there is no day, it only reads.
+    // then the words of the newest day that are later. A stop at a moment of the call leaves a list of days between.
+    // Where there is no day, it only reads.
     pub(crate) fn trim<M: Medium>(&self, medium: &mut M, minute: u32) -> Result<(), Failed>
         requires fits { FileFitsIn self.now (M.state medium.old) }
         requires writable { LiesInside (M.state medium.old).writable self.now.base (4 + self.now.size) }
-        ensures trimmed { OnOk result (IfSome (M.state medium.old).image (λ x. IfSome (M.state medium.new).image (IsTrim self.now minute x))) }
+        ensures trimmed { OnOk result (IfSome (M.state medium.old).image
+            (λ x. IfSome (M.state medium.new).image (IsTrim self.now minute x))) }
         ensures moments { LeavesOnly (M.state medium.old) (M.state medium.new) (IsTrimMoment self.now minute) }
-        ensures settled { OnOk result (IfSome (M.state medium.old).image (λ x. (days : List Day) → HoldsDays self.now x days → days ≢ [] → (M.state medium.new).clock < last_count → IsSettled (M.state medium.new))) }
+        ensures settled { OnOk result (IfSome (M.state medium.old).image
+            (λ x. (days : List Day) → HoldsDays self.now x days → days ≢ [] → (M.state medium.new).clock < last_count
+            → IsSettled (M.state medium.new))) }
         ensures still { OnOk result (SettlesIfSettled (M.state medium.old) (M.state medium.new)) }
-        ensures empty { IfSome (M.state medium.old).image (λ x. HoldsDays self.now x [] → Reads (M.state medium.old) (M.state medium.new) (is_err result)) }
+        ensures empty { IfSome (M.state medium.old).image
+            (λ x. HoldsDays self.now x [] → Reads (M.state medium.old) (M.state medium.new) (is_err result)) }
         ensures cause { HasCause (M.state medium.old) (M.state medium.new) (is_err result) }
         ensures most { (M.state medium.new).clock ≤ (M.state medium.old).clock + (DAYS_MOST + 1) }
-        ensures writes { IfSome (M.state medium.old).image (λ x. (days : List Day) → HoldsDays self.now x days → (M.state medium.new).clock + length (until (date_of minute) days) ≤ (M.state medium.old).clock + (length days + 1)) }
+        ensures writes { IfSome (M.state medium.old).image
+            (λ x. (days : List Day) → HoldsDays self.now x days
+            → (M.state medium.new).clock + length (until (date_of minute) days)
+            ≤ (M.state medium.old).clock + (length days + 1)) }
     {
         self.drop_later(medium, first_second(minute))?;
         self.cut(medium, minute)

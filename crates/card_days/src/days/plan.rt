@@ -1,4 +1,5 @@
-ghost use Rattle.std.specs.Prelude.{◌≡◌, ◌≤◌, ◌<◌, ◌+◌, ◌-◌, ◌*◌, ◌%◌, ◌∷◌, [], length, true, IfOk, OnOk, OnErr, IfSome};
+ghost use Rattle.std.specs.Prelude.{◌≡◌, ◌≤◌, ◌<◌, ◌+◌, ◌-◌, ◌*◌, ◌%◌, ◌∷◌, [], length, true, IfOk, OnOk, OnErr};
+ghost use Rattle.std.specs.Prelude.{IfSome};
 ghost use Rattle.card_model.specs.declared.lengths.TheConstants.{DAY_MOST};
 ghost use Rattle.tach_media.specs.Medium.{Reads};
 ghost use Rattle.tach_media.specs.Plan.{more, none, piece};
@@ -7,7 +8,8 @@ ghost use Rattle.card_model.specs.Image.{IsPointer, at};
 ghost use Rattle.card_days.specs.Held.{newest_len, end_of, oldest_at};
 ghost use Rattle.card_days.specs.Moments.{FileFitsIn};
 ghost use Rattle.card_days.specs.Steps.{Looks};
-ghost use Rattle.card_days.specs.Plans.{dropped_len, left_in, drop_pieces, word_pieces, round_pieces, pointer_pieces, day_pieces, count_of};
+ghost use Rattle.card_days.specs.Plans.{dropped_len, left_in, drop_pieces, word_pieces, round_pieces, pointer_pieces};
+ghost use Rattle.card_days.specs.Plans.{day_pieces, count_of};
 
 use super::Days;
 use crate::bytes::{counter_after, read_two};
@@ -112,7 +114,8 @@ impl Days {
         requires room { length plan.old.pieces < 8 }
         requires most { left ≤ self.now.shape.size }
         requires even { left % 2 ≡ 0 }
-        ensures { plan.new ≡ more plan.old (piece self.now.shape.base (two_bytes (oldest_at self.now left)) ∷ piece (at self.now.shape (oldest_at self.now left)) (two_bytes 0) ∷ []) }
+        ensures { plan.new ≡ more plan.old (piece self.now.shape.base (two_bytes (oldest_at self.now left)) ∷ piece
+            (at self.now.shape (oldest_at self.now left)) (two_bytes 0) ∷ []) }
     {
         let oldest = self.oldest(left);
         plan.put(self.circle.base(), &two_bytes(oldest));

@@ -1,4 +1,5 @@
-ghost use Rattle.std.specs.Prelude.{◌≡◌, ◌≢◌, ◌⊎◌, false, [], ◌≤◌, ◌<◌, ◌+◌, ◌-◌, ◌*◌, ◌%◌, List, length, IfOk, OnOk, IfSome, is_err};
+ghost use Rattle.std.specs.Prelude.{◌≡◌, ◌≢◌, ◌⊎◌, false, [], ◌≤◌, ◌<◌, ◌+◌, ◌-◌, ◌*◌, ◌%◌, List, length, IfOk, OnOk};
+ghost use Rattle.std.specs.Prelude.{IfSome, is_err};
 ghost use Rattle.card_model.specs.declared.lengths.TheConstants.{DAYS_MOST};
 ghost use Rattle.tach_media.specs.Medium.{LeavesOnly, Reads, HasCause, LiesInside, IsSettled, last_count};
 ghost use Rattle.tach_media.specs.Plan.{PutsAll, PutsBy};
@@ -6,9 +7,12 @@ ghost use Rattle.card_model.specs.Days.{Day};
 ghost use Rattle.card_model.specs.Changes.{fitting, until, date_of, trimmed};
 ghost use Rattle.card_model.specs.Image.{HoldsDays, IsPointer};
 ghost use Rattle.card_days.specs.Held.{IsInBounds, Knows};
-ghost use Rattle.card_days.specs.Moments.{FileFitsIn, IfKnown, IsChanging, IsChanged, KnowsChanged, IsDayBeginning, IsDayBegun, KnowsBegun, ClearsChanged, ClearsBegun, BeginsAgain};
-ghost use Rattle.card_days.specs.Plans.{left_in, most_drops, change_pieces, tail_more, beginning_pieces, tail_begun, mend_pieces, km_pieces, tail_km};
-ghost use Rattle.card_days.specs.Steps.{SameDays, IsIdle, IsDropMended, IsMeasured, IsMeasuring, KnowsMeasured, SettlesIfSettled};
+ghost use Rattle.card_days.specs.Moments.{FileFitsIn, IfKnown, IsChanging, IsChanged, KnowsChanged, IsDayBeginning};
+ghost use Rattle.card_days.specs.Moments.{IsDayBegun, KnowsBegun, ClearsChanged, ClearsBegun, BeginsAgain};
+ghost use Rattle.card_days.specs.Plans.{left_in, most_drops, change_pieces, tail_more, beginning_pieces, tail_begun};
+ghost use Rattle.card_days.specs.Plans.{mend_pieces, km_pieces, tail_km};
+ghost use Rattle.card_days.specs.Steps.{SameDays, IsIdle, IsDropMended, IsMeasured, IsMeasuring, KnowsMeasured};
+ghost use Rattle.card_days.specs.Steps.{SettlesIfSettled};
 ghost use Rattle.card_days.specs.Trim.{IsTrim, IsTrimMoment};
 
 use super::Days;
@@ -22,10 +26,14 @@ impl Days {
     fn change<M: Medium>(&self, medium: &mut M, word: u16) -> Result<u32, Failed>
         requires fits { FileFitsIn self.now.shape (M.state medium.old) }
         requires writable { LiesInside (M.state medium.old).writable self.now.shape.base (4 + self.now.shape.size) }
-        ensures puts { PutsBy (M.state medium.old) (M.state medium.new) (is_err result) 2 (2 + 2 * most_drops self.now.shape.size self.now.tail.used 2) (change_pieces self.now word) }
-        ensures exact { IfSome (M.state medium.old).image (λ x. (M.state medium.new).clock ≤ (M.state medium.old).clock + length (change_pieces self.now word x)) }
-        ensures used { IfOk result (λ n. IfSome (M.state medium.old).image (λ x. n ≡ left_in self.now 2 x self.now.tail.used + 2)) }
-        ensures most { IfOk result (λ n. n + 14 * most_drops self.now.shape.size self.now.tail.used 2 ≤ self.now.tail.used + 2) }
+        ensures puts { PutsBy (M.state medium.old) (M.state medium.new) (is_err result) 2
+            (2 + 2 * most_drops self.now.shape.size self.now.tail.used 2) (change_pieces self.now word) }
+        ensures exact { IfSome (M.state medium.old).image
+            (λ x. (M.state medium.new).clock ≤ (M.state medium.old).clock + length (change_pieces self.now word x)) }
+        ensures used { IfOk result (λ n. IfSome (M.state medium.old).image (λ x. n ≡ left_in self.now 2 x
+            self.now.tail.used + 2)) }
+        ensures most { IfOk result (λ n. n + 14 * most_drops self.now.shape.size self.now.tail.used 2
+            ≤ self.now.tail.used + 2) }
         ensures within { IfOk result (λ n. n ≤ self.now.shape.size) }
         ensures even { IfOk result (λ n. n % 2 ≡ 0) }
     {
@@ -42,9 +50,15 @@ impl Days {
         requires writable { LiesInside (M.state medium.old).writable self.now.shape.base (4 + self.now.shape.size) }
         requires some { 1 ≤ length words.now }
         requires few { length words.now ≤ 2 }
-        ensures puts { PutsBy (M.state medium.old) (M.state medium.new) (is_err result) 3 (5 + 2 * most_drops self.now.shape.size self.now.tail.used (12 + 2 * length words.now)) (beginning_pieces self.now date words.now) }
-        ensures exact { IfSome (M.state medium.old).image (λ x. (M.state medium.new).clock ≤ (M.state medium.old).clock + length (beginning_pieces self.now date words.now x)) }
-        ensures used { IfOk result (λ n. IfSome (M.state medium.old).image (λ x. n ≡ left_in self.now (12 + 2 * length words.now) x (left_in self.now (12 + 2 * length words.now) x self.now.tail.used) + (12 + 2 * length words.now))) }
+        ensures puts { PutsBy (M.state medium.old) (M.state medium.new) (is_err result) 3
+            (5 + 2 * most_drops self.now.shape.size self.now.tail.used (12 + 2 * length words.now))
+            (beginning_pieces self.now date words.now) }
+        ensures exact { IfSome (M.state medium.old).image
+            (λ x. (M.state medium.new).clock
+            ≤ (M.state medium.old).clock + length (beginning_pieces self.now date words.now x)) }
+        ensures used { IfOk result (λ n. IfSome (M.state medium.old).image (λ x. n ≡ left_in self.now
+            (12 + 2 * length words.now) x (left_in self.now (12 + 2 * length words.now) x self.now.tail.used)
+            + (12 + 2 * length words.now))) }
         ensures within { IfOk result (λ n. n ≤ self.now.shape.size) }
         ensures even { IfOk result (λ n. n % 2 ≡ 0) }
     {
@@ -93,17 +107,28 @@ impl Days {
         requires some { 1 ≤ length words.now }
         requires few { length words.now ≤ 2 }
         ensures shape { self.new.shape ≡ self.old.shape }
-        ensures puts { PutsBy (M.state medium.old) (M.state medium.new) (is_err result) 3 (5 + 2 * most_drops self.old.shape.size self.old.tail.used (12 + 2 * length words.now)) (beginning_pieces self.old date.0 words.now) }
-        ensures begun { OnOk result (IfSome (M.state medium.old).image (λ x. IfSome (M.state medium.new).image (IfKnown self.old (IsDayBegun self.old.shape date.0 words.now) x))) }
-        ensures knows { OnOk result (IfSome (M.state medium.old).image (λ x. IfSome (M.state medium.new).image (KnowsBegun self.old self.new date.0 words.now x))) }
-        ensures cleared { OnOk result (IfSome (M.state medium.old).image (λ x. IfSome (M.state medium.new).image (ClearsBegun self.old date.0 words.now x))) }
-        ensures again { OnOk result (IfSome (M.state medium.old).image (λ x. IfSome (M.state medium.new).image (BeginsAgain self.old date.0 words.now x))) }
-        ensures moments { LeavesOnly (M.state medium.old) (M.state medium.new) (IfKnown self.old (IsDayBeginning self.old.shape date.0 words.now)) }
+        ensures puts { PutsBy (M.state medium.old) (M.state medium.new) (is_err result) 3
+            (5 + 2 * most_drops self.old.shape.size self.old.tail.used (12 + 2 * length words.now))
+            (beginning_pieces self.old date.0 words.now) }
+        ensures begun { OnOk result (IfSome (M.state medium.old).image
+            (λ x. IfSome (M.state medium.new).image
+            (IfKnown self.old (IsDayBegun self.old.shape date.0 words.now) x))) }
+        ensures knows { OnOk result (IfSome (M.state medium.old).image
+            (λ x. IfSome (M.state medium.new).image (KnowsBegun self.old self.new date.0 words.now x))) }
+        ensures cleared { OnOk result (IfSome (M.state medium.old).image
+            (λ x. IfSome (M.state medium.new).image (ClearsBegun self.old date.0 words.now x))) }
+        ensures again { OnOk result (IfSome (M.state medium.old).image
+            (λ x. IfSome (M.state medium.new).image (BeginsAgain self.old date.0 words.now x))) }
+        ensures moments { LeavesOnly (M.state medium.old) (M.state medium.new)
+            (IfKnown self.old (IsDayBeginning self.old.shape date.0 words.now)) }
         ensures settled { OnOk result ((M.state medium.new).clock < last_count → IsSettled (M.state medium.new)) }
         ensures cause { HasCause (M.state medium.old) (M.state medium.new) (is_err result) }
-        ensures most { (M.state medium.new).clock ≤ (M.state medium.old).clock + (5 + 2 * most_drops self.old.shape.size self.old.tail.used (12 + 2 * length words.now)) }
+        ensures most { (M.state medium.new).clock
+            ≤ (M.state medium.old).clock + (5 + 2 * most_drops self.old.shape.size self.old.tail.used
+            (12 + 2 * length words.now)) }
         ensures writes { IfSome (M.state medium.old).image (λ x. (days : List Day) → Knows self.old x days
-            → (M.state medium.new).clock + 2 * length (fitting (self.old.shape.size - (12 + 2 * length words.now)) days) ≤ (M.state medium.old).clock + (5 + 2 * length days)) }
+            → (M.state medium.new).clock + 2 * length (fitting (self.old.shape.size - (12 + 2 * length words.now)) days)
+            ≤ (M.state medium.old).clock + (5 + 2 * length days)) }
     {
         let used = self.begin(medium, date.0, words)?;
         self.tail = self.new_tail(date, words, used);
@@ -117,17 +142,25 @@ impl Days {
         requires writable { LiesInside (M.state medium.old).writable self.old.shape.base (4 + self.old.shape.size) }
         ensures held { IsInBounds self.old }
         ensures shape { self.new.shape ≡ self.old.shape }
-        ensures puts { PutsBy (M.state medium.old) (M.state medium.new) (is_err result) 2 (2 + 2 * most_drops self.old.shape.size self.old.tail.used 2) (change_pieces self.old word) }
-        ensures changed { OnOk result (IfSome (M.state medium.old).image (λ x. IfSome (M.state medium.new).image (IfKnown self.old (IsChanged self.old.shape word) x))) }
-        ensures knows { OnOk result (IfSome (M.state medium.old).image (λ x. IfSome (M.state medium.new).image (KnowsChanged self.old self.new word x))) }
-        ensures cleared { OnOk result (IfSome (M.state medium.old).image (λ x. IfSome (M.state medium.new).image (ClearsChanged self.old word x))) }
-        ensures moments { LeavesOnly (M.state medium.old) (M.state medium.new) (IfKnown self.old (IsChanging self.old.shape word)) }
+        ensures puts { PutsBy (M.state medium.old) (M.state medium.new) (is_err result) 2
+            (2 + 2 * most_drops self.old.shape.size self.old.tail.used 2) (change_pieces self.old word) }
+        ensures changed { OnOk result (IfSome (M.state medium.old).image
+            (λ x. IfSome (M.state medium.new).image (IfKnown self.old (IsChanged self.old.shape word) x))) }
+        ensures knows { OnOk result (IfSome (M.state medium.old).image
+            (λ x. IfSome (M.state medium.new).image (KnowsChanged self.old self.new word x))) }
+        ensures cleared { OnOk result (IfSome (M.state medium.old).image
+            (λ x. IfSome (M.state medium.new).image (ClearsChanged self.old word x))) }
+        ensures moments { LeavesOnly (M.state medium.old) (M.state medium.new)
+            (IfKnown self.old (IsChanging self.old.shape word)) }
         ensures settled { OnOk result ((M.state medium.new).clock < last_count → IsSettled (M.state medium.new)) }
         ensures cause { HasCause (M.state medium.old) (M.state medium.new) (is_err result) }
-        ensures most { (M.state medium.new).clock ≤ (M.state medium.old).clock + (2 + 2 * most_drops self.old.shape.size self.old.tail.used 2) }
-        ensures used { OnOk result (self.new.tail.used + 14 * most_drops self.old.shape.size self.old.tail.used 2 ≤ self.old.tail.used + 2) }
+        ensures most { (M.state medium.new).clock
+            ≤ (M.state medium.old).clock + (2 + 2 * most_drops self.old.shape.size self.old.tail.used 2) }
+        ensures used { OnOk result (self.new.tail.used + 14 * most_drops self.old.shape.size self.old.tail.used 2
+            ≤ self.old.tail.used + 2) }
         ensures writes { IfSome (M.state medium.old).image (λ x. (days : List Day) → Knows self.old x days
-            → (M.state medium.new).clock + 2 * length (fitting (self.old.shape.size - 2) days) ≤ (M.state medium.old).clock + (2 + 2 * length days)) }
+            → (M.state medium.new).clock + 2 * length (fitting (self.old.shape.size - 2) days)
+            ≤ (M.state medium.old).clock + (2 + 2 * length days)) }
     {
         let used = self.change(medium, word)?;
         self.tail = with_word(&self.tail, word, used);
@@ -146,20 +179,30 @@ impl Days {
         put_pieces(medium, &plan)
     }
 
-    /// Ends a drop that a stop may have cut short: the oldest day has no length before it. Where there is no day, it makes no
-    /// call.
+    /// Ends a drop that a stop may have cut short: the oldest day has no length before it. Where there is no day, it
+    /// makes no call.
     pub fn finish_drop<M: Medium>(&mut self, medium: &mut M) -> Result<(), Failed>
         requires fits { FileFitsIn self.old.shape (M.state medium.old) }
         requires writable { LiesInside (M.state medium.old).writable self.old.shape.base (4 + self.old.shape.size) }
         ensures kept { self.new ≡ self.old }
-        ensures puts { 0 < self.old.tail.used → PutsAll (M.state medium.old) (M.state medium.new) (is_err result) (mend_pieces self.old) }
-        ensures empty { self.old.tail.used ≡ 0 → (is_err result ≡ false) × IsIdle (M.state medium.old) (M.state medium.new) }
-        ensures same { OnOk result (IfSome (M.state medium.old).image (λ x. IfSome (M.state medium.new).image (IfKnown self.old (SameDays self.old.shape) x))) }
-        ensures mended { OnOk result (IfSome (M.state medium.old).image (λ x. IfSome (M.state medium.new).image (λ y. (days : List Day) → Knows self.old x days → IsDropMended self.old.shape days x y))) }
-        ensures knows { OnOk result (IfSome (M.state medium.old).image (λ x. IfSome (M.state medium.new).image (λ y. (days : List Day) → Knows self.old x days → Knows self.old y days))) }
-        ensures moments { LeavesOnly (M.state medium.old) (M.state medium.new) (IfKnown self.old (SameDays self.old.shape)) }
-        ensures settled { OnOk result (0 < self.old.tail.used → (M.state medium.new).clock < last_count → IsSettled (M.state medium.new)) }
-        ensures cause { HasCause (M.state medium.old) (M.state medium.new) (is_err result) ⊎ ((is_err result ≡ false) × IsIdle (M.state medium.old) (M.state medium.new)) }
+        ensures puts { 0 < self.old.tail.used
+            → PutsAll (M.state medium.old) (M.state medium.new) (is_err result) (mend_pieces self.old) }
+        ensures empty { self.old.tail.used ≡ 0
+            → (is_err result ≡ false) × IsIdle (M.state medium.old) (M.state medium.new) }
+        ensures same { OnOk result (IfSome (M.state medium.old).image
+            (λ x. IfSome (M.state medium.new).image (IfKnown self.old (SameDays self.old.shape) x))) }
+        ensures mended { OnOk result (IfSome (M.state medium.old).image
+            (λ x. IfSome (M.state medium.new).image
+            (λ y. (days : List Day) → Knows self.old x days → IsDropMended self.old.shape days x y))) }
+        ensures knows { OnOk result (IfSome (M.state medium.old).image
+            (λ x. IfSome (M.state medium.new).image
+            (λ y. (days : List Day) → Knows self.old x days → Knows self.old y days))) }
+        ensures moments { LeavesOnly (M.state medium.old) (M.state medium.new)
+            (IfKnown self.old (SameDays self.old.shape)) }
+        ensures settled { OnOk result (0 < self.old.tail.used → (M.state medium.new).clock < last_count → IsSettled
+            (M.state medium.new)) }
+        ensures cause { HasCause (M.state medium.old) (M.state medium.new) (is_err result)
+            ⊎ ((is_err result ≡ false) × IsIdle (M.state medium.old) (M.state medium.new)) }
         ensures most { (M.state medium.new).clock ≤ (M.state medium.old).clock + 1 }
     {
         if self.tail.used == 0 {
@@ -186,9 +229,12 @@ impl Days {
         requires writable { LiesInside (M.state medium.old).writable self.old.shape.base (4 + self.old.shape.size) }
         ensures shape { self.new.shape ≡ self.old.shape }
         ensures puts { PutsAll (M.state medium.old) (M.state medium.new) (is_err result) (km_pieces self.old km.0) }
-        ensures measured { OnOk result (IfSome (M.state medium.old).image (λ x. IfSome (M.state medium.new).image (IfKnown self.old (IsMeasured self.old.shape km.0) x))) }
-        ensures knows { OnOk result (IfSome (M.state medium.old).image (λ x. IfSome (M.state medium.new).image (KnowsMeasured self.old self.new km.0 x))) }
-        ensures moments { LeavesOnly (M.state medium.old) (M.state medium.new) (IfKnown self.old (IsMeasuring self.old.shape km.0)) }
+        ensures measured { OnOk result (IfSome (M.state medium.old).image
+            (λ x. IfSome (M.state medium.new).image (IfKnown self.old (IsMeasured self.old.shape km.0) x))) }
+        ensures knows { OnOk result (IfSome (M.state medium.old).image
+            (λ x. IfSome (M.state medium.new).image (KnowsMeasured self.old self.new km.0 x))) }
+        ensures moments { LeavesOnly (M.state medium.old) (M.state medium.new)
+            (IfKnown self.old (IsMeasuring self.old.shape km.0)) }
         ensures settled { OnOk result ((M.state medium.new).clock < last_count → IsSettled (M.state medium.new)) }
         ensures cause { HasCause (M.state medium.old) (M.state medium.new) (is_err result) }
         ensures most { (M.state medium.new).clock ≤ (M.state medium.old).clock + 1 }
@@ -199,21 +245,30 @@ impl Days {
     }
 
     /// Leaves no day and no word later than a minute: the days later than the minute's day go, the newest first, and
-    /// then the words of the newest day that are later. A stop at a moment of the call leaves a list of days between. Where
-    /// there is no day, it only reads. It reads the string, and not what was kept of it.
+    /// then the words of the newest day that are later. A stop at a moment of the call leaves a list of days between.
+    /// Where there is no day, it only reads. It reads the string, and not what was kept of it.
     pub fn trim<M: Medium>(&mut self, medium: &mut M, minute: u32) -> Result<(), Failed>
         requires fits { FileFitsIn self.old.shape (M.state medium.old) }
         requires writable { LiesInside (M.state medium.old).writable self.old.shape.base (4 + self.old.shape.size) }
         ensures shape { self.new.shape ≡ self.old.shape }
-        ensures trimmed { OnOk result (IfSome (M.state medium.old).image (λ x. IfSome (M.state medium.new).image (IsTrim self.old.shape minute x))) }
-        ensures knows { OnOk result (IfSome (M.state medium.old).image (λ x. IfSome (M.state medium.new).image (λ y. (days : List Day) → HoldsDays self.old.shape x days → Knows self.new y (trimmed minute days)))) }
+        ensures trimmed { OnOk result (IfSome (M.state medium.old).image
+            (λ x. IfSome (M.state medium.new).image (IsTrim self.old.shape minute x))) }
+        ensures knows { OnOk result (IfSome (M.state medium.old).image
+            (λ x. IfSome (M.state medium.new).image
+            (λ y. (days : List Day) → HoldsDays self.old.shape x days → Knows self.new y (trimmed minute days)))) }
         ensures moments { LeavesOnly (M.state medium.old) (M.state medium.new) (IsTrimMoment self.old.shape minute) }
-        ensures settled { OnOk result (IfSome (M.state medium.old).image (λ x. (days : List Day) → HoldsDays self.old.shape x days → days ≢ [] → (M.state medium.new).clock < last_count → IsSettled (M.state medium.new))) }
+        ensures settled { OnOk result (IfSome (M.state medium.old).image
+            (λ x. (days : List Day) → HoldsDays self.old.shape x days → days ≢ []
+            → (M.state medium.new).clock < last_count → IsSettled (M.state medium.new))) }
         ensures still { OnOk result (SettlesIfSettled (M.state medium.old) (M.state medium.new)) }
-        ensures empty { IfSome (M.state medium.old).image (λ x. HoldsDays self.old.shape x [] → Reads (M.state medium.old) (M.state medium.new) (is_err result)) }
+        ensures empty { IfSome (M.state medium.old).image
+            (λ x. HoldsDays self.old.shape x [] → Reads (M.state medium.old) (M.state medium.new) (is_err result)) }
         ensures cause { HasCause (M.state medium.old) (M.state medium.new) (is_err result) }
         ensures most { (M.state medium.new).clock ≤ (M.state medium.old).clock + (DAYS_MOST + 1) }
-        ensures writes { IfSome (M.state medium.old).image (λ x. (days : List Day) → HoldsDays self.old.shape x days → (M.state medium.new).clock + length (until (date_of minute) days) ≤ (M.state medium.old).clock + (length days + 1)) }
+        ensures writes { IfSome (M.state medium.old).image
+            (λ x. (days : List Day) → HoldsDays self.old.shape x days
+            → (M.state medium.new).clock + length (until (date_of minute) days)
+            ≤ (M.state medium.old).clock + (length days + 1)) }
     {
         self.circle.trim(medium, minute)?;
         self.tail = self.circle.tail(medium)?;

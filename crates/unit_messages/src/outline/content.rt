@@ -6,7 +6,8 @@ ghost use Rattle.unit_minutes.specs.Reading.{ReadsIfAny};
 ghost use Rattle.message_model.specs.Records.{speed_ring};
 ghost use Rattle.message_model.specs.Sending.{field_of};
 ghost use Rattle.unit_messages.specs.Windows.{passed};
-ghost use Rattle.unit_messages.specs.Outlines.{IsDayInRange, IsEventInRange, AreTimes, IsDayOf, AreEventsOf, AreBlocksOf, HasPassed};
+ghost use Rattle.unit_messages.specs.Outlines.{IsDayInRange, IsEventInRange, AreTimes, IsDayOf, AreEventsOf};
+ghost use Rattle.unit_messages.specs.Outlines.{AreBlocksOf, HasPassed};
 
 use crate::outline::rows::{
     event_entries, fault_entries, over_entries, pass_blocks, pass_byte, pass_insertions,
@@ -46,7 +47,8 @@ fn pass_fields<M: Medium>(
     requires unit { (M.state unit.old).size ≡ IMAGE_SIZE }
     requires first { first.place + first.size ≤ IMAGE_SIZE }
     requires next { next.place + next.size ≤ IMAGE_SIZE }
-    ensures passed { OnOk result (IfSome (M.state unit.old).image (λ x. window.new ≡ passed window.old (field_of first x ++ field_of next x))) }
+    ensures passed { OnOk result (IfSome (M.state unit.old).image
+        (λ x. window.new ≡ passed window.old (field_of first x ++ field_of next x))) }
     ensures reads { ReadsIfAny (M.state unit.old) (M.state unit.new) (is_err result) }
 {
     window.pass_range(unit, first.place, first.size)?;
@@ -65,7 +67,8 @@ pub fn pass_overview<M: Medium>(
     window: &mut Window,
 ) -> Result<(), Failed>
     requires unit { (M.state unit.old).size ≡ IMAGE_SIZE }
-    ensures passed { OnOk result (IfSome (M.state unit.old).image (λ x. AreTimes x times → HasPassed (Plan.Overview times) x window.old window.new)) }
+    ensures passed { OnOk result (IfSome (M.state unit.old).image
+        (λ x. AreTimes x times → HasPassed (Plan.Overview times) x window.old window.new)) }
     ensures reads { ReadsIfAny (M.state unit.old) (M.state unit.new) (is_err result) }
 {
     window.pass(&[SERVICE, 1]);
@@ -85,7 +88,8 @@ pub fn pass_overview<M: Medium>(
 /// `Failed` where the unit failed.
 pub fn pass_technical<M: Medium>(unit: &mut M, window: &mut Window) -> Result<(), Failed>
     requires unit { (M.state unit.old).size ≡ IMAGE_SIZE }
-    ensures passed { OnOk result (IfSome (M.state unit.old).image (λ x. HasPassed Plan.Technical x window.old window.new)) }
+    ensures passed { OnOk result (IfSome (M.state unit.old).image
+        (λ x. HasPassed Plan.Technical x window.old window.new)) }
     ensures reads { ReadsIfAny (M.state unit.old) (M.state unit.new) (is_err result) }
 {
     window.pass(&[SERVICE, 5]);
@@ -106,7 +110,8 @@ pub fn pass_events<M: Medium>(
 ) -> Result<(), Failed>
     requires unit { (M.state unit.old).size ≡ IMAGE_SIZE }
     requires range { IsEventInRange events }
-    ensures passed { OnOk result (IfSome (M.state unit.old).image (λ x. AreEventsOf x events → HasPassed (Plan.Events events) x window.old window.new)) }
+    ensures passed { OnOk result (IfSome (M.state unit.old).image
+        (λ x. AreEventsOf x events → HasPassed (Plan.Events events) x window.old window.new)) }
     ensures reads { ReadsIfAny (M.state unit.old) (M.state unit.new) (is_err result) }
 {
     window.pass(&[SERVICE, 3]);
@@ -120,7 +125,8 @@ pub fn pass_events<M: Medium>(
     Ok(())
 }
 
-/// The message of a day passes by: its date in seconds, its odometer in km, its insertions, words and places, and zeros.
+/// The message of a day passes by: its date in seconds, its odometer in km, its insertions, words and places, and
+/// zeros.
 ///
 /// # Errors
 ///
@@ -128,7 +134,8 @@ pub fn pass_events<M: Medium>(
 pub fn pass_day<M: Medium>(unit: &mut M, day: DayOutline, window: &mut Window) -> Result<(), Failed>
     requires unit { (M.state unit.old).size ≡ IMAGE_SIZE }
     requires range { IsDayInRange day }
-    ensures passed { OnOk result (IfSome (M.state unit.old).image (λ x. IsDayOf x day → HasPassed (Plan.Day day) x window.old window.new)) }
+    ensures passed { OnOk result (IfSome (M.state unit.old).image
+        (λ x. IsDayOf x day → HasPassed (Plan.Day day) x window.old window.new)) }
     ensures reads { ReadsIfAny (M.state unit.old) (M.state unit.new) (is_err result) }
 {
     window.pass(&[SERVICE, 2]);
@@ -149,7 +156,8 @@ pub fn pass_day<M: Medium>(unit: &mut M, day: DayOutline, window: &mut Window) -
 pub fn pass_speed<M: Medium>(unit: &mut M, blocks: u32, window: &mut Window) -> Result<(), Failed>
     requires unit { (M.state unit.old).size ≡ IMAGE_SIZE }
     requires range { blocks ≤ speed_ring.count }
-    ensures passed { OnOk result (IfSome (M.state unit.old).image (λ x. AreBlocksOf x blocks → HasPassed (Plan.Speed blocks) x window.old window.new)) }
+    ensures passed { OnOk result (IfSome (M.state unit.old).image
+        (λ x. AreBlocksOf x blocks → HasPassed (Plan.Speed blocks) x window.old window.new)) }
     ensures reads { ReadsIfAny (M.state unit.old) (M.state unit.new) (is_err result) }
 {
     window.pass(&[SERVICE, 4]);

@@ -1,6 +1,7 @@
 //! How many insertions and places lie on each of many dates, counted in one look at their rings.
 ghost use Rattle.unit_model.specs.declared.layout.TheConstants.{DAY_SECONDS, IMAGE_SIZE, INSERTION_SLOTS};
-ghost use Rattle.std.specs.Prelude.{◌≡◌, ◌==◌, ◌||◌, true, not, ◌≤◌, ◌<◌, ◌+◌, ◌-◌, ◌*◌, ℕ, List, IfOk, OnOk, IfSome, IfNone, length, is_err, slice_index_or, if◌then◌else◌};
+ghost use Rattle.std.specs.Prelude.{◌≡◌, ◌==◌, ◌||◌, true, not, ◌≤◌, ◌<◌, ◌+◌, ◌-◌, ◌*◌, ℕ, List, IfOk, OnOk, IfSome};
+ghost use Rattle.std.specs.Prelude.{IfNone, length, is_err, slice_index_or, if◌then◌else◌};
 ghost use Rattle.std.specs.List.{range_with_len};
 ghost use Rattle.card_layout.specs.Images.{bytes_at, number_at};
 ghost use Rattle.unit_model.specs.Decoding.{Decodes};
@@ -95,7 +96,9 @@ pub fn count_at(counts: &[u16; DATES], index: usize) -> u32
 fn add_on(counts: &mut [u16], first: u32, date: u32)
     requires whole { length counts.old ≡ DATES }
     requires few { AreFew (u16.MAX - 1) counts.old }
-    ensures added { (i : ℕ) → i < DATES → slice_index_or counts.new i 0 ≡ slice_index_or counts.old i 0 + (if first + DAY_SECONDS * i == date then 1 else 0) }
+    ensures added { (i : ℕ) → i < DATES
+        → slice_index_or counts.new i 0
+        ≡ slice_index_or counts.old i 0 + (if first + DAY_SECONDS * i == date then 1 else 0) }
     ensures few { (n : ℕ) → AreFew n counts.old → AreFew (n + 1) counts.new }
 {
     if let Some(index) = date_index(first, date) {
@@ -108,7 +111,10 @@ fn add_entry(kind: Dated, entry: &[u8], first: u32, counts: &mut [u16])
     requires whole { length counts.old ≡ DATES }
     requires wide { length entry.now ≡ (entries_on kind 0).width }
     requires few { AreFew INSERTION_SLOTS counts.old }
-    ensures added { (i : ℕ) → i < DATES → slice_index_or counts.new i 0 ≡ slice_index_or counts.old i 0 + (if is_meant (entries_on kind (first + DAY_SECONDS * i)) entry.now then 1 else 0) }
+    ensures added { (i : ℕ) → i < DATES
+        → slice_index_or counts.new i 0
+        ≡ slice_index_or counts.old i 0 + (if is_meant (entries_on kind (first + DAY_SECONDS * i)) entry.now then 1
+        else 0) }
     ensures few { (n : ℕ) → AreFew n counts.old → AreFew (n + 1) counts.new }
 {
     let entries = kind.entries_on(0);
@@ -129,8 +135,11 @@ fn add_block(kind: Dated, block: &[u8], count: u32, first: u32, counts: &mut [u1
     requires at_once { count ≤ AT_ONCE }
     requires block { length block.now ≡ count * (entries_on kind 0).width }
     requires few { (n : ℕ) × AreFew n counts.old × (n + count ≤ INSERTION_SLOTS) }
-    ensures added { (x : List ℕ) (index : ℕ) → block.now ≡ bytes_at x ((entries_on kind 0).base + index * (entries_on kind 0).width) (count * (entries_on kind 0).width)
-        → CountsEach kind first x (range_with_len 0 index) counts.old → CountsEach kind first x (range_with_len 0 (index + count)) counts.new }
+    ensures added { (x : List ℕ) (index : ℕ)
+        → block.now ≡ bytes_at x ((entries_on kind 0).base + index * (entries_on kind 0).width)
+        (count * (entries_on kind 0).width)
+        → CountsEach kind first x (range_with_len 0 index) counts.old
+        → CountsEach kind first x (range_with_len 0 (index + count)) counts.new }
     ensures few { (n : ℕ) → AreFew n counts.old → AreFew (n + count) counts.new }
 {
     let entries = kind.entries_on(0);
@@ -152,8 +161,10 @@ fn add_some<M: Medium>(
     requires whole { length counts.old ≡ DATES }
     requires below { index < (entries_on kind 0).count }
     requires few { AreFew index counts.old }
-    ensures some { IfOk result (λ n. (0 < n) × (index + n ≤ (entries_on kind 0).count) × AreFew (index + n) counts.new) }
-    ensures added { IfOk result (λ n. IfSome (M.state unit.old).image (λ x. CountsEach kind first x (range_with_len 0 index) counts.old → CountsEach kind first x (range_with_len 0 (index + n)) counts.new)) }
+    ensures some { IfOk result (λ n. (0 < n) × (index + n ≤ (entries_on kind 0).count)
+        × AreFew (index + n) counts.new) }
+    ensures added { IfOk result (λ n. IfSome (M.state unit.old).image (λ x. CountsEach kind first x
+        (range_with_len 0 index) counts.old → CountsEach kind first x (range_with_len 0 (index + n)) counts.new)) }
     ensures reads { Reads (M.state unit.old) (M.state unit.new) (is_err result) }
 {
     let entries = kind.entries_on(0);
@@ -170,7 +181,9 @@ fn add_some<M: Medium>(
 // How many there are on each date.
 fn count_each<M: Medium>(kind: Dated, unit: &mut M, first: u32) -> Result<[u16; DATES], Failed>
     requires unit { (M.state unit.old).size ≡ IMAGE_SIZE }
-    ensures counted { IfOk result (λ counts. IfSome (M.state unit.old).image (λ x. CountsEach kind first x (range_with_len 0 (entries_on kind 0).count) counts)) }
+    ensures counted { IfOk result (λ counts.
+        IfSome (M.state unit.old).image (λ x. CountsEach kind first x (range_with_len 0 (entries_on kind 0).count)
+        counts)) }
     ensures few { IfOk result (AreFew (entries_on kind 0).count) }
     ensures reads { ReadsIfAny (M.state unit.old) (M.state unit.new) (is_err result) }
 {
@@ -185,7 +198,8 @@ fn count_each<M: Medium>(kind: Dated, unit: &mut M, first: u32) -> Result<[u16; 
     Ok(counts)
 }
 
-/// How many insertions and places there are on each of the dates from a second on, of a unit whose image is known to decode.
+/// How many insertions and places there are on each of the dates from a second on, of a unit whose image is known to
+/// decode.
 pub fn count_dates<M: Medium>(unit: &mut M, first: u32) -> Result<Counts, Failed>
     requires unit { (M.state unit.old).size ≡ IMAGE_SIZE }
     requires decodes { IfSome (M.state unit.old).image Decodes }

@@ -1,5 +1,6 @@
 //! What a message is made of, found in the unit's image.
-ghost use Rattle.unit_model.specs.declared.layout.TheConstants.{DAY_SECONDS, DAY_WORD_LIMIT, HIGHEST_ODOMETER, IMAGE_SIZE};
+ghost use Rattle.unit_model.specs.declared.layout.TheConstants.{DAY_SECONDS, DAY_WORD_LIMIT, HIGHEST_ODOMETER};
+ghost use Rattle.unit_model.specs.declared.layout.TheConstants.{IMAGE_SIZE};
 ghost use Rattle.std.specs.Prelude.{◌≡◌, ◌<◌, ◌≤◌, ◌+◌, ◌*◌, ℕ, List, Some, IfOk, IfSome, is_err, filter, length};
 ghost use Rattle.gated_ring.specs.Ring.{ring_list, PointsInside};
 ghost use Rattle.unit_model.specs.Decoding.{Decodes};
@@ -7,7 +8,8 @@ ghost use Rattle.unit_minutes.specs.Reading.{AreRight, IsOfDate, IsSlotPlace, Re
 ghost use Rattle.message_model.specs.Records.{insertion_ring, unit_place_ring, speed_ring};
 ghost use Rattle.message_model.specs.Sending.{touches_day, place_in_day};
 ghost use Rattle.unit_messages.specs.Counts.{AreCounted, AreInRange};
-ghost use Rattle.unit_messages.specs.Outlines.{Outlines, IsOutlined, IsDayInRange, IsEventInRange, AreTimes, AreEventsOf, AreBlocksOf, asked};
+ghost use Rattle.unit_messages.specs.Outlines.{Outlines, IsOutlined, IsDayInRange, IsEventInRange, AreTimes};
+ghost use Rattle.unit_messages.specs.Outlines.{AreEventsOf, AreBlocksOf, asked};
 
 use crate::outline::counts::{Counts, DATES, count_at, count_dates, date_index};
 use crate::outline::rows::{event_entries, fault_entries, over_entries, speed_blocks};
@@ -18,8 +20,8 @@ use tacho_types::TimeReal;
 use unit_minutes::{Journal, UnitDay};
 use unit_model::layout::{DAY_WORDS, FIRST_OVER, OVER_COUNT};
 
-/// What the message is made of that answers a request, of a unit whose image is known to decode, as from its journal's load;
-/// `None` exactly where there is no such message: for a day that is not recorded.
+/// What the message is made of that answers a request, of a unit whose image is known to decode, as from its journal's
+/// load; `None` exactly where there is no such message: for a day that is not recorded.
 pub fn find_outline<M: Medium>(
     journal: &Journal,
     unit: &mut M,
@@ -65,7 +67,8 @@ fn overview_outline<M: Medium>(journal: &Journal, unit: &mut M) -> Result<Option
     requires unit { (M.state unit.old).size ≡ IMAGE_SIZE }
     requires right { IfSome (M.state unit.old).image (AreRight journal.now) }
     requires decodes { IfSome (M.state unit.old).image Decodes }
-    ensures outlined { IfOk result (λ found. IfSome (M.state unit.old).image (λ x. IsOutlined x Request.Overview found)) }
+    ensures outlined { IfOk result (λ found. IfSome (M.state unit.old).image
+        (λ x. IsOutlined x Request.Overview found)) }
     ensures request { IfOk result (λ found. IfSome found (λ o. asked o ≡ Request.Overview)) }
     ensures reads { ReadsIfAny (M.state unit.old) (M.state unit.new) (is_err result) }
 {
@@ -111,7 +114,8 @@ fn dated_outline<M: Medium>(
     requires right { IfSome (M.state unit.old).image (AreRight journal.now) }
     requires decodes { IfSome (M.state unit.old).image Decodes }
     requires known { IfSome (M.state unit.old).image (λ x. IfSome known.now (λ o. Outlines o x)) }
-    ensures outlined { IfOk result (λ found. IfSome (M.state unit.old).image (λ x. IsOutlined x (Request.Day date) found)) }
+    ensures outlined { IfOk result (λ found. IfSome (M.state unit.old).image
+        (λ x. IsOutlined x (Request.Day date) found)) }
     ensures request { IfOk result (λ found. IfSome found (λ o. asked o ≡ Request.Day date)) }
     ensures reads { ReadsIfAny (M.state unit.old) (M.state unit.new) (is_err result) }
 {
@@ -139,7 +143,8 @@ fn found_outline<M: Medium>(
     requires place { IsSlotPlace day.place }
     requires words { day.words ≤ DAY_WORD_LIMIT }
     requires odometer { day.odometer.0 ≤ HIGHEST_ODOMETER }
-    ensures outlined { IfOk result (λ found. IfSome (M.state unit.old).image (λ x. IsOutlined x (Request.Day day.date.0) found)) }
+    ensures outlined { IfOk result (λ found. IfSome (M.state unit.old).image
+        (λ x. IsOutlined x (Request.Day day.date.0) found)) }
     ensures request { IfOk result (λ found. IfSome found (λ o. asked o ≡ Request.Day day.date.0)) }
     ensures reads { ReadsIfAny (M.state unit.old) (M.state unit.new) (is_err result) }
 {
@@ -170,10 +175,14 @@ fn day_outline<M: Medium>(
     requires odometer { day.now.odometer.0 ≤ HIGHEST_ODOMETER }
     requires decodes { IfSome (M.state unit.old).image Decodes }
     requires known { IfSome (M.state unit.old).image (λ x. IfSome known.now (λ o. Outlines o x)) }
-    ensures day { IfOk result (λ d. (d.date ≡ day.now.date.0) × (d.odometer ≡ day.now.odometer.0) × (d.words_place ≡ day.now.place + 16) × (d.words ≡ day.now.words)) }
+    ensures day { IfOk result (λ d. (d.date ≡ day.now.date.0) × (d.odometer ≡ day.now.odometer.0)
+        × (d.words_place ≡ day.now.place + 16) × (d.words ≡ day.now.words)) }
     ensures range { IfOk result IsDayInRange }
-    ensures pointers { IfOk result (λ d. IfSome (M.state unit.old).image (λ x. PointsInside insertion_ring x × PointsInside unit_place_ring x)) }
-    ensures counts { IfOk result (λ d. IfSome (M.state unit.old).image (λ x. (d.insertions ≡ length (filter (touches_day day.now.date.0) (ring_list insertion_ring x))) × (d.places ≡ length (filter (place_in_day day.now.date.0) (ring_list unit_place_ring x))))) }
+    ensures pointers { IfOk result (λ d. IfSome (M.state unit.old).image
+        (λ x. PointsInside insertion_ring x × PointsInside unit_place_ring x)) }
+    ensures counts { IfOk result (λ d. IfSome (M.state unit.old).image (λ x.
+        (d.insertions ≡ length (filter (touches_day day.now.date.0) (ring_list insertion_ring x)))
+        × (d.places ≡ length (filter (place_in_day day.now.date.0) (ring_list unit_place_ring x))))) }
     ensures counted { IfOk result (λ d. IfSome (M.state unit.old).image (AreCounted d.counts)) }
     ensures reads { ReadsIfAny (M.state unit.old) (M.state unit.new) (is_err result) }
 {

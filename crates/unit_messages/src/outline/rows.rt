@@ -1,6 +1,8 @@
 //! The entries and words of a message, behind their counts.
-ghost use Rattle.unit_model.specs.declared.layout.TheConstants.{IMAGE_SIZE, INSERTIONS, INSERTION_SLOTS, PLACES, EVENTS, OVERS, FAULTS, SPEEDS};
-ghost use Rattle.std.specs.Prelude.{◌≡◌, ◌==◌, ◌≤◌, ◌<◌, ◌+◌, ◌*◌, ◌^◌, if◌then◌else◌, OnOk, IfSome, is_err, filter, length};
+ghost use Rattle.unit_model.specs.declared.layout.TheConstants.{IMAGE_SIZE, INSERTIONS, INSERTION_SLOTS, PLACES};
+ghost use Rattle.unit_model.specs.declared.layout.TheConstants.{EVENTS, OVERS, FAULTS, SPEEDS};
+ghost use Rattle.std.specs.Prelude.{◌≡◌, ◌==◌, ◌≤◌, ◌<◌, ◌+◌, ◌*◌, ◌^◌, if◌then◌else◌, OnOk, IfSome, is_err, filter};
+ghost use Rattle.std.specs.Prelude.{length};
 ghost use Rattle.byteorder.specs.Endian.{big_bytes};
 ghost use Rattle.card_layout.specs.Images.{number_at};
 ghost use Rattle.card_layout.specs.Fields.{joined};
@@ -11,7 +13,8 @@ ghost use Rattle.message_model.specs.Records.{insertion_ring, unit_place_ring, s
 ghost use Rattle.message_model.specs.Messages.{counted, word_bytes};
 ghost use Rattle.message_model.specs.Sending.{entries_in, touches_day, place_in_day};
 ghost use Rattle.unit_messages.specs.Windows.{passed};
-ghost use Rattle.unit_messages.specs.Chosen.{AreEntries, shape_of, insertions_on, places_on, speed_blocks, entries_of, chosen_in_ring};
+ghost use Rattle.unit_messages.specs.Chosen.{AreEntries, shape_of, insertions_on, places_on, speed_blocks, entries_of};
+ghost use Rattle.unit_messages.specs.Chosen.{chosen_in_ring};
 ghost use Rattle.unit_messages.specs.Outlines.{IsDayInRange};
 
 use crate::entries::{Choice, Entries, INSERTION_TIME, PLACE_TIME};
@@ -156,7 +159,9 @@ pub fn pass_table<M: Medium>(
     requires entries { AreEntries entries.now }
     requires each { entries.now.choice ≡ Choice.Each }
     requires few { count ≤ 255 }
-    ensures passed { OnOk result (IfSome (M.state unit.old).image (λ x. count ≡ length (entries_in (shape_of entries.now) x) → window.new ≡ passed window.old (counted 1 (entries_in (shape_of entries.now) x)))) }
+    ensures passed { OnOk result (IfSome (M.state unit.old).image
+        (λ x. count ≡ length (entries_in (shape_of entries.now) x)
+        → window.new ≡ passed window.old (counted 1 (entries_in (shape_of entries.now) x)))) }
     ensures reads { ReadsIfAny (M.state unit.old) (M.state unit.new) (is_err result) }
 {
     pass_byte(window, count);
@@ -193,7 +198,9 @@ fn pass_ring<M: Medium>(
     requires entries { AreEntries entries.now }
     requires pointer { entries.now.base ≡ place + 4 }
     requires few { count ≤ INSERTION_SLOTS }
-    ensures passed { OnOk result (IfSome (M.state unit.old).image (λ x. number_at x place 4 < entries.now.count → count ≡ length (chosen_in_ring place entries.now x) → window.new ≡ passed window.old (joined (chosen_in_ring place entries.now x)))) }
+    ensures passed { OnOk result (IfSome (M.state unit.old).image
+        (λ x. number_at x place 4 < entries.now.count → count ≡ length (chosen_in_ring place entries.now x)
+        → window.new ≡ passed window.old (joined (chosen_in_ring place entries.now x)))) }
     ensures reads { ReadsIfAny (M.state unit.old) (M.state unit.new) (is_err result) }
 {
     let len = bytes_of(count, entries.width);
@@ -215,7 +222,10 @@ pub fn pass_insertions<M: Medium>(
 ) -> Result<(), Failed>
     requires unit { (M.state unit.old).size ≡ IMAGE_SIZE }
     requires range { IsDayInRange day }
-    ensures passed { OnOk result (IfSome (M.state unit.old).image (λ x. PointsInside insertion_ring x → day.insertions ≡ length (filter (touches_day day.date) (ring_list insertion_ring x)) → window.new ≡ passed window.old (counted 2 (filter (touches_day day.date) (ring_list insertion_ring x))))) }
+    ensures passed { OnOk result (IfSome (M.state unit.old).image
+        (λ x. PointsInside insertion_ring x
+        → day.insertions ≡ length (filter (touches_day day.date) (ring_list insertion_ring x))
+        → window.new ≡ passed window.old (counted 2 (filter (touches_day day.date) (ring_list insertion_ring x))))) }
     ensures reads { ReadsIfAny (M.state unit.old) (M.state unit.new) (is_err result) }
 {
     let entries = insertions_on(day.date);
@@ -232,7 +242,8 @@ pub fn pass_words<M: Medium>(
 ) -> Result<(), Failed>
     requires unit { (M.state unit.old).size ≡ IMAGE_SIZE }
     requires range { IsDayInRange day }
-    ensures passed { OnOk result (IfSome (M.state unit.old).image (λ x. window.new ≡ passed window.old (counted 2 (word_bytes (words_at x day.words_place day.words))))) }
+    ensures passed { OnOk result (IfSome (M.state unit.old).image
+        (λ x. window.new ≡ passed window.old (counted 2 (word_bytes (words_at x day.words_place day.words))))) }
     ensures reads { ReadsIfAny (M.state unit.old) (M.state unit.new) (is_err result) }
 {
     pass_count(window, day.words);
@@ -248,7 +259,10 @@ pub fn pass_places<M: Medium>(
 ) -> Result<(), Failed>
     requires unit { (M.state unit.old).size ≡ IMAGE_SIZE }
     requires range { IsDayInRange day }
-    ensures passed { OnOk result (IfSome (M.state unit.old).image (λ x. PointsInside unit_place_ring x → day.places ≡ length (filter (place_in_day day.date) (ring_list unit_place_ring x)) → window.new ≡ passed window.old (counted 1 (filter (place_in_day day.date) (ring_list unit_place_ring x))))) }
+    ensures passed { OnOk result (IfSome (M.state unit.old).image
+        (λ x. PointsInside unit_place_ring x
+        → day.places ≡ length (filter (place_in_day day.date) (ring_list unit_place_ring x))
+        → window.new ≡ passed window.old (counted 1 (filter (place_in_day day.date) (ring_list unit_place_ring x))))) }
     ensures reads { ReadsIfAny (M.state unit.old) (M.state unit.new) (is_err result) }
 {
     let entries = places_on(day.date);
@@ -261,7 +275,9 @@ pub fn pass_places<M: Medium>(
 pub fn pass_blocks<M: Medium>(unit: &mut M, blocks: u32, window: &mut Window) -> Result<(), Failed>
     requires unit { (M.state unit.old).size ≡ IMAGE_SIZE }
     requires few { blocks ≤ speed_ring.count }
-    ensures passed { OnOk result (IfSome (M.state unit.old).image (λ x. PointsInside speed_ring x → blocks ≡ length (ring_list speed_ring x) → window.new ≡ passed window.old (counted 2 (ring_list speed_ring x)))) }
+    ensures passed { OnOk result (IfSome (M.state unit.old).image
+        (λ x. PointsInside speed_ring x → blocks ≡ length (ring_list speed_ring x)
+        → window.new ≡ passed window.old (counted 2 (ring_list speed_ring x)))) }
     ensures reads { ReadsIfAny (M.state unit.old) (M.state unit.new) (is_err result) }
 {
     let entries = speed_blocks();

@@ -1,11 +1,13 @@
-ghost use Rattle.std.specs.Prelude.{◌≡◌, ◌↔◌, ◌<◌, ◌≤◌, ◌+◌, ℕ, Option, List, min, true, IfOk, OnOk, IfSome, is_err, option_map};
+ghost use Rattle.std.specs.Prelude.{◌≡◌, ◌↔◌, ◌<◌, ◌≤◌, ◌+◌, ℕ, Option, List, min, true, IfOk, OnOk, IfSome, is_err};
+ghost use Rattle.std.specs.Prelude.{option_map};
 ghost use Rattle.tach_media.specs.Medium.{Reads, LeavesOnly, HasCause, StaysSettled, IsSettled, last_count};
 ghost use Rattle.tacho_types.specs.CardNumber.{card_number_bytes};
 ghost use Rattle.unit_model.specs.Image.{IsUnit};
 ghost use Rattle.unit_minutes.specs.Image.{Agrees};
 ghost use Rattle.tach_media.specs.Plan.{PutsAll, PutsBy};
 ghost use Rattle.unit_owed.specs.Owed.{rows_in, owed_to};
-ghost use Rattle.unit_owed.specs.Rows.{entry_word, cell_pieces, row_pieces, putting, beginning, HasRow, IsRowAt, IsRowFor, OwedRowHas, IsPutting, IsRowBegun, IsRowBeginning};
+ghost use Rattle.unit_owed.specs.Rows.{entry_word, cell_pieces, row_pieces, putting, beginning, HasRow, IsRowAt};
+ghost use Rattle.unit_owed.specs.Rows.{IsRowFor, OwedRowHas, IsPutting, IsRowBegun, IsRowBeginning};
 ghost use Rattle.unit_owed.specs.Searching.{IsSane};
 
 use super::Journal;
@@ -26,7 +28,8 @@ impl Journal {
     ) -> Result<Owed, Failed>
         requires unit { IsUnit (M.state unit.old) }
         requires agrees { IfSome (M.state unit.old).image (Agrees self.now) }
-        ensures owed { IfOk result (λ es. IfSome (M.state unit.old).image (λ x. es.items ≡ owed_to x (card_number_bytes number.now) session after)) }
+        ensures owed { IfOk result (λ es. IfSome (M.state unit.old).image (λ x. es.items ≡ owed_to x
+            (card_number_bytes number.now) session after)) }
         ensures sane { IfOk result (λ es. IsSane after self.now.kept es.items) }
         ensures reads { Reads (M.state unit.old) (M.state unit.new) (is_err result) }
     {
@@ -46,9 +49,11 @@ impl Journal {
     ) -> Result<Asked, Failed>
         requires unit { IsUnit (M.state unit.old) }
         requires agrees { IfSome (M.state unit.old).image (Agrees self.now) }
-        ensures owed { IfOk result (λ a. IfSome (M.state unit.old).image (λ x. a.owed.items ≡ owed_to x (card_number_bytes number.now) session after)) }
+        ensures owed { IfOk result (λ a. IfSome (M.state unit.old).image (λ x. a.owed.items ≡ owed_to x
+            (card_number_bytes number.now) session after)) }
         ensures sane { IfOk result (λ a. IsSane after self.now.kept a.owed.items) }
-        ensures row { IfOk result (λ a. IfSome (M.state unit.old).image (IsRowFor a.row (card_number_bytes number.now) (option_map (λ s. card_number_bytes s.now) spared.entry))) }
+        ensures row { IfOk result (λ a. IfSome (M.state unit.old).image (IsRowFor a.row (card_number_bytes number.now)
+            (option_map (λ s. card_number_bytes s.now) spared.entry))) }
         ensures low { IfOk result (λ a. a.row < 8) }
         ensures reads { Reads (M.state unit.old) (M.state unit.new) (is_err result) }
     {
@@ -66,7 +71,8 @@ impl Journal {
     /// Whether the card of a number has a row.
     pub fn has_row<M: Medium>(&self, unit: &mut M, number: &FullCardNumber) -> Result<bool, Failed>
         requires unit { IsUnit (M.state unit.old) }
-        ensures row { IfOk result (λ found. IfSome (M.state unit.old).image (λ x. (found ≡ true) ↔ HasRow (card_number_bytes number.now) x)) }
+        ensures row { IfOk result (λ found. IfSome (M.state unit.old).image (λ x. (found ≡ true) ↔ HasRow
+            (card_number_bytes number.now) x)) }
         ensures reads { Reads (M.state unit.old) (M.state unit.new) (is_err result) }
     {
         let mut bytes = [0; 18];
@@ -74,7 +80,8 @@ impl Journal {
         has_row(unit, &bytes)
     }
 
-    /// Puts an entry among those that are owed to the card of a number, which has a row (`has_row` tells). It has it still.
+    /// Puts an entry among those that are owed to the card of a number, which has a row (`has_row` tells). It has it
+    /// still.
     pub fn put_owed<M: Medium>(
         &mut self,
         unit: &mut M,
@@ -87,10 +94,14 @@ impl Journal {
         ensures same { self.new ≡ self.old }
         ensures agrees { OnOk result (IfSome (M.state unit.new).image (Agrees self.old)) }
         ensures row { OnOk result (IfSome (M.state unit.new).image (HasRow (card_number_bytes number.now))) }
-        ensures puts { PutsBy (M.state unit.old) (M.state unit.new) (is_err result) 0 3 (λ x. putting (card_number_bytes number.now) entry.now.minute (entry_word entry.now) (rows_in x)) }
-        ensures wrote { OnOk result (IfSome (M.state unit.old).image (λ x. min ((M.state unit.old).clock + 3) last_count ≤ (M.state unit.new).clock)) }
-        ensures put { OnOk result (IfSome (M.state unit.old).image (λ x. IfSome (M.state unit.new).image (OwedRowHas (card_number_bytes number.now) entry.now x))) }
-        ensures moments { LeavesOnly (M.state unit.old) (M.state unit.new) (IsPutting (card_number_bytes number.now) entry.now) }
+        ensures puts { PutsBy (M.state unit.old) (M.state unit.new) (is_err result) 0 3
+            (λ x. putting (card_number_bytes number.now) entry.now.minute (entry_word entry.now) (rows_in x)) }
+        ensures wrote { OnOk result (IfSome (M.state unit.old).image
+            (λ x. min ((M.state unit.old).clock + 3) last_count ≤ (M.state unit.new).clock)) }
+        ensures put { OnOk result (IfSome (M.state unit.old).image
+            (λ x. IfSome (M.state unit.new).image (OwedRowHas (card_number_bytes number.now) entry.now x))) }
+        ensures moments { LeavesOnly (M.state unit.old) (M.state unit.new)
+            (IsPutting (card_number_bytes number.now) entry.now) }
         ensures settled { OnOk result (StaysSettled (M.state unit.old) (M.state unit.new)) }
         ensures cause { HasCause (M.state unit.old) (M.state unit.new) (is_err result) }
     {
@@ -100,11 +111,11 @@ impl Journal {
         put_owed(unit, &bytes, entry)
     }
 
-    /// Begins a row for the card of a number, with a session time and without an entry: its own row, else the lowest empty
-    /// one, else the one with the least session time, but not the row of the number that is spared.
+    /// Begins a row for the card of a number, with a session time and without an entry: its own row, else the lowest
+    /// empty one, else the one with the least session time, but not the row of the number that is spared.
     ///
-    /// At each moment of the call every other row is as it was, and the row that is begun is as it was, or has no session,
-    /// or is begun. After it the number has a row.
+    /// At each moment of the call every other row is as it was, and the row that is begun is as it was, or has no
+    /// session, or is begun. After it the number has a row.
     pub fn begin_owed<M: Medium>(
         &mut self,
         unit: &mut M,
@@ -118,9 +129,16 @@ impl Journal {
         ensures same { self.new ≡ self.old }
         ensures agrees { OnOk result (IfSome (M.state unit.new).image (Agrees self.old)) }
         ensures row { OnOk result (IfSome (M.state unit.new).image (HasRow (card_number_bytes number.now))) }
-        ensures puts { PutsBy (M.state unit.old) (M.state unit.new) (is_err result) 7 7 (λ x. beginning (card_number_bytes number.now) session (option_map (λ s. card_number_bytes s.now) spared.entry) (rows_in x)) }
-        ensures begun { OnOk result (IfSome (M.state unit.old).image (λ x. IfSome (M.state unit.new).image (IsRowBegun (card_number_bytes number.now) session (option_map (λ s. card_number_bytes s.now) spared.entry) x))) }
-        ensures moments { LeavesOnly (M.state unit.old) (M.state unit.new) (IsRowBeginning (card_number_bytes number.now) session (option_map (λ s. card_number_bytes s.now) spared.entry)) }
+        ensures puts { PutsBy (M.state unit.old) (M.state unit.new) (is_err result) 7 7
+            (λ x. beginning (card_number_bytes number.now) session
+            (option_map (λ s. card_number_bytes s.now) spared.entry) (rows_in x)) }
+        ensures begun { OnOk result (IfSome (M.state unit.old).image
+            (λ x. IfSome (M.state unit.new).image
+            (IsRowBegun (card_number_bytes number.now) session (option_map (λ s. card_number_bytes s.now) spared.entry)
+            x))) }
+        ensures moments { LeavesOnly (M.state unit.old) (M.state unit.new)
+            (IsRowBeginning (card_number_bytes number.now) session
+            (option_map (λ s. card_number_bytes s.now) spared.entry)) }
         ensures settled { OnOk result ((M.state unit.new).clock < last_count → IsSettled (M.state unit.new)) }
         ensures cause { HasCause (M.state unit.old) (M.state unit.new) (is_err result) }
     {
@@ -149,9 +167,13 @@ impl Journal {
         requires own { (number : List ℕ) × IfSome (M.state unit.old).image (IsRowAt row number) }
         ensures same { self.new ≡ self.old }
         ensures agrees { OnOk result (IfSome (M.state unit.new).image (Agrees self.old)) }
-        ensures puts { PutsAll (M.state unit.old) (M.state unit.new) (is_err result) (cell_pieces row entry.now.minute (entry_word entry.now)) }
-        ensures put { (number : List ℕ) → IfSome (M.state unit.old).image (IsRowAt row number) → OnOk result (IfSome (M.state unit.old).image (λ x. IfSome (M.state unit.new).image (OwedRowHas number entry.now x))) }
-        ensures moments { (number : List ℕ) → IfSome (M.state unit.old).image (IsRowAt row number) → LeavesOnly (M.state unit.old) (M.state unit.new) (IsPutting number entry.now) }
+        ensures puts { PutsAll (M.state unit.old) (M.state unit.new) (is_err result)
+            (cell_pieces row entry.now.minute (entry_word entry.now)) }
+        ensures put { (number : List ℕ) → IfSome (M.state unit.old).image (IsRowAt row number)
+            → OnOk result (IfSome (M.state unit.old).image
+            (λ x. IfSome (M.state unit.new).image (OwedRowHas number entry.now x))) }
+        ensures moments { (number : List ℕ) → IfSome (M.state unit.old).image (IsRowAt row number)
+            → LeavesOnly (M.state unit.old) (M.state unit.new) (IsPutting number entry.now) }
         ensures settled { OnOk result ((M.state unit.new).clock < last_count → IsSettled (M.state unit.new)) }
         ensures cause { HasCause (M.state unit.old) (M.state unit.new) (is_err result) }
     {
@@ -159,8 +181,8 @@ impl Journal {
         put_owed_at(unit, row, entry)
     }
 
-    /// Begins the row at an index for the card of a number, with a session time and without an entry: it is the one that `ask` told, and
-    /// it is the number's after it. Nothing is read.
+    /// Begins the row at an index for the card of a number, with a session time and without an entry: it is the one
+    /// that `ask` told, and it is the number's after it. Nothing is read.
     pub fn begin_owed_at<M: Medium>(
         &mut self,
         unit: &mut M,
@@ -171,14 +193,22 @@ impl Journal {
         requires unit { IsUnit (M.state unit.old) }
         requires agrees { IfSome (M.state unit.old).image (Agrees self.old) }
         requires low { row < 8 }
-        requires own { (spared : Option (List ℕ)) × IfSome (M.state unit.old).image (IsRowFor row (card_number_bytes number.now) spared) }
+        requires own { (spared : Option (List ℕ))
+            × IfSome (M.state unit.old).image (IsRowFor row (card_number_bytes number.now) spared) }
         requires session { 0 < session }
         ensures same { self.new ≡ self.old }
         ensures agrees { OnOk result (IfSome (M.state unit.new).image (Agrees self.old)) }
         ensures row { OnOk result (IfSome (M.state unit.new).image (IsRowAt row (card_number_bytes number.now))) }
-        ensures puts { PutsAll (M.state unit.old) (M.state unit.new) (is_err result) (row_pieces row (card_number_bytes number.now) session) }
-        ensures begun { (spared : Option (List ℕ)) → IfSome (M.state unit.old).image (IsRowFor row (card_number_bytes number.now) spared) → OnOk result (IfSome (M.state unit.old).image (λ x. IfSome (M.state unit.new).image (IsRowBegun (card_number_bytes number.now) session spared x))) }
-        ensures moments { (spared : Option (List ℕ)) → IfSome (M.state unit.old).image (IsRowFor row (card_number_bytes number.now) spared) → LeavesOnly (M.state unit.old) (M.state unit.new) (IsRowBeginning (card_number_bytes number.now) session spared) }
+        ensures puts { PutsAll (M.state unit.old) (M.state unit.new) (is_err result)
+            (row_pieces row (card_number_bytes number.now) session) }
+        ensures begun { (spared : Option (List ℕ))
+            → IfSome (M.state unit.old).image (IsRowFor row (card_number_bytes number.now) spared)
+            → OnOk result (IfSome (M.state unit.old).image
+            (λ x. IfSome (M.state unit.new).image (IsRowBegun (card_number_bytes number.now) session spared x))) }
+        ensures moments { (spared : Option (List ℕ))
+            → IfSome (M.state unit.old).image (IsRowFor row (card_number_bytes number.now) spared)
+            → LeavesOnly (M.state unit.old) (M.state unit.new)
+            (IsRowBeginning (card_number_bytes number.now) session spared) }
         ensures settled { OnOk result ((M.state unit.new).clock < last_count → IsSettled (M.state unit.new)) }
         ensures cause { HasCause (M.state unit.old) (M.state unit.new) (is_err result) }
     {

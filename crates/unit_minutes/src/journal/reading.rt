@@ -1,5 +1,7 @@
-ghost use Rattle.std.specs.Prelude.{◌≡◌, ◌≢◌, ℕ, List, length, ◌+◌, ◌-◌, ◌*◌, ◌/◌, ◌<◌, ◌≤◌, min, IfOk, IfSome, Some, is_err};
-ghost use Rattle.unit_model.specs.declared.layout.TheConstants.{DAY_SLOTS, DAY_WORD_LIMIT, DAY_WORDS, HIGHEST_ODOMETER, IMAGE_SIZE};
+ghost use Rattle.std.specs.Prelude.{◌≡◌, ◌≢◌, ℕ, List, length, ◌+◌, ◌-◌, ◌*◌, ◌/◌, ◌<◌, ◌≤◌, min, IfOk, IfSome, Some};
+ghost use Rattle.std.specs.Prelude.{is_err};
+ghost use Rattle.unit_model.specs.declared.layout.TheConstants.{DAY_SLOTS, DAY_WORD_LIMIT, DAY_WORDS, HIGHEST_ODOMETER};
+ghost use Rattle.unit_model.specs.declared.layout.TheConstants.{IMAGE_SIZE};
 ghost use Rattle.tach_media.specs.Medium.{Reads};
 ghost use Rattle.gated_ring.specs.Ring.{number_at};
 ghost use Rattle.unit_model.specs.Image.{recorded, slot_place, slot_date, slot_odometer, slot_count};
@@ -29,9 +31,12 @@ pub struct UnitDay {
 fn whole_day<M: Medium>(unit: &mut M, index: u32, date: u32) -> Result<UnitDay, Failed>
     requires unit { (M.state unit.old).size ≡ IMAGE_SIZE }
     requires index { index < DAY_SLOTS }
-    ensures known { IfOk result (λ day. (day.place ≡ slot_place index) × (day.date.0 ≡ date) × (day.words ≤ DAY_WORD_LIMIT)) }
+    ensures known { IfOk result (λ day. (day.place ≡ slot_place index) × (day.date.0 ≡ date)
+        × (day.words ≤ DAY_WORD_LIMIT)) }
     ensures odometer { IfOk result (λ day. day.odometer.0 ≤ HIGHEST_ODOMETER) }
-    ensures read { IfOk result (λ day. IfSome (M.state unit.old).image (λ x. (day.odometer.0 ≡ min (slot_odometer x index) HIGHEST_ODOMETER) × (day.words ≡ min (slot_count x index) DAY_WORD_LIMIT))) }
+    ensures read { IfOk result (λ day. IfSome (M.state unit.old).image (λ x.
+        (day.odometer.0 ≡ min (slot_odometer x index) HIGHEST_ODOMETER)
+        × (day.words ≡ min (slot_count x index) DAY_WORD_LIMIT))) }
     ensures reads { Reads (M.state unit.old) (M.state unit.new) (is_err result) }
 {
     let place = slot_place(index);
@@ -47,7 +52,8 @@ fn whole_day<M: Medium>(unit: &mut M, index: u32, date: u32) -> Result<UnitDay, 
 
 impl Journal {
     ghost use Rattle.unit_minutes.specs.Image.{IsNotes};
-    ghost use Rattle.unit_minutes.specs.Reading.{AreRight, IsSlotPlace, IsRecordedDay, IsOfDate, IsWordOf, nth_index, ReadsIfAny};
+    ghost use Rattle.unit_minutes.specs.Reading.{AreRight, IsSlotPlace, IsRecordedDay, IsOfDate, IsWordOf, nth_index};
+    ghost use Rattle.unit_minutes.specs.Reading.{ReadsIfAny};
 
     /// How many days are recorded, 0 to 366 (profile).
     pub fn days(&self) -> u16
@@ -80,7 +86,8 @@ impl Journal {
     fn last_day<M: Medium>(&self, unit: &mut M) -> Result<UnitDay, Failed>
         requires unit { (M.state unit.old).size ≡ IMAGE_SIZE }
         requires some { 0 < self.now.day_count }
-        ensures day { IfOk result (λ day. IfSome (M.state unit.old).image (λ x. AreRight self.now x → IsRecordedDay x (self.now.day_count - 1) self.now.index day)) }
+        ensures day { IfOk result (λ day. IfSome (M.state unit.old).image (λ x. AreRight self.now x → IsRecordedDay x
+            (self.now.day_count - 1) self.now.index day)) }
         ensures date { IfOk result (λ day. day.date.0 ≡ 86400 * (self.now.kept / 1440)) }
         ensures place { IfOk result (λ day. IsSlotPlace day.place) }
         ensures words { IfOk result (λ day. day.words ≤ DAY_WORD_LIMIT) }
@@ -102,7 +109,8 @@ impl Journal {
     fn older_day<M: Medium>(&self, unit: &mut M, nth: u32, date: u32) -> Result<UnitDay, Failed>
         requires unit { (M.state unit.old).size ≡ IMAGE_SIZE }
         requires nth { nth + 1 < self.now.day_count }
-        ensures day { IfOk result (λ day. IfSome (M.state unit.old).image (λ x. AreRight self.now x → date ≡ slot_date x (nth_index self.now nth) → IsRecordedDay x nth (nth_index self.now nth) day)) }
+        ensures day { IfOk result (λ day. IfSome (M.state unit.old).image (λ x. AreRight self.now x → date ≡ slot_date x
+            (nth_index self.now nth) → IsRecordedDay x nth (nth_index self.now nth) day)) }
         ensures date { IfOk result (λ day. day.date.0 ≡ date) }
         ensures place { IfOk result (λ day. IsSlotPlace day.place) }
         ensures words { IfOk result (λ day. day.words ≤ DAY_WORD_LIMIT) }
@@ -122,7 +130,8 @@ impl Journal {
     pub fn day_at<M: Medium>(&self, unit: &mut M, nth: u16) -> Result<UnitDay, Failed>
         requires unit { (M.state unit.old).size ≡ IMAGE_SIZE }
         requires nth { nth < self.now.day_count }
-        ensures day { IfOk result (λ day. IfSome (M.state unit.old).image (λ x. AreRight self.now x → (i : ℕ) × IsRecordedDay x nth i day)) }
+        ensures day { IfOk result (λ day. IfSome (M.state unit.old).image (λ x. AreRight self.now x → (i : ℕ)
+            × IsRecordedDay x nth i day)) }
         ensures place { IfOk result (λ day. IsSlotPlace day.place) }
         ensures words { IfOk result (λ day. day.words ≤ DAY_WORD_LIMIT) }
         ensures odometer { IfOk result (λ day. day.odometer.0 ≤ HIGHEST_ODOMETER) }
@@ -141,7 +150,8 @@ impl Journal {
         requires unit { (M.state unit.old).size ≡ IMAGE_SIZE }
         requires some { 0 < self.now.day_count }
         requires other { date ≢ 86400 * (self.now.kept / 1440) }
-        ensures found { IfOk result (λ found. IfSome (M.state unit.old).image (λ x. AreRight self.now x → IsOfDate x date found)) }
+        ensures found { IfOk result (λ found.
+            IfSome (M.state unit.old).image (λ x. AreRight self.now x → IsOfDate x date found)) }
         ensures place { IfOk result (λ found. IfSome found (λ day. IsSlotPlace day.place)) }
         ensures date { IfOk result (λ found. IfSome found (λ day. day.date.0 ≡ date)) }
         ensures words { IfOk result (λ found. IfSome found (λ day. day.words ≤ DAY_WORD_LIMIT)) }
@@ -170,7 +180,9 @@ impl Journal {
     // The earlier day of a date where it stands if each day since is recorded.
     fn likely_day<M: Medium>(&self, unit: &mut M, date: u32) -> Result<Option<UnitDay>, Failed>
         requires unit { (M.state unit.old).size ≡ IMAGE_SIZE }
-        ensures found { IfOk result (λ found. IfSome found (λ day. IfSome (M.state unit.old).image (λ x. AreRight self.now x → IsOfDate x date (Some day)))) }
+        ensures found { IfOk result (λ found.
+            IfSome found (λ day. IfSome (M.state unit.old).image
+            (λ x. AreRight self.now x → IsOfDate x date (Some day)))) }
         ensures place { IfOk result (λ found. IfSome found (λ day. IsSlotPlace day.place)) }
         ensures date { IfOk result (λ found. IfSome found (λ day. day.date.0 ≡ date)) }
         ensures words { IfOk result (λ found. IfSome found (λ day. day.words ≤ DAY_WORD_LIMIT)) }
@@ -194,7 +206,8 @@ impl Journal {
         requires unit { (M.state unit.old).size ≡ IMAGE_SIZE }
         requires some { 0 < self.now.day_count }
         requires other { date ≢ 86400 * (self.now.kept / 1440) }
-        ensures found { IfOk result (λ found. IfSome (M.state unit.old).image (λ x. AreRight self.now x → IsOfDate x date found)) }
+        ensures found { IfOk result (λ found.
+            IfSome (M.state unit.old).image (λ x. AreRight self.now x → IsOfDate x date found)) }
         ensures place { IfOk result (λ found. IfSome found (λ day. IsSlotPlace day.place)) }
         ensures date { IfOk result (λ found. IfSome found (λ day. day.date.0 ≡ date)) }
         ensures words { IfOk result (λ found. IfSome found (λ day. day.words ≤ DAY_WORD_LIMIT)) }
@@ -215,7 +228,8 @@ impl Journal {
     /// `Failed` where the medium failed.
     pub fn find<M: Medium>(&self, unit: &mut M, date: TimeReal) -> Result<Option<UnitDay>, Failed>
         requires unit { (M.state unit.old).size ≡ IMAGE_SIZE }
-        ensures found { IfOk result (λ found. IfSome (M.state unit.old).image (λ x. AreRight self.now x → IsOfDate x date.0 found)) }
+        ensures found { IfOk result (λ found.
+            IfSome (M.state unit.old).image (λ x. AreRight self.now x → IsOfDate x date.0 found)) }
         ensures place { IfOk result (λ found. IfSome found (λ day. IsSlotPlace day.place)) }
         ensures date { IfOk result (λ found. IfSome found (λ day. day.date.0 ≡ date.0)) }
         ensures words { IfOk result (λ found. IfSome found (λ day. day.words ≤ DAY_WORD_LIMIT)) }
@@ -247,8 +261,10 @@ impl Journal {
         requires place { IsSlotPlace head.now.place }
         requires few { head.now.words ≤ DAY_WORD_LIMIT }
         requires index { index < head.now.words }
-        ensures word { IfOk result (λ word. IfSome (M.state unit.old).image (λ x. word ≡ number_at x (head.now.place + DAY_WORDS.place + 2 * index) 2)) }
-        ensures recorded { IfOk result (λ word. IfSome (M.state unit.old).image (λ x. AreRight self.now x → IsWordOf x head.now index word)) }
+        ensures word { IfOk result (λ word. IfSome (M.state unit.old).image (λ x. word ≡ number_at x
+            (head.now.place + DAY_WORDS.place + 2 * index) 2)) }
+        ensures recorded { IfOk result (λ word. IfSome (M.state unit.old).image
+            (λ x. AreRight self.now x → IsWordOf x head.now index word)) }
         ensures reads { Reads (M.state unit.old) (M.state unit.new) (is_err result) }
     {
         // so the notes have their ranges

@@ -213,7 +213,8 @@ fn a_date_breaks_over_the_end(rt: HostRuntime) -> Result<(), Fail> {
     Ok(())
 }
 
-// Four bytes of the file of the full string once it was changed: its pointers, the second day, the begin of the string, and the newest day.
+// Four bytes of the file of the full string once it was changed: its pointers, the second day, the begin of the string,
+// and the newest day.
 fn places_of_full(medium: &mut MemMedium) -> Result<[[u8; 4]; 4], DaysFault> {
     let pointers = bytes_at(&mut *medium, 0)?;
     let second = bytes_at(&mut *medium, 4 + 14)?;
@@ -358,7 +359,8 @@ const DAY_STOPS: [(u64, Left, u32); 12] = [
     (3, Left::After, 1),
 ];
 
-// One of them, of a day of these words, behind so many calls: with all its words where it is there; then the next day is there too.
+// One of them, of a day of these words, behind so many calls: with all its words where it is there; then the next day
+// is there too.
 fn first_day_is_whole(
     rt: &(impl Abort + AllocGlobal),
     words: &[u16],
@@ -811,7 +813,8 @@ fn of_a_string_without_a_day_no_drop_is_ended(rt: HostRuntime) -> Result<(), Fai
     Ok(())
 }
 
-// How many calls each of these takes: a word on a full string, a day of two words then, a distance, and the end of a drop.
+// How many calls each of these takes: a word on a full string, a day of two words then, a distance, and the end of a
+// drop.
 fn calls_with(days: &mut Days, medium: &mut MemMedium) -> Result<[u64; 4], DaysFault>
     requires { days.old.shape ≡ record { base = 0; size = 5544 } }
 {

@@ -12,8 +12,8 @@ const SIZE: usize = LARGEST_IMAGE as usize;
 // 84 places.
 const SMALLEST: [u8; 10] = [0x01, 0x00, 0x00, 0x06, 0x0C, 0x15, 0xA8, 0x00, 0x54, 0x54];
 
-/// Where the file of days begins on such a card, the file of vehicles behind it, and that of the current use, which begins with
-/// the session time.
+/// Where the file of days begins on such a card, the file of vehicles behind it, and that of the current use, which
+/// begins with the session time.
 pub const DAYS: usize = 43 + 6 * 6 * 24 + 2 * 12 * 24;
 
 pub const VEHICLES: usize = DAYS + 5548;
@@ -100,8 +100,8 @@ fn vehicles(alloc: Global) -> Result<Vec<u8>, Memory> {
     Ok(bytes)
 }
 
-/// A card that is full: of days, the oldest of which stands so many bytes before the string's end, and of vehicles. Its session
-/// was left open in the newest day.
+/// A card that is full: of days, the oldest of which stands so many bytes before the string's end, and of vehicles. Its
+/// session was left open in the newest day.
 pub fn full(alloc: Global, back: usize) -> Result<Vec<u8>, Memory>
     ensures { IfOk result (λ image. vec_len image ≡ LARGEST_IMAGE) }
 {
@@ -131,7 +131,8 @@ pub fn full(alloc: Global, back: usize) -> Result<Vec<u8>, Memory>
     Ok(image)
 }
 
-/// How many days of one word the string of the largest full card has before its newest one, which changes at each minute.
+/// How many days of one word the string of the largest full card has before its newest one, which changes at each
+/// minute.
 const BEFORE: u32 = 777;
 
 // Its newest day: with its number as its date and its counter.
@@ -156,7 +157,8 @@ fn newest_record(alloc: Global) -> Result<Vec<u8>, Memory> {
     Ok(bytes)
 }
 
-// The largest card with this string, whose newest day begins at a place, and a vehicle. Its session was left open at this second.
+// The largest card with this string, whose newest day begins at a place, and a vehicle. Its session was left open at
+// this second.
 fn with_days(alloc: Global, string: &[u8], newest: u32, last_use: u32) -> Result<Vec<u8>, Memory> {
     let mut image = vec![in alloc; 0u8; SIZE]?;
     if string.len() > 13776 {
@@ -182,7 +184,8 @@ fn with_days(alloc: Global, string: &[u8], newest: u32, last_use: u32) -> Result
     Ok(image)
 }
 
-/// The largest card, full of days, of which the newest has a word at each minute. Its session was left open at this second.
+/// The largest card, full of days, of which the newest has a word at each minute. Its session was left open at this
+/// second.
 pub fn largest(alloc: Global, last_use: u32) -> Result<Vec<u8>, Memory> {
     let mut string = Vec::new(alloc);
     for day in 1..=BEFORE {

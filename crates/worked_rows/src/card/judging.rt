@@ -30,7 +30,8 @@ const AT_599: [u8; 4] = [0x4B, 0x8B, 0x8F, 0xE4];
 
 const AT_600: [u8; 4] = [0x4B, 0x8B, 0x90, 0x20];
 
-// A card with one day of these words, a vehicle that was used last at this time, and a session that began at this second.
+// A card with one day of these words, a vehicle that was used last at this time, and a session that began at this
+// second.
 fn card(alloc: Global, words: &[u8], last_use: &[u8], session: u8) -> Result<Vec<u8>, Memory>
     requires { length words.now ≤ 8 }
 {

@@ -1,4 +1,5 @@
-//! A drive with a card over memory, step by step: three minutes, a minute that is owed to the card, its replay, and a withdrawal.
+//! A drive with a card over memory, step by step: three minutes, a minute that is owed to the card, its replay, and a
+//! withdrawal.
 ghost use Rattle.std.specs.Prelude.{◌≡◌, ◌≤◌, ◌<◌, ◌+◌, ◌/◌, ◌^◌, None, IfOk, IfSome, OnOk};
 ghost use Rattle.tacho_types.specs.CardNumber.{card_number_bytes};
 ghost use Rattle.tach_media.specs.MemMedium.{memory_state};
@@ -52,8 +53,8 @@ impl From<NotEntered> for Stopped {
     }
 }
 
-/// A card in its slot: the unit's journal, the sizes by which the card goes, its number and its row, its session, and how many entries were
-/// put on it as it came in.
+/// A card in its slot: the unit's journal, the sizes by which the card goes, its number and its row, its session, and
+/// how many entries were put on it as it came in.
 #[derive(Drop)]
 struct Drive {
     journal: Journal,
@@ -164,7 +165,8 @@ fn put_in<M: Medium, C: Chip, D: Chip>(
     requires fits { odometer < 2 ^ 24 }
     ensures unit { IsUnit (M.state unit.new) }
     ensures agrees { IfOk result (λ d. IfSome (M.state unit.new).image (Agrees d.journal)) }
-    ensures row { IfOk result (λ d. (d.row < 8) × IfSome (M.state unit.new).image (IsRowAt d.row (card_number_bytes d.number))) }
+    ensures row { IfOk result (λ d. (d.row < 8)
+        × IfSome (M.state unit.new).image (IsRowAt d.row (card_number_bytes d.number))) }
     ensures port { IfOk result (λ d. IsPort d.app None (C.card card.new) (C.state card.new)) }
     ensures sizes { IfOk result (λ d. d.session.application ≡ d.app) }
 {
@@ -218,7 +220,8 @@ fn keep<M: Medium, C: Chip, D: Chip>(
 ) -> Result<(), Stopped>
     requires unit { IsUnit (M.state unit.old) }
     requires agrees { IfSome (M.state unit.old).image (Agrees drive.old.journal) }
-    requires row { (drive.old.row < 8) × IfSome (M.state unit.old).image (IsRowAt drive.old.row (card_number_bytes drive.old.number)) }
+    requires row { (drive.old.row < 8)
+        × IfSome (M.state unit.old).image (IsRowAt drive.old.row (card_number_bytes drive.old.number)) }
     requires port { IsPort drive.old.app None (C.card card.old) (C.state card.old) }
     requires sizes { drive.old.session.application ≡ drive.old.app }
     requires low { 1440 ≤ step.now.minute }
@@ -226,7 +229,8 @@ fn keep<M: Medium, C: Chip, D: Chip>(
     requires odometer { step.now.odometer ≤ 9999999 }
     ensures unit { IsUnit (M.state unit.new) }
     ensures agrees { OnOk result (IfSome (M.state unit.new).image (Agrees drive.new.journal)) }
-    ensures row { OnOk result ((drive.new.row < 8) × IfSome (M.state unit.new).image (IsRowAt drive.new.row (card_number_bytes drive.new.number))) }
+    ensures row { OnOk result ((drive.new.row < 8)
+        × IfSome (M.state unit.new).image (IsRowAt drive.new.row (card_number_bytes drive.new.number))) }
     ensures port { OnOk result (IsPort drive.new.app None (C.card card.new) (C.state card.new)) }
     ensures sizes { OnOk result (drive.new.session.application ≡ drive.new.app) }
 {
@@ -269,7 +273,8 @@ fn bring<M: Medium, C: Chip>(
     requires low { 1440 ≤ step.now.minute }
     requires small { step.now.minute ≤ LATEST_MINUTE }
     requires odometer { step.now.odometer ≤ 9999999 }
-    ensures same { (drive.new.journal ≡ drive.old.journal) × (drive.new.number ≡ drive.old.number) × (drive.new.row ≡ drive.old.row) × (drive.new.app ≡ drive.old.app) }
+    ensures same { (drive.new.journal ≡ drive.old.journal) × (drive.new.number ≡ drive.old.number)
+        × (drive.new.row ≡ drive.old.row) × (drive.new.app ≡ drive.old.app) }
     ensures port { IsPort drive.old.app None (C.card card.new) (C.state card.new) }
     ensures sizes { drive.new.session.application ≡ drive.old.app }
 {
@@ -293,8 +298,8 @@ fn take_out<M: Medium, C: Chip>(drive: Drive, unit: &M, card: &mut C) -> Result<
     Ok(())
 }
 
-// The drive: three minutes; one that the card is owed, since it is torn out; it comes in again two minutes later, keeps one more
-// minute and is taken out. It gives how many entries were put on the card as it came in, each time.
+// The drive: three minutes; one that the card is owed, since it is torn out; it comes in again two minutes later, keeps
+// one more minute and is taken out. It gives how many entries were put on the card as it came in, each time.
 fn drives<M: Medium, C: Chip, D: Chip>(
     unit: &mut M,
     card: &mut C,
@@ -341,7 +346,8 @@ fn comes_back<M: Medium, C: Chip, D: Chip>(
     Ok(replayed)
 }
 
-// What a card holds: its pointers and its first day, its newest vehicle, its current use, and the first session that was not closed.
+// What a card holds: its pointers and its first day, its newest vehicle, its current use, and the first session that
+// was not closed.
 #[derive(Clone, Copy)]
 struct OnCard {
     days: [u8; 30],

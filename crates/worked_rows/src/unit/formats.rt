@@ -60,7 +60,8 @@ fn is_kind(image: &[u8], kind: Image) -> bool {
     }
 }
 
-/// What a unit of ones that is made new tells: the answer, how many calls there were, and whether its image is of a kind.
+/// What a unit of ones that is made new tells: the answer, how many calls there were, and whether its image is of a
+/// kind.
 #[derive(Clone, Copy)]
 struct Made {
     answer: Result<(), Failed>,

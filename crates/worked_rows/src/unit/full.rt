@@ -1,7 +1,8 @@
 use std::alloc::{AllocError, Global};
 use worked_media::image::{DAY, empty, put_head, put_word};
 
-/// A unit of 366 days, each with a word for both slots at each minute; the newest is 2010-03-01, and stands at index 100.
+/// A unit of 366 days, each with a word for both slots at each minute; the newest is 2010-03-01, and stands at index
+/// 100.
 pub fn full(alloc: Global) -> Result<Vec<u8>, AllocError> {
     let mut image = empty(alloc, 14669 * 1440 + 1439, 9999999, 100)?;
     for index in 0..366 {

@@ -1,5 +1,5 @@
-//! Rows are begun for cards, entries are put and read, and each call of a `put_owed` and of a `begin_owed` fails in turn, in
-//! each manner; the unit goes on after it.
+//! Rows are begun for cards, entries are put and read, and each call of a `put_owed` and of a `begin_owed` fails in
+//! turn, in each manner; the unit goes on after it.
 ghost use Rattle.std.specs.Prelude.{OnOk, IfSome};
 ghost use Rattle.unit_model.specs.Image.{IsUnit};
 ghost use Rattle.unit_minutes.specs.Image.{Agrees};
@@ -22,8 +22,8 @@ const SESSION: u32 = 60 * (FIRST + 90) + 10;
 
 const LATE_SESSION: u32 = 60 * (FIRST + 98) + 59;
 
-/// What is owed of the minutes from 01:37 to 01:40: the last-kept minute, the session that the row was begun with, the one
-/// that is asked for, the minute after which; and the first and the end of the minutes that are owed.
+/// What is owed of the minutes from 01:37 to 01:40: the last-kept minute, the session that the row was begun with, the
+/// one that is asked for, the minute after which; and the first and the end of the minutes that are owed.
 const ROWS: [(u32, u32, u32, u32, u32, u32); 6] = [
     (FIRST + 100, SESSION, SESSION, 0, FIRST + 97, FIRST + 101),
     (
@@ -260,7 +260,8 @@ fn begin_ninth<M: Medium>(journal: &mut Journal, unit: &mut M) -> Result<(), Fai
     put(journal, unit, 9, FIRST + 100)
 }
 
-/// Whether the first card is then owed its minute alone, the second one nothing, the third and the ninth their minutes alone.
+/// Whether the first card is then owed its minute alone, the second one nothing, the third and the ninth their minutes
+/// alone.
 fn owes_nine<M: Medium>(journal: &Journal, unit: &mut M) -> Result<[bool; 4], Failed>
     requires unit { IsUnit (M.state unit.old) }
     requires agrees { IfSome (M.state unit.old).image (Agrees journal.now) }
@@ -376,7 +377,8 @@ fn begin_again<M: Medium>(unit: &mut M) -> Result<bool, Failed>
 /// What it leaves, where the old row has the minutes from one up to 01:41.
 #[derive(Clone, Copy)]
 struct Begun {
-    /// Whether those are owed to the card in its old session, nothing in the new one, and its minute alone to the other card.
+    /// Whether those are owed to the card in its old session, nothing in the new one, and its minute alone to the other
+    /// card.
     old: bool,
     new: bool,
     other: bool,
@@ -403,7 +405,8 @@ fn begun_again<M: Medium>(unit: &mut M, first: u32) -> Result<Begun, Failed>
     })
 }
 
-/// Both, where a call fails so: how many calls there were up to the end of that begin, whether it was `Ok`, and what it leaves.
+/// Both, where a call fails so: how many calls there were up to the end of that begin, whether it was `Ok`, and what it
+/// leaves.
 fn begin_stopped(
     alloc: Global,
     call: u64,

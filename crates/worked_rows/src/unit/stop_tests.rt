@@ -33,8 +33,8 @@ const AVAILABLE: State = State {
     present: true,
 };
 
-/// What is kept: on a day that goes on, behind a gap, behind 23:59, on an empty unit, on the 367th day, and as the last words
-/// of a day with 2880.
+/// What is kept: on a day that goes on, behind a gap, behind 23:59, on an empty unit, on the 367th day, and as the last
+/// words of a day with 2880.
 #[derive(Clone, Copy, Debug, PartialEq, Eq)]
 enum Row {
     SameDay,
@@ -122,8 +122,8 @@ fn full_day(alloc: Global) -> Result<Vec<u8>, AllocError> {
     Ok(image)
 }
 
-/// 2010-02-27 up to 00:20, and what a stop may have left behind it: words of 00:21, a later day, and two cells of 00:21 and
-/// 00:23; the cell of 00:20 is not later.
+/// 2010-02-27 up to 00:20, and what a stop may have left behind it: words of 00:21, a later day, and two cells of 00:21
+/// and 00:23; the cell of 00:20 is not later.
 fn with_later(alloc: Global) -> Result<Vec<u8>, AllocError> {
     let mut image = one_day(alloc, FIRST + 20)?;
     let slice = image.as_mut_slice();
@@ -257,7 +257,8 @@ fn kept_whole(alloc: Global, row: Row) -> Result<Whole, Fail> {
     keep_whole(alloc, &mut unit, &row.minute())
 }
 
-/// A `keep` of which a call may stop, and what is found behind it: whether it was `Ok`, the days that the stop leaves, and those once it was kept again.
+/// A `keep` of which a call may stop, and what is found behind it: whether it was `Ok`, the days that the stop leaves,
+/// and those once it was kept again.
 fn keep_again(
     alloc: Global,
     unit: &mut MemMedium,
@@ -356,8 +357,8 @@ fn four(unit: &mut MemMedium, place: u32) -> Result<[u8; 4], Fail> {
     Ok(bytes)
 }
 
-/// A `mend` of which a call may stop: whether it was `Ok`, the days that the stop leaves, and those once it was mended again and
-/// 00:30 was kept.
+/// A `mend` of which a call may stop: whether it was `Ok`, the days that the stop leaves, and those once it was mended
+/// again and 00:30 was kept.
 fn mend_again(alloc: Global, unit: &mut MemMedium) -> Result<(bool, Vec<u32>, Vec<u32>), Fail> {
     let (_, is_ok) = mend(&mut *unit)?;
     unit.revive()?;
@@ -415,8 +416,8 @@ fn check_mends(rt: &(impl Abort + AllocGlobal), first: u64, end: u64) -> Result<
     check_each_mend(rt, first, end, old.as_slice(), new.as_slice())
 }
 
-/// What a `mend` that is not stopped does: its first call, the one behind its last, whether it was `Ok`, and what stands then at the places of
-/// three cells, a gate and a count.
+/// What a `mend` that is not stopped does: its first call, the one behind its last, whether it was `Ok`, and what
+/// stands then at the places of three cells, a gate and a count.
 #[derive(Clone, Copy)]
 struct Mended {
     first: u64,

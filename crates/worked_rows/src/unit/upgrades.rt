@@ -1,5 +1,5 @@
-//! A unit of version 1 that gets version 2, whatever stops it: it goes by the original rule until the version is written, and
-//! by the amended one from then on.
+//! A unit of version 1 that gets version 2, whatever stops it: it goes by the original rule until the version is
+//! written, and by the amended one from then on.
 use minute_model::Rule;
 use std::alloc::Global;
 use std::process::Abort;
@@ -46,7 +46,8 @@ const UNRULED: Ruled = Ruled {
     rule: Rule::Original,
 };
 
-/// What an upgrade of a unit with this version and this rule byte answers, how many calls it makes, and what a load tells then.
+/// What an upgrade of a unit with this version and this rule byte answers, how many calls it makes, and what a load
+/// tells then.
 #[derive(Clone, Copy)]
 struct Upgraded {
     answer: Result<bool, UnitFault>,

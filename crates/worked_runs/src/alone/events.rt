@@ -42,7 +42,8 @@ fn an_over_speeding_is_noted(rt: HostRuntime) -> Result<(), Fail> {
     Ok(())
 }
 
-// 60 seconds at 100 km/h are no over speeding, and are driving without a card; 90 seconds that the trace's end cuts off are none.
+// 60 seconds at 100 km/h are no over speeding, and are driving without a card; 90 seconds that the trace's end cuts off
+// are none.
 #[test]
 fn driving_without_a_card_is_noted(rt: HostRuntime) -> Result<(), Fail> {
     let alloc = rt.alloc();

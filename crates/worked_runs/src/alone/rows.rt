@@ -131,8 +131,9 @@ fn calls_of_the_opening(alloc: Global) -> Result<u64, Fail> {
     Ok(count_run(alloc, b"start 1267401600", Vec::new(alloc))?.calls)
 }
 
-/// Calls of four hours, over a midnight, are cut short in this manner, each of them by a call later behind the power-on before it:
-/// each is told as a cut, each power-on finds what was acknowledged before, and the unit can be recorded on again.
+/// Calls of four hours, over a midnight, are cut short in this manner, each of them by a call later behind the power-on
+/// before it: each is told as a cut, each power-on finds what was acknowledged before, and the unit can be recorded on
+/// again.
 fn stop_often(rt: &(impl Abort + AllocGlobal), left: Left) -> Result<(), Fail> {
     let alloc = rt.alloc();
     let load = calls_of_the_opening(alloc)?;
@@ -163,7 +164,8 @@ fn torn_writes(rt: HostRuntime) -> Result<(), Fail> {
 /// Forty minutes.
 const FORTY: &[u8] = b"start 1267401600\nrun 1200 50\nrun 1200 0\n";
 
-/// This call fails, and that is a cut, behind which no power-on comes in the last second alone; the unit can be recorded on again.
+/// This call fails, and that is a cut, behind which no power-on comes in the last second alone; the unit can be
+/// recorded on again.
 fn stop_once(rt: &(impl Abort + AllocGlobal), call: u64, left: Left) -> Result<(), Fail> {
     let alloc = rt.alloc();
     let last = Break::Cut {
@@ -258,8 +260,8 @@ fn a_unit_that_fails_in_the_opening_is_told(rt: HostRuntime) -> Result<(), Fail>
 fn a_minute_takes_three_writes(rt: HostRuntime) -> Result<(), Fail> {
     let alloc = rt.alloc();
     let writes = count_run(alloc, DRIVE, Vec::new(alloc))?.writes;
-    // three a minute, two more where the day begins, and two for the words of the second minute; and of the 59 blocks of detailed speed
-    // two for the first and three for each other one
+    // three a minute, two more where the day begins, and two for the words of the second minute; and of the 59 blocks
+    // of detailed speed two for the first and three for each other one
     assert_eq!(rt; writes, 58 * 3 + 2 + 2 + 2 + 58 * 3);
     Ok(())
 }

@@ -14,8 +14,8 @@ pub const ROOM: Room = Room {
     bytes: 40000000,
 };
 
-/// What a run tells: how it ended, how many lines of each kind there are, the minutes of the first mark and of the last one, the last break and the
-/// last refusal, and whether each break is a cut that is right.
+/// What a run tells: how it ended, how many lines of each kind there are, the minutes of the first mark and of the last
+/// one, the last break and the last refusal, and whether each break is a cut that is right.
 #[derive(Clone, Copy)]
 pub struct Ran {
     pub ended: Result<(), RunFault>,
@@ -62,7 +62,8 @@ fn minute_of(mark: Option<Mark>) -> Option<u32> {
     }
 }
 
-/// Whether a cut tells the marks before it, and none behind it: of those in an earlier minute it found the last, or a later one.
+/// Whether a cut tells the marks before it, and none behind it: of those in an earlier minute it found the last, or a
+/// later one.
 fn is_right(marks: &Lines<Mark>, cut: &Break) -> bool {
     let Break::Cut {
         second,

@@ -75,7 +75,8 @@ fn load(alloc: Global, image: Vec<u8>) -> Result<Loaded, Fail> {
     })
 }
 
-/// How often `serve` calls a unit with this image that hears these bytes, where it answers those; nothing where it answers others.
+/// How often `serve` calls a unit with this image that hears these bytes, where it answers those; nothing where it
+/// answers others.
 fn served(alloc: Global, image: Vec<u8>, heard: Vec<u8>, told: &[u8]) -> Result<Option<u64>, Fail> {
     let mut unit = unit_with(alloc, image, NO_ROOM, Vec::new(alloc))?;
     let mut source = MemSource::new(heard, Vec::new(alloc));
@@ -89,7 +90,8 @@ fn served(alloc: Global, image: Vec<u8>, heard: Vec<u8>, told: &[u8]) -> Result<
     Ok(None)
 }
 
-/// A download of a unit that has recorded a trace, and how often `serve` calls it that hears the loader's frames alone and answers the same.
+/// A download of a unit that has recorded a trace, and how often `serve` calls it that hears the loader's frames alone
+/// and answers the same.
 fn both(alloc: Global, text: &[u8]) -> Result<(usize, u64, Option<u64>), Fail> {
     let image = recorded(alloc, text)?;
     let loaded = load(alloc, image.clone()?)?;
@@ -97,8 +99,8 @@ fn both(alloc: Global, text: &[u8]) -> Result<(usize, u64, Option<u64>), Fail> {
     Ok((loaded.length, loaded.calls, calls))
 }
 
-/// That a download of a unit which has recorded this has so many bytes, and that the unit is called as often as by `serve` that hears the
-/// loader's frames alone, and answers the same.
+/// That a download of a unit which has recorded this has so many bytes, and that the unit is called as often as by
+/// `serve` that hears the loader's frames alone, and answers the same.
 fn asks_by_its_frames_alone(
     rt: &(impl Abort + AllocGlobal),
     text: &[u8],

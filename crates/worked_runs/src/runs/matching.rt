@@ -1,4 +1,5 @@
-//! Whether the entries of a card stand in the unit's file: by the match of both files, and each entry looked up by itself.
+//! Whether the entries of a card stand in the unit's file: by the match of both files, and each entry looked up by
+//! itself.
 use activity_codec::{Entry, Slot};
 use card_download::write_card_file;
 use card_layout::LARGEST_IMAGE;
@@ -38,7 +39,8 @@ pub fn card_file<C: Chip>(alloc: Global, card: &mut C) -> Result<Vec<u8>, Fail> 
     Ok(sink.held().to_vec(alloc)?)
 }
 
-/// How many entries a card's file has, where the match says yes with all of them tested, and each of them stands in the unit's file; else nothing.
+/// How many entries a card's file has, where the match says yes with all of them tested, and each of them stands in the
+/// unit's file; else nothing.
 pub fn entries_that_match(alloc: Global, unit: &[u8], card: &[u8]) -> Result<Option<u32>, Fail> {
     if unit.len() > MOST || card.len() > MOST {
         return Err(Fail::from("a file of many days"));

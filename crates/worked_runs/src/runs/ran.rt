@@ -3,8 +3,8 @@ use crate::recording::{Recorded, line_at, line_at_end};
 use recorder_with_cards::{Break, Find, Lines, Mark, Refused, Verdict};
 use run_model::Device;
 
-/// Whether a trace was recorded, how many minutes each device has acknowledged, how many other lines there are, and how many breaks a failed call
-/// made; the first refusal, and the last break, find and refusal.
+/// Whether a trace was recorded, how many minutes each device has acknowledged, how many other lines there are, and how
+/// many breaks a failed call made; the first refusal, and the last break, find and refusal.
 #[derive(Clone, Copy)]
 pub struct Ran {
     pub is_recorded: bool,
@@ -41,7 +41,8 @@ impl Ran {
         }
     }
 
-    /// Whether the trace was recorded with so many acknowledged minutes of the unit and of the first card, and none of the second one.
+    /// Whether the trace was recorded with so many acknowledged minutes of the unit and of the first card, and none of
+    /// the second one.
     pub fn has(&self, unit: usize, card_a: usize) -> bool {
         self.is_recorded && self.unit == unit && self.card_a == card_a && self.card_b == 0
     }

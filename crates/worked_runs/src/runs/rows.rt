@@ -62,7 +62,8 @@ fn a_driver_by_the_amended_rule(rt: HostRuntime) -> Result<(), Fail> {
     Ok(())
 }
 
-/// A card that is torn out of a unit with the amended rule, and comes back: three minutes were owed to it, and are put on it.
+/// A card that is torn out of a unit with the amended rule, and comes back: three minutes were owed to it, and are put
+/// on it.
 #[test]
 fn three_minutes_are_put_on_a_card_by_the_amended_rule(rt: HostRuntime) -> Result<(), Fail> {
     let alloc = rt.alloc();
@@ -108,8 +109,8 @@ const BEFORE: &[u8] = b"start 1267401600\ninsert driver a\nrun 60 0\nrun 179 50\
 
 const BEHIND: &[u8] = b"start 1267401600\ninsert driver a\nrun 60 0\nrun 180 50\n";
 
-/// A keep of the card: a drive up to the second before it, and that second too; and the words of the card that is torn out in it, once it has come
-/// again.
+/// A keep of the card: a drive up to the second before it, and that second too; and the words of the card that is torn
+/// out in it, once it has come again.
 #[derive(Clone, Copy)]
 struct Keep {
     before: &'static [u8],
@@ -137,8 +138,8 @@ fn run_tells(alloc: Global, text: &[u8], stops: Stops, words: &[u16]) -> Result<
     Ok((ran, d.card_tells(alloc, words)?))
 }
 
-/// The card is stopped by this call of the keeping of a minute, and put in again: what it lacks is put on it. Only where it has the minute that is
-/// less.
+/// The card is stopped by this call of the keeping of a minute, and put in again: what it lacks is put on it. Only
+/// where it has the minute that is less.
 fn torn_once(
     rt: &(impl Abort + AllocGlobal),
     call: u64,
@@ -192,8 +193,8 @@ const MINUTE: &[u16] = &[0x0000, 0x1801, 0x2002];
 
 const NO_MINUTE: &[u16] = &[0x0000, 0x2001];
 
-/// The unit is stopped behind this write of the keeping of a minute: the power-on finds the old mark, or the new one, and the entry that the card
-/// lacks then is put on it.
+/// The unit is stopped behind this write of the keeping of a minute: the power-on finds the old mark, or the new one,
+/// and the entry that the card lacks then is put on it.
 fn cut_once(rt: &(impl Abort + AllocGlobal), call: u64, has_it: bool) -> Result<(), Fail> {
     let alloc = rt.alloc();
     let text = b"start 1267401600\ninsert driver a\nrun 60 0\nrun 300 50\n";
@@ -215,7 +216,8 @@ fn cut_once(rt: &(impl Abort + AllocGlobal), call: u64, has_it: bool) -> Result<
     Ok(())
 }
 
-/// The calls of the unit that a minute's block of detailed speed takes behind the keeping: three reads and three writes.
+/// The calls of the unit that a minute's block of detailed speed takes behind the keeping: three reads and three
+/// writes.
 const BLOCK: u64 = 6;
 
 /// Behind the last write of the keeping the unit has the new mark.
@@ -246,8 +248,8 @@ fn two(alloc: Global, first: Stop, second: Stop) -> Result<Stops, AllocError> {
     Ok(stops)
 }
 
-/// The run in which the card comes once more, whether the card has its entries then, and the type and the begin of the session that is noted on it as
-/// not closed.
+/// The run in which the card comes once more, whether the card has its entries then, and the type and the begin of the
+/// session that is noted on it as not closed.
 fn run_once_more(alloc: Global, stops: Stops, words: &[u16]) -> Result<(Ran, bool, [u8; 5]), Fail> {
     let mut d = new_devices(alloc, stops)?;
     let ran = d.run(alloc, ONCE_MORE)?;
@@ -255,8 +257,8 @@ fn run_once_more(alloc: Global, stops: Stops, words: &[u16]) -> Result<(Ran, boo
     Ok((ran, is_told, unclosed_on(&mut d.card_a)?))
 }
 
-/// The card that the first stop has torn out is put in again, and stopped by a call of that: put in once more it has the same entries, and the session
-/// that was not closed is noted on it.
+/// The card that the first stop has torn out is put in again, and stopped by a call of that: put in once more it has
+/// the same entries, and the session that was not closed is noted on it.
 fn torn_twice(
     rt: &(impl Abort + AllocGlobal),
     words: &[u16],
@@ -407,8 +409,8 @@ fn calls_between(alloc: Global, before: &[u8], behind: &[u8]) -> Result<(u64, u6
     ))
 }
 
-/// A minute takes three writes of the unit, three more for each card to which it is owed, and three of each card; nothing is read. Its block of
-/// detailed speed takes three writes more of the unit, and three reads.
+/// A minute takes three writes of the unit, three more for each card to which it is owed, and three of each card;
+/// nothing is read. Its block of detailed speed takes three writes more of the unit, and three reads.
 #[test]
 fn a_minute_with_cards_takes_few_calls(rt: HostRuntime) -> Result<(), Fail> {
     let alloc = rt.alloc();

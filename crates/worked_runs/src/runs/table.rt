@@ -1,7 +1,8 @@
-//! Each call of each device is stopped, in a run of its own: of six minutes with two drivers, behind which both are put in once more; of an hour, in which
-//! two cards are exchanged, one of them is torn out and put in again, and the power is cut; and many calls of all devices in longer runs. All that was
-//! acknowledged is there; and behind one more run the cards have what the unit tells of their slots, and the file of each matches that of the unit. So it
-//! is by the original rule of minutes, and by the amended one.
+//! Each call of each device is stopped, in a run of its own: of six minutes with two drivers, behind which both are put
+//! in once more; of an hour, in which two cards are exchanged, one of them is torn out and put in again, and the power
+//! is cut; and many calls of all devices in longer runs. All that was acknowledged is there; and behind one more run
+//! the cards have what the unit tells of their slots, and the file of each matches that of the unit. So it is by the
+//! original rule of minutes, and by the amended one.
 ghost use Rattle.tach_media.specs.MemMedium.{memory_state};
 ghost use Rattle.unit_model.specs.Image.{IsUnit};
 
@@ -25,7 +26,8 @@ const MINUTES: u16 = 130;
 /// The opening of a run alone.
 const START: &[u8] = b"start 1267401600\n";
 
-/// Six minutes with two drivers, of whom the first one comes once more, where a stop has torn out the card; else the line is refused.
+/// Six minutes with two drivers, of whom the first one comes once more, where a stop has torn out the card; else the
+/// line is refused.
 const SHORT: &[u8] = b"start 1267401600
 insert driver a
 insert codriver b
@@ -45,8 +47,8 @@ withdraw codriver
 run 60 0
 ";
 
-/// An hour: two cards are put in, and exchange their slots; one of them is pulled out and comes back; the power is cut; both are withdrawn. A
-/// line that finds its slot full, or empty, or no power, is refused.
+/// An hour: two cards are put in, and exchange their slots; one of them is pulled out and comes back; the power is cut;
+/// both are withdrawn. A line that finds its slot full, or empty, or no power, is refused.
 const HOUR: &[u8] = b"start 1267401600
 insert driver a
 insert codriver b
@@ -142,7 +144,8 @@ impl AllTold {
         true
     }
 
-    /// Whether one card, and no other, has its entry of a minute in a slot, as the unit tells it; or none, where the unit tells of none.
+    /// Whether one card, and no other, has its entry of a minute in a slot, as the unit tells it; or none, where the
+    /// unit tells of none.
     fn agree_at(&self, slot: u16, minute: u16) -> bool {
         let kept = self.unit.of_slot(M0, slot, minute);
         let a = self
@@ -193,8 +196,8 @@ fn blocks(alloc: Global) -> Result<Vec<u8>, AllocError> {
     Ok(text)
 }
 
-/// What both runs tell, and whether all that was acknowledged is there: behind the first one, and behind both, where the cards have just what the unit
-/// tells of their slots; and whether the file of each then matches that of the unit.
+/// What both runs tell, and whether all that was acknowledged is there: behind the first one, and behind both, where
+/// the cards have just what the unit tells of their slots; and whether the file of each then matches that of the unit.
 #[derive(Clone, Copy)]
 struct Both {
     first: Ran,
