@@ -1,4 +1,5 @@
 pub mod Adding
+pub mod Behind
 pub mod Dense
 pub mod Elsewhere
 pub mod Filling

@@ -93,6 +93,11 @@ IsNewest r x (Some i) = IsLast r x i
 abbrev pub taken : Shape → List ℕ → ℕ
 taken r x = if is_there r x (pointer r x) then next r (pointer r x) else pointer r x
 
+-- an entry is there at the pointer, which is this index
+pub record IsAtPointer (r : Shape) (i : ℕ) (x : List ℕ) : Type 0 where
+  pub pointer_is : pointer r x ≡ i
+  pub there : is_there r x i ≡ true
+
 -- a list without its first, where that is this one
 abbrev pub without_first : ℕ → List ℕ → List ℕ
 without_first i [] = []

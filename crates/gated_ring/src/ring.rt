@@ -5,7 +5,8 @@ ghost use Rattle.tach_media.specs.Medium.{bytes_at, LeavesOnly, Reads, HasCause,
 ghost use Rattle.tach_media.specs.Medium.{last_count};
 ghost use Rattle.tach_media.specs.Plan.{PutsAll, PutsBy, more};
 ghost use Rattle.gated_ring.specs.Ring.{IsShape, FitsIn, size_of, is_pointer_width, place_of, gate_of, gate_bytes};
-ghost use Rattle.gated_ring.specs.Ring.{gate_number, is_there, IsNewest, pointer, PointsInside, number_at, next, taken};
+ghost use Rattle.gated_ring.specs.Ring.{gate_number, is_there, IsNewest, IsAtPointer, pointer, PointsInside, number_at};
+ghost use Rattle.gated_ring.specs.Ring.{next, taken};
 ghost use Rattle.gated_ring.specs.Change.{adding_writes, replacing_writes, IsAdding, IsAdded, IsReplaced};
 ghost use Rattle.gated_ring.specs.Change.{IsReplacingEntry, IsClosed, IsSet, OrUnwritten};
 ghost use Rattle.gated_ring.specs.Plans.{some_piece, shut_pieces, body_pieces, pointer_pieces, gate_pieces};
@@ -439,6 +440,48 @@ impl Ring {
         let room = self.room(medium)?;
         self.place(medium, &room, head)?;
         Ok(room.index)
+    }
+
+    /// Adds the newest entry as [`Ring::add`] does, behind one that is known to be there at the pointer, and answers
+    /// its index. Of the ring it reads the gate alone whose place is taken.
+    pub fn add_behind<M: Medium>(
+        &mut self,
+        medium: &mut M,
+        last: u32,
+        head: &[u8],
+    ) -> Result<u32, Failed>
+        requires fits { FitsIn self.old (M.state medium.old) }
+        requires writable { LiesInside (M.state medium.old).writable self.old.base (size_of self.old) }
+        requires pointer { 0 < self.old.pointer_width }
+        requires last { last < self.old.count }
+        requires known { IfSome (M.state medium.old).image (IsAtPointer self.old last) }
+        requires gate { self.old.gate + 4 ≤ length head.now }
+        requires width { length head.now ≤ self.old.width }
+        requires short { length head.now ≤ 254 }
+        requires open { gate_number self.old head.now ≢ 0 }
+        ensures shape { self.new ≡ self.old }
+        ensures index { IfOk result (λ index. index ≡ next self.old last) }
+        ensures below { IfOk result (λ index. index < self.old.count) }
+        ensures at_pointer { IfOk result (λ index. IfSome (M.state medium.new).image (IsAtPointer self.old index)) }
+        ensures added { OnOk result (IfSome (M.state medium.old).image
+            (λ x. IfSome (M.state medium.new).image (IsAdded self.old head.now x))) }
+        ensures moments { LeavesOnly (M.state medium.old) (M.state medium.new) (IsAdding self.old head.now) }
+        ensures settled { OnOk result ((M.state medium.new).clock < last_count → IsSettled (M.state medium.new)) }
+        ensures clock { OnOk result (Rose (M.state medium.old).clock (M.state medium.new).clock) }
+        ensures cause { HasCause (M.state medium.old) (M.state medium.new) (is_err result) }
+        ensures most { (M.state medium.new).clock ≤ (M.state medium.old).clock + 5 }
+        ensures writes { IfSome (M.state medium.old).image
+            (λ x. (M.state medium.new).clock ≤ (M.state medium.old).clock + adding_writes self.old x) }
+    {
+        let index = self.next(last);
+        let gate = self.gate(medium, index)?;
+        let room = Room {
+            last,
+            index,
+            used: gate != 0,
+        };
+        self.place(medium, &room, head)?;
+        Ok(index)
     }
 
     /// Replaces an entry, there or not, by one that begins with `head`, of at most 254 bytes. What the place has behind

@@ -17,6 +17,7 @@ pub mod Noted
 pub mod Minutes
 pub mod NoteSpeeds
 pub mod Behind
+pub mod Newest
 pub mod Pairs
 pub mod Turned
 pub mod CrewsFed

@@ -1,9 +1,12 @@
 -- The block of a minute that ends with some seconds, and what adding it leaves of a unit (profile).
-use Rattle.std.specs.Prelude.{◌≡◌, ◌⊎◌, ℕ, ◌+◌, Bool, false, Option, Some, None, IfSome, option_to_list, List, ◌++◌}
+use Rattle.std.specs.Prelude.{◌≡◌, ◌⊎◌, ℕ, ◌+◌, ◌<◌, Bool, false, Option, Some, None, IfSome, option_to_list, List}
+use Rattle.std.specs.Prelude.{◌++◌}
 use Rattle.tach_media.specs.Medium.{State, LeavesOnly}
+use Rattle.gated_ring.specs.Ring.{PointsInside, IsAtPointer}
 use Rattle.gated_ring.specs.Change.{IsAdding, IsAdded}
 use Rattle.event_model.specs.Spans.{SpeedSecond, at_speed}
 use Rattle.speed_model.specs.declared.block.Block.{Block}
+use Rattle.speed_model.specs.declared.block.TheConstants.{BLOCK_SLOTS}
 use Rattle.speed_model.specs.Blocks.{blocks_of, block_bytes}
 use Rattle.speed_model.specs.Stored.{speed_ring}
 use Rattle.speed_store.specs.Feeding as minute
@@ -12,6 +15,12 @@ use Rattle.run_crew.specs.declared.cards.Crew.{Crew}
 use Rattle.run_events.specs.declared.watch.Ended.{Ended}
 use Rattle.run_events.specs.declared.watch.Watch.{Watch}
 use Rattle.run_events.specs.Noting.{AreNoted, AreBeingNoted, IsFed}
+
+-- THE NEWEST BLOCK IS KNOWN, where a span has added one: it stands at the pointer of the unit's ring, which is an index
+-- before that too
+abbrev pub KnowsNewest : Option ℕ → State → Type 0
+KnowsNewest None unit = IfSome unit.image (PointsInside speed_ring)
+KnowsNewest (Some index) unit = (index < BLOCK_SLOTS) × IfSome unit.image (IsAtPointer speed_ring index)
 
 -- the block is added, where there is one
 abbrev pub IsBlockPut : Option Block → List ℕ → List ℕ → Type 0

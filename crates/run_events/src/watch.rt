@@ -1,11 +1,16 @@
 //! The events of a power span as its seconds come: they are fed by runs, and noted where they have ended.
-ghost use Rattle.std.specs.Prelude.{◌≡◌, ◌≢◌, ℕ, ◌+◌, ◌%◌, ◌<◌, ◌≤◌, ◌^◌, true, Option, Some, None, [], IfSome, OnOk};
-ghost use Rattle.std.specs.Prelude.{is_err, unwrap_or, if◌then◌else◌};
+ghost use Rattle.std.specs.Prelude.{◌≡◌, ◌≢◌, ℕ, ◌+◌, ◌%◌, ◌<◌, ◌≤◌, ◌^◌, true, Option, Some, None, [], IfSome, IfOk};
+ghost use Rattle.std.specs.Prelude.{OnOk, is_err, unwrap_or, if◌then◌else◌};
 ghost use Rattle.tach_media.specs.Medium.{HasCause, LeavesOnly};
 ghost use Rattle.unit_model.specs.Image.{IsUnit};
+ghost use Rattle.gated_ring.specs.Ring.{IsAtPointer};
+ghost use Rattle.gated_ring.specs.Change.{IsAdding, IsAdded};
 ghost use Rattle.unit_notes.specs.Journal.{LeavesJournal};
+ghost use Rattle.speed_model.specs.declared.block.TheConstants.{BLOCK_SLOTS};
+ghost use Rattle.speed_model.specs.Blocks.{block_bytes};
+ghost use Rattle.speed_model.specs.Stored.{speed_ring};
 ghost use Rattle.speed_store.specs.Feeding as minute;
-ghost use Rattle.run_events.specs.Blocks.{IsBlockPut, IsPuttingBlock, IsWatchedOn};
+ghost use Rattle.run_events.specs.Blocks.{KnowsNewest, IsBlockPut, IsPuttingBlock, IsWatchedOn};
 ghost use Rattle.run_crew.specs.declared.cards.Crew.{Crew};
 ghost use Rattle.run_events.specs.Entries.{number_or_no_card};
 ghost use Rattle.run_events.specs.Watching.{WatchesSpan, Watches, WatchesEvents, is_bare_at, bare_ended, over_ended};
@@ -16,7 +21,7 @@ use crate::entries::{card_bare, number_or_zeros};
 use event_model::{Over, Span};
 use event_rules::{NoCardRun, Overspeed};
 use run_crew::Crew;
-use speed_store::{Block, SpeedMinute, add_block};
+use speed_store::{Block, SpeedMinute, add_block, add_block_behind};
 use tach_media::{Failed, Medium};
 use tacho_types::FullCardNumber;
 use unit_memory::UnitMemory;
@@ -35,6 +40,8 @@ pub struct Watch {
     pub last: Crew,
     /// The speeds of the minute that goes on.
     pub speeds: SpeedMinute,
+    /// The index of the newest block of detailed speed, where this span has added one.
+    pub newest: Option<u32>,
 }
 
 /// What has ended with the second before: driving without a card, and an over speeding, with the cards at the first
@@ -54,6 +61,7 @@ impl Watch {
         ensures stands { WatchesSpan result [] }
         ensures limit { (result.over.limit ≡ limit) × (result.limit ≡ limit) }
         ensures speeds { (next : ℕ) → minute.KeepsSpeedsOf result.speeds [] next }
+        ensures newest { result.newest ≡ None }
     {
         Watch {
             bare: NoCardRun::new(),
@@ -63,6 +71,7 @@ impl Watch {
             over_begin: None,
             last: Crew::default(),
             speeds: SpeedMinute::new(),
+            newest: None,
         }
     }
 
@@ -90,6 +99,8 @@ impl Watch {
         requires watches { Watches self.old first }
         requires unit { IsUnit (M.state unit.old) }
         requires works { (M.state unit.old).works ≡ true }
+        requires newest { KnowsNewest self.old.newest (M.state unit.old) }
+        ensures newest { OnOk result (KnowsNewest self.new.newest (M.state unit.new)) }
         ensures watches { Watches self.new (first + n) }
         ensures limit { self.new.limit ≡ self.new.over.limit }
         ensures watched { IsWatchedOn (is_err result) self.old self.new first n speed crew (M.state unit.old)
@@ -101,7 +112,8 @@ impl Watch {
     {
         let block = self.speeds.feed(first, n, speed);
         let ended = self.feed(first, n, speed, crew);
-        put_block(&block, unit)?;
+        let newest = put_block(&block, self.newest, unit)?;
+        self.newest = newest;
         note_ended(memory, &ended, unit)
     }
 
@@ -116,6 +128,7 @@ impl Watch {
         ensures limit { self.new.limit ≡ self.new.over.limit }
         ensures fed { IsFed self.old self.new first n speed crew result }
         ensures speeds { self.new.speeds ≡ self.old.speeds }
+        ensures newest { self.new.newest ≡ self.old.newest }
         ensures bare { IfSome result.bare (λ s. 0 < s.begin) }
         ensures over { IfSome result.over (λ o. 0 < o.begin) }
     {
@@ -152,11 +165,17 @@ fn begin_of(goes_on: bool, begin: Option<Crew>, crew: Crew) -> Option<Crew>
     }
 }
 
-// The block of a minute is added, if there is one.
-fn put_block<M: Medium>(block: &Option<Block>, unit: &mut M) -> Result<(), Failed>
+// The block of a minute is added, if there is one, and the index of the newest is known then.
+fn put_block<M: Medium>(
+    block: &Option<Block>,
+    newest: Option<u32>,
+    unit: &mut M,
+) -> Result<Option<u32>, Failed>
     requires unit { IsUnit (M.state unit.old) }
     requires works { (M.state unit.old).works ≡ true }
+    requires newest { KnowsNewest newest (M.state unit.old) }
     requires time { IfSome block.now (λ b. 0 < b.time) }
+    ensures newest { IfOk result (λ newest. KnowsNewest newest (M.state unit.new)) }
     ensures put { OnOk result (IfSome (M.state unit.old).image
         (λ x. IfSome (M.state unit.new).image (IsBlockPut block.now x))) }
     ensures moments { LeavesOnly (M.state unit.old) (M.state unit.new) (IsPuttingBlock block.now) }
@@ -166,8 +185,47 @@ fn put_block<M: Medium>(block: &Option<Block>, unit: &mut M) -> Result<(), Faile
     ensures most { (M.state unit.new).clock ≤ (M.state unit.old).clock + 5 }
 {
     match block {
-        None => Ok(()),
-        Some(block) => add_block(unit, block),
+        None => Ok(newest),
+        Some(block) => put_some(block, newest, unit),
+    }
+}
+
+// A block is added.
+fn put_some<M: Medium>(
+    block: &Block,
+    newest: Option<u32>,
+    unit: &mut M,
+) -> Result<Option<u32>, Failed>
+    requires unit { IsUnit (M.state unit.old) }
+    requires newest { KnowsNewest newest (M.state unit.old) }
+    requires time { block.now.time ≢ 0 }
+    ensures newest { IfOk result (λ newest. KnowsNewest newest (M.state unit.new)) }
+    ensures added { OnOk result (IfSome (M.state unit.old).image
+        (λ x. IfSome (M.state unit.new).image (IsAdded speed_ring (block_bytes block.now) x))) }
+    ensures moments { LeavesOnly (M.state unit.old) (M.state unit.new) (IsAdding speed_ring (block_bytes block.now)) }
+    ensures cause { HasCause (M.state unit.old) (M.state unit.new) (is_err result) }
+    ensures most { (M.state unit.new).clock ≤ (M.state unit.old).clock + 5 }
+{
+    let index = add_next(block, newest, unit)?;
+    Ok(Some(index))
+}
+
+// A block is added behind the newest where that is known, else where the ring's pointer tells: its index.
+fn add_next<M: Medium>(block: &Block, newest: Option<u32>, unit: &mut M) -> Result<u32, Failed>
+    requires unit { IsUnit (M.state unit.old) }
+    requires newest { KnowsNewest newest (M.state unit.old) }
+    requires time { block.now.time ≢ 0 }
+    ensures below { IfOk result (λ index. index < BLOCK_SLOTS) }
+    ensures newest { IfOk result (λ index. IfSome (M.state unit.new).image (IsAtPointer speed_ring index)) }
+    ensures added { OnOk result (IfSome (M.state unit.old).image
+        (λ x. IfSome (M.state unit.new).image (IsAdded speed_ring (block_bytes block.now) x))) }
+    ensures moments { LeavesOnly (M.state unit.old) (M.state unit.new) (IsAdding speed_ring (block_bytes block.now)) }
+    ensures cause { HasCause (M.state unit.old) (M.state unit.new) (is_err result) }
+    ensures most { (M.state unit.new).clock ≤ (M.state unit.old).clock + 5 }
+{
+    match newest {
+        Some(last) => add_block_behind(unit, last, block),
+        None => add_block(unit, block),
     }
 }
 

@@ -12,6 +12,6 @@ mod store;
 pub use fault::SpeedFault;
 pub use laws::what_the_ring_holds_of_a_run;
 pub use minute::SpeedMinute;
-pub use ring::add_block;
+pub use ring::{add_block, add_block_behind};
 pub use speed_model::Block;
 pub use store::SpeedStore;

@@ -50,7 +50,7 @@ module _ (e : Entries) (are : AreEntries e) (x : List ℕ) (whole : IMAGE_SIZE �
       ∙ sym (ap (λ (n : ℕ). n * e.width) (length-append a b) ∙ add-mul (length a) (length b) e.width) in
       ap (λ (l : List (List ℕ)). length (joined l)) split ∙ sum ∙ ap (λ (l : List (List ℕ)). length l * e.width) (sym split)
 
-  all_few : (js : List ℕ) → length (chosen_at (shape_of e) e.choice x js) ≤ length js
+  pub all_few : (js : List ℕ) → length (chosen_at (shape_of e) e.choice x js) ≤ length js
   all_few [] = omega arith
   all_few (j ∷ js) =
       let split = ap length (chosen_both (shape_of e) e.choice x (j ∷ []) js) ∙ length-append (chosen_at (shape_of e) e.choice x (j ∷ [])) (chosen_at (shape_of e) e.choice x js) in
@@ -58,7 +58,7 @@ module _ (e : Entries) (are : AreEntries e) (x : List ℕ) (whole : IMAGE_SIZE �
       let rest = all_few js in
       omega (arith, split, first, rest)
 
-range_long : (from n : ℕ) → length (range_with_len from n) ≡ n
+pub range_long : (from n : ℕ) → length (range_with_len from n) ≡ n
 range_long from zero = refl
 range_long from (suc n) = let rest = range_long (from + 1) n in omega (arith, rest)
 

@@ -8,6 +8,7 @@ pub mod Calls
 mod Choosing
 mod Passing
 mod Counting
+mod Ahead
 pub mod SentDays
 mod Joints
 mod Rings

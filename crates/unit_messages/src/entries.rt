@@ -253,6 +253,87 @@ impl Entries {
         Ok(())
     }
 
+    // So many entries are passed over: as many as lie before the window's begin.
+    fn pass_ahead(&self, window: &mut Window) -> u32
+        requires { AreEntries self.now }
+        ensures few { result ≤ self.now.count }
+        ensures passed { (bytes : List ℕ) → length bytes ≡ result * self.now.width
+            → window.new ≡ passed window.old bytes }
+    {
+        let ahead = (window.skip() / self.width).min(self.count);
+        let len = self.room_of(ahead);
+        let over = window.passes_over(len);
+        if over {
+            return ahead;
+        }
+        0
+    }
+
+    // How many bytes so many of all entries have.
+    fn room_of(&self, count: u32) -> u32
+        requires entries { AreEntries self.now }
+        requires few { count ≤ self.now.count }
+        ensures { result ≡ count * self.now.width }
+    {
+        count * self.width
+    }
+
+    // The entries from the one at an index on and round the end pass by, of which each is there and meant: those before
+    // the window's begin are not read.
+    fn pass_each<M: Medium>(
+        &self,
+        unit: &mut M,
+        turn: u32,
+        window: &mut Window,
+    ) -> Result<(), Failed>
+        requires unit { (M.state unit.old).size ≡ IMAGE_SIZE }
+        requires entries { AreEntries self.now }
+        requires turn { turn ≤ self.now.count }
+        ensures passed { OnOk result (IfSome (M.state unit.old).image
+            (λ x. length (chosen_at (shape_of self.now) self.now.choice x (order (shape_of self.now) turn))
+            ≡ self.now.count
+            → window.new ≡ passed window.old (joined
+            (chosen_at (shape_of self.now) self.now.choice x (order (shape_of self.now) turn))))) }
+        ensures reads { ReadsIfAny (M.state unit.old) (M.state unit.new) (is_err result) }
+    {
+        let ahead = self.pass_ahead(window);
+        let left = self.count - turn;
+        if left < ahead {
+            self.pass_from(unit, ahead - left, turn, window)?;
+            return Ok(());
+        }
+        self.pass_from(unit, turn + ahead, self.count, window)?;
+        self.pass_from(unit, 0, turn, window)?;
+        Ok(())
+    }
+
+    /// `pass`, where so many of the entries are there and meant. Where that is each of them, those before the window's
+    /// begin are not read.
+    pub fn pass_some_of<M: Medium>(
+        &self,
+        unit: &mut M,
+        turn: u32,
+        count: u32,
+        window: &mut Window,
+    ) -> Result<(), Failed>
+        requires unit { (M.state unit.old).size ≡ IMAGE_SIZE }
+        requires entries { AreEntries self.now }
+        requires turn { turn ≤ self.now.count }
+        ensures passed { OnOk result (IfSome (M.state unit.old).image
+            (λ x. count ≡ length (chosen_at (shape_of self.now) self.now.choice x (order (shape_of self.now) turn))
+            → window.new ≡ passed window.old (joined
+            (chosen_at (shape_of self.now) self.now.choice x (order (shape_of self.now) turn))))) }
+        ensures reads { ReadsIfAny (M.state unit.old) (M.state unit.new) (is_err result) }
+    {
+        let all = self.count;
+        if count == all {
+            self.pass_each(unit, turn, window)?;
+            return Ok(());
+        }
+        self.pass(unit, turn, window)?;
+        Ok(())
+    }
+
     /// How many entries are there and meant.
     pub fn count<M: Medium>(&self, unit: &mut M) -> Result<u32, Failed>
         requires unit { (M.state unit.old).size ≡ IMAGE_SIZE }

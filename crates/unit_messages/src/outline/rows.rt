@@ -186,7 +186,8 @@ fn turn_at(pointer: u32, count: u32) -> u32
     }
 }
 
-// The entries of a ring, of which so many are meant, pass by; where none of them can be taken, none is read.
+// The entries of a ring, of which so many are meant, pass by; where none of them can be taken, none is read, and where
+// each is meant, none before the window's begin.
 fn pass_ring<M: Medium>(
     unit: &mut M,
     place: u32,
@@ -210,7 +211,7 @@ fn pass_ring<M: Medium>(
     }
     let pointer = read_number(unit, place, 4)?;
     let turn = turn_at(pointer, entries.count);
-    entries.pass(unit, turn, window)?;
+    entries.pass_some_of(unit, turn, count, window)?;
     Ok(())
 }
 
