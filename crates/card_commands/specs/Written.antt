@@ -1,8 +1,10 @@
 -- The bytes of a command as a unit writes it.
-use Rattle.std.specs.Prelude.{ℕ, ◌+◌, ◌/◌, ◌%◌, ◌<◌, ◌≤◌, List, [], ◌∷◌, ◌++◌, length}
+use Rattle.std.specs.Prelude.{ℕ, ◌+◌, ◌/◌, ◌%◌, ◌<◌, ◌≤◌, Result, Ok, Err, List, [], ◌∷◌, ◌++◌, length}
 use Rattle.card_layout.specs.declared.command.Command.{Command}
 use Rattle.card_layout.specs.declared.command.Command.TheVariants.{Application, Select, Read, Update}
 use Rattle.card_layout.specs.Commands.{tachograph_name}
+use Rattle.card_commands.specs.declared.codec.Header.{Header}
+use Rattle.card_commands.specs.declared.codec.Header.TheVariants as header_of
 
 -- class, instruction, P1 and P2, and the length
 abbrev pub header : ℕ → ℕ → ℕ → ℕ → List ℕ
@@ -21,3 +23,15 @@ IsWritable Application = Unit {0}
 IsWritable (Select fid) = Unit {0}
 IsWritable (Read offset len) = (offset < 32768) × (1 ≤ len) × (len ≤ 256)
 IsWritable (Update offset bytes) = (offset < 32768) × (0 < length bytes.items)
+
+-- a command by its header, with its data
+abbrev pub command_with : Header → List ℕ → Command
+command_with header_of.Application bytes = Application
+command_with (header_of.Select fid) bytes = Select fid
+command_with (header_of.Read offset len) bytes = Read offset len
+command_with (header_of.Update offset) bytes = Update offset (record { items = bytes })
+
+-- what is read, with the data
+abbrev pub read_with : Result Header ℕ → List ℕ → Result Command ℕ
+read_with (Ok header) bytes = Ok (command_with header bytes)
+read_with (Err status) bytes = Err status

@@ -1,8 +1,9 @@
-ghost use Rattle.std.specs.Prelude.{◌≡◌, ◌≤◌, ◌+◌, ◌++◌, Ok, IfOk, length};
+ghost use Rattle.std.specs.Prelude.{◌^◌, ◌≡◌, ◌<◌, ◌≤◌, ◌+◌, ◌++◌, Ok, IfOk, length, drop};
 ghost use Rattle.card_commands.specs.declared.port.TheConstants.{WRITE_MOST};
 ghost use Rattle.card_layout.specs.Images.{number_at};
 ghost use Rattle.card_layout.specs.Commands.{command_of, meaning, has_good_parameters, has_good_length};
-ghost use Rattle.card_commands.specs.Written.{bytes_of, IsWritable};
+ghost use Rattle.card_layout.specs.declared.command.Command.TheVariants.{Update};
+ghost use Rattle.card_commands.specs.Written.{bytes_of, command_with, read_with, IsWritable};
 
 use arrayvec::ArrayVec;
 use card_layout::{Command, Fid};
@@ -23,12 +24,33 @@ const BY_IDENTIFIER: u8 = 0x02;
 
 const NO_DATA: u8 = 0x0C;
 
+/// What a command asks for, but for the data of an update.
+#[derive(Clone, Copy, Debug, PartialEq, Eq)]
+pub enum Header {
+    Application,
+    Select(Fid),
+    Read { offset: u16, len: u16 },
+    Update { offset: u16 },
+}
+
 /// Reads the bytes of a command: class, instruction, P1, P2, then a length and data. An `Err` is the status word of the
 /// first check that the bytes fail: 6700 where there are fewer than five, 6E00 for the class, 6D00 for the instruction,
 /// 6A86 for P1 and P2, 6700 for the length, 6A82 for the name of another application.
 pub fn read_command(b: &[u8]) -> Result<Command, u16>
     ensures value { result ≡ command_of b.now }
     ensures writable { IfOk result IsWritable }
+{
+    match read_header(b) {
+        Ok(header) => Ok(with_data(header, behind_header(b))),
+        Err(status) => Err(status),
+    }
+}
+
+/// The same without the data of an update.
+pub fn read_header(b: &[u8]) -> Result<Header, u16>
+    ensures value { read_with result (drop 5 b.now) ≡ command_of b.now }
+    ensures writable { IfOk result (λ header. IsWritable (command_with header (drop 5 b.now))) }
+    ensures few { IfOk result (λ header. length (drop 5 b.now) ≤ WRITE_MOST) }
 {
     if b.len() < 5 {
         return Err(0x6700);
@@ -49,6 +71,32 @@ pub fn read_command(b: &[u8]) -> Result<Command, u16>
         return Err(0x6A82);
     }
     Ok(meaning(b))
+}
+
+/// What is behind a command's header.
+pub fn behind_header(b: &[u8]) -> &[u8]
+    ensures { result.now ≡ drop 5 b.now }
+{
+    if b.len() < 5 {
+        return b"";
+    }
+    &b[5..]
+}
+
+// A command with its data.
+fn with_data(header: Header, behind: &[u8]) -> Command
+    requires { length behind.now ≤ WRITE_MOST }
+    ensures { result ≡ command_with header behind.now }
+{
+    match header {
+        Header::Application => Command::Application,
+        Header::Select(fid) => Command::Select(fid),
+        Header::Read { offset, len } => Command::Read { offset, len },
+        Header::Update { offset } => Command::Update {
+            offset,
+            bytes: held(behind),
+        },
+    }
 }
 
 // Whether P1 and P2 are those of the instruction.
@@ -77,20 +125,19 @@ fn has_good_length(b: &[u8]) -> bool
 }
 
 // The command that these bytes are, which have passed the checks.
-fn meaning(b: &[u8]) -> Command
+fn meaning(b: &[u8]) -> Header
     requires { command_of b.now ≡ Ok (meaning b.now) }
-    ensures { result ≡ meaning b.now }
+    ensures { command_with result (drop 5 b.now) ≡ meaning b.now }
 {
     match b[1] {
-        SELECT if b[2] == BY_NAME => Command::Application,
-        SELECT => Command::Select(Fid(two_bytes(b, 5))),
-        READ_BINARY => Command::Read {
+        SELECT if b[2] == BY_NAME => Header::Application,
+        SELECT => Header::Select(Fid(two_bytes(b, 5))),
+        READ_BINARY => Header::Read {
             offset: two_bytes(b, 2),
             len: if b[4] == 0 { 256 } else { b[4] as u16 },
         },
-        _ => Command::Update {
+        _ => Header::Update {
             offset: two_bytes(b, 2),
-            bytes: held(&b[5..]),
         },
     }
 }
@@ -132,14 +179,20 @@ pub fn write_command(command: &Command) -> ArrayVec<u8, 260>
             let [high, low] = offset.to_be_bytes();
             written([0x00, READ_BINARY, high, low, (len % 256) as u8], &[])
         }
-        Command::Update { offset, bytes } => {
-            let [high, low] = offset.to_be_bytes();
-            written(
-                [0x00, UPDATE_BINARY, high, low, bytes.len() as u8],
-                bytes.as_slice(),
-            )
-        }
+        Command::Update { offset, bytes } => write_update(*offset, bytes.as_slice()),
     }
+}
+
+/// Writes an update of 1 to 255 bytes.
+pub fn write_update(offset: u16, bytes: &[u8]) -> ArrayVec<u8, 260>
+    requires near { offset < 2 ^ 15 }
+    requires some { 0 < length bytes.now }
+    requires few { length bytes.now ≤ WRITE_MOST }
+    ensures bytes { result.items ≡ bytes_of (Update offset (record { items = bytes.now })) }
+    ensures read_back { command_of result.items ≡ Ok (Update offset (record { items = bytes.now })) }
+{
+    let [high, low] = offset.to_be_bytes();
+    written([0x00, UPDATE_BINARY, high, low, bytes.len() as u8], bytes)
 }
 
 // A header with data behind it.

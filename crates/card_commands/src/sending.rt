@@ -3,11 +3,11 @@ ghost use Rattle.card_commands.specs.declared.port.TheConstants.{READ_MOST, WRIT
 ghost use Rattle.tach_media.specs.Medium.{Reads, bytes_at};
 ghost use Rattle.card_layout.specs.Outcomes.{command_outcome, in_directory, found, is_application, Fixes};
 ghost use Rattle.tach_media.specs.Chip.{Does, WritesAt};
+ghost use Rattle.card_layout.specs.declared.command.Command.TheVariants.{Update};
 ghost use Rattle.card_commands.specs.Written.{IsWritable};
 ghost use Rattle.card_commands.specs.Sending.{IsSent};
 
-use crate::codec::write_command;
-use arrayvec::ArrayVec;
+use crate::codec::{write_command, write_update};
 use card_layout::{Command, Directory, ElementaryFile, Fid};
 use tach_media::{Answer, Chip, Failed};
 
@@ -97,11 +97,24 @@ pub fn update<C: Chip>(
         (is_err result) }
     ensures card { C.card chip.new ≡ C.card chip.old }
 {
-    let mut held = ArrayVec::new();
-    let _ = held.try_extend_from_slice(bytes);
-    let command = Command::Update {
-        offset,
-        bytes: held,
-    };
-    send(chip, &command, &mut Answer::new())
+    send_update(chip, offset, bytes, &mut Answer::new())
+}
+
+// Sends an update and takes its answer.
+fn send_update<C: Chip>(
+    chip: &mut C,
+    offset: u16,
+    bytes: &[u8],
+    answer: &mut Answer,
+) -> Result<(), Failed>
+    requires near { offset < 2 ^ 15 }
+    requires some { 0 < length bytes.now }
+    requires few { length bytes.now ≤ WRITE_MOST }
+    ensures sent { OnOk result (IsSent (Update offset (record { items = bytes.now })) (C.state chip.old).image
+        (C.card chip.old) (C.card chip.new) answer.new.items) }
+    ensures image { Does (command_outcome (C.card chip.old) (Update offset (record { items = bytes.now }))).effect
+        (C.state chip.old) (C.state chip.new) (is_err result) }
+    ensures kept { OnErr result (C.card chip.new ≡ C.card chip.old) }
+{
+    chip.transmit(&write_update(offset, bytes), answer)
 }

@@ -1,6 +1,6 @@
 ghost use Rattle.std.specs.Prelude.{◌≡◌, ◌≤◌, ◌<◌, ◌+◌, ◌++◌, ◌/◌, ◌%◌, [], ◌∷◌, true, not, length, Some, None, Ok};
 ghost use Rattle.std.specs.Prelude.{OnOk, OnErr, IfOk, IfSome, is_ok, is_err};
-ghost use Rattle.card_commands.specs.declared.port.TheConstants.{READ_MOST};
+ghost use Rattle.card_commands.specs.declared.port.TheConstants.{READ_MOST, WRITE_MOST};
 ghost use Rattle.card_layout.specs.declared.command.Command.TheVariants.{Select, Read, Update};
 ghost use Rattle.card_layout.specs.Application.{application_in};
 ghost use Rattle.tach_media.specs.Medium.{State, LiesInside, Reads, bytes_at};
@@ -8,15 +8,12 @@ ghost use Rattle.card_layout.specs.Outcomes.{just_issued, in_directory, is_fixed
 ghost use Rattle.card_layout.specs.Outcomes.{outcome_from, gives, IsData, is_application};
 ghost use Rattle.tach_media.specs.Chip.{Does, WritesAt};
 ghost use Rattle.card_commands.specs.Performing.{IsFile, IsSound, IsPerformed};
-ghost use Rattle.card_commands.specs.Written.{IsWritable};
+ghost use Rattle.card_commands.specs.Written.{command_with, read_with, IsWritable};
 
-use crate::codec::read_command;
+use crate::codec::{Header, behind_header, read_header};
 use crate::files::{fixed_file, is_under, sized_file};
 use crate::issue::issue;
-use arrayvec::ArrayVec;
-use card_layout::{
-    APPLICATION_RANGE, CardState, Command, Directory, ElementaryFile, Fid, LARGEST_IMAGE,
-};
+use card_layout::{APPLICATION_RANGE, CardState, Directory, ElementaryFile, Fid, LARGEST_IMAGE};
 use tach_media::{Answer, Chip, Failed, Medium};
 
 /// The status words of commands that read well.
@@ -260,13 +257,14 @@ impl<M: Medium> SimCard<M> {
     }
 
     // UPDATE BINARY.
-    fn update_binary(&mut self, offset: u16, bytes: &ArrayVec<u8, 255>) -> Result<u16, Failed>
+    fn update_binary(&mut self, offset: u16, bytes: &[u8]) -> Result<u16, Failed>
         requires works { self.old.works ≡ true }
-        requires some { 0 < length bytes.now.items }
-        ensures performed { IfOk result (λ status. IsPerformed (Ok (Update offset bytes.now))
+        requires some { 0 < length bytes.now }
+        requires few { length bytes.now ≤ WRITE_MOST }
+        ensures performed { IfOk result (λ status. IsPerformed (Ok (Update offset (record { items = bytes.now })))
             (M.state self.old.medium).image self.old.card self.new.card [] status) }
-        ensures image { Does (command_outcome self.old.card (Update offset bytes.now)).effect (M.state self.old.medium)
-            (M.state self.new.medium) (is_err result) }
+        ensures image { Does (command_outcome self.old.card (Update offset (record { items = bytes.now }))).effect
+            (M.state self.old.medium) (M.state self.new.medium) (is_err result) }
         ensures kept { OnErr result (self.new.card ≡ self.old.card) }
     {
         let Some(file) = self.selected() else {
@@ -281,28 +279,34 @@ impl<M: Medium> SimCard<M> {
         if offset as u32 + bytes.len() as u32 > file.range.len {
             return Ok(BAD_LENGTH);
         }
-        self.write(file.range.base + offset as u32, bytes.as_slice())?;
+        self.write(file.range.base + offset as u32, bytes)?;
         Ok(DONE)
     }
 
-    // Does what bytes ask for that read as a command.
-    fn perform(&mut self, read: &Result<Command, u16>, answer: &mut Answer) -> Result<u16, Failed>
+    // Does what a header with its data asks for that reads as a command.
+    fn perform(
+        &mut self,
+        read: &Result<Header, u16>,
+        behind: &[u8],
+        answer: &mut Answer,
+    ) -> Result<u16, Failed>
         requires works { self.old.works ≡ true }
-        requires writable { IfOk read.now IsWritable }
+        requires writable { IfOk read.now (λ header. IsWritable (command_with header behind.now)) }
+        requires few { IfOk read.now (λ header. length behind.now ≤ WRITE_MOST) }
         requires empty { answer.old.items ≡ [] }
-        ensures performed { IfOk result (λ status. IsPerformed read.now (M.state self.old.medium).image self.old.card
-            self.new.card answer.new.items status) }
-        ensures image { Does (outcome_from self.old.card read.now).effect (M.state self.old.medium)
-            (M.state self.new.medium) (is_err result) }
+        ensures performed { IfOk result (λ status. IsPerformed (read_with read.now behind.now)
+            (M.state self.old.medium).image self.old.card self.new.card answer.new.items status) }
+        ensures image { Does (outcome_from self.old.card (read_with read.now behind.now)).effect
+            (M.state self.old.medium) (M.state self.new.medium) (is_err result) }
         ensures room { length answer.new.items ≤ READ_MOST }
         ensures kept { OnErr result (self.new.card ≡ self.old.card) }
         ensures no_answer { OnErr result (answer.new.items ≡ []) }
     {
         match read {
-            Ok(Command::Application) => Ok(self.enter(Directory::Tachograph)),
-            Ok(Command::Select(fid)) => self.select(*fid),
-            Ok(Command::Read { offset, len }) => self.read_binary(*offset, *len, answer),
-            Ok(Command::Update { offset, bytes }) => self.update_binary(*offset, bytes),
+            Ok(Header::Application) => Ok(self.enter(Directory::Tachograph)),
+            Ok(Header::Select(fid)) => self.select(*fid),
+            Ok(Header::Read { offset, len }) => self.read_binary(*offset, *len, answer),
+            Ok(Header::Update { offset }) => self.update_binary(*offset, behind),
             Err(status) => Ok(*status),
         }
     }
@@ -328,7 +332,9 @@ impl<M: Medium> Chip for SimCard<M> {
     fn transmit(&mut self, command: &[u8], answer: &mut Answer) -> Result<(), Failed> {
         answer.clear();
         self.wake()?;
-        let status = self.perform(&read_command(command), answer)?;
+        let read = read_header(command);
+        let behind = behind_header(command);
+        let status = self.perform(&read, behind, answer)?;
         conclude(answer, status);
         Ok(())
     }
