@@ -1,3 +1,7 @@
 pub mod Names
+pub mod Codes
+pub mod Dates
+pub mod Texts
+pub mod Groups
 pub mod Shown
-pub mod Vehicles
+pub mod Kinds

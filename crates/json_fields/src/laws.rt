@@ -1,10 +1,12 @@
-ghost use Rattle.std.specs.Prelude.{◌≡◌, ◌*◌, ◌++◌, ◌≤◌, ℕ, List, Some, length};
+ghost use Rattle.std.specs.Prelude.{◌≡◌, ◌*◌, ◌++◌, ◌<◌, ◌≤◌, ℕ, List, Some, length};
 ghost use Rattle.card_layout.specs.Fields.{IsBytes};
 ghost use Rattle.json.specs.Json.{document};
 ghost use Rattle.json.specs.Token.{Token};
 ghost use Rattle.json.specs.Print.{print, print_from, ends_value};
 ghost use Rattle.json.specs.Tree.{json_tokens};
 ghost use Rattle.json_fields.specs.declared.fields.Field.{Field};
+ghost use Rattle.tacho_types.specs.Calendar.{IsDateText};
+ghost use Rattle.json_fields.specs.Dates.{date_of, date_text};
 ghost use Rattle.json_fields.specs.Shown.{record_shown, records_shown, width_of_record, AreFields};
 
 /// The text of a record is a JSON value, by RFC 8259's grammar, and that value is the record's.
@@ -41,4 +43,9 @@ pub fn nothing_of_a_list_is_left_out()
 pub fn a_text_is_printed_in_pieces()
     ensures { (front behind : List Token)
         → print (front ++ behind) ≡ print front ++ print_from (ends_value front) behind }
+{}
+
+/// A time is shown with the date of its day by the kit's calendar.
+pub fn a_time_has_the_date_of_its_day()
+    ensures { (day : ℕ) → day < 65536 → IsDateText day (date_text (date_of day)) }
 {}

@@ -1,0 +1,48 @@
+-- The string of days of a card as JSON, record by record.
+use Rattle.std.specs.Prelude.{ℕ, zero, suc, ◌+◌, ◌-◌, ◌/◌, ◌&&◌, nat_le, nat_lt, Bool, if◌then◌else◌, List, [], ◌∷◌}
+use Rattle.std.specs.Prelude.{◌++◌, length, take, drop}
+use Rattle.byteorder.specs.Endian.{big_number}
+use Rattle.json.specs.Json.{Json, array, object, Items, no_items, item, no_members, member}
+use Rattle.json_fields.specs.declared.kinds.Kind.TheVariants.{DailyRecord}
+use Rattle.json_fields.specs.declared.names.Name.TheVariants.{ActivityChangeInfos}
+use Rattle.json_fields.specs.Names.{name_text}
+use Rattle.json_fields.specs.Kinds.{fields_of}
+use Rattle.json_fields.specs.Shown.{members_then, value_shown}
+use Rattle.file_json.specs.Parts.{changes_shown}
+
+-- the length that a record tells, and whether a record stands at the front: its head, a change, and all of its bytes
+abbrev pub day_len : List ℕ → ℕ
+day_len bytes = big_number 2 (drop 2 bytes)
+
+abbrev pub is_day : List ℕ → Bool
+is_day bytes = nat_le 14 (length bytes) && (nat_le 14 (day_len bytes) && nat_le (day_len bytes) (length bytes))
+
+-- a record: its head, and its changes of activity
+abbrev pub day_shown : List ℕ → Json
+day_shown bytes =
+    object (members_then value_shown (fields_of DailyRecord) bytes
+    (member (name_text ActivityChangeInfos) (array (changes_shown ((length bytes - 12) / 2) (drop 12 bytes)))
+    no_members))
+
+-- records one after the other, the last of them so far from the front; at most so many
+unfoldable pub days_shown : (most far : ℕ) → List ℕ → Items
+days_shown zero far bytes = no_items
+days_shown (suc most) far bytes =
+    if is_day bytes
+    then item (day_shown (take (day_len bytes) bytes))
+    (if nat_lt far (day_len bytes) then no_items
+    else days_shown most (far - day_len bytes) (drop (day_len bytes) bytes))
+    else no_items
+
+-- a string, read once round from a place on
+abbrev pub circle_from : ℕ → List ℕ → List ℕ
+circle_from place string = drop place string ++ take place string
+
+-- how far the newest record stands behind the oldest, round the end
+abbrev pub far_between : (oldest newest size : ℕ) → ℕ
+far_between oldest newest size = if nat_lt newest oldest then newest + size - oldest else newest - oldest
+
+-- THE RECORDS OF A STRING, from the oldest on
+abbrev pub string_shown : (oldest newest : ℕ) → List ℕ → Json
+string_shown oldest newest string = array
+    (days_shown (length string) (far_between oldest newest (length string)) (circle_from oldest string))

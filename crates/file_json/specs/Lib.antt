@@ -1,0 +1,4 @@
+pub mod Parts
+pub mod Units
+pub mod Days
+pub mod Cards

@@ -1,0 +1,59 @@
+-- The parts of a message as members of a JSON object.
+use Rattle.std.specs.Prelude.{◌≡◌, ℕ, zero, suc, ◌+◌, ◌*◌, ◌≤◌, List, [], ◌∷◌, length, take, drop}
+use Rattle.byteorder.specs.Endian.{big_number}
+use Rattle.json.specs.Json.{Json, array, Items, no_items, item, Members, no_members, member}
+use Rattle.json_fields.specs.declared.fields.Field.{Field}
+use Rattle.json_fields.specs.declared.kinds.Kind.{Kind}
+use Rattle.json_fields.specs.declared.names.Name.TheVariants.{ActivityChangeInfos}
+use Rattle.json_fields.specs.Names.{name_text}
+use Rattle.json_fields.specs.Kinds.{fields_of}
+use Rattle.json_fields.specs.Shown.{members_then, record_shown, records_shown, value_shown, width_of_record}
+use Rattle.json_fields.specs.Texts.{change_value}
+use Rattle.file_json.specs.declared.parts.Part.{Part}
+use Rattle.file_json.specs.declared.parts.Part.TheVariants.{Fields, Record, List as ListOf, Changes}
+
+-- so many changes of activity
+unfoldable pub changes_shown : ℕ → List ℕ → Items
+changes_shown zero bytes = no_items
+changes_shown (suc n) bytes = item (change_value (big_number 2 (take 2 bytes))) (changes_shown n (drop 2 bytes))
+
+-- the bytes of a record
+abbrev pub width_of : Kind → ℕ
+width_of kind = width_of_record (fields_of kind)
+
+-- how many bytes the part has that stands at the front of these
+abbrev pub part_len : Part → List ℕ → ℕ
+part_len (Fields kind) bytes = width_of kind
+part_len (Record name kind) bytes = width_of kind
+part_len (ListOf name count kind) bytes = count + width_of kind * big_number count bytes
+part_len Changes bytes = 2 + 2 * big_number 2 bytes
+
+-- its number is there, in one byte or two
+abbrev pub IsCounted : Part → List ℕ → Type 0
+IsCounted (Fields kind) bytes = Unit {0}
+IsCounted (Record name kind) bytes = Unit {0}
+IsCounted (ListOf name count kind) bytes = (1 ≤ count) × (count ≤ 2) × (count ≤ length bytes)
+IsCounted Changes bytes = 2 ≤ length bytes
+
+-- the part stands there whole
+abbrev pub IsThere : Part → List ℕ → Type 0
+IsThere part bytes = IsCounted part bytes × (part_len part bytes ≤ length bytes)
+
+-- all parts stand there, and nothing behind them
+abbrev pub HasParts : List Part → List ℕ → Type 0
+HasParts [] bytes = bytes ≡ []
+HasParts (p ∷ ps) bytes = IsThere p bytes × HasParts ps (drop (part_len p bytes) bytes)
+
+-- a part in front of other members
+abbrev pub part_then : Part → List ℕ → Members → Members
+part_then (Fields kind) bytes more = members_then value_shown (fields_of kind) bytes more
+part_then (Record name kind) bytes more = member (name_text name) (record_shown (fields_of kind) bytes) more
+part_then (ListOf name count kind) bytes more = member (name_text name)
+    (records_shown (big_number count bytes) (fields_of kind) (drop count bytes)) more
+part_then Changes bytes more = member (name_text ActivityChangeInfos)
+    (array (changes_shown (big_number 2 bytes) (drop 2 bytes))) more
+
+-- THE PARTS OF A MESSAGE, one after the other, in front of other members
+abbrev pub parts_then : List Part → List ℕ → Members → Members
+parts_then [] bytes more = more
+parts_then (p ∷ ps) bytes more = part_then p bytes (parts_then ps (drop (part_len p bytes) bytes) more)

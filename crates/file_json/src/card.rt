@@ -1,0 +1,445 @@
+//! A card file: its files, one after the other.
+ghost use Rattle.std.specs.Prelude.{◌≡◌, ◌+◌, ◌*◌, ◌<◌, ◌≤◌, ◌^◌, ◌++◌, ◌∷◌, [], ℕ, List, true, IfOk, IfErr, OnOk};
+ghost use Rattle.std.specs.Prelude.{drop, length, slice_index, take};
+ghost use Rattle.byteorder.specs.Endian.{big_number};
+ghost use Rattle.json.specs.Json.{array};
+ghost use Rattle.json.specs.Print.{print};
+ghost use Rattle.json.specs.Tree.{items_tokens, json_tokens};
+ghost use Rattle.json_fields.specs.Shown.{AddsMembers};
+ghost use Rattle.card_image.specs.CardFile.{FileEntry};
+ghost use Rattle.file_view.specs.Faults.{IfBadFile};
+ghost use Rattle.file_view.specs.CardFiles.{IsBadCardFile};
+ghost use Rattle.unit_marks.specs.Files.{AreFiles};
+ghost use Rattle.file_json.specs.Cards.{AreSets, IsCardJson, IsRing, conditions_told, content_then};
+ghost use Rattle.file_json.specs.Cards.{days_told, entries_shown, entry_shown, file_name, fits, json_of_card};
+ghost use Rattle.file_json.specs.Cards.{kind_name, list_shown, lists_shown, ring_fits, ring_told, sets_fit, sets_told};
+ghost use Rattle.file_json.specs.Cards.{shape_of, told};
+
+use crate::days::write_string;
+use crate::unit::line_of;
+use byteorder::{BigEndian, ByteOrder};
+use file_view::{ViewFault, read_card_file};
+use json_fields::{Kind, Name, TextWriter, write_digits, write_record, write_records};
+use std::alloc::{AllocError, Global};
+use unit_marks::{FILE_HEAD, file_behind, file_len, file_value};
+
+/// What a file of a card holds.
+#[derive(Clone, Copy)]
+pub enum Shape {
+    /// One record.
+    Record(Kind),
+    /// The events, a list for each of their types (Appendix 1, CardEventData).
+    Events,
+    /// The faults, a list for each of their types (Appendix 1, CardFaultData).
+    Faults,
+    /// The string of days, behind two pointers (Appendix 1, CardDriverActivity).
+    Days,
+    /// The vehicles used, behind their pointer (Appendix 1, CardVehiclesUsed).
+    Vehicles,
+    /// The places, behind their pointer (Appendix 1, CardPlaceDailyWorkPeriod).
+    Places,
+    /// The specific conditions (Appendix 1, SpecificConditionRecord).
+    Conditions,
+    /// Bytes that nobody reads.
+    Bytes,
+}
+
+/// A pointer of one byte or two, and a list of records behind it.
+#[derive(Clone, Copy)]
+pub struct Ring {
+    pub pointer: Name,
+    pub width: usize,
+    pub list: Name,
+    pub kind: Kind,
+}
+
+pub const VEHICLES: Ring = Ring {
+    pointer: Name::VehiclePointerNewestRecord,
+    width: 2,
+    list: Name::CardVehicleRecords,
+    kind: Kind::Vehicle,
+};
+
+pub const PLACES: Ring = Ring {
+    pointer: Name::PlacePointerNewestRecord,
+    width: 1,
+    list: Name::PlaceRecords,
+    kind: Kind::CardPlace,
+};
+
+/// So many lists of as many records each.
+#[derive(Clone, Copy)]
+pub struct Sets {
+    pub count: usize,
+    pub list: Name,
+    pub kind: Kind,
+}
+
+pub const EVENT_SETS: Sets = Sets {
+    count: 6,
+    list: Name::CardEventRecords,
+    kind: Kind::CardEvent,
+};
+
+pub const FAULT_SETS: Sets = Sets {
+    count: 2,
+    list: Name::CardFaultRecords,
+    kind: Kind::CardFault,
+};
+
+/// The head of a file: where it stands, its identifier, and 0 for its value or 1 for its signature.
+#[derive(Clone, Copy)]
+pub struct FileHead {
+    pub place: usize,
+    pub fid: u16,
+    pub kind: u8,
+}
+
+/// The JSON of a card file, with LF behind it.
+///
+/// # Errors
+///
+/// As those of `file_view::read_card_file`.
+pub fn card_json(alloc: Global, b: &[u8]) -> Result<Vec<u8>, ViewFault>
+    requires { length b.now < 2 ^ 32 }
+    ensures text { IfOk result (λ text. IsCardJson b.now text.items) }
+    ensures bad { IfErr result (λ fault. IfBadFile fault (λ place. IsBadCardFile place b.now)) }
+{
+    match read_card_file(alloc, b) {
+        Ok(_history) => {
+            let text = card_text(alloc, b)?;
+            Ok(text)
+        }
+        Err(fault) => Err(fault),
+    }
+}
+
+/// The text of a card file of these entries.
+fn card_text(alloc: Global, b: &[u8]) -> Result<Vec<u8>, AllocError>
+    requires { (entries : List FileEntry) × AreFiles entries b.now }
+    ensures { (entries : List FileEntry) → AreFiles entries b.now
+        → IfOk result (λ text. text.items ≡ print (json_tokens (json_of_card entries)) ++ 10 ∷ []) }
+{
+    let mut writer = TextWriter::new(alloc);
+    write_card(alloc, &mut writer, b)?;
+    let text = line_of(writer)?;
+    Ok(text)
+}
+
+/// Writes a card file.
+fn write_card(alloc: Global, writer: &mut TextWriter, b: &[u8]) -> Result<(), AllocError>
+    requires { (entries : List FileEntry) × AreFiles entries b.now }
+    ensures { (entries : List FileEntry) → AreFiles entries b.now
+        → OnOk result (writer.new ≡ writer.old ++ json_tokens (json_of_card entries)) }
+{
+    writer.begin_object()?;
+    writer.key("file")?;
+    writer.string("card")?;
+    writer.key("files")?;
+    writer.begin_array()?;
+    write_files(alloc, writer, b)?;
+    writer.end_object()?;
+    Ok(())
+}
+
+/// Writes the files of a card, one after the other, and the end of their array.
+fn write_files(alloc: Global, writer: &mut TextWriter, b: &[u8]) -> Result<(), AllocError>
+    requires { (entries : List FileEntry) × AreFiles entries b.now }
+    ensures { (entries : List FileEntry) → AreFiles entries b.now
+        → OnOk result (writer.new ≡ writer.old ++ items_tokens (entries_shown 0 entries)) }
+{
+    let mut rest = b;
+    let mut place = 0;
+    while rest.len() != 0 {
+        let len = file_len(rest);
+        let head = file_head(rest, place);
+        let value = file_value(rest, len);
+        let behind = file_behind(rest, len);
+        write_file(alloc, writer, head, value)?;
+        rest = behind;
+        place += FILE_HEAD + len;
+    }
+    writer.end_array()?;
+    Ok(())
+}
+
+/// The head of the file at the front.
+fn file_head(rest: &[u8], place: usize) -> FileHead
+    requires { 5 ≤ length rest.now }
+    ensures { result ≡ record { place = place; fid = big_number 2 rest.now; kind = slice_index rest.now 2 } }
+{
+    let fid = BigEndian::read_u16(rest);
+    let kind = rest[2];
+    FileHead { place, fid, kind }
+}
+
+/// Writes a file: where it stands, which it is, whether it is its value or a signature, and what it holds.
+fn write_file(
+    alloc: Global,
+    writer: &mut TextWriter,
+    head: FileHead,
+    value: &[u8],
+) -> Result<(), AllocError>
+    ensures { OnOk result (writer.new ≡ writer.old
+        ++ json_tokens (entry_shown head.place (record { fid = head.fid; kind = head.kind; value = value.now }))) }
+{
+    writer.begin_object()?;
+    writer.key("place")?;
+    writer.u64(head.place as u64)?;
+    writer.key("fileId")?;
+    write_digits(alloc, writer, &head.fid.to_be_bytes())?;
+    writer.key("name")?;
+    writer.string(file_name(head.fid))?;
+    writer.key("kind")?;
+    writer.string(kind_name(head.kind))?;
+    writer.key("length")?;
+    writer.u64(value.len() as u64)?;
+    write_content(alloc, writer, shape_of(head.fid, head.kind), value)?;
+    writer.end_object()?;
+    Ok(())
+}
+
+/// What a kind is called.
+fn kind_name(kind: u8) -> &'static str
+    ensures { result.now ≡ kind_name kind }
+{
+    if kind == 0 { "value" } else { "signature" }
+}
+
+/// Writes what a file holds: by its shape where its length fits that, else as bytes.
+fn write_content(
+    alloc: Global,
+    writer: &mut TextWriter,
+    shape: Shape,
+    value: &[u8],
+) -> Result<(), AllocError>
+    ensures { OnOk result (AddsMembers writer.old writer.new (content_then shape value.now)) }
+{
+    if fits(shape, value.len()) {
+        writer.key("value")?;
+        return write_told(alloc, writer, shape, value);
+    }
+    writer.key("bytes")?;
+    write_digits(alloc, writer, value)
+}
+
+/// Whether so many bytes have this shape.
+fn fits(shape: Shape, len: usize) -> bool
+    ensures { result ≡ fits shape len }
+{
+    match shape {
+        Shape::Record(kind) => len == kind.width(),
+        Shape::Events => sets_fit(EVENT_SETS, len),
+        Shape::Faults => sets_fit(FAULT_SETS, len),
+        Shape::Days => len >= 4,
+        Shape::Vehicles => ring_fits(VEHICLES, len),
+        Shape::Places => ring_fits(PLACES, len),
+        Shape::Conditions => len % Kind::Condition.width() == 0,
+        Shape::Bytes => false,
+    }
+}
+
+/// Whether so many bytes are lists of as many records each.
+fn sets_fit(sets: Sets, len: usize) -> bool
+    requires { AreSets sets }
+    ensures { result ≡ sets_fit sets len }
+{
+    len % (sets.count * sets.kind.width()) == 0
+}
+
+/// Whether so many bytes are a pointer and records.
+fn ring_fits(ring: Ring, len: usize) -> bool
+    ensures { result ≡ ring_fits ring len }
+{
+    if len < ring.width {
+        return false;
+    }
+    (len - ring.width) % ring.kind.width() == 0
+}
+
+/// Writes a value by its shape.
+fn write_told(
+    alloc: Global,
+    writer: &mut TextWriter,
+    shape: Shape,
+    value: &[u8],
+) -> Result<(), AllocError>
+    requires { fits shape (length value.now) ≡ true }
+    ensures { OnOk result (writer.new ≡ writer.old ++ json_tokens (told shape value.now)) }
+{
+    match shape {
+        Shape::Record(kind) => write_record(alloc, writer, kind.fields(), value),
+        Shape::Events => write_sets(alloc, writer, EVENT_SETS, value),
+        Shape::Faults => write_sets(alloc, writer, FAULT_SETS, value),
+        Shape::Days => write_days(alloc, writer, value),
+        Shape::Vehicles => write_ring(alloc, writer, VEHICLES, value),
+        Shape::Places => write_ring(alloc, writer, PLACES, value),
+        Shape::Conditions => write_conditions(alloc, writer, value),
+        Shape::Bytes => write_digits(alloc, writer, value),
+    }
+}
+
+/// Writes lists of as many records each, under their name.
+fn write_sets(
+    alloc: Global,
+    writer: &mut TextWriter,
+    sets: Sets,
+    value: &[u8],
+) -> Result<(), AllocError>
+    requires { AreSets sets }
+    ensures { OnOk result (writer.new ≡ writer.old ++ json_tokens (sets_told sets value.now)) }
+{
+    writer.begin_object()?;
+    writer.key(sets.list.text())?;
+    write_lists(alloc, writer, sets, value.len() / sets.count, value)?;
+    writer.end_object()?;
+    Ok(())
+}
+
+/// Writes lists of so many bytes each as a JSON array.
+fn write_lists(
+    alloc: Global,
+    writer: &mut TextWriter,
+    sets: Sets,
+    len: usize,
+    value: &[u8],
+) -> Result<(), AllocError>
+    requires { sets.count * len ≤ length value.now }
+    ensures { OnOk result (writer.new ≡ writer.old
+        ++ json_tokens (array (lists_shown sets.count len sets.kind value.now))) }
+{
+    writer.begin_array()?;
+    let mut rest = value;
+    let mut left = sets.count;
+    while left != 0 {
+        let (list, behind) = rest.split_at(len);
+        write_list(alloc, writer, sets.kind, list)?;
+        rest = behind;
+        left -= 1;
+    }
+    writer.end_array()?;
+    Ok(())
+}
+
+/// Writes the records of a list, as many as there are.
+fn write_list(
+    alloc: Global,
+    writer: &mut TextWriter,
+    kind: Kind,
+    value: &[u8],
+) -> Result<(), AllocError>
+    ensures { OnOk result (writer.new ≡ writer.old ++ json_tokens (list_shown kind value.now)) }
+{
+    write_records(
+        alloc,
+        writer,
+        kind.fields(),
+        kind.width(),
+        value.len() / kind.width(),
+        value,
+    )
+}
+
+/// Writes the specific conditions, under their name.
+fn write_conditions(alloc: Global, writer: &mut TextWriter, value: &[u8]) -> Result<(), AllocError>
+    ensures { OnOk result (writer.new ≡ writer.old ++ json_tokens (conditions_told value.now)) }
+{
+    writer.begin_object()?;
+    writer.key(Name::SpecificConditionRecords.text())?;
+    write_list(alloc, writer, Kind::Condition, value)?;
+    writer.end_object()?;
+    Ok(())
+}
+
+/// Writes a pointer, and the records behind it.
+fn write_ring(
+    alloc: Global,
+    writer: &mut TextWriter,
+    ring: Ring,
+    value: &[u8],
+) -> Result<(), AllocError>
+    requires pointer { IsRing ring }
+    requires there { ring.width ≤ length value.now }
+    ensures { OnOk result (writer.new ≡ writer.old ++ json_tokens (ring_told ring value.now)) }
+{
+    writer.begin_object()?;
+    writer.key(ring.pointer.text())?;
+    writer.u64(BigEndian::read_uint(value, ring.width))?;
+    writer.key(ring.list.text())?;
+    write_list(alloc, writer, ring.kind, &value[ring.width..])?;
+    writer.end_object()?;
+    Ok(())
+}
+
+/// Writes the pointers of the string of days, its records, and its bytes.
+fn write_days(alloc: Global, writer: &mut TextWriter, value: &[u8]) -> Result<(), AllocError>
+    requires { 4 ≤ length value.now }
+    ensures { OnOk result (writer.new ≡ writer.old ++ json_tokens (days_told value.now)) }
+{
+    let oldest = BigEndian::read_u16(value) as usize;
+    let newest = BigEndian::read_u16(&value[2..]) as usize;
+    writer.begin_object()?;
+    writer.key(Name::ActivityPointerOldestDayRecord.text())?;
+    writer.u64(oldest as u64)?;
+    writer.key(Name::ActivityPointerNewestRecord.text())?;
+    writer.u64(newest as u64)?;
+    writer.key(Name::ActivityDailyRecords.text())?;
+    write_string(alloc, writer, &value[4..], oldest, newest)?;
+    writer.key("bytes")?;
+    write_digits(alloc, writer, &value[4..])?;
+    writer.end_object()?;
+    Ok(())
+}
+
+/// What a file is called (Appendix 2, section 4).
+fn file_name(fid: u16) -> &'static str
+    ensures { result.now ≡ file_name fid }
+{
+    match fid {
+        0x0002 => "icc",
+        0x0005 => "ic",
+        0x0501 => "applicationIdentification",
+        0x0502 => "eventsData",
+        0x0503 => "faultsData",
+        0x0504 => "driverActivityData",
+        0x0505 => "vehiclesUsed",
+        0x0506 => "places",
+        0x0507 => "currentUsage",
+        0x0508 => "controlActivityData",
+        0x050E => "cardDownload",
+        0x0520 => "identification",
+        0x0521 => "drivingLicenceInfo",
+        0x0522 => "specificConditions",
+        0xC100 => "cardCertificate",
+        0xC108 => "caCertificate",
+        _ => "other",
+    }
+}
+
+/// The shape of a file's value; a signature is bytes.
+fn shape_of(fid: u16, kind: u8) -> Shape
+    ensures { result ≡ shape_of fid kind }
+{
+    if kind != 0 {
+        return Shape::Bytes;
+    }
+    match fid {
+        0x0002 => Shape::Record(Kind::Icc),
+        0x0005 => Shape::Record(Kind::Ic),
+        0x0501 => Shape::Record(Kind::ApplicationIdentification),
+        0x0502 => Shape::Events,
+        0x0503 => Shape::Faults,
+        0x0504 => Shape::Days,
+        0x0505 => Shape::Vehicles,
+        0x0506 => Shape::Places,
+        0x0507 => Shape::Record(Kind::CurrentUse),
+        0x0508 => Shape::Record(Kind::CardControl),
+        0x050E => Shape::Record(Kind::CardDownload),
+        0x0520 => Shape::Record(Kind::Identification),
+        0x0521 => Shape::Record(Kind::Licence),
+        0x0522 => Shape::Conditions,
+        0xC100 => Shape::Record(Kind::CardCertificate),
+        0xC108 => Shape::Record(Kind::CardCertificate),
+        _ => Shape::Bytes,
+    }
+}
