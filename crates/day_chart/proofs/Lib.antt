@@ -1,3 +1,4 @@
 pub mod Counted
 pub mod Joining
+pub mod Marked
 mod Rows

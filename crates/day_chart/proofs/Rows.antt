@@ -1,12 +1,15 @@
--- Worked rows, computed by the checker: a bar of driving, one without a card, and minutes that were not recorded.
-use Rattle.std.proofs.Common.{◌≡◌, ℕ, ◌+◌, Bool, true, false, refl}
+-- Worked rows, computed by the checker: a bar of driving, one without a card, and minutes that were not recorded; a place, an event, and a mark
+-- of another day.
+use Rattle.std.proofs.Common.{◌≡◌, ℕ, ◌+◌, Bool, true, false, [], refl}
 use Rattle.std.specs.Prelude.{codes}
 use Rattle.std.specs.Fmt.{digits}
 use Rattle.activity_codec.specs.declared.values.Activity.{Activity}
 use Rattle.activity_codec.specs.declared.values.Activity.TheVariants.{Rest, Driving}
 use Rattle.view_model.specs.declared.Line.{Line}
 use Rattle.slot_bars.specs.declared.seen.Seen.{Seen}
+use Rattle.day_chart.specs.declared.mark.Sign.TheVariants.{Begin, Event}
 use Rattle.day_chart.specs.Bars.{bar_text}
+use Rattle.day_chart.specs.Marks.{mark_text, day_mark_text}
 
 -- minutes of 2010-03-01
 abbrev bar : (first last : ℕ) → Activity → (present crew known : Bool) → Line Seen
@@ -27,3 +30,17 @@ unrecorded : bar_text (codes "2010-03-01") (codes "codriver") (bar 1439 1439 Res
     ≡ codes "<rect x=\"779.5\" width=\"0.5\" y=\"2\" height=\"24\" fill=\"#ddd\"><title>2010-03-01 23:59-23:59 codriver unknown</title></rect>\n"
 unfolding digits
 unrecorded = refl
+
+-- at 07:15 and at 07:20 of 2010-03-01, the day 14669
+entered : mark_text (codes "2010-03-01") (record { sign = Begin; code = 17; second = 1267427700 })
+    ≡ codes "<use xlink:href=\"#mark-begin\" x=\"277.5\"><title>2010-03-01 07:15 work period begins, country 17</title></use>\n"
+unfolding digits
+entered = refl
+
+happened : day_mark_text (codes "2010-03-01") 14669 (record { sign = Event; code = 0x12; second = 1267428000 })
+    ≡ codes "<use xlink:href=\"#mark-event\" x=\"280\"><title>2010-03-01 07:20 event 12</title></use>\n"
+unfolding digits
+happened = refl
+
+elsewhere : day_mark_text (codes "2010-03-02") 14670 (record { sign = Event; code = 0x12; second = 1267428000 }) ≡ []
+elsewhere = refl

@@ -7,11 +7,13 @@ use Rattle.view_model.specs.declared.Viewed.{Viewed}
 use Rattle.slot_bars.specs.declared.seen.Gap.{Gap}
 use Rattle.slot_bars.specs.declared.seen.Seen.{Seen}
 use Rattle.slot_bars.specs.Seeing.{slot_seen, card_seen, bars_of}
-use Rattle.slot_bars.specs.DaysOf.{days_of, AreEach}
+use Rattle.slot_bars.specs.DaysOf.{day_of, days_of, AreEach}
 use Rattle.day_totals.specs.declared.figures.Figure.TheVariants.{Drive, Work, Available, Rest}
 use Rattle.day_totals.specs.Figures.{total}
 use Rattle.day_totals.specs.Text.{duration_text}
+use Rattle.day_chart.specs.declared.mark.Mark.{Mark}
 use Rattle.day_chart.specs.Bars.{bars_text}
+use Rattle.day_chart.specs.Marks.{marks_text}
 use Rattle.day_chart.specs.Frame.{frame_text}
 
 -- the totals of a lane, of the minutes with a card
@@ -35,28 +37,32 @@ band_head top date =
     codes "<g transform=\"translate(0 " ++ decimal top
     ++ codes ")\"><text x=\"60\" y=\"-3\" font-weight=\"bold\" font-size=\"10\">" ++ date ++ codes "</text>\n"
 
--- the band of a day of a unit: two lanes and the axis
-abbrev pub unit_band : List Gap → (place : ℕ) → (date : List ℕ) → List (Viewed UnitShown) → List ℕ
-unit_band gaps place date minutes =
+-- the band of a day of a unit: two lanes, the marks of the day and the axis
+abbrev pub unit_band : List Gap → List Mark → (place : ℕ) → (date : List ℕ) → List (Viewed UnitShown) → List ℕ
+unit_band gaps marks place date minutes =
     band_head (66 + 92 * place) date ++ lane_text date (codes "driver") (map (slot_seen gaps Driver) minutes)
     ++ codes "<g transform=\"translate(0 30)\">\n"
     ++ lane_text date (codes "codriver") (map (slot_seen gaps CoDriver) minutes)
+    ++ marks_text date (day_of minutes) marks
     ++ codes "<use xlink:href=\"#axis\"/></g></g>\n"
 
--- the band of a day of a card: one lane and the axis
-abbrev pub card_band : (place : ℕ) → (date : List ℕ) → List (Viewed CardShown) → List ℕ
-card_band place date minutes =
+-- the band of a day of a card: one lane, the marks of the day and the axis
+abbrev pub card_band : List Mark → (place : ℕ) → (date : List ℕ) → List (Viewed CardShown) → List ℕ
+card_band marks place date minutes =
     band_head (66 + 62 * place) date ++ lane_text date (codes "holder") (map card_seen minutes)
+    ++ marks_text date (day_of minutes) marks
     ++ codes "<use xlink:href=\"#axis\"/></g>\n"
 
--- THE PICTURE of a unit's minutes, and of a card's: a band a day, in their order, and the totals as its text
-pub record IsUnitChart (gaps : List Gap) (totals : List ℕ) (minutes : List (Viewed UnitShown)) (text : List ℕ) : Type
-    0 where
+-- THE PICTURE of a unit's minutes, and of a card's: a band a day, in their order, with the marks of the day, and the
+-- totals as its text
+pub record IsUnitChart (gaps : List Gap) (marks : List Mark) (totals : List ℕ) (minutes : List (Viewed UnitShown))
+    (text : List ℕ) : Type 0 where
   pub bands : List ℕ
-  pub each : AreEach (unit_band gaps) 0 (days_of minutes) bands
+  pub each : AreEach (unit_band gaps marks) 0 (days_of minutes) bands
   pub framed : text ≡ frame_text (80 + 92 * length (days_of minutes)) totals bands
 
-pub record IsCardChart (totals : List ℕ) (minutes : List (Viewed CardShown)) (text : List ℕ) : Type 0 where
+pub record IsCardChart (marks : List Mark) (totals : List ℕ) (minutes : List (Viewed CardShown)) (text : List ℕ) :
+    Type 0 where
   pub bands : List ℕ
-  pub each : AreEach card_band 0 (days_of minutes) bands
+  pub each : AreEach (card_band marks) 0 (days_of minutes) bands
   pub framed : text ≡ frame_text (80 + 62 * length (days_of minutes)) totals bands

@@ -1,3 +1,4 @@
 pub mod Bars
+pub mod Marks
 pub mod Frame
 pub mod Chart

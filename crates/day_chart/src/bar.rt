@@ -67,7 +67,7 @@ fn pale(act: Activity) -> &'static [u8]
 }
 
 /// Adds the half of a number.
-fn write_half(text: &mut Vec<u8>, number: u64) -> Result<(), AllocError>
+pub(crate) fn write_half(text: &mut Vec<u8>, number: u64) -> Result<(), AllocError>
     ensures { OnOk result (text.new.items ≡ text.old.items ++ half_text number) }
 {
     let mut digits = Buffer::new();

@@ -9,28 +9,30 @@ ghost use Rattle.day_chart.specs.Chart.{IsUnitChart, IsCardChart, unit_band, car
 
 use crate::band::{write_band_head, write_lane};
 use crate::frame::framed;
+use crate::mark::{Mark, write_marks};
 use activity_codec::Slot;
 use slot_bars::{Gap, card_bars, day_number, first_day, unit_bars};
 use std::alloc::{AllocError, Global};
 use tacho_types::day_text;
 use view_model::{CardShown, Line, UnitShown};
 
-/// The picture of a unit, by the lines of its view; its text are the totals.
+/// The picture of a unit, by the lines of its view, with these marks; its text are the totals.
 pub fn unit_chart(
     alloc: Global,
     lines: &[Line<UnitShown>],
     gaps: &[Gap],
+    marks: &[Mark],
     totals: &[u8],
 ) -> Result<Vec<u8>, AllocError>
     requires { AreLines same_unit lines.now }
-    ensures { IfOk result (λ text. IsUnitChart gaps.now totals.now (minutes_on lines.now) text.items) }
+    ensures { IfOk result (λ text. IsUnitChart gaps.now marks.now totals.now (minutes_on lines.now) text.items) }
 {
     let mut bands = Vec::new(alloc);
     let mut place = 0u64;
     let mut rest = lines;
     'days: while rest.len() > 0 {
         let (day, behind) = rest.split_at(first_day(rest));
-        write_unit_band(alloc, &mut bands, day, gaps, place)?;
+        write_unit_band(alloc, &mut bands, day, gaps, marks, place)?;
         place += 1;
         rest = behind;
     }
@@ -38,21 +40,22 @@ pub fn unit_chart(
     Ok(text)
 }
 
-/// The picture of a card, by the lines of its view; its text are the totals.
+/// The picture of a card, by the lines of its view, with these marks; its text are the totals.
 pub fn card_chart(
     alloc: Global,
     lines: &[Line<CardShown>],
+    marks: &[Mark],
     totals: &[u8],
 ) -> Result<Vec<u8>, AllocError>
     requires { AreLines same_card lines.now }
-    ensures { IfOk result (λ text. IsCardChart totals.now (minutes_on lines.now) text.items) }
+    ensures { IfOk result (λ text. IsCardChart marks.now totals.now (minutes_on lines.now) text.items) }
 {
     let mut bands = Vec::new(alloc);
     let mut place = 0u64;
     let mut rest = lines;
     'days: while rest.len() > 0 {
         let (day, behind) = rest.split_at(first_day(rest));
-        write_card_band(alloc, &mut bands, day, place)?;
+        write_card_band(alloc, &mut bands, day, marks, place)?;
         place += 1;
         rest = behind;
     }
@@ -66,19 +69,22 @@ fn write_unit_band(
     text: &mut Vec<u8>,
     lines: &[Line<UnitShown>],
     gaps: &[Gap],
+    marks: &[Mark],
     place: u64,
 ) -> Result<(), AllocError>
     requires { IsOneDay lines.now }
     ensures { OnOk result ((date : List ℕ) × IsDateText (day_of (minutes_on lines.now)) date
-        × (text.new.items ≡ text.old.items ++ unit_band gaps.now place date (minutes_on lines.now))) }
+        × (text.new.items ≡ text.old.items ++ unit_band gaps.now marks.now place date (minutes_on lines.now))) }
 {
-    let date = day_text(day_number(lines));
+    let day = day_number(lines);
+    let date = day_text(day);
     write_band_head(text, 66 + 92 * place as u128, date.as_slice())?;
     let driver = unit_bars(alloc, lines, gaps, Slot::Driver)?;
     write_lane(text, date.as_slice(), b"driver", driver.as_slice())?;
     let codriver = unit_bars(alloc, lines, gaps, Slot::CoDriver)?;
     text.extend_from_slice(b"<g transform=\"translate(0 30)\">\n")?;
     write_lane(text, date.as_slice(), b"codriver", codriver.as_slice())?;
+    write_marks(text, date.as_slice(), day, marks)?;
     text.extend_from_slice(b"<use xlink:href=\"#axis\"/></g></g>\n")?;
     Ok(())
 }
@@ -88,16 +94,19 @@ fn write_card_band(
     alloc: Global,
     text: &mut Vec<u8>,
     lines: &[Line<CardShown>],
+    marks: &[Mark],
     place: u64,
 ) -> Result<(), AllocError>
     requires { IsOneDay lines.now }
     ensures { OnOk result ((date : List ℕ) × IsDateText (day_of (minutes_on lines.now)) date
-        × (text.new.items ≡ text.old.items ++ card_band place date (minutes_on lines.now))) }
+        × (text.new.items ≡ text.old.items ++ card_band marks.now place date (minutes_on lines.now))) }
 {
-    let date = day_text(day_number(lines));
+    let day = day_number(lines);
+    let date = day_text(day);
     write_band_head(text, 66 + 62 * place as u128, date.as_slice())?;
     let bars = card_bars(alloc, lines)?;
     write_lane(text, date.as_slice(), b"holder", bars.as_slice())?;
+    write_marks(text, date.as_slice(), day, marks)?;
     text.extend_from_slice(b"<use xlink:href=\"#axis\"/></g>\n")?;
     Ok(())
 }

@@ -1,7 +1,7 @@
 //! The frame of the picture: its size, its text, what it draws with, and its legend.
 ghost use Rattle.std.specs.Prelude.{◌≡◌, ◌++◌, IfOk, OnOk, decimal};
 ghost use Rattle.day_chart.specs.Frame.{frame_text, opening, box, titling, patterns, drive_sign, other_signs};
-ghost use Rattle.day_chart.specs.Frame.{lane_signs, axis, hours, legend_bars, legend_rest};
+ghost use Rattle.day_chart.specs.Frame.{lane_signs, mark_signs, axis, hours, legend_bars, legend_rest, legend_marks};
 
 use itoa::Buffer;
 use std::alloc::{AllocError, Global};
@@ -35,7 +35,7 @@ pub(crate) fn framed(
 /// Adds what the bands draw with, and the legend.
 fn write_drawn(text: &mut Vec<u8>) -> Result<(), AllocError>
     ensures { OnOk result (text.new.items ≡ text.old.items ++ patterns ++ drive_sign ++ other_signs ++ lane_signs
-        ++ axis ++ hours ++ legend_bars ++ legend_rest) }
+        ++ mark_signs ++ axis ++ hours ++ legend_bars ++ legend_rest ++ legend_marks) }
 {
     text.extend_from_slice(
         b"</desc>\n<defs>\n<pattern id=\"available\" width=\"4\" height=\"4\" patternUnits=\"userSpaceOnUse\"><rect width=\"4\" height=\"4\" fill=\"#f0e442\"/><circle cx=\"2\" cy=\"2\" r=\"0.8\" fill=\"#000\"/></pattern>\n<pattern id=\"work\" width=\"4\" height=\"4\" patternUnits=\"userSpaceOnUse\" patternTransform=\"rotate(45)\"><rect width=\"4\" height=\"4\" fill=\"#e69f00\"/><rect width=\"1.2\" height=\"4\" fill=\"#000\"/></pattern>\n",
@@ -50,6 +50,9 @@ fn write_drawn(text: &mut Vec<u8>) -> Result<(), AllocError>
         b"<g id=\"signs\"><use xlink:href=\"#sign-drive\" transform=\"translate(788 13) scale(0.75)\"/><use xlink:href=\"#sign-work\" transform=\"translate(837 13) scale(0.75)\"/><use xlink:href=\"#sign-available\" transform=\"translate(886 13) scale(0.75)\"/><use xlink:href=\"#sign-rest\" transform=\"translate(935 13) scale(0.75)\"/></g>\n",
     )?;
     text.extend_from_slice(
+        b"<g id=\"mark-begin\"><path d=\"M0 -4V28\" stroke=\"#000\" stroke-width=\"0.8\"/><path d=\"M0 -4L6 -1L0 2Z\"/></g>\n<g id=\"mark-end\"><path d=\"M0 -4V28\" stroke=\"#000\" stroke-width=\"0.8\"/><path d=\"M0 -4L-6 -1L0 2Z\"/></g>\n<path id=\"mark-event\" d=\"M0 28L3 31L0 34L-3 31Z\"/>\n<path id=\"mark-fault\" d=\"M-3 28L3 34M3 28L-3 34\" stroke=\"#000\" stroke-width=\"1.4\"/>\n",
+    )?;
+    text.extend_from_slice(
         b"<g id=\"axis\" text-anchor=\"middle\" font-size=\"8\"><path d=\"M60 28H780M60 28v6M90 28v3M120 28v3M150 28v3M180 28v3M210 28v3M240 28v6M270 28v3M300 28v3M330 28v3M360 28v3M390 28v3M420 28v6M450 28v3M480 28v3M510 28v3M540 28v3M570 28v3M600 28v6M630 28v3M660 28v3M690 28v3M720 28v3M750 28v3M780 28v6\" stroke=\"#000\" stroke-width=\"0.6\" fill=\"none\"/>\n",
     )?;
     text.extend_from_slice(
@@ -60,6 +63,9 @@ fn write_drawn(text: &mut Vec<u8>) -> Result<(), AllocError>
     )?;
     text.extend_from_slice(
         b"<rect x=\"384\" y=\"34\" width=\"20\" height=\"6\" fill=\"#fff\" stroke=\"#000\" stroke-width=\"0.6\"/><use xlink:href=\"#sign-rest\" x=\"408\" y=\"27\"/><text x=\"426\" y=\"38\">rest</text>\n<rect x=\"492\" y=\"28\" width=\"20\" height=\"12\" fill=\"none\" stroke=\"#777\" stroke-width=\"0.6\" stroke-dasharray=\"2 2\"/><text x=\"518\" y=\"38\">no card</text>\n<rect x=\"600\" y=\"16\" width=\"20\" height=\"24\" fill=\"#ddd\"/><text x=\"626\" y=\"38\">unknown</text>\n",
+    )?;
+    text.extend_from_slice(
+        b"<use xlink:href=\"#mark-begin\" x=\"708\" y=\"12\"/><text x=\"717\" y=\"38\">work begins</text>\n<use xlink:href=\"#mark-end\" x=\"804\" y=\"12\"/><text x=\"808\" y=\"38\">ends</text>\n<use xlink:href=\"#mark-event\" x=\"852\" y=\"3\"/><text x=\"859\" y=\"38\">event</text>\n<use xlink:href=\"#mark-fault\" x=\"912\" y=\"3\"/><text x=\"919\" y=\"38\">fault</text>\n",
     )?;
     Ok(())
 }

@@ -5,5 +5,7 @@ mod band;
 mod bar;
 mod chart;
 mod frame;
+mod mark;
 
 pub use chart::{card_chart, unit_chart};
+pub use mark::{Mark, Sign};

@@ -13,8 +13,11 @@ use Rattle.file_view.specs.UnitShowing.{ShowsUnitFile}
 use Rattle.slot_bars.specs.declared.seen.Gap.{Gap}
 use Rattle.day_totals.specs.declared.figures.Distance.{Distance}
 use Rattle.day_totals.specs.Text.{IsUnitTotals, IsCardTotals}
+use Rattle.day_chart.specs.declared.mark.Mark.{Mark}
 use Rattle.day_chart.specs.Chart.{IsUnitChart, IsCardChart}
 use Rattle.unit_marks.specs.Marks.{TellsMarks}
+use Rattle.unit_marks.specs.Entries.{TellsEntries}
+use Rattle.unit_marks.specs.Cards.{TellsCardEntries}
 
 -- THE TOTALS of a unit file: of the minutes that its view shows, with its gaps and its distances
 pub record PrintsUnitTotals (last : Option ℕ) (bytes out : List ℕ) : Type 0 where
@@ -46,22 +49,27 @@ pub record PrintsCardTotals (last : Option ℕ) (bytes out : List ℕ) : Type 0 
   pub tells : TellsDistances bytes distances
   pub totals : IsCardTotals distances (map entry_shown entries) out
 
--- THE PICTURE of a unit file, and of a card file: of the same minutes, with the totals as its text
+-- THE PICTURE of a unit file, and of a card file: of the same minutes, with the totals as its text, and with the marks
+-- of its places, events and faults
 pub record PrintsUnitChart (last : Option ℕ) (bytes out : List ℕ) : Type 0 where
   pub minutes : List UnitMinute
   pub gaps : List Gap
   pub distances : List Distance
+  pub marks : List Mark
   pub text : List ℕ
   pub shows : ShowsUnitFile last bytes minutes
   pub tells : TellsMarks bytes gaps distances
+  pub entries : TellsEntries bytes marks
   pub totals : IsUnitTotals gaps distances (map minute_shown minutes) text
-  pub chart : IsUnitChart gaps text (map minute_shown minutes) out
+  pub chart : IsUnitChart gaps marks text (map minute_shown minutes) out
 
 pub record PrintsCardChart (last : Option ℕ) (bytes out : List ℕ) : Type 0 where
   pub entries : List Entry
   pub distances : List Distance
+  pub marks : List Mark
   pub text : List ℕ
   pub shows : ShowsCardFile last bytes entries
   pub tells : TellsDistances bytes distances
+  pub marked : TellsCardEntries bytes marks
   pub totals : IsCardTotals distances (map entry_shown entries) text
-  pub chart : IsCardChart text (map entry_shown entries) out
+  pub chart : IsCardChart marks text (map entry_shown entries) out

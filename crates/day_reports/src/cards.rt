@@ -8,6 +8,7 @@ ghost use Rattle.day_reports.specs.Printing.{PrintsCardTotals, PrintsCardChart, 
 use crate::distances::card_distances;
 use file_view::{CardHistory, ViewFault, last_days, read_card_file};
 use std::alloc::Global;
+use unit_marks::card_marks;
 
 /// The totals of a card file, of all days or of the newest so many.
 ///
@@ -49,9 +50,13 @@ pub fn card_chart(alloc: Global, b: &[u8], last: Option<u32>) -> Result<Vec<u8>,
         Ok(distances) => distances,
         Err(fault) => return Err(fault),
     };
+    let marks = match card_marks(alloc, b) {
+        Ok(marks) => marks,
+        Err(fault) => return Err(fault),
+    };
     let lines = history.lines();
     let totals = day_totals::card_days_text(alloc, lines, distances.as_slice())?;
-    let text = day_chart::card_chart(alloc, lines, totals.as_slice())?;
+    let text = day_chart::card_chart(alloc, lines, marks.as_slice(), totals.as_slice())?;
     Ok(text)
 }
 

@@ -9,7 +9,7 @@ ghost use Rattle.day_reports.specs.Printing.{PrintsUnitTotals, PrintsUnitChart};
 
 use file_view::{UnitHistory, ViewFault, last_messages, read_download};
 use std::alloc::Global;
-use unit_marks::marks_of;
+use unit_marks::{entry_marks, marks_of};
 
 /// The totals of a unit file, of all days or of the last so many messages of days.
 ///
@@ -56,10 +56,14 @@ pub fn unit_chart(alloc: Global, b: &[u8], last: Option<u32>) -> Result<Vec<u8>,
         Ok(marks) => marks,
         Err(fault) => return Err(fault),
     };
+    let entries = match entry_marks(alloc, b) {
+        Ok(entries) => entries,
+        Err(fault) => return Err(fault),
+    };
     let gaps = marks.gaps.as_slice();
     let lines = history.lines();
     let totals = day_totals::unit_days_text(alloc, lines, gaps, marks.distances.as_slice())?;
-    let text = day_chart::unit_chart(alloc, lines, gaps, totals.as_slice())?;
+    let text = day_chart::unit_chart(alloc, lines, gaps, entries.as_slice(), totals.as_slice())?;
     Ok(text)
 }
 

@@ -1,5 +1,7 @@
--- Worked rows, computed by the checker: minutes that lie whole in an interruption, and what an odometer gained.
+-- Worked rows, computed by the checker: minutes that lie whole in an interruption, what an odometer gained, and the marks of a card's files.
 use Rattle.std.proofs.Common.{◌≡◌, [], ◌∷◌, refl}
+use Rattle.day_chart.specs.declared.mark.Sign.TheVariants.{Begin, Fault}
+use Rattle.unit_marks.specs.Cards.{records_marks, file_marks}
 use Rattle.unit_marks.specs.Marks.{whole_minutes, gap_of, distances_of}
 
 -- from 00:01:01 to 00:04:30 the minutes 2 and 3 are whole
@@ -20,3 +22,19 @@ over_speeding = refl
 -- 412 km until the next day that is told; of the last day, and where the odometer is less, nothing
 gained : distances_of (record { date = 86400; odometer = 1000 } ∷ record { date = 259200; odometer = 1412 } ∷ record { date = 345600; odometer = 5 } ∷ []) ≡ record { day = 1; km = 412 } ∷ []
 gained = refl
+
+-- places behind their pointer: the work period begins at 07:00 of 2010-03-01, in the country 13; the second place was never written
+places : file_marks (record { fid = 0x0506; kind = 0; value = 0 ∷ 0x4b ∷ 0x8b ∷ 0x65 ∷ 0xf0 ∷ 0 ∷ 13 ∷ 2 ∷ 0 ∷ 0 ∷ 0 ∷ 0 ∷ 0 ∷ 0 ∷ 0 ∷ 0 ∷ 0 ∷ 0 ∷ 0 ∷ 0 ∷ 0 ∷ [] })
+    ≡ record { sign = Begin; code = 13; second = 1267426800 } ∷ []
+unfolding records_marks
+places = refl
+
+-- a fault of type 35, and three bytes behind the last whole record
+faults : file_marks (record { fid = 0x0503; kind = 0; value = 0x35 ∷ 0x4b ∷ 0x8b ∷ 0x65 ∷ 0xf0 ∷ 0 ∷ 0 ∷ 0 ∷ 0 ∷ 0 ∷ 0 ∷ 0 ∷ 0 ∷ 0 ∷ 0 ∷ 0 ∷ 0 ∷ 0 ∷ 0 ∷ 0 ∷ 0 ∷ 0 ∷ 0 ∷ 0 ∷ 1 ∷ 1 ∷ 1 ∷ [] })
+    ≡ record { sign = Fault; code = 0x35; second = 1267426800 } ∷ []
+unfolding records_marks
+faults = refl
+
+-- the signature of a file tells none
+signature : file_marks (record { fid = 0x0503; kind = 1; value = 0x35 ∷ 0x4b ∷ 0x8b ∷ 0x65 ∷ 0xf0 ∷ 0 ∷ 0 ∷ 0 ∷ 0 ∷ 0 ∷ 0 ∷ 0 ∷ 0 ∷ 0 ∷ 0 ∷ 0 ∷ 0 ∷ 0 ∷ 0 ∷ 0 ∷ 0 ∷ 0 ∷ 0 ∷ 0 ∷ [] }) ≡ []
+signature = refl

@@ -1,2 +1,5 @@
 pub mod Places
 pub mod Marks
+pub mod Entries
+pub mod Files
+pub mod Cards

@@ -1,9 +1,15 @@
-//! What a unit file tells beside its minutes: where its messages stand, the distances of its days, and the
-//! interruptions of the power among its events (Annex IB, Appendix 7, 2.2.6).
+//! What a unit file and a card file tell beside minutes: where messages and files stand, the distances of days, the
+//! interruptions of the power, and the places, events and faults (Annex IB, Appendix 7, 2.2.6 and 3.4).
 #![tactic(auto)]
 
+mod cards;
+mod entries;
+mod files;
 mod marks;
 mod places;
 
+pub use cards::card_marks;
+pub use entries::entry_marks;
+pub use files::{FILE_HEAD, file_behind, file_len, file_value};
 pub use marks::{Marks, marks_of};
 pub use places::{MessageAt, messages_at};

@@ -149,7 +149,7 @@ fn add_gaps(gaps: &mut Vec<Gap>, message: &[u8]) -> Result<(), AllocError>
 }
 
 /// The byte at a place.
-fn byte_at(bytes: &[u8], place: usize) -> u8
+pub(crate) fn byte_at(bytes: &[u8], place: usize) -> u8
     requires { place < length bytes.now }
     ensures { result ≡ number_at bytes.now place 1 }
 {

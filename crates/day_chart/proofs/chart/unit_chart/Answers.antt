@@ -17,7 +17,7 @@ days-init c = record {
   lines = are_dated same_unit c.args.lines.now c.requires;
   few = omega arith;
   count = omega arith;
-  far = begun (unit_band c.args.gaps.now) c.args.lines.now c.new-bands.result.items c.new-bands.ensures.items;
+  far = begun (unit_band c.args.gaps.now c.args.marks.now) c.args.lines.now c.new-bands.result.items c.new-bands.ensures.items;
 }
 
 pub write_unit_band-requires : goal.write_unit_band-requires
@@ -36,7 +36,7 @@ days-preserved c =
       lines = subst (λ (l : List (Line UnitShown)). AreDayLines l) (sym c.split_at.ensures.back) c.first_day.ensures.more;
       few = omega (arith, inv.few, c.first_day.ensures.some, c.first_day.ensures.within, ap (λ (l : List (Line UnitShown)). length l) c.split_at.ensures.back, length-drop c.first_day.result c.days.rest.now);
       count = one_less (length (days_of (minutes_on c.args.lines.now))) c.days.place c.days.rest.now c.split_at.result.0.now c.split_at.result.1.now inv.count split;
-      far = one_more (unit_band c.args.gaps.now) c.args.lines.now c.days.place c.days.rest.now c.split_at.result.0.now c.split_at.result.1.now c.days.bands.items c.write_unit_band.new.text.items wrote.0 split inv.far wrote.1 wrote.2;
+      far = one_more (unit_band c.args.gaps.now c.args.marks.now) c.args.lines.now c.days.place c.days.rest.now c.split_at.result.0.now c.split_at.result.1.now c.days.bands.items c.write_unit_band.new.text.items wrote.0 split inv.far wrote.1 wrote.2;
     }
 
 pub returns : goal.returns
@@ -46,7 +46,7 @@ returns c =
     let count = none_more (length (days_of (minutes_on c.args.lines.now))) c.days.place c.days.rest.now inv.count none in
     record {
       bands = c.days.bands.items;
-      each = all_days (unit_band c.args.gaps.now) c.args.lines.now c.days.place c.days.rest.now c.days.bands.items none inv.far;
+      each = all_days (unit_band c.args.gaps.now c.args.marks.now) c.args.lines.now c.days.place c.days.rest.now c.days.bands.items none inv.far;
       framed =
           c.in_ok-text.ensures
           ∙ ap (λ (n : ℕ). frame_text (80 + 92 * n) c.args.totals.now c.as_slice.result.now) count

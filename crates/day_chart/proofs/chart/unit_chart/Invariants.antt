@@ -12,7 +12,7 @@ invariant-days l = record {
   lines : AreDayLines l.rest;
   few : l.place + length l.rest ≤ length l.fn.lines;
   count : length (days_of (minutes_on l.fn.lines)) ≡ l.place + length (days_of (minutes_on l.rest));
-  far : IsSoFar (unit_band l.gaps) l.fn.lines l.place l.rest l.bands.items;
+  far : IsSoFar (unit_band l.gaps l.marks) l.fn.lines l.place l.rest l.bands.items;
 }
 
 abbrev pub decreases-days : goal.decreases-days

@@ -7,7 +7,8 @@ use Rattle.slot_bars.specs.declared.seen.Seen.{Seen}
 use Rattle.slot_bars.specs.Seeing.{card_seen}
 use Rattle.day_totals.proofs.Counting.{bars_few}
 use Rattle.day_chart.specs.Chart.{band_head, lane_text}
-use Rattle.day_chart.proofs.Joining.{three_pieces}
+use Rattle.day_chart.specs.Marks.{marks_text}
+use Rattle.day_chart.proofs.Joining.{four_pieces}
 use Rattle.day_chart.proofs.chart.write_card_band.Goals as goal
 
 pub write_lane-requires : goal.write_lane-requires
@@ -22,10 +23,14 @@ returns c =
     let lane : c.write_lane.new.text.items ≡ c.write_band_head.new.text.items ++ lane_text date (codes "holder") minutes =
     subst (λ (d : List ℕ). c.write_lane.new.text.items ≡ c.write_band_head.new.text.items ++ lane_text d (codes "holder") minutes) c.as_slice-2.ensures.value (c.in_ok-write_lane.ensures minutes (c.as_slice-3.ensures.value ∙ c.in_ok-bars.ensures)) in
     let holder : List ℕ = lane_text date (codes "holder") minutes in
+    let marks : List ℕ = marks_text date c.day_number-day.result c.args.marks.now in
+    let marked : c.write_marks.new.text.items ≡ c.write_lane.new.text.items ++ marks =
+    subst (λ (d : List ℕ). c.write_marks.new.text.items ≡ c.write_lane.new.text.items ++ marks_text d c.day_number-day.result c.args.marks.now) c.as_slice-4.ensures.value c.in_ok-write_marks.ensures in
     let end : List ℕ = codes "<use xlink:href=\"#axis\"/></g>\n" in (
       c.day_text-date.result.items,
-      subst (λ (day : ℕ). IsDateText day c.day_text-date.result.items) c.day_number.ensures.day c.day_text-date.ensures,
+      subst (λ (day : ℕ). IsDateText day c.day_text-date.result.items) c.day_number-day.ensures.day c.day_text-date.ensures,
       c.in_ok-extend_from_slice.ensures.items
-          ∙ ap (λ (l : List ℕ). l ++ end) (lane ∙ ap (λ (l : List ℕ). l ++ holder) head)
-          ∙ three_pieces c.args.text.now.items (band_head (66 + 62 * c.args.place) date) holder end,
+          ∙ ap (λ (l : List ℕ). l ++ end) (marked ∙ ap (λ (l : List ℕ). l ++ marks) (lane ∙ ap (λ (l : List ℕ). l ++ holder) head))
+          ∙ four_pieces c.args.text.now.items (band_head (66 + 62 * c.args.place) date) holder marks end
+          ∙ ap (λ (day : ℕ). c.args.text.now.items ++ (band_head (66 + 62 * c.args.place) date ++ holder ++ marks_text date day c.args.marks.now ++ end)) c.day_number-day.ensures.day,
     )

@@ -8,7 +8,8 @@ use Rattle.slot_bars.specs.declared.seen.Seen.{Seen}
 use Rattle.slot_bars.specs.Seeing.{slot_seen}
 use Rattle.day_totals.proofs.Counting.{bars_few}
 use Rattle.day_chart.specs.Chart.{band_head, lane_text}
-use Rattle.day_chart.proofs.Joining.{five_pieces}
+use Rattle.day_chart.specs.Marks.{marks_text}
+use Rattle.day_chart.proofs.Joining.{six_pieces}
 use Rattle.day_chart.proofs.chart.write_unit_band.Goals as goal
 
 pub write_lane-requires : goal.write_lane-requires
@@ -31,11 +32,16 @@ returns c =
     let one : List ℕ = lane_text date (codes "driver") driver in
     let two : List ℕ = lane_text date (codes "codriver") codriver in
     let between : List ℕ = codes "<g transform=\"translate(0 30)\">\n" in
+    let marks : List ℕ = marks_text date c.day_number-day.result c.args.marks.now in
+    let marked : c.write_marks.new.text.items ≡ c.write_lane-2.new.text.items ++ marks =
+    subst (λ (d : List ℕ). c.write_marks.new.text.items ≡ c.write_lane-2.new.text.items ++ marks_text d c.day_number-day.result c.args.marks.now) c.as_slice-6.ensures.value c.in_ok-write_marks.ensures in
     let end : List ℕ = codes "<use xlink:href=\"#axis\"/></g></g>\n" in (
       c.day_text-date.result.items,
-      subst (λ (day : ℕ). IsDateText day c.day_text-date.result.items) c.day_number.ensures.day c.day_text-date.ensures,
+      subst (λ (day : ℕ). IsDateText day c.day_text-date.result.items) c.day_number-day.ensures.day c.day_text-date.ensures,
       c.in_ok-extend_from_slice-2.ensures.items
           ∙ ap (λ (l : List ℕ). l ++ end)
-          (second ∙ ap (λ (l : List ℕ). l ++ two) (c.in_ok-extend_from_slice.ensures.items ∙ ap (λ (l : List ℕ). l ++ between) (first ∙ ap (λ (l : List ℕ). l ++ one) head)))
-          ∙ five_pieces c.args.text.now.items (band_head (66 + 92 * c.args.place) date) one between two end,
+          (marked ∙ ap (λ (l : List ℕ). l ++ marks)
+          (second ∙ ap (λ (l : List ℕ). l ++ two) (c.in_ok-extend_from_slice.ensures.items ∙ ap (λ (l : List ℕ). l ++ between) (first ∙ ap (λ (l : List ℕ). l ++ one) head))))
+          ∙ six_pieces c.args.text.now.items (band_head (66 + 92 * c.args.place) date) one between two marks end
+          ∙ ap (λ (day : ℕ). c.args.text.now.items ++ (band_head (66 + 92 * c.args.place) date ++ one ++ between ++ two ++ marks_text date day c.args.marks.now ++ end)) c.day_number-day.ensures.day,
     )

@@ -4,6 +4,8 @@ use Rattle.day_chart.proofs.frame.write_drawn.Goals as goal
 pub returns : goal.returns
 returns c =
     rw (
+      c.in_ok-extend_from_slice-10.ensures.items,
+      c.in_ok-extend_from_slice-9.ensures.items,
       c.in_ok-extend_from_slice-8.ensures.items,
       c.in_ok-extend_from_slice-7.ensures.items,
       c.in_ok-extend_from_slice-6.ensures.items,

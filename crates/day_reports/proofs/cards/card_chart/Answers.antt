@@ -8,9 +8,11 @@ returns-clause-text c =
     record {
       entries = c.in-Ok.history;
       distances = c.in-Ok-card_distances.distances.items;
+      marks = c.in-Ok-card_marks.marks.items;
       text = c.in_ok-totals.totals.items;
       shows = c.in-Ok.ensures.entries;
       tells = c.in-Ok-card_distances.ensures.distances;
+      marked = c.in-Ok-card_marks.ensures.marks;
       totals = rw (c.as_slice.ensures.value, shown) at c.in_ok-totals.ensures;
-      chart = rw (c.as_slice-2.ensures.value, shown) at c.in_ok-text.ensures;
+      chart = rw (c.as_slice-2.ensures.value, c.as_slice-3.ensures.value, shown) at c.in_ok-text.ensures;
     }

@@ -9,9 +9,11 @@ returns-clause-text c =
       minutes = c.in-Ok.history;
       gaps = c.in-Ok-marks_of.marks.gaps.items;
       distances = c.in-Ok-marks_of.marks.distances.items;
+      marks = c.in-Ok-entry_marks.entries.items;
       text = c.in_ok-totals.totals.items;
       shows = c.in-Ok.ensures.minutes;
       tells = c.in-Ok-marks_of.ensures.marks;
+      entries = c.in-Ok-entry_marks.ensures.marks;
       totals = rw (c.as_slice-gaps.ensures.value, c.as_slice.ensures.value, shown) at c.in_ok-totals.ensures;
-      chart = rw (c.as_slice-gaps.ensures.value, c.as_slice-2.ensures.value, shown) at c.in_ok-text.ensures;
+      chart = rw (c.as_slice-gaps.ensures.value, c.as_slice-2.ensures.value, c.as_slice-3.ensures.value, shown) at c.in_ok-text.ensures;
     }

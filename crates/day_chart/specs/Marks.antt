@@ -1,0 +1,56 @@
+-- The marks of the picture: places that were entered, events and faults (profile).
+use Rattle.std.specs.Prelude.{ℕ, ◌+◌, ◌/◌, ◌%◌, ◌==◌, nat_lt, if◌then◌else◌, List, [], ◌∷◌, ◌++◌, codes, decimal}
+use Rattle.day_totals.specs.Text.{duration_text}
+use Rattle.day_chart.specs.declared.mark.Sign.{Sign}
+use Rattle.day_chart.specs.declared.mark.Sign.TheVariants.{Begin, End, Event, Fault}
+use Rattle.day_chart.specs.declared.mark.Mark.{Mark}
+use Rattle.day_chart.specs.Bars.{half_text}
+
+-- the sign's name in the picture
+abbrev pub sign_name : Sign → List ℕ
+sign_name Begin = codes "begin"
+sign_name End = codes "end"
+sign_name Event = codes "event"
+sign_name Fault = codes "fault"
+
+-- what a mark says in front of its code
+abbrev pub mark_words : Sign → List ℕ
+mark_words Begin = codes " work period begins, country "
+mark_words End = codes " work period ends, country "
+mark_words Event = codes " event "
+mark_words Fault = codes " fault "
+
+-- a hexadecimal digit, in lower case
+abbrev pub hex_digit : ℕ → ℕ
+hex_digit n = if nat_lt n 10 then 48 + n else 87 + n
+
+abbrev pub two_hex : ℕ → List ℕ
+two_hex code = hex_digit (code / 16) ∷ hex_digit (code % 16) ∷ []
+
+-- a country is a number, a type of events or faults has two hexadecimal digits, as the regulation writes it
+abbrev pub code_text : Sign → ℕ → List ℕ
+code_text Begin code = decimal code
+code_text End code = decimal code
+code_text Event code = two_hex code
+code_text Fault code = two_hex code
+
+-- what a mark says: `2010-03-01 07:15 work period begins, country 17`, `2010-03-01 07:20 event 07`
+abbrev pub mark_title : (date : List ℕ) → Mark → List ℕ
+mark_title date mark = date ++ codes " " ++ duration_text (mark.second / 60 % 1440) ++ mark_words mark.sign
+    ++ code_text mark.sign mark.code
+
+-- A MARK: its sign at its minute; two minutes are one unit wide, and the day begins at 60
+abbrev pub mark_text : (date : List ℕ) → Mark → List ℕ
+mark_text date mark =
+    codes "<use xlink:href=\"#mark-" ++ sign_name mark.sign ++ codes "\" x=\""
+    ++ half_text (120 + mark.second / 60 % 1440) ++ codes "\"><title>"
+    ++ mark_title date mark ++ codes "</title></use>\n"
+
+-- and nothing of it on another day
+abbrev pub day_mark_text : (date : List ℕ) → (day : ℕ) → Mark → List ℕ
+day_mark_text date day mark = if mark.second / 86400 == day then mark_text date mark else []
+
+-- THE MARKS OF A DAY, in their order
+abbrev pub marks_text : (date : List ℕ) → (day : ℕ) → List Mark → List ℕ
+marks_text date day [] = []
+marks_text date day (mark ∷ marks) = day_mark_text date day mark ++ marks_text date day marks

@@ -1,0 +1,135 @@
+//! A mark of the picture: a place that was entered, an event or a fault.
+ghost use Rattle.std.specs.Prelude.{◌≡◌, ◌++◌, ◌<◌, OnOk};
+ghost use Rattle.day_chart.specs.Marks.{sign_name, mark_words, hex_digit, two_hex, code_text, mark_title, mark_text};
+ghost use Rattle.day_chart.specs.Marks.{day_mark_text, marks_text};
+
+use crate::bar::write_half;
+use crate::frame::write_number;
+use day_totals::write_duration;
+use std::alloc::AllocError;
+
+/// What a mark tells of.
+#[derive(Clone, Copy, Debug, PartialEq, Eq)]
+pub enum Sign {
+    /// A daily work period begins.
+    Begin,
+    /// A daily work period ends.
+    End,
+    Event,
+    Fault,
+}
+
+/// A mark.
+#[derive(Clone, Copy, Debug, PartialEq, Eq)]
+pub struct Mark {
+    pub sign: Sign,
+    /// Of a place its country, of an event or a fault its type.
+    pub code: u8,
+    /// When the place was entered, or the event began.
+    pub second: u32,
+}
+
+/// The sign's name in the picture.
+fn sign_name(sign: Sign) -> &'static [u8]
+    ensures { result.now ≡ sign_name sign }
+{
+    match sign {
+        Sign::Begin => b"begin",
+        Sign::End => b"end",
+        Sign::Event => b"event",
+        Sign::Fault => b"fault",
+    }
+}
+
+/// What a mark says in front of its code.
+fn mark_words(sign: Sign) -> &'static [u8]
+    ensures { result.now ≡ mark_words sign }
+{
+    match sign {
+        Sign::Begin => b" work period begins, country ",
+        Sign::End => b" work period ends, country ",
+        Sign::Event => b" event ",
+        Sign::Fault => b" fault ",
+    }
+}
+
+/// A hexadecimal digit.
+fn hex_digit(n: u8) -> u8
+    requires { n < 16 }
+    ensures { result ≡ hex_digit n }
+{
+    if n < 10 { b'0' + n } else { 87 + n }
+}
+
+/// Adds a byte as two hexadecimal digits.
+fn write_two_hex(text: &mut Vec<u8>, byte: u8) -> Result<(), AllocError>
+    ensures { OnOk result (text.new.items ≡ text.old.items ++ two_hex byte) }
+{
+    text.push(hex_digit(byte / 16))?;
+    text.push(hex_digit(byte % 16))?;
+    Ok(())
+}
+
+/// Adds the code of a mark: of a place as a number, of an event or a fault as the regulation writes it, in two
+/// hexadecimal digits.
+fn write_code(text: &mut Vec<u8>, sign: Sign, code: u8) -> Result<(), AllocError>
+    ensures { OnOk result (text.new.items ≡ text.old.items ++ code_text sign code) }
+{
+    match sign {
+        Sign::Begin => write_number(text, code as u128),
+        Sign::End => write_number(text, code as u128),
+        Sign::Event => write_two_hex(text, code),
+        Sign::Fault => write_two_hex(text, code),
+    }
+}
+
+/// Adds what a mark says.
+fn write_mark_title(text: &mut Vec<u8>, date: &[u8], mark: Mark) -> Result<(), AllocError>
+    ensures { OnOk result (text.new.items ≡ text.old.items ++ mark_title date.now mark) }
+{
+    text.extend_from_slice(date)?;
+    text.extend_from_slice(b" ")?;
+    write_duration(text, mark.second / 60 % 1440)?;
+    text.extend_from_slice(mark_words(mark.sign))?;
+    write_code(text, mark.sign, mark.code)?;
+    Ok(())
+}
+
+/// Adds a mark.
+fn write_mark(text: &mut Vec<u8>, date: &[u8], mark: Mark) -> Result<(), AllocError>
+    ensures { OnOk result (text.new.items ≡ text.old.items ++ mark_text date.now mark) }
+{
+    text.extend_from_slice(b"<use xlink:href=\"#mark-")?;
+    text.extend_from_slice(sign_name(mark.sign))?;
+    text.extend_from_slice(b"\" x=\"")?;
+    write_half(text, 120 + (mark.second / 60 % 1440) as u64)?;
+    text.extend_from_slice(b"\"><title>")?;
+    write_mark_title(text, date, mark)?;
+    text.extend_from_slice(b"</title></use>\n")?;
+    Ok(())
+}
+
+/// Adds a mark where it lies on this day.
+fn write_day_mark(text: &mut Vec<u8>, date: &[u8], day: u32, mark: Mark) -> Result<(), AllocError>
+    ensures { OnOk result (text.new.items ≡ text.old.items ++ day_mark_text date.now day mark) }
+{
+    if mark.second / 86400 == day {
+        write_mark(text, date, mark)?;
+    }
+    Ok(())
+}
+
+/// Adds the marks of a day, in their order.
+pub(crate) fn write_marks(
+    text: &mut Vec<u8>,
+    date: &[u8],
+    day: u32,
+    marks: &[Mark],
+) -> Result<(), AllocError>
+    ensures { OnOk result (text.new.items ≡ text.old.items ++ marks_text date.now day marks.now) }
+{
+    for mark in marks {
+        write_day_mark(text, date, day, *mark)?;
+    }
+    Ok(())
+}

@@ -1,0 +1,9 @@
+use Rattle.std.proofs.Common.{◌≡◌, List, take}
+use Rattle.message_model.specs.Messages.{Message}
+use Rattle.unit_marks.specs.Places.{ArePlaced}
+use Rattle.unit_marks.specs.Entries.{marks_told}
+use Rattle.unit_marks.proofs.entries.marks_in.Given as goal
+
+-- the marks of the messages so far
+abbrev pub invariant-loop-at : goal.invariant-loop-at
+invariant-loop-at l = (messages : List Message) → ArePlaced l.b l.all messages → l.marks.items ≡ marks_told (take l.at-index messages)
