@@ -16,20 +16,23 @@ use Rattle.unit_model.specs.declared.layout.TheConstants.{HIGHEST_ODOMETER}
 use Rattle.unit_model.specs.Image.{last_kept, odometer_at}
 use Rattle.unit_minutes.specs.DayOdometers.{RecordsDay}
 use Rattle.unit_model.specs.Decoding.{Decodes}
-use Rattle.history_model.specs.Minutes.{HistoryMinute}
+use Rattle.history_model.specs.Minutes.{HistoryMinute, up_to}
 use Rattle.history_model.specs.Book.{Book, all, IsMark}
 use Rattle.history_model.specs.Growth.{Rises}
 use Rattle.history_model.proofs.Told.{rises}
+use Rattle.history_model.proofs.Books.{reached-shown}
 use Rattle.run_unit_course.specs.Legs.{Travel, kilometres_of}
 use Rattle.run_unit_course.specs.Travelled.{MayShow}
 use Rattle.unit_rule.specs.Rule.{Started}
 use Rattle.run_unit_course.proofs.Lines.{tells-front}
 use Rattle.run_unit_course.proofs.Parts.{beyond-mark, known-more}
+use Rattle.unit_rule.specs.Written.{ShowsWritten}
 use Rattle.unit_rule.specs.Odometer.{ShowsOdometer, IsBegunBy, OdometerSafe}
 use Rattle.unit_rule.proofs.Travelling.{odometer-sum, odometer-safe}
 use Rattle.device_rule.specs.Views.{UnitView, unit_view}
 use Rattle.card_image.specs.Own.{IsOwnValid}
-use Rattle.safety_model.specs.Recording.{Recording, card_image, told_of, history_of}
+use Rattle.safety_model.specs.Recording.{Recording, card_image, told_of, history_of, lost_of}
+use Rattle.safety_model.proofs.Giving.{passed-reached}
 use Rattle.safety_model.specs.Cards.{acceptances}
 use Rattle.safety_model.specs.Safe.{Devices, card_of, breakdowns_of, WasFound, IsUnfound, IsVerdict, IsSafe, IsCaused}
 use Rattle.run_promise.specs.Between.{RunLedger, LedgerStands, IsFound, AreUntouched}
@@ -43,7 +46,7 @@ use Rattle.run_promise.proofs.Accounts.{last-of}
 use Rattle.run_promise.proofs.AccountsEnd.{ends-follow, ends-brought}
 use Rattle.run_course.proofs.Telling.{each-of}
 use Rattle.run_promise.specs.Origin.{Origin, rule_of, start_at, first_of, HistoryIsRecorded}
-use Rattle.run_promise.specs.Days.{IsBegunIn}
+use Rattle.run_promise.specs.Days.{HasWords, IsBegunIn}
 use Rattle.run_promise.proofs.Whole.{is-whole}
 use Rattle.run_promise.proofs.Beside.{found-or}
 use Rattle.run_promise.specs.Ends.{recording_by, IsBeside, EndsRun}
@@ -181,6 +184,19 @@ module _ (o : Origin) (done : List TraceSecond) (p : Progress) (g : Travel) (mar
         (λ begun. inr (day-begun x day odometer begun))
         (beside.travels.days x on day odometer records)
 
+    -- the minutes of which an image has the words
+    words : (x : List ℕ) → now.unit.may_leave x → HasWords r x
+    words x on =
+        let past : List HistoryMinute = up_to (last_kept x) (all p.book) in
+        let shows = (carried.unit.unit_holds [] []).now (unit_view [] [] x) (x, on, refl) in
+        let low : All (λ i. i.minute ≤ last_kept x) p.book.sure = subst (λ (b : Book). All (λ (i : HistoryMinute). i.minute ≤ last_kept x) b.sure) book
+        (subst (λ (k : ℕ). All (λ (i : HistoryMinute). i.minute ≤ k) w.book.sure) (last-of [] [] x) shows.sure) in
+        record {
+          some = past;
+          passed = passed-reached (history_of r) (lost_of r) p.book past h.followed.follows (reached-shown p.book (last_kept x) low);
+          shows = subst (λ (y : List ℕ). ShowsWritten y past x) h.image (beside.travels.written x on);
+        }
+
     unit-later : began.unit.clock ≤ now.unit.clock
     unit-later = subst (λ (n : ℕ). n ≤ now.unit.clock) unit-began (carried.unit.unit_holds [] []).later
 
@@ -195,5 +211,6 @@ module _ (o : Origin) (done : List TraceSecond) (p : Progress) (g : Travel) (mar
           brings = λ t e v at seen. (beside.verdicts.each t e v at seen).1;
           odometer = odometer;
           days = days;
+          words = words;
           whole = λ nothing. is-whole r marks began now o.from h.followed.order nothing all_safe all_caused unit_whole unit-later;
         }

@@ -1,4 +1,4 @@
--- The odometers of a unit's days, at the end of a run (profile).
+-- The words and the odometers of a unit's days, at the end of a run (profile).
 use Rattle.std.specs.Prelude.{◌≡◌, ℕ, ◌+◌, ◌/◌, ◌≤◌, min, List, [], ◌∷◌, ◌++◌, All, Contains}
 use Rattle.std.specs.List.{AllByRecursion}
 use Rattle.minute_model.specs.declared.Minute.{Minute}
@@ -10,9 +10,17 @@ use Rattle.history_model.specs.Growth.{closed_limit}
 use Rattle.unit_model.specs.declared.layout.TheConstants.{HIGHEST_ODOMETER}
 use Rattle.unit_model.specs.Image.{last_kept, odometer_at}
 use Rattle.unit_minutes.specs.DayOdometers.{RecordsDay}
+use Rattle.unit_rule.specs.Written.{ShowsWritten}
 use Rattle.run_unit_course.specs.Followed.{IsKnown}
 use Rattle.run_unit_course.specs.Legs.{kilometres_of, AreLegs}
-use Rattle.safety_model.specs.Recording.{Recording, told_of, history_of}
+use Rattle.safety_model.specs.Recording.{Recording, told_of, history_of, lost_of, IsPassed}
+
+-- THE DAYS OF AN IMAGE HAVE THE WORDS OF THE START AND THOSE OF THESE MINUTES, each of its new words and no other: some
+-- of the history from its front, or those of a history with a lost minute.
+pub record HasWords (r : Recording) (x : List ℕ) : Type 0 where
+  pub some : List HistoryMinute
+  pub passed : IsPassed (history_of r) (lost_of r) some
+  pub shows : ShowsWritten r.unit some x
 
 -- A DAY WAS BEGUN IN A RUN, which the unit did not record at the start: by the first minute of that day in the history,
 -- and the image has it. A span has decided that minute; and the day's odometer is that of the start with the whole

@@ -27,7 +27,7 @@ use Rattle.run_promise.specs.Cards.{IsUntouched}
 use Rattle.run_course.specs.Followed.{Progress}
 use Rattle.run_promise.specs.Accounts.{so_far}
 use Rattle.run_promise.specs.Origin.{Origin}
-use Rattle.run_promise.specs.Days.{IsBegunIn}
+use Rattle.run_promise.specs.Days.{HasWords, IsBegunIn}
 use Rattle.run_promise.specs.Whole.{NothingFailed, IsWhole}
 
 -- the recording of a run so far
@@ -107,6 +107,9 @@ pub record EndsRun (r : Recording) (marks : List Mark) (began now : Devices) : T
   -- began the day.
   pub days : (x : List ℕ) → now.unit.may_leave x → (day odometer : ℕ) → RecordsDay x day odometer
       → RecordsDay r.unit day odometer ⊎ IsBegunIn r x day odometer
+  -- And the words of its days, up to its last-kept minute, are those of the start with just the new ones of the minutes
+  -- that it has.
+  pub words : (x : List ℕ) → now.unit.may_leave x → HasWords r x
   -- Where no call failed every minute is there: each decided one stands in the history, the unit has all of it, and a
   -- card that was accepted all of its entries.
   pub whole : NothingFailed r.log → IsWhole r now

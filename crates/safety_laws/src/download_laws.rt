@@ -4,7 +4,8 @@ ghost use Rattle.history_model.specs.Minutes.{HistoryMinute};
 ghost use Rattle.unit_model.specs.declared.layout.TheConstants.{IMAGE_SIZE};
 ghost use Rattle.unit_model.specs.Days.{ShownDay, UnitMinute};
 ghost use Rattle.unit_model.specs.Image.{unit_minutes};
-ghost use Rattle.message_model.specs.Sending.{unit_file};
+ghost use Rattle.unit_minutes.specs.DaysWith.{written_days};
+ghost use Rattle.message_model.specs.Sending.{sent_days, unit_file};
 ghost use Rattle.link_loader.specs.Talking.{IsUnitImage};
 ghost use Rattle.file_view.specs.UnitShowing.{ShowsUnitFile};
 ghost use Rattle.safety_model.specs.Unit.{UnitSafe};
@@ -16,6 +17,11 @@ use tach_media::Medium;
 pub fn a_view_shows_the_unit()
     ensures { (x : List ℕ) (shown : List UnitMinute) → IsUnitImage x → ShowsUnitFile None (unit_file x) shown
         → shown ≡ unit_minutes x }
+{}
+
+/// A download sends just the days of which a run tells the words (`HasWords` of run_promise).
+pub fn what_is_written_is_sent()
+    ensures { (x : List ℕ) → sent_days x ≡ written_days x }
 {}
 
 /// Of each image that a stop might have left of a unit that is safe, a download is a file, a view of that shows the

@@ -10,5 +10,7 @@ mod session_laws;
 // a download behind cuts
 mod download_laws;
 
-pub use download_laws::{a_view_shows_the_unit, what_is_kept_is_handed_out};
+pub use download_laws::{
+    a_view_shows_the_unit, what_is_kept_is_handed_out, what_is_written_is_sent,
+};
 pub use session_laws::{a_session_is_whole, a_stopped_insertion_ends_with_the_same_entries};

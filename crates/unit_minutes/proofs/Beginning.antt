@@ -369,6 +369,7 @@ module _ (n k : ℕ) (coming : Coming) (fits : IsComing coming) (later : k / 144
               (λ more. ⊎_elim (λ less. less_days c (less ∙ closed.ready.days)) (λ whole. more_days c (whole_days c whole)) more)
               (adding_days x2 known (new_head coming) c adding),
         ));
+        side = inl (adding_kept c adding.outside ∙ sym closed.kept_was);
         spare = ⊎_elim
             (λ same. λ i low. inl (ap (λ (l : List ℕ). spare_bytes l i) same ∙ closed.spare i))
             (λ more. ⊎_elim (λ less. spare_by c step.others (inl less.shut)) (λ whole. spare_by c step.others (inr (spare_new c whole.entry))) more)
@@ -467,10 +468,11 @@ module _ (n k : ℕ) (coming : Coming) (fits : IsComing coming) (later : k / 144
         (cases_eq i t)
 
     -- behind the slot's beginning
-    between : (c : List ℕ) → (unit_days c ≡ newest_of DAY_SLOTS (days_with (last_kept x) coming (unit_days x))) ⊎ AreTurning (last_kept x) coming (unit_days x) (unit_days c)
+    between : (c : List ℕ) → (unit_days c ≡ newest_of DAY_SLOTS (days_with (last_kept x) coming (unit_days x))) ⊎ ((last_kept c ≡ k) × AreTurning (last_kept x) coming (unit_days x) (unit_days c))
         → ((i : ℕ) → spare_bytes c i ≡ spare_bytes y i) → AreBetween coming x c
     between c days same = record {
-      days = inr (⊎_elim inl (λ turning. inr (later_day, turning)) days);
+      days = inr (⊎_elim inl (λ turning. inr (later_day, turning.1)) days);
+      side = ⊎_elim inr (λ turning. inl (turning.0 ∙ sym closed.kept_was)) days;
       spare = λ i low. ⊎_elim (λ was. inl (same i ∙ was ∙ closed.spare i)) (λ new. inr (later_day, new.0 ∙ taken_is, inr (same i ∙ new.1))) (spare_added i low);
     }
 
@@ -610,7 +612,7 @@ module _ (n k : ℕ) (coming : Coming) (fits : IsComing coming) (later : k / 144
     at_2 : Moment y2
     at_2 = (
       record { side = before_mark it odometer x y2 has_2 (of_slot 2 firsts y2 (lit≤ tt) slot_2); outside = besides_2; decodes = still x y2 y2_good },
-      between y2 (inr (more_days y2 (slot_written k 2 firsts y2 (lit≤ tt) slot_2))) spare_2,
+      between y2 (inr (slot_2.kept, more_days y2 (slot_written k 2 firsts y2 (lit≤ tt) slot_2))) spare_2,
     )
 
     at_3 : Moment y3
@@ -633,7 +635,7 @@ module _ (n k : ℕ) (coming : Coming) (fits : IsComing coming) (later : k / 144
             outside = besides_then x y c besides_y (besides_days (free_place t 2) (DAY_WORDS.size - 4) y c (omega arith) (omega (arith, below)) writing);
             decodes = still x c (λ good. behind_good y c t 2 below (lit≤ tt) writing count_y (y_good good));
           },
-          between c (inr (more_days c (slot_written k 2 firsts c (lit≤ tt) at))) (spare_behind t 2 y c (lit≤ tt) writing),
+          between c (inr (at.kept, more_days c (slot_written k 2 firsts c (lit≤ tt) at))) (spare_behind t 2 y c (lit≤ tt) writing),
         )
     counting_moment c (inr counting) = ⊎_elim (λ absent. subst Moment (sym absent) at_2) (λ whole. subst Moment (sym whole) at_3) (counting.whole (lit≤ tt))
 

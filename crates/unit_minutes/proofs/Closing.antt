@@ -356,6 +356,7 @@ module _ (j : Notes) (x : List ℕ) (noted : IsNoted j x) (coming : Coming) (fit
       unmoved : (c : List ℕ) → DiffersBehind i n x1 c → AreBetween coming x c
       unmoved c writing = record {
         days = inl (slot_days i noted.ok.index js day.others older p k date o n few words c (slot_behind i noted.ok.index js day.others older p k date o n few words x1 slot_1 c writing) ∙ sym (slot_days i noted.ok.index js day.others older p k date o n few words x slot));
+        side = inl ((slot_behind i noted.ok.index js day.others older p k date o n few words x1 slot_1 c writing).kept ∙ sym noted.agrees.kept);
         spare = λ q low. inl (spare_behind i n x1 c few writing q ∙ spare_front ODOMETER.place ODOMETER.size x x1 (omega arith) x1_same q);
       }
 
@@ -384,7 +385,7 @@ module _ (j : Notes) (x : List ℕ) (noted : IsNoted j x) (coming : Coming) (fit
           ))
           (λ whole. subst Moment (sym whole) (
             record { side = before_mark it odometer x x2 has_2 (inl (recorded_is x2 k slot_2.kept ∙ in_day.1.recorded_are)); outside = besides_2; decodes = still x x2 good_2 },
-            record { days = inr (inr (omega (arith, noted.agrees.kept, later), inl in_day.1.closed_are)); spare = λ q low. inl (in_day.1.spare q) },
+            record { days = inr (inr (omega (arith, noted.agrees.kept, later), inl in_day.1.closed_are)); side = inl (slot_2.kept ∙ sym noted.agrees.kept); spare = λ q low. inl (in_day.1.spare q) },
           ))
           (counting.whole (lit≤ tt))
 
@@ -401,7 +402,7 @@ module _ (j : Notes) (x : List ℕ) (noted : IsNoted j x) (coming : Coming) (fit
 
   -- a moment of the writes before the new day
   pub turning_moment : (c : List ℕ) → IsPartway (turning j odometer) x c → Moment c
-  turning_moment c (inl first) = (odometer_kept it odometer x c noted.sized fits.odometer first, record { days = inl (front_days x c first.outside); spare = λ q low. inl (spare_front ODOMETER.place ODOMETER.size x c (omega arith) first.outside q) })
+  turning_moment c (inl first) = (odometer_kept it odometer x c noted.sized fits.odometer first, record { days = inl (front_days x c first.outside); side = inl (front_kept x c first.outside); spare = λ q low. inl (spare_front ODOMETER.place ODOMETER.size x c (omega arith) first.outside q) })
   turning_moment c (inr rest) = closing_moment c rest
 
   -- and what they leave

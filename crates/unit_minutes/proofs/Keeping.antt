@@ -275,10 +275,10 @@ module _ (j : Notes) (x : List ℕ) (noted : IsNoted j x) (coming : Coming) (fit
 
   -- the days before the count is written, and behind it
   unmoved : (c : List ℕ) → Slot k n words c → ((j : ℕ) → spare_bytes c j ≡ spare_bytes x j) → AreBetween coming x c
-  unmoved c at spare = record { days = inl (same_days c at); spare = λ j low. inl (spare j) }
+  unmoved c at spare = record { days = inl (same_days c at); side = inl (at.kept ∙ sym noted.agrees.kept); spare = λ j low. inl (spare j) }
 
   moved : (c : List ℕ) → unit_days c ≡ unit_days y → ((j : ℕ) → spare_bytes c j ≡ spare_bytes x j) → AreBetween coming x c
-  moved c is spare = record { days = inr (inl (is ∙ y_days)); spare = λ j low. inl (spare j) }
+  moved c is spare = record { days = inr (inl (is ∙ y_days)); side = inr (is ∙ y_days); spare = λ j low. inl (spare j) }
 
   slot_2 : Slot k n words x2
   slot_2 = slot_behind i noted.ok.index js day.others older p k date o n few words x1 slot_1 x2 behind

@@ -10,6 +10,7 @@ pub mod Beside
 pub mod Equal
 pub mod MendPlan
 pub mod DayOdometers
+pub mod WrittenDays
 pub mod Mended
 mod MendRows
 pub mod KeptBits

@@ -17,6 +17,7 @@ use Rattle.unit_minutes.specs.Image.{Notes, IsNotes, Agrees, IsStray, IsFoundDay
 use Rattle.unit_minutes.specs.Beside.{SameJournal}
 use Rattle.unit_minutes.specs.DayOdometers.{RecordsDay}
 use Rattle.unit_minutes.proofs.DayOdometers.{records-same, records-kept, records-cut}
+use Rattle.unit_minutes.proofs.WrittenDays.{agreed-written}
 use Rattle.unit_minutes.proofs.MendPlan.{IsMendStep}
 use Rattle.unit_minutes.specs.Mends.{SameButRowsAndSlots, SameButMinutes, IsGateShut, IsMendable, IsMending, IsMended, notes_mended, shut, mended}
 use Rattle.unit_model.specs.Cells.{minute_kept, cells_emptied}
@@ -320,6 +321,7 @@ module _ (j : Notes) (ok : IsNotes j) (x : List ℕ) (sized : length x ≡ IMAGE
         decodes = λ decodes. good_decodes (at n) (cells_good n le (good_of x decodes));
         minutes = recorded_beside x (at n) (cells_beside n le) (known_is mendable);
         odometers = records-same x (at n) (days_beside x (at n) (cells_beside n le) (known_is mendable)) (last_beside x (at n) (cells_beside n le));
+        written = λ i. days_kept (last_beside x (at n) (cells_beside n le) i) (days_beside x (at n) (cells_beside n le) (known_is mendable) i);
         mendable = mendable_beside x (at n) (cells_beside n le) j ok mendable;
       }
 
@@ -361,14 +363,15 @@ module _ (j : Notes) (ok : IsNotes j) (x : List ℕ) (sized : length x ≡ IMAGE
   last_all : last_kept all ≡ j.kept
   last_all = last_beside x all (cells_beside 32 (omega arith)) ∙ kept_is mendable
 
-  mending_then : (c : List ℕ) → SameOutside (slot_place 0) (DAYS.size - 4) all c → (IsGood all → IsGood c) → recorded c ≡ recorded all → ((day odometer : ℕ) → RecordsDay c day odometer → RecordsDay all day odometer) → IsMendable j c → IsMending j x c
-  mending_then c same good minutes odometers again = record {
+  mending_then : (c : List ℕ) → SameOutside (slot_place 0) (DAYS.size - 4) all c → (IsGood all → IsGood c) → recorded c ≡ recorded all → ((day odometer : ℕ) → RecordsDay c day odometer → RecordsDay all day odometer) → days_kept j.kept (unit_days c) ≡ days_kept j.kept (unit_days all) → IsMendable j c → IsMending j x c
+  mending_then c same good minutes odometers written again = record {
     decodes = decodes_then c good;
     outside = outside_then_days c same;
     rows = rows_then c same;
     cells = λ n below. inr (cells_done c same n below);
     minutes = minutes ∙ all_mending.minutes;
     odometers = λ day odometer r. all_mending.odometers day odometer (odometers day odometer r);
+    written = ap (λ (k : ℕ). days_kept k (unit_days c)) (last_then c same ∙ last_all) ∙ written ∙ ap (λ (k : ℕ). days_kept k (unit_days all)) (sym last_all) ∙ all_mending.written;
     mendable = again;
   }
 
@@ -386,14 +389,15 @@ module _ (j : Notes) (ok : IsNotes j) (x : List ℕ) (sized : length x ≡ IMAGE
   mending_shut : IsMending j x y
   mending_shut =
       mending_then y shut_at.step.outside shut_at.step.good shut_at.step.minutes
-      (records-kept j.kept all y last_all (last_then y shut_at.step.outside ∙ last_all) shut_at.step.days) (again_by shut_at.stored shut_at.stored_is shut_at.gate shut_at.found)
+      (records-kept j.kept all y last_all (last_then y shut_at.step.outside ∙ last_all) shut_at.step.days) shut_at.step.days (again_by shut_at.stored shut_at.stored_is shut_at.gate shut_at.found)
 
   -- the count
   again_after : (z : List ℕ) → AreDaysMended j all z → IsMendable j z
   again_after z done = inr (done.gate, inr (found_agreed j ok z done.agrees))
 
   mending_after : (z : List ℕ) → AreDaysMended j all z → IsMending j x z
-  mending_after z done = mending_then z done.outside done.good done.minutes (records-cut j.kept all z (last_then z done.outside) done.days) (again_after z done)
+  mending_after z done = mending_then z done.outside done.good done.minutes (records-cut j.kept all z (last_then z done.outside) done.days)
+      (ap (λ (k : ℕ). days_kept k (unit_days z)) (sym done.agrees.kept) ∙ agreed-written j z done.agrees ∙ done.days) (again_after z done)
 
   pub mend_moment : (c : List ℕ) → IsMendStep j x c → IsMending j x c
   mend_moment c (inl emptying) = subst (IsMending j x) (sym emptying.2) (mending_cells emptying.0 emptying.1)

@@ -3,7 +3,7 @@ use Rattle.std.specs.Prelude.{◌≡◌, ◌⊎◌, ℕ, ◌+◌, ◌-◌, ◌*�
 use Rattle.std.specs.Prelude.{replicate, false}
 use Rattle.gated_ring.specs.Ring.{pointer, taken, is_there, newest_of}
 use Rattle.unit_model.specs.declared.layout.TheConstants.{DAY_SLOTS}
-use Rattle.unit_model.specs.Days.{StoredDay, day_of, state_at}
+use Rattle.unit_model.specs.Days.{StoredDay, day_of, days_kept, state_at}
 use Rattle.unit_model.specs.Image.{day_ring, last_kept, unit_days, spare_bytes}
 use Rattle.unit_model.specs.Changes.{new_words, closing_words, first_states, further_words}
 use Rattle.unit_minutes.specs.Coming.{Coming}
@@ -64,13 +64,19 @@ AreTurning kept m days now =
     ⊎ ((now ≡ newest_of (DAY_SLOTS - 1) (last_day_closed kept days))
     ⊎ (now ≡ newest_of DAY_SLOTS (last_day_closed kept days ++ opened_day m ∷ [])))
 
+-- THE DAYS OF AN IMAGE AS THEY ARE WRITTEN, up to its last-kept minute: no later day, and no later word of that
+-- minute's day. A download sends just these (`sent_days` of message_model).
+abbrev pub written_days : List ℕ → List StoredDay
+written_days x = days_kept (last_kept x) (unit_days x)
+
 -- The day slots at a moment of a `keep`. The days are as they were, or those with the minute, or between them where a
--- further day begins. Spare bytes stay, but of the slot that this day takes: until it is there, and then they are
--- zeros.
+-- further day begins; with a new last-kept minute they are all there. Spare bytes stay, but of the slot that this day
+-- takes: until it is there, and then they are zeros.
 pub record AreBetween (m : Coming) (x c : List ℕ) : Type 0 where
   pub days : (unit_days c ≡ unit_days x)
       ⊎ ((unit_days c ≡ newest_of DAY_SLOTS (days_with (last_kept x) m (unit_days x)))
       ⊎ ((last_kept x / 1440 < m.minute / 1440) × AreTurning (last_kept x) m (unit_days x) (unit_days c)))
+  pub side : (last_kept c ≡ last_kept x) ⊎ (unit_days c ≡ newest_of DAY_SLOTS (days_with (last_kept x) m (unit_days x)))
   pub spare : (i : ℕ) → i < DAY_SLOTS → (spare_bytes c i ≡ spare_bytes x i)
       ⊎ ((last_kept x / 1440 < m.minute / 1440) × (i ≡ taken day_ring x)
       × ((is_there day_ring c i ≡ false) ⊎ (spare_bytes c i ≡ replicate 6 0)))
@@ -81,3 +87,11 @@ pub record HasDays (m : Coming) (x y : List ℕ) : Type 0 where
   pub days : unit_days y ≡ newest_of DAY_SLOTS (days_with (last_kept x) m (unit_days x))
   pub spare : (i : ℕ) → i < DAY_SLOTS → (spare_bytes y i ≡ spare_bytes x i)
       ⊎ ((last_kept x / 1440 < m.minute / 1440) × (i ≡ pointer day_ring y) × (spare_bytes y i ≡ replicate 6 0))
+
+-- A MOMENT OF A `keep`, of the days as they are written up to the last-kept minute. That minute is the old one, and
+-- they are those before, or their newest 365; or it is the new one, and they are the newest 366 of those before with
+-- it.
+pub record IsKeepingWritten (m : Coming) (x c : List ℕ) : Type 0 where
+  pub side : ((last_kept c ≡ last_kept x)
+      × ((written_days c ≡ written_days x) ⊎ (written_days c ≡ newest_of (DAY_SLOTS - 1) (written_days x))))
+      ⊎ ((last_kept c ≡ m.minute) × (written_days c ≡ newest_of DAY_SLOTS (days_with (last_kept x) m (written_days x))))

@@ -32,6 +32,14 @@ slot_bits k = record { driver = bits_of k.driver (is_crew k); codriver = bits_of
 abbrev pub coming_of : KeptMinute → Coming
 coming_of k = record { minute = k.minute; bits = slot_bits k; odometer = k.odometer.0 }
 
+-- a minute of the unit so, with an odometer value
+abbrev pub written_at : (odometer : ℕ) → UnitMinute → Coming
+written_at odometer u = record {
+  minute = u.minute;
+  bits = record { driver = bits_of u.driver u.crew; codriver = bits_of u.codriver u.crew };
+  odometer = odometer;
+}
+
 -- what a `keep` of this minute leaves in the day slots
 abbrev pub HasDaysWith : KeptMinute → List ℕ → List ℕ → Type 0
 HasDaysWith k x y = HasDays (coming_of k) x y

@@ -10,6 +10,7 @@ use Rattle.unit_model.specs.Decoding.{Decodes, cell_place, cell_minute, cell_wor
 use Rattle.unit_model.specs.Image.{slot_place, last_kept, unit_days, recorded}
 use Rattle.unit_minutes.specs.Image.{Notes, IsFound, IsFoundBy}
 use Rattle.unit_minutes.specs.DayOdometers.{RecordsDay}
+use Rattle.unit_minutes.specs.DaysWith.{written_days}
 use Rattle.unit_model.specs.Writing.{with_count}
 use Rattle.unit_model.specs.Days.{days_kept}
 use Rattle.unit_model.specs.Cells.{row_head, minute_kept, cells_emptied}
@@ -35,8 +36,8 @@ IsGateShut (Some s) x = bytes_at x (slot_place s) 4 ≡ replicate 4 0
 abbrev pub IsMendable : Notes → List ℕ → Type 0
 IsMendable j x = IsFoundBy j x ⊎ (IsGateShut j.stray x × (IsFound j None j.stored x ⊎ IsFound j None j.count x))
 
--- A moment of a `mend`: no minute changes and no recorded day's odometer, each cell is as it was or mended, the image
--- still decodes, and it may be mended again.
+-- A moment of a `mend`: no minute changes, no recorded day's odometer, and none of the days as they are written up to
+-- the last-kept minute; each cell is as it was or mended, the image still decodes, and it may be mended again.
 pub record IsMending (j : Notes) (x c : List ℕ) : Type 0 where
   pub outside : SameButRowsAndSlots x c
   pub rows : SameButMinutes x c
@@ -44,6 +45,7 @@ pub record IsMending (j : Notes) (x c : List ℕ) : Type 0 where
       ⊎ (cell_minute c n ≡ minute_kept (last_kept x) (cell_minute x n))
   pub minutes : recorded c ≡ recorded x
   pub odometers : (day odometer : ℕ) → RecordsDay c day odometer → RecordsDay x day odometer
+  pub written : written_days c ≡ written_days x
   pub decodes : Decodes x → Decodes c
   pub mendable : IsMendable j c
 

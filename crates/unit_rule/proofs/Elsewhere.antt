@@ -3,6 +3,7 @@ use Rattle.std.proofs.Common.{◌≡◌, inl, inr, ⊎_elim, ℕ, ◌<◌, List,
 use Rattle.tach_media.specs.Medium.{State, IsCoherent, LeavesOnly, SameOutside}
 use Rattle.tach_media.proofs.Images.{part_before, part_after}
 use Rattle.unit_model.specs.declared.layout.TheConstants.{DAY_SLOTS}
+use Rattle.unit_model.specs.Days.{days_kept}
 use Rattle.unit_model.specs.Decoding.{Decodes}
 use Rattle.unit_model.proofs.WholeDays.{decoded_of}
 use Rattle.unit_minutes.specs.Beside.{SameJournal}
@@ -57,6 +58,7 @@ beside-travel x c same = record {
   last = last_beside x c same;
   known = λ known. subst (λ (p : ℕ). p < DAY_SLOTS) (sym (pointer_beside x c same)) known;
   days = λ known. records-same x c (days_beside x c same known) (last_beside x c same);
+  written = λ known. λ i. days_kept (last_beside x c same i) (days_beside x c same known i);
 }
 
 pub travelled-elsewhere : (start : ℕ) (b : Book) (g : Travel) {U V : State} → HasTravelled start b g U → IsCoherent U → (R : List ℕ → List ℕ → Type 0) → LeavesOnly U V R → ((x c : List ℕ) → R x c → SameJournal x c) → HasTravelled start b g V

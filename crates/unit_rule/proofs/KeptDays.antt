@@ -1,10 +1,13 @@
 -- The day slots at a moment of a `keep`: each is one of those before, or is begun by the minute.
-use Rattle.std.proofs.Common.{◌≡◌, ◌≢◌, ◌⊎◌, inl, inr, ⊎_elim, ℕ, ◌-◌, ◌*◌, ◌/◌, ◌<◌, ◌≤◌, Bool, true, false, cond, List, [], ◌∷◌, ◌++◌, IfSome, All, length, map, refl, ap, sym, subst, ◌∙◌, arith}
+use Rattle.std.proofs.Common.{◌≡◌, ◌≢◌, ◌⊎◌, inl, inr, ⊎_elim, ℕ, ◌-◌, ◌*◌, ◌/◌, ◌<◌, ◌≤◌, Bool, true, false, not, cond, List, [], ◌∷◌, ◌++◌, IfSome, All, length, map, refl, ap, sym, subst, ◌∙◌, arith, lit≤}
 use Rattle.std.specs.Prelude.{◌==◌}
 use Rattle.std.proofs.lemmas.Bool.{cases_lt}
 use Rattle.std.proofs.lemmas.Bool.Decides.{nat_tests}
 use Rattle.std.proofs.lemmas.List.{map-append}
 use Rattle.std.proofs.lemmas.List.Elements.{All-nil, All-cons, All-head, All-tail, All-weaker, All-drop, All-push, All-contains}
+use Rattle.activity_codec.specs.declared.values.Activity.{Activity}
+use Rattle.activity_codec.specs.declared.values.Activity.TheVariants.{Rest, Available, Work, Driving}
+use Rattle.activity_codec.specs.Words.{bit, activity_number}
 use Rattle.tach_media.specs.Medium.{State, LeavesOnly}
 use Rattle.tach_media.proofs.Runs.{weaken, at_image}
 use Rattle.gated_ring.specs.Ring.{newest_of}
@@ -19,8 +22,9 @@ use Rattle.unit_minutes.specs.declared.notes.Notes.{Notes}
 use Rattle.unit_minutes.specs.Image.{Agrees}
 use Rattle.unit_minutes.specs.Keeping.{IsKeeping}
 use Rattle.unit_minutes.specs.declared.kept.KeptMinute.{KeptMinute}
-use Rattle.unit_minutes.specs.Kept.{kept_minute, coming_of, HasDaysBetween}
+use Rattle.unit_minutes.specs.Kept.{bits_by, is_crew, kept_minute, coming_of, HasDaysBetween}
 use Rattle.unit_minutes.proofs.DayOdometers.{slots-of}
+use Rattle.unit_minutes.proofs.WrittenDays.{keeping-written}
 use Rattle.unit_rule.specs.Odometer.{IsKeepingDays}
 use Rattle.unit_rule.proofs.Moves.{both-leave}
 
@@ -126,6 +130,20 @@ module _ (k : ℕ) (m : KeptMinute) (x : List ℕ) where
       moved)
       b.days
 
+-- ---- the bits of a state
+bit-low : (b : Bool) → bit b ≤ 1
+bit-low true = lit≤ tt
+bit-low false = lit≤ tt
+
+number-low : (a : Activity) → activity_number a ≤ 3
+number-low Rest = lit≤ tt
+number-low Available = lit≤ tt
+number-low Work = lit≤ tt
+number-low Driving = lit≤ tt
+
+bits-low : (act : Activity) (present crew : Bool) → bits_by act present crew < 16
+bits-low act present crew = omega (arith, bit-low crew, bit-low (not present), number-low act)
+
 -- A MOMENT OF A KEEP, by what the journal says of it
 pub keeping-days : (j : Notes) (k : KeptMinute) (x c : List ℕ) → Agrees j x → 1440 ≤ k.minute → j.kept < k.minute → IsKeeping (kept_minute k) k.odometer.0 x c → HasDaysBetween k x c → IsKeepingDays (kept_minute k) k.odometer.0 x c
 keeping-days j k x c agrees day later moment between =
@@ -141,6 +159,7 @@ keeping-days j k x c agrees day later moment between =
           either;
       earlier = λ d o s.
           subst (λ (n : ℕ). d ≤ n / 1440) (sym kept) (subst (λ (n : ℕ). n ≤ j.kept / 1440) s.day_is (All-contains (λ (e : StoredDay). day_of e ≤ j.kept / 1440) (unit_days x) s.slot days.low s.there));
+      written = keeping-written j (coming_of k) (kept_minute k) k.odometer.0 x c refl agrees day later (bits-low k.driver.act k.driver.present (is_crew k)) (bits-low k.codriver.act k.codriver.present (is_crew k)) moment between;
     }
 
 pub keeping-run : {U V : State} (j : Notes) (k : KeptMinute) → IfSome U.image (Agrees j) → 1440 ≤ k.minute → j.kept < k.minute →

@@ -8,6 +8,7 @@ pub mod Moves
 pub mod Marking
 pub mod Mending
 pub mod Found
+pub mod Writing
 pub mod Travelling
 pub mod KeptDays
 pub mod Elsewhere

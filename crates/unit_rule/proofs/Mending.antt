@@ -48,4 +48,4 @@ mending-known j c (inr (gate, inr found)) = found.pointer
 pub mending-travel : (j : Notes) (x c : List ℕ) → IsMending j x c → IsBesideTravel x c
 mending-travel j x c is =
     let same = mending-odometer j x c is in
-    record { odometer_is = same.0; last = same.1; known = λ known. mending-known j c is.mendable; days = λ known. is.odometers }
+    record { odometer_is = same.0; last = same.1; known = λ known. mending-known j c is.mendable; days = λ known. is.odometers; written = λ known. is.written }

@@ -1,5 +1,5 @@
 -- The odometer of each image, kept by each kind of step.
-use Rattle.std.proofs.Common.{◌≡◌, ◌⊎◌, inl, inr, ⊎_elim, ℕ, ◌+◌, ◌/◌, ◌<◌, ◌≤◌, min, nat_le, true, Some, None, List, [], ◌∷◌, ◌++◌, All, Contains, refl, ap, sym, subst, ◌∙◌, arith, append-nil}
+use Rattle.std.proofs.Common.{◌≡◌, ◌⊎◌, inl, inr, ⊎_elim, ℕ, ◌+◌, ◌-◌, ◌/◌, ◌<◌, ◌≤◌, min, nat_le, true, Some, None, List, [], ◌∷◌, ◌++◌, All, Contains, refl, ap, sym, subst, ◌∙◌, arith, append-nil}
 use Rattle.std.proofs.lemmas.List.Sums.{fold-append, sum_by-cons}
 use Rattle.std.proofs.lemmas.List.Elements.{All-weaker, All-append, All-filter, Contains-append_left, Contains-push}
 use Rattle.tach_media.specs.Medium.{State, IsCoherent, LeavesOnly, Unchanged}
@@ -14,9 +14,9 @@ use Rattle.log_model.specs.Course.{ToldSecond}
 use Rattle.log_model.specs.Spans.{spans_of}
 use Rattle.log_model.specs.declared.lines.Mark.{Mark}
 use Rattle.history_model.specs.History.{limit_of}
-use Rattle.history_model.specs.Minutes.{HistoryMinute}
+use Rattle.history_model.specs.Minutes.{HistoryMinute, up_to}
 use Rattle.history_model.specs.Book.{Book, all, not_begun, kept, broken, found}
-use Rattle.history_model.proofs.Books.{all-none, all-found, contains-up_to}
+use Rattle.history_model.proofs.Books.{all-none, all-found, contains-up_to, up_to-whole, up_to-twice, up_to-before}
 use Rattle.history_model.proofs.Filters.{all-one}
 use Rattle.device_rule.specs.Views.{unit_view}
 use Rattle.device_rule.specs.Filling.{seen_by_unit}
@@ -24,8 +24,10 @@ use Rattle.unit_rule.specs.Rule.{Started}
 use Rattle.unit_rule.specs.Marks.{UnitFollowsBook}
 use Rattle.run_unit_course.specs.Legs.{Reckoned, Travel, reckoned, not_travelled, travelled, stranded, resumed, kilometres_of, AreLegs}
 use Rattle.unit_rule.specs.Odometer.{odometer_by, odometer_after, ShowsOdometer, IsBegunBy, ShowsDays, HasTravelled, IsBesideTravel, IsKeepingDays, OdometerSafe}
+use Rattle.unit_rule.specs.Written.{ShowsWritten}
 use Rattle.unit_rule.proofs.Moves.{shown-last}
 use Rattle.unit_rule.proofs.Found.{left-earlier, left-decodes, one-image}
+use Rattle.unit_rule.proofs.Writing.{written-first, written-still, written-fewer, written-more}
 
 odometer-low : (start : ℕ) (legs : List ℕ) → start ≤ HIGHEST_ODOMETER → odometer_after start legs ≤ HIGHEST_ODOMETER
 odometer-low start [] le = le
@@ -61,6 +63,7 @@ travelled-opened start unit x is low known now = record {
   none = λ e. refl;
   now = λ c on. record { leg = 0; is = ap odometer_at (now c on) ∙ is ∙ sym (odometer-rests start [] low); side = inl refl; behind = λ i no last. no-minute i no };
   days = λ c on day o r. inl (subst (λ (y : List ℕ). RecordsDay y day o) (now c on) r);
+  written = λ c on. written-first x c (now c on);
   since = λ c on. subst (λ (y : List ℕ). last_kept x ≤ last_kept y) (sym (now c on)) (omega arith);
   known = λ c on. subst (λ (y : List ℕ). pointer day_ring y < DAY_SLOTS) (sym (now c on)) known;
 }
@@ -93,6 +96,12 @@ module _ (start : ℕ) (b : Book) (g : Travel) {U V : State} (t : HasTravelled s
     days = λ c on day o r. ⊎_elim (λ was. t.days c was day o r)
         (λ here. let there = before.is_left here.0 here.1 in let same = aside here.0 c here.2 in moved start b g here.0 c same.last day o (t.days here.0 there day o (same.days (t.known here.0 there) day o r)))
         (run.now c on);
+    written = λ c on. ⊎_elim (t.written c)
+        (λ here.
+        let there = before.is_left here.0 here.1 in
+        let same = aside here.0 c here.2 in
+        written-still g.image (up_to (last_kept c) (all b)) (up_to (last_kept here.0) (all b)) here.0 c (ap (λ (n : ℕ). up_to n (all b)) same.last) same.last (same.written (t.known here.0 there)) (t.written here.0 there))
+        (run.now c on);
     since = λ c on. ⊎_elim (t.since c)
         (λ here. let same = aside here.0 c here.2 in subst (λ (n : ℕ). last_kept g.image ≤ n) (sym same.last) (t.since here.0 (before.is_left here.0 here.1)))
         (run.now c on);
@@ -119,6 +128,23 @@ module _ (start : ℕ) (b : Book) (g : Travel) {U V : State} (t : HasTravelled s
     sure-low x left =
         let shows = (h.unit_holds [] []).now (unit_view [] [] x) (x, left, refl) in
         subst (All (λ (j : HistoryMinute). j.minute ≤ last_kept x)) (sym (all-none b none)) (subst (λ (n : ℕ). All (λ (j : HistoryMinute). j.minute ≤ n) b.sure) (shown-last [] [] x) shows.sure)
+
+    -- the minutes up to this one are those so far and it
+    more-minutes : (b' : Book) → all b' ≡ all b ++ i ∷ [] → (x c : List ℕ) → U.may_leave x → last_kept c ≡ i.minute → up_to (last_kept c) (all b') ≡ up_to (last_kept x) (all b) ++ i ∷ []
+    more-minutes b' is x c left last =
+        let P : HistoryMinute → Type 0 = λ j. j.minute ≤ last_kept c in
+        let low = sure-low x left in
+        let early = left-earlier s due b marks U h x left in
+        ap (up_to (last_kept c)) is
+        ∙ up_to-whole (last_kept c) (all b ++ i ∷ [])
+        (All-append P (all b) (i ∷ []) (All-weaker (λ (j : HistoryMinute). j.minute ≤ last_kept x) P (λ j le. omega (arith, le, early, late, last)) (all b) low) (all-one P i (omega (arith, last))))
+        ∙ ap (λ (is_ : List HistoryMinute). is_ ++ i ∷ []) (sym (up_to-whole (last_kept x) (all b) low))
+
+    -- and it is behind the old mark
+    same-minutes : (x c : List ℕ) → U.may_leave x → last_kept c ≡ last_kept x → up_to (last_kept c) (all (broken i b)) ≡ up_to (last_kept x) (all b)
+    same-minutes x c left last =
+        let early = left-earlier s due b marks U h x left in
+        ap (λ (n : ℕ). up_to n (all (broken i b))) last ∙ ap (up_to (last_kept x)) all-broken ∙ up_to-before (last_kept x) (all b) i (omega (arith, early, late))
 
     decoded : (x c : List ℕ) → U.may_leave x → IsKeepingDays (seen_by_unit i) odometer x c → pointer day_ring c < DAY_SLOTS
     decoded x c left k = (decoded_of c (k.moment.decodes (left-decodes s due b marks U before h x left))).known
@@ -184,6 +210,15 @@ module _ (start : ℕ) (b : Book) (g : Travel) {U V : State} (t : HasTravelled s
           (λ new. record { leg = leg; is = new.odometer_is ∙ goes-on; side = inl refl; behind = λ j no last. no-minute j no }) here.2.moment.side)
           (run.now c on);
       days = λ c on. ⊎_elim (λ was. not-before c on was) (λ here. kept-day here.0 c (before.is_left here.0 here.1) here.2 (ends c on)) (run.now c on);
+      written = λ c on. ⊎_elim (λ was. not-before c on was)
+          (λ here.
+          let there = before.is_left here.0 here.1 in
+          ⊎_elim
+          (λ old. absurd (omega (arith, ends c on, old.0, left-earlier s due b marks U h here.0 there, late)))
+          (λ new.
+          written-more g.image (up_to (last_kept c) (all (kept i b))) (up_to (last_kept here.0) (all b)) here.0 c i odometer (more-minutes (kept i b) all-kept here.0 c there (ends c on)) (ends c on) new.1 (t.written here.0 there))
+          here.2.written.side)
+          (run.now c on);
       since = λ c on. ⊎_elim (λ was. not-before c on was)
           (λ here. let there = before.is_left here.0 here.1 in let since = t.since here.0 there in let early = left-earlier s due b marks U h here.0 there in let last = ends c on in omega (arith, since, early, late, last))
           (run.now c on);
@@ -223,6 +258,22 @@ module _ (start : ℕ) (b : Book) (g : Travel) {U V : State} (t : HasTravelled s
           (λ was day o r. pushed (broken i b) (stranded i.minute leg g) all-broken refl refl c c (left-earlier s due b marks U h c was) (omega arith) day o (t.days c was day o r))
           (λ here. broken-day here.0 c (before.is_left here.0 here.1) here.2)
           (run.now c on);
+      written = λ c on.
+          let Now : List HistoryMinute = up_to (last_kept c) (all (broken i b)) in
+          ⊎_elim
+          (λ was. written-still g.image Now (up_to (last_kept c) (all b)) c c (same-minutes c c was refl) refl refl (t.written c was))
+          (λ here.
+          let x : List ℕ = here.0 in
+          let there = before.is_left x here.1 in
+          let past : List HistoryMinute = up_to (last_kept x) (all b) in
+          ⊎_elim
+          (λ old. ⊎_elim
+          (λ same. written-still g.image Now past x c (same-minutes x c there old.0) old.0 same (t.written x there))
+          (λ less. written-fewer g.image Now past x c (DAY_SLOTS - 1) (omega arith) (same-minutes x c there old.0) old.0 less (t.written x there))
+          old.1)
+          (λ new. written-more g.image Now past x c i odometer (more-minutes (broken i b) all-broken x c there new.0) new.0 new.1 (t.written x there))
+          here.2.written.side)
+          (run.now c on);
       since = λ c on. ⊎_elim (t.since c)
           (λ here. let there = before.is_left here.0 here.1 in let since = t.since here.0 there in let le = later-kept here.0 c there here.2 in omega (arith, since, le))
           (run.now c on);
@@ -257,11 +308,16 @@ module _ (start : ℕ) (b : Book) (g : Travel) {U V : State} (t : HasTravelled s
         behind = λ j no last. no-minute j no;
       };
       days = λ c on. subst (ShowsDays start (found k b) (resumed (t.now x was).leg g)) (sym (one-image V x after works is c on)) (λ day o r. still day o (t.days x was day o r));
+      written = λ c on. subst (λ (y : List ℕ). ShowsWritten g.image (up_to (last_kept y) (all (found k b))) y) (sym (one-image V x after works is c on))
+          (written-still g.image (up_to (last_kept x) (all (found k b))) (up_to (last_kept x) (all b)) x x found-minutes refl refl (t.written x was));
       since = λ c on. subst (λ (y : List ℕ). last_kept g.image ≤ last_kept y) (sym (one-image V x after works is c on)) (t.since x was);
       known = λ c on. subst (λ (y : List ℕ). pointer day_ring y < DAY_SLOTS) (sym (one-image V x after works is c on)) (t.known x was);
     },
   )
     where
+      found-minutes : up_to (last_kept x) (all (found k b)) ≡ up_to (last_kept x) (all b)
+      found-minutes = ap (up_to (last_kept x)) (all-found k b) ∙ ap (λ (n : ℕ). up_to (last_kept x) (up_to n (all b))) (sym last) ∙ up_to-twice (last_kept x) (all b)
+
       was : U.may_leave x
       was = ⊎_elim (λ left. left) (λ never. absurd never.2) (run.now x (after.is_left x is))
 

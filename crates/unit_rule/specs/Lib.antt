@@ -1,5 +1,6 @@
 pub mod Rule
 pub mod Marks
+pub mod Written
 pub mod Odometer
 pub mod Complete
 pub mod OtherRows

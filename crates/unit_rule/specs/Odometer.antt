@@ -8,7 +8,10 @@ use Rattle.unit_model.specs.Days.{UnitMinute}
 use Rattle.unit_model.specs.Image.{day_ring, last_kept, odometer_at}
 use Rattle.unit_minutes.specs.DayOdometers.{HasSlot, RecordsDay}
 use Rattle.unit_minutes.specs.Keeping.{IsKeeping}
-use Rattle.history_model.specs.Minutes.{HistoryMinute}
+use Rattle.unit_minutes.specs.DaysWith.{written_days, IsKeepingWritten}
+use Rattle.unit_minutes.specs.Kept.{written_at}
+use Rattle.unit_rule.specs.Written.{ShowsWritten}
+use Rattle.history_model.specs.Minutes.{HistoryMinute, up_to}
 use Rattle.minute_model.specs.declared.Rule.{Rule}
 use Rattle.log_model.specs.Log.{RunLog}
 use Rattle.log_model.specs.Course.{ToldSecond}
@@ -54,12 +57,14 @@ ShowsDays start b g x = (day odometer : ℕ) → RecordsDay x day odometer
     → RecordsDay g.image day odometer ⊎ IsBegunBy start b g x day odometer
 
 -- Every image that a stop may leave now shows what was travelled, beside the book: its odometer, and those of its days.
--- It is not behind that of the start, and its days may be read.
+-- Its days have the words of the start and those of the book's minutes, and no others. It is not behind that of the
+-- start, and its days may be read.
 pub record HasTravelled (start : ℕ) (b : Book) (g : Travel) (unit : State) : Type 0 where
   pub begins : start ≤ HIGHEST_ODOMETER
   pub none : b.maybe ≡ None → g.maybe ≡ None
   pub now : (x : List ℕ) → unit.may_leave x → ShowsOdometer start b g x
   pub days : (x : List ℕ) → unit.may_leave x → ShowsDays start b g x
+  pub written : (x : List ℕ) → unit.may_leave x → ShowsWritten g.image (up_to (last_kept x) (all b)) x
   pub since : (x : List ℕ) → unit.may_leave x → last_kept g.image ≤ last_kept x
   pub known : (x : List ℕ) → unit.may_leave x → pointer day_ring x < DAY_SLOTS
 
@@ -69,14 +74,16 @@ pub record IsBesideTravel (x c : List ℕ) : Type 0 where
   pub last : last_kept c ≡ last_kept x
   pub known : pointer day_ring x < DAY_SLOTS → pointer day_ring c < DAY_SLOTS
   pub days : pointer day_ring x < DAY_SLOTS → (day odometer : ℕ) → RecordsDay c day odometer → RecordsDay x day odometer
+  pub written : pointer day_ring x < DAY_SLOTS → written_days c ≡ written_days x
 
 -- A MOMENT OF A `keep`, with the day slots: each of them is one of those before, or is begun by this minute, with its
--- odometer; and before, none was later than the last-kept minute's day.
+-- odometer; and before, none was later than the last-kept minute's day. And so it is with the days as they are written.
 pub record IsKeepingDays (k : UnitMinute) (odometer : ℕ) (x c : List ℕ) : Type 0 where
   pub moment : IsKeeping k odometer x c
   pub slots : (day o : ℕ) → HasSlot c day o
       → HasSlot x day o ⊎ ((last_kept x / 1440 < k.minute / 1440) × (day ≡ k.minute / 1440) × (o ≡ odometer))
   pub earlier : (day o : ℕ) → HasSlot x day o → day ≤ last_kept x / 1440
+  pub written : IsKeepingWritten (written_at odometer k) x c
 
 -- An image's odometer is the start's and the whole kilometres of each span, up to the last-kept minute of each or up to
 -- one of which the keeping was broken off.
