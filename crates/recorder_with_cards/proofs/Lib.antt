@@ -83,3 +83,4 @@ pub mod OffCards
 pub mod SpeedsSoFar
 pub mod SpeedsUnlit
 pub mod SecondsCards
+pub mod Time

@@ -26,4 +26,5 @@ module _ {U A0 B0 : State} {chip_a chip_b : CardState} (to : ℕ) (run : Run) (m
     entries = g.entries;
     watches = g.watches;
     limit = g.limit;
+    newest = g.newest;
   }

@@ -62,7 +62,7 @@ module _ {U A0 B0 : State} {chip_a chip_b : CardState} (run : Run) (second : ℕ
       cabin-going (run.next / 60) run (pulled_run (Some card) second run) (torn_out card second run.keeper.cabin) refl None None g (record { is_unit = u.is_unit; works = u.works; agrees = u.agrees })
       (bare-a card run.keeper.cabin.cards g.ready.card_a) (bare-b card run.keeper.cabin.cards g.ready.card_b)
       (λ c h. has-row run.keeper.cabin.cards (pulled_run (Some card) second run).keeper.cabin.cards U U c (number-set card c None run.keeper.cabin.cards) (row-set card c None run.keeper.cabin.cards) (λ r n at. at) h)
-      (torn-past card second run.keeper.cabin) (stands (ungiven_of g.span) None g.cabin) (torn-sessions card second run.keeper.cabin)
+      (torn-past card second run.keeper.cabin) (stands (ungiven_of g.span) None g.cabin) (torn-sessions card second run.keeper.cabin) (λ known. known)
 
 pub pulled-takes : (o : Option Card) (run : Run) (slot : Slot) (at : Moment) (before : Outcome) (from : ℕ) (leaving : Option Card) → card_in (seat_in run.keeper.cabin.slots.seats slot) ≡ o → CabinIsSound from leaving run.keeper.cabin
     → Takes 0 0 0 run (pulled_run o at.second run) before (record before { breaks = with_lines (pulled_breaks o slot at) before.breaks })

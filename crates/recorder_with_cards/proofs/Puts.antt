@@ -29,7 +29,7 @@ module _ (slot : Slot) (card : Card) (to : ℕ) (run : Run) {U M O : State} {chi
   put-going stands g =
       moved-going None None to run (put_run slot card run) g refl refl refl
       (record { unit_ready = record { is_unit = g.ready.unit_ready.is_unit; works = g.ready.unit_ready.works; agrees = g.ready.unit_ready.agrees }; card_a = g.ready.card_a; card_b = g.ready.card_b })
-      (λ c row. row) refl (stands (ungiven_of g.span) g.cabin) (sessions-none run.keeper.cabin.cards) refl refl
+      (λ c row. row) refl (stands (ungiven_of g.span) g.cabin) (sessions-none run.keeper.cabin.cards) refl refl (λ known. known)
 
 -- one more card can fall
 pub put-falls : (slot : Slot) (card : Card) (cabin : Cabin) → seat_in cabin.slots.seats slot ≡ None → falls_of (with_card_in slot card cabin) ≡ falls_of cabin + 1

@@ -1,7 +1,7 @@
 -- An image that shows the events, the rings and the odometer of a recording shows its auxiliary records.
 use Rattle.std.proofs.Common.{ℕ, List}
 use Rattle.gated_ring.specs.Ring.{PointsInside}
-use Rattle.message_model.specs.Records.{insertion_ring, unit_place_ring}
+use Rattle.message_model.specs.Records.{insertion_ring, unit_place_ring, speed_ring}
 use Rattle.unit_model.specs.Decoding.{Decodes}
 use Rattle.unit_model.specs.Image.{last_kept, odometer_at}
 use Rattle.unit_minutes.proofs.Beside.{passes_beside}
@@ -18,6 +18,9 @@ insertions-inside x decodes = (passes_beside x decodes).insertions
 
 pub places-inside : (x : List ℕ) → Decodes x → PointsInside unit_place_ring x
 places-inside x decodes = (passes_beside x decodes).places
+
+pub speeds-inside : (x : List ℕ) → Decodes x → PointsInside speed_ring x
+speeds-inside x decodes = (passes_beside x decodes).speeds
 
 pub side-shown : (r : Recording) (began now : Devices) (x : List ℕ) → Decodes r.unit → ShowsEventsOf r began now x → (spans : List SpanFrom) → AreSpansFrom r.rule r.log (told_of r) (odometer_at r.unit) (last_kept r.unit) spans →
     MayStore r.rule (odometer_at r.unit) (last_kept r.unit) spans (last_kept x) (odometer_at x) → ShowsRingsOf r spans began now x → ShowsSide r began now x

@@ -1,32 +1,24 @@
 //! The actions of a second.
-ghost use Rattle.std.specs.Prelude.{◌≡◌, ℕ, ◌+◌, ◌-◌, ◌/◌, ◌≤◌, ◌∷◌, [], true, false, None, OnOk, length, min, is_some};
+ghost use Rattle.std.specs.Prelude.{◌≡◌, ℕ, ◌+◌, ◌-◌, ◌/◌, ◌≤◌, ◌∷◌, [], true, false, None, OnOk, length, min};
 ghost use Rattle.std.specs.Prelude.{is_err};
 ghost use Rattle.std.specs.Result.{result_err};
-ghost use Rattle.tach_media.specs.Medium.{HasCause};
 ghost use Rattle.log_model.specs.Slots.{refusal};
 ghost use Rattle.card_slots.specs.Calls.{logged};
-ghost use Rattle.run_minutes.specs.Keeping.{with_lines};
-ghost use Rattle.run_minutes.specs.Books.{HaveTime};
-ghost use Rattle.run_minutes.specs.Later.{AreLater, AreCalm};
-ghost use Rattle.run_outcome.specs.Broken.{BreaksDown};
 ghost use Rattle.run_promise.specs.Between.{devices};
 ghost use Rattle.run_acts.specs.declared.run.Power.TheVariants.{Lit};
 ghost use Rattle.run_acts.specs.Power.{is_lit};
-ghost use Rattle.run_acts.specs.Going.{largest_number, CanBeCut, RunHasPowerAllSeated, IsInsideSecond};
+ghost use Rattle.run_acts.specs.Going.{largest_number, RunHasPowerAllSeated, IsInsideSecond};
 ghost use Rattle.run_acts.specs.Room.{HasRoomWithin, Takes};
-ghost use Rattle.run_acts.specs.Recording.{RecordsAction};
-ghost use Rattle.run_acts.specs.Evented.{EventsAction};
-ghost use Rattle.run_acts.specs.RunRinged.{RingsAction};
-ghost use Rattle.run_acts.specs.RunCards.{CardsAction};
 ghost use Rattle.recorder_with_cards.specs.Carded.{CardsActions};
-ghost use Rattle.recorder_with_cards.specs.Acting.{put_count, refusal_lines, refused_by, IsSelected, IsFine, StaysIn};
-ghost use Rattle.recorder_with_cards.specs.Acting.{moment_of, IsDone, IsActedBy, IsActed, IsItemActed, AreActed};
+ghost use Rattle.recorder_with_cards.specs.Acting.{put_count};
+ghost use Rattle.recorder_with_cards.specs.Acting.{moment_of};
 ghost use Rattle.recorder_with_cards.specs.Acting.{CallsNone};
-ghost use Rattle.recorder_with_cards.specs.Recorded.{action_of, actions_in, RingsActions};
-ghost use Rattle.recorder_with_cards.specs.EnteredRings.{RingsDone};
-ghost use Rattle.recorder_with_cards.specs.Noting.{NotesDone};
+ghost use Rattle.recorder_with_cards.specs.Recorded.{action_of, RingsActions};
 ghost use Rattle.recorder_with_cards.specs.Items.{between, insertions_in};
 ghost use Rattle.run_outcome.specs.Room.{insertion_count};
+ghost use Rattle.run_acts.specs.Acts.{AllGoOn, IsHeldBehind};
+ghost use Rattle.recorder_with_cards.specs.Acts.{ActGoes, ActsAll, ActsItem, ActsLit, ActsSo, CarriesOut, LeavesDone};
+ghost use Rattle.recorder_with_cards.specs.Acts.{PromisesAction, PromisesActions, PromisesAll};
 
 use crate::inserting::insert;
 use log_model::SlotFault;
@@ -61,34 +53,23 @@ pub(crate) fn act_all<M: Medium, C: Chip, D: Chip>(
         (C.state card_a.old) (D.state card_b.old) }
     requires dark { has_power ≡ false → is_lit run.old.power ≡ false }
     requires room { HasRoomWithin run.old outcome.old 1 0 (insertions_in from to items.now) (to - from) }
-    ensures acted { AreActed has_power speed 0 (between from to items.now) run.old run.new outcome.old outcome.new }
-    ensures ringed { has_power ≡ true → length (actions_in (between from to items.now)) ≡ to - from
-        → to - from ≤ largest_number → RingsActions (actions_in (between from to items.now)) (to - from) speed run.old
-        run.new outcome.old outcome.new (devices (M.state unit.old) (C.state card_a.old) (D.state card_b.old))
-        (devices (M.state unit.new) (C.state card_a.new) (D.state card_b.new)) }
-    ensures cards { has_power ≡ true → length (actions_in (between from to items.now)) ≡ to - from
-        → to - from ≤ largest_number → CardsActions (actions_in (between from to items.now)) (to - from) speed run.old
-        run.new outcome.old outcome.new (devices (M.state unit.old) (C.state card_a.old) (D.state card_b.old))
+    ensures acted { ActsAll has_power speed (between from to items.now) run.old run.new outcome.old outcome.new }
+    // What a run promises goes on with them.
+    ensures promises { PromisesAll has_power speed (to - from) (between from to items.now) run.old run.new outcome.old
+        outcome.new
+        (devices (M.state unit.old) (C.state card_a.old) (D.state card_b.old))
         (devices (M.state unit.new) (C.state card_a.new) (D.state card_b.new)) }
     ensures still { is_lit run.old.power ≡ false
         → (is_lit run.new.power ≡ false) × (unit.new ≡ unit.old) × (card_a.new ≡ card_a.old)
         × (card_b.new ≡ card_b.old) }
-    ensures time { HaveTime (devices (M.state unit.new) (C.state card_a.new) (D.state card_b.new))
-        → HaveTime (devices (M.state unit.old) (C.state card_a.old) (D.state card_b.old)) }
-    ensures later { AreLater (devices (M.state unit.old) (C.state card_a.old) (D.state card_b.old))
-        (devices (M.state unit.new) (C.state card_a.new) (D.state card_b.new)) }
-    ensures calm { AreCalm outcome.old.breaks.items outcome.new.breaks.items
+    ensures goes { ActGoes outcome.old.breaks.items outcome.new.breaks.items
         (devices (M.state unit.old) (C.state card_a.old) (D.state card_b.old))
         (devices (M.state unit.new) (C.state card_a.new) (D.state card_b.new)) }
     ensures going { IsInsideSecond run.new (M.state unit.new) (C.card card_a.new) (D.card card_b.new)
         (C.state card_a.new) (D.state card_b.new) }
-    ensures next { run.new.next ≡ run.old.next }
-    ensures unfound { run.new.unfound ≡ run.old.unfound }
     ensures room { (left offs insertions actions : ℕ)
         → HasRoomWithin run.old outcome.old (1 + left) offs (insertions_in from to items.now + insertions)
         (to - from + actions) → HasRoomWithin run.new outcome.new (1 + left) offs insertions actions }
-    ensures breaks { length outcome.old.breaks.items ≤ length outcome.new.breaks.items }
-    ensures broke { BreaksDown outcome.old.breaks.items outcome.new.breaks.items (M.state unit.old) (M.state unit.new) }
 {
     for i in from..to {
         act_item(
@@ -121,8 +102,7 @@ fn act_item<M: Medium, C: Chip, D: Chip>(
         (C.state card_a.old) (D.state card_b.old) }
     requires dark { has_power ≡ false → is_lit run.old.power ≡ false }
     requires room { HasRoomWithin run.old outcome.old 1 0 (insertion_count item.now) 1 }
-    ensures acted { IsItemActed item.now has_power (is_lit run.old.power) begun speed run.old run.new outcome.old
-        outcome.new }
+    ensures acted { ActsItem item.now has_power begun speed run.old run.new outcome.old outcome.new }
     ensures ringed { has_power ≡ true
         → RingsActions (action_of item.now) begun speed run.old run.new outcome.old outcome.new
         (devices (M.state unit.old) (C.state card_a.old) (D.state card_b.old))
@@ -134,23 +114,15 @@ fn act_item<M: Medium, C: Chip, D: Chip>(
     ensures still { is_lit run.old.power ≡ false
         → (is_lit run.new.power ≡ false) × (unit.new ≡ unit.old) × (card_a.new ≡ card_a.old)
         × (card_b.new ≡ card_b.old) }
-    ensures time { HaveTime (devices (M.state unit.new) (C.state card_a.new) (D.state card_b.new))
-        → HaveTime (devices (M.state unit.old) (C.state card_a.old) (D.state card_b.old)) }
-    ensures later { AreLater (devices (M.state unit.old) (C.state card_a.old) (D.state card_b.old))
-        (devices (M.state unit.new) (C.state card_a.new) (D.state card_b.new)) }
-    ensures calm { AreCalm outcome.old.breaks.items outcome.new.breaks.items
+    ensures goes { ActGoes outcome.old.breaks.items outcome.new.breaks.items
         (devices (M.state unit.old) (C.state card_a.old) (D.state card_b.old))
         (devices (M.state unit.new) (C.state card_a.new) (D.state card_b.new)) }
     ensures going { IsInsideSecond run.new (M.state unit.new) (C.card card_a.new) (D.card card_b.new)
         (C.state card_a.new) (D.state card_b.new) }
     ensures dark { has_power ≡ false → is_lit run.new.power ≡ false }
-    ensures next { run.new.next ≡ run.old.next }
-    ensures unfound { run.new.unfound ≡ run.old.unfound }
     ensures room { (left offs insertions actions : ℕ)
         → HasRoomWithin run.old outcome.old (1 + left) offs (insertion_count item.now + insertions) (1 + actions)
         → HasRoomWithin run.new outcome.new (1 + left) offs insertions actions }
-    ensures breaks { length outcome.old.breaks.items ≤ length outcome.new.breaks.items }
-    ensures broke { BreaksDown outcome.old.breaks.items outcome.new.breaks.items (M.state unit.old) (M.state unit.new) }
 {
     match item {
         Item::Act(action) => act(
@@ -177,8 +149,7 @@ fn act<M: Medium, C: Chip, D: Chip>(
         (C.state card_a.old) (D.state card_b.old) }
     requires dark { has_power ≡ false → is_lit run.old.power ≡ false }
     requires room { HasRoomWithin run.old outcome.old 1 0 (put_count action) 1 }
-    ensures acted { IsActed has_power (is_lit run.old.power) action begun speed run.old run.new outcome.old
-        outcome.new }
+    ensures acted { ActsSo has_power action begun speed run.old run.new outcome.old outcome.new }
     ensures ringed { has_power ≡ true
         → RingsActions (action ∷ []) begun speed run.old run.new outcome.old outcome.new
         (devices (M.state unit.old) (C.state card_a.old) (D.state card_b.old))
@@ -190,30 +161,15 @@ fn act<M: Medium, C: Chip, D: Chip>(
     ensures still { (has_power ≡ true → is_lit run.old.power ≡ true
         → CallsNone (refusal (logged run.old.keeper.cabin.slots.seats) speed action) action)
         → (unit.new ≡ unit.old) × (card_a.new ≡ card_a.old) × (card_b.new ≡ card_b.old) }
-    ensures time { HaveTime (devices (M.state unit.new) (C.state card_a.new) (D.state card_b.new))
-        → HaveTime (devices (M.state unit.old) (C.state card_a.old) (D.state card_b.old)) }
-    ensures later { AreLater (devices (M.state unit.old) (C.state card_a.old) (D.state card_b.old))
-        (devices (M.state unit.new) (C.state card_a.new) (D.state card_b.new)) }
-    ensures calm { AreCalm outcome.old.breaks.items outcome.new.breaks.items
+    ensures goes { ActGoes outcome.old.breaks.items outcome.new.breaks.items
         (devices (M.state unit.old) (C.state card_a.old) (D.state card_b.old))
         (devices (M.state unit.new) (C.state card_a.new) (D.state card_b.new)) }
-    ensures refused { outcome.new.refused
-        ≡ with_lines (refusal_lines (refused_by has_power (is_lit run.old.power) run.old.keeper.cabin.slots.seats speed
-        action) run.old.next begun) outcome.old.refused }
-    ensures none { (refused_by has_power (is_lit run.old.power) run.old.keeper.cabin.slots.seats speed action ≡ None
-        → ⊥) → run.new ≡ run.old }
-    ensures lost { has_power ≡ true → is_lit run.old.power ≡ false → (run.new ≡ run.old) × (outcome.new ≡ outcome.old) }
-    ensures selected { is_lit run.old.power ≡ true → IsSelected action run.old run.new }
     ensures going { IsInsideSecond run.new (M.state unit.new) (C.card card_a.new) (D.card card_b.new)
         (C.state card_a.new) (D.state card_b.new) }
     ensures dark { is_lit run.old.power ≡ false → is_lit run.new.power ≡ false }
-    ensures next { run.new.next ≡ run.old.next }
-    ensures unfound { run.new.unfound ≡ run.old.unfound }
     ensures room { (left offs insertions actions : ℕ)
         → HasRoomWithin run.old outcome.old (1 + left) offs (put_count action + insertions) (1 + actions)
         → HasRoomWithin run.new outcome.new (1 + left) offs insertions actions }
-    ensures breaks { length outcome.old.breaks.items ≤ length outcome.new.breaks.items }
-    ensures broke { BreaksDown outcome.old.breaks.items outcome.new.breaks.items (M.state unit.old) (M.state unit.new) }
 {
     if !has_power {
         run.refuse(begun, SlotFault::NoPower, &mut outcome.refused);
@@ -240,37 +196,20 @@ fn act_lit<M: Medium, C: Chip, D: Chip>(
     requires going { IsInsideSecond run.old (M.state unit.old) (C.card card_a.old) (D.card card_b.old)
         (C.state card_a.old) (D.state card_b.old) }
     requires room { HasRoomWithin run.old outcome.old 1 0 (put_count action) 1 }
-    ensures acted { IsActedBy (refusal (logged run.old.keeper.cabin.slots.seats) speed action) action begun speed
-        run.old run.new outcome.old outcome.new }
-    ensures ringed { RingsActions (action ∷ []) begun speed run.old run.new outcome.old outcome.new
-        (devices (M.state unit.old) (C.state card_a.old) (D.state card_b.old))
-        (devices (M.state unit.new) (C.state card_a.new) (D.state card_b.new)) }
-    ensures cards { CardsActions (action ∷ []) begun speed run.old run.new outcome.old outcome.new
+    ensures acted { ActsLit action begun speed run.old run.new outcome.old outcome.new }
+    ensures promises { PromisesActions (action ∷ []) begun speed run.old run.new outcome.old outcome.new
         (devices (M.state unit.old) (C.state card_a.old) (D.state card_b.old))
         (devices (M.state unit.new) (C.state card_a.new) (D.state card_b.new)) }
     ensures still { CallsNone (refusal (logged run.old.keeper.cabin.slots.seats) speed action) action
         → (unit.new ≡ unit.old) × (card_a.new ≡ card_a.old) × (card_b.new ≡ card_b.old) }
-    ensures time { HaveTime (devices (M.state unit.new) (C.state card_a.new) (D.state card_b.new))
-        → HaveTime (devices (M.state unit.old) (C.state card_a.old) (D.state card_b.old)) }
-    ensures later { AreLater (devices (M.state unit.old) (C.state card_a.old) (D.state card_b.old))
-        (devices (M.state unit.new) (C.state card_a.new) (D.state card_b.new)) }
-    ensures calm { AreCalm outcome.old.breaks.items outcome.new.breaks.items
+    ensures goes { ActGoes outcome.old.breaks.items outcome.new.breaks.items
         (devices (M.state unit.old) (C.state card_a.old) (D.state card_b.old))
         (devices (M.state unit.new) (C.state card_a.new) (D.state card_b.new)) }
-    ensures refused { outcome.new.refused
-        ≡ with_lines (refusal_lines (refusal (logged run.old.keeper.cabin.slots.seats) speed action) run.old.next begun)
-        outcome.old.refused }
-    ensures none { (refusal (logged run.old.keeper.cabin.slots.seats) speed action ≡ None → ⊥) → run.new ≡ run.old }
-    ensures selected { IsSelected action run.old run.new }
     ensures going { IsInsideSecond run.new (M.state unit.new) (C.card card_a.new) (D.card card_b.new)
         (C.state card_a.new) (D.state card_b.new) }
-    ensures next { run.new.next ≡ run.old.next }
-    ensures unfound { run.new.unfound ≡ run.old.unfound }
     ensures room { (left offs insertions actions : ℕ)
         → HasRoomWithin run.old outcome.old (1 + left) offs (put_count action + insertions) (1 + actions)
         → HasRoomWithin run.new outcome.new (1 + left) offs insertions actions }
-    ensures breaks { length outcome.old.breaks.items ≤ length outcome.new.breaks.items }
-    ensures broke { BreaksDown outcome.old.breaks.items outcome.new.breaks.items (M.state unit.old) (M.state unit.new) }
 {
     if let Err(fault) = may(run, action, speed) {
         run.refuse(begun, fault, &mut outcome.refused);
@@ -311,46 +250,28 @@ fn carry_out<M: Medium, C: Chip, D: Chip>(
         (C.state card_a.old) (D.state card_b.old) }
     requires allowed { refusal (logged run.old.keeper.cabin.slots.seats) speed action ≡ None }
     requires room { HasRoomWithin run.old outcome.old 1 0 (put_count action) 0 }
-    ensures done { IsDone action (moment_of begun run.old) speed (is_err result) run.old run.new outcome.old
+    ensures done { CarriesOut action (moment_of begun run.old) speed (is_err result) run.old run.new outcome.old
         outcome.new }
-    ensures evented { EventsAction action begun speed (is_err result) run.old run.new outcome.old outcome.new
+    // What a run promises goes on with it.
+    ensures promises { PromisesAction action begun speed (is_err result) run.old run.new outcome.old outcome.new
         (devices (M.state unit.old) (C.state card_a.old) (D.state card_b.old))
         (devices (M.state unit.new) (C.state card_a.new) (D.state card_b.new)) }
-    ensures recorded { RecordsAction action begun speed (is_err result) run.old run.new outcome.old outcome.new
+    ensures leaves { LeavesDone action (moment_of begun run.old) speed (is_err result) run.old run.new outcome.old
+        outcome.new
         (devices (M.state unit.old) (C.state card_a.old) (D.state card_b.old))
         (devices (M.state unit.new) (C.state card_a.new) (D.state card_b.new)) }
-    ensures ringed { RingsAction action begun speed (is_err result) run.old run.new outcome.old outcome.new
-        (devices (M.state unit.old) (C.state card_a.old) (D.state card_b.old))
-        (devices (M.state unit.new) (C.state card_a.new) (D.state card_b.new)) }
-    ensures cards { CardsAction action begun speed (is_err result) run.old outcome.old outcome.new
-        (devices (M.state unit.old) (C.state card_a.old) (D.state card_b.old))
-        (devices (M.state unit.new) (C.state card_a.new) (D.state card_b.new)) }
-    ensures events { NotesDone action (moment_of begun run.old) speed (is_err result) run.old run.new outcome.old
-        outcome.new (devices (M.state unit.old) (C.state card_a.old) (D.state card_b.old))
-        (devices (M.state unit.new) (C.state card_a.new) (D.state card_b.new)) }
-    ensures rings { is_some (M.state unit.old).image ≡ true
-        → RingsDone action (moment_of begun run.old) speed (is_err result) run.old run.new outcome.old outcome.new
-        (M.state unit.old) (M.state unit.new) }
     ensures still { CallsNone None action
         → (unit.new ≡ unit.old) × (card_a.new ≡ card_a.old) × (card_b.new ≡ card_b.old) }
-    ensures time { HaveTime (devices (M.state unit.new) (C.state card_a.new) (D.state card_b.new))
-        → HaveTime (devices (M.state unit.old) (C.state card_a.old) (D.state card_b.old)) }
-    ensures later { AreLater (devices (M.state unit.old) (C.state card_a.old) (D.state card_b.old))
-        (devices (M.state unit.new) (C.state card_a.new) (D.state card_b.new)) }
-    ensures calm { AreCalm outcome.old.breaks.items outcome.new.breaks.items
+    ensures goes { AllGoOn outcome.old.breaks.items outcome.new.breaks.items
         (devices (M.state unit.old) (C.state card_a.old) (D.state card_b.old))
         (devices (M.state unit.new) (C.state card_a.new) (D.state card_b.new)) }
-    ensures selected { IsSelected action run.old run.new }
-    ensures fine { IsFine action (is_err result) }
-    ensures stays { StaysIn run.old run.new }
-    ensures held { CanBeCut (run.new.next / 60) run.new (M.state unit.new) (C.card card_a.new) (D.card card_b.new)
-        (C.state card_a.new) (D.state card_b.new) }
+    ensures held { IsHeldBehind (is_err result) run.new
+        (devices (M.state unit.old) (C.state card_a.old) (D.state card_b.old))
+        (devices (M.state unit.new) (C.state card_a.new) (D.state card_b.new))
+        (C.card card_a.new) (D.card card_b.new) }
     ensures going { OnOk result (RunHasPowerAllSeated (run.new.next / 60) run.new (M.state unit.new) (C.card card_a.new)
         (D.card card_b.new) (C.state card_a.new) (D.state card_b.new)) }
     ensures takes { Takes (put_count action) (put_count action) 0 run.old run.new outcome.old outcome.new }
-    ensures refused { outcome.new.refused ≡ outcome.old.refused }
-    ensures breaks { length outcome.old.breaks.items ≤ length outcome.new.breaks.items }
-    ensures cause { HasCause (M.state unit.old) (M.state unit.new) (is_err result) }
 {
     let at = run.moment(begun);
     match action {

@@ -1,7 +1,6 @@
 //! Seconds at one speed.
 ghost use Rattle.std.specs.Prelude.{◌≡◌, ℕ, ◌+◌, ◌-◌, ◌%◌, ◌<◌, ◌≤◌, OnOk, length};
 ghost use Rattle.run_promise.specs.Between.{devices};
-ghost use Rattle.run_minutes.specs.Books.{HaveTime};
 ghost use Rattle.run_minutes.specs.Later.{AreAfter, AreCalm};
 ghost use Rattle.run_outcome.specs.Broken.{BreaksDown};
 ghost use Rattle.run_acts.specs.Going.{largest_number, end_of_seconds, IsBetweenSeconds};
@@ -49,8 +48,6 @@ pub(crate) fn drive<M: Medium, C: Chip, D: Chip>(
         → CardsSeconds result seconds speed (actions_in (between from to items.now)) run.old run.new outcome.old
         outcome.new (devices (M.state unit.old) (C.state card_a.old) (D.state card_b.old))
         (devices (M.state unit.new) (C.state card_a.new) (D.state card_b.new)) }
-    ensures time { HaveTime (devices (M.state unit.new) (C.state card_a.new) (D.state card_b.new))
-        → HaveTime (devices (M.state unit.old) (C.state card_a.old) (D.state card_b.old)) }
     ensures later { AreAfter (devices (M.state unit.old) (C.state card_a.old) (D.state card_b.old))
         (devices (M.state unit.new) (C.state card_a.new) (D.state card_b.new)) }
     ensures calm { AreCalm outcome.old.breaks.items outcome.new.breaks.items
@@ -93,8 +90,6 @@ fn drive_on<M: Medium, C: Chip, D: Chip>(
     ensures cards { CardsMore result seconds speed run.old run.new outcome.old outcome.new
         (devices (M.state unit.old) (C.state card_a.old) (D.state card_b.old))
         (devices (M.state unit.new) (C.state card_a.new) (D.state card_b.new)) }
-    ensures time { HaveTime (devices (M.state unit.new) (C.state card_a.new) (D.state card_b.new))
-        → HaveTime (devices (M.state unit.old) (C.state card_a.old) (D.state card_b.old)) }
     ensures later { AreAfter (devices (M.state unit.old) (C.state card_a.old) (D.state card_b.old))
         (devices (M.state unit.new) (C.state card_a.new) (D.state card_b.new)) }
     ensures calm { AreCalm outcome.old.breaks.items outcome.new.breaks.items
@@ -139,8 +134,6 @@ fn step<M: Medium, C: Chip, D: Chip>(
     ensures cards { CardsMore result n speed run.old run.new outcome.old outcome.new
         (devices (M.state unit.old) (C.state card_a.old) (D.state card_b.old))
         (devices (M.state unit.new) (C.state card_a.new) (D.state card_b.new)) }
-    ensures time { HaveTime (devices (M.state unit.new) (C.state card_a.new) (D.state card_b.new))
-        → HaveTime (devices (M.state unit.old) (C.state card_a.old) (D.state card_b.old)) }
     ensures later { AreAfter (devices (M.state unit.old) (C.state card_a.old) (D.state card_b.old))
         (devices (M.state unit.new) (C.state card_a.new) (D.state card_b.new)) }
     ensures calm { AreCalm outcome.old.breaks.items outcome.new.breaks.items

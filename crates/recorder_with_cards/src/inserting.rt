@@ -1,22 +1,13 @@
 //! A card is put into a slot.
-ghost use Rattle.std.specs.Prelude.{◌≡◌, ◌+◌, ◌*◌, ◌/◌, ◌<◌, ◌≤◌, None, OnOk, true, false, length, is_some, is_err};
-ghost use Rattle.tach_media.specs.Medium.{HasCause};
+ghost use Rattle.std.specs.Prelude.{◌≡◌, ◌+◌, ◌*◌, ◌/◌, ◌<◌, ◌≤◌, None, OnOk, false, length, is_err};
 ghost use Rattle.log_model.specs.Slots.{other_slot};
 ghost use Rattle.card_slots.specs.Calls.{seat_in, is_card};
 ghost use Rattle.run_acts.specs.declared.run.Power.TheVariants.{Lit};
-ghost use Rattle.run_minutes.specs.Later.{AreLater, AreCalm};
 ghost use Rattle.run_acts.specs.Going.{first_second, end_of_seconds, CanBeCut, RunHasPowerAllSeated};
 ghost use Rattle.run_acts.specs.Room.{falls_of, Takes};
-ghost use Rattle.recorder_with_cards.specs.Accepting.{IsInserted};
-ghost use Rattle.recorder_with_cards.specs.Noting.{NotesInserting};
-ghost use Rattle.recorder_with_cards.specs.EnteredRings.{RingsInserting};
-ghost use Rattle.run_acts.specs.Recording.{RecordsAction};
-ghost use Rattle.run_acts.specs.Evented.{EventsAction};
-ghost use Rattle.run_acts.specs.RunRinged.{RingsAction};
-ghost use Rattle.run_acts.specs.RunCards.{CardsAction};
-ghost use Rattle.run_outcome.specs.declared.outcome.TheConstants.{MOST_OWED};
 ghost use Rattle.run_promise.specs.Between.{devices};
-ghost use Rattle.trace_model.specs.declared.Action.TheVariants.{Insert};
+ghost use Rattle.run_acts.specs.Acts.{IsHeldBehind};
+ghost use Rattle.recorder_with_cards.specs.Acts.{DevicesGo, Inserts, LeavesInserted, PromisesInsertion};
 
 use crate::accepting::accept_in;
 use activity_codec::Slot;
@@ -55,52 +46,22 @@ pub(crate) fn insert<M: Medium, C: Chip, D: Chip>(
     requires marks { length outcome.old.marks.items + 3 * run.old.minutes.owing ≤ outcome.old.marks.room }
     requires breaks { length outcome.old.breaks.items + falls_of run.old.keeper.cabin + 1 ≤ outcome.old.breaks.room }
     requires finds { length outcome.old.finds.items < outcome.old.finds.room }
-    ensures inserted { IsInserted slot card at speed (is_err result) run.old run.new outcome.old outcome.new }
-    ensures held { CanBeCut (run.new.next / 60) run.new (M.state unit.new) (C.card card_a.new) (D.card card_b.new)
-        (C.state card_a.new) (D.state card_b.new) }
+    ensures inserted { Inserts slot card at speed (is_err result) run.old run.new outcome.old outcome.new }
+    ensures held { IsHeldBehind (is_err result) run.new
+        (devices (M.state unit.old) (C.state card_a.old) (D.state card_b.old))
+        (devices (M.state unit.new) (C.state card_a.new) (D.state card_b.new))
+        (C.card card_a.new) (D.card card_b.new) }
     ensures going { OnOk result (RunHasPowerAllSeated (run.new.next / 60) run.new (M.state unit.new) (C.card card_a.new)
         (D.card card_b.new) (C.state card_a.new) (D.state card_b.new)) }
-    ensures only { run.new ≡ record run.old {
-      minutes = run.new.minutes;
-      keeper = run.new.keeper;
-      noted = run.new.noted;
-    } }
-    ensures refused { outcome.new.refused ≡ outcome.old.refused }
     ensures takes { Takes 1 1 0 run.old run.new outcome.old outcome.new }
-    ensures recorded { at.late ≡ false
-        → length outcome.old.marks.items + 3 * run.old.minutes.owing + MOST_OWED ≤ outcome.old.marks.room
-        → RecordsAction (Insert slot card) at.begun speed (is_err result) run.old run.new outcome.old outcome.new
+    // What a run promises goes on with it.
+    ensures promises { PromisesInsertion slot card at speed (is_err result) run.old run.new outcome.old outcome.new
         (devices (M.state unit.old) (C.state card_a.old) (D.state card_b.old))
         (devices (M.state unit.new) (C.state card_a.new) (D.state card_b.new)) }
-    ensures evented { at.late ≡ false
-        → length outcome.old.marks.items + 3 * run.old.minutes.owing + MOST_OWED ≤ outcome.old.marks.room
-        → EventsAction (Insert slot card) at.begun speed (is_err result) run.old run.new outcome.old outcome.new
+    ensures leaves { LeavesInserted slot card at speed (is_err result) run.old run.new outcome.old outcome.new
         (devices (M.state unit.old) (C.state card_a.old) (D.state card_b.old))
         (devices (M.state unit.new) (C.state card_a.new) (D.state card_b.new)) }
-    ensures ringed { at.late ≡ false
-        → length outcome.old.marks.items + 3 * run.old.minutes.owing + MOST_OWED ≤ outcome.old.marks.room
-        → RingsAction (Insert slot card) at.begun speed (is_err result) run.old run.new outcome.old outcome.new
-        (devices (M.state unit.old) (C.state card_a.old) (D.state card_b.old))
-        (devices (M.state unit.new) (C.state card_a.new) (D.state card_b.new)) }
-    // What the cards show of their events goes on with that.
-    ensures cards { at.late ≡ false
-        → length outcome.old.marks.items + 3 * run.old.minutes.owing + MOST_OWED ≤ outcome.old.marks.room
-        → CardsAction (Insert slot card) at.begun speed (is_err result) run.old outcome.old outcome.new
-        (devices (M.state unit.old) (C.state card_a.old) (D.state card_b.old))
-        (devices (M.state unit.new) (C.state card_a.new) (D.state card_b.new)) }
-    ensures rings { is_some (M.state unit.old).image ≡ true
-        → RingsInserting slot card at speed (is_err result) run.old run.new outcome.old outcome.new (M.state unit.old)
-        (M.state unit.new) }
-    ensures noted { NotesInserting slot card at speed (is_err result) run.old run.new outcome.old outcome.new
-        (devices (M.state unit.old) (C.state card_a.old) (D.state card_b.old))
-        (devices (M.state unit.new) (C.state card_a.new) (D.state card_b.new)) }
-    ensures clock { (M.state unit.old).clock ≤ (M.state unit.new).clock }
-    ensures clock_a { (C.state card_a.old).clock ≤ (C.state card_a.new).clock }
-    ensures clock_b { (D.state card_b.old).clock ≤ (D.state card_b.new).clock }
-    ensures cause { HasCause (M.state unit.old) (M.state unit.new) (is_err result) }
-    ensures later { AreLater (devices (M.state unit.old) (C.state card_a.old) (D.state card_b.old))
-        (devices (M.state unit.new) (C.state card_a.new) (D.state card_b.new)) }
-    ensures calm { AreCalm outcome.old.breaks.items outcome.new.breaks.items
+    ensures goes { DevicesGo outcome.old.breaks.items outcome.new.breaks.items
         (devices (M.state unit.old) (C.state card_a.old) (D.state card_b.old))
         (devices (M.state unit.new) (C.state card_a.new) (D.state card_b.new)) }
 {

@@ -147,8 +147,6 @@ fn go_on<M: Medium, C: Chip, D: Chip>(
         → CardsItem result item (actions_in (between from to items.now)) run.old run.new outcome.old outcome.new
         (devices (M.state unit.old) (C.state card_a.old) (D.state card_b.old))
         (devices (M.state unit.new) (C.state card_a.new) (D.state card_b.new)) }
-    ensures time { HaveTime (devices (M.state unit.new) (C.state card_a.new) (D.state card_b.new))
-        → HaveTime (devices (M.state unit.old) (C.state card_a.old) (D.state card_b.old)) }
     ensures later { AreAfter (devices (M.state unit.old) (C.state card_a.old) (D.state card_b.old))
         (devices (M.state unit.new) (C.state card_a.new) (D.state card_b.new)) }
     ensures calm { AreCalm outcome.old.breaks.items outcome.new.breaks.items

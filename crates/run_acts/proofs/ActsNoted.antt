@@ -24,7 +24,7 @@ use Rattle.run_minutes.specs.Faults.{faults_to}
 use Rattle.run_minutes.proofs.Fates.{no-lines}
 use Rattle.run_note_record.specs.Evented.{number_in}
 use Rattle.run_acts.specs.declared.run.Run.{Run}
-use Rattle.run_acts.specs.Acting.{IsNotedOn, Closing, Bare, Closed, Fell, IsClosed, closed_breaks, closed_falls, told_of, left_run}
+use Rattle.run_acts.specs.Acting.{IsNotedOn, IsPlaced, Closing, Bare, Closed, Fell, IsClosed, closed_breaks, closed_falls, told_of, left_run}
 use Rattle.run_minutes.specs.Keeping.{tear_of, with_lines}
 use Rattle.run_acts.specs.Faults.{NotesSettling}
 use Rattle.run_acts.specs.NotedEvents.{NotesEvents}
@@ -70,6 +70,10 @@ settles-these at failed old new before after U V A B C D whole unit n =
 -- ---- a place is noted
 
 -- there is no card, or none that is accepted
+pub none-placed : (q : Option Card) (slot : Slot) (at : Moment) (run : Run) (breaks : Listed Break) → IsPlaced q slot at run run breaks breaks false
+none-placed None slot at run breaks = (refl, refl)
+none-placed (Some card) slot at run breaks = record { run = refl; told = no-lines breaks }
+
 pub no-place : (q : Option Card) (slot : Slot) (at : Moment) (run : Run) (breaks : Listed Break) (d : Devices) → NotesEvents [] false d d → NotesPlace q slot at false run run breaks breaks d d
 no-place None slot at run breaks d notes = (refl, refl, refl, notes)
 no-place (Some card) slot at run breaks d notes = inr (record { fell = false; noted = record { run = refl; told = no-lines breaks }; failing = λ bad. bad; notes = notes })

@@ -20,6 +20,7 @@ use Rattle.run_crew.specs.Cabin.{CabinIsSound, number_of_seat}
 use Rattle.run_minutes.specs.declared.keeper.Moment.{Moment}
 use Rattle.run_minutes.specs.Keeping.{UnitMayBeCalled, CardMayBeCalled, HasItsRow, SessionsGoOn, tears_of}
 use Rattle.run_minutes.proofs.Seats.{sessions-none}
+use Rattle.run_events.specs.Blocks.{KnowsNewest}
 use Rattle.run_acts.specs.declared.run.Run.{Run}
 use Rattle.run_acts.specs.Power.{with_cabin}
 use Rattle.run_acts.specs.Going.{CardAt, StandSomehow, CanBeCut, RunHasPower}
@@ -33,11 +34,11 @@ use Rattle.run_acts.specs.Acting.{noted_run, noted_breaks}
 module _ {U V A0 A1 B0 B1 : State} {chip_a chip_b next_a next_b : CardState} (to : ℕ) (old new : Run) (cabin : Cabin) (is : new ≡ with_cabin cabin old) where
   pub cabin-going : (leaving other : Option Card) (g : RunHasPower leaving to old U chip_a chip_b A0 B0) → UnitMayBeCalled new.keeper V → CardMayBeCalled new.keeper.cabin.cards.a next_a A1 → CardMayBeCalled new.keeper.cabin.cards.b next_b B1
       → ((card : Card) → HasItsRow old.keeper.cabin.cards U card → HasItsRow new.keeper.cabin.cards V card) → cabin.slots.past ≡ old.keeper.cabin.slots.past → CabinIsSound (ungiven_of g.span) other new.keeper.cabin
-      → SessionsGoOn old.keeper.cabin.cards cabin.cards → RunHasPower other to new V next_a next_b A1 B1
-  cabin-going leaving other g unit a b rows past stands sessions =
+      → SessionsGoOn old.keeper.cabin.cards cabin.cards → (KnowsNewest old.watch.newest U → KnowsNewest old.watch.newest V) → RunHasPower other to new V next_a next_b A1 B1
+  cabin-going leaving other g unit a b rows past stands sessions knows =
       let same : new.keeper.cabin ≡ cabin = ap (λ (r : Run). r.keeper.cabin) is in
       moved-going leaving other to old new g (ap (λ (r : Run). r.minutes) is) (ap (λ (r : Run). r.next) is) (ap (λ (r : Run). r.keeper.journal.kept) is) (record { unit_ready = unit; card_a = a; card_b = b }) rows
-      (ap (λ (c : Cabin). c.slots.past) same ∙ past) stands (subst (λ (c : Cabin). SessionsGoOn old.keeper.cabin.cards c.cards) (sym same) sessions) (ap (λ (r : Run). r.noted) is) (ap (λ (r : Run). r.watch) is)
+      (ap (λ (c : Cabin). c.slots.past) same ∙ past) stands (subst (λ (c : Cabin). SessionsGoOn old.keeper.cabin.cards c.cards) (sym same) sessions) (ap (λ (r : Run). r.noted) is) (ap (λ (r : Run). r.watch) is) knows
 
   pub cabin-held : CanBeCut to old U chip_a chip_b A0 B0 → IsUnit V → cabin.slots.minute ≤ to → CardAt new.keeper.cabin.cards.a next_a A1 → CardAt new.keeper.cabin.cards.b next_b B1 → StandSomehow new.keeper.cabin
       → CanBeCut to new V next_a next_b A1 B1

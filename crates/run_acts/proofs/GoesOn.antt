@@ -17,10 +17,18 @@ use Rattle.run_promise.specs.Cards.{IsUntouched}
 use Rattle.run_promise.specs.Between.{RunLedger, devices}
 use Rattle.run_devices.specs.Told.{DevicesPowered}
 use Rattle.run_promise.specs.Origin.{Origin}
+use Rattle.run_outcome.specs.declared.outcome.Outcome.{Outcome}
+use Rattle.run_speeds.specs.Speeds.{LeavesSpeeds}
+use Rattle.run_minutes.specs.declared.keeper.Moment.{Moment}
 use Rattle.run_minutes.specs.Books.{AreTimedOn}
+use Rattle.run_minutes.specs.Later.{IsLater, AreLater, RestsBy}
+use Rattle.run_minutes.specs.Stand.{Stand, StandsAfter, CardGoes, KeepingGoes, cards_of}
 use Rattle.run_record.specs.Recorded.{AreThere}
 use Rattle.run_record.specs.Within.{GoesOnSo}
-use Rattle.run_acts.specs.Devices.{CardGoesOn, DevicesGoOn}
+use Rattle.run_acts.specs.declared.run.Run.{Run}
+use Rattle.run_acts.specs.Devices.{CardGoesOn, DevicesGoOn, AreLeftMore}
+use Rattle.run_acts.specs.Faults.{NotesSettling}
+use Rattle.run_acts.specs.Keepings.{KeepsSettled}
 
 rose-by : (before now : ℕ) → Rose before now → RoseBy 1 before now
 rose-by before now rose = ⊎_elim (λ less. inr (omega (arith, rose, less))) (λ all. inl all) (cases_lt now (before + 1))
@@ -28,6 +36,39 @@ rose-by before now rose = ⊎_elim (λ less. inr (omega (arith, rose, less))) (�
 -- a card that was not called is as it was
 pub same-left : (old new : State) → new ≡ old → (n : ℕ) (x : List ℕ) → new.left_since n x → old.left_since n x
 same-left old new same n x at = subst (λ (s : State). s.left_since n x) same at
+
+-- BEHIND KEEPINGS they go on
+kept-card : (session after : Option Accepted) (old new : State) → IsLater old new → CardGoes session after old new → RestsBy session after old new → (session ≡ None → new ≡ old) → CardGoesOn session after old new
+kept-card session after old new later goes rests bare = record {
+  keeps = goes.keeps;
+  clock = later.clock;
+  tells = goes.tells;
+  more = later.breakdowns;
+  broken = goes.broken;
+  rests = rests;
+  bare = λ none. same-left old new (bare none);
+}
+
+pub kept-devices : {at : Moment} {failed : Bool} {s t : Stand} → StandsAfter at failed s t → KeepingGoes s t → ((cards_of s).a.accepted ≡ None → t.devices.card_a ≡ s.devices.card_a) → ((cards_of s).b.accepted ≡ None → t.devices.card_b ≡ s.devices.card_b)
+    → DevicesGoOn failed (cards_of s) (cards_of t) s.devices t.devices
+kept-devices {s = s} {t = t} stands goes bare_a bare_b = record {
+  cause = stands.cause;
+  keeps = goes.unit_keeps;
+  tells = goes.unit_tells;
+  clock = goes.all.later.unit.clock;
+  card_a = kept-card (cards_of s).a.accepted (cards_of t).a.accepted s.devices.card_a t.devices.card_a goes.all.later.card_a goes.card_a goes.rests.card_a bare_a;
+  card_b = kept-card (cards_of s).b.accepted (cards_of t).b.accepted s.devices.card_b t.devices.card_b goes.all.later.card_b goes.card_b goes.rests.card_b bare_b;
+}
+
+-- BEHIND A SETTLING
+pub settled-left : {s t : Stand} → KeepingGoes s t → AreLeftMore s.devices t.devices
+settled-left goes = record { unit = goes.unit_keeps; card_a = goes.card_a.keeps; card_b = goes.card_b.keeps }
+
+pub settled-later : {s t : Stand} → KeepingGoes s t → LeavesSpeeds s.devices.unit t.devices.unit → AreLater s.devices t.devices
+settled-later goes speeds = record { unit = goes.all.later.unit; card_a = goes.all.later.card_a; card_b = goes.all.later.card_b; speeds = speeds }
+
+pub settled-noted : {at : Moment} {failed : Bool} {old new : Run} {before after : Outcome} {d e : Devices} → KeepsSettled at failed old new before after d e → NotesSettling at failed old new before after d.unit e.unit
+settled-noted k = (k.decided, k.given, k.reach, k.is, k.noted)
 
 -- BEHIND A NOTE on the unit alone they go on
 pub noted-devices : (failed : Bool) (cards after : Cards) (d : Devices) (U V X Y : State) → DevicesGoOn false cards after d (devices U X Y) → LeavesOnly U V LeavesJournal → HasCause U V failed → DevicesGoOn failed cards after d (devices V X Y)

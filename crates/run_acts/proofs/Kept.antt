@@ -22,6 +22,7 @@ use Rattle.run_crew.specs.Cabin.{CabinIsSound}
 use Rattle.run_crew.proofs.Ended.{ended-known, ended-later, ended-same}
 use Rattle.run_events.specs.declared.watch.Watch.{Watch}
 use Rattle.run_events.specs.Watching.{Watches}
+use Rattle.run_events.specs.Blocks.{KnowsNewest}
 use Rattle.run_minutes.specs.Keeping.{DevicesMayBeCalled, HasItsRow, HaveRows, AreEmptied, GoesOnFrom, SessionsGoOn}
 use Rattle.run_minutes.specs.Minutes.{kept_after}
 use Rattle.run_minutes.proofs.Decided.{rows-on}
@@ -75,8 +76,8 @@ module _ {U V A0 A1 B0 B1 : State} {chip_a chip_b next_a next_b : CardState} (le
   pub kept-going : CountsSpan new.minutes later → end_of later ≡ new.next → later.first ≡ g.span.first → ungiven_of g.span ≤ ungiven_of later → ungiven_of later ≤ to → DevicesMayBeCalled new.keeper V next_a next_b A1 B1
       → ((card : Card) → HasItsRow old.keeper.cabin.cards U card → HasItsRow new.keeper.cabin.cards V card) → new.keeper.cabin.slots.past ≡ old.keeper.cabin.slots.past → new.keeper.journal.kept ≡ kept_after old.keeper.journal.kept items
       → ((from : ℕ) (l : Option Card) → All (λ (m : Minute). from ≤ m.minute) items → CabinIsSound from l old.keeper.cabin → (next : ℕ) → from ≤ next → kept_after old.keeper.journal.kept items < next → CabinIsSound next l new.keeper.cabin)
-      → SessionsGoOn old.keeper.cabin.cards new.keeper.cabin.cards → new.noted ≡ old.noted → Watches new.watch new.next → new.watch.limit ≡ new.watch.over.limit → RunHasPower leaving to new V next_a next_b A1 B1
-  kept-going minutes end first more most ready rows past last stands sessions noted watches limit = record {
+      → SessionsGoOn old.keeper.cabin.cards new.keeper.cabin.cards → new.noted ≡ old.noted → Watches new.watch new.next → new.watch.limit ≡ new.watch.over.limit → KnowsNewest new.watch.newest V → RunHasPower leaving to new V next_a next_b A1 B1
+  kept-going minutes end first more most ready rows past last stands sessions noted watches limit newest = record {
     ready = ready;
     span = later;
     stands = minutes;
@@ -93,14 +94,16 @@ module _ {U V A0 A1 B0 B1 : State} {chip_a chip_b next_a next_b : CardState} (le
     entries = λ card. subst (λ (n : ℕ). IfSome (session_of new.keeper.cabin.cards card) (HasEntry n)) (sym noted) (entries-went old.noted card old.keeper.cabin.cards new.keeper.cabin.cards sessions (g.entries card));
     watches = watches;
     limit = limit;
+    newest = newest;
   }
 
--- nothing is decided, and slots and sessions have changed: no session is new, and the minutes that have ended are the same
+-- nothing is decided, and slots and sessions have changed: no session is new, and the minutes that have ended are the same;
+-- what is known of the newest block is known still
 module _ {U V A0 A1 B0 B1 : State} {chip_a chip_b next_a next_b : CardState} (leaving other : Option Card) (to : ℕ) (old new : Run) (g : RunHasPower leaving to old U chip_a chip_b A0 B0) where
   pub moved-going : new.minutes ≡ old.minutes → new.next ≡ old.next → new.keeper.journal.kept ≡ old.keeper.journal.kept → DevicesMayBeCalled new.keeper V next_a next_b A1 B1
       → ((card : Card) → HasItsRow old.keeper.cabin.cards U card → HasItsRow new.keeper.cabin.cards V card) → new.keeper.cabin.slots.past ≡ old.keeper.cabin.slots.past → CabinIsSound (ungiven_of g.span) other new.keeper.cabin
-      → SessionsGoOn old.keeper.cabin.cards new.keeper.cabin.cards → new.noted ≡ old.noted → new.watch ≡ old.watch → RunHasPower other to new V next_a next_b A1 B1
-  moved-going minutes next kept ready rows past stands sessions noted watch = record {
+      → SessionsGoOn old.keeper.cabin.cards new.keeper.cabin.cards → new.noted ≡ old.noted → new.watch ≡ old.watch → (KnowsNewest old.watch.newest U → KnowsNewest old.watch.newest V) → RunHasPower other to new V next_a next_b A1 B1
+  moved-going minutes next kept ready rows past stands sessions noted watch knows = record {
     ready = ready;
     span = g.span;
     stands = subst (λ (k : Minutes). CountsSpan k g.span) (sym minutes) g.stands;
@@ -116,6 +119,7 @@ module _ {U V A0 A1 B0 B1 : State} {chip_a chip_b next_a next_b : CardState} (le
     entries = λ card. subst (λ (n : ℕ). IfSome (session_of new.keeper.cabin.cards card) (HasEntry n)) (sym noted) (entries-went old.noted card old.keeper.cabin.cards new.keeper.cabin.cards sessions (g.entries card));
     watches = subst (λ (w : Watch). Watches w new.next) (sym watch) (subst (λ (n : ℕ). Watches old.watch n) (sym next) g.watches);
     limit = subst (λ (w : Watch). w.limit ≡ w.over.limit) (sym watch) g.limit;
+    newest = subst (λ (w : Watch). KnowsNewest w.newest V) (sym watch) (knows g.newest);
   }
 
 -- ---- room

@@ -29,7 +29,7 @@ module _ {U A0 B0 : State} {chip_a chip_b : CardState} (slot : Slot) (card : Car
       let unit = g.ready.unit_ready in
       moved-going None (Some card) to run (left_run slot second run) g refl refl refl
       (record { unit_ready = record { is_unit = unit.is_unit; works = unit.works; agrees = unit.agrees }; card_a = g.ready.card_a; card_b = g.ready.card_b })
-      (λ c h. h) refl (goes (ungiven_of g.span) g.cabin) (sessions-none run.keeper.cabin.cards) refl refl
+      (λ c h. h) refl (goes (ungiven_of g.span) g.cabin) (sessions-none run.keeper.cabin.cards) refl refl (λ known. known)
 
   pub left-held : (to : ℕ) → CanBeCut to run U chip_a chip_b A0 B0 → second / 60 ≤ to → (from : ℕ) → CabinIsSound from (Some card) (with_slot_left slot second run.keeper.cabin) → CanBeCut to (left_run slot second run) U chip_a chip_b A0 B0
   left-held to h le from stands = record { is_unit = h.is_unit; odometer = h.odometer; minute = le; card_a = h.card_a; card_b = h.card_b; stand = (from, Some card, stands) }

@@ -23,6 +23,7 @@ use Rattle.run_minutes.proofs.Calm.{calm-of-a, calm-of-b, card-by}
 use Rattle.run_promise.specs.Between.{devices}
 use Rattle.run_crew.specs.Cards.{known_of, session_of}
 use Rattle.run_speeds.specs.Speeds.{LeavesSpeeds}
+use Rattle.run_events.specs.Blocks.{KnowsNewest}
 use Rattle.run_minutes.proofs.Later.{later-of-a, later-of-b}
 use Rattle.run_acts.proofs.RingedSecond.{left-after}
 use Rattle.run_acts.proofs.Cabins.{noted-a, noted-b, noted_cabin, at-same, cabin-going, cabin-held, keeper-only, noted-falls, noted-is, noted-minute, noted-past, noted-sessions, ready-same}
@@ -212,13 +213,14 @@ held-by B run new cabin is known minute U V X Y Z chip next chip_beside held uni
 pub going-by : (card : Card) (run new : Run) (cabin : Cabin) → new ≡ with_cabin cabin run → known_of new.keeper.cabin.cards (other card) ≡ known_of run.keeper.cabin.cards (other card) → (U V X Y Z : State) (chip next chip_beside : CardState) (leaving stays : Option Card) →
     (lit : RunHasPower leaving (run.next / 60) run U (of_a card chip chip_beside) (of_b card chip chip_beside) (of_a card X Z) (of_b card X Z)) → UnitMayBeCalled new.keeper V → CardMayBeCalled (known_of new.keeper.cabin.cards card) next Y →
     ((c : Card) → HasItsRow run.keeper.cabin.cards U c → HasItsRow new.keeper.cabin.cards V c) → cabin.slots.past ≡ run.keeper.cabin.slots.past → CabinIsSound (ungiven_of lit.span) stays new.keeper.cabin → SessionsGoOn run.keeper.cabin.cards cabin.cards →
+    (KnowsNewest run.watch.newest U → KnowsNewest run.watch.newest V) →
     RunHasPower stays (new.next / 60) new V (of_a card next chip_beside) (of_b card next chip_beside) (of_a card Y Z) (of_b card Y Z)
-going-by A run new cabin is known U V X Y Z chip next chip_beside leaving stays lit unit mine rows past stands sessions =
+going-by A run new cabin is known U V X Y Z chip next chip_beside leaving stays lit unit mine rows past stands sessions knows =
     subst (λ (m : ℕ). RunHasPower stays (m / 60) new V next chip_beside Y Z) (sym (ap (λ (r : Run). r.next) is))
-    (cabin-going (run.next / 60) run new cabin is leaving stays lit unit mine (ready-same run.keeper.cabin.cards new.keeper.cabin.cards B known lit.ready.card_b) rows past stands sessions)
-going-by B run new cabin is known U V X Y Z chip next chip_beside leaving stays lit unit mine rows past stands sessions =
+    (cabin-going (run.next / 60) run new cabin is leaving stays lit unit mine (ready-same run.keeper.cabin.cards new.keeper.cabin.cards B known lit.ready.card_b) rows past stands sessions knows)
+going-by B run new cabin is known U V X Y Z chip next chip_beside leaving stays lit unit mine rows past stands sessions knows =
     subst (λ (m : ℕ). RunHasPower stays (m / 60) new V chip_beside next Z Y) (sym (ap (λ (r : Run). r.next) is))
-    (cabin-going (run.next / 60) run new cabin is leaving stays lit unit (ready-same run.keeper.cabin.cards new.keeper.cabin.cards A known lit.ready.card_a) mine rows past stands sessions)
+    (cabin-going (run.next / 60) run new cabin is leaving stays lit unit (ready-same run.keeper.cabin.cards new.keeper.cabin.cards A known lit.ready.card_a) mine rows past stands sessions knows)
 
 -- so behind a note
 module _ (card : Card) (slot : Slot) (at : Moment) (run new : Run) (breaks after : Listed Break) (fell : Bool) (noted : IsNotedOn card slot at run new breaks after fell) (U V X Y Z : State) (chip next chip_beside : CardState) where
@@ -231,10 +233,10 @@ module _ (card : Card) (slot : Slot) (at : Moment) (run new : Run) (breaks after
 
   pub going-noted : RunHasPowerAllSeated (run.next / 60) run U (of_a card chip chip_beside) (of_b card chip chip_beside) (of_a card X Z) (of_b card X Z) → UnitMayBeCalled new.keeper V → CardMayBeCalled (known_of new.keeper.cabin.cards card) next Y →
       ((c : Card) → HasItsRow run.keeper.cabin.cards U c → HasItsRow new.keeper.cabin.cards V c) → ((from : ℕ) (leaving : Option Card) → CabinIsSound from leaving run.keeper.cabin → CabinIsSound from leaving new.keeper.cabin) →
-      RunHasPowerAllSeated (new.next / 60) new V (of_a card next chip_beside) (of_b card next chip_beside) (of_a card Y Z) (of_b card Y Z)
-  going-noted lit unit mine rows stands =
+      (KnowsNewest run.watch.newest U → KnowsNewest run.watch.newest V) → RunHasPowerAllSeated (new.next / 60) new V (of_a card next chip_beside) (of_b card next chip_beside) (of_a card Y Z) (of_b card Y Z)
+  going-noted lit unit mine rows stands knows =
       going-by card run new (noted_cabin fell card at.second run) (cabin-noted card slot at run new breaks after fell noted) (known-noted card slot at run new breaks after fell noted) U V X Y Z chip next chip_beside None None lit unit mine rows
-      (noted-past card at.second run fell) (stands (ungiven_of lit.span) None lit.cabin) (noted-sessions card at.second run fell)
+      (noted-past card at.second run fell) (stands (ungiven_of lit.span) None lit.cabin) (noted-sessions card at.second run fell) knows
 
 -- and behind the closing of its session
 module _ (card : Card) (slot : Slot) (at : Moment) (run new : Run) (breaks after : Listed Break) (closing : Closing) (closed : IsClosed card slot at run new breaks after closing) (U V X Y Z : State) (chip next chip_beside : CardState) where
@@ -249,10 +251,10 @@ module _ (card : Card) (slot : Slot) (at : Moment) (run new : Run) (breaks after
 
   pub going-closed : (g : RunHasPower (Some card) (run.next / 60) run U (of_a card chip chip_beside) (of_b card chip chip_beside) (of_a card X Z) (of_b card X Z)) → UnitMayBeCalled new.keeper V → CardMayBeCalled (known_of new.keeper.cabin.cards card) next Y →
       ((c : Card) → HasItsRow run.keeper.cabin.cards U c → HasItsRow new.keeper.cabin.cards V c) → CabinIsSound (ungiven_of g.span) None new.keeper.cabin →
-      RunHasPowerAllSeated (new.next / 60) new V (of_a card next chip_beside) (of_b card next chip_beside) (of_a card Y Z) (of_b card Y Z)
-  going-closed g unit mine rows stands =
+      (KnowsNewest run.watch.newest U → KnowsNewest run.watch.newest V) → RunHasPowerAllSeated (new.next / 60) new V (of_a card next chip_beside) (of_b card next chip_beside) (of_a card Y Z) (of_b card Y Z)
+  going-closed g unit mine rows stands knows =
       going-by card run new (closed_cabin closing card at.second run.keeper.cabin) closed.run known-closed U V X Y Z chip next chip_beside (Some card) None g unit mine rows
-      (closed-past card at.second run.keeper.cabin closing) stands (closed-sessions card at.second run.keeper.cabin closing)
+      (closed-past card at.second run.keeper.cabin closing) stands (closed-sessions card at.second run.keeper.cabin closing) knows
 
 -- ---- what it may not know
 

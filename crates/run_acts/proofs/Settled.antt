@@ -14,6 +14,9 @@ module _ {U A0 B0 : State} {chip_a chip_b : CardState} (leaving : Option Card) (
   pub settled-ungiven : ungiven_of (settled g.span) ≡ run.next / 60
   settled-ungiven = ungiven-settled g.span g.stands.settled ∙ ap (λ (n : ℕ). n / 60) g.next
 
+  pub settled-most : ungiven_of (settled g.span) ≤ run.next / 60
+  settled-most = let is = settled-ungiven in omega (arith, is)
+
   pub settled-later : ungiven_of g.span ≤ ungiven_of (settled g.span)
   settled-later = let is = ungiven-settled g.span g.stands.settled in let most = ungiven-most g.span g.stands.settled in omega (arith, is, most)
 

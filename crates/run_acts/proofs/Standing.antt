@@ -16,7 +16,8 @@ use Rattle.card_slots.specs.Calls.{present_in, ending}
 use Rattle.card_slots.specs.Kept.{left_in}
 use Rattle.card_slots.proofs.Newest.{cut-knows, end-knows}
 use Rattle.unit_model.specs.declared.layout.TheConstants.{HIGHEST_ODOMETER}
-use Rattle.message_model.specs.Records.{insertion_ring}
+use Rattle.message_model.specs.Records.{insertion_ring, speed_ring}
+use Rattle.gated_ring.specs.Ring.{PointsInside}
 use Rattle.run_crew.specs.declared.cards.Accepted.{Accepted}
 use Rattle.run_crew.specs.declared.cards.Known.{Known}
 use Rattle.run_crew.specs.declared.cabin.Cabin.{Cabin}
@@ -24,6 +25,7 @@ use Rattle.run_crew.specs.Cards.{session_of, with_session, IsKnown}
 use Rattle.run_crew.specs.Cabin.{CabinIsSound, KnowsEnded}
 use Rattle.run_crew.proofs.Moves.{cut-stands, end-stands}
 use Rattle.run_events.specs.Watching.{Watches}
+use Rattle.run_events.specs.Blocks.{KnowsNewest}
 use Rattle.run_events.specs.Watching as watching
 use Rattle.speed_store.specs.Feeding as minute_speeds
 use Rattle.run_events.specs.declared.watch.Watch.{Watch}
@@ -170,6 +172,7 @@ module _ {U A0 B0 : State} {chip_a chip_b : CardState} (run : Run) where
         entries = lit.entries;
         watches = lit.watches;
         limit = lit.limit;
+        newest = lit.newest;
       }
     where
       same-minute : (n : ℕ) → (n % 60 ≡ 0 → ⊥) → (n - 1) / 60 ≡ n / 60
@@ -206,6 +209,7 @@ module _ {U A0 B0 : State} {chip_a chip_b : CardState} (run : Run) where
         entries = lit.entries;
         watches = lit.watches;
         limit = lit.limit;
+        newest = lit.newest;
       }
 
   pub begun-at : is_lit run.power ≡ true → ((from : ℕ) → run.next / 60 ≤ from + 4 → KnowsEnded from ((run.next - 1) / 60) run.keeper.cabin.slots → KnowsEnded from (run.next / 60) (minute_over run).keeper.cabin.slots)
@@ -247,9 +251,10 @@ ready-bare : (known : Known) (chip : CardState) (card : State) → known.accepte
 ready-bare known chip card none at is = record { is_known = is; port = at.port; works = subst (λ (o : Option Accepted). IfSome o (λ a. card.works ≡ true)) (sym none) tt }
 
 module _ {U V A0 B0 : State} {chip_a chip_b : CardState} (rule : Rule) (old new : Run) (journal : Notes) where
-  -- where the unit was mended, and the last-kept minute is earlier, the run goes on with power
-  pub span-lit : is_lit old.power ≡ false → IsAt (old.next / 60) old U chip_a chip_b A0 B0 → IsSpanBegun rule old new journal → journal.kept < old.next / 60 → UnitMayBeCalled new.keeper V → RunHasPowerAllSeated (old.next / 60) new V chip_a chip_b A0 B0
-  span-lit dark h begun late unit =
+  -- where the unit was mended, the last-kept minute is earlier, and the pointer of its blocks is an index, the run goes on
+  -- with power
+  pub span-lit : is_lit old.power ≡ false → IsAt (old.next / 60) old U chip_a chip_b A0 B0 → IsSpanBegun rule old new journal → journal.kept < old.next / 60 → UnitMayBeCalled new.keeper V → IfSome V.image (PointsInside speed_ring) → RunHasPowerAllSeated (old.next / 60) new V chip_a chip_b A0 B0
+  span-lit dark h begun late unit points =
       let d = h.dark dark in
       let bare = d.bare in
       let u : ℕ = ungiven_of (begin rule old.next) in
@@ -276,6 +281,7 @@ module _ {U V A0 B0 : State} {chip_a chip_b : CardState} (rule : Rule) (old new 
         entries = λ card. subst (λ (o : Option Accepted). IfSome o (λ (s : Accepted). (s.entry < insertion_ring.count) × (s.noted ≤ new.noted))) (sym (ap (λ (c : Cabin). session_of c.cards card) cabin ∙ bare card)) tt;
         watches = fresh-watches new.watch new.next begun.watch (begun.speeds new.next);
         limit = begun.limit.1 ∙ sym begun.limit.0;
+        newest = subst (λ (o : Option ℕ). KnowsNewest o V) (sym begun.newest) points;
       }
 
   -- it is held so

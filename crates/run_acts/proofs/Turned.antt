@@ -15,6 +15,7 @@ use Rattle.unit_model.specs.Image.{IsUnit}
 use Rattle.run_crew.specs.Cabin.{CabinIsSound}
 use Rattle.run_events.specs.declared.watch.Watch.{Watch}
 use Rattle.run_events.specs.Watching.{Watches}
+use Rattle.run_events.specs.Blocks.{KnowsNewest}
 use Rattle.run_minutes.specs.declared.keeper.Keeper.{Keeper}
 use Rattle.run_minutes.specs.Keeping.{DevicesMayBeCalled, CardMayBeCalled, HasItsRow, SessionsGoOn}
 use Rattle.run_minutes.specs.Minutes.{kept_after}
@@ -101,11 +102,11 @@ module _ {U V A0 A1 B0 B1 : State} {chip_a chip_b next_a next_b : CardState} (ru
   -- it goes on
   pub turned-lit : (begun : ℕ) → run.power ≡ Lit → 0 < n → run.next % 60 + n ≤ 60 → run.next + n ≤ end_of_seconds → CountsSpan minutes (fed_many g.span speed n) → DevicesMayBeCalled keeper V next_a next_b A1 B1
       → ((card : Card) → HasItsRow run.keeper.cabin.cards U card → HasItsRow keeper.cabin.cards V card) → keeper.cabin.slots.past ≡ run.keeper.cabin.slots.past → keeper.journal.kept ≡ kept_after run.keeper.journal.kept items
-      → SessionsGoOn run.keeper.cabin.cards keeper.cabin.cards → Watches watch (run.next + n) → watch.limit ≡ watch.over.limit → IsBetweenSeconds (passed n begun turned_run) V next_a next_b A1 B1
-  turned-lit begun power some one small fed ready rows past last sessions watches limit =
+      → SessionsGoOn run.keeper.cabin.cards keeper.cabin.cards → Watches watch (run.next + n) → watch.limit ≡ watch.over.limit → KnowsNewest watch.newest V → IsBetweenSeconds (passed n begun turned_run) V next_a next_b A1 B1
+  turned-lit begun power some one small fed ready rows past last sessions watches limit newest =
       let same : run.next / 60 ≡ (run.next + n - 1) / 60 = omega (arith, some, one) in
       let lit : RunHasPowerAllSeated (run.next / 60) (passed n begun turned_run) V next_a next_b A1 B1 =
-      kept-going None (run.next / 60) run (passed n begun turned_run) g (fed_many g.span speed n) items d fed (turn-end run g speed n) (turn-first run g speed n) (turn-later run g speed n) (turn-most run g speed n one) ready rows past last stands sessions refl watches limit in
+      kept-going None (run.next / 60) run (passed n begun turned_run) g (fed_many g.span speed n) items d fed (turn-end run g speed n) (turn-first run g speed n) (turn-later run g speed n) (turn-most run g speed n one) ready rows past last stands sessions refl watches limit newest in
       record {
         low = let low = h.low in omega (arith, low);
         small = small;

@@ -17,6 +17,7 @@ use Rattle.run_crew.specs.declared.cabin.Cabin.{Cabin}
 use Rattle.run_crew.specs.Cards.{session_of}
 use Rattle.run_crew.specs.Cabin.{CabinIsSound, KnowsEnded}
 use Rattle.run_events.specs.Watching.{Watches}
+use Rattle.run_events.specs.Blocks.{KnowsNewest}
 use Rattle.run_minutes.specs.Keeping.{DevicesMayBeCalled, HasItsRow, HaveRows}
 use Rattle.run_opening.specs.declared.fault.RunFault.{RunFault}
 use Rattle.run_opening.specs.declared.fault.RunFault.TheVariants.{MediumFault, BadUnit, ClockBack, SameCard}
@@ -81,6 +82,8 @@ pub record RunHasPower (leaving : Option Card) (to : ℕ) (run : Run) (unit : St
   -- its events are watched up to the next second
   pub watches : Watches run.watch run.next
   pub limit : run.watch.limit ≡ run.watch.over.limit
+  -- the newest block of detailed speed that it has added stands at the pointer of the unit's ring
+  pub newest : KnowsNewest run.watch.newest unit
 
 abbrev pub RunHasPowerAllSeated : (to : ℕ) → Run → (unit : State) → (chip_a chip_b : CardState) → (a b : State) → Type 0
 RunHasPowerAllSeated to run unit chip_a chip_b a b = RunHasPower None to run unit chip_a chip_b a b

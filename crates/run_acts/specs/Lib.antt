@@ -26,6 +26,8 @@ pub mod RunRinged
 pub mod CardNotes
 pub mod OnCards
 pub mod RunCards
+pub mod Keepings
+pub mod Acts
 pub mod CardWrites
 pub mod Closings
 pub mod Comings

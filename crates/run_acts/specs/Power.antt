@@ -1,5 +1,5 @@
 -- Power lost, and power back (profile).
-use Rattle.std.specs.Prelude.{◌≡◌, ℕ, ◌+◌, ◌-◌, ◌/◌, ◌%◌, ◌==◌, Bool, true, false, List, [], ◌∷◌}
+use Rattle.std.specs.Prelude.{◌≡◌, ℕ, ◌+◌, ◌-◌, ◌/◌, ◌%◌, ◌==◌, Bool, true, false, None, List, [], ◌∷◌}
 use Rattle.minute_model.specs.declared.Rule.{Rule}
 use Rattle.minute_model.specs.Span.{begin}
 use Rattle.minute_rules.specs.Kept.{CountsSpan}
@@ -74,4 +74,5 @@ pub record IsSpanBegun (rule : Rule) (old new : Run) (journal : Notes) : Type 0 
   pub minutes : CountsSpan new.minutes (begin rule old.next)
   pub watch : watching.WatchesSpan new.watch []
   pub speeds : (next : ℕ) → minute_speeds.KeepsSpeedsOf new.watch.speeds [] next
+  pub newest : new.watch.newest ≡ None
   pub limit : (new.watch.over.limit ≡ old.keeper.memory.limit) × (new.watch.limit ≡ old.keeper.memory.limit)

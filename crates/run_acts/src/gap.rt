@@ -1,20 +1,16 @@
 //! The interruption of power that ends now is noted.
-ghost use Rattle.std.specs.Prelude.{◌≡◌, ◌≢◌, ℕ, ◌+◌, ◌/◌, ◌<◌, ◌≤◌, Bool, true, false, Option, IfSome, OnOk, List, []};
-ghost use Rattle.std.specs.Prelude.{◌∷◌, length, is_err, is_some};
+ghost use Rattle.std.specs.Prelude.{◌≡◌, ◌≢◌, ℕ, ◌+◌, ◌/◌, ◌<◌, ◌≤◌, Bool, true, false, Option, IfSome, OnOk, [], ◌∷◌};
+ghost use Rattle.std.specs.Prelude.{length, is_err, is_some};
 ghost use Rattle.trace_model.specs.declared.Card.{Card};
 ghost use Rattle.tach_media.specs.Medium.{LeavesOnly, HasCause, HasBroken};
 ghost use Rattle.card_session.specs.Sessions.{IsValue};
 ghost use Rattle.device_calls.specs.CardNotes.{IsNote};
-ghost use Rattle.event_model.specs.Spans.{gap_of};
 ghost use Rattle.event_model.specs.declared.kinds.TheConstants.{POWER_INTERRUPTION};
 ghost use Rattle.unit_model.specs.Image.{IsUnit};
-ghost use Rattle.card_slots.specs.Calls.{seat_in, card_in};
 ghost use Rattle.log_model.specs.Log.{In};
 ghost use Rattle.unit_notes.specs.Journal.{LeavesJournal};
 ghost use Rattle.run_speeds.specs.Speeds.{LeavesSpeeds};
-ghost use Rattle.run_minutes.specs.Later.{AreLater, AreCalm};
 ghost use Rattle.run_promise.specs.Between.{devices};
-ghost use Rattle.run_acts.specs.NotedEvents.{NotesEvents};
 ghost use Rattle.run_rings.specs.Same.{LeavesRings};
 ghost use Rattle.run_crew.specs.Cards.{known_of, session_of};
 ghost use Rattle.run_crew.specs.Cabin.{CabinIsSound};
@@ -22,12 +18,11 @@ ghost use Rattle.run_minutes.specs.Keeping.{UnitMayBeCalled, CardMayBeCalled, Ha
 ghost use Rattle.run_acts.specs.declared.run.Power.TheVariants.{Lit};
 ghost use Rattle.run_acts.specs.Going.{first_second, end_of_seconds, CanBeCut, RunHasPowerAllSeated};
 ghost use Rattle.run_acts.specs.Room.{falls_of};
-ghost use Rattle.run_acts.specs.Acting.{IsNotedOn, IsNotedIn, falls_by, now_moment};
-ghost use Rattle.run_acts.specs.ActsEvented.{NoteLeaves};
-ghost use Rattle.run_acts.specs.RunRinged.{RingsGap};
-ghost use Rattle.run_acts.specs.CardNotes.{NotesOn, NotesOnCards, LeavesPlaces, LeavePlaces, on_seat, gap_on};
+ghost use Rattle.run_acts.specs.Acting.{IsNotedOn, falls_by, now_moment};
+ghost use Rattle.run_acts.specs.CardNotes.{NotesOn, LeavesPlaces};
 ghost use Rattle.run_events.specs.Entries.{card_entry};
-ghost use Rattle.run_acts.specs.Noting.{GapReach, IsGapNoted, IsNoteRecorded, NotesFall, AreGapEvents};
+ghost use Rattle.run_acts.specs.Noting.{IsNoteRecorded, NotesFall};
+ghost use Rattle.run_acts.specs.Acts.{AllGoOn, IsHeldBehind, LeavesGap, LeavesIn, NotesGap, NotesIn, PromisesGap};
 
 use crate::run::Run;
 use activity_codec::Slot;
@@ -63,48 +58,21 @@ pub fn note_gap<M: Medium, C: Chip, D: Chip>(
         (D.card card_b.old) (C.state card_a.old) (D.state card_b.old) }
     requires kept { kept < run.old.next / 60 }
     requires breaks { length breaks.old.items + falls_of run.old.keeper.cabin ≤ breaks.old.room }
-    ensures noted { (reach : GapReach)
-        × IsGapNoted (gap_of kept run.old.next) (now_moment run.old) (is_err result) run.old run.new breaks.old
-        breaks.new reach }
-    ensures recorded { IsNoteRecorded (In 0) (is_err result) run.old run.new breaks.old breaks.new
+    ensures noted { NotesGap kept (is_err result) run.old run.new breaks.old breaks.new }
+    // What a run promises goes on with it.
+    ensures promises { PromisesGap (is_err result) run.old run.new breaks.old breaks.new
         (devices (M.state unit.old) (C.state card_a.old) (D.state card_b.old))
         (devices (M.state unit.new) (C.state card_a.new) (D.state card_b.new)) }
-    ensures leaves { NoteLeaves (is_err result) run.old breaks.old breaks.new
+    ensures leaves { LeavesGap kept (is_err result) run.old run.new breaks.old breaks.new
         (devices (M.state unit.old) (C.state card_a.old) (D.state card_b.old))
         (devices (M.state unit.new) (C.state card_a.new) (D.state card_b.new)) }
-    ensures card_events { NotesOnCards (is_err result) run.old.keeper.cabin.cards run.new.keeper.cabin.cards
-        (λ card. gap_on (gap_of kept run.old.next) run.old.keeper.memory.registration)
+    ensures held { IsHeldBehind (is_err result) run.new
         (devices (M.state unit.old) (C.state card_a.old) (D.state card_b.old))
-        (devices (M.state unit.new) (C.state card_a.new) (D.state card_b.new)) }
-    // The places of the cards are left.
-    ensures places { LeavePlaces run.old.keeper.cabin.cards
-        (devices (M.state unit.old) (C.state card_a.old) (D.state card_b.old))
-        (devices (M.state unit.new) (C.state card_a.new) (D.state card_b.new)) }
-    ensures events { (reach : GapReach) × (vs : List UnitEvent)
-        × AreGapEvents (gap_of kept run.old.next) (now_moment run.old) (is_err result) run.old run.new breaks.old
-        breaks.new reach vs × NotesEvents vs (is_err result)
-        (devices (M.state unit.old) (C.state card_a.old) (D.state card_b.old))
-        (devices (M.state unit.new) (C.state card_a.new) (D.state card_b.new)) }
-    ensures rings { LeavesRings (M.state unit.old) (M.state unit.new) }
-    ensures ringed { RingsGap (is_err result) run.old run.new breaks.old breaks.new
-        (devices (M.state unit.old) (C.state card_a.old) (D.state card_b.old))
-        (devices (M.state unit.new) (C.state card_a.new) (D.state card_b.new)) }
-    ensures only { run.new ≡ record run.old { keeper = run.new.keeper } }
-    ensures held { CanBeCut (run.new.next / 60) run.new (M.state unit.new) (C.card card_a.new) (D.card card_b.new)
-        (C.state card_a.new) (D.state card_b.new) }
+        (devices (M.state unit.new) (C.state card_a.new) (D.state card_b.new))
+        (C.card card_a.new) (D.card card_b.new) }
     ensures going { OnOk result (RunHasPowerAllSeated (run.new.next / 60) run.new (M.state unit.new) (C.card card_a.new)
         (D.card card_b.new) (C.state card_a.new) (D.state card_b.new)) }
-    ensures room { (breaks.new.room ≡ breaks.old.room)
-        × (length breaks.new.items + falls_of run.new.keeper.cabin
-        ≤ length breaks.old.items + falls_of run.old.keeper.cabin) }
-    ensures more { length breaks.old.items ≤ length breaks.new.items }
-    ensures cause { HasCause (M.state unit.old) (M.state unit.new) (is_err result) }
-    ensures clock { (M.state unit.old).clock ≤ (M.state unit.new).clock }
-    ensures clock_a { (C.state card_a.old).clock ≤ (C.state card_a.new).clock }
-    ensures clock_b { (D.state card_b.old).clock ≤ (D.state card_b.new).clock }
-    ensures later { AreLater (devices (M.state unit.old) (C.state card_a.old) (D.state card_b.old))
-        (devices (M.state unit.new) (C.state card_a.new) (D.state card_b.new)) }
-    ensures calm { AreCalm breaks.old.items breaks.new.items
+    ensures goes { AllGoOn breaks.old.items breaks.new.items
         (devices (M.state unit.old) (C.state card_a.old) (D.state card_b.old))
         (devices (M.state unit.new) (C.state card_a.new) (D.state card_b.new)) }
 {
@@ -136,43 +104,20 @@ fn note_in<M: Medium, C: Chip, D: Chip>(
     requires kind { event.now.kind ≡ POWER_INTERRUPTION }
     requires begin { event.now.begin.0 ≢ 0 }
     requires breaks { length breaks.old.items + falls_of run.old.keeper.cabin ≤ breaks.old.room }
-    ensures noted { (fell : Bool) × IsNotedIn (card_in (seat_in run.old.keeper.cabin.slots.seats slot)) slot
-        (now_moment run.old) run.old run.new breaks.old breaks.new fell × (is_err result ≡ true → fell ≡ true) }
+    ensures noted { NotesIn slot (is_err result) run.old run.new breaks.old breaks.new }
     ensures recorded { IsNoteRecorded (In 0) (is_err result) run.old run.new breaks.old breaks.new
         (devices (M.state unit.old) (C.state card_a.old) (D.state card_b.old))
         (devices (M.state unit.new) (C.state card_a.new) (D.state card_b.new)) }
-    ensures leaves { NoteLeaves (is_err result) run.old breaks.old breaks.new
+    ensures leaves { LeavesIn slot event.now (is_err result) run.old run.new breaks.old breaks.new
         (devices (M.state unit.old) (C.state card_a.old) (D.state card_b.old))
         (devices (M.state unit.new) (C.state card_a.new) (D.state card_b.new)) }
-    ensures card_events { NotesOnCards false run.old.keeper.cabin.cards run.new.keeper.cabin.cards
-        (on_seat (seat_in run.old.keeper.cabin.slots.seats slot)
-        (card_entry event.now run.old.keeper.memory.registration))
+    ensures held { IsHeldBehind (is_err result) run.new
         (devices (M.state unit.old) (C.state card_a.old) (D.state card_b.old))
-        (devices (M.state unit.new) (C.state card_a.new) (D.state card_b.new)) }
-    ensures places { LeavePlaces run.old.keeper.cabin.cards
-        (devices (M.state unit.old) (C.state card_a.old) (D.state card_b.old))
-        (devices (M.state unit.new) (C.state card_a.new) (D.state card_b.new)) }
-    ensures events { NotesFall (λ fell. IsNotedIn (card_in (seat_in run.old.keeper.cabin.slots.seats slot)) slot
-        (now_moment run.old) run.old run.new breaks.old breaks.new fell) run.old.next (is_err result) run.new
-        (devices (M.state unit.old) (C.state card_a.old) (D.state card_b.old))
-        (devices (M.state unit.new) (C.state card_a.new) (D.state card_b.new)) }
-    ensures rings { LeavesRings (M.state unit.old) (M.state unit.new) }
-    ensures only { run.new ≡ record run.old { keeper = run.new.keeper } }
-    ensures held { CanBeCut (run.new.next / 60) run.new (M.state unit.new) (C.card card_a.new) (D.card card_b.new)
-        (C.state card_a.new) (D.state card_b.new) }
+        (devices (M.state unit.new) (C.state card_a.new) (D.state card_b.new))
+        (C.card card_a.new) (D.card card_b.new) }
     ensures going { OnOk result (RunHasPowerAllSeated (run.new.next / 60) run.new (M.state unit.new) (C.card card_a.new)
         (D.card card_b.new) (C.state card_a.new) (D.state card_b.new)) }
-    ensures room { (breaks.new.room ≡ breaks.old.room)
-        × (length breaks.new.items + falls_of run.new.keeper.cabin
-        ≤ length breaks.old.items + falls_of run.old.keeper.cabin) }
-    ensures more { length breaks.old.items ≤ length breaks.new.items }
-    ensures cause { HasCause (M.state unit.old) (M.state unit.new) (is_err result) }
-    ensures clock { (M.state unit.old).clock ≤ (M.state unit.new).clock }
-    ensures clock_a { (C.state card_a.old).clock ≤ (C.state card_a.new).clock }
-    ensures clock_b { (D.state card_b.old).clock ≤ (D.state card_b.new).clock }
-    ensures later { AreLater (devices (M.state unit.old) (C.state card_a.old) (D.state card_b.old))
-        (devices (M.state unit.new) (C.state card_a.new) (D.state card_b.new)) }
-    ensures calm { AreCalm breaks.old.items breaks.new.items
+    ensures goes { AllGoOn breaks.old.items breaks.new.items
         (devices (M.state unit.old) (C.state card_a.old) (D.state card_b.old))
         (devices (M.state unit.new) (C.state card_a.new) (D.state card_b.new)) }
 {

@@ -1,6 +1,6 @@
 //! A place is noted.
-ghost use Rattle.std.specs.Prelude.{◌≡◌, ◌≢◌, ℕ, ◌+◌, ◌/◌, ◌<◌, ◌≤◌, ◌^◌, Bool, true, false, Option, Some, IfSome};
-ghost use Rattle.std.specs.Prelude.{OnOk, [], length, is_err, is_some, if◌then◌else◌};
+ghost use Rattle.std.specs.Prelude.{◌≡◌, ◌≢◌, ℕ, ◌+◌, ◌/◌, ◌<◌, ◌≤◌, ◌^◌, Bool, true, false, Option, IfSome, OnOk, []};
+ghost use Rattle.std.specs.Prelude.{length, is_err, is_some, if◌then◌else◌};
 ghost use Rattle.trace_model.specs.declared.Card.{Card};
 ghost use Rattle.tach_media.specs.Medium.{LeavesOnly, HasCause, HasBroken};
 ghost use Rattle.minute_model.specs.Span.{Span, travelled_of};
@@ -8,29 +8,23 @@ ghost use Rattle.minute_rules.specs.Kept.{CountsSpan};
 ghost use Rattle.unit_model.specs.declared.layout.TheConstants.{HIGHEST_ODOMETER};
 ghost use Rattle.unit_model.specs.Image.{IsUnit};
 ghost use Rattle.unit_notes.specs.Journal.{LeavesJournal};
-ghost use Rattle.card_slots.specs.Calls.{seat_in, card_in};
 ghost use Rattle.run_crew.specs.Cards.{known_of, session_of};
-ghost use Rattle.run_crew.specs.Cabin.{CabinIsSound, number_of_seat};
+ghost use Rattle.run_crew.specs.Cabin.{CabinIsSound};
 ghost use Rattle.run_speeds.specs.Speeds.{LeavesSpeeds};
 ghost use Rattle.run_minutes.specs.Keeping.{UnitMayBeCalled, CardMayBeCalled, HasItsRow};
 ghost use Rattle.run_minutes.specs.Minutes.{odometer_by};
-ghost use Rattle.run_minutes.specs.Later.{AreLater, AreCalm};
 ghost use Rattle.run_promise.specs.Between.{devices};
 ghost use Rattle.card_session.specs.Sessions.{IsValue};
 ghost use Rattle.device_calls.specs.CardNotes.{IsNote};
-ghost use Rattle.run_acts.specs.Noting.{IsPlaceRecorded, NotesFall, NotesPlace};
-ghost use Rattle.run_acts.specs.ActsEvented.{EventsPlace};
-ghost use Rattle.run_acts.specs.CardNotes.{NotesOn, NotesOnCards};
+ghost use Rattle.run_acts.specs.Noting.{NotesFall};
+ghost use Rattle.run_acts.specs.CardNotes.{NotesOn};
 ghost use Rattle.run_acts.specs.CardWrites.{MayTakePlace, PlaceOn};
-ghost use Rattle.safety_model.specs.Safe.{card_of};
 ghost use Rattle.run_rings.specs.Same.{LeavesRings};
-ghost use Rattle.run_acts.specs.Ringing.{WritesPlace};
-ghost use Rattle.run_acts.specs.RunRinged.{RingsPlace};
-ghost use Rattle.run_acts.specs.RunCards.{CardsPlace};
 ghost use Rattle.run_acts.specs.declared.run.Power.TheVariants.{Lit};
 ghost use Rattle.run_acts.specs.Going.{first_second, end_of_seconds, CanBeCut, RunHasPowerAllSeated};
 ghost use Rattle.run_acts.specs.Room.{falls_of};
-ghost use Rattle.run_acts.specs.Acting.{IsNotedOn, IsPlaced, falls_by};
+ghost use Rattle.run_acts.specs.Acting.{IsNotedOn, falls_by};
+ghost use Rattle.run_acts.specs.Acts.{AllGoOn, IsHeldBehind, LeavesPlaced, PlacesSo, PromisesPlace};
 
 use crate::run::Run;
 use activity_codec::Slot;
@@ -88,54 +82,21 @@ pub fn note_place<M: Medium, C: Chip, D: Chip>(
     requires time { entry.now.time.0 ≢ 0 }
     requires odometer { entry.now.odometer.0 ≤ HIGHEST_ODOMETER }
     requires breaks { length breaks.old.items + falls_of run.old.keeper.cabin ≤ breaks.old.room }
-    ensures placed { (fell : Bool)
-        × IsPlaced (card_in (seat_in run.old.keeper.cabin.slots.seats slot)) slot at run.old run.new breaks.old
-        breaks.new fell }
-    ensures card_events { NotesOnCards false run.old.keeper.cabin.cards run.new.keeper.cabin.cards (λ card. [])
+    ensures placed { PlacesSo slot at run.old run.new breaks.old breaks.new }
+    ensures leaves { LeavesPlaced slot entry.now at (is_err result) run.old run.new breaks.old breaks.new
         (devices (M.state unit.old) (C.state card_a.old) (D.state card_b.old))
         (devices (M.state unit.new) (C.state card_a.new) (D.state card_b.new)) }
-    // The place stands on the card, where that was not torn out.
-    ensures on_card { (card : Card) → card_in (seat_in run.old.keeper.cabin.slots.seats slot) ≡ Some card
-        → PlaceOn (session_of run.old.keeper.cabin.cards card) (session_of run.new.keeper.cabin.cards card)
-        (is_err result) entry.now
-        (card_of (devices (M.state unit.old) (C.state card_a.old) (D.state card_b.old)) card)
-        (card_of (devices (M.state unit.new) (C.state card_a.new) (D.state card_b.new)) card) }
-    ensures events { NotesPlace (card_in (seat_in run.old.keeper.cabin.slots.seats slot)) slot at (is_err result)
-        run.old run.new breaks.old breaks.new (devices (M.state unit.old) (C.state card_a.old) (D.state card_b.old))
-        (devices (M.state unit.new) (C.state card_a.new) (D.state card_b.new)) }
-    ensures evented { EventsPlace slot at (is_err result) run.old run.new breaks.old breaks.new
+    // What a run promises goes on with it.
+    ensures promises { PromisesPlace slot entry.now at (is_err result) run.old run.new breaks.old breaks.new
         (devices (M.state unit.old) (C.state card_a.old) (D.state card_b.old))
         (devices (M.state unit.new) (C.state card_a.new) (D.state card_b.new)) }
-    ensures recorded { IsPlaceRecorded slot at (is_err result) run.old run.new breaks.old breaks.new
+    ensures held { IsHeldBehind (is_err result) run.new
         (devices (M.state unit.old) (C.state card_a.old) (D.state card_b.old))
-        (devices (M.state unit.new) (C.state card_a.new) (D.state card_b.new)) }
-    ensures rings { is_some (M.state unit.old).image ≡ true
-        → WritesPlace (number_of_seat run.old.keeper.cabin.cards (seat_in run.old.keeper.cabin.slots.seats slot))
-        entry.now (is_err result) (M.state unit.old) (M.state unit.new) }
-    // The cards show the events of their second so far.
-    ensures cards { CardsPlace slot at (is_err result) run.old breaks.old breaks.new
-        (devices (M.state unit.old) (C.state card_a.old) (D.state card_b.old))
-        (devices (M.state unit.new) (C.state card_a.new) (D.state card_b.new)) }
-    // What was noted of insertions and places goes on with it.
-    ensures ringed { RingsPlace slot entry.now at (is_err result) run.old run.new breaks.old breaks.new
-        (devices (M.state unit.old) (C.state card_a.old) (D.state card_b.old))
-        (devices (M.state unit.new) (C.state card_a.new) (D.state card_b.new)) }
-    ensures only { run.new ≡ record run.old { keeper = run.new.keeper } }
-    ensures held { CanBeCut (run.new.next / 60) run.new (M.state unit.new) (C.card card_a.new) (D.card card_b.new)
-        (C.state card_a.new) (D.state card_b.new) }
+        (devices (M.state unit.new) (C.state card_a.new) (D.state card_b.new))
+        (C.card card_a.new) (D.card card_b.new) }
     ensures going { OnOk result (RunHasPowerAllSeated (run.new.next / 60) run.new (M.state unit.new) (C.card card_a.new)
         (D.card card_b.new) (C.state card_a.new) (D.state card_b.new)) }
-    ensures room { (breaks.new.room ≡ breaks.old.room)
-        × (length breaks.new.items + falls_of run.new.keeper.cabin
-        ≤ length breaks.old.items + falls_of run.old.keeper.cabin) }
-    ensures more { length breaks.old.items ≤ length breaks.new.items }
-    ensures cause { HasCause (M.state unit.old) (M.state unit.new) (is_err result) }
-    ensures clock { (M.state unit.old).clock ≤ (M.state unit.new).clock }
-    ensures clock_a { (C.state card_a.old).clock ≤ (C.state card_a.new).clock }
-    ensures clock_b { (D.state card_b.old).clock ≤ (D.state card_b.new).clock }
-    ensures later { AreLater (devices (M.state unit.old) (C.state card_a.old) (D.state card_b.old))
-        (devices (M.state unit.new) (C.state card_a.new) (D.state card_b.new)) }
-    ensures calm { AreCalm breaks.old.items breaks.new.items
+    ensures goes { AllGoOn breaks.old.items breaks.new.items
         (devices (M.state unit.old) (C.state card_a.old) (D.state card_b.old))
         (devices (M.state unit.new) (C.state card_a.new) (D.state card_b.new)) }
 {

@@ -1,6 +1,6 @@
 //! A card leaves its slot by hand: it is withdrawn, or pulled out.
-ghost use Rattle.std.specs.Prelude.{◌≡◌, ◌≢◌, ℕ, ◌+◌, ◌-◌, ◌*◌, ◌/◌, ◌<◌, ◌≤◌, ◌++◌, true, false, not, List, Option};
-ghost use Rattle.std.specs.Prelude.{Some, None, IfSome, OnOk, length, is_some, is_err};
+ghost use Rattle.std.specs.Prelude.{◌≡◌, ◌≢◌, ℕ, ◌+◌, ◌-◌, ◌*◌, ◌/◌, ◌<◌, ◌≤◌, true, Option, Some, None, IfSome, OnOk};
+ghost use Rattle.std.specs.Prelude.{length, is_some, is_err};
 ghost use Rattle.trace_model.specs.declared.Card.{Card};
 ghost use Rattle.activity_codec.specs.declared.values.Activity.{Activity};
 ghost use Rattle.tach_media.specs.Medium.{LeavesOnly, HasCause, HasBroken};
@@ -18,24 +18,14 @@ ghost use Rattle.run_minutes.specs.Keeping.{UnitMayBeCalled, CardMayBeCalled, Ha
 ghost use Rattle.run_acts.specs.declared.run.Power.TheVariants.{Lit};
 ghost use Rattle.run_acts.specs.Going.{first_second, end_of_seconds, CanBeCut, RunHasPowerAllSeated};
 ghost use Rattle.run_acts.specs.Room.{falls_of, Takes};
-ghost use Rattle.minute_model.specs.declared.Minute.{Minute};
-ghost use Rattle.minute_model.specs.Span.{Span, settled, decided_in};
-ghost use Rattle.minute_rules.specs.Kept.{CountsSpan};
-ghost use Rattle.run_minutes.specs.Later.{IsLater, AreLater, AreCalm, IsCalm};
+ghost use Rattle.run_minutes.specs.Later.{IsLater, IsCalm};
 ghost use Rattle.run_promise.specs.Between.{devices};
-ghost use Rattle.run_minutes.specs.Minutes.{KeepingState, Reach, IsReach};
 ghost use Rattle.run_acts.specs.Stays.{ClosesOnCard};
-ghost use Rattle.run_acts.specs.Acting.{Closing, Closed, IsClosed, closed_falls, IsWithdrawn, left_run, pulled_run};
-ghost use Rattle.run_acts.specs.Acting.{pulled_breaks, told_of};
-ghost use Rattle.trace_model.specs.declared.Action.TheVariants.{Withdraw};
-ghost use Rattle.run_acts.specs.Recording.{RecordsAction};
-ghost use Rattle.run_acts.specs.Noting.{SaysNoMore, NotesClosing, NotesWithdrawing};
-ghost use Rattle.run_acts.specs.ActsEvented.{EventsWithdrawal};
-ghost use Rattle.run_acts.specs.Behind.{BooksWithdrawn};
-ghost use Rattle.run_acts.specs.Ringing.{WithdrawsSo, ClosesSo, WritesWithdrawal};
-ghost use Rattle.run_acts.specs.RunRinged.{RingsWithdrawal};
-ghost use Rattle.run_acts.specs.RunCards.{CardsWithdrawal};
-ghost use Rattle.run_acts.specs.CardWrites.{ShutsSo, WithdrawsShut};
+ghost use Rattle.run_acts.specs.Acting.{Closing, Closed, IsClosed, closed_falls, pulled_run, pulled_breaks};
+ghost use Rattle.run_acts.specs.Noting.{SaysNoMore, NotesClosing};
+ghost use Rattle.run_acts.specs.Ringing.{ClosesSo, WritesWithdrawal};
+ghost use Rattle.run_acts.specs.CardWrites.{ShutsSo};
+ghost use Rattle.run_acts.specs.Acts.{AllGoOn, IsHeldBehind, LeavesWithdrawn, PromisesWithdrawal, Withdraws};
 
 use crate::run::Run;
 use crate::settling::settle;
@@ -77,58 +67,22 @@ pub fn withdraw<M: Medium, C: Chip, D: Chip>(
     requires at { at.second ≡ run.old.next }
     requires marks { length outcome.old.marks.items + 3 * run.old.minutes.owing ≤ outcome.old.marks.room }
     requires breaks { length outcome.old.breaks.items + falls_of run.old.keeper.cabin ≤ outcome.old.breaks.room }
-    ensures withdrawn { IsWithdrawn (card_in (seat_in run.old.keeper.cabin.slots.seats slot)) slot at (is_err result)
-        run.old run.new outcome.old outcome.new }
-    ensures only { run.new ≡ record run.old { minutes = run.new.minutes; keeper = run.new.keeper } }
-    ensures rest { outcome.new ≡ record outcome.old { marks = outcome.new.marks; breaks = outcome.new.breaks } }
-    ensures booked { (card : Card) → card_in (seat_in run.old.keeper.cabin.slots.seats slot) ≡ Some card
-        → (decided : List Minute) × (reach : Reach) × (closing : Option Closing) × (between : KeepingState)
-        × ((span : Span) → CountsSpan run.old.minutes span → decided_in (settled span) ≡ decided_in span ++ decided)
-        × IsReach decided at (not (is_some closing)) (told_of (left_run slot at.second run.old) outcome.old) between
-        reach
-        × BooksWithdrawn card decided (is_err result) reach closing
-        (told_of (left_run slot at.second run.old) outcome.old) (told_of run.new outcome.new)
+    ensures withdrawn { Withdraws slot at (is_err result) run.old run.new outcome.old outcome.new }
+    ensures leaves { LeavesWithdrawn slot at (is_err result) run.old run.new outcome.old outcome.new
         (devices (M.state unit.old) (C.state card_a.old) (D.state card_b.old))
         (devices (M.state unit.new) (C.state card_a.new) (D.state card_b.new)) }
-    ensures events { NotesWithdrawing (card_in (seat_in run.old.keeper.cabin.slots.seats slot)) slot at (is_err result)
-        run.old run.new outcome.old outcome.new (devices (M.state unit.old) (C.state card_a.old) (D.state card_b.old))
-        (devices (M.state unit.new) (C.state card_a.new) (D.state card_b.new)) }
-    ensures evented { EventsWithdrawal slot at (is_err result) run.old run.new outcome.old outcome.new
+    // What a run promises goes on with it.
+    ensures promises { PromisesWithdrawal slot at (is_err result) run.old run.new outcome.old outcome.new
         (devices (M.state unit.old) (C.state card_a.old) (D.state card_b.old))
         (devices (M.state unit.new) (C.state card_a.new) (D.state card_b.new)) }
-    ensures recorded { at.late ≡ false → (speed : ℕ)
-        → RecordsAction (Withdraw slot) at.begun speed (is_err result) run.old run.new outcome.old outcome.new
+    ensures held { IsHeldBehind (is_err result) run.new
         (devices (M.state unit.old) (C.state card_a.old) (D.state card_b.old))
-        (devices (M.state unit.new) (C.state card_a.new) (D.state card_b.new)) }
-    ensures rings { is_some (M.state unit.old).image ≡ true
-        → WithdrawsSo (card_in (seat_in run.old.keeper.cabin.slots.seats slot)) slot at (is_err result) run.old run.new
-        outcome.old outcome.new (M.state unit.old) (M.state unit.new) }
-    // What was noted of insertions and places goes on with it.
-    ensures ringed { RingsWithdrawal slot at (is_err result) run.old run.new outcome.old outcome.new
-        (devices (M.state unit.old) (C.state card_a.old) (D.state card_b.old))
-        (devices (M.state unit.new) (C.state card_a.new) (D.state card_b.new)) }
-    // Each card shows its events still.
-    ensures cards { CardsWithdrawal slot at (is_err result) run.old outcome.old outcome.new
-        (devices (M.state unit.old) (C.state card_a.old) (D.state card_b.old))
-        (devices (M.state unit.new) (C.state card_a.new) (D.state card_b.new)) }
-    // The card is closed with what is selected then.
-    ensures shut { (card : Card) → card_in (seat_in run.old.keeper.cabin.slots.seats slot) ≡ Some card
-        → WithdrawsShut card slot at (is_err result) run.old run.new outcome.old outcome.new
-        (devices (M.state unit.old) (C.state card_a.old) (D.state card_b.old))
-        (devices (M.state unit.new) (C.state card_a.new) (D.state card_b.new)) }
-    ensures held { CanBeCut (run.new.next / 60) run.new (M.state unit.new) (C.card card_a.new) (D.card card_b.new)
-        (C.state card_a.new) (D.state card_b.new) }
+        (devices (M.state unit.new) (C.state card_a.new) (D.state card_b.new))
+        (C.card card_a.new) (D.card card_b.new) }
     ensures going { OnOk result (RunHasPowerAllSeated (run.new.next / 60) run.new (M.state unit.new) (C.card card_a.new)
         (D.card card_b.new) (C.state card_a.new) (D.state card_b.new)) }
     ensures takes { Takes 0 0 0 run.old run.new outcome.old outcome.new }
-    ensures more { length outcome.old.breaks.items ≤ length outcome.new.breaks.items }
-    ensures cause { HasCause (M.state unit.old) (M.state unit.new) (is_err result) }
-    ensures clock { (M.state unit.old).clock ≤ (M.state unit.new).clock }
-    ensures clock_a { (C.state card_a.old).clock ≤ (C.state card_a.new).clock }
-    ensures clock_b { (D.state card_b.old).clock ≤ (D.state card_b.new).clock }
-    ensures later { AreLater (devices (M.state unit.old) (C.state card_a.old) (D.state card_b.old))
-        (devices (M.state unit.new) (C.state card_a.new) (D.state card_b.new)) }
-    ensures calm { AreCalm outcome.old.breaks.items outcome.new.breaks.items
+    ensures goes { AllGoOn outcome.old.breaks.items outcome.new.breaks.items
         (devices (M.state unit.old) (C.state card_a.old) (D.state card_b.old))
         (devices (M.state unit.new) (C.state card_a.new) (D.state card_b.new)) }
 {
@@ -187,8 +141,6 @@ fn close<M: Medium, C: Chip>(
         → CabinIsSound from None run.new.keeper.cabin }
     ensures card { CardMayBeCalled (known_of run.new.keeper.cabin.cards which) (C.card card.new) (C.state card.new) }
     ensures size { (C.state card.new).size ≡ (C.state card.old).size }
-    ensures more { (C.state card.old).breakdowns ≤ (C.state card.new).breakdowns }
-    ensures clock_card { (C.state card.old).clock ≤ (C.state card.new).clock }
     ensures cause { HasCause (M.state unit.old) (M.state unit.new) (is_err result) }
     ensures later { IsLater (C.state card.old) (C.state card.new) }
     ensures calm { IsCalm breaks.old.items breaks.new.items (C.state card.old) (C.state card.new) }

@@ -139,8 +139,6 @@ fn accept_by<M: Medium, C: Chip, D: Chip>(
         (C.state card.new) }
     ensures size { (C.state card.new).size ≡ (C.state card.old).size }
     ensures clock { (M.state unit.old).clock ≤ (M.state unit.new).clock }
-    ensures clock_card { (C.state card.old).clock ≤ (C.state card.new).clock }
-    ensures more { (C.state card.old).breakdowns ≤ (C.state card.new).breakdowns }
     ensures in_time { IsEarly entering (C.state card.old) (C.state card.new) }
     ensures later { IsLater (C.state card.old) (C.state card.new) }
     ensures calm { IsCalm outcome.old.breaks.items outcome.new.breaks.items (C.state card.old) (C.state card.new) }
@@ -228,8 +226,6 @@ pub fn accept<M: Medium, C: Chip, D: Chip>(
         (C.state card.new) }
     ensures size { (C.state card.new).size ≡ (C.state card.old).size }
     ensures clock { (M.state unit.old).clock ≤ (M.state unit.new).clock }
-    ensures clock_card { (C.state card.old).clock ≤ (C.state card.new).clock }
-    ensures more { (C.state card.old).breakdowns ≤ (C.state card.new).breakdowns }
     ensures in_time { WasInTime entering (C.state card.old) (C.state card.new) }
     ensures later { IsLater (C.state card.old) (C.state card.new) }
     ensures calm { IsCalm outcome.old.breaks.items outcome.new.breaks.items (C.state card.old) (C.state card.new) }

@@ -133,7 +133,6 @@ fn note_moving<M: Medium, C: Chip, D: Chip>(
     ensures card { CardMayBeCalled (known_of keeper.new.cabin.cards entering.which) (C.card card.new)
         (C.state card.new) }
     ensures size { (C.state card.new).size ≡ (C.state card.old).size }
-    ensures more { (C.state card.old).breakdowns ≤ (C.state card.new).breakdowns }
     ensures later { IsLater (C.state card.old) (C.state card.new) }
     ensures calm { IsCalm breaks.old.items breaks.new.items (C.state card.old) (C.state card.new) }
 {
@@ -185,7 +184,6 @@ fn note_entered<M: Medium, C: Chip, D: Chip>(
     ensures card { CardMayBeCalled (known_of keeper.new.cabin.cards entering.which) (C.card card.new)
         (C.state card.new) }
     ensures size { (C.state card.new).size ≡ (C.state card.old).size }
-    ensures more { (C.state card.old).breakdowns ≤ (C.state card.new).breakdowns }
     ensures later { IsLater (C.state card.old) (C.state card.new) }
     ensures calm { IsCalm breaks.old.items breaks.new.items (C.state card.old) (C.state card.new) }
 {
@@ -256,7 +254,6 @@ pub(crate) fn take_in<M: Medium, C: Chip, D: Chip>(
     ensures card { CardMayBeCalled (known_of keeper.new.cabin.cards entering.which) (C.card card.new)
         (C.state card.new) }
     ensures size { (C.state card.new).size ≡ (C.state card.old).size }
-    ensures more { (C.state card.old).breakdowns ≤ (C.state card.new).breakdowns }
     ensures most { length entered.owed.items ≤ most_owed }
     ensures low { entered.look.session < 2 ^ 32 }
     ensures sized { FitsInsertion entered.look }

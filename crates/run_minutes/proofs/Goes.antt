@@ -15,17 +15,15 @@ use Rattle.run_crew.specs.declared.cards.Accepted.{Accepted}
 use Rattle.run_crew.specs.declared.cards.Cards.{Cards}
 use Rattle.run_outcome.specs.Lines.{Listed}
 use Rattle.run_promise.specs.Between.{devices}
-use Rattle.run_speeds.specs.Speeds.{LeavesSpeeds}
-use Rattle.run_speeds.proofs.Leaving.{leaves-none, leaves-then}
 use Rattle.run_minutes.specs.declared.keeper.Keeper.{Keeper}
 use Rattle.run_minutes.specs.declared.keeper.Moment.{Moment}
 use Rattle.run_minutes.specs.Keeping.{Fate, Still, Has, Fell, IsBrought, UnitMayBeCalled, CardMayBeCalled, HasItsRow, HasLeftMore, AreEmptied, SessionsGoOn, cabin_by, tears_of, most_tears}
-use Rattle.run_minutes.specs.Later.{IsLater, AreLater, AreCalm, RestBy}
-use Rattle.run_minutes.specs.Stand.{Stand, StandsAfter, CardGoes, Goes, KeepingGoes, IsReadyFor, AreBare, standing, cards_of}
+use Rattle.run_minutes.specs.Later.{IsLater, AreAfter, AreCalm, RestBy}
+use Rattle.run_minutes.specs.Stand.{Stand, StandsAfter, CardGoes, Goes, KeepingGoes, UnitGoes, IsReadyFor, AreBare, standing, cards_of}
 use Rattle.run_minutes.proofs.Units.{left-then}
 use Rattle.run_minutes.proofs.Seats.{emptied-none, emptied-then, sessions-none, sessions-then, stays-none, fate-seats, brought-sessions}
 use Rattle.run_minutes.proofs.Rounds.{brought-minute, brought-past, brought-tears, brought-more, brought-tear-room, brought-mark-room}
-use Rattle.run_minutes.proofs.Later.{after-same, after-then, after-of, after-of-unit}
+use Rattle.run_minutes.proofs.Later.{state-by, after-same, after-then, after-of-unit}
 use Rattle.run_minutes.proofs.Calm.{calm-same, calm-then, calm-of-unit}
 use Rattle.run_minutes.proofs.Rests.{rest-none, rest-then}
 
@@ -87,7 +85,6 @@ keeping_none s = record {
   card_a = card-none (cards_of s).a.accepted s.devices.card_a;
   card_b = card-none (cards_of s).b.accepted s.devices.card_b;
   rests = rest-none (cards_of s) (cards_of s) s.devices.unit s.devices.unit s.devices.card_a s.devices.card_b;
-  speeds = leaves-none s.devices.unit;
 }
 
 pub keeping_then : {s t u : Stand} → KeepingGoes s t → KeepingGoes t u → KeepingGoes s u
@@ -104,13 +101,12 @@ keeping_then {s} {t} {u} first next = record {
   card_a = card-then (cards_of s).a.accepted (cards_of t).a.accepted (cards_of u).a.accepted s.devices.card_a t.devices.card_a u.devices.card_a first.all.later.card_a first.card_a next.card_a;
   card_b = card-then (cards_of s).b.accepted (cards_of t).b.accepted (cards_of u).b.accepted s.devices.card_b t.devices.card_b u.devices.card_b first.all.later.card_b first.card_b next.card_b;
   rests = rest-then (cards_of s) (cards_of t) (cards_of u) s.devices t.devices u.devices first.sessions next.sessions first.rests next.rests;
-  speeds = leaves-then s.devices.unit t.devices.unit u.devices.unit first.speeds next.speeds;
 }
 
 -- a call on the unit alone, behind which the journal may be another, and there may be marks more
-pub goes_of_unit : (k v : Keeper) (ms ns : Listed Mark) (bs : Listed Break) (U V X Y : State) (chip_a chip_b : CardState) → v ≡ record k { journal = v.journal } → ns.room ≡ ms.room → HasLeftMore U V → is_some V.image ≡ is_some U.image
-    → IsLater U V → LeavesSpeeds U V → KeepingGoes (standing k ms bs U X Y chip_a chip_b) (standing v ns bs V X Y chip_a chip_b)
-goes_of_unit k v ms ns bs U V X Y chip_a chip_b is room keeps tells later speeds =
+pub goes_on_unit : (k v : Keeper) (ms ns : Listed Mark) (bs : Listed Break) (U V X Y : State) (chip_a chip_b : CardState) → v ≡ record k { journal = v.journal } → ns.room ≡ ms.room → HasLeftMore U V → is_some V.image ≡ is_some U.image
+    → IsLater U V → KeepingGoes (standing k ms bs U X Y chip_a chip_b) (standing v ns bs V X Y chip_a chip_b)
+goes_on_unit k v ms ns bs U V X Y chip_a chip_b is room keeps tells later =
     let most : most_tears v.cabin.cards ≡ most_tears k.cabin.cards = ap (λ (q : Keeper). most_tears q.cabin.cards) is in
     let more : length bs.items ≤ length bs.items = omega arith in
     let tears : length bs.items + most_tears v.cabin.cards ≤ length bs.items + most_tears k.cabin.cards = omega (arith, most) in
@@ -127,8 +123,12 @@ goes_of_unit k v ms ns bs U V X Y chip_a chip_b is room keeps tells later speeds
       card_a = subst (λ (q : Keeper). CardGoes k.cabin.cards.a.accepted q.cabin.cards.a.accepted X X) (sym is) (card-none k.cabin.cards.a.accepted X);
       card_b = subst (λ (q : Keeper). CardGoes k.cabin.cards.b.accepted q.cabin.cards.b.accepted Y Y) (sym is) (card-none k.cabin.cards.b.accepted Y);
       rests = rest-none k.cabin.cards v.cabin.cards U V X Y;
-      speeds = speeds;
     }
+
+pub goes_of_unit : (k v : Keeper) (ms ns : Listed Mark) (bs : Listed Break) {U V : State} (X Y : State) (chip_a chip_b : CardState) {failed : Bool} → v ≡ record k { journal = v.journal } → ns.room ≡ ms.room → UnitGoes failed U V
+    → KeepingGoes (standing k ms bs U X Y chip_a chip_b) (standing v ns bs V X Y chip_a chip_b)
+goes_of_unit k v ms ns bs {U} {V} X Y chip_a chip_b {failed} is room goes =
+    goes_on_unit k v ms ns bs U V X Y chip_a chip_b is room goes.keeps goes.tells (state-by U V failed goes.clock goes.cause)
 
 -- ---- an entry was brought to a card
 
@@ -144,11 +144,11 @@ beside-b (Has accepted clock) second cabin Z = card-none cabin.cards.a.accepted 
 beside-b Fell second cabin Z = card-none cabin.cards.a.accepted Z
 
 module _ (kept : Kept) (at : Moment) (failed : Bool) (k v : Keeper) (ms ns : Listed Mark) (bs cs : Listed Break) (fate : Fate) (U V X Y Z : State) (chip chip_after beside : CardState) (keeps : HasLeftMore U V) (tells : is_some V.image ≡ is_some U.image) where
-  pub goes_of_a : IsBrought (Some A) kept at failed k v ms ns bs cs fate U V X Y → CardGoes k.cabin.cards.a.accepted v.cabin.cards.a.accepted X Y → AreLater (devices U X Z) (devices V Y Z) → AreCalm bs.items cs.items (devices U X Z) (devices V Y Z)
+  pub goes_of_a : IsBrought (Some A) kept at failed k v ms ns bs cs fate U V X Y → CardGoes k.cabin.cards.a.accepted v.cabin.cards.a.accepted X Y → AreAfter (devices U X Z) (devices V Y Z) → AreCalm bs.items cs.items (devices U X Z) (devices V Y Z)
       → RestBy k.cabin.cards v.cabin.cards (devices U X Z) (devices V Y Z) → KeepingGoes (standing k ms bs U X Z chip beside) (standing v ns cs V Y Z chip_after beside)
   goes_of_a b card later calm rests = record {
     all = record {
-      later = after-of (devices U X Z) (devices V Y Z) later;
+      later = later;
       calm = calm;
       mark_room = brought-mark-room (Some A) kept at failed k v ms ns bs cs fate U V X Y b;
       break_room = brought-tear-room (Some A) kept at failed k v ms ns bs cs fate U V X Y b;
@@ -165,14 +165,13 @@ module _ (kept : Kept) (at : Moment) (failed : Bool) (k v : Keeper) (ms ns : Lis
     card_a = card;
     card_b = subst (λ (q : Keeper). CardGoes k.cabin.cards.b.accepted q.cabin.cards.b.accepted Z Z) (sym b.keeper) (beside-a fate at.second k.cabin Z);
     rests = rests;
-    speeds = later.speeds;
   }
 
-  pub goes_of_b : IsBrought (Some B) kept at failed k v ms ns bs cs fate U V X Y → CardGoes k.cabin.cards.b.accepted v.cabin.cards.b.accepted X Y → AreLater (devices U Z X) (devices V Z Y) → AreCalm bs.items cs.items (devices U Z X) (devices V Z Y)
+  pub goes_of_b : IsBrought (Some B) kept at failed k v ms ns bs cs fate U V X Y → CardGoes k.cabin.cards.b.accepted v.cabin.cards.b.accepted X Y → AreAfter (devices U Z X) (devices V Z Y) → AreCalm bs.items cs.items (devices U Z X) (devices V Z Y)
       → RestBy k.cabin.cards v.cabin.cards (devices U Z X) (devices V Z Y) → KeepingGoes (standing k ms bs U Z X beside chip) (standing v ns cs V Z Y beside chip_after)
   goes_of_b b card later calm rests = record {
     all = record {
-      later = after-of (devices U Z X) (devices V Z Y) later;
+      later = later;
       calm = calm;
       mark_room = brought-mark-room (Some B) kept at failed k v ms ns bs cs fate U V X Y b;
       break_room = brought-tear-room (Some B) kept at failed k v ms ns bs cs fate U V X Y b;
@@ -189,7 +188,6 @@ module _ (kept : Kept) (at : Moment) (failed : Bool) (k v : Keeper) (ms ns : Lis
     card_b = card;
     card_a = subst (λ (q : Keeper). CardGoes k.cabin.cards.a.accepted q.cabin.cards.a.accepted Z Z) (sym b.keeper) (beside-b fate at.second k.cabin Z);
     rests = rests;
-    speeds = later.speeds;
   }
 
 -- ---- how it stands

@@ -65,6 +65,13 @@ after-then d e f first next = record {
 pub after-of-unit : (u v a b : State) → IsLater u v → AreAfter (devices u a b) (devices v a b)
 after-of-unit u v a b unit = record { unit = unit; card_a = state-same a; card_b = state-same b }
 
+-- on the unit and one card
+pub after-of-a : (u v a x b : State) → IsLater u v → IsLater a x → AreAfter (devices u a b) (devices v x b)
+after-of-a u v a x b unit card = record { unit = unit; card_a = card; card_b = state-same b }
+
+pub after-of-b : (u v a b y : State) → IsLater u v → IsLater b y → AreAfter (devices u a b) (devices v a y)
+after-of-b u v a b y unit card = record { unit = unit; card_a = state-same a; card_b = card }
+
 -- ---- the three, where the detailed speed is left as it is
 
 pub after-of : (d e : Devices) → AreLater d e → AreAfter d e

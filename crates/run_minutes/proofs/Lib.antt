@@ -22,6 +22,7 @@ pub mod DecidedBooked
 pub mod MarksBooked
 pub mod Faults
 pub mod Speeds
+pub mod OnUnit
 pub mod Later
 pub mod Calm
 pub mod Rests

@@ -18,15 +18,9 @@ use Rattle.run_minutes.specs.Keeping.{Fate, Still, Has, Fell, IsNotingFault, fau
 pub putting-speeds : (number : List ℕ) (e : Entry) (x c : List ℕ) → IsPutting number e x c → HasSameSpeeds x c
 putting-speeds number e x c moment = same-before x c OWED.place OWED.size (omega arith) moment.outside
 
-pub putting-leaves : (number : List ℕ) (e : Entry) (U V : State) → IsCoherent U → LeavesOnly U V (IsPutting number e) → LeavesSpeeds U V
-putting-leaves number e U V whole run = leaves-moments U V (IsPutting number e) whole run (putting-speeds number e)
-
 -- the minute
 pub keeping-speeds : (k : UnitMinute) (odometer : ℕ) (x c : List ℕ) → IsKeeping k odometer x c → HasSameSpeeds x c
 keeping-speeds k odometer x c moment = ap (take 92164) (sym (drop-drop 278600 2115044 c) ∙ ap (drop 278600) moment.outside.after ∙ drop-drop 278600 2115044 x)
-
-pub keeping-leaves : (k : UnitMinute) (odometer : ℕ) (U V : State) → IsCoherent U → LeavesOnly U V (IsKeeping k odometer) → LeavesSpeeds U V
-keeping-leaves k odometer U V whole run = leaves-moments U V (IsKeeping k odometer) whole run (keeping-speeds k odometer)
 
 -- the fault of a card that was torn out
 fault-speeds : (fate : Fate) (second : ℕ) (crew : Crew) (x c : List ℕ) → IsNotingFault fate second crew x c → HasSameSpeeds x c

@@ -1,5 +1,5 @@
 -- A keeper, its lines and its devices at one moment, in one term, and what holds behind any call on them (profile).
-use Rattle.std.specs.Prelude.{◌≡◌, ◌+◌, ◌-◌, ◌/◌, ◌≤◌, Bool, false, Option, None, length, is_some}
+use Rattle.std.specs.Prelude.{◌≡◌, ◌+◌, ◌-◌, ◌/◌, ◌≤◌, Bool, false, Option, None, [], length, is_some}
 use Rattle.trace_model.specs.declared.Card.{Card}
 use Rattle.trace_model.specs.declared.Card.TheVariants.{A, B}
 use Rattle.tach_media.specs.Medium.{State, HasCause, HasBroken}
@@ -14,9 +14,10 @@ use Rattle.run_outcome.specs.Lines.{Listed}
 use Rattle.run_speeds.specs.Speeds.{LeavesSpeeds}
 use Rattle.run_minutes.specs.declared.keeper.Keeper.{Keeper}
 use Rattle.run_minutes.specs.declared.keeper.Moment.{Moment}
-use Rattle.run_minutes.specs.Keeping.{DevicesMayBeCalled, CardMayBeCalled, HasItsRow, HasLeftMore, AreEmptied}
-use Rattle.run_minutes.specs.Keeping.{SessionsGoOn, tears_of, most_tears}
+use Rattle.run_minutes.specs.Keeping.{UnitMayBeCalled, DevicesMayBeCalled, CardMayBeCalled, HasItsRow, HasLeftMore}
+use Rattle.run_minutes.specs.Keeping.{AreEmptied, SessionsGoOn, tears_of, most_tears}
 use Rattle.run_minutes.specs.Minutes.{KeepingState}
+use Rattle.run_minutes.specs.Faults.{NotesFaults}
 use Rattle.run_minutes.specs.Later.{AreAfter, AreCalm, RestBy}
 
 -- HOW A RECORDER STANDS: keeper, lines, devices, and by which state each card answers
@@ -78,7 +79,7 @@ pub record Goes (s t : Stand) : Type 0 where
   pub more : length s.breaks.items ≤ length t.breaks.items
 
 -- AND SO IT DOES OVER KEEPINGS: what the keeper was told stays, slots only empty, sessions only end, a tear more is a
--- session less, no device forgets, and the detailed speed stays
+-- session less, and no device forgets
 pub record KeepingGoes (s t : Stand) : Type 0 where
   pub all : Goes s t
   pub memory : t.keeper.memory ≡ s.keeper.memory
@@ -92,7 +93,25 @@ pub record KeepingGoes (s t : Stand) : Type 0 where
   pub card_a : CardGoes (cards_of s).a.accepted (cards_of t).a.accepted s.devices.card_a t.devices.card_a
   pub card_b : CardGoes (cards_of s).b.accepted (cards_of t).b.accepted s.devices.card_b t.devices.card_b
   pub rests : RestBy (cards_of s) (cards_of t) s.devices t.devices
-  pub speeds : LeavesSpeeds s.devices.unit t.devices.unit
+
+-- ---- a call on the unit alone
+
+-- THE UNIT GOES ON over a call that notes no event: it forgets nothing, its detailed speed stays, and it failed exactly
+-- where that was answered
+pub record UnitGoes (failed : Bool) (old new : State) : Type 0 where
+  pub clock : old.clock ≤ new.clock
+  pub keeps : HasLeftMore old new
+  pub tells : is_some new.image ≡ is_some old.image
+  pub speeds : LeavesSpeeds old new
+  pub quiet : NotesFaults failed [] old new
+  pub cause : HasCause old new failed
+
+-- BEHIND IT, as it answered: it is a unit still; where it did not fail it is ready again, and each card that had its
+-- row has it
+pub record UnitStands (failed : Bool) (k v : Keeper) (old new : State) : Type 0 where
+  pub unit : IsUnit new
+  pub ready : failed ≡ false → UnitMayBeCalled v new
+  pub rows : failed ≡ false → (card : Card) → HasItsRow k.cabin.cards old card → HasItsRow v.cabin.cards new card
 
 -- ---- cards that are not called: they are the same values, and not only the same states
 

@@ -12,6 +12,7 @@ ghost use Rattle.run_minutes.specs.Kept.{IsAnother};
 ghost use Rattle.run_minutes.specs.Later.{IsLater};
 ghost use Rattle.run_minutes.specs.Stand.{StandsAfter, KeepingGoes, CallsOnly, standing};
 ghost use Rattle.run_promise.specs.Between.{devices};
+ghost use Rattle.run_speeds.specs.Speeds.{LeavesSpeeds};
 ghost use Rattle.run_minutes.specs.Keeping.{UnitMayBeCalled, CardMayBeCalled, HasItsRow, HasLeftMore};
 ghost use Rattle.run_minutes.specs.Keeping.{DevicesMayBeCalled, Fate, IsBrought, IsNotingFault, tears_of, session_at};
 ghost use Rattle.run_minutes.specs.Keeping.{state_at};
@@ -133,6 +134,7 @@ impl Keeper {
             (C.card card_a.old) (D.card card_b.old))
             (standing self.new marks.new breaks.new (M.state unit.new) (C.state card_a.new) (D.state card_b.new)
             (C.card card_a.new) (D.card card_b.new)) }
+        ensures speeds { LeavesSpeeds (M.state unit.old) (M.state unit.new) }
         ensures calls { CallsOnly (IsAnother present) self.old.cabin.cards card_a.old card_a.new card_b.old card_b.new }
         ensures journal { LeavesOnly (M.state unit.old) (M.state unit.new) LeavesJournal }
         ensures cabin { (from : ℕ) (leaving : Option Card) → from ≤ kept.now.entry.minute + 1

@@ -1,18 +1,14 @@
 //! A minute is kept by the unit, and then on the cards that were present in it.
-ghost use Rattle.run_minutes.specs.Faults.{NotesFaults};
-ghost use Rattle.std.specs.Prelude.{◌≡◌, ◌<◌, ◌≤◌, IfSome, ◌∷◌, [], OnOk, OnErr, length, is_some, is_err};
-ghost use Rattle.tach_media.specs.Medium.{HasCause};
+ghost use Rattle.std.specs.Prelude.{◌≡◌, ◌<◌, ◌≤◌, IfSome, ◌∷◌, [], OnOk, OnErr, length, is_err};
 ghost use Rattle.card_session.specs.declared.words.TheConstants.{LATEST_MINUTE};
 ghost use Rattle.unit_model.specs.declared.layout.TheConstants.{HIGHEST_ODOMETER};
-ghost use Rattle.unit_model.specs.Image.{IsUnit};
 ghost use Rattle.run_crew.specs.Cabin.{AreTwo};
-ghost use Rattle.trace_model.specs.declared.Card.{Card};
-ghost use Rattle.run_minutes.specs.Keeping.{UnitMayBeCalled, DevicesMayBeCalled, HasItsRow, HasLeftMore, HaveRows};
-ghost use Rattle.run_minutes.specs.Keeping.{kept_in, with_lines, TellsPresent};
+ghost use Rattle.run_minutes.specs.Keeping.{UnitMayBeCalled, DevicesMayBeCalled, HasItsRow, HaveRows, kept_in};
+ghost use Rattle.run_minutes.specs.Keeping.{with_lines, TellsPresent};
 ghost use Rattle.run_minutes.specs.Minutes.{unit_mark};
 ghost use Rattle.run_minutes.specs.Owing.{BooksPut, BooksOwed, TravelsOn};
 ghost use Rattle.run_minutes.specs.Kept.{IsAbsent, MayKeep, Keeps};
-ghost use Rattle.run_minutes.specs.Stand.{StandsAfter, KeepingGoes, CallsOnly, standing};
+ghost use Rattle.run_minutes.specs.Stand.{UnitGoes, UnitStands, StandsAfter, KeepingGoes, CallsOnly, standing};
 ghost use Rattle.run_promise.specs.Between.{devices};
 ghost use Rattle.run_speeds.specs.Speeds.{LeavesSpeeds};
 
@@ -60,21 +56,13 @@ impl Keeper {
     ) -> Result<(), Failed>
         requires ready { UnitMayBeCalled self.old (M.state unit.old) }
         requires row { IfSome present (HasItsRow self.old.cabin.cards (M.state unit.old)) }
-        ensures unit { IsUnit (M.state unit.new) }
         ensures same { self.new ≡ self.old }
-        ensures ready { OnOk result (UnitMayBeCalled self.new (M.state unit.new)) }
-        ensures rows { (card : Card) → HasItsRow self.old.cabin.cards (M.state unit.old) card
-            → OnOk result (HasItsRow self.new.cabin.cards (M.state unit.new) card) }
+        ensures stands { UnitStands (is_err result) self.old self.new (M.state unit.old) (M.state unit.new) }
+        ensures goes { UnitGoes (is_err result) (M.state unit.old) (M.state unit.new) }
         ensures travelled { TravelsOn (M.state unit.old) (M.state unit.new) }
-        ensures unit_keeps { HasLeftMore (M.state unit.old) (M.state unit.new) }
-        ensures quiet { NotesFaults (is_err result) [] (M.state unit.old) (M.state unit.new) }
-        ensures speeds { LeavesSpeeds (M.state unit.old) (M.state unit.new) }
         ensures booked { BooksPut present entry.now (is_err result) self.old.cabin.cards
             (devices (M.state unit.old) (C.state card_a.now) (D.state card_b.now))
             (devices (M.state unit.new) (C.state card_a.now) (D.state card_b.now)) }
-        ensures clock { (M.state unit.old).clock ≤ (M.state unit.new).clock }
-        ensures tells { is_some (M.state unit.new).image ≡ is_some (M.state unit.old).image }
-        ensures cause { HasCause (M.state unit.old) (M.state unit.new) (is_err result) }
     {
         let Some(card) = present else {
             return Ok(());
@@ -124,28 +112,19 @@ impl Keeper {
         requires odometer { minute.now.odometer.0 ≤ HIGHEST_ODOMETER }
         requires room { length marks.old.items < marks.old.room }
         requires apart { AreTwo present.driver present.codriver }
-        ensures unit { IsUnit (M.state unit.new) }
         ensures keeper { self.new ≡ record self.old { journal = self.new.journal } }
         ensures notes { OnOk result ((self.new.journal.kept ≡ minute.now.minute)
             × (self.new.journal.odometer ≡ minute.now.odometer.0)) }
-        ensures same { OnErr result ((self.new.journal ≡ self.old.journal) × (marks.new ≡ marks.old)) }
         ensures marked { OnOk result (marks.new
             ≡ with_lines (unit_mark minute.now.minute (M.state unit.new).clock ∷ []) marks.old) }
-        ensures ready { OnOk result (UnitMayBeCalled self.new (M.state unit.new)) }
-        ensures rows { (card : Card) → HasItsRow self.old.cabin.cards (M.state unit.old) card
-            → OnOk result (HasItsRow self.new.cabin.cards (M.state unit.new) card) }
-        ensures unit_keeps { HasLeftMore (M.state unit.old) (M.state unit.new) }
-        ensures quiet { NotesFaults (is_err result) [] (M.state unit.old) (M.state unit.new) }
-        ensures speeds { LeavesSpeeds (M.state unit.old) (M.state unit.new) }
-        ensures booked { TellsPresent minute.now present
-            → BooksOwed present minute.now (is_err result)
+        ensures same { OnErr result ((self.new.journal ≡ self.old.journal) × (marks.new ≡ marks.old)) }
+        ensures stands { UnitStands (is_err result) self.old self.new (M.state unit.old) (M.state unit.new) }
+        ensures goes { UnitGoes (is_err result) (M.state unit.old) (M.state unit.new) }
+        ensures booked { TellsPresent minute.now present → BooksOwed present minute.now (is_err result)
             (record { keeper = self.old; marks = marks.old; breaks = record { items = []; room = 0 } })
             (record { keeper = self.new; marks = marks.new; breaks = record { items = []; room = 0 } })
             (devices (M.state unit.old) (C.state card_a.now) (D.state card_b.now))
             (devices (M.state unit.new) (C.state card_a.now) (D.state card_b.now)) }
-        ensures clock { (M.state unit.old).clock ≤ (M.state unit.new).clock }
-        ensures tells { is_some (M.state unit.new).image ≡ is_some (M.state unit.old).image }
-        ensures cause { HasCause (M.state unit.old) (M.state unit.new) (is_err result) }
     {
         let driver = kept_in(minute, Slot::Driver);
         let codriver = kept_in(minute, Slot::CoDriver);
@@ -197,6 +176,7 @@ impl Keeper {
             (C.card card_a.old) (D.card card_b.old))
             (standing self.new marks.new breaks.new (M.state unit.new) (C.state card_a.new) (D.state card_b.new)
             (C.card card_a.new) (D.card card_b.new)) }
+        ensures speeds { LeavesSpeeds (M.state unit.old) (M.state unit.new) }
         ensures calls { CallsOnly (IsAbsent present) self.old.cabin.cards card_a.old card_a.new card_b.old card_b.new }
     {
         let driver = kept_in(minute, Slot::Driver);

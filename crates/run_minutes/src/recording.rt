@@ -1,6 +1,7 @@
 //! Minutes are kept by a recorder: its calls lend its lines and devices to those of its keeper.
 ghost use Rattle.std.specs.Prelude.{◌≡◌, is_err};
 ghost use Rattle.run_minutes.specs.Kept.{IsAbsent, MayKeep, Keeps, MayKeepAll, KeepsAll};
+ghost use Rattle.run_speeds.specs.Speeds.{LeavesSpeeds};
 ghost use Rattle.run_minutes.specs.Stand.{IsReadyFor, StandsAfter, KeepingGoes, AreBare, CallsOnly};
 
 use crate::keeper::Moment;
@@ -30,6 +31,7 @@ impl<U: Medium, C: Chip> Recorder<U, C> {
         ensures goes { KeepingGoes (⟦<Self as Stands>⟧.stand self.old) (⟦<Self as Stands>⟧.stand self.new) }
         ensures kept { Keeps minute.now present at (is_err result)
             (⟦<Self as Stands>⟧.stand self.old) (⟦<Self as Stands>⟧.stand self.new) }
+        ensures speeds { LeavesSpeeds (U.state self.old.unit) (U.state self.new.unit) }
         ensures calls { CallsOnly (IsAbsent present) self.old.keeper.cabin.cards
             self.old.card_a self.new.card_a self.old.card_b self.new.card_b }
     {
@@ -58,10 +60,11 @@ impl<U: Medium, C: Chip> Recorder<U, C> {
         ensures goes { KeepingGoes (⟦<Self as Stands>⟧.stand self.old) (⟦<Self as Stands>⟧.stand self.new) }
         ensures kept { KeepsAll decided.now at (is_err result)
             (⟦<Self as Stands>⟧.stand self.old) (⟦<Self as Stands>⟧.stand self.new) }
+        ensures speeds { LeavesSpeeds (U.state self.old.unit) (U.state self.new.unit) }
         ensures bare { AreBare self.old.keeper.cabin.cards
             self.old.card_a self.new.card_a self.old.card_b self.new.card_b }
     {
-        self.keeper.keep_decided(
+        self.keeper.keep_all(
             decided,
             at,
             &mut self.unit,

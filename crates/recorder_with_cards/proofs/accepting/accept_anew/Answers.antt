@@ -1,4 +1,4 @@
-use Rattle.std.proofs.Common.{rules, ◌≡◌, ◌∙◌, ℕ, false, Option, Some, None, sym, subst, arith, ◌*◌, ◌+◌, length, ◌≤◌}
+use Rattle.std.proofs.Common.{rules, ◌≡◌, ◌∙◌, ℕ, false, Option, Some, None, sym, subst, arith, ◌*◌, ◌+◌, length, ◌≤◌, refl}
 use Rattle.std.specs.Prelude.{is_err}
 use Rattle.trace_model.specs.declared.Card.{Card}
 use Rattle.safety_model.specs.Safe.{Devices}
@@ -17,6 +17,8 @@ use Rattle.recorder_with_cards.specs.JudgedCards.{CardsAnew}
 use Rattle.run_minutes.proofs.Calm.{calm-same}
 use Rattle.run_outcome.specs.declared.outcome.TheConstants.{MOST_OWED}
 use Rattle.card_slots.specs.declared.seats.Seat.{Seat}
+use Rattle.recorder_with_cards.specs.Accepting.{IsAnew}
+use Rattle.tach_media.proofs.Runs.{no_reads}
 use Rattle.recorder_with_cards.proofs.accepting.accept_anew.Given.{Over}
 use Rattle.recorder_with_cards.proofs.accepting.accept_anew.Goals.{After-accept_in}
 use Rattle.recorder_with_cards.proofs.accepting.accept_anew.Goals as goal
@@ -46,83 +48,109 @@ pub returns-clause-takes : goal.returns-clause-takes
 returns-clause-takes g c =
     subst (λ (n : ℕ). Takes n 0 0 c.args.run.now c.accept_in.new.run c.args.outcome.now c.accept_in.new.outcome) (sym (one g c)) c.accept_in.ensures.takes
 
--- ---- WHAT IS RECORDED
-
-pub returns-clause-recorded : goal.returns-clause-recorded
-returns-clause-recorded g c = λ room.
-    subst (λ (q : Option Card). JudgesAnew q c.args.slot c.args.at (is_err c.accept_in.result) c.args.run.now c.accept_in.new.run c.args.outcome.now c.accept_in.new.outcome (before g c) (behind g c)) (sym (sits g c))
-    (c.accept_in.ensures.recorded (room-here g c room))
-
-pub returns-clause-evented : goal.returns-clause-evented
-returns-clause-evented g c = λ room.
-    subst (λ (q : Option Card). EventsAnew q c.args.slot c.args.at c.args.speed (is_err c.accept_in.result) c.args.run.now c.accept_in.new.run c.args.outcome.now c.accept_in.new.outcome (before g c) (behind g c)) (sym (sits g c))
-    (c.accept_in.ensures.evented (room-here g c room))
-
-pub returns-in_default-clause-evented : goal.returns-in_default-clause-evented
-returns-in_default-clause-evented g c = λ room.
-    let none : card_in (seat_in c.args.run.now.keeper.cabin.slots.seats c.args.slot) ≡ None = search rules in
-    let d : Devices = devices (g.M.Medium.state c.args.unit.now) (g.C.Chip.state c.args.card_a.now) (g.D.Chip.state c.args.card_b.now) in
-    subst (λ (q : Option Card). EventsAnew q c.args.slot c.args.at c.args.speed false c.args.run.now c.args.run.now c.args.outcome.now c.args.outcome.now d d) (sym none) tt
-
-pub returns-clause-noted : goal.returns-clause-noted
-returns-clause-noted g c =
-    subst (λ (q : Option Card). NotesAnew q c.args.slot c.args.at c.args.speed (is_err c.accept_in.result) c.args.run.now c.accept_in.new.run c.args.outcome.now c.accept_in.new.outcome (before g c) (behind g c)) (sym (sits g c)) c.accept_in.ensures.noted
-
-pub returns-in_default-clause-noted : goal.returns-in_default-clause-noted
-returns-in_default-clause-noted g c =
-    let none : card_in (seat_in c.args.run.now.keeper.cabin.slots.seats c.args.slot) ≡ None = search rules in
-    let d : Devices = devices (g.M.Medium.state c.args.unit.now) (g.C.Chip.state c.args.card_a.now) (g.D.Chip.state c.args.card_b.now) in
-    subst (λ (q : Option Card). NotesAnew q c.args.slot c.args.at c.args.speed false c.args.run.now c.args.run.now c.args.outcome.now c.args.outcome.now d d) (sym none)
-    (none-noting c.args.slot c.args.at c.args.speed c.args.run.now c.args.outcome.now (g.M.Medium.state c.args.unit.now) (g.C.Chip.state c.args.card_a.now) (g.D.Chip.state c.args.card_b.now))
-
--- ---- the rings
-
-pub returns-clause-rings : goal.returns-clause-rings
-returns-clause-rings g c =
-    subst (λ (q : Option Card). RingsAnew q c.args.slot c.args.at c.args.speed (is_err c.accept_in.result) c.args.run.now c.accept_in.new.run c.args.outcome.now c.accept_in.new.outcome (g.M.Medium.state c.args.unit.now) (g.M.Medium.state c.accept_in.new.unit)) (sym (sits g c)) c.accept_in.ensures.rings
-
-pub returns-in_default-clause-rings : goal.returns-in_default-clause-rings
-returns-in_default-clause-rings g c =
-    let none : card_in (seat_in c.args.run.now.keeper.cabin.slots.seats c.args.slot) ≡ None = search rules in
-    let U = g.M.Medium.state c.args.unit.now in
-    subst (λ (q : Option Card). RingsAnew q c.args.slot c.args.at c.args.speed false c.args.run.now c.args.run.now c.args.outcome.now c.args.outcome.now U U) (sym none) (rings-left U)
-
-pub returns-clause-ringed : goal.returns-clause-ringed
-returns-clause-ringed g c = λ room.
-    subst (λ (q : Option Card). RingsJudgedAnew q c.args.slot c.args.at (is_err c.accept_in.result) c.args.run.now c.accept_in.new.run c.args.outcome.now c.accept_in.new.outcome (before g c) (behind g c)) (sym (sits g c))
-    (c.accept_in.ensures.ringed (room-here g c room))
-
-pub returns-in_default-clause-ringed : goal.returns-in_default-clause-ringed
-returns-in_default-clause-ringed g c = λ room.
-    let none : card_in (seat_in c.args.run.now.keeper.cabin.slots.seats c.args.slot) ≡ None = search rules in
-    let d : Devices = devices (g.M.Medium.state c.args.unit.now) (g.C.Chip.state c.args.card_a.now) (g.D.Chip.state c.args.card_b.now) in
-    subst (λ (q : Option Card). RingsJudgedAnew q c.args.slot c.args.at false c.args.run.now c.args.run.now c.args.outcome.now c.args.outcome.now d d) (sym none) tt
-
--- ---- what holds of the devices after any calls
-
-pub returns-in_default-clause-later : goal.returns-in_default-clause-later
-returns-in_default-clause-later g c = later-same (devices (g.M.Medium.state c.args.unit.now) (g.C.Chip.state c.args.card_a.now) (g.D.Chip.state c.args.card_b.now))
-
-pub returns-clause-later : goal.returns-clause-later
-returns-clause-later g c = c.accept_in.ensures.later
-
--- ---- its events on the card
-
-pub returns-clause-cards : goal.returns-clause-cards
-returns-clause-cards g c = λ room.
-    subst (λ (q : Option Card). CardsAnew q c.args.slot c.args.at c.args.speed (is_err c.accept_in.result) c.args.run.now c.args.outcome.now c.accept_in.new.outcome (before g c) (behind g c)) (sym (sits g c))
-    (c.accept_in.ensures.cards (room-here g c room))
-
-pub returns-in_default-clause-cards : goal.returns-in_default-clause-cards
-returns-in_default-clause-cards g c = λ room.
-    let none : card_in (seat_in c.args.run.now.keeper.cabin.slots.seats c.args.slot) ≡ None = search rules in
-    let d : Devices = devices (g.M.Medium.state c.args.unit.now) (g.C.Chip.state c.args.card_a.now) (g.D.Chip.state c.args.card_b.now) in
-    subst (λ (q : Option Card). CardsAnew q c.args.slot c.args.at c.args.speed false c.args.run.now c.args.outcome.now c.args.outcome.now d d) (sym none) tt
-
 -- ---- where no tear of a failed call is told no card has broken down
 
-pub returns-in_default-clause-calm : goal.returns-in_default-clause-calm
-returns-in_default-clause-calm g c = calm-same (devices (g.M.Medium.state c.args.unit.now) (g.C.Chip.state c.args.card_a.now) (g.D.Chip.state c.args.card_b.now))
+pub returns-in_default-clause-accepted : goal.returns-in_default-clause-accepted
+returns-in_default-clause-accepted g c = record {
+  enters =
+      let none : card_in (seat_in c.args.run.now.keeper.cabin.slots.seats c.args.slot) ≡ None = search rules in
+      subst (λ (q : Option Card). IsAnew q c.args.slot c.args.at c.args.speed c.args.run.now c.args.run.now c.args.outcome.now c.args.outcome.now) (sym none) (refl, refl);
+  run = refl;
+  refused = refl;
+  beside = refl;
+}
 
-pub returns-clause-calm : goal.returns-clause-calm
-returns-clause-calm g c = c.accept_in.ensures.calm
+pub returns-in_default-clause-promises : goal.returns-in_default-clause-promises
+returns-in_default-clause-promises g c = record {
+  recorded =
+      λ room.
+      let none : card_in (seat_in c.args.run.now.keeper.cabin.slots.seats c.args.slot) ≡ None = search rules in
+      let d : Devices = devices (g.M.Medium.state c.args.unit.now) (g.C.Chip.state c.args.card_a.now) (g.D.Chip.state c.args.card_b.now) in
+      subst (λ (q : Option Card). JudgesAnew q c.args.slot c.args.at false c.args.run.now c.args.run.now c.args.outcome.now c.args.outcome.now d d) (sym none) refl;
+  evented =
+      λ room.
+      let none : card_in (seat_in c.args.run.now.keeper.cabin.slots.seats c.args.slot) ≡ None = search rules in
+      let d : Devices = devices (g.M.Medium.state c.args.unit.now) (g.C.Chip.state c.args.card_a.now) (g.D.Chip.state c.args.card_b.now) in
+      subst (λ (q : Option Card). EventsAnew q c.args.slot c.args.at c.args.speed false c.args.run.now c.args.run.now c.args.outcome.now c.args.outcome.now d d) (sym none) tt;
+  ringed =
+      λ room.
+      let none : card_in (seat_in c.args.run.now.keeper.cabin.slots.seats c.args.slot) ≡ None = search rules in
+      let d : Devices = devices (g.M.Medium.state c.args.unit.now) (g.C.Chip.state c.args.card_a.now) (g.D.Chip.state c.args.card_b.now) in
+      subst (λ (q : Option Card). RingsJudgedAnew q c.args.slot c.args.at false c.args.run.now c.args.run.now c.args.outcome.now c.args.outcome.now d d) (sym none) tt;
+  cards =
+      λ room.
+      let none : card_in (seat_in c.args.run.now.keeper.cabin.slots.seats c.args.slot) ≡ None = search rules in
+      let d : Devices = devices (g.M.Medium.state c.args.unit.now) (g.C.Chip.state c.args.card_a.now) (g.D.Chip.state c.args.card_b.now) in
+      subst (λ (q : Option Card). CardsAnew q c.args.slot c.args.at c.args.speed false c.args.run.now c.args.outcome.now c.args.outcome.now d d) (sym none) tt;
+}
+
+pub returns-in_default-clause-leaves : goal.returns-in_default-clause-leaves
+returns-in_default-clause-leaves g c = record {
+  rings =
+      let none : card_in (seat_in c.args.run.now.keeper.cabin.slots.seats c.args.slot) ≡ None = search rules in
+      let U = g.M.Medium.state c.args.unit.now in
+      subst (λ (q : Option Card). RingsAnew q c.args.slot c.args.at c.args.speed false c.args.run.now c.args.run.now c.args.outcome.now c.args.outcome.now U U) (sym none) (rings-left U);
+  noted =
+      let none : card_in (seat_in c.args.run.now.keeper.cabin.slots.seats c.args.slot) ≡ None = search rules in
+      let d : Devices = devices (g.M.Medium.state c.args.unit.now) (g.C.Chip.state c.args.card_a.now) (g.D.Chip.state c.args.card_b.now) in
+      subst (λ (q : Option Card). NotesAnew q c.args.slot c.args.at c.args.speed false c.args.run.now c.args.run.now c.args.outcome.now c.args.outcome.now d d) (sym none)
+      (none-noting c.args.slot c.args.at c.args.speed c.args.run.now c.args.outcome.now (g.M.Medium.state c.args.unit.now) (g.C.Chip.state c.args.card_a.now) (g.D.Chip.state c.args.card_b.now));
+}
+
+pub returns-in_default-clause-held : goal.returns-in_default-clause-held
+returns-in_default-clause-held g c = record {
+  held = c.requires.held;
+  cause = (no_reads (g.M.Medium.state c.args.unit.now) c.requires.going.ready.unit_ready.works).cause;
+}
+
+pub returns-in_default-clause-goes : goal.returns-in_default-clause-goes
+returns-in_default-clause-goes g c = record {
+  later = later-same (devices (g.M.Medium.state c.args.unit.now) (g.C.Chip.state c.args.card_a.now) (g.D.Chip.state c.args.card_b.now));
+  calm = calm-same (devices (g.M.Medium.state c.args.unit.now) (g.C.Chip.state c.args.card_a.now) (g.D.Chip.state c.args.card_b.now));
+}
+
+pub returns-clause-accepted : goal.returns-clause-accepted
+returns-clause-accepted g c = record {
+  enters = subst (λ (q : Option Card). IsAnew q c.args.slot c.args.at c.args.speed c.args.run.now c.accept_in.new.run c.args.outcome.now c.accept_in.new.outcome) (sym (sits g c)) c.accept_in.ensures.accepted.enters;
+  run = c.accept_in.ensures.accepted.run;
+  refused = c.accept_in.ensures.accepted.refused;
+  beside = c.accept_in.ensures.accepted.beside;
+}
+
+pub returns-clause-promises : goal.returns-clause-promises
+returns-clause-promises g c = record {
+  recorded =
+      λ room.
+      subst (λ (q : Option Card). JudgesAnew q c.args.slot c.args.at (is_err c.accept_in.result) c.args.run.now c.accept_in.new.run c.args.outcome.now c.accept_in.new.outcome (before g c) (behind g c)) (sym (sits g c))
+      (c.accept_in.ensures.promises.recorded (room-here g c room));
+  evented =
+      λ room.
+      subst (λ (q : Option Card). EventsAnew q c.args.slot c.args.at c.args.speed (is_err c.accept_in.result) c.args.run.now c.accept_in.new.run c.args.outcome.now c.accept_in.new.outcome (before g c) (behind g c)) (sym (sits g c))
+      (c.accept_in.ensures.promises.evented (room-here g c room));
+  ringed =
+      λ room.
+      subst (λ (q : Option Card). RingsJudgedAnew q c.args.slot c.args.at (is_err c.accept_in.result) c.args.run.now c.accept_in.new.run c.args.outcome.now c.accept_in.new.outcome (before g c) (behind g c)) (sym (sits g c))
+      (c.accept_in.ensures.promises.ringed (room-here g c room));
+  cards =
+      λ room.
+      subst (λ (q : Option Card). CardsAnew q c.args.slot c.args.at c.args.speed (is_err c.accept_in.result) c.args.run.now c.args.outcome.now c.accept_in.new.outcome (before g c) (behind g c)) (sym (sits g c))
+      (c.accept_in.ensures.promises.cards (room-here g c room));
+}
+
+pub returns-clause-leaves : goal.returns-clause-leaves
+returns-clause-leaves g c = record {
+  rings = subst (λ (q : Option Card). RingsAnew q c.args.slot c.args.at c.args.speed (is_err c.accept_in.result) c.args.run.now c.accept_in.new.run c.args.outcome.now c.accept_in.new.outcome (g.M.Medium.state c.args.unit.now) (g.M.Medium.state c.accept_in.new.unit)) (sym (sits g c)) c.accept_in.ensures.leaves.rings;
+  noted = subst (λ (q : Option Card). NotesAnew q c.args.slot c.args.at c.args.speed (is_err c.accept_in.result) c.args.run.now c.accept_in.new.run c.args.outcome.now c.accept_in.new.outcome (before g c) (behind g c)) (sym (sits g c)) c.accept_in.ensures.leaves.noted;
+}
+
+pub returns-clause-held : goal.returns-clause-held
+returns-clause-held g c = record {
+  held = c.accept_in.ensures.held.held;
+  cause = c.accept_in.ensures.held.cause;
+}
+
+pub returns-clause-goes : goal.returns-clause-goes
+returns-clause-goes g c = record {
+  later = c.accept_in.ensures.goes.later;
+  calm = c.accept_in.ensures.goes.calm;
+}

@@ -1,3 +1,4 @@
+use Rattle.std.proofs.lemmas.Grind.{common_steps}
 use Rattle.std.proofs.Common.{rules, ◌≡◌, ◌∙◌, ⊎_elim, ℕ, ◌+◌, ◌/◌, ◌^◌, ◌<◌, ◌≤◌, Bool, true, Option, Some, None, IfSome, is_some, List, [], ◌∷◌, ◌++◌, Contains, length, refl, ap, sym, subst, arith, length-append, false}
 use Rattle.tach_media.proofs.Runs.{on_ok, ok_gives}
 use Rattle.trace_model.specs.declared.Card.{Card}
@@ -12,6 +13,7 @@ use Rattle.run_minutes.specs.declared.keeper.Keeper.{Keeper}
 use Rattle.run_minutes.specs.Keeping.{CardMayBeCalled, HasItsRow, HaveRows}
 use Rattle.run_minutes.proofs.Units.{unit-stays}
 use Rattle.run_outcome.specs.declared.outcome.Outcome.{Outcome}
+use Rattle.run_events.proofs.Newest.{knows-left}
 use Rattle.run_insertion.specs.Entering.{ending_of, measured, breaks_by, finds_by, Way}
 use Rattle.run_acts.specs.Going.{CardAt}
 use Rattle.run_acts.proofs.Kept.{owing-sum}
@@ -59,6 +61,7 @@ use Rattle.recorder_with_cards.specs.Judged.{RunNext, moment_in}
 use Rattle.trace_model.specs.Trace.{TraceSecond}
 use Rattle.log_model.specs.Course.{Visit}
 use Rattle.log_model.specs.Slots.{other_slot}
+use Rattle.run_speeds.specs.Speeds.{LeavesSpeeds}
 use Rattle.recorder_with_cards.proofs.accepting.accept_here.Given.{Over}
 use Rattle.recorder_with_cards.proofs.accepting.accept_here.Goals.{After-len-most}
 use Rattle.recorder_with_cards.proofs.accepting.accept_here.Goals as goal
@@ -135,9 +138,6 @@ module _ (g : Over) (c : After-len-most g) where
     room = room;
   }
 
-pub returns-clause-beside : goal.returns-clause-beside
-returns-clause-beside g c = (comes g c).seat
-
 pub returns-clause-held : goal.returns-clause-held
 returns-clause-held g c =
     let w = c.accept-answer.ensures.entered in let h = c.requires.going in let held = c.requires.held in
@@ -161,6 +161,13 @@ returns-clause-held g c =
       card_b = both.1;
       stand = (ungiven_of h.span, None, c.accept-answer.ensures.stands (ungiven_of h.span) (omega (arith, sum, end, none, minute)) h.cabin);
     }
+
+-- it leaves the blocks of detailed speed
+speeds-left : (g : Over) (c : After-len-most g) → LeavesSpeeds (g.M.Medium.state c.args.unit.now) (g.M.Medium.state c.accept-answer.new.unit)
+speeds-left g c =
+    let w = c.accept-answer.ensures.entered in
+    entered-leaves (notes_by (ending_of w.0) c.args.entering c.args.run.now.noted (measured w.0 c.args.entering c.args.run.now.keeper).cabin) (is_err c.accept-answer.result) (g.M.Medium.state c.args.unit.now) (g.M.Medium.state c.accept-answer.new.unit)
+    (g.met.M.Medium.coherent c.args.unit.now) w.1.notes
 
 pub returns-clause-going : goal.returns-clause-going
 returns-clause-going g c = on_ok c.accept-answer.result (λ well.
@@ -200,6 +207,7 @@ returns-clause-going g c = on_ok c.accept-answer.result (λ well.
           (subst (λ (o : Option Accepted). IfSome o (HasEntry c.accept-answer.new.noted)) (sym same) (entry-more c.args.run.now.noted c.accept-answer.new.noted (session_of old (other e.which)) k.count (h.entries (other e.which))))) (card-or-other e.which card);
       watches = h.watches;
       limit = h.limit;
+      newest = knows-left c.args.run.now.watch.newest (g.M.Medium.state c.args.unit.now) (g.M.Medium.state c.accept-answer.new.unit) (g.met.M.Medium.coherent c.args.unit.now) (g.met.M.Medium.coherent c.accept-answer.new.unit) h.ready.unit_ready.works (speeds-left g c) h.newest;
     })
 
 pub returns-clause-takes : goal.returns-clause-takes
@@ -221,133 +229,124 @@ returns-clause-takes g c =
       refused = let same = ap (λ (p : Outcome). length p.refused.items) is in omega (arith, same);
     }
 
-pub returns-clause-refused : goal.returns-clause-refused
-returns-clause-refused g c = ap (λ (p : Outcome). p.refused) c.accept-answer.ensures.entered.1.left.outcome
-
--- ---- WHAT IS RECORDED
-
-pub returns-clause-recorded : goal.returns-clause-recorded
-returns-clause-recorded g c = λ room odometer o done s n waits fewer at next time.
-    let run = c.args.run.now in
-    let e = c.args.entering in
-    let h = c.requires.going in
-    let w = c.accept-answer.ensures.entered in
-    let U : State = g.M.Medium.state c.args.unit.now in
-    let V : State = g.M.Medium.state c.accept-answer.new.unit in
-    let X : State = g.C.Chip.state c.args.card.now in
-    let Z : State = g.C.Chip.state c.accept-answer.new.card in
-    let Y : State = g.D.Chip.state c.args.others.now in
-    let new : Run = record run { keeper = c.accept-answer.new.keeper; noted = c.accept-answer.new.noted } in
-    let failed : Bool = is_err c.accept-answer.result in
-    let may = may-judge g c room o done s n waits fewer at next in
-    let sits = seated g c in
-    let sound = sound g c time in
-    let gone = gone g c in
-    let seen = found-in o done s n waits fewer e run.keeper c.args.outcome.now run.unfound run.next run.begun run.minutes U X Y next.goes.within may failed c.accept-answer.new.keeper run.noted c.accept-answer.new.noted c.accept-answer.new.outcome V Z w.0 gone sound in
-    let there = unit-told o done s n waits fewer e run.keeper c.args.outcome.now run.unfound run.next run.begun run.minutes U X Y next.goes.within may in
-    let writes = accept-writes U V X Z sound.unit_before sound.unit_behind e failed run.keeper c.accept-answer.new.keeper run.noted c.accept-answer.new.noted c.args.outcome.now c.accept-answer.new.outcome w.0 (ap (λ (q : Option (List ℕ)). is_some q) there.1) gone.cause w.1 in
-    let low : e.at.second < 2 ^ 32 = let second = c.requires.at in let small = c.requires.small in omega (arith, second, small) in
-    judged-by failed o done s n waits fewer run new c.args.outcome.now c.accept-answer.new.outcome (arranged e.which U X Y) (arranged e.which V Z Y) next.goes c.requires.lit (ap (λ (q : Keeper). q.odometer) w.1.left.keeper)
-    (entered-recorded o done s n waits fewer e run.keeper c.args.outcome.now run.unfound run.next run.begun run.minutes U X Y next.goes.within may failed c.accept-answer.new.keeper run.noted c.accept-answer.new.noted c.accept-answer.new.outcome V Z sound w.0 gone)
-    (λ well. entered-stays o e failed well run.keeper c.accept-answer.new.keeper run.noted c.accept-answer.new.noted c.args.outcome.now c.accept-answer.new.outcome U V X Z Y (λ log. notes_within next.goes.within.b done s (In n) log)
-    (finds-noted o done s n waits fewer (values_of run c.args.outcome.now) (arranged e.which U X Y) next.goes.within e at next.next next.none next.order) c.requires.seat sits.0 (marked c.accept-answer.new.outcome.marks.items (truths_within o next.goes.within.b.run.log done s)) s.number room
-    (λ y at_ valid. subst IsOwnValid (sym (may.origin.image e.which)) (was-valid o done s n waits fewer e run.keeper c.args.outcome.now run.unfound run.next run.begun run.minutes U X Y next.goes.within may sound.card_before y at_ valid))
-    (λ none_ verdict. (
-      subst (λ (k : ℕ). IsOdometerBefore (rule_of o) (odometer_at o.recording.unit) (past_of next.goes.within.b.run.log (done ++ s ∷ [])).spans k e.odometer.0) (sym (ap (λ (m : Moment). m.second) at))
-          (accepted-now o done s (In n) waits [] (values_of run c.args.outcome.now) (arranged e.which U X Y) next.goes.within (began-none o done s (In n) waits None [] (values_of run c.args.outcome.now) (arranged e.which U X Y) next.goes.within none_)
-          e.odometer.0 (odometer next.goes.within.sp next.goes.within.minutes)),
-      entered-now o done s n waits fewer (values_of run c.args.outcome.now) (arranged e.which U X Y) next.goes.within e at next.next verdict,
-    )) w.0 _ w.1
-    (known o done s n waits fewer e run.keeper c.args.outcome.now run.unfound run.next run.begun run.minutes U X Y next.goes.within may failed c.accept-answer.new.keeper run.noted c.accept-answer.new.noted c.accept-answer.new.outcome V Z w.0 gone sound)
-    (λ none_ entered told marks.
-    let x =
-    owed-told o done s n waits fewer e run.keeper c.args.outcome.now run.unfound run.next run.begun run.minutes U X Y next.goes.within may sound.card_before none_ entered told in
-    (x.0, x.1, (x.2, marks)))
-    (way-tells (found_of o.found e.which) run.keeper.memory.registration e failed U.image U V X Z well low c.requires.fits seen.0 seen.1
-    (λ valid. ((next.goes.within.powered.go.held e.which valid).now seen.0 (mine-back e.which U X Y (λ (q : State). q.may_leave seen.0) seen.1)).0) w.0 w.1.is seen.2 writes) sits.1
-    (others-session e.which run.keeper.cabin.cards c.accept-answer.new.keeper.cabin.cards
-    (comes g c).others)
-    (all-true o (marked c.args.outcome.now.marks.items (truths_within o next.goes.within.b.run.log done s)) (marked c.accept-answer.new.outcome.marks.items (truths_within o next.goes.within.b.run.log done s)) s.number (log_of c.args.outcome.now) (notes_within next.goes.within.b done s (In n) (log_of c.args.outcome.now)) run.keeper.memory.registration run.keeper.cabin (arranged e.which U X Y)
-    (λ none_.
-    marked-grow c.args.outcome.now.marks.items c.accept-answer.new.outcome.marks.items (truths_within o next.goes.within.b.run.log done s) (truths_within o next.goes.within.b.run.log done s)
-    (λ mark among. subst (λ (p : Outcome). Contains p.marks.items mark) (sym w.1.left.outcome) (marks-behind (ending_of w.0) e c.args.outcome.now mark among)) (grow-self (truths_within o next.goes.within.b.run.log done s)))
-    next.goes.stay))
-
--- ---- its events
-
-pub returns-clause-evented : goal.returns-clause-evented
-returns-clause-evented g c = λ room o done s n waits fewer at speed next turn events time.
-    let run = c.args.run.now in
-    let e = c.args.entering in
-    let may = may-judge g c room o done s n waits fewer at next in
-    judged-evented o done s n waits fewer e run.keeper c.args.outcome.now run.unfound run.next run.begun run.minutes (unit0 g c) (card0 g c) (beside g c) next.goes.within may next.goes.origin turn speed (second-small g c s n at) (ungiven_of c.requires.going.span) c.requires.going.cabin
-    (is_err c.accept-answer.result) c.accept-answer.new.keeper run.noted c.accept-answer.new.noted c.accept-answer.new.outcome (unit1 g c) (card1 g c) (way g c) (gone g c) (sound g c time) next.goes.stay events
-    (judged-notes e (is_err c.accept-answer.result) (way g c) run.keeper run.noted (unit0 g c) (unit1 g c) (card0 g c) (card1 g c) (beside g c) (g.met.M.Medium.coherent c.args.unit.now) (g.met.M.Medium.coherent c.accept-answer.new.unit) c.requires.held.is_unit c.accept-answer.ensures.cause.works c.accept-answer.ensures.entered.1.notes)
-
--- ---- what is noted
-
-pub returns-clause-noted : goal.returns-clause-noted
-returns-clause-noted g c =
-    let run = c.args.run.now in
-    let w = c.accept-answer.ensures.entered in
-    let new : Run = record run { keeper = c.accept-answer.new.keeper; noted = c.accept-answer.new.noted } in
-    let a : IsAccepted c.args.entering run new c.args.outcome.now c.accept-answer.new.outcome = record { way = w.0; only = refl; left = w.1.left } in
-    judged-noting c.args.entering (is_err c.accept-answer.result) run new c.args.outcome.now c.accept-answer.new.outcome a (g.M.Medium.state c.args.unit.now) (g.M.Medium.state c.accept-answer.new.unit) (g.C.Chip.state c.args.card.now) (g.C.Chip.state c.accept-answer.new.card) (g.D.Chip.state c.args.others.now)
-    (g.met.M.Medium.coherent c.args.unit.now) (g.met.M.Medium.coherent c.accept-answer.new.unit) c.requires.held.is_unit c.accept-answer.ensures.cause.works w.1.notes
-
 -- ---- the rings
-
-pub returns-clause-rings : goal.returns-clause-rings
-returns-clause-rings g c =
-    let run = c.args.run.now in
-    let w = c.accept-answer.ensures.entered in
-    record {
-      accepted = record { way = w.0; only = refl; left = w.1.left };
-      writes = λ tells. accept-writes (g.M.Medium.state c.args.unit.now) (g.M.Medium.state c.accept-answer.new.unit) (g.C.Chip.state c.args.card.now) (g.C.Chip.state c.accept-answer.new.card)
-          (g.met.M.Medium.coherent c.args.unit.now) (g.met.M.Medium.coherent c.accept-answer.new.unit) c.args.entering (is_err c.accept-answer.result) run.keeper c.accept-answer.new.keeper run.noted c.accept-answer.new.noted c.args.outcome.now c.accept-answer.new.outcome w.0 tells c.accept-answer.ensures.cause w.1;
-    }
 
 -- where its insertion stands, in the rings of the run
 entry-noted : (n : ℕ) (q : Option Accepted) → IfSome q (HasEntry n) → IfSome q (λ b. b.noted ≤ n)
 entry-noted n None h = tt
 entry-noted n (Some b) h = h.1
 
-pub returns-clause-ringed : goal.returns-clause-ringed
-returns-clause-ringed g c = λ room o done s n waits fewer at next spans odometer counted time.
-    let run = c.args.run.now in
-    let e = c.args.entering in
-    let may = may-judge g c room o done s n waits fewer at next in
-    let others : (card : Card) → IfSome (session_of run.keeper.cabin.cards card) (λ b. b.noted ≤ run.noted) = λ card. entry-noted run.noted (session_of run.keeper.cabin.cards card) (c.requires.going.entries card) in
-    let few : length c.accept-answer.new.outcome.finds.items < 2 ^ 64 = search rules in
-    let v = judged-ringed o done s n waits fewer e run.keeper c.args.outcome.now run.unfound run.next run.begun run.minutes (unit0 g c) (card0 g c) (beside g c) next.goes.within may next.goes.origin (second-small g c s n at) c.requires.fits spans odometer run.noted counted others
-    (is_err c.accept-answer.result) c.accept-answer.new.keeper c.accept-answer.new.noted c.accept-answer.new.outcome (unit1 g c) (card1 g c) (way g c) (gone g c) (sound g c time) few
-    (mine-at run.keeper.cabin.cards (g.C.Chip.card c.args.card.now) (g.D.Chip.card c.args.others.now) (card0 g c) (beside g c) e.which c.requires.held.card_a c.requires.held.card_b).size in
-    record { rings = v.rings; others = v.others; here = v.here; cut = v.cut; same = v.same; left = v.left; places = v.places; odometer = ap (λ (q : Keeper). q.odometer) c.accept-answer.ensures.entered.1.left.keeper; counted = v.counted }
-
--- ---- what holds of the devices after any calls
-
-pub returns-clause-later : goal.returns-clause-later
-returns-clause-later g c = c.accept-answer.ensures.later
-
-pub returns-clause-speeds : goal.returns-clause-speeds
-returns-clause-speeds g c =
-    let w = c.accept-answer.ensures.entered in
-    entered-leaves (notes_by (ending_of w.0) c.args.entering c.args.run.now.noted (measured w.0 c.args.entering c.args.run.now.keeper).cabin) (is_err c.accept-answer.result) (g.M.Medium.state c.args.unit.now) (g.M.Medium.state c.accept-answer.new.unit)
-    (g.met.M.Medium.coherent c.args.unit.now) w.1.notes
-
--- ---- its events on the card
-
-pub returns-clause-cards : goal.returns-clause-cards
-returns-clause-cards g c = λ room o done s n waits fewer at speed next vehicle time.
-    let run = c.args.run.now in
-    let e = c.args.entering in
-    let may = may-judge g c room o done s n waits fewer at next in
-    judged-cards o done s n waits fewer e run.keeper c.args.outcome.now run.unfound run.next run.begun run.minutes (unit0 g c) (card0 g c) (beside g c) next.goes.within may next.goes.origin vehicle speed
-    (is_err c.accept-answer.result) c.accept-answer.new.keeper run.noted c.accept-answer.new.noted c.accept-answer.new.outcome (unit1 g c) (card1 g c) (way g c) (gone g c) (sound g c time)
-    (sits-works e (measured (way g c) e run.keeper) c.accept-answer.new.keeper run.noted (ending_of (way g c)) (g.C.Chip.card c.accept-answer.new.card) (card1 g c) c.accept-answer.ensures.entered.1.left.keeper c.accept-answer.ensures.card)
-    next.goes.stay
-
 -- ---- where no tear of a failed call is told no card has broken down
 
-pub returns-clause-calm : goal.returns-clause-calm
-returns-clause-calm g c = c.accept-answer.ensures.calm
+pub returns-clause-accepted : goal.returns-clause-accepted
+returns-clause-accepted g c = record {
+  enters = first_of (search rules, grind (arith, common_steps));
+  run = first_of (search rules, grind (arith, common_steps));
+  refused = ap (λ (p : Outcome). p.refused) c.accept-answer.ensures.entered.1.left.outcome;
+  beside = (comes g c).seat;
+}
+
+pub returns-clause-promises : goal.returns-clause-promises
+returns-clause-promises g c = record {
+  recorded =
+      λ room odometer o done s n waits fewer at next time.
+      let run = c.args.run.now in
+      let e = c.args.entering in
+      let h = c.requires.going in
+      let w = c.accept-answer.ensures.entered in
+      let U : State = g.M.Medium.state c.args.unit.now in
+      let V : State = g.M.Medium.state c.accept-answer.new.unit in
+      let X : State = g.C.Chip.state c.args.card.now in
+      let Z : State = g.C.Chip.state c.accept-answer.new.card in
+      let Y : State = g.D.Chip.state c.args.others.now in
+      let new : Run = record run { keeper = c.accept-answer.new.keeper; noted = c.accept-answer.new.noted } in
+      let failed : Bool = is_err c.accept-answer.result in
+      let may = may-judge g c room o done s n waits fewer at next in
+      let sits = seated g c in
+      let sound = sound g c time in
+      let gone = gone g c in
+      let seen = found-in o done s n waits fewer e run.keeper c.args.outcome.now run.unfound run.next run.begun run.minutes U X Y next.goes.within may failed c.accept-answer.new.keeper run.noted c.accept-answer.new.noted c.accept-answer.new.outcome V Z w.0 gone sound in
+      let there = unit-told o done s n waits fewer e run.keeper c.args.outcome.now run.unfound run.next run.begun run.minutes U X Y next.goes.within may in
+      let writes = accept-writes U V X Z sound.unit_before sound.unit_behind e failed run.keeper c.accept-answer.new.keeper run.noted c.accept-answer.new.noted c.args.outcome.now c.accept-answer.new.outcome w.0 (ap (λ (q : Option (List ℕ)). is_some q) there.1) gone.cause w.1 in
+      let low : e.at.second < 2 ^ 32 = let second = c.requires.at in let small = c.requires.small in omega (arith, second, small) in
+      judged-by failed o done s n waits fewer run new c.args.outcome.now c.accept-answer.new.outcome (arranged e.which U X Y) (arranged e.which V Z Y) next.goes c.requires.lit (ap (λ (q : Keeper). q.odometer) w.1.left.keeper)
+      (entered-recorded o done s n waits fewer e run.keeper c.args.outcome.now run.unfound run.next run.begun run.minutes U X Y next.goes.within may failed c.accept-answer.new.keeper run.noted c.accept-answer.new.noted c.accept-answer.new.outcome V Z sound w.0 gone)
+      (λ well. entered-stays o e failed well run.keeper c.accept-answer.new.keeper run.noted c.accept-answer.new.noted c.args.outcome.now c.accept-answer.new.outcome U V X Z Y (λ log. notes_within next.goes.within.b done s (In n) log)
+      (finds-noted o done s n waits fewer (values_of run c.args.outcome.now) (arranged e.which U X Y) next.goes.within e at next.next next.none next.order) c.requires.seat sits.0 (marked c.accept-answer.new.outcome.marks.items (truths_within o next.goes.within.b.run.log done s)) s.number room
+      (λ y at_ valid. subst IsOwnValid (sym (may.origin.image e.which)) (was-valid o done s n waits fewer e run.keeper c.args.outcome.now run.unfound run.next run.begun run.minutes U X Y next.goes.within may sound.card_before y at_ valid))
+      (λ none_ verdict. (
+        subst (λ (k : ℕ). IsOdometerBefore (rule_of o) (odometer_at o.recording.unit) (past_of next.goes.within.b.run.log (done ++ s ∷ [])).spans k e.odometer.0) (sym (ap (λ (m : Moment). m.second) at))
+            (accepted-now o done s (In n) waits [] (values_of run c.args.outcome.now) (arranged e.which U X Y) next.goes.within (began-none o done s (In n) waits None [] (values_of run c.args.outcome.now) (arranged e.which U X Y) next.goes.within none_)
+            e.odometer.0 (odometer next.goes.within.sp next.goes.within.minutes)),
+        entered-now o done s n waits fewer (values_of run c.args.outcome.now) (arranged e.which U X Y) next.goes.within e at next.next verdict,
+      )) w.0 _ w.1
+      (known o done s n waits fewer e run.keeper c.args.outcome.now run.unfound run.next run.begun run.minutes U X Y next.goes.within may failed c.accept-answer.new.keeper run.noted c.accept-answer.new.noted c.accept-answer.new.outcome V Z w.0 gone sound)
+      (λ none_ entered told marks.
+      let x =
+      owed-told o done s n waits fewer e run.keeper c.args.outcome.now run.unfound run.next run.begun run.minutes U X Y next.goes.within may sound.card_before none_ entered told in
+      (x.0, x.1, (x.2, marks)))
+      (way-tells (found_of o.found e.which) run.keeper.memory.registration e failed U.image U V X Z well low c.requires.fits seen.0 seen.1
+      (λ valid. ((next.goes.within.powered.go.held e.which valid).now seen.0 (mine-back e.which U X Y (λ (q : State). q.may_leave seen.0) seen.1)).0) w.0 w.1.is seen.2 writes) sits.1
+      (others-session e.which run.keeper.cabin.cards c.accept-answer.new.keeper.cabin.cards
+      (comes g c).others)
+      (all-true o (marked c.args.outcome.now.marks.items (truths_within o next.goes.within.b.run.log done s)) (marked c.accept-answer.new.outcome.marks.items (truths_within o next.goes.within.b.run.log done s)) s.number (log_of c.args.outcome.now) (notes_within next.goes.within.b done s (In n) (log_of c.args.outcome.now)) run.keeper.memory.registration run.keeper.cabin (arranged e.which U X Y)
+      (λ none_.
+      marked-grow c.args.outcome.now.marks.items c.accept-answer.new.outcome.marks.items (truths_within o next.goes.within.b.run.log done s) (truths_within o next.goes.within.b.run.log done s)
+      (λ mark among. subst (λ (p : Outcome). Contains p.marks.items mark) (sym w.1.left.outcome) (marks-behind (ending_of w.0) e c.args.outcome.now mark among)) (grow-self (truths_within o next.goes.within.b.run.log done s)))
+      next.goes.stay));
+  evented =
+      λ room o done s n waits fewer at speed next turn events time.
+      let run = c.args.run.now in
+      let e = c.args.entering in
+      let may = may-judge g c room o done s n waits fewer at next in
+      judged-evented o done s n waits fewer e run.keeper c.args.outcome.now run.unfound run.next run.begun run.minutes (unit0 g c) (card0 g c) (beside g c) next.goes.within may next.goes.origin turn speed (second-small g c s n at) (ungiven_of c.requires.going.span) c.requires.going.cabin
+      (is_err c.accept-answer.result) c.accept-answer.new.keeper run.noted c.accept-answer.new.noted c.accept-answer.new.outcome (unit1 g c) (card1 g c) (way g c) (gone g c) (sound g c time) next.goes.stay events
+      (judged-notes e (is_err c.accept-answer.result) (way g c) run.keeper run.noted (unit0 g c) (unit1 g c) (card0 g c) (card1 g c) (beside g c) (g.met.M.Medium.coherent c.args.unit.now) (g.met.M.Medium.coherent c.accept-answer.new.unit) c.requires.held.is_unit c.accept-answer.ensures.cause.works c.accept-answer.ensures.entered.1.notes);
+  ringed =
+      λ room o done s n waits fewer at next spans odometer counted time.
+      let run = c.args.run.now in
+      let e = c.args.entering in
+      let may = may-judge g c room o done s n waits fewer at next in
+      let others : (card : Card) → IfSome (session_of run.keeper.cabin.cards card) (λ b. b.noted ≤ run.noted) = λ card. entry-noted run.noted (session_of run.keeper.cabin.cards card) (c.requires.going.entries card) in
+      let few : length c.accept-answer.new.outcome.finds.items < 2 ^ 64 = search rules in
+      let v = judged-ringed o done s n waits fewer e run.keeper c.args.outcome.now run.unfound run.next run.begun run.minutes (unit0 g c) (card0 g c) (beside g c) next.goes.within may next.goes.origin (second-small g c s n at) c.requires.fits spans odometer run.noted counted others
+      (is_err c.accept-answer.result) c.accept-answer.new.keeper c.accept-answer.new.noted c.accept-answer.new.outcome (unit1 g c) (card1 g c) (way g c) (gone g c) (sound g c time) few
+      (mine-at run.keeper.cabin.cards (g.C.Chip.card c.args.card.now) (g.D.Chip.card c.args.others.now) (card0 g c) (beside g c) e.which c.requires.held.card_a c.requires.held.card_b).size in
+      record { rings = v.rings; others = v.others; here = v.here; cut = v.cut; same = v.same; left = v.left; places = v.places; odometer = ap (λ (q : Keeper). q.odometer) c.accept-answer.ensures.entered.1.left.keeper; counted = v.counted };
+  cards =
+      λ room o done s n waits fewer at speed next vehicle time.
+      let run = c.args.run.now in
+      let e = c.args.entering in
+      let may = may-judge g c room o done s n waits fewer at next in
+      judged-cards o done s n waits fewer e run.keeper c.args.outcome.now run.unfound run.next run.begun run.minutes (unit0 g c) (card0 g c) (beside g c) next.goes.within may next.goes.origin vehicle speed
+      (is_err c.accept-answer.result) c.accept-answer.new.keeper run.noted c.accept-answer.new.noted c.accept-answer.new.outcome (unit1 g c) (card1 g c) (way g c) (gone g c) (sound g c time)
+      (sits-works e (measured (way g c) e run.keeper) c.accept-answer.new.keeper run.noted (ending_of (way g c)) (g.C.Chip.card c.accept-answer.new.card) (card1 g c) c.accept-answer.ensures.entered.1.left.keeper c.accept-answer.ensures.card)
+      next.goes.stay;
+}
+
+pub returns-clause-leaves : goal.returns-clause-leaves
+returns-clause-leaves g c = record {
+  rings =
+      let run = c.args.run.now in
+      let w = c.accept-answer.ensures.entered in
+      record {
+        accepted = record { way = w.0; only = refl; left = w.1.left };
+        writes = λ tells. accept-writes (g.M.Medium.state c.args.unit.now) (g.M.Medium.state c.accept-answer.new.unit) (g.C.Chip.state c.args.card.now) (g.C.Chip.state c.accept-answer.new.card)
+            (g.met.M.Medium.coherent c.args.unit.now) (g.met.M.Medium.coherent c.accept-answer.new.unit) c.args.entering (is_err c.accept-answer.result) run.keeper c.accept-answer.new.keeper run.noted c.accept-answer.new.noted c.args.outcome.now c.accept-answer.new.outcome w.0 tells c.accept-answer.ensures.cause w.1;
+      };
+  noted =
+      let run = c.args.run.now in
+      let w = c.accept-answer.ensures.entered in
+      let new : Run = record run { keeper = c.accept-answer.new.keeper; noted = c.accept-answer.new.noted } in
+      let a : IsAccepted c.args.entering run new c.args.outcome.now c.accept-answer.new.outcome = record { way = w.0; only = refl; left = w.1.left } in
+      judged-noting c.args.entering (is_err c.accept-answer.result) run new c.args.outcome.now c.accept-answer.new.outcome a (g.M.Medium.state c.args.unit.now) (g.M.Medium.state c.accept-answer.new.unit) (g.C.Chip.state c.args.card.now) (g.C.Chip.state c.accept-answer.new.card) (g.D.Chip.state c.args.others.now)
+      (g.met.M.Medium.coherent c.args.unit.now) (g.met.M.Medium.coherent c.accept-answer.new.unit) c.requires.held.is_unit c.accept-answer.ensures.cause.works w.1.notes;
+}
+
+pub returns-clause-goes : goal.returns-clause-goes
+returns-clause-goes g c = record {
+  clock = c.accept-answer.ensures.clock;
+  later = c.accept-answer.ensures.later;
+  speeds = speeds-left g c;
+  calm = c.accept-answer.ensures.calm;
+}

@@ -2,7 +2,7 @@ use Rattle.std.proofs.Common.{◌≡◌, ◌∙◌, Bool, true, false, length, r
 use Rattle.log_model.specs.declared.lines.Refused.{Refused}
 use Rattle.run_outcome.specs.Lines.{Listed}
 use Rattle.run_acts.specs.Power.{is_lit}
-use Rattle.recorder_with_cards.specs.Acting.{IsActed}
+use Rattle.recorder_with_cards.specs.Acting.{IsActed, refusal_lines, refused_by}
 use Rattle.run_promise.specs.Between.{devices}
 use Rattle.recorder_with_cards.proofs.RingsHeld.{ringed-over}
 use Rattle.recorder_with_cards.proofs.Allowed.{lit-refused}
@@ -10,37 +10,10 @@ use Rattle.run_minutes.proofs.Later.{later-same}
 use Rattle.recorder_with_cards.proofs.CardsHeld.{carded-over}
 use Rattle.run_outcome.proofs.Broken.{broke-none}
 use Rattle.run_minutes.proofs.Calm.{calm-same}
+use Rattle.std.proofs.lemmas.List.{append-nil}
+use Rattle.run_minutes.specs.Keeping.{with_lines}
+use Rattle.std.specs.Prelude.{List}
 use Rattle.recorder_with_cards.proofs.acts.act.Goals as goal
-
-pub returns-clause-none : goal.returns-clause-none
-returns-clause-none g c = λ no. c.act_lit.ensures.none (λ is.
-    let run = c.args.run.now in
-    let lit : is_lit run.power ≡ true = sym c.is_lit.ensures ∙ c.if-not-is_lit.false in
-    no (lit-refused c.args.has_power (is_lit run.power) run.keeper.cabin.slots.seats c.args.speed c.args.action c.if-not-has_power.false lit is))
-
--- ---- what it did
-
-pub returns-then-not-has_power-clause-acted : goal.returns-then-not-has_power-clause-acted
-returns-then-not-has_power-clause-acted g c =
-    let run = c.args.run.now in
-    let o = c.args.outcome.now in
-    subst (λ (b : Bool). IsActed b (is_lit run.power) c.args.action c.args.begun c.args.speed run run o (record o { refused = c.refuse.new.refused })) (sym c.if-not-has_power.true) (refl, ap (λ (l : Listed Refused). record o { refused = l }) c.refuse.ensures)
-
-pub returns-then-not-is_lit-clause-acted : goal.returns-then-not-is_lit-clause-acted
-returns-then-not-is_lit-clause-acted g c =
-    let run = c.args.run.now in
-    let o = c.args.outcome.now in
-    let dark : is_lit run.power ≡ false = sym c.is_lit.ensures ∙ c.if-not-is_lit.true in
-    subst (λ (b : Bool). IsActed b (is_lit run.power) c.args.action c.args.begun c.args.speed run run o o) (sym c.if-not-has_power.false)
-    (subst (λ (l : Bool). IsActed true l c.args.action c.args.begun c.args.speed run run o o) (sym dark) (refl, refl))
-
-pub returns-clause-acted : goal.returns-clause-acted
-returns-clause-acted g c =
-    let run = c.args.run.now in
-    let o = c.args.outcome.now in
-    let lit : is_lit run.power ≡ true = sym c.is_lit.ensures ∙ c.if-not-is_lit.false in
-    subst (λ (b : Bool). IsActed b (is_lit run.power) c.args.action c.args.begun c.args.speed run c.act_lit.new.run o c.act_lit.new.outcome) (sym c.if-not-has_power.false)
-    (subst (λ (l : Bool). IsActed true l c.args.action c.args.begun c.args.speed run c.act_lit.new.run o c.act_lit.new.outcome) (sym lit) c.act_lit.ensures.acted)
 
 -- ---- which devices are called
 
@@ -55,24 +28,6 @@ returns-clause-still g c = λ none.
     let lit : is_lit c.args.run.now.power ≡ true = sym c.is_lit.ensures ∙ c.if-not-is_lit.false in
     c.act_lit.ensures.still (none c.if-not-has_power.false lit)
 
-pub returns-then-not-has_power-clause-time : goal.returns-then-not-has_power-clause-time
-returns-then-not-has_power-clause-time g c = λ h. h
-
-pub returns-then-not-is_lit-clause-time : goal.returns-then-not-is_lit-clause-time
-returns-then-not-is_lit-clause-time g c = λ h. h
-
-pub returns-clause-time : goal.returns-clause-time
-returns-clause-time g c = c.act_lit.ensures.time
-
-pub returns-then-not-has_power-clause-later : goal.returns-then-not-has_power-clause-later
-returns-then-not-has_power-clause-later g c = later-same (devices (g.M.Medium.state c.args.unit.now) (g.C.Chip.state c.args.card_a.now) (g.D.Chip.state c.args.card_b.now))
-
-pub returns-then-not-is_lit-clause-later : goal.returns-then-not-is_lit-clause-later
-returns-then-not-is_lit-clause-later g c = later-same (devices (g.M.Medium.state c.args.unit.now) (g.C.Chip.state c.args.card_a.now) (g.D.Chip.state c.args.card_b.now))
-
-pub returns-clause-later : goal.returns-clause-later
-returns-clause-later g c = c.act_lit.ensures.later
-
 -- ---- what is recorded, with its events and rings
 
 pub returns-then-not-has_power-clause-ringed : goal.returns-then-not-has_power-clause-ringed
@@ -84,18 +39,7 @@ returns-then-not-is_lit-clause-ringed g c = λ power o done s now front rest are
     ringed-over o done s c.args.run.now c.args.outcome.now (devices (g.M.Medium.state c.args.unit.now) (g.C.Chip.state c.args.card_a.now) (g.D.Chip.state c.args.card_b.now)) (length front) c.args.begun dark in_
 
 pub returns-clause-ringed : goal.returns-clause-ringed
-returns-clause-ringed g c = λ power. c.act_lit.ensures.ringed
-
--- ---- how often the unit broke down
-
-pub returns-then-not-has_power-clause-broke : goal.returns-then-not-has_power-clause-broke
-returns-then-not-has_power-clause-broke g c = broke-none c.args.outcome.now.breaks.items {old = (g.M.Medium.state c.args.unit.now)} {new = (g.M.Medium.state c.args.unit.now)} (omega arith)
-
-pub returns-then-not-is_lit-clause-broke : goal.returns-then-not-is_lit-clause-broke
-returns-then-not-is_lit-clause-broke g c = broke-none c.args.outcome.now.breaks.items {old = (g.M.Medium.state c.args.unit.now)} {new = (g.M.Medium.state c.args.unit.now)} (omega arith)
-
-pub returns-clause-broke : goal.returns-clause-broke
-returns-clause-broke g c = c.act_lit.ensures.broke
+returns-clause-ringed g c = λ power. c.act_lit.ensures.promises.ringed
 
 -- ---- what the cards show
 
@@ -108,15 +52,92 @@ returns-then-not-is_lit-clause-cards g c = λ power o done s now front rest are 
     carded-over o done s c.args.run.now c.args.outcome.now (devices (g.M.Medium.state c.args.unit.now) (g.C.Chip.state c.args.card_a.now) (g.D.Chip.state c.args.card_b.now)) (length front) c.args.begun dark in_
 
 pub returns-clause-cards : goal.returns-clause-cards
-returns-clause-cards g c = λ power. c.act_lit.ensures.cards
+returns-clause-cards g c = λ power. c.act_lit.ensures.promises.cards
 
 -- ---- where no tear of a failed call is told no card has broken down
 
-pub returns-then-not-has_power-clause-calm : goal.returns-then-not-has_power-clause-calm
-returns-then-not-has_power-clause-calm g c = calm-same (devices (g.M.Medium.state c.args.unit.now) (g.C.Chip.state c.args.card_a.now) (g.D.Chip.state c.args.card_b.now))
+pub returns-then-not-has_power-clause-acted : goal.returns-then-not-has_power-clause-acted
+returns-then-not-has_power-clause-acted g c = record {
+  done =
+      let run = c.args.run.now in
+      let o = c.args.outcome.now in
+      subst (λ (b : Bool). IsActed b (is_lit run.power) c.args.action c.args.begun c.args.speed run run o (record o { refused = c.refuse.new.refused })) (sym c.if-not-has_power.true) (refl, ap (λ (l : Listed Refused). record o { refused = l }) c.refuse.ensures);
+  refused = c.refuse.ensures ∙ ap (λ (b : Bool). with_lines (refusal_lines (refused_by b (is_lit c.args.run.now.power) c.args.run.now.keeper.cabin.slots.seats c.args.speed c.args.action) c.args.run.now.next c.args.begun) c.args.outcome.now.refused) (sym c.if-not-has_power.true);
+  none = λ no. refl;
+  lost = λ power dark. absurd (let no : false ≡ true = sym c.if-not-has_power.true ∙ power in cc);
+  selected = λ lit. absurd (let no : true ≡ false = sym lit ∙ c.requires.dark c.if-not-has_power.true in cc);
+  next = refl;
+  unfound = refl;
+}
 
-pub returns-then-not-is_lit-clause-calm : goal.returns-then-not-is_lit-clause-calm
-returns-then-not-is_lit-clause-calm g c = calm-same (devices (g.M.Medium.state c.args.unit.now) (g.C.Chip.state c.args.card_a.now) (g.D.Chip.state c.args.card_b.now))
+pub returns-then-not-has_power-clause-goes : goal.returns-then-not-has_power-clause-goes
+returns-then-not-has_power-clause-goes g c = record {
+  later = later-same (devices (g.M.Medium.state c.args.unit.now) (g.C.Chip.state c.args.card_a.now) (g.D.Chip.state c.args.card_b.now));
+  calm = calm-same (devices (g.M.Medium.state c.args.unit.now) (g.C.Chip.state c.args.card_a.now) (g.D.Chip.state c.args.card_b.now));
+  more = omega arith;
+  broke = broke-none c.args.outcome.now.breaks.items {old = (g.M.Medium.state c.args.unit.now)} {new = (g.M.Medium.state c.args.unit.now)} (omega arith);
+}
 
-pub returns-clause-calm : goal.returns-clause-calm
-returns-clause-calm g c = c.act_lit.ensures.calm
+pub returns-then-not-is_lit-clause-acted : goal.returns-then-not-is_lit-clause-acted
+returns-then-not-is_lit-clause-acted g c = record {
+  done =
+      let run = c.args.run.now in
+      let o = c.args.outcome.now in
+      let dark : is_lit run.power ≡ false = sym c.is_lit.ensures ∙ c.if-not-is_lit.true in
+      subst (λ (b : Bool). IsActed b (is_lit run.power) c.args.action c.args.begun c.args.speed run run o o) (sym c.if-not-has_power.false)
+      (subst (λ (l : Bool). IsActed true l c.args.action c.args.begun c.args.speed run run o o) (sym dark) (refl, refl));
+  refused =
+      let lit : is_lit c.args.run.now.power ≡ false = sym c.is_lit.ensures ∙ c.if-not-is_lit.true in
+      subst (λ (b : Bool). c.args.outcome.now.refused ≡ with_lines (refusal_lines (refused_by b (is_lit c.args.run.now.power) c.args.run.now.keeper.cabin.slots.seats c.args.speed c.args.action) c.args.run.now.next c.args.begun) c.args.outcome.now.refused) (sym c.if-not-has_power.false)
+      (subst (λ (l : Bool). c.args.outcome.now.refused ≡ with_lines (refusal_lines (refused_by true l c.args.run.now.keeper.cabin.slots.seats c.args.speed c.args.action) c.args.run.now.next c.args.begun) c.args.outcome.now.refused) (sym lit) (ap (λ (xs : List Refused). record c.args.outcome.now.refused { items = xs }) (sym (append-nil c.args.outcome.now.refused.items))));
+  none = λ no. refl;
+  lost = λ power dark. (refl, refl);
+  selected =
+      λ lit.
+      let dark : is_lit c.args.run.now.power ≡ false = sym c.is_lit.ensures ∙ c.if-not-is_lit.true in
+      absurd (let no : true ≡ false = sym lit ∙ dark in cc);
+  next = refl;
+  unfound = refl;
+}
+
+pub returns-then-not-is_lit-clause-goes : goal.returns-then-not-is_lit-clause-goes
+returns-then-not-is_lit-clause-goes g c = record {
+  later = later-same (devices (g.M.Medium.state c.args.unit.now) (g.C.Chip.state c.args.card_a.now) (g.D.Chip.state c.args.card_b.now));
+  calm = calm-same (devices (g.M.Medium.state c.args.unit.now) (g.C.Chip.state c.args.card_a.now) (g.D.Chip.state c.args.card_b.now));
+  more = omega arith;
+  broke = broke-none c.args.outcome.now.breaks.items {old = (g.M.Medium.state c.args.unit.now)} {new = (g.M.Medium.state c.args.unit.now)} (omega arith);
+}
+
+pub returns-clause-acted : goal.returns-clause-acted
+returns-clause-acted g c = record {
+  done =
+      let run = c.args.run.now in
+      let o = c.args.outcome.now in
+      let lit : is_lit run.power ≡ true = sym c.is_lit.ensures ∙ c.if-not-is_lit.false in
+      subst (λ (b : Bool). IsActed b (is_lit run.power) c.args.action c.args.begun c.args.speed run c.act_lit.new.run o c.act_lit.new.outcome) (sym c.if-not-has_power.false)
+      (subst (λ (l : Bool). IsActed true l c.args.action c.args.begun c.args.speed run c.act_lit.new.run o c.act_lit.new.outcome) (sym lit) c.act_lit.ensures.acted.done);
+  refused =
+      let lit : is_lit c.args.run.now.power ≡ true = sym c.is_lit.ensures ∙ c.if-not-is_lit.false in
+      subst (λ (b : Bool). c.act_lit.new.outcome.refused ≡ with_lines (refusal_lines (refused_by b (is_lit c.args.run.now.power) c.args.run.now.keeper.cabin.slots.seats c.args.speed c.args.action) c.args.run.now.next c.args.begun) c.args.outcome.now.refused) (sym c.if-not-has_power.false)
+      (subst (λ (l : Bool). c.act_lit.new.outcome.refused ≡ with_lines (refusal_lines (refused_by true l c.args.run.now.keeper.cabin.slots.seats c.args.speed c.args.action) c.args.run.now.next c.args.begun) c.args.outcome.now.refused) (sym lit) (c.act_lit.ensures.acted.refused));
+  none =
+      λ no. c.act_lit.ensures.acted.none (λ is.
+      let run = c.args.run.now in
+      let lit : is_lit run.power ≡ true = sym c.is_lit.ensures ∙ c.if-not-is_lit.false in
+      no (lit-refused c.args.has_power (is_lit run.power) run.keeper.cabin.slots.seats c.args.speed c.args.action c.if-not-has_power.false lit is));
+  lost =
+      λ power dark.
+      let lit : is_lit c.args.run.now.power ≡ true = sym c.is_lit.ensures ∙ c.if-not-is_lit.false in
+      absurd (let no : true ≡ false = sym lit ∙ dark in cc);
+  selected = λ lit. c.act_lit.ensures.acted.selected;
+  next = c.act_lit.ensures.acted.next;
+  unfound = c.act_lit.ensures.acted.unfound;
+}
+
+pub returns-clause-goes : goal.returns-clause-goes
+returns-clause-goes g c = record {
+  later = c.act_lit.ensures.goes.later;
+  calm = c.act_lit.ensures.goes.calm;
+  more = c.act_lit.ensures.goes.more;
+  broke = c.act_lit.ensures.goes.broke;
+}

@@ -21,6 +21,7 @@ use Rattle.run_minutes.proofs.Later.{later-same, later-then}
 use Rattle.recorder_with_cards.specs.Carded.{InSecondCarded, CardsActions}
 use Rattle.run_outcome.proofs.Broken.{broke-none, broke-then}
 use Rattle.run_minutes.proofs.Calm.{calm-same, calm-then}
+use Rattle.recorder_with_cards.proofs.Time.{later-time}
 use Rattle.recorder_with_cards.proofs.acts.act_all.Given.{Over}
 use Rattle.recorder_with_cards.proofs.acts.act_all.Goals.{After-act_item}
 use Rattle.recorder_with_cards.proofs.acts.act_all.Goals as goal
@@ -58,7 +59,7 @@ module _ (g : Over) (c : After-act_item g) where
       subst (λ (n : ℕ). ActsBy I (actions_in (between from (i + 1) items)) n c.args.speed c.args.run.now c.act_item.new.run c.args.outcome.now c.act_item.new.outcome dev0 dev2) same
       (subst (λ (xs : List Action). ActsBy I xs c.number_of.result c.args.speed c.args.run.now c.act_item.new.run c.args.outcome.now c.act_item.new.outcome dev0 dev2) (sym more)
       (actions-then I so (action_of item) (i - from) c.number_of.result c.args.speed c.args.run.now c.loop-i.run c.act_item.new.run c.args.outcome.now c.loop-i.outcome c.act_item.new.outcome dev0 dev1 dev2
-      (omega (arith, number, now)) c.loop-i.invariant.next c.act_item.ensures.time (were before (omega (arith, few, low))) is))
+      (omega (arith, number, now)) c.loop-i.invariant.next (later-time c.act_item.ensures.goes.later) (were before (omega (arith, few, low))) is))
 
 pub act_item-requires-clause-room : goal.act_item-requires-clause-room
 act_item-requires-clause-room g c =
@@ -84,7 +85,6 @@ loop-i-init g c = record {
       subst (λ (xs : List Action). CardsActions xs (c.args.from - c.args.from) c.args.speed c.args.run.now c.args.run.now c.args.outcome.now c.args.outcome.now d d) (sym (ap actions_in (between-none c.args.from c.args.items.now)))
       (no-action InSecondCarded (c.args.from - c.args.from) c.args.speed c.args.run.now c.args.outcome.now d);
   still = λ dark. (dark, refl, refl, refl);
-  time = λ h. h;
   later = later-same (devices (g.M.Medium.state c.args.unit.now) (g.C.Chip.state c.args.card_a.now) (g.D.Chip.state c.args.card_b.now));
   calm = calm-same (devices (g.M.Medium.state c.args.unit.now) (g.C.Chip.state c.args.card_a.now) (g.D.Chip.state c.args.card_b.now));
   broke = broke-none c.args.outcome.now.breaks.items {old = (g.M.Medium.state c.args.unit.now)} {new = (g.M.Medium.state c.args.unit.now)} (omega arith);
@@ -107,20 +107,19 @@ loop-i-preserved g c =
       acted = subst (λ (xs : List Item). AreActed c.args.has_power c.args.speed 0 xs c.args.run.now c.act_item.new.run c.args.outcome.now c.act_item.new.outcome) (sym (between-more items c.args.from c.loop-i.i c.get.result.now c.loop-i.auto.i c.get.ensures))
           (acted-more c.args.has_power c.args.speed 0 (c.loop-i.i - c.args.from + 1) (between c.args.from c.loop-i.i items) c.get.result.now c.args.run.now c.loop-i.run c.act_item.new.run c.args.outcome.now c.loop-i.outcome c.act_item.new.outcome v.acted
           (let long = length-take (c.loop-i.i - c.args.from) (drop c.args.from items) in let rest = length-drop c.args.from items in let last = c.requires.last in let low = c.loop-i.auto.i in omega (arith, long, rest, last, low, less))
-          (subst (λ (n : ℕ). IsItemActed c.get.result.now c.args.has_power (is_lit c.loop-i.run.power) n c.args.speed c.loop-i.run c.act_item.new.run c.loop-i.outcome c.act_item.new.outcome) c.number_of.ensures e.acted));
+          (subst (λ (n : ℕ). IsItemActed c.get.result.now c.args.has_power (is_lit c.loop-i.run.power) n c.args.speed c.loop-i.run c.act_item.new.run c.loop-i.outcome c.act_item.new.outcome) c.number_of.ensures e.acted.done));
       ringed = λ power many few. one-more g (goal.at.loop-i-preserved g c).After-act_item InSecondRinged many few (v.ringed power) (e.ringed power);
       cards = λ power many few. one-more g (goal.at.loop-i-preserved g c).After-act_item InSecondCarded many few (v.cards power) (e.cards power);
       still = λ dark.
           let was = v.still dark in
           let now = e.still was.0 in
           (now.0, now.1 ∙ was.1, now.2 ∙ was.2, now.3 ∙ was.3);
-      time = λ h. v.time (e.time h);
-      later = later-then (devices (g.M.Medium.state c.args.unit.now) (g.C.Chip.state c.args.card_a.now) (g.D.Chip.state c.args.card_b.now)) (devices (g.M.Medium.state c.loop-i.unit) (g.C.Chip.state c.loop-i.card_a) (g.D.Chip.state c.loop-i.card_b)) (devices (g.M.Medium.state c.act_item.new.unit) (g.C.Chip.state c.act_item.new.card_a) (g.D.Chip.state c.act_item.new.card_b)) v.later e.later;
-      calm = calm-then (devices (g.M.Medium.state c.args.unit.now) (g.C.Chip.state c.args.card_a.now) (g.D.Chip.state c.args.card_b.now)) (devices (g.M.Medium.state c.loop-i.unit) (g.C.Chip.state c.loop-i.card_a) (g.D.Chip.state c.loop-i.card_b)) (devices (g.M.Medium.state c.act_item.new.unit) (g.C.Chip.state c.act_item.new.card_a) (g.D.Chip.state c.act_item.new.card_b)) v.calm e.calm;
-      broke = broke-then c.loop-i.invariant.broke c.act_item.ensures.broke;
+      later = later-then (devices (g.M.Medium.state c.args.unit.now) (g.C.Chip.state c.args.card_a.now) (g.D.Chip.state c.args.card_b.now)) (devices (g.M.Medium.state c.loop-i.unit) (g.C.Chip.state c.loop-i.card_a) (g.D.Chip.state c.loop-i.card_b)) (devices (g.M.Medium.state c.act_item.new.unit) (g.C.Chip.state c.act_item.new.card_a) (g.D.Chip.state c.act_item.new.card_b)) v.later e.goes.later;
+      calm = calm-then (devices (g.M.Medium.state c.args.unit.now) (g.C.Chip.state c.args.card_a.now) (g.D.Chip.state c.args.card_b.now)) (devices (g.M.Medium.state c.loop-i.unit) (g.C.Chip.state c.loop-i.card_a) (g.D.Chip.state c.loop-i.card_b)) (devices (g.M.Medium.state c.act_item.new.unit) (g.C.Chip.state c.act_item.new.card_a) (g.D.Chip.state c.act_item.new.card_b)) v.calm e.goes.calm;
+      broke = broke-then c.loop-i.invariant.broke c.act_item.ensures.goes.broke;
       dark = e.dark;
-      next = e.next ∙ v.next;
-      unfound = e.unfound ∙ v.unfound;
+      next = e.acted.next ∙ v.next;
+      unfound = e.acted.unfound ∙ v.unfound;
       room = λ left offs insertions actions h.
           let rest = insertions_in (c.loop-i.i + 1) c.args.to items in
           let one = insertion_count c.get.result.now in
@@ -128,7 +127,7 @@ loop-i-preserved g c =
           e.room left offs (rest + insertions) (c.args.to - (c.loop-i.i + 1) + actions)
           (room-less cuts_within c.loop-i.run c.loop-i.outcome (1 + left) (1 + left) offs offs (now + insertions) (one + (rest + insertions)) (c.args.to - c.loop-i.i + actions) (1 + (c.args.to - (c.loop-i.i + 1) + actions))
           (omega arith) (omega arith) (omega (arith, here)) (omega (arith, less)) (v.room left offs insertions actions h));
-      breaks = let more = e.breaks in let was = v.breaks in omega (arith, more, was);
+      breaks = let more = e.goes.more in let was = v.breaks in omega (arith, more, was);
     }
 
 pub returns-clause-room : goal.returns-clause-room
@@ -141,39 +140,38 @@ returns-clause-room g c = λ left offs insertions actions h.
     room-less cuts_within c.loop-i.run c.loop-i.outcome (1 + left) (1 + left) offs offs (insertions_in c.loop-i.i c.args.to items + insertions) insertions (c.args.to - c.loop-i.i + actions) actions
     (omega arith) (omega arith) (omega arith) (omega arith) (c.loop-i.invariant.room left offs insertions actions h)
 
-pub returns-clause-acted : goal.returns-clause-acted
-returns-clause-acted g c =
-    let end : c.args.to ≤ c.loop-i.i = c.loop-i-test.false in
-    let some : c.loop-i.i ≤ c.args.to = c.loop-i.auto.i-end c.requires.first in
-    subst (λ (n : ℕ). AreActed c.args.has_power c.args.speed 0 (between c.args.from n c.args.items.now) c.args.run.now c.loop-i.run c.args.outcome.now c.loop-i.outcome) (let same : c.loop-i.i ≡ c.args.to = omega (arith, end, some) in same) c.loop-i.invariant.acted
-
-pub returns-clause-later : goal.returns-clause-later
-returns-clause-later g c = c.loop-i.invariant.later
-
-pub returns-clause-ringed : goal.returns-clause-ringed
-returns-clause-ringed g c =
-    let end : c.args.to ≤ c.loop-i.i = c.loop-i-test.false in
-    let some : c.loop-i.i ≤ c.args.to = c.loop-i.auto.i-end c.requires.first in
-    subst (λ (n : ℕ). c.args.has_power ≡ true → length (actions_in (between c.args.from n c.args.items.now)) ≡ n - c.args.from → n - c.args.from ≤ largest_number
-    → RingsActions (actions_in (between c.args.from n c.args.items.now)) (n - c.args.from) c.args.speed c.args.run.now c.loop-i.run c.args.outcome.now c.loop-i.outcome (devices (g.M.Medium.state c.args.unit.now) (g.C.Chip.state c.args.card_a.now) (g.D.Chip.state c.args.card_b.now)) (devices (g.M.Medium.state c.loop-i.unit) (g.C.Chip.state c.loop-i.card_a) (g.D.Chip.state c.loop-i.card_b)))
-    (let same : c.loop-i.i ≡ c.args.to = omega (arith, end, some) in same) c.loop-i.invariant.ringed
-
--- ---- what the cards show
-
-pub returns-clause-cards : goal.returns-clause-cards
-returns-clause-cards g c =
-    let end : c.args.to ≤ c.loop-i.i = c.loop-i-test.false in
-    let some : c.loop-i.i ≤ c.args.to = c.loop-i.auto.i-end c.requires.first in
-    subst (λ (n : ℕ). c.args.has_power ≡ true → length (actions_in (between c.args.from n c.args.items.now)) ≡ n - c.args.from → n - c.args.from ≤ largest_number
-    → CardsActions (actions_in (between c.args.from n c.args.items.now)) (n - c.args.from) c.args.speed c.args.run.now c.loop-i.run c.args.outcome.now c.loop-i.outcome (devices (g.M.Medium.state c.args.unit.now) (g.C.Chip.state c.args.card_a.now) (g.D.Chip.state c.args.card_b.now)) (devices (g.M.Medium.state c.loop-i.unit) (g.C.Chip.state c.loop-i.card_a) (g.D.Chip.state c.loop-i.card_b)))
-    (let same : c.loop-i.i ≡ c.args.to = omega (arith, end, some) in same) c.loop-i.invariant.cards
-
--- ---- how often the unit broke down
-
-pub returns-clause-broke : goal.returns-clause-broke
-returns-clause-broke g c = c.loop-i.invariant.broke
-
 -- ---- where no tear of a failed call is told no card has broken down
 
-pub returns-clause-calm : goal.returns-clause-calm
-returns-clause-calm g c = c.loop-i.invariant.calm
+pub returns-clause-acted : goal.returns-clause-acted
+returns-clause-acted g c = record {
+  done =
+      let end : c.args.to ≤ c.loop-i.i = c.loop-i-test.false in
+      let some : c.loop-i.i ≤ c.args.to = c.loop-i.auto.i-end c.requires.first in
+      subst (λ (n : ℕ). AreActed c.args.has_power c.args.speed 0 (between c.args.from n c.args.items.now) c.args.run.now c.loop-i.run c.args.outcome.now c.loop-i.outcome) (let same : c.loop-i.i ≡ c.args.to = omega (arith, end, some) in same) c.loop-i.invariant.acted;
+  next = c.loop-i.invariant.next;
+  unfound = c.loop-i.invariant.unfound;
+}
+
+pub returns-clause-promises : goal.returns-clause-promises
+returns-clause-promises g c = record {
+  ringed =
+      let end : c.args.to ≤ c.loop-i.i = c.loop-i-test.false in
+      let some : c.loop-i.i ≤ c.args.to = c.loop-i.auto.i-end c.requires.first in
+      subst (λ (n : ℕ). c.args.has_power ≡ true → length (actions_in (between c.args.from n c.args.items.now)) ≡ n - c.args.from → n - c.args.from ≤ largest_number
+      → RingsActions (actions_in (between c.args.from n c.args.items.now)) (n - c.args.from) c.args.speed c.args.run.now c.loop-i.run c.args.outcome.now c.loop-i.outcome (devices (g.M.Medium.state c.args.unit.now) (g.C.Chip.state c.args.card_a.now) (g.D.Chip.state c.args.card_b.now)) (devices (g.M.Medium.state c.loop-i.unit) (g.C.Chip.state c.loop-i.card_a) (g.D.Chip.state c.loop-i.card_b)))
+      (let same : c.loop-i.i ≡ c.args.to = omega (arith, end, some) in same) c.loop-i.invariant.ringed;
+  cards =
+      let end : c.args.to ≤ c.loop-i.i = c.loop-i-test.false in
+      let some : c.loop-i.i ≤ c.args.to = c.loop-i.auto.i-end c.requires.first in
+      subst (λ (n : ℕ). c.args.has_power ≡ true → length (actions_in (between c.args.from n c.args.items.now)) ≡ n - c.args.from → n - c.args.from ≤ largest_number
+      → CardsActions (actions_in (between c.args.from n c.args.items.now)) (n - c.args.from) c.args.speed c.args.run.now c.loop-i.run c.args.outcome.now c.loop-i.outcome (devices (g.M.Medium.state c.args.unit.now) (g.C.Chip.state c.args.card_a.now) (g.D.Chip.state c.args.card_b.now)) (devices (g.M.Medium.state c.loop-i.unit) (g.C.Chip.state c.loop-i.card_a) (g.D.Chip.state c.loop-i.card_b)))
+      (let same : c.loop-i.i ≡ c.args.to = omega (arith, end, some) in same) c.loop-i.invariant.cards;
+}
+
+pub returns-clause-goes : goal.returns-clause-goes
+returns-clause-goes g c = record {
+  later = c.loop-i.invariant.later;
+  calm = c.loop-i.invariant.calm;
+  more = c.loop-i.invariant.breaks;
+  broke = c.loop-i.invariant.broke;
+}

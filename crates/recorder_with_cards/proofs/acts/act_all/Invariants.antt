@@ -1,6 +1,5 @@
 use Rattle.std.proofs.Common.{◌≡◌, ℕ, ◌+◌, ◌-◌, ◌≤◌, true, false, length}
 use Rattle.run_promise.specs.Between.{devices}
-use Rattle.run_minutes.specs.Books.{HaveTime}
 use Rattle.run_minutes.specs.Later.{AreLater, AreCalm}
 use Rattle.run_acts.specs.Going.{largest_number, IsInsideSecond}
 use Rattle.recorder_with_cards.specs.Recorded.{actions_in, RingsActions}
@@ -21,7 +20,6 @@ invariant-loop-i g l = record {
   cards : l.has_power ≡ true → length (actions_in (between l.from l.i l.items)) ≡ l.i - l.from → l.i - l.from ≤ largest_number
       → CardsActions (actions_in (between l.from l.i l.items)) (l.i - l.from) l.speed l.fn.run l.run l.fn.outcome l.outcome (devices (g.M.Medium.state l.fn.unit) (g.C.Chip.state l.fn.card_a) (g.D.Chip.state l.fn.card_b)) (devices (g.M.Medium.state l.unit) (g.C.Chip.state l.card_a) (g.D.Chip.state l.card_b));
   still : is_lit l.fn.run.power ≡ false → (is_lit l.run.power ≡ false) × (l.unit ≡ l.fn.unit) × (l.card_a ≡ l.fn.card_a) × (l.card_b ≡ l.fn.card_b);
-  time : HaveTime (devices (g.M.Medium.state l.unit) (g.C.Chip.state l.card_a) (g.D.Chip.state l.card_b)) → HaveTime (devices (g.M.Medium.state l.fn.unit) (g.C.Chip.state l.fn.card_a) (g.D.Chip.state l.fn.card_b));
   later : AreLater (devices (g.M.Medium.state l.fn.unit) (g.C.Chip.state l.fn.card_a) (g.D.Chip.state l.fn.card_b)) (devices (g.M.Medium.state l.unit) (g.C.Chip.state l.card_a) (g.D.Chip.state l.card_b));
   calm : AreCalm l.fn.outcome.breaks.items l.outcome.breaks.items (devices (g.M.Medium.state l.fn.unit) (g.C.Chip.state l.fn.card_a) (g.D.Chip.state l.fn.card_b)) (devices (g.M.Medium.state l.unit) (g.C.Chip.state l.card_a) (g.D.Chip.state l.card_b));
   broke : BreaksDown l.fn.outcome.breaks.items l.outcome.breaks.items (g.M.Medium.state l.fn.unit) (g.M.Medium.state l.unit);

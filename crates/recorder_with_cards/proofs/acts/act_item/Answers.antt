@@ -1,4 +1,4 @@
-use Rattle.std.proofs.Common.{◌≡◌, ◌∙◌, ℕ, ◌+◌, List, true, false, ap, sym, subst, arith}
+use Rattle.std.proofs.Common.{◌≡◌, ◌∙◌, ℕ, ◌+◌, List, true, false, ap, sym, subst, arith, refl}
 use Rattle.run_outcome.specs.Room.{insertion_count}
 use Rattle.run_acts.specs.Room.{HasRoomWithin}
 use Rattle.trace_model.specs.declared.Action.{Action}
@@ -14,6 +14,7 @@ use Rattle.recorder_with_cards.proofs.Allowed.{count-is}
 use Rattle.recorder_with_cards.specs.Carded.{InSecondCarded, CardsActions}
 use Rattle.run_outcome.proofs.Broken.{broke-none}
 use Rattle.run_minutes.proofs.Calm.{calm-same}
+use Rattle.run_minutes.proofs.Later.{later-same}
 use Rattle.recorder_with_cards.proofs.acts.act_item.Goals as goal
 
 pub returns-in-Act-clause-room : goal.returns-in-Act-clause-room
@@ -21,21 +22,10 @@ returns-in-Act-clause-room g c = λ left offs insertions actions h.
     c.act.ensures.room left offs insertions actions
     (subst (λ (k : ℕ). HasRoomWithin c.args.run.now c.args.outcome.now (1 + left) offs (k + insertions) (1 + actions)) (ap insertion_count c.in-Act.is ∙ count-is c.in-Act.action) h)
 
-pub returns-in-Act-clause-acted : goal.returns-in-Act-clause-acted
-returns-in-Act-clause-acted g c =
-    let run = c.args.run.now in
-    subst (λ (i : Item). IsItemActed i c.args.has_power (is_lit run.power) c.args.begun c.args.speed run c.act.new.run c.args.outcome.now c.act.new.outcome) (sym c.in-Act.is) c.act.ensures.acted
-
 pub returns-in-Act-clause-still : goal.returns-in-Act-clause-still
 returns-in-Act-clause-still g c = λ dark.
     let same = c.act.ensures.still (λ power lit. absurd (let no : false ≡ true = sym dark ∙ lit in cc)) in
     (c.act.ensures.dark dark, same.0, same.1, same.2)
-
-pub returns-in-Act-clause-time : goal.returns-in-Act-clause-time
-returns-in-Act-clause-time g c = c.act.ensures.time
-
-pub returns-in-Act-clause-later : goal.returns-in-Act-clause-later
-returns-in-Act-clause-later g c = c.act.ensures.later
 
 -- ---- what is recorded, with its events and rings
 
@@ -52,17 +42,6 @@ pub returns-in-Off-clause-ringed : goal.returns-in-Off-clause-ringed
 returns-in-Off-clause-ringed g c = λ power.
     let d : Devices = devices (g.M.Medium.state c.args.unit.now) (g.C.Chip.state c.args.card_a.now) (g.D.Chip.state c.args.card_b.now) in
     subst (λ (xs : List Action). RingsActions xs c.args.begun c.args.speed c.args.run.now c.args.run.now c.args.outcome.now c.args.outcome.now d d) (sym (ap action_of c.in-Off.is)) (no-action InSecondRinged c.args.begun c.args.speed c.args.run.now c.args.outcome.now d)
-
--- ---- how often the unit broke down
-
-pub returns-in-Act-clause-broke : goal.returns-in-Act-clause-broke
-returns-in-Act-clause-broke g c = c.act.ensures.broke
-
-pub returns-in-Run-clause-broke : goal.returns-in-Run-clause-broke
-returns-in-Run-clause-broke g c = broke-none c.args.outcome.now.breaks.items {old = (g.M.Medium.state c.args.unit.now)} {new = (g.M.Medium.state c.args.unit.now)} (omega arith)
-
-pub returns-in-Off-clause-broke : goal.returns-in-Off-clause-broke
-returns-in-Off-clause-broke g c = broke-none c.args.outcome.now.breaks.items {old = (g.M.Medium.state c.args.unit.now)} {new = (g.M.Medium.state c.args.unit.now)} (omega arith)
 
 -- ---- what the cards show
 
@@ -82,11 +61,49 @@ returns-in-Off-clause-cards g c = λ power.
 
 -- ---- where no tear of a failed call is told no card has broken down
 
-pub returns-in-Act-clause-calm : goal.returns-in-Act-clause-calm
-returns-in-Act-clause-calm g c = c.act.ensures.calm
+pub returns-in-Act-clause-acted : goal.returns-in-Act-clause-acted
+returns-in-Act-clause-acted g c = record {
+  done =
+      let run = c.args.run.now in
+      subst (λ (i : Item). IsItemActed i c.args.has_power (is_lit run.power) c.args.begun c.args.speed run c.act.new.run c.args.outcome.now c.act.new.outcome) (sym c.in-Act.is) c.act.ensures.acted.done;
+  next = c.act.ensures.acted.next;
+  unfound = c.act.ensures.acted.unfound;
+}
 
-pub returns-in-Run-clause-calm : goal.returns-in-Run-clause-calm
-returns-in-Run-clause-calm g c = calm-same (devices (g.M.Medium.state c.args.unit.now) (g.C.Chip.state c.args.card_a.now) (g.D.Chip.state c.args.card_b.now))
+pub returns-in-Act-clause-goes : goal.returns-in-Act-clause-goes
+returns-in-Act-clause-goes g c = record {
+  later = c.act.ensures.goes.later;
+  calm = c.act.ensures.goes.calm;
+  more = c.act.ensures.goes.more;
+  broke = c.act.ensures.goes.broke;
+}
 
-pub returns-in-Off-clause-calm : goal.returns-in-Off-clause-calm
-returns-in-Off-clause-calm g c = calm-same (devices (g.M.Medium.state c.args.unit.now) (g.C.Chip.state c.args.card_a.now) (g.D.Chip.state c.args.card_b.now))
+pub returns-in-Run-clause-acted : goal.returns-in-Run-clause-acted
+returns-in-Run-clause-acted g c = record {
+  done = subst (λ (i : Item). IsItemActed i c.args.has_power (is_lit c.args.run.now.power) c.args.begun c.args.speed c.args.run.now c.args.run.now c.args.outcome.now c.args.outcome.now) (sym c.in-Run.is) (refl, refl);
+  next = refl;
+  unfound = refl;
+}
+
+pub returns-in-Run-clause-goes : goal.returns-in-Run-clause-goes
+returns-in-Run-clause-goes g c = record {
+  later = later-same (devices (g.M.Medium.state c.args.unit.now) (g.C.Chip.state c.args.card_a.now) (g.D.Chip.state c.args.card_b.now));
+  calm = calm-same (devices (g.M.Medium.state c.args.unit.now) (g.C.Chip.state c.args.card_a.now) (g.D.Chip.state c.args.card_b.now));
+  more = omega arith;
+  broke = broke-none c.args.outcome.now.breaks.items {old = (g.M.Medium.state c.args.unit.now)} {new = (g.M.Medium.state c.args.unit.now)} (omega arith);
+}
+
+pub returns-in-Off-clause-acted : goal.returns-in-Off-clause-acted
+returns-in-Off-clause-acted g c = record {
+  done = subst (λ (i : Item). IsItemActed i c.args.has_power (is_lit c.args.run.now.power) c.args.begun c.args.speed c.args.run.now c.args.run.now c.args.outcome.now c.args.outcome.now) (sym c.in-Off.is) (refl, refl);
+  next = refl;
+  unfound = refl;
+}
+
+pub returns-in-Off-clause-goes : goal.returns-in-Off-clause-goes
+returns-in-Off-clause-goes g c = record {
+  later = later-same (devices (g.M.Medium.state c.args.unit.now) (g.C.Chip.state c.args.card_a.now) (g.D.Chip.state c.args.card_b.now));
+  calm = calm-same (devices (g.M.Medium.state c.args.unit.now) (g.C.Chip.state c.args.card_a.now) (g.D.Chip.state c.args.card_b.now));
+  more = omega arith;
+  broke = broke-none c.args.outcome.now.breaks.items {old = (g.M.Medium.state c.args.unit.now)} {new = (g.M.Medium.state c.args.unit.now)} (omega arith);
+}

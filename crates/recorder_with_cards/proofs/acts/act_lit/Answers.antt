@@ -21,7 +21,7 @@ use Rattle.run_acts.specs.Going.{IsAt}
 use Rattle.run_acts.specs.Room.{falls_of}
 use Rattle.run_acts.proofs.Standing.{cut-at}
 use Rattle.run_acts.proofs.Torn.{cut-falls}
-use Rattle.recorder_with_cards.specs.Acting.{put_count, moment_of, IsDone, IsActedBy, CallsNone}
+use Rattle.recorder_with_cards.specs.Acting.{put_count, moment_of, IsDone, IsActedBy, CallsNone, refusal_lines}
 use Rattle.recorder_with_cards.proofs.ActsRecorded.{cut, left, refused}
 use Rattle.recorder_with_cards.proofs.Allowed.{fine-selected, refused-selected}
 use Rattle.recorder_with_cards.proofs.Rooms.{few-wait, room-cut}
@@ -47,6 +47,7 @@ use Rattle.run_minutes.specs.Books.{HaveTime}
 use Rattle.recorder_with_cards.specs.Carded.{InSecondCarded, WithinCarded}
 use Rattle.run_promise.specs.Origin.{Origin}
 use Rattle.trace_model.specs.Trace.{TraceSecond}
+use Rattle.std.proofs.lemmas.List.{append-nil}
 use Rattle.recorder_with_cards.proofs.acts.act_lit.Given.{Over}
 use Rattle.recorder_with_cards.proofs.acts.act_lit.Goals.{After-carry_out}
 use Rattle.recorder_with_cards.proofs.acts.act_lit.Goals as goal
@@ -87,22 +88,22 @@ module _ (g : Over) (c : After-carry_out g) where
     some = let low = c.requires.going.low in let number = now.number in omega (arith, low, number)
 
     still_next : s.number ≡ mid.next
-    still_next = now.number ∙ sym c.carry_out.ensures.stays.next
+    still_next = now.number ∙ sym c.carry_out.ensures.done.stays.next
 
     all-so : s.actions ≡ more ++ rest
     all-so = are ∙ sym (append_assoc front (c.args.action ∷ []) rest)
 
     goes : (w : RunWithin o done s (In (length front)) [] [] run out before) → GoesOnOrFails (is_err c.carry_out.result) o done s (In c.args.begun) [] mid told behind w.within.b
-    goes w = c.carry_out.ensures.recorded o done s now front rest are here allowed w time
+    goes w = c.carry_out.ensures.promises.recorded o done s now front rest are here allowed w time
 
     noted : (h : WithinEvented o done s (In (length front)) [] [] Acting run out before) → EventsGoOn (is_err c.carry_out.result) o done s h.within.within.b.run (In c.args.begun) Acting (log_of told) behind
-    noted h = c.carry_out.ensures.evented o done s now front rest are here allowed h.within h.evented time
+    noted h = c.carry_out.ensures.promises.evented o done s now front rest are here allowed h.within h.evented time
 
     rung : (h : WithinRinged o done s (length front) run out before) → RingsGoOn (is_err c.carry_out.result) o done s h.evented.within.within.b more mid (log_of told) h.spans h.told behind
-    rung h = c.carry_out.ensures.ringed o done s now front rest are here allowed h.evented.within h.spans h.told (at-front o done s run out before front (c.args.action ∷ rest) are h) time
+    rung h = c.carry_out.ensures.promises.ringed o done s now front rest are here allowed h.evented.within h.spans h.told (at-front o done s run out before front (c.args.action ∷ rest) are h) time
 
     carded : (h : WithinCarded o done s (length front) run out before) → CardsGoOn (is_err c.carry_out.result) o done s h.ringed.evented.within.within.b.run.log more (log_of told) behind
-    carded h = c.carry_out.ensures.cards o done s now front rest are here allowed h.vehicle h.ringed.evented.within (cards-now o done s run out before front (c.args.action ∷ rest) are some h.ringed.evented.within h.cards) time
+    carded h = c.carry_out.ensures.promises.cards o done s now front rest are here allowed h.vehicle h.ringed.evented.within (cards-now o done s run out before front (c.args.action ∷ rest) are some h.ringed.evented.within h.cards) time
 
     -- it goes on
     ringed-goes : is_err c.carry_out.result ≡ false → WithinRinged o done s (length front) run out before → InSecondRinged o done s c.args.begun mid told behind
@@ -111,15 +112,15 @@ module _ (g : Over) (c : After-carry_out g) where
         in-ringed_lit o done s mid told behind c.args.begun
         (ringed-on o done s (length front) c.args.begun run mid out told before behind h more rest all-so many (subst (λ (b : Bool). GoesOnOrFails b o done s (In c.args.begun) [] mid told behind w.within.b) well (goes w))
         (subst (λ (b : Bool). EventsGoOn b o done s w.within.b.run (In c.args.begun) Acting (log_of told) behind) well (noted h.evented))
-        (done-watched c.args.action (moment_of c.args.begun run) c.args.speed (is_err c.carry_out.result) run mid out told c.carry_out.ensures.done)
+        (done-watched c.args.action (moment_of c.args.begun run) c.args.speed (is_err c.carry_out.result) run mid out told c.carry_out.ensures.done.action_done)
         (subst (λ (b : Bool). RingsGoOn b o done s w.within.b more mid (log_of told) h.spans h.told behind) well (rung h)))
 
     carded-goes : is_err c.carry_out.result ≡ false → WithinCarded o done s (length front) run out before → InSecondCarded o done s c.args.begun mid told behind
     carded-goes well h =
         let w = h.ringed.evented.within in
-        let watched = done-watched c.args.action (moment_of c.args.begun run) c.args.speed (is_err c.carry_out.result) run mid out told c.carry_out.ensures.done in
+        let watched = done-watched c.args.action (moment_of c.args.begun run) c.args.speed (is_err c.carry_out.result) run mid out told c.carry_out.ensures.done.action_done in
         in-carded_lit o done s mid told behind c.args.begun (record {
-          ringed = ringed-lit o done s mid told behind c.args.begun (ap is_lit (c.carry_out.ensures.stays.power ∙ c.requires.lit)) (ringed-goes well h.ringed);
+          ringed = ringed-lit o done s mid told behind c.args.begun (ap is_lit (c.carry_out.ensures.done.stays.power ∙ c.requires.lit)) (ringed-goes well h.ringed);
           vehicle = ap (λ m. m.registration) watched.memory ∙ h.vehicle;
           cards = cards-on o done s c.args.begun mid told behind more rest w.within.b all-so many some (subst (λ (b : Bool). GoesOnOrFails b o done s (In c.args.begun) [] mid told behind w.within.b) well (goes w))
               (subst (λ (b : Bool). CardsGoOn b o done s w.within.b.run.log more (log_of told) behind) well (carded h));
@@ -136,13 +137,13 @@ module _ (g : Over) (c : After-carry_out g) where
       ringed-lost : WithinRinged o done s (length front) run out before → InSecondRinged o done s c.args.begun new after behind
       ringed-lost h =
           let w = h.evented.within in
-          let stays = c.carry_out.ensures.stays in
+          let stays = c.carry_out.ensures.done.stays in
           in-ringed_cut o done s new after behind c.args.begun
           (ringed-cuts o done s w.within.b c.args.begun mid new told after behind h.spans h.told still_next
           (evented-cuts o done s (length front) c.args.begun run mid new out told after before behind now.number h.evented
           (cut o done s c.args.begun rest mid new told after behind w.origin still_next (left front rest c.args.action s here are) (fails w) cut_so told_so)
           (subst (λ (b : Bool). EventsGoOn b o done s w.within.b.run (In c.args.begun) Acting (log_of told) behind) failed (noted h.evented))
-          (done-watched c.args.action (moment_of c.args.begun run) c.args.speed (is_err c.carry_out.result) run mid out told c.carry_out.ensures.done) stays.next stays.unfound cut_so told_so)
+          (done-watched c.args.action (moment_of c.args.begun run) c.args.speed (is_err c.carry_out.result) run mid out told c.carry_out.ensures.done.action_done) stays.next stays.unfound cut_so told_so)
           more many (rings-cut h)
           (cut-stores o done s (length front) c.args.begun run mid out told before behind h more rest many (fails w) (stays.power ∙ c.requires.lit) (left front rest c.args.action s here are) stays.unfound (rings-cut h))
           cut_so told_so)
@@ -152,8 +153,8 @@ module _ (g : Over) (c : After-carry_out g) where
           let w = h.ringed.evented.within in
           let log : with_cut (log_of told) s more ≡ log_of after =
           ap (λ (n : ℕ). and_break (log_of told) (cut_at s.number true n)) many ∙ ap (λ (u : ℕ). and_break (log_of told) (cut_at u true c.args.begun)) still_next ∙ sym (ap log_of told_so) in
-          let lines = subst (λ (u : ℕ). TellsMoreOf u out.breaks.items told.breaks.items) (sym now.number) (done-of c.args.action (moment_of c.args.begun run) c.args.speed (is_err c.carry_out.result) run mid out told c.carry_out.ensures.done) in
-          let watched = done-watched c.args.action (moment_of c.args.begun run) c.args.speed (is_err c.carry_out.result) run mid out told c.carry_out.ensures.done in
+          let lines = subst (λ (u : ℕ). TellsMoreOf u out.breaks.items told.breaks.items) (sym now.number) (done-of c.args.action (moment_of c.args.begun run) c.args.speed (is_err c.carry_out.result) run mid out told c.carry_out.ensures.done.action_done) in
+          let watched = done-watched c.args.action (moment_of c.args.begun run) c.args.speed (is_err c.carry_out.result) run mid out told c.carry_out.ensures.done.action_done in
           let shown = cut-cards o done s (length front) run out before behind w told more rest all-so (cut-later o done s (length front) run out before w told more lines (rings-cut h.ringed).behind some) (fails w).within.moment.up_to.uncut
           (subst (λ (b : Bool). CardsGoOn b o done s w.within.b.run.log more (log_of told) behind) failed (carded h)) in
           in-carded_cut o done s new after behind c.args.begun (record {
@@ -164,17 +165,11 @@ module _ (g : Over) (c : After-carry_out g) where
 
 -- ---- the unit failed: power is lost
 
-pub returns-in-Err-clause-selected : goal.returns-in-Err-clause-selected
-returns-in-Err-clause-selected g c = refused-selected (logged c.args.run.now.keeper.cabin.slots.seats) c.args.speed c.args.action _ c.args.run.now (sym c.in-Err.ensures)
-
-pub returns-then-is_err-clause-selected : goal.returns-then-is_err-clause-selected
-returns-then-is_err-clause-selected g c = fine-selected c.args.action (is_err c.carry_out.result) c.args.run.now c.cut.new.self (let failed : is_err c.carry_out.result ≡ true = sym c.is_err.ensures.value ∙ c.if-is_err.true in failed) c.carry_out.ensures.fine
-
 pub returns-then-is_err-clause-going : goal.returns-then-is_err-clause-going
 returns-then-is_err-clause-going g c =
     let new : Run = c.carry_out.new.run in
-    let held = c.carry_out.ensures.held in
-    let same = c.carry_out.ensures.stays.next in
+    let held = c.carry_out.ensures.held.held in
+    let same = c.carry_out.ensures.done.stays.next in
     let low = c.requires.going.low in
     let small = c.requires.going.small in
     subst (λ (r : Run). IsAt (r.next / 60) r (g.M.Medium.state c.carry_out.new.unit) (g.C.Chip.card c.carry_out.new.card_a) (g.D.Chip.card c.carry_out.new.card_b) (g.C.Chip.state c.carry_out.new.card_a) (g.D.Chip.state c.carry_out.new.card_b)) (sym c.cut.ensures.run)
@@ -184,10 +179,10 @@ pub returns-then-is_err-clause-room : goal.returns-then-is_err-clause-room
 returns-then-is_err-clause-room g c = λ left offs insertions actions h.
     let run = c.args.run.now in
     let new : Run = c.carry_out.new.run in
-    let stand = c.carry_out.ensures.held.stand in
+    let stand = c.carry_out.ensures.held.held.stand in
     let dark = ap (λ (r : Run). falls_of r.keeper.cabin) c.cut.ensures.run in
     let less = cut-falls new.next stand.0 stand.1 new.keeper.cabin stand.2 in
-    room-cut run new c.args.outcome.now c.carry_out.new.outcome (put_count c.args.action) c.carry_out.ensures.stays.next c.requires.lit c.carry_out.ensures.takes c.cut.new.self (record c.carry_out.new.outcome { breaks = c.cut.new.breaks })
+    room-cut run new c.args.outcome.now c.carry_out.new.outcome (put_count c.args.action) c.carry_out.ensures.done.stays.next c.requires.lit c.carry_out.ensures.takes c.cut.new.self (record c.carry_out.new.outcome { breaks = c.cut.new.breaks })
     (ap (λ (r : Run). r.power) c.cut.ensures.run) (ap (λ (r : Run). r.next) c.cut.ensures.run) (few-wait (run.next / 60) run (c.requires.going.lit (ap is_lit c.requires.lit))) (omega (arith, dark, less))
     (ap (λ (l : Listed Break). length l.items) c.cut.ensures.breaks ∙ lines-length (cut_at new.next true c.args.begun ∷ []) c.carry_out.new.outcome.breaks) (ap (λ (l : Listed Break). l.room) c.cut.ensures.breaks) refl refl refl
     left offs insertions actions h
@@ -196,14 +191,14 @@ returns-then-is_err-clause-room g c = λ left offs insertions actions h.
 
 pub returns-else-is_err-clause-going : goal.returns-else-is_err-clause-going
 returns-else-is_err-clause-going g c =
-    let same = c.carry_out.ensures.stays.next in
+    let same = c.carry_out.ensures.done.stays.next in
     let low = c.requires.going.low in
     let small = c.requires.going.small in
-    let lit : is_lit c.carry_out.new.run.power ≡ true = ap is_lit (c.carry_out.ensures.stays.power ∙ c.requires.lit) in
+    let lit : is_lit c.carry_out.new.run.power ≡ true = ap is_lit (c.carry_out.ensures.done.stays.power ∙ c.requires.lit) in
     record {
       low = omega (arith, low, same);
       small = omega (arith, small, same);
-      held = c.carry_out.ensures.held;
+      held = c.carry_out.ensures.held.held;
       dark = λ no. absurd (let bad : true ≡ false = sym lit ∙ no in cc);
       lit = λ yes. ok_gives c.carry_out.result c.carry_out.ensures.going (let well : is_err c.carry_out.result ≡ false = sym c.is_err.ensures.value ∙ c.if-is_err.false in well);
     }
@@ -211,46 +206,6 @@ returns-else-is_err-clause-going g c =
 -- a line more tells of a refusal, with which so many actions have begun
 abbrev told_refused : Run → Outcome → SlotFault → (begun : ℕ) → Outcome
 told_refused run out fault begun = record out { refused = with_lines (record { second = run.next; fault = fault; begun = begun } ∷ []) out.refused }
-
--- ---- what it did
-
-pub returns-in-Err-clause-acted : goal.returns-in-Err-clause-acted
-returns-in-Err-clause-acted g c =
-    let run = c.args.run.now in
-    let o = c.args.outcome.now in
-    subst (λ (r : Option SlotFault). IsActedBy r c.args.action c.args.begun c.args.speed run run o (record o { refused = c.refuse.new.refused })) c.in-Err.ensures (refl, ap (λ (l : Listed Refused). record o { refused = l }) c.refuse.ensures)
-
-pub returns-then-is_err-clause-acted : goal.returns-then-is_err-clause-acted
-returns-then-is_err-clause-acted g c =
-    let run = c.args.run.now in
-    let o = c.args.outcome.now in
-    let failed : is_err c.carry_out.result ≡ true = sym c.is_err.ensures.value ∙ c.if-is_err.true in
-    let told : Outcome = c.carry_out.new.outcome in
-    subst (λ (r : Option SlotFault). IsActedBy r c.args.action c.args.begun c.args.speed run c.cut.new.self o (record told { breaks = c.cut.new.breaks })) (sym (allowed g (goal.at.returns-then-is_err-clause-acted g c).After-carry_out))
-    (record {
-      failed = true;
-      between = c.carry_out.new.run;
-      told = told;
-      done = subst (λ (b : Bool). IsDone c.args.action (moment_of c.args.begun run) c.args.speed b run c.carry_out.new.run o told) failed c.carry_out.ensures.done;
-      run = c.cut.ensures.run;
-      outcome = ap (λ (l : Listed Break). record told { breaks = l }) c.cut.ensures.breaks;
-    })
-
-pub returns-else-is_err-clause-acted : goal.returns-else-is_err-clause-acted
-returns-else-is_err-clause-acted g c =
-    let run = c.args.run.now in
-    let o = c.args.outcome.now in
-    let well : is_err c.carry_out.result ≡ false = sym c.is_err.ensures.value ∙ c.if-is_err.false in
-    let told : Outcome = c.carry_out.new.outcome in
-    subst (λ (r : Option SlotFault). IsActedBy r c.args.action c.args.begun c.args.speed run c.carry_out.new.run o told) (sym (allowed g (goal.at.returns-else-is_err-clause-acted g c).After-carry_out))
-    (record {
-      failed = false;
-      between = c.carry_out.new.run;
-      told = told;
-      done = subst (λ (b : Bool). IsDone c.args.action (moment_of c.args.begun run) c.args.speed b run c.carry_out.new.run o told) well c.carry_out.ensures.done;
-      run = refl;
-      outcome = refl;
-    })
 
 -- ---- which devices are called
 
@@ -263,106 +218,154 @@ returns-then-is_err-clause-still g c = λ none. c.carry_out.ensures.still (subst
 pub returns-else-is_err-clause-still : goal.returns-else-is_err-clause-still
 returns-else-is_err-clause-still g c = λ none. c.carry_out.ensures.still (subst (λ (r : Option SlotFault). CallsNone r c.args.action) (allowed g (goal.at.returns-else-is_err-clause-still g c).After-carry_out) none)
 
-pub returns-in-Err-clause-time : goal.returns-in-Err-clause-time
-returns-in-Err-clause-time g c = λ h. h
-
-pub returns-then-is_err-clause-time : goal.returns-then-is_err-clause-time
-returns-then-is_err-clause-time g c = c.carry_out.ensures.time
-
-pub returns-else-is_err-clause-time : goal.returns-else-is_err-clause-time
-returns-else-is_err-clause-time g c = c.carry_out.ensures.time
-
-pub returns-in-Err-clause-later : goal.returns-in-Err-clause-later
-returns-in-Err-clause-later g c = later-same (devices (g.M.Medium.state c.args.unit.now) (g.C.Chip.state c.args.card_a.now) (g.D.Chip.state c.args.card_b.now))
-
-pub returns-then-is_err-clause-later : goal.returns-then-is_err-clause-later
-returns-then-is_err-clause-later g c = c.carry_out.ensures.later
-
-pub returns-else-is_err-clause-later : goal.returns-else-is_err-clause-later
-returns-else-is_err-clause-later g c = c.carry_out.ensures.later
-
--- ---- what is recorded, with its events and rings
-
-pub returns-in-Err-clause-ringed : goal.returns-in-Err-clause-ringed
-returns-in-Err-clause-ringed g c = λ o done s now front rest are begun in_ time.
-    let here : suc (length front) ≡ c.args.begun = omega (arith, begun) in
-    let run = c.args.run.now in
-    let out = c.args.outcome.now in
-    let d : Devices = devices (g.M.Medium.state c.args.unit.now) (g.C.Chip.state c.args.card_a.now) (g.D.Chip.state c.args.card_b.now) in
-    let told : Outcome = record out { refused = c.refuse.new.refused } in
-    let h = ringed-lit o done s run out d (length front) (ap is_lit c.requires.lit) in_ in
-    in-ringed_lit o done s run told d c.args.begun
-    (subst (λ (n : ℕ). WithinRinged o done s n run told d) here
-    (refused-ringed o done s c.args.speed run out d now front c.args.action rest are h c.in-Err.fault (sym c.in-Err.ensures) told (ap (λ (l : Listed Refused). record out { refused = l }) c.refuse.ensures ∙ ap (λ (n : ℕ). told_refused run out c.in-Err.fault n) (sym here))))
-
-pub returns-then-is_err-clause-ringed : goal.returns-then-is_err-clause-ringed
-returns-then-is_err-clause-ringed g c = λ o done s now front rest are begun in_ time.
-    let at = (goal.at.returns-then-is_err-clause-ringed g c).After-carry_out in
-    ringed-lost g at o done s now front rest are (omega (arith, begun)) time (sym c.is_err.ensures.value ∙ c.if-is_err.true) c.cut.new.self (record c.carry_out.new.outcome { breaks = c.cut.new.breaks }) c.cut.ensures.run (ap (λ (l : Listed Break). record c.carry_out.new.outcome { breaks = l }) c.cut.ensures.breaks)
-    (ringed-lit o done s (run g at) (out g at) (before g at) (length front) (ap is_lit c.requires.lit) in_)
-
-pub returns-else-is_err-clause-ringed : goal.returns-else-is_err-clause-ringed
-returns-else-is_err-clause-ringed g c = λ o done s now front rest are begun in_ time.
-    let at = (goal.at.returns-else-is_err-clause-ringed g c).After-carry_out in
-    ringed-goes g at o done s now front rest are (omega (arith, begun)) time (sym c.is_err.ensures.value ∙ c.if-is_err.false) (ringed-lit o done s (run g at) (out g at) (before g at) (length front) (ap is_lit c.requires.lit) in_)
-
--- ---- how often the unit broke down
-
-pub returns-in-Err-clause-broke : goal.returns-in-Err-clause-broke
-returns-in-Err-clause-broke g c = broke-none c.args.outcome.now.breaks.items {old = (g.M.Medium.state c.args.unit.now)} {new = (g.M.Medium.state c.args.unit.now)} (omega arith)
-
-pub returns-then-is_err-clause-broke : goal.returns-then-is_err-clause-broke
-returns-then-is_err-clause-broke g c =
-    cut-broke _ _ _ _ _ (g.M.Medium.state c.args.unit.now) (g.M.Medium.state c.carry_out.new.unit) (is_err c.carry_out.result) (c.requires.going.lit (ap is_lit c.requires.lit)).ready.unit_ready.works c.carry_out.ensures.cause (sym c.is_err.ensures.value ∙ c.if-is_err.true) (done-uncut c.args.action _ c.args.speed _ _ _ _ _ c.carry_out.ensures.done) (ap (λ (l : Listed Break). l.items) c.cut.ensures.breaks)
-
-pub returns-else-is_err-clause-broke : goal.returns-else-is_err-clause-broke
-returns-else-is_err-clause-broke g c = uncut-broke _ _ (g.M.Medium.state c.args.unit.now) (g.M.Medium.state c.carry_out.new.unit) (is_err c.carry_out.result) c.carry_out.ensures.cause (sym c.is_err.ensures.value ∙ c.if-is_err.false) (done-uncut c.args.action _ c.args.speed _ _ _ _ _ c.carry_out.ensures.done)
-
--- ---- what the cards show
-
-pub returns-in-Err-clause-cards : goal.returns-in-Err-clause-cards
-returns-in-Err-clause-cards g c = λ o done s now front rest are begun in_ time.
-    let here : suc (length front) ≡ c.args.begun = omega (arith, begun) in
-    let run = c.args.run.now in
-    let out = c.args.outcome.now in
-    let d : Devices = devices (g.M.Medium.state c.args.unit.now) (g.C.Chip.state c.args.card_a.now) (g.D.Chip.state c.args.card_b.now) in
-    let told : Outcome = record out { refused = c.refuse.new.refused } in
-    let told_is : told ≡ told_refused run out c.in-Err.fault (suc (length front)) = ap (λ (l : Listed Refused). record out { refused = l }) c.refuse.ensures ∙ ap (λ (n : ℕ). told_refused run out c.in-Err.fault n) (sym here) in
-    let h = carded-lit o done s run out d (length front) (ap is_lit c.requires.lit) in_ in
-    let w = h.ringed.evented.within in
-    let low = c.requires.going.low in
-    let number = now.number in
-    let some : 0 < s.number = omega (arith, low, number) in
-    let more : List Action = front ++ c.args.action ∷ [] in
-    let many : length more ≡ suc (length front) = let long = length-append front (c.args.action ∷ []) in omega (arith, long) in
-    let r = returns-in-Err-clause-ringed g c o done s now front rest are begun (in-ringed_lit o done s run out d (length front) h.ringed) time in
-    let cards = refused-cards o done s c.args.speed run out d now front c.args.action rest are w (cards-now o done s run out d front (c.args.action ∷ rest) are some w h.cards) c.in-Err.fault (sym c.in-Err.ensures) told told_is in
-    in-carded_lit o done s run told d c.args.begun (record {
-      ringed = ringed-lit o done s run told d c.args.begun (ap is_lit c.requires.lit) r;
-      vehicle = h.vehicle;
-      cards = subst (λ (n : ℕ). CardsIn o done s (log_of told) (take n s.actions) (log_of told) d) here
-          (cards-on o done s (suc (length front)) run told d more rest w.within.b (are ∙ sym (append_assoc front (c.args.action ∷ []) rest)) many some
-          (refused o done s c.args.speed run out d now front c.args.action rest are w c.in-Err.fault (sym c.in-Err.ensures) told told_is) cards);
-    })
-
-pub returns-then-is_err-clause-cards : goal.returns-then-is_err-clause-cards
-returns-then-is_err-clause-cards g c = λ o done s now front rest are begun in_ time.
-    let at = (goal.at.returns-then-is_err-clause-cards g c).After-carry_out in
-    carded-lost g at o done s now front rest are (omega (arith, begun)) time (sym c.is_err.ensures.value ∙ c.if-is_err.true) c.cut.new.self (record c.carry_out.new.outcome { breaks = c.cut.new.breaks }) c.cut.ensures.run (ap (λ (l : Listed Break). record c.carry_out.new.outcome { breaks = l }) c.cut.ensures.breaks)
-    (carded-lit o done s (run g at) (out g at) (before g at) (length front) (ap is_lit c.requires.lit) in_)
-
-pub returns-else-is_err-clause-cards : goal.returns-else-is_err-clause-cards
-returns-else-is_err-clause-cards g c = λ o done s now front rest are begun in_ time.
-    let at = (goal.at.returns-else-is_err-clause-cards g c).After-carry_out in
-    carded-goes g at o done s now front rest are (omega (arith, begun)) time (sym c.is_err.ensures.value ∙ c.if-is_err.false) (carded-lit o done s (run g at) (out g at) (before g at) (length front) (ap is_lit c.requires.lit) in_)
-
 -- ---- where no tear of a failed call is told no card has broken down
 
-pub returns-in-Err-clause-calm : goal.returns-in-Err-clause-calm
-returns-in-Err-clause-calm g c = calm-same (devices (g.M.Medium.state c.args.unit.now) (g.C.Chip.state c.args.card_a.now) (g.D.Chip.state c.args.card_b.now))
+pub returns-in-Err-clause-acted : goal.returns-in-Err-clause-acted
+returns-in-Err-clause-acted g c = record {
+  done =
+      let run = c.args.run.now in
+      let o = c.args.outcome.now in
+      subst (λ (r : Option SlotFault). IsActedBy r c.args.action c.args.begun c.args.speed run run o (record o { refused = c.refuse.new.refused })) c.in-Err.ensures (refl, ap (λ (l : Listed Refused). record o { refused = l }) c.refuse.ensures);
+  refused = c.refuse.ensures ∙ ap (λ (r : Option SlotFault). with_lines (refusal_lines r c.args.run.now.next c.args.begun) c.args.outcome.now.refused) c.in-Err.ensures;
+  none = λ no. refl;
+  selected = refused-selected (logged c.args.run.now.keeper.cabin.slots.seats) c.args.speed c.args.action _ c.args.run.now (sym c.in-Err.ensures);
+  next = refl;
+  unfound = refl;
+}
 
-pub returns-then-is_err-clause-calm : goal.returns-then-is_err-clause-calm
-returns-then-is_err-clause-calm g c = calm-more (devices (g.M.Medium.state c.args.unit.now) (g.C.Chip.state c.args.card_a.now) (g.D.Chip.state c.args.card_b.now)) (devices (g.M.Medium.state c.carry_out.new.unit) (g.C.Chip.state c.carry_out.new.card_a) (g.D.Chip.state c.carry_out.new.card_b)) _ c.carry_out.ensures.calm (ap (λ (l : Listed Break). l.items) c.cut.ensures.breaks) refl
+pub returns-in-Err-clause-promises : goal.returns-in-Err-clause-promises
+returns-in-Err-clause-promises g c = record {
+  ringed =
+      λ o done s now front rest are begun in_ time.
+      let here : suc (length front) ≡ c.args.begun = omega (arith, begun) in
+      let run = c.args.run.now in
+      let out = c.args.outcome.now in
+      let d : Devices = devices (g.M.Medium.state c.args.unit.now) (g.C.Chip.state c.args.card_a.now) (g.D.Chip.state c.args.card_b.now) in
+      let told : Outcome = record out { refused = c.refuse.new.refused } in
+      let h = ringed-lit o done s run out d (length front) (ap is_lit c.requires.lit) in_ in
+      in-ringed_lit o done s run told d c.args.begun
+      (subst (λ (n : ℕ). WithinRinged o done s n run told d) here
+      (refused-ringed o done s c.args.speed run out d now front c.args.action rest are h c.in-Err.fault (sym c.in-Err.ensures) told (ap (λ (l : Listed Refused). record out { refused = l }) c.refuse.ensures ∙ ap (λ (n : ℕ). told_refused run out c.in-Err.fault n) (sym here))));
+  cards =
+      λ o done s now front rest are begun in_ time.
+      let here : suc (length front) ≡ c.args.begun = omega (arith, begun) in
+      let run = c.args.run.now in
+      let out = c.args.outcome.now in
+      let d : Devices = devices (g.M.Medium.state c.args.unit.now) (g.C.Chip.state c.args.card_a.now) (g.D.Chip.state c.args.card_b.now) in
+      let told : Outcome = record out { refused = c.refuse.new.refused } in
+      let told_is : told ≡ told_refused run out c.in-Err.fault (suc (length front)) = ap (λ (l : Listed Refused). record out { refused = l }) c.refuse.ensures ∙ ap (λ (n : ℕ). told_refused run out c.in-Err.fault n) (sym here) in
+      let h = carded-lit o done s run out d (length front) (ap is_lit c.requires.lit) in_ in
+      let w = h.ringed.evented.within in
+      let low = c.requires.going.low in
+      let number = now.number in
+      let some : 0 < s.number = omega (arith, low, number) in
+      let more : List Action = front ++ c.args.action ∷ [] in
+      let many : length more ≡ suc (length front) = let long = length-append front (c.args.action ∷ []) in omega (arith, long) in
+      let cards = refused-cards o done s c.args.speed run out d now front c.args.action rest are w (cards-now o done s run out d front (c.args.action ∷ rest) are some w h.cards) c.in-Err.fault (sym c.in-Err.ensures) told told_is in
+      in-carded_lit o done s run told d c.args.begun (record {
+        ringed = subst (λ (n : ℕ). WithinRinged o done s n run told d) here (refused-ringed o done s c.args.speed run out d now front c.args.action rest are h.ringed c.in-Err.fault (sym c.in-Err.ensures) told (ap (λ (l : Listed Refused). record out { refused = l }) c.refuse.ensures ∙ ap (λ (n : ℕ). told_refused run out c.in-Err.fault n) (sym here)));
+        vehicle = h.vehicle;
+        cards = subst (λ (n : ℕ). CardsIn o done s (log_of told) (take n s.actions) (log_of told) d) here
+            (cards-on o done s (suc (length front)) run told d more rest w.within.b (are ∙ sym (append_assoc front (c.args.action ∷ []) rest)) many some
+            (refused o done s c.args.speed run out d now front c.args.action rest are w c.in-Err.fault (sym c.in-Err.ensures) told told_is) cards);
+      });
+}
 
-pub returns-else-is_err-clause-calm : goal.returns-else-is_err-clause-calm
-returns-else-is_err-clause-calm g c = c.carry_out.ensures.calm
+pub returns-in-Err-clause-goes : goal.returns-in-Err-clause-goes
+returns-in-Err-clause-goes g c = record {
+  later = later-same (devices (g.M.Medium.state c.args.unit.now) (g.C.Chip.state c.args.card_a.now) (g.D.Chip.state c.args.card_b.now));
+  calm = calm-same (devices (g.M.Medium.state c.args.unit.now) (g.C.Chip.state c.args.card_a.now) (g.D.Chip.state c.args.card_b.now));
+  more = omega arith;
+  broke = broke-none c.args.outcome.now.breaks.items {old = (g.M.Medium.state c.args.unit.now)} {new = (g.M.Medium.state c.args.unit.now)} (omega arith);
+}
+
+pub returns-then-is_err-clause-acted : goal.returns-then-is_err-clause-acted
+returns-then-is_err-clause-acted g c = record {
+  done =
+      let run = c.args.run.now in
+      let o = c.args.outcome.now in
+      let failed : is_err c.carry_out.result ≡ true = sym c.is_err.ensures.value ∙ c.if-is_err.true in
+      let told : Outcome = c.carry_out.new.outcome in
+      subst (λ (r : Option SlotFault). IsActedBy r c.args.action c.args.begun c.args.speed run c.cut.new.self o (record told { breaks = c.cut.new.breaks })) (sym (allowed g (goal.at.returns-then-is_err-clause-acted g c).After-carry_out))
+      (record {
+        failed = true;
+        between = c.carry_out.new.run;
+        told = told;
+        done = subst (λ (b : Bool). IsDone c.args.action (moment_of c.args.begun run) c.args.speed b run c.carry_out.new.run o told) failed c.carry_out.ensures.done.action_done;
+        run = c.cut.ensures.run;
+        outcome = ap (λ (l : Listed Break). record told { breaks = l }) c.cut.ensures.breaks;
+      });
+  refused = c.carry_out.ensures.done.refused ∙ ap (λ (xs : List Refused). record c.args.outcome.now.refused { items = xs }) (sym (append-nil c.args.outcome.now.refused.items)) ∙ ap (λ (r : Option SlotFault). with_lines (refusal_lines r c.args.run.now.next c.args.begun) c.args.outcome.now.refused) (sym (allowed g (goal.at.returns-then-is_err-clause-acted g c).After-carry_out));
+  none = λ no. absurd (no (allowed g (goal.at.returns-then-is_err-clause-acted g c).After-carry_out));
+  selected = fine-selected c.args.action (is_err c.carry_out.result) c.args.run.now c.cut.new.self (let failed : is_err c.carry_out.result ≡ true = sym c.is_err.ensures.value ∙ c.if-is_err.true in failed) c.carry_out.ensures.done.fine;
+  next = ap (λ (r : Run). r.next) c.cut.ensures.run ∙ c.carry_out.ensures.done.stays.next;
+  unfound = ap (λ (r : Run). r.unfound) c.cut.ensures.run ∙ c.carry_out.ensures.done.stays.unfound;
+}
+
+pub returns-then-is_err-clause-promises : goal.returns-then-is_err-clause-promises
+returns-then-is_err-clause-promises g c = record {
+  ringed =
+      λ o done s now front rest are begun in_ time.
+      let at = (goal.at.returns-then-is_err-clause-promises g c).After-carry_out in
+      ringed-lost g at o done s now front rest are (omega (arith, begun)) time (sym c.is_err.ensures.value ∙ c.if-is_err.true) c.cut.new.self (record c.carry_out.new.outcome { breaks = c.cut.new.breaks }) c.cut.ensures.run (ap (λ (l : Listed Break). record c.carry_out.new.outcome { breaks = l }) c.cut.ensures.breaks)
+      (ringed-lit o done s (run g at) (out g at) (before g at) (length front) (ap is_lit c.requires.lit) in_);
+  cards =
+      λ o done s now front rest are begun in_ time.
+      let at = (goal.at.returns-then-is_err-clause-promises g c).After-carry_out in
+      carded-lost g at o done s now front rest are (omega (arith, begun)) time (sym c.is_err.ensures.value ∙ c.if-is_err.true) c.cut.new.self (record c.carry_out.new.outcome { breaks = c.cut.new.breaks }) c.cut.ensures.run (ap (λ (l : Listed Break). record c.carry_out.new.outcome { breaks = l }) c.cut.ensures.breaks)
+      (carded-lit o done s (run g at) (out g at) (before g at) (length front) (ap is_lit c.requires.lit) in_);
+}
+
+pub returns-then-is_err-clause-goes : goal.returns-then-is_err-clause-goes
+returns-then-is_err-clause-goes g c = record {
+  later = c.carry_out.ensures.goes.later;
+  calm = calm-more (devices (g.M.Medium.state c.args.unit.now) (g.C.Chip.state c.args.card_a.now) (g.D.Chip.state c.args.card_b.now)) (devices (g.M.Medium.state c.carry_out.new.unit) (g.C.Chip.state c.carry_out.new.card_a) (g.D.Chip.state c.carry_out.new.card_b)) _ c.carry_out.ensures.goes.calm (ap (λ (l : Listed Break). l.items) c.cut.ensures.breaks) refl;
+  more =
+      let more = c.carry_out.ensures.goes.more in
+      let told = ap (λ (l : Listed Break). length l.items) c.cut.ensures.breaks ∙ lines-length (cut_at c.carry_out.new.run.next true c.args.begun ∷ []) c.carry_out.new.outcome.breaks in
+      omega (arith, more, told);
+  broke = cut-broke _ _ _ _ _ (g.M.Medium.state c.args.unit.now) (g.M.Medium.state c.carry_out.new.unit) (is_err c.carry_out.result) (c.requires.going.lit (ap is_lit c.requires.lit)).ready.unit_ready.works c.carry_out.ensures.held.cause (sym c.is_err.ensures.value ∙ c.if-is_err.true) (done-uncut c.args.action _ c.args.speed _ _ _ _ _ c.carry_out.ensures.done.action_done) (ap (λ (l : Listed Break). l.items) c.cut.ensures.breaks);
+}
+
+pub returns-else-is_err-clause-acted : goal.returns-else-is_err-clause-acted
+returns-else-is_err-clause-acted g c = record {
+  done =
+      let run = c.args.run.now in
+      let o = c.args.outcome.now in
+      let well : is_err c.carry_out.result ≡ false = sym c.is_err.ensures.value ∙ c.if-is_err.false in
+      let told : Outcome = c.carry_out.new.outcome in
+      subst (λ (r : Option SlotFault). IsActedBy r c.args.action c.args.begun c.args.speed run c.carry_out.new.run o told) (sym (allowed g (goal.at.returns-else-is_err-clause-acted g c).After-carry_out))
+      (record {
+        failed = false;
+        between = c.carry_out.new.run;
+        told = told;
+        done = subst (λ (b : Bool). IsDone c.args.action (moment_of c.args.begun run) c.args.speed b run c.carry_out.new.run o told) well c.carry_out.ensures.done.action_done;
+        run = refl;
+        outcome = refl;
+      });
+  refused = c.carry_out.ensures.done.refused ∙ ap (λ (xs : List Refused). record c.args.outcome.now.refused { items = xs }) (sym (append-nil c.args.outcome.now.refused.items)) ∙ ap (λ (r : Option SlotFault). with_lines (refusal_lines r c.args.run.now.next c.args.begun) c.args.outcome.now.refused) (sym (allowed g (goal.at.returns-else-is_err-clause-acted g c).After-carry_out));
+  none = λ no. absurd (no (allowed g (goal.at.returns-else-is_err-clause-acted g c).After-carry_out));
+  selected = c.carry_out.ensures.done.selected;
+  next = c.carry_out.ensures.done.stays.next;
+  unfound = c.carry_out.ensures.done.stays.unfound;
+}
+
+pub returns-else-is_err-clause-promises : goal.returns-else-is_err-clause-promises
+returns-else-is_err-clause-promises g c = record {
+  ringed =
+      λ o done s now front rest are begun in_ time.
+      let at = (goal.at.returns-else-is_err-clause-promises g c).After-carry_out in
+      ringed-goes g at o done s now front rest are (omega (arith, begun)) time (sym c.is_err.ensures.value ∙ c.if-is_err.false) (ringed-lit o done s (run g at) (out g at) (before g at) (length front) (ap is_lit c.requires.lit) in_);
+  cards =
+      λ o done s now front rest are begun in_ time.
+      let at = (goal.at.returns-else-is_err-clause-promises g c).After-carry_out in
+      carded-goes g at o done s now front rest are (omega (arith, begun)) time (sym c.is_err.ensures.value ∙ c.if-is_err.false) (carded-lit o done s (run g at) (out g at) (before g at) (length front) (ap is_lit c.requires.lit) in_);
+}
+
+pub returns-else-is_err-clause-goes : goal.returns-else-is_err-clause-goes
+returns-else-is_err-clause-goes g c = record {
+  later = c.carry_out.ensures.goes.later;
+  calm = c.carry_out.ensures.goes.calm;
+  more = c.carry_out.ensures.goes.more;
+  broke = uncut-broke _ _ (g.M.Medium.state c.args.unit.now) (g.M.Medium.state c.carry_out.new.unit) (is_err c.carry_out.result) c.carry_out.ensures.held.cause (sym c.is_err.ensures.value ∙ c.if-is_err.false) (done-uncut c.args.action _ c.args.speed _ _ _ _ _ c.carry_out.ensures.done.action_done);
+}

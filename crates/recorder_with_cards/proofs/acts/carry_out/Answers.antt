@@ -14,12 +14,11 @@ use Rattle.run_acts.specs.Power.{is_lit}
 use Rattle.run_acts.specs.Going.{CanBeCut, RunHasPowerAllSeated}
 use Rattle.run_acts.specs.Room.{Takes}
 use Rattle.run_acts.specs.Acting.{pulled_run, pulled_breaks}
-use Rattle.recorder_with_cards.specs.Acting.{put_count, StaysIn, moment_of, IsDone, CallsNone}
+use Rattle.recorder_with_cards.specs.Acting.{put_count, StaysIn, moment_of, IsDone, CallsNone, IsSelected, IsFine}
 use Rattle.recorder_with_cards.proofs.ActsRecorded.{selected, passed-by}
 use Rattle.recorder_with_cards.proofs.Rooms.{few-wait, put-room}
 use Rattle.run_acts.proofs.Pulled.{pulled-recorded}
 use Rattle.run_acts.specs.Recording.{RunGoesOn, RecordsAction}
-use Rattle.run_minutes.proofs.DecidedBooked.{time-before}
 use Rattle.run_minutes.specs.Keeping.{with_lines}
 use Rattle.run_promise.specs.Between.{devices}
 use Rattle.safety_model.specs.Safe.{Devices}
@@ -43,6 +42,8 @@ use Rattle.run_minutes.proofs.Calm.{calm-told, calm-same}
 use Rattle.recorder_with_cards.proofs.Uncut.{pulled-calm}
 use Rattle.trace_model.specs.declared.Card.{Card}
 use Rattle.run_outcome.specs.declared.outcome.TheConstants.{MOST_OWED}
+use Rattle.tach_media.proofs.Runs.{no_reads}
+use Rattle.run_minutes.proofs.Counts.{lines-length}
 use Rattle.recorder_with_cards.proofs.acts.carry_out.Given.{Over}
 use Rattle.recorder_with_cards.proofs.acts.carry_out.Goals.{After-insert, After-note_place, After-pull, After-withdraw}
 use Rattle.recorder_with_cards.proofs.acts.carry_out.Goals as goal
@@ -130,23 +131,7 @@ returns-in-Select-clause-going g c =
 pub returns-in-Manual-clause-going : goal.returns-in-Manual-clause-going
 returns-in-Manual-clause-going g c = c.requires.going.lit (ap is_lit c.requires.lit)
 
-pub returns-in-Insert-clause-breaks : goal.returns-in-Insert-clause-breaks
-returns-in-Insert-clause-breaks g c = inserted-more c.in-Insert.slot c.in-Insert.card c.moment-at.result c.args.speed (is_err c.insert.result) c.args.run.now c.insert.new.run c.args.outcome.now c.insert.new.outcome c.insert.ensures.inserted
-
 -- ---- a card is pulled out
-
-pub returns-in-Tear-clause-stays : goal.returns-in-Tear-clause-stays
-returns-in-Tear-clause-stays g c =
-    let run = c.args.run.now in
-    subst (StaysIn run) (sym c.pull.ensures.run) (pulled-stays (card_in (seat_in run.keeper.cabin.slots.seats c.in-Tear.slot)) c.moment-at.result.second run)
-
-pub returns-in-Tear-clause-held : goal.returns-in-Tear-clause-held
-returns-in-Tear-clause-held g c =
-    let run = c.args.run.now in
-    let o = card_in (seat_in run.keeper.cabin.slots.seats c.in-Tear.slot) in
-    let at = ap (λ (m : Moment). m.second / 60) c.moment-at.ensures in
-    subst (λ (r : Run). CanBeCut (r.next / 60) r (g.M.Medium.state c.args.unit.now) (g.C.Chip.card c.args.card_a.now) (g.D.Chip.card c.args.card_b.now) (g.C.Chip.state c.args.card_a.now) (g.D.Chip.state c.args.card_b.now)) (sym c.pull.ensures.run)
-    (pulled-held run c.moment-at.result.second (omega (arith, at)) o (λ from leaving s. subst (λ (r : Run). CabinIsSound from leaving r.keeper.cabin) c.pull.ensures.run (c.pull.ensures.stands from leaving s)) c.requires.going.held)
 
 pub returns-in-Tear-clause-going : goal.returns-in-Tear-clause-going
 returns-in-Tear-clause-going g c =
@@ -166,37 +151,6 @@ returns-in-Tear-clause-takes g c =
     (subst (λ (r : Run). Takes 0 0 0 run r o (record o { breaks = c.pull.new.breaks })) (sym c.pull.ensures.run)
     (subst (λ (l : Listed Break). Takes 0 0 0 run (pulled_run card c.moment-at.result.second run) o (record o { breaks = l })) (sym c.pull.ensures.breaks)
     (pulled-takes card run c.in-Tear.slot c.moment-at.result o stand.0 stand.1 refl stand.2)))
-
--- ---- what it did
-
-pub returns-in-Select-clause-done : goal.returns-in-Select-clause-done
-returns-in-Select-clause-done g c =
-    let run = c.args.run.now in
-    let o = c.args.outcome.now in
-    subst (λ (a : Action). IsDone a (moment_of c.args.begun run) c.args.speed false run (record run { minutes = c.select.new.self }) o o) (sym c.in-Select.is) (refl, (refl, c.select.ensures.picked), refl)
-
-pub returns-in-Manual-clause-done : goal.returns-in-Manual-clause-done
-returns-in-Manual-clause-done g c =
-    let run = c.args.run.now in
-    let o = c.args.outcome.now in
-    subst (λ (a : Action). IsDone a (moment_of c.args.begun run) c.args.speed false run run o o) (sym c.in-Manual.is) (refl, refl, refl)
-
-pub returns-in-Insert-clause-done : goal.returns-in-Insert-clause-done
-returns-in-Insert-clause-done g c = by-insert g c (λ a m. IsDone a m c.args.speed (is_err c.insert.result) c.args.run.now c.insert.new.run c.args.outcome.now c.insert.new.outcome) c.insert.ensures.inserted
-
-pub returns-in-Withdraw-clause-done : goal.returns-in-Withdraw-clause-done
-returns-in-Withdraw-clause-done g c = by-withdraw g c (λ a m. IsDone a m c.args.speed (is_err c.withdraw.result) c.args.run.now c.withdraw.new.run c.args.outcome.now c.withdraw.new.outcome) c.withdraw.ensures.withdrawn
-
-pub returns-in-Tear-clause-done : goal.returns-in-Tear-clause-done
-returns-in-Tear-clause-done g c =
-    let run = c.args.run.now in
-    let o = c.args.outcome.now in
-    subst (λ (a : Action). IsDone a (moment_of c.args.begun run) c.args.speed false run c.pull.new.run o (record o { breaks = c.pull.new.breaks })) (sym c.in-Tear.is)
-    (subst (λ (m : Moment). IsDone (Tear c.in-Tear.slot) m c.args.speed false run c.pull.new.run o (record o { breaks = c.pull.new.breaks })) c.moment-at.ensures
-    (refl, c.pull.ensures.run, ap (λ (l : Listed Break). record o { breaks = l }) c.pull.ensures.breaks))
-
-pub returns-in-Place-clause-done : goal.returns-in-Place-clause-done
-returns-in-Place-clause-done g c = by-place g c (λ a m. IsDone a m c.args.speed (is_err c.note_place.result) c.args.run.now c.note_place.new.run c.args.outcome.now (record c.args.outcome.now { breaks = c.note_place.new.breaks })) (c.note_place.ensures.placed.0, c.note_place.ensures.placed.1, refl)
 
 -- ---- which devices are called
 
@@ -218,236 +172,313 @@ returns-in-Tear-clause-still g c = λ none. (refl, refl, refl)
 pub returns-in-Manual-clause-still : goal.returns-in-Manual-clause-still
 returns-in-Manual-clause-still g c = λ none. (refl, refl, refl)
 
--- ---- what is recorded
-
-pub returns-in-Select-clause-recorded : goal.returns-in-Select-clause-recorded
-returns-in-Select-clause-recorded g c = λ o done s now front rest are begun allowed h time.
-    let run = c.args.run.now in
-    let out = c.args.outcome.now in
-    let new : Run = record run { minutes = c.select.new.self } in
-    let d : Devices = devices (g.M.Medium.state c.args.unit.now) (g.C.Chip.state c.args.card_a.now) (g.D.Chip.state c.args.card_b.now) in
-    subst (λ (n : ℕ). RunGoesOn o done s (In n) [] new out d h.within.b) (sym begun)
-    (selected o done s c.args.speed run out d now front c.args.action rest are h c.in-Select.slot c.in-Select.pick c.in-Select.is allowed new (refl, c.select.ensures.picked))
-
-pub returns-in-Manual-clause-recorded : goal.returns-in-Manual-clause-recorded
-returns-in-Manual-clause-recorded g c = λ o done s now front rest are begun allowed h time.
-    let run = c.args.run.now in
-    let out = c.args.outcome.now in
-    let d : Devices = devices (g.M.Medium.state c.args.unit.now) (g.C.Chip.state c.args.card_a.now) (g.D.Chip.state c.args.card_b.now) in
-    subst (λ (n : ℕ). RunGoesOn o done s (In n) [] run out d h.within.b) (sym begun)
-    (passed-by o done s c.args.speed run out d now front c.args.action rest are h c.in-Manual.slot c.in-Manual.pick c.in-Manual.minute c.in-Manual.is allowed)
-
-pub returns-in-Tear-clause-recorded : goal.returns-in-Tear-clause-recorded
-returns-in-Tear-clause-recorded g c = by-tear g c (λ a r l. RecordsAction a c.args.begun c.args.speed false c.args.run.now r c.args.outcome.now (record c.args.outcome.now { breaks = l }) (torn g c) (torn g c)) (pulled-recorded (torn g c) c.in-Tear.slot c.args.begun c.args.speed c.args.run.now c.args.outcome.now _ (c.requires.going.lit (ap is_lit c.requires.lit)).cabin)
-
-pub returns-in-Insert-clause-recorded : goal.returns-in-Insert-clause-recorded
-returns-in-Insert-clause-recorded g c = by-insert g c (λ a m. RecordsAction a m.begun c.args.speed (is_err c.insert.result) c.args.run.now c.insert.new.run c.args.outcome.now c.insert.new.outcome (before-insert g c) (behind-insert g c)) (c.insert.ensures.recorded (late-insert g c) (room-insert g c))
-
-pub returns-in-Withdraw-clause-recorded : goal.returns-in-Withdraw-clause-recorded
-returns-in-Withdraw-clause-recorded g c = by-withdraw g c (λ a m. RecordsAction a m.begun c.args.speed (is_err c.withdraw.result) c.args.run.now c.withdraw.new.run c.args.outcome.now c.withdraw.new.outcome (before-withdraw g c) (behind-withdraw g c)) (c.withdraw.ensures.recorded (late-withdraw g c) c.args.speed)
-
-pub returns-in-Place-clause-recorded : goal.returns-in-Place-clause-recorded
-returns-in-Place-clause-recorded g c = by-place g c (λ a m. RecordsAction a m.begun c.args.speed (is_err c.note_place.result) c.args.run.now c.note_place.new.run c.args.outcome.now (record c.args.outcome.now { breaks = c.note_place.new.breaks }) (before-place g c) (behind-place g c)) (c.note_place.ensures.recorded (late-place g c) c.in-Place.ending c.in-Place.country c.in-Place.region c.args.speed c.args.outcome.now refl)
-
-pub returns-in-Insert-clause-time : goal.returns-in-Insert-clause-time
-returns-in-Insert-clause-time g c = time-before (before-insert g c) (behind-insert g c) c.insert.ensures.clock c.insert.ensures.clock_a c.insert.ensures.clock_b
-
-pub returns-in-Withdraw-clause-time : goal.returns-in-Withdraw-clause-time
-returns-in-Withdraw-clause-time g c = time-before (before-withdraw g c) (behind-withdraw g c) c.withdraw.ensures.clock c.withdraw.ensures.clock_a c.withdraw.ensures.clock_b
-
-pub returns-in-Place-clause-time : goal.returns-in-Place-clause-time
-returns-in-Place-clause-time g c = time-before (before-place g c) (behind-place g c) c.note_place.ensures.clock c.note_place.ensures.clock_a c.note_place.ensures.clock_b
-
-pub returns-in-Select-clause-time : goal.returns-in-Select-clause-time
-returns-in-Select-clause-time g c = λ h. h
-
-pub returns-in-Tear-clause-time : goal.returns-in-Tear-clause-time
-returns-in-Tear-clause-time g c = λ h. h
-
-pub returns-in-Manual-clause-time : goal.returns-in-Manual-clause-time
-returns-in-Manual-clause-time g c = λ h. h
-
-pub returns-in-Insert-clause-later : goal.returns-in-Insert-clause-later
-returns-in-Insert-clause-later g c = c.insert.ensures.later
-
-pub returns-in-Withdraw-clause-later : goal.returns-in-Withdraw-clause-later
-returns-in-Withdraw-clause-later g c = c.withdraw.ensures.later
-
-pub returns-in-Place-clause-later : goal.returns-in-Place-clause-later
-returns-in-Place-clause-later g c = c.note_place.ensures.later
-
-pub returns-in-Select-clause-later : goal.returns-in-Select-clause-later
-returns-in-Select-clause-later g c = later-same (devices (g.M.Medium.state c.args.unit.now) (g.C.Chip.state c.args.card_a.now) (g.D.Chip.state c.args.card_b.now))
-
-pub returns-in-Tear-clause-later : goal.returns-in-Tear-clause-later
-returns-in-Tear-clause-later g c = later-same (devices (g.M.Medium.state c.args.unit.now) (g.C.Chip.state c.args.card_a.now) (g.D.Chip.state c.args.card_b.now))
-
-pub returns-in-Manual-clause-later : goal.returns-in-Manual-clause-later
-returns-in-Manual-clause-later g c = later-same (devices (g.M.Medium.state c.args.unit.now) (g.C.Chip.state c.args.card_a.now) (g.D.Chip.state c.args.card_b.now))
-
--- ---- and the events with it
-
-pub returns-in-Select-clause-evented : goal.returns-in-Select-clause-evented
-returns-in-Select-clause-evented g c = λ o done s now front rest are begun allowed h events time. events
-
-pub returns-in-Manual-clause-evented : goal.returns-in-Manual-clause-evented
-returns-in-Manual-clause-evented g c = λ o done s now front rest are begun allowed h events time. events
-
-pub returns-in-Tear-clause-evented : goal.returns-in-Tear-clause-evented
-returns-in-Tear-clause-evented g c = by-tear g c (λ a r l. EventsAction a c.args.begun c.args.speed false c.args.run.now r c.args.outcome.now (record c.args.outcome.now { breaks = l }) (torn g c) (torn g c)) (pulled-evented (torn g c) c.in-Tear.slot c.args.begun c.args.speed c.args.run.now c.args.outcome.now)
-
-pub returns-in-Insert-clause-evented : goal.returns-in-Insert-clause-evented
-returns-in-Insert-clause-evented g c = by-insert g c (λ a m. EventsAction a m.begun c.args.speed (is_err c.insert.result) c.args.run.now c.insert.new.run c.args.outcome.now c.insert.new.outcome (before-insert g c) (behind-insert g c)) (c.insert.ensures.evented (late-insert g c) (room-insert g c))
-
-pub returns-in-Withdraw-clause-evented : goal.returns-in-Withdraw-clause-evented
-returns-in-Withdraw-clause-evented g c = by-withdraw g c (λ a m. EventsAction a m.begun c.args.speed (is_err c.withdraw.result) c.args.run.now c.withdraw.new.run c.args.outcome.now c.withdraw.new.outcome (before-withdraw g c) (behind-withdraw g c)) (c.withdraw.ensures.evented (late-withdraw g c) c.args.speed)
-
-pub returns-in-Place-clause-evented : goal.returns-in-Place-clause-evented
-returns-in-Place-clause-evented g c = by-place g c (λ a m. EventsAction a m.begun c.args.speed (is_err c.note_place.result) c.args.run.now c.note_place.new.run c.args.outcome.now (record c.args.outcome.now { breaks = c.note_place.new.breaks }) (before-place g c) (behind-place g c)) (c.note_place.ensures.evented (late-place g c) c.in-Place.ending c.in-Place.country c.in-Place.region c.args.speed c.args.outcome.now refl)
-
--- ---- and the rings with it
-
-pub returns-in-Select-clause-ringed : goal.returns-in-Select-clause-ringed
-returns-in-Select-clause-ringed g c =
-    let run = c.args.run.now in
-    let o = c.args.outcome.now in
-    let d : Devices = devices (g.M.Medium.state c.args.unit.now) (g.C.Chip.state c.args.card_a.now) (g.D.Chip.state c.args.card_b.now) in
-    subst (λ (a : Action). RingsAction a c.args.begun c.args.speed false run (record run { minutes = c.select.new.self }) o o d d) (sym c.in-Select.is)
-    (selected-ringed d c.in-Select.slot c.in-Select.pick c.args.begun c.args.speed run c.select.new.self o)
-
-pub returns-in-Manual-clause-ringed : goal.returns-in-Manual-clause-ringed
-returns-in-Manual-clause-ringed g c =
-    let run = c.args.run.now in
-    let o = c.args.outcome.now in
-    let d : Devices = devices (g.M.Medium.state c.args.unit.now) (g.C.Chip.state c.args.card_a.now) (g.D.Chip.state c.args.card_b.now) in
-    subst (λ (a : Action). RingsAction a c.args.begun c.args.speed false run run o o d d) (sym c.in-Manual.is) (hand-ringed d c.in-Manual.slot c.in-Manual.pick c.in-Manual.minute c.args.begun c.args.speed run o)
-
-pub returns-in-Tear-clause-ringed : goal.returns-in-Tear-clause-ringed
-returns-in-Tear-clause-ringed g c = by-tear g c (λ a r l. RingsAction a c.args.begun c.args.speed false c.args.run.now r c.args.outcome.now (record c.args.outcome.now { breaks = l }) (torn g c) (torn g c)) (pulled-ringed (torn g c) c.in-Tear.slot c.args.begun c.args.speed c.args.run.now c.args.outcome.now)
-
-pub returns-in-Insert-clause-ringed : goal.returns-in-Insert-clause-ringed
-returns-in-Insert-clause-ringed g c = by-insert g c (λ a m. RingsAction a m.begun c.args.speed (is_err c.insert.result) c.args.run.now c.insert.new.run c.args.outcome.now c.insert.new.outcome (before-insert g c) (behind-insert g c)) (c.insert.ensures.ringed (late-insert g c) (room-insert g c))
-
-pub returns-in-Withdraw-clause-ringed : goal.returns-in-Withdraw-clause-ringed
-returns-in-Withdraw-clause-ringed g c = by-withdraw g c (λ a m. RingsAction a m.begun c.args.speed (is_err c.withdraw.result) c.args.run.now c.withdraw.new.run c.args.outcome.now c.withdraw.new.outcome (before-withdraw g c) (behind-withdraw g c)) (c.withdraw.ensures.ringed (late-withdraw g c) c.args.speed)
-
-pub returns-in-Place-clause-ringed : goal.returns-in-Place-clause-ringed
-returns-in-Place-clause-ringed g c = by-place g c (λ a m. RingsAction a m.begun c.args.speed (is_err c.note_place.result) c.args.run.now c.note_place.new.run c.args.outcome.now (record c.args.outcome.now { breaks = c.note_place.new.breaks }) (before-place g c) (behind-place g c))
-    (c.note_place.ensures.ringed c.in-Place.ending c.in-Place.country c.in-Place.region (place-now g c) (late-place g c) c.args.speed c.args.outcome.now refl)
-
--- ---- what the rings get
-
-pub returns-in-Select-clause-rings : goal.returns-in-Select-clause-rings
-returns-in-Select-clause-rings g c = λ tells.
-    let run = c.args.run.now in
-    let o = c.args.outcome.now in
-    let U = g.M.Medium.state c.args.unit.now in
-    subst (λ (a : Action). RingsDone a (moment_of c.args.begun run) c.args.speed false run (record run { minutes = c.select.new.self }) o o U U) (sym c.in-Select.is) (rings-left U)
-
-pub returns-in-Manual-clause-rings : goal.returns-in-Manual-clause-rings
-returns-in-Manual-clause-rings g c = λ tells.
-    let run = c.args.run.now in
-    let o = c.args.outcome.now in
-    let U = g.M.Medium.state c.args.unit.now in
-    subst (λ (a : Action). RingsDone a (moment_of c.args.begun run) c.args.speed false run run o o U U) (sym c.in-Manual.is) (rings-left U)
-
-pub returns-in-Tear-clause-rings : goal.returns-in-Tear-clause-rings
-returns-in-Tear-clause-rings g c = λ tells.
-    let run = c.args.run.now in
-    let o = c.args.outcome.now in
-    let U = g.M.Medium.state c.args.unit.now in
-    subst (λ (a : Action). RingsDone a (moment_of c.args.begun run) c.args.speed false run c.pull.new.run o (record o { breaks = c.pull.new.breaks }) U U) (sym c.in-Tear.is) (rings-left U)
-
-pub returns-in-Insert-clause-rings : goal.returns-in-Insert-clause-rings
-returns-in-Insert-clause-rings g c = λ tells. by-insert g c (λ a m. RingsDone a m c.args.speed (is_err c.insert.result) c.args.run.now c.insert.new.run c.args.outcome.now c.insert.new.outcome (g.M.Medium.state c.args.unit.now) (g.M.Medium.state c.insert.new.unit)) (c.insert.ensures.rings tells)
-
-pub returns-in-Withdraw-clause-rings : goal.returns-in-Withdraw-clause-rings
-returns-in-Withdraw-clause-rings g c = λ tells. by-withdraw g c (λ a m. RingsDone a m c.args.speed (is_err c.withdraw.result) c.args.run.now c.withdraw.new.run c.args.outcome.now c.withdraw.new.outcome (g.M.Medium.state c.args.unit.now) (g.M.Medium.state c.withdraw.new.unit)) (c.withdraw.ensures.rings tells)
-
-pub returns-in-Place-clause-rings : goal.returns-in-Place-clause-rings
-returns-in-Place-clause-rings g c = λ tells.
-    subst (λ (a : Action). RingsDone a (moment_of c.args.begun c.args.run.now) c.args.speed (is_err c.note_place.result) c.args.run.now c.note_place.new.run c.args.outcome.now (record c.args.outcome.now { breaks = c.note_place.new.breaks }) (g.M.Medium.state c.args.unit.now) (g.M.Medium.state c.note_place.new.unit))
-    (sym c.in-Place.is) (c.place-entry.result, place-now g c, c.note_place.ensures.rings tells)
-
--- ---- what is noted on the unit
-
-pub returns-in-Select-clause-events : goal.returns-in-Select-clause-events
-returns-in-Select-clause-events g c =
-    let run = c.args.run.now in
-    let o = c.args.outcome.now in
-    let d = devices (g.M.Medium.state c.args.unit.now) (g.C.Chip.state c.args.card_a.now) (g.D.Chip.state c.args.card_b.now) in
-    subst (λ (a : Action). NotesDone a (moment_of c.args.begun run) c.args.speed false run (record run { minutes = c.select.new.self }) o o d d) (sym c.in-Select.is)
-    (same-noted (g.M.Medium.state c.args.unit.now) (g.C.Chip.state c.args.card_a.now) (g.D.Chip.state c.args.card_b.now))
-
-pub returns-in-Manual-clause-events : goal.returns-in-Manual-clause-events
-returns-in-Manual-clause-events g c =
-    let run = c.args.run.now in
-    let o = c.args.outcome.now in
-    let d = devices (g.M.Medium.state c.args.unit.now) (g.C.Chip.state c.args.card_a.now) (g.D.Chip.state c.args.card_b.now) in
-    subst (λ (a : Action). NotesDone a (moment_of c.args.begun run) c.args.speed false run run o o d d) (sym c.in-Manual.is)
-    (same-noted (g.M.Medium.state c.args.unit.now) (g.C.Chip.state c.args.card_a.now) (g.D.Chip.state c.args.card_b.now))
-
-pub returns-in-Tear-clause-events : goal.returns-in-Tear-clause-events
-returns-in-Tear-clause-events g c =
-    let run = c.args.run.now in
-    let o = c.args.outcome.now in
-    let d = devices (g.M.Medium.state c.args.unit.now) (g.C.Chip.state c.args.card_a.now) (g.D.Chip.state c.args.card_b.now) in
-    subst (λ (a : Action). NotesDone a (moment_of c.args.begun run) c.args.speed false run c.pull.new.run o (record o { breaks = c.pull.new.breaks }) d d) (sym c.in-Tear.is)
-    (same-noted (g.M.Medium.state c.args.unit.now) (g.C.Chip.state c.args.card_a.now) (g.D.Chip.state c.args.card_b.now))
-
-pub returns-in-Insert-clause-events : goal.returns-in-Insert-clause-events
-returns-in-Insert-clause-events g c = by-insert g c (λ a m. NotesDone a m c.args.speed (is_err c.insert.result) c.args.run.now c.insert.new.run c.args.outcome.now c.insert.new.outcome (before-insert g c) (behind-insert g c)) c.insert.ensures.noted
-
-pub returns-in-Withdraw-clause-events : goal.returns-in-Withdraw-clause-events
-returns-in-Withdraw-clause-events g c = by-withdraw g c (λ a m. NotesDone a m c.args.speed (is_err c.withdraw.result) c.args.run.now c.withdraw.new.run c.args.outcome.now c.withdraw.new.outcome (before-withdraw g c) (behind-withdraw g c)) c.withdraw.ensures.events
-
-pub returns-in-Place-clause-events : goal.returns-in-Place-clause-events
-returns-in-Place-clause-events g c = by-place g c (λ a m. NotesDone a m c.args.speed (is_err c.note_place.result) c.args.run.now c.note_place.new.run c.args.outcome.now (record c.args.outcome.now { breaks = c.note_place.new.breaks }) (before-place g c) (behind-place g c)) c.note_place.ensures.events
-
--- ---- what the cards show
-
-pub returns-in-Select-clause-cards : goal.returns-in-Select-clause-cards
-returns-in-Select-clause-cards g c =
-    let run = c.args.run.now in
-    let o = c.args.outcome.now in
-    let d : Devices = devices (g.M.Medium.state c.args.unit.now) (g.C.Chip.state c.args.card_a.now) (g.D.Chip.state c.args.card_b.now) in
-    subst (λ (a : Action). CardsAction a c.args.begun c.args.speed false run o o d d) (sym c.in-Select.is) (selected-cards d c.in-Select.slot c.in-Select.pick c.args.begun c.args.speed run o)
-
-pub returns-in-Manual-clause-cards : goal.returns-in-Manual-clause-cards
-returns-in-Manual-clause-cards g c =
-    let run = c.args.run.now in
-    let o = c.args.outcome.now in
-    let d : Devices = devices (g.M.Medium.state c.args.unit.now) (g.C.Chip.state c.args.card_a.now) (g.D.Chip.state c.args.card_b.now) in
-    subst (λ (a : Action). CardsAction a c.args.begun c.args.speed false run o o d d) (sym c.in-Manual.is) (hand-cards d c.in-Manual.slot c.in-Manual.pick c.in-Manual.minute c.args.begun c.args.speed run o)
-
-pub returns-in-Tear-clause-cards : goal.returns-in-Tear-clause-cards
-returns-in-Tear-clause-cards g c = by-tear g c (λ a r l. CardsAction a c.args.begun c.args.speed false c.args.run.now c.args.outcome.now (record c.args.outcome.now { breaks = l }) (torn g c) (torn g c)) (pulled-cards (torn g c) c.in-Tear.slot c.args.begun c.args.speed c.args.run.now c.args.outcome.now)
-
-pub returns-in-Insert-clause-cards : goal.returns-in-Insert-clause-cards
-returns-in-Insert-clause-cards g c = by-insert g c (λ a m. CardsAction a m.begun c.args.speed (is_err c.insert.result) c.args.run.now c.args.outcome.now c.insert.new.outcome (before-insert g c) (behind-insert g c)) (c.insert.ensures.cards (late-insert g c) (room-insert g c))
-
-pub returns-in-Withdraw-clause-cards : goal.returns-in-Withdraw-clause-cards
-returns-in-Withdraw-clause-cards g c = by-withdraw g c (λ a m. CardsAction a m.begun c.args.speed (is_err c.withdraw.result) c.args.run.now c.args.outcome.now c.withdraw.new.outcome (before-withdraw g c) (behind-withdraw g c)) (c.withdraw.ensures.cards (late-withdraw g c) c.args.speed)
-
-pub returns-in-Place-clause-cards : goal.returns-in-Place-clause-cards
-returns-in-Place-clause-cards g c = by-place g c (λ a m. CardsAction a m.begun c.args.speed (is_err c.note_place.result) c.args.run.now c.args.outcome.now (record c.args.outcome.now { breaks = c.note_place.new.breaks }) (before-place g c) (behind-place g c)) (c.note_place.ensures.cards (late-place g c) c.in-Place.ending c.in-Place.country c.in-Place.region c.args.speed c.args.outcome.now refl)
-
 -- ---- where no tear of a failed call is told no card has broken down
 
-pub returns-in-Insert-clause-calm : goal.returns-in-Insert-clause-calm
-returns-in-Insert-clause-calm g c = c.insert.ensures.calm
+pub returns-in-Insert-clause-done : goal.returns-in-Insert-clause-done
+returns-in-Insert-clause-done g c = record {
+  action_done = by-insert g c (λ a m. IsDone a m c.args.speed (is_err c.insert.result) c.args.run.now c.insert.new.run c.args.outcome.now c.insert.new.outcome) c.insert.ensures.inserted.enters;
+  selected = subst (λ (a : Action). IsSelected a c.args.run.now c.insert.new.run) (sym c.in-Insert.is) tt;
+  fine = subst (λ (a : Action). IsFine a (is_err c.insert.result)) (sym c.in-Insert.is) tt;
+  stays =
+      let only = c.insert.ensures.inserted.run in
+      record { power = ap (λ (r : Run). r.power) only; next = ap (λ (r : Run). r.next) only; begun = ap (λ (r : Run). r.begun) only; unfound = ap (λ (r : Run). r.unfound) only };
+  refused = c.insert.ensures.inserted.refused;
+}
 
-pub returns-in-Withdraw-clause-calm : goal.returns-in-Withdraw-clause-calm
-returns-in-Withdraw-clause-calm g c = c.withdraw.ensures.calm
+pub returns-in-Insert-clause-promises : goal.returns-in-Insert-clause-promises
+returns-in-Insert-clause-promises g c = record {
+  recorded = by-insert g c (λ a m. RecordsAction a m.begun c.args.speed (is_err c.insert.result) c.args.run.now c.insert.new.run c.args.outcome.now c.insert.new.outcome (before-insert g c) (behind-insert g c)) (c.insert.ensures.promises.recorded (late-insert g c) (room-insert g c));
+  evented = by-insert g c (λ a m. EventsAction a m.begun c.args.speed (is_err c.insert.result) c.args.run.now c.insert.new.run c.args.outcome.now c.insert.new.outcome (before-insert g c) (behind-insert g c)) (c.insert.ensures.promises.evented (late-insert g c) (room-insert g c));
+  ringed = by-insert g c (λ a m. RingsAction a m.begun c.args.speed (is_err c.insert.result) c.args.run.now c.insert.new.run c.args.outcome.now c.insert.new.outcome (before-insert g c) (behind-insert g c)) (c.insert.ensures.promises.ringed (late-insert g c) (room-insert g c));
+  cards = by-insert g c (λ a m. CardsAction a m.begun c.args.speed (is_err c.insert.result) c.args.run.now c.args.outcome.now c.insert.new.outcome (before-insert g c) (behind-insert g c)) (c.insert.ensures.promises.cards (late-insert g c) (room-insert g c));
+}
 
-pub returns-in-Place-clause-calm : goal.returns-in-Place-clause-calm
-returns-in-Place-clause-calm g c = c.note_place.ensures.calm
+pub returns-in-Insert-clause-leaves : goal.returns-in-Insert-clause-leaves
+returns-in-Insert-clause-leaves g c = record {
+  events = by-insert g c (λ a m. NotesDone a m c.args.speed (is_err c.insert.result) c.args.run.now c.insert.new.run c.args.outcome.now c.insert.new.outcome (before-insert g c) (behind-insert g c)) c.insert.ensures.leaves.noted;
+  rings = λ tells. by-insert g c (λ a m. RingsDone a m c.args.speed (is_err c.insert.result) c.args.run.now c.insert.new.run c.args.outcome.now c.insert.new.outcome (g.M.Medium.state c.args.unit.now) (g.M.Medium.state c.insert.new.unit)) (c.insert.ensures.leaves.rings tells);
+}
 
-pub returns-in-Select-clause-calm : goal.returns-in-Select-clause-calm
-returns-in-Select-clause-calm g c = calm-same (devices (g.M.Medium.state c.args.unit.now) (g.C.Chip.state c.args.card_a.now) (g.D.Chip.state c.args.card_b.now))
+pub returns-in-Insert-clause-held : goal.returns-in-Insert-clause-held
+returns-in-Insert-clause-held g c = record {
+  held = c.insert.ensures.held.held;
+  cause = c.insert.ensures.held.cause;
+}
 
-pub returns-in-Manual-clause-calm : goal.returns-in-Manual-clause-calm
-returns-in-Manual-clause-calm g c = calm-same (devices (g.M.Medium.state c.args.unit.now) (g.C.Chip.state c.args.card_a.now) (g.D.Chip.state c.args.card_b.now))
+pub returns-in-Insert-clause-goes : goal.returns-in-Insert-clause-goes
+returns-in-Insert-clause-goes g c = record {
+  later = c.insert.ensures.goes.later;
+  calm = c.insert.ensures.goes.calm;
+  more = inserted-more c.in-Insert.slot c.in-Insert.card c.moment-at.result c.args.speed (is_err c.insert.result) c.args.run.now c.insert.new.run c.args.outcome.now c.insert.new.outcome c.insert.ensures.inserted.enters;
+}
 
-pub returns-in-Tear-clause-calm : goal.returns-in-Tear-clause-calm
-returns-in-Tear-clause-calm g c = calm-told (devices (g.M.Medium.state c.args.unit.now) (g.C.Chip.state c.args.card_a.now) (g.D.Chip.state c.args.card_b.now)) _ (ap (λ (l : Listed Break). l.items) c.pull.ensures.breaks) (pulled-calm _ _ _)
+pub returns-in-Withdraw-clause-done : goal.returns-in-Withdraw-clause-done
+returns-in-Withdraw-clause-done g c = record {
+  action_done = by-withdraw g c (λ a m. IsDone a m c.args.speed (is_err c.withdraw.result) c.args.run.now c.withdraw.new.run c.args.outcome.now c.withdraw.new.outcome) c.withdraw.ensures.withdrawn.card;
+  selected = subst (λ (a : Action). IsSelected a c.args.run.now c.withdraw.new.run) (sym c.in-Withdraw.is) tt;
+  fine = subst (λ (a : Action). IsFine a (is_err c.withdraw.result)) (sym c.in-Withdraw.is) tt;
+  stays =
+      let only = c.withdraw.ensures.withdrawn.run in
+      record { power = ap (λ (r : Run). r.power) only; next = ap (λ (r : Run). r.next) only; begun = ap (λ (r : Run). r.begun) only; unfound = ap (λ (r : Run). r.unfound) only };
+  refused = ap (λ (o : Outcome). o.refused) c.withdraw.ensures.withdrawn.outcome;
+}
+
+pub returns-in-Withdraw-clause-promises : goal.returns-in-Withdraw-clause-promises
+returns-in-Withdraw-clause-promises g c = record {
+  recorded = by-withdraw g c (λ a m. RecordsAction a m.begun c.args.speed (is_err c.withdraw.result) c.args.run.now c.withdraw.new.run c.args.outcome.now c.withdraw.new.outcome (before-withdraw g c) (behind-withdraw g c)) (c.withdraw.ensures.promises.recorded (late-withdraw g c) c.args.speed);
+  evented = by-withdraw g c (λ a m. EventsAction a m.begun c.args.speed (is_err c.withdraw.result) c.args.run.now c.withdraw.new.run c.args.outcome.now c.withdraw.new.outcome (before-withdraw g c) (behind-withdraw g c)) (c.withdraw.ensures.promises.evented (late-withdraw g c) c.args.speed);
+  ringed = by-withdraw g c (λ a m. RingsAction a m.begun c.args.speed (is_err c.withdraw.result) c.args.run.now c.withdraw.new.run c.args.outcome.now c.withdraw.new.outcome (before-withdraw g c) (behind-withdraw g c)) (c.withdraw.ensures.promises.ringed (late-withdraw g c) c.args.speed);
+  cards = by-withdraw g c (λ a m. CardsAction a m.begun c.args.speed (is_err c.withdraw.result) c.args.run.now c.args.outcome.now c.withdraw.new.outcome (before-withdraw g c) (behind-withdraw g c)) (c.withdraw.ensures.promises.cards (late-withdraw g c) c.args.speed);
+}
+
+pub returns-in-Withdraw-clause-leaves : goal.returns-in-Withdraw-clause-leaves
+returns-in-Withdraw-clause-leaves g c = record {
+  events = by-withdraw g c (λ a m. NotesDone a m c.args.speed (is_err c.withdraw.result) c.args.run.now c.withdraw.new.run c.args.outcome.now c.withdraw.new.outcome (before-withdraw g c) (behind-withdraw g c)) c.withdraw.ensures.leaves.events;
+  rings = λ tells. by-withdraw g c (λ a m. RingsDone a m c.args.speed (is_err c.withdraw.result) c.args.run.now c.withdraw.new.run c.args.outcome.now c.withdraw.new.outcome (g.M.Medium.state c.args.unit.now) (g.M.Medium.state c.withdraw.new.unit)) (c.withdraw.ensures.leaves.rings tells);
+}
+
+pub returns-in-Withdraw-clause-held : goal.returns-in-Withdraw-clause-held
+returns-in-Withdraw-clause-held g c = record {
+  held = c.withdraw.ensures.held.held;
+  cause = c.withdraw.ensures.held.cause;
+}
+
+pub returns-in-Withdraw-clause-goes : goal.returns-in-Withdraw-clause-goes
+returns-in-Withdraw-clause-goes g c = record {
+  later = c.withdraw.ensures.goes.later;
+  calm = c.withdraw.ensures.goes.calm;
+  more = c.withdraw.ensures.goes.more;
+}
+
+pub returns-in-Place-clause-done : goal.returns-in-Place-clause-done
+returns-in-Place-clause-done g c = record {
+  action_done = by-place g c (λ a m. IsDone a m c.args.speed (is_err c.note_place.result) c.args.run.now c.note_place.new.run c.args.outcome.now (record c.args.outcome.now { breaks = c.note_place.new.breaks })) (c.note_place.ensures.placed.card.0, c.note_place.ensures.placed.card.1, refl);
+  selected = subst (λ (a : Action). IsSelected a c.args.run.now c.note_place.new.run) (sym c.in-Place.is) tt;
+  fine = subst (λ (a : Action). IsFine a (is_err c.note_place.result)) (sym c.in-Place.is) tt;
+  stays =
+      let only = c.note_place.ensures.placed.run in
+      record { power = ap (λ (r : Run). r.power) only; next = ap (λ (r : Run). r.next) only; begun = ap (λ (r : Run). r.begun) only; unfound = ap (λ (r : Run). r.unfound) only };
+  refused = refl;
+}
+
+pub returns-in-Place-clause-promises : goal.returns-in-Place-clause-promises
+returns-in-Place-clause-promises g c = record {
+  recorded = by-place g c (λ a m. RecordsAction a m.begun c.args.speed (is_err c.note_place.result) c.args.run.now c.note_place.new.run c.args.outcome.now (record c.args.outcome.now { breaks = c.note_place.new.breaks }) (before-place g c) (behind-place g c)) (c.note_place.ensures.promises.recorded (late-place g c) c.in-Place.ending c.in-Place.country c.in-Place.region c.args.speed c.args.outcome.now refl);
+  evented = by-place g c (λ a m. EventsAction a m.begun c.args.speed (is_err c.note_place.result) c.args.run.now c.note_place.new.run c.args.outcome.now (record c.args.outcome.now { breaks = c.note_place.new.breaks }) (before-place g c) (behind-place g c)) (c.note_place.ensures.promises.evented (late-place g c) c.in-Place.ending c.in-Place.country c.in-Place.region c.args.speed c.args.outcome.now refl);
+  ringed =
+      by-place g c (λ a m. RingsAction a m.begun c.args.speed (is_err c.note_place.result) c.args.run.now c.note_place.new.run c.args.outcome.now (record c.args.outcome.now { breaks = c.note_place.new.breaks }) (before-place g c) (behind-place g c))
+      (c.note_place.ensures.promises.ringed c.in-Place.ending c.in-Place.country c.in-Place.region (place-now g c) (late-place g c) c.args.speed c.args.outcome.now refl);
+  cards = by-place g c (λ a m. CardsAction a m.begun c.args.speed (is_err c.note_place.result) c.args.run.now c.args.outcome.now (record c.args.outcome.now { breaks = c.note_place.new.breaks }) (before-place g c) (behind-place g c)) (c.note_place.ensures.promises.cards (late-place g c) c.in-Place.ending c.in-Place.country c.in-Place.region c.args.speed c.args.outcome.now refl);
+}
+
+pub returns-in-Place-clause-leaves : goal.returns-in-Place-clause-leaves
+returns-in-Place-clause-leaves g c = record {
+  events = by-place g c (λ a m. NotesDone a m c.args.speed (is_err c.note_place.result) c.args.run.now c.note_place.new.run c.args.outcome.now (record c.args.outcome.now { breaks = c.note_place.new.breaks }) (before-place g c) (behind-place g c)) c.note_place.ensures.leaves.events;
+  rings =
+      λ tells.
+      subst (λ (a : Action). RingsDone a (moment_of c.args.begun c.args.run.now) c.args.speed (is_err c.note_place.result) c.args.run.now c.note_place.new.run c.args.outcome.now (record c.args.outcome.now { breaks = c.note_place.new.breaks }) (g.M.Medium.state c.args.unit.now) (g.M.Medium.state c.note_place.new.unit))
+      (sym c.in-Place.is) (c.place-entry.result, place-now g c, c.note_place.ensures.leaves.rings tells);
+}
+
+pub returns-in-Place-clause-held : goal.returns-in-Place-clause-held
+returns-in-Place-clause-held g c = record {
+  held = c.note_place.ensures.held.held;
+  cause = c.note_place.ensures.held.cause;
+}
+
+pub returns-in-Place-clause-goes : goal.returns-in-Place-clause-goes
+returns-in-Place-clause-goes g c = record {
+  later = c.note_place.ensures.goes.later;
+  calm = c.note_place.ensures.goes.calm;
+  more = c.note_place.ensures.goes.more;
+}
+
+pub returns-in-Select-clause-done : goal.returns-in-Select-clause-done
+returns-in-Select-clause-done g c = record {
+  action_done =
+      let run = c.args.run.now in
+      let o = c.args.outcome.now in
+      subst (λ (a : Action). IsDone a (moment_of c.args.begun run) c.args.speed false run (record run { minutes = c.select.new.self }) o o) (sym c.in-Select.is) (refl, (refl, c.select.ensures.picked), refl);
+  selected = subst (λ (a : Action). IsSelected a c.args.run.now (record c.args.run.now { minutes = c.select.new.self })) (sym c.in-Select.is) (refl, c.select.ensures.picked);
+  fine = subst (λ (a : Action). IsFine a false) (sym c.in-Select.is) refl;
+  stays = record { power = refl; next = refl; begun = refl; unfound = refl };
+  refused = refl;
+}
+
+pub returns-in-Select-clause-promises : goal.returns-in-Select-clause-promises
+returns-in-Select-clause-promises g c = record {
+  recorded =
+      λ o done s now front rest are begun allowed h time.
+      let run = c.args.run.now in
+      let out = c.args.outcome.now in
+      let new : Run = record run { minutes = c.select.new.self } in
+      let d : Devices = devices (g.M.Medium.state c.args.unit.now) (g.C.Chip.state c.args.card_a.now) (g.D.Chip.state c.args.card_b.now) in
+      subst (λ (n : ℕ). RunGoesOn o done s (In n) [] new out d h.within.b) (sym begun)
+      (selected o done s c.args.speed run out d now front c.args.action rest are h c.in-Select.slot c.in-Select.pick c.in-Select.is allowed new (refl, c.select.ensures.picked));
+  evented = λ o done s now front rest are begun allowed h events time. events;
+  ringed =
+      let run = c.args.run.now in
+      let o = c.args.outcome.now in
+      let d : Devices = devices (g.M.Medium.state c.args.unit.now) (g.C.Chip.state c.args.card_a.now) (g.D.Chip.state c.args.card_b.now) in
+      subst (λ (a : Action). RingsAction a c.args.begun c.args.speed false run (record run { minutes = c.select.new.self }) o o d d) (sym c.in-Select.is)
+      (selected-ringed d c.in-Select.slot c.in-Select.pick c.args.begun c.args.speed run c.select.new.self o);
+  cards =
+      let run = c.args.run.now in
+      let o = c.args.outcome.now in
+      let d : Devices = devices (g.M.Medium.state c.args.unit.now) (g.C.Chip.state c.args.card_a.now) (g.D.Chip.state c.args.card_b.now) in
+      subst (λ (a : Action). CardsAction a c.args.begun c.args.speed false run o o d d) (sym c.in-Select.is) (selected-cards d c.in-Select.slot c.in-Select.pick c.args.begun c.args.speed run o);
+}
+
+pub returns-in-Select-clause-leaves : goal.returns-in-Select-clause-leaves
+returns-in-Select-clause-leaves g c = record {
+  events =
+      let run = c.args.run.now in
+      let o = c.args.outcome.now in
+      let d = devices (g.M.Medium.state c.args.unit.now) (g.C.Chip.state c.args.card_a.now) (g.D.Chip.state c.args.card_b.now) in
+      subst (λ (a : Action). NotesDone a (moment_of c.args.begun run) c.args.speed false run (record run { minutes = c.select.new.self }) o o d d) (sym c.in-Select.is)
+      (same-noted (g.M.Medium.state c.args.unit.now) (g.C.Chip.state c.args.card_a.now) (g.D.Chip.state c.args.card_b.now));
+  rings =
+      λ tells.
+      let run = c.args.run.now in
+      let o = c.args.outcome.now in
+      let U = g.M.Medium.state c.args.unit.now in
+      subst (λ (a : Action). RingsDone a (moment_of c.args.begun run) c.args.speed false run (record run { minutes = c.select.new.self }) o o U U) (sym c.in-Select.is) (rings-left U);
+}
+
+pub returns-in-Select-clause-held : goal.returns-in-Select-clause-held
+returns-in-Select-clause-held g c = record {
+  held =
+      let h = c.requires.going.held in
+      record { is_unit = h.is_unit; odometer = h.odometer; minute = h.minute; card_a = h.card_a; card_b = h.card_b; stand = h.stand };
+  cause = (no_reads (g.M.Medium.state c.args.unit.now) (c.requires.going.lit (ap is_lit c.requires.lit)).ready.unit_ready.works).cause;
+}
+
+pub returns-in-Select-clause-goes : goal.returns-in-Select-clause-goes
+returns-in-Select-clause-goes g c = record {
+  later = later-same (devices (g.M.Medium.state c.args.unit.now) (g.C.Chip.state c.args.card_a.now) (g.D.Chip.state c.args.card_b.now));
+  calm = calm-same (devices (g.M.Medium.state c.args.unit.now) (g.C.Chip.state c.args.card_a.now) (g.D.Chip.state c.args.card_b.now));
+  more = omega arith;
+}
+
+pub returns-in-Manual-clause-done : goal.returns-in-Manual-clause-done
+returns-in-Manual-clause-done g c = record {
+  action_done =
+      let run = c.args.run.now in
+      let o = c.args.outcome.now in
+      subst (λ (a : Action). IsDone a (moment_of c.args.begun run) c.args.speed false run run o o) (sym c.in-Manual.is) (refl, refl, refl);
+  selected = subst (λ (a : Action). IsSelected a c.args.run.now c.args.run.now) (sym c.in-Manual.is) tt;
+  fine = subst (λ (a : Action). IsFine a false) (sym c.in-Manual.is) refl;
+  stays = record { power = refl; next = refl; begun = refl; unfound = refl };
+  refused = refl;
+}
+
+pub returns-in-Manual-clause-promises : goal.returns-in-Manual-clause-promises
+returns-in-Manual-clause-promises g c = record {
+  recorded =
+      λ o done s now front rest are begun allowed h time.
+      let run = c.args.run.now in
+      let out = c.args.outcome.now in
+      let d : Devices = devices (g.M.Medium.state c.args.unit.now) (g.C.Chip.state c.args.card_a.now) (g.D.Chip.state c.args.card_b.now) in
+      subst (λ (n : ℕ). RunGoesOn o done s (In n) [] run out d h.within.b) (sym begun)
+      (passed-by o done s c.args.speed run out d now front c.args.action rest are h c.in-Manual.slot c.in-Manual.pick c.in-Manual.minute c.in-Manual.is allowed);
+  evented = λ o done s now front rest are begun allowed h events time. events;
+  ringed =
+      let run = c.args.run.now in
+      let o = c.args.outcome.now in
+      let d : Devices = devices (g.M.Medium.state c.args.unit.now) (g.C.Chip.state c.args.card_a.now) (g.D.Chip.state c.args.card_b.now) in
+      subst (λ (a : Action). RingsAction a c.args.begun c.args.speed false run run o o d d) (sym c.in-Manual.is) (hand-ringed d c.in-Manual.slot c.in-Manual.pick c.in-Manual.minute c.args.begun c.args.speed run o);
+  cards =
+      let run = c.args.run.now in
+      let o = c.args.outcome.now in
+      let d : Devices = devices (g.M.Medium.state c.args.unit.now) (g.C.Chip.state c.args.card_a.now) (g.D.Chip.state c.args.card_b.now) in
+      subst (λ (a : Action). CardsAction a c.args.begun c.args.speed false run o o d d) (sym c.in-Manual.is) (hand-cards d c.in-Manual.slot c.in-Manual.pick c.in-Manual.minute c.args.begun c.args.speed run o);
+}
+
+pub returns-in-Manual-clause-leaves : goal.returns-in-Manual-clause-leaves
+returns-in-Manual-clause-leaves g c = record {
+  events =
+      let run = c.args.run.now in
+      let o = c.args.outcome.now in
+      let d = devices (g.M.Medium.state c.args.unit.now) (g.C.Chip.state c.args.card_a.now) (g.D.Chip.state c.args.card_b.now) in
+      subst (λ (a : Action). NotesDone a (moment_of c.args.begun run) c.args.speed false run run o o d d) (sym c.in-Manual.is)
+      (same-noted (g.M.Medium.state c.args.unit.now) (g.C.Chip.state c.args.card_a.now) (g.D.Chip.state c.args.card_b.now));
+  rings =
+      λ tells.
+      let run = c.args.run.now in
+      let o = c.args.outcome.now in
+      let U = g.M.Medium.state c.args.unit.now in
+      subst (λ (a : Action). RingsDone a (moment_of c.args.begun run) c.args.speed false run run o o U U) (sym c.in-Manual.is) (rings-left U);
+}
+
+pub returns-in-Manual-clause-held : goal.returns-in-Manual-clause-held
+returns-in-Manual-clause-held g c = record {
+  held = c.requires.going.held;
+  cause = (no_reads (g.M.Medium.state c.args.unit.now) (c.requires.going.lit (ap is_lit c.requires.lit)).ready.unit_ready.works).cause;
+}
+
+pub returns-in-Manual-clause-goes : goal.returns-in-Manual-clause-goes
+returns-in-Manual-clause-goes g c = record {
+  later = later-same (devices (g.M.Medium.state c.args.unit.now) (g.C.Chip.state c.args.card_a.now) (g.D.Chip.state c.args.card_b.now));
+  calm = calm-same (devices (g.M.Medium.state c.args.unit.now) (g.C.Chip.state c.args.card_a.now) (g.D.Chip.state c.args.card_b.now));
+  more = omega arith;
+}
+
+pub returns-in-Tear-clause-done : goal.returns-in-Tear-clause-done
+returns-in-Tear-clause-done g c = record {
+  action_done =
+      let run = c.args.run.now in
+      let o = c.args.outcome.now in
+      subst (λ (a : Action). IsDone a (moment_of c.args.begun run) c.args.speed false run c.pull.new.run o (record o { breaks = c.pull.new.breaks })) (sym c.in-Tear.is)
+      (subst (λ (m : Moment). IsDone (Tear c.in-Tear.slot) m c.args.speed false run c.pull.new.run o (record o { breaks = c.pull.new.breaks })) c.moment-at.ensures
+      (refl, c.pull.ensures.run, ap (λ (l : Listed Break). record o { breaks = l }) c.pull.ensures.breaks));
+  selected = subst (λ (a : Action). IsSelected a c.args.run.now c.pull.new.run) (sym c.in-Tear.is) tt;
+  fine = subst (λ (a : Action). IsFine a false) (sym c.in-Tear.is) tt;
+  stays =
+      let run = c.args.run.now in
+      subst (StaysIn run) (sym c.pull.ensures.run) (pulled-stays (card_in (seat_in run.keeper.cabin.slots.seats c.in-Tear.slot)) c.moment-at.result.second run);
+  refused = refl;
+}
+
+pub returns-in-Tear-clause-promises : goal.returns-in-Tear-clause-promises
+returns-in-Tear-clause-promises g c = record {
+  recorded = by-tear g c (λ a r l. RecordsAction a c.args.begun c.args.speed false c.args.run.now r c.args.outcome.now (record c.args.outcome.now { breaks = l }) (torn g c) (torn g c)) (pulled-recorded (torn g c) c.in-Tear.slot c.args.begun c.args.speed c.args.run.now c.args.outcome.now _ (c.requires.going.lit (ap is_lit c.requires.lit)).cabin);
+  evented = by-tear g c (λ a r l. EventsAction a c.args.begun c.args.speed false c.args.run.now r c.args.outcome.now (record c.args.outcome.now { breaks = l }) (torn g c) (torn g c)) (pulled-evented (torn g c) c.in-Tear.slot c.args.begun c.args.speed c.args.run.now c.args.outcome.now);
+  ringed = by-tear g c (λ a r l. RingsAction a c.args.begun c.args.speed false c.args.run.now r c.args.outcome.now (record c.args.outcome.now { breaks = l }) (torn g c) (torn g c)) (pulled-ringed (torn g c) c.in-Tear.slot c.args.begun c.args.speed c.args.run.now c.args.outcome.now);
+  cards = by-tear g c (λ a r l. CardsAction a c.args.begun c.args.speed false c.args.run.now c.args.outcome.now (record c.args.outcome.now { breaks = l }) (torn g c) (torn g c)) (pulled-cards (torn g c) c.in-Tear.slot c.args.begun c.args.speed c.args.run.now c.args.outcome.now);
+}
+
+pub returns-in-Tear-clause-leaves : goal.returns-in-Tear-clause-leaves
+returns-in-Tear-clause-leaves g c = record {
+  events =
+      let run = c.args.run.now in
+      let o = c.args.outcome.now in
+      let d = devices (g.M.Medium.state c.args.unit.now) (g.C.Chip.state c.args.card_a.now) (g.D.Chip.state c.args.card_b.now) in
+      subst (λ (a : Action). NotesDone a (moment_of c.args.begun run) c.args.speed false run c.pull.new.run o (record o { breaks = c.pull.new.breaks }) d d) (sym c.in-Tear.is)
+      (same-noted (g.M.Medium.state c.args.unit.now) (g.C.Chip.state c.args.card_a.now) (g.D.Chip.state c.args.card_b.now));
+  rings =
+      λ tells.
+      let run = c.args.run.now in
+      let o = c.args.outcome.now in
+      let U = g.M.Medium.state c.args.unit.now in
+      subst (λ (a : Action). RingsDone a (moment_of c.args.begun run) c.args.speed false run c.pull.new.run o (record o { breaks = c.pull.new.breaks }) U U) (sym c.in-Tear.is) (rings-left U);
+}
+
+pub returns-in-Tear-clause-held : goal.returns-in-Tear-clause-held
+returns-in-Tear-clause-held g c = record {
+  held =
+      let run = c.args.run.now in
+      let o = card_in (seat_in run.keeper.cabin.slots.seats c.in-Tear.slot) in
+      let at = ap (λ (m : Moment). m.second / 60) c.moment-at.ensures in
+      subst (λ (r : Run). CanBeCut (r.next / 60) r (g.M.Medium.state c.args.unit.now) (g.C.Chip.card c.args.card_a.now) (g.D.Chip.card c.args.card_b.now) (g.C.Chip.state c.args.card_a.now) (g.D.Chip.state c.args.card_b.now)) (sym c.pull.ensures.run)
+      (pulled-held run c.moment-at.result.second (omega (arith, at)) o (λ from leaving s. subst (λ (r : Run). CabinIsSound from leaving r.keeper.cabin) c.pull.ensures.run (c.pull.ensures.stands from leaving s)) c.requires.going.held);
+  cause = (no_reads (g.M.Medium.state c.args.unit.now) (c.requires.going.lit (ap is_lit c.requires.lit)).ready.unit_ready.works).cause;
+}
+
+pub returns-in-Tear-clause-goes : goal.returns-in-Tear-clause-goes
+returns-in-Tear-clause-goes g c = record {
+  later = later-same (devices (g.M.Medium.state c.args.unit.now) (g.C.Chip.state c.args.card_a.now) (g.D.Chip.state c.args.card_b.now));
+  calm = calm-told (devices (g.M.Medium.state c.args.unit.now) (g.C.Chip.state c.args.card_a.now) (g.D.Chip.state c.args.card_b.now)) _ (ap (λ (l : Listed Break). l.items) c.pull.ensures.breaks) (pulled-calm _ _ _);
+  more =
+      let told = ap (λ (l : Listed Break). length l.items) c.pull.ensures.breaks ∙ lines-length (pulled_breaks (card_in (seat_in c.args.run.now.keeper.cabin.slots.seats c.in-Tear.slot)) c.in-Tear.slot c.moment-at.result) c.args.outcome.now.breaks in
+      omega (arith, told);
+}

@@ -4,7 +4,6 @@ use Rattle.trace_model.specs.declared.Action.{Action}
 use Rattle.trace_model.specs.Trace.{TraceSecond, driven}
 use Rattle.safety_model.specs.Safe.{Devices}
 use Rattle.run_promise.specs.Between.{devices}
-use Rattle.run_minutes.proofs.DecidedBooked.{time-before}
 use Rattle.run_outcome.specs.declared.outcome.Outcome.{Outcome}
 use Rattle.run_acts.specs.Recording.{IsNow}
 use Rattle.std.proofs.lemmas.Grind.{common_steps}
@@ -35,6 +34,7 @@ use Rattle.std.specs.Prelude.{Ok}
 use Rattle.run_promise.specs.Origin.{Origin}
 use Rattle.run_acts.specs.Going.{largest_number}
 use Rattle.recorder_with_cards.proofs.Resumed.{same-devices}
+use Rattle.recorder_with_cards.proofs.Time.{later-time, after-time}
 use Rattle.recorder_with_cards.proofs.driving.drive.Given.{Over}
 use Rattle.recorder_with_cards.proofs.driving.drive.Goals.{After-drive_on}
 use Rattle.recorder_with_cards.proofs.driving.drive.Goals as goal
@@ -64,51 +64,51 @@ module _ (g : Over) (c : After-drive_on g) where
   second = record { number = c.args.run.now.next; has_power = true; speed = c.args.speed; actions = acts }
 
   begun-next : c.begin_second.new.run.next ≡ c.args.run.now.next
-  begun-next = c.in_ok-has_power.ensures.next
+  begun-next = c.in_ok-has_power.ensures.begun.next
 
   now-begun : IsNow second c.args.speed c.begin_second.new.run
   now-begun = record { number = sym begun-next; given = refl; speed_is = refl }
 
   now-acted : IsNow second c.args.speed c.act_all.new.run
-  now-acted = record { number = sym begun-next ∙ sym c.act_all.ensures.next; given = refl; speed_is = refl }
+  now-acted = record { number = sym begun-next ∙ sym c.act_all.ensures.acted.next; given = refl; speed_is = refl }
 
   later-by-one : c.turn.new.run.next ≡ c.args.run.now.next + 1
-  later-by-one = c.turn.ensures.next ∙ ap (λ (n : ℕ). n + 1) (c.act_all.ensures.next ∙ begun-next)
+  later-by-one = c.turn.ensures.turned.next ∙ ap (λ (n : ℕ). n + 1) (c.act_all.ensures.acted.next ∙ begun-next)
 
   begun-all : length acts ≡ c.args.to - c.args.from → c.args.to - c.args.from ≤ largest_number → c.number_of-begun.result ≡ c.args.to - c.args.from
   begun-all many few = let n = c.number_of-begun.ensures in omega (arith, n, few)
 
   time-three : HaveTime dev4 → HaveTime dev3
-  time-three = c.drive_on.ensures.time
+  time-three = after-time c.drive_on.ensures.later
 
   time-two : HaveTime dev4 → HaveTime dev2
-  time-two time = time-before dev2 dev3 c.turn.ensures.clock c.turn.ensures.clock_a c.turn.ensures.clock_b (time-three time)
+  time-two time = after-time c.turn.ensures.goes.later (time-three time)
 
   time-one : HaveTime dev4 → HaveTime dev1
-  time-one time = c.act_all.ensures.time (time-two time)
+  time-one time = later-time c.act_all.ensures.goes.later (time-two time)
 
   leaves : LeavesSpeeds (g.M.Medium.state c.args.unit.now) (g.M.Medium.state c.act_all.new.unit)
-  leaves = leaves-then (g.M.Medium.state c.args.unit.now) (g.M.Medium.state c.begin_second.new.unit) (g.M.Medium.state c.act_all.new.unit) c.in_ok-has_power.ensures.later.speeds c.act_all.ensures.later.speeds
+  leaves = leaves-then (g.M.Medium.state c.args.unit.now) (g.M.Medium.state c.begin_second.new.unit) (g.M.Medium.state c.act_all.new.unit) c.in_ok-has_power.ensures.goes.later.speeds c.act_all.ensures.goes.later.speeds
 
   -- there was power: so far the second has come, behind its actions
   module _ (given : c.in_ok-has_power.has_power ≡ true) where
     has-given : has_power c.args.run.now.power c.args.run.now.next ≡ true
-    has-given = sym c.in_ok-has_power.ensures.power ∙ given
+    has-given = sym c.in_ok-has_power.ensures.begun.has ∙ given
 
     begins : CameSo c.args.run.now.next c.args.run.now c.begin_second.new.run c.args.outcome.now c.begin_second.new.outcome
     begins =
         came-begun c.args.speed c.args.run.now.next c.args.run.now c.begin_second.new.run c.args.outcome.now c.begin_second.new.outcome dev0 dev1 refl
-        (λ on. let is = c.in_ok-has_power.ensures.lit on in (is.1, is.2)) (λ dark. c.in_ok-has_power.ensures.noted dark has-given)
+        (λ on. let is = c.in_ok-has_power.ensures.lit on in (is.1, is.2)) (λ dark. c.in_ok-has_power.ensures.promises.noted dark has-given)
 
     came : CameSo c.args.run.now.next c.args.run.now c.act_all.new.run c.args.outcome.now c.act_all.new.outcome
     came =
         came-acted c.args.run.now.next c.args.speed 0 (between c.args.from c.args.to c.args.items.now) c.args.run.now c.begin_second.new.run c.act_all.new.run c.args.outcome.now c.begin_second.new.outcome c.act_all.new.outcome refl begins
-        (subst (λ (b : Bool). AreActed b c.args.speed 0 (between c.args.from c.args.to c.args.items.now) c.begin_second.new.run c.act_all.new.run c.begin_second.new.outcome c.act_all.new.outcome) given c.act_all.ensures.acted)
+        (subst (λ (b : Bool). AreActed b c.args.speed 0 (between c.args.from c.args.to c.args.items.now) c.begin_second.new.run c.act_all.new.run c.begin_second.new.outcome c.act_all.new.outcome) given c.act_all.ensures.acted.done)
 
   -- there was no power: nothing was called
   module _ (away : c.in_ok-has_power.has_power ≡ false) where
     none-given : has_power c.args.run.now.power c.args.run.now.next ≡ false
-    none-given = sym c.in_ok-has_power.ensures.power ∙ away
+    none-given = sym c.in_ok-has_power.ensures.begun.has ∙ away
 
     dark : is_lit c.begin_second.new.run.power ≡ false
     dark = ap (λ (x : Run). is_lit x.power) (c.in_ok-has_power.ensures.dark away).0 ∙ away-dark c.args.run.now.power c.args.run.now.next none-given
@@ -124,10 +124,10 @@ module _ (g : Over) (c : After-drive_on g) where
     acted-so many few =
         let all = all-actions c.args.from c.args.to c.args.items.now many in
         acted-dark c.args.speed 0 (between c.args.from c.args.to c.args.items.now) c.begin_second.new.run c.act_all.new.run c.begin_second.new.outcome c.act_all.new.outcome all.0 (let most = all.1 in omega (arith, most, few))
-        (subst (λ (b : Bool). AreActed b c.args.speed 0 (between c.args.from c.args.to c.args.items.now) c.begin_second.new.run c.act_all.new.run c.begin_second.new.outcome c.act_all.new.outcome) away c.act_all.ensures.acted)
+        (subst (λ (b : Bool). AreActed b c.args.speed 0 (between c.args.from c.args.to c.args.items.now) c.begin_second.new.run c.act_all.new.run c.begin_second.new.outcome c.act_all.new.outcome) away c.act_all.ensures.acted.done)
 
     passes : (c.turn.new.run ≡ passed 1 c.number_of-begun.result c.act_all.new.run) × (c.turn.new.outcome ≡ c.act_all.new.outcome)
-    passes = passes-dark c.act_all.new.run c.turn.new.run c.act_all.new.outcome c.turn.new.outcome 1 c.args.speed c.number_of-begun.result (c.act_all.ensures.still dark).0 c.turn.ensures.turned
+    passes = passes-dark c.act_all.new.run c.turn.new.run c.act_all.new.outcome c.turn.new.outcome 1 c.args.speed c.number_of-begun.result (c.act_all.ensures.still dark).0 c.turn.ensures.turned.seconds
 
     passed-on : length acts ≡ c.args.to - c.args.from → c.args.to - c.args.from ≤ largest_number → c.turn.new.run ≡ passed 1 c.number_of-begun.result c.args.run.now
     passed-on many few = passes.0 ∙ ap (passed 1 c.number_of-begun.result) ((acted-so many few).0 ∙ (c.in_ok-has_power.ensures.dark away).0)
@@ -153,7 +153,7 @@ begin_second-requires-clause-room g c =
 pub act_all-requires-clause-dark : goal.act_all-requires-clause-dark
 act_all-requires-clause-dark g c = λ no.
     let run = c.args.run.now in
-    let away : has_power run.power run.next ≡ false = sym c.in_ok-has_power.ensures.power ∙ no in
+    let away : has_power run.power run.next ≡ false = sym c.in_ok-has_power.ensures.begun.has ∙ no in
     ap (λ (r : Run). is_lit r.power) (c.in_ok-has_power.ensures.dark no).0 ∙ away-dark run.power run.next away
 
 pub act_all-requires-clause-room : goal.act_all-requires-clause-room
@@ -188,20 +188,20 @@ drive_on-requires-clause-room g c =
 
 pub drive_on-requires-clause-small : goal.drive_on-requires-clause-small
 drive_on-requires-clause-small g c =
-    let turned = c.turn.ensures.next in
-    let acted = c.act_all.ensures.next in
-    let begun = c.in_ok-has_power.ensures.next in
+    let turned = c.turn.ensures.turned.next in
+    let acted = c.act_all.ensures.acted.next in
+    let begun = c.in_ok-has_power.ensures.begun.next in
     let some = c.requires.some in
     let small = c.requires.small in
     omega (arith, turned, acted, begun, some, small)
 
 pub drive_on-requires-clause-unfound : goal.drive_on-requires-clause-unfound
 drive_on-requires-clause-unfound g c =
-    let turned = c.turn.ensures.unfound in
-    let acted = c.act_all.ensures.unfound in
-    let begun = c.in_ok-has_power.ensures.unfound in
-    let more = c.turn.ensures.breaks in
-    let some = c.act_all.ensures.breaks in
+    let turned = c.turn.ensures.turned.unfound in
+    let acted = c.act_all.ensures.acted.unfound in
+    let begun = c.in_ok-has_power.ensures.begun.unfound in
+    let more = c.turn.ensures.goes.more in
+    let some = c.act_all.ensures.goes.more in
     omega (arith, turned, acted, begun, more, some)
 
 pub returns-clause-room : goal.returns-clause-room
@@ -222,9 +222,9 @@ returns-clause-gone g c =
       going = e.going;
       next = on_ok c.drive_on.result (λ well.
           let later = ok_gives c.drive_on.result e.next well in
-          let turned = c.turn.ensures.next in
-          let acted = c.act_all.ensures.next in
-          let begun = c.in_ok-has_power.ensures.next in
+          let turned = c.turn.ensures.turned.next in
+          let acted = c.act_all.ensures.acted.next in
+          let begun = c.in_ok-has_power.ensures.begun.next in
           let some = c.requires.some in
           omega (arith, later, turned, acted, begun, some));
       unfound = e.unfound;
@@ -240,19 +240,13 @@ returns-in_err-has_power-clause-gone g c = record {
   is_unit = c.in_err-has_power.ensures.unit;
 }
 
-pub returns-clause-time : goal.returns-clause-time
-returns-clause-time g c = λ time. time-before (dev0 g c) (dev1 g c) c.in_ok-has_power.ensures.clock c.in_ok-has_power.ensures.clock_a c.in_ok-has_power.ensures.clock_b (time-one g c time)
-
-pub returns-in_err-has_power-clause-time : goal.returns-in_err-has_power-clause-time
-returns-in_err-has_power-clause-time g c = time-before (devices (g.M.Medium.state c.args.unit.now) (g.C.Chip.state c.args.card_a.now) (g.D.Chip.state c.args.card_b.now)) (devices (g.M.Medium.state c.begin_second.new.unit) (g.C.Chip.state c.begin_second.new.card_a) (g.D.Chip.state c.begin_second.new.card_b)) c.in_err-has_power.ensures.clock c.in_err-has_power.ensures.clock_a c.in_err-has_power.ensures.clock_b
-
 pub returns-clause-later : goal.returns-clause-later
-returns-clause-later g c = after-then (dev0 g c) (dev1 g c) (dev4 g c) (after-of (dev0 g c) (dev1 g c) c.in_ok-has_power.ensures.later) (after-then (dev1 g c) (dev2 g c) (dev4 g c) (after-of (dev1 g c) (dev2 g c) c.act_all.ensures.later) (after-then (dev2 g c) (dev3 g c) (dev4 g c) c.turn.ensures.later c.drive_on.ensures.later))
+returns-clause-later g c = after-then (dev0 g c) (dev1 g c) (dev4 g c) (after-of (dev0 g c) (dev1 g c) c.in_ok-has_power.ensures.goes.later) (after-then (dev1 g c) (dev2 g c) (dev4 g c) (after-of (dev1 g c) (dev2 g c) c.act_all.ensures.goes.later) (after-then (dev2 g c) (dev3 g c) (dev4 g c) c.turn.ensures.goes.later c.drive_on.ensures.later))
 
 pub returns-in_err-has_power-clause-later : goal.returns-in_err-has_power-clause-later
 returns-in_err-has_power-clause-later g c =
     after-of (devices (g.M.Medium.state c.args.unit.now) (g.C.Chip.state c.args.card_a.now) (g.D.Chip.state c.args.card_b.now)) (devices (g.M.Medium.state c.begin_second.new.unit) (g.C.Chip.state c.begin_second.new.card_a) (g.D.Chip.state c.begin_second.new.card_b))
-    c.in_err-has_power.ensures.later
+    c.in_err-has_power.ensures.goes.later
 
 -- ---- what is recorded, with its events and rings
 
@@ -261,11 +255,11 @@ returns-clause-ringed g c = λ many few o done r time.
     let number = begun-all g c many few in
     let whole : c.args.to - c.args.from ≡ 0 + length (acts g c) = omega (arith, many) in
     let s : TraceSecond = second g c in
-    let begun = c.in_ok-has_power.ensures.ringed o done s (record { number = refl; given = refl; speed_is = refl }) r (time-one g c time) in
+    let begun = c.in_ok-has_power.ensures.promises.ringed o done s (record { number = refl; given = refl; speed_is = refl }) r (time-one g c time) in
     let behind = first-second g c RunRinged InSecondRinged o done begun
     (λ lit in_.
-    let acted = c.act_all.ensures.ringed lit many few o done s (now-begun g c) [] [] (sym (append-nil (acts g c))) whole in_ (time-two g c time) in
-    c.turn.ensures.ringed o done s (now-acted g c) (many ∙ sym number) (λ more. absurd (omega (arith, more)))
+    let acted = c.act_all.ensures.promises.ringed lit many few o done s (now-begun g c) [] [] (sym (append-nil (acts g c))) whole in_ (time-two g c time) in
+    c.turn.ensures.promises.ringed o done s (now-acted g c) (many ∙ sym number) (λ more. absurd (omega (arith, more)))
     (subst (λ (n : ℕ). InSecondRinged o done s n c.act_all.new.run c.act_all.new.outcome (dev2 g c)) (sym number) acted) (time-three g c time))
     (λ away. dark-ringed o done c.args.run.now c.args.outcome.now (dev0 g c) r 1 c.args.speed c.number_of-begun.result (acts g c) (omega arith) (none-given g c away) (omega arith) c.turn.new.run c.turn.new.outcome (passed-on g c away many few) (refused-all g c away many few)) in
     run-then RunRinged c.drive_on.result o done c.args.seconds c.args.run.now.next c.turn.new.run.next c.args.speed (acts g c) c.drive_on.new.run c.drive_on.new.outcome (dev4 g c) c.requires.some (later-by-one g c)
@@ -274,7 +268,7 @@ returns-clause-ringed g c = λ many few o done r time.
 pub returns-in_err-has_power-clause-ringed : goal.returns-in_err-has_power-clause-ringed
 returns-in_err-has_power-clause-ringed g c = λ many few o done r time.
     let s : TraceSecond = record { number = c.args.run.now.next; has_power = true; speed = c.args.speed; actions = actions_in (between c.args.from c.args.to c.args.items.now) } in
-    absurd (c.in_err-has_power.ensures.ringed o done s (record { number = refl; given = refl; speed_is = refl }) r time)
+    absurd (c.in_err-has_power.ensures.promises.ringed o done s (record { number = refl; given = refl; speed_is = refl }) r time)
 
 -- ---- and the events on the cards
 
@@ -285,15 +279,15 @@ returns-clause-cards g c = λ many few o done r time.
     let s : TraceSecond = second g c in
     let low = c.requires.going.low in
     let positive : 0 < c.args.run.now.next = omega (arith, low) in
-    let begun = c.in_ok-has_power.ensures.cards o done s (record { number = refl; given = refl; speed_is = refl }) r (time-one g c time) in
+    let begun = c.in_ok-has_power.ensures.promises.cards o done s (record { number = refl; given = refl; speed_is = refl }) r (time-one g c time) in
     let behind = first-second g c RunCarded InSecondCarded o done begun
     (λ lit in_.
-    let acted = c.act_all.ensures.cards lit many few o done s (now-begun g c) [] [] (sym (append-nil (acts g c))) whole in_ (time-two g c time) in
+    let acted = c.act_all.ensures.promises.cards lit many few o done s (now-begun g c) [] [] (sym (append-nil (acts g c))) whole in_ (time-two g c time) in
     turned-carded o done s 1 c.args.speed c.number_of-begun.result c.act_all.new.run c.turn.new.run c.act_all.new.outcome c.turn.new.outcome (dev2 g c) (dev3 g c) (many ∙ sym number) positive
-    (subst (λ (n : ℕ). InSecondCarded o done s n c.act_all.new.run c.act_all.new.outcome (dev2 g c)) (sym number) acted) c.turn.ensures.turned
-    (λ x. c.turn.ensures.ringed o done s (now-acted g c) (many ∙ sym number) (λ more. absurd (omega (arith, more))) x (time-three g c time))
-    (λ x. c.turn.ensures.cards o done s (now-acted g c) (many ∙ sym number) (λ more. absurd (omega (arith, more))) x (time-three g c time))
-    (c.turn.ensures.speeds o done s (now-acted g c) (many ∙ sym number) (λ more. absurd (omega (arith, more)))
+    (subst (λ (n : ℕ). InSecondCarded o done s n c.act_all.new.run c.act_all.new.outcome (dev2 g c)) (sym number) acted) c.turn.ensures.turned.seconds
+    (λ x. c.turn.ensures.promises.ringed o done s (now-acted g c) (many ∙ sym number) (λ more. absurd (omega (arith, more))) x (time-three g c time))
+    (λ x. c.turn.ensures.promises.cards o done s (now-acted g c) (many ∙ sym number) (λ more. absurd (omega (arith, more))) x (time-three g c time))
+    (c.turn.ensures.promises.speeds o done s (now-acted g c) (many ∙ sym number) (λ more. absurd (omega (arith, more)))
     (in-second o done s c.args.run.now c.act_all.new.run c.args.outcome.now c.act_all.new.outcome (dev0 g c) (dev2 g c) r.ringed.evented.recorded r.speeds refl refl (has-given g c lit) (came g c lit) (leaves g c) c.number_of-begun.result
     (carded-in (is_lit c.act_all.new.run.power) o done s c.number_of-begun.result c.act_all.new.run c.act_all.new.outcome (dev2 g c) (subst (λ (n : ℕ). InSecondCarded o done s n c.act_all.new.run c.act_all.new.outcome (dev2 g c)) (sym number) acted))) (time-three g c time)))
     (λ away. dark-carded o done c.args.run.now c.args.outcome.now (dev0 g c) r c.requires.going.low 1 c.args.speed c.number_of-begun.result (acts g c) (omega arith) (none-given g c away) (omega arith) c.turn.new.run c.turn.new.outcome (passed-on g c away many few) (refused-all g c away many few)) in
@@ -303,20 +297,20 @@ returns-clause-cards g c = λ many few o done r time.
 pub returns-in_err-has_power-clause-cards : goal.returns-in_err-has_power-clause-cards
 returns-in_err-has_power-clause-cards g c = λ many few o done r time.
     let s : TraceSecond = record { number = c.args.run.now.next; has_power = true; speed = c.args.speed; actions = actions_in (between c.args.from c.args.to c.args.items.now) } in
-    absurd (c.in_err-has_power.ensures.cards o done s (record { number = refl; given = refl; speed_is = refl }) r time)
+    absurd (c.in_err-has_power.ensures.promises.cards o done s (record { number = refl; given = refl; speed_is = refl }) r time)
 
 -- ---- how often the unit broke down
 
 pub returns-clause-broke : goal.returns-clause-broke
-returns-clause-broke g c = broke-then c.in_ok-has_power.ensures.broke (broke-then c.act_all.ensures.broke (broke-then c.turn.ensures.broke c.drive_on.ensures.broke))
+returns-clause-broke g c = broke-then c.in_ok-has_power.ensures.goes.broke (broke-then c.act_all.ensures.goes.broke (broke-then c.turn.ensures.goes.broke c.drive_on.ensures.broke))
 
 pub returns-in_err-has_power-clause-broke : goal.returns-in_err-has_power-clause-broke
-returns-in_err-has_power-clause-broke g c = c.in_err-has_power.ensures.broke
+returns-in_err-has_power-clause-broke g c = c.in_err-has_power.ensures.goes.broke
 
 -- ---- where no tear of a failed call is told no card has broken down
 
 pub returns-clause-calm : goal.returns-clause-calm
-returns-clause-calm g c = calm-then (dev0 g c) (dev1 g c) (dev4 g c) c.in_ok-has_power.ensures.calm (calm-then (dev1 g c) (dev2 g c) (dev4 g c) c.act_all.ensures.calm (calm-then (dev2 g c) (dev3 g c) (dev4 g c) c.turn.ensures.calm c.drive_on.ensures.calm))
+returns-clause-calm g c = calm-then (dev0 g c) (dev1 g c) (dev4 g c) c.in_ok-has_power.ensures.goes.calm (calm-then (dev1 g c) (dev2 g c) (dev4 g c) c.act_all.ensures.goes.calm (calm-then (dev2 g c) (dev3 g c) (dev4 g c) c.turn.ensures.goes.calm c.drive_on.ensures.calm))
 
 pub returns-in_err-has_power-clause-calm : goal.returns-in_err-has_power-clause-calm
-returns-in_err-has_power-clause-calm g c = c.in_err-has_power.ensures.calm
+returns-in_err-has_power-clause-calm g c = c.in_err-has_power.ensures.goes.calm

@@ -14,6 +14,7 @@ use Rattle.recorder_with_cards.proofs.SecondsEvented.{last-more}
 use Rattle.run_minutes.proofs.Later.{after-same, after-then}
 use Rattle.run_outcome.proofs.Broken.{broke-none, broke-then}
 use Rattle.run_minutes.proofs.Calm.{calm-then, calm-same}
+use Rattle.recorder_with_cards.proofs.Time.{after-time}
 use Rattle.recorder_with_cards.proofs.driving.drive_on.Goals as goal
 
 pub loop-left-init : goal.loop-left-init
@@ -31,7 +32,6 @@ loop-left-init g c = record {
       let d : Devices = devices (g.M.Medium.state c.args.unit.now) (g.C.Chip.state c.args.card_a.now) (g.D.Chip.state c.args.card_b.now) in
       subst (λ (n : ℕ). LastAt (done ++ driven n c.args.run.now.next c.args.speed []) c.args.speed × RunCarded o (done ++ driven n c.args.run.now.next c.args.speed []) c.args.run.now c.args.outcome.now d) (let e : 0 ≡ c.args.seconds - c.args.seconds = omega arith in e)
       (subst (λ (ss : List TraceSecond). LastAt ss c.args.speed × RunCarded o ss c.args.run.now c.args.outcome.now d) (sym (append-nil done)) (last, r));
-  time = λ h. h;
   later = after-same (devices (g.M.Medium.state c.args.unit.now) (g.C.Chip.state c.args.card_a.now) (g.D.Chip.state c.args.card_b.now));
   calm = calm-same (devices (g.M.Medium.state c.args.unit.now) (g.C.Chip.state c.args.card_a.now) (g.D.Chip.state c.args.card_b.now));
   broke = broke-none c.args.outcome.now.breaks.items {old = (g.M.Medium.state c.args.unit.now)} {new = (g.M.Medium.state c.args.unit.now)} (omega arith);
@@ -62,7 +62,7 @@ loop-left-preserved g c =
       few = let few = v.few in omega (arith, few);
       ringed = λ o done last r time.
           let so : ℕ = c.args.seconds - left in
-          let was = v.ringed o done last r (c.in_ok-step.ensures.time time) in
+          let was = v.ringed o done last r (after-time c.in_ok-step.ensures.later time) in
           let few = v.few in
           let start = v.next in
           let here : c.loop-left.run.next ≡ c.args.run.now.next + so = omega (arith, start, few) in
@@ -74,7 +74,7 @@ loop-left-preserved g c =
           (last-more n c.loop-left.run.next c.args.speed (done ++ driven so c.args.run.now.next c.args.speed []) was.0, c.in_ok-step.ensures.ringed o (done ++ driven so c.args.run.now.next c.args.speed []) was.0 was.1 time);
       cards = λ o done last r time.
           let so : ℕ = c.args.seconds - left in
-          let was = v.cards o done last r (c.in_ok-step.ensures.time time) in
+          let was = v.cards o done last r (after-time c.in_ok-step.ensures.later time) in
           let few = v.few in
           let start = v.next in
           let here : c.loop-left.run.next ≡ c.args.run.now.next + so = omega (arith, start, few) in
@@ -84,7 +84,6 @@ loop-left-preserved g c =
           ∙ ap (λ (ss : List TraceSecond). done ++ ss) (ap (λ (m : ℕ). driven so c.args.run.now.next c.args.speed [] ++ driven n m c.args.speed []) here ∙ sym (plain-parts so n c.args.run.now.next c.args.speed)
           ∙ ap (λ (m : ℕ). driven m c.args.run.now.next c.args.speed []) (let e : so + n ≡ c.args.seconds - (left - n) = omega (arith, few, most) in e)))
           (last-more n c.loop-left.run.next c.args.speed (done ++ driven so c.args.run.now.next c.args.speed []) was.0, c.in_ok-step.ensures.cards o (done ++ driven so c.args.run.now.next c.args.speed []) was.0 was.1 time);
-      time = λ h. v.time (c.in_ok-step.ensures.time h);
       later = after-then (devices (g.M.Medium.state c.args.unit.now) (g.C.Chip.state c.args.card_a.now) (g.D.Chip.state c.args.card_b.now)) (devices (g.M.Medium.state c.loop-left.unit) (g.C.Chip.state c.loop-left.card_a) (g.D.Chip.state c.loop-left.card_b)) (devices (g.M.Medium.state c.step.new.unit) (g.C.Chip.state c.step.new.card_a) (g.D.Chip.state c.step.new.card_b)) v.later c.in_ok-step.ensures.later;
       calm = calm-then (devices (g.M.Medium.state c.args.unit.now) (g.C.Chip.state c.args.card_a.now) (g.D.Chip.state c.args.card_b.now)) (devices (g.M.Medium.state c.loop-left.unit) (g.C.Chip.state c.loop-left.card_a) (g.D.Chip.state c.loop-left.card_b)) (devices (g.M.Medium.state c.step.new.unit) (g.C.Chip.state c.step.new.card_a) (g.D.Chip.state c.step.new.card_b)) v.calm c.in_ok-step.ensures.calm;
       broke = broke-then c.loop-left.invariant.broke c.in_ok-step.ensures.broke;
@@ -116,12 +115,6 @@ returns-in_err-step-clause-gone g c = record {
   is_unit = c.in_err-step.ensures.gone.is_unit;
 }
 
-pub returns-clause-time : goal.returns-clause-time
-returns-clause-time g c = c.loop-left.invariant.time
-
-pub returns-in_err-step-clause-time : goal.returns-in_err-step-clause-time
-returns-in_err-step-clause-time g c = λ h. c.loop-left.invariant.time (c.in_err-step.ensures.time h)
-
 pub returns-clause-later : goal.returns-clause-later
 returns-clause-later g c = c.loop-left.invariant.later
 
@@ -138,7 +131,7 @@ returns-clause-ringed g c = λ o done last r time.
 
 pub returns-in_err-step-clause-ringed : goal.returns-in_err-step-clause-ringed
 returns-in_err-step-clause-ringed g c = λ o done last r time.
-    let was = c.loop-left.invariant.ringed o done last r (c.in_err-step.ensures.time time) in
+    let was = c.loop-left.invariant.ringed o done last r (after-time c.in_err-step.ensures.later time) in
     absurd (c.in_err-step.ensures.ringed o (done ++ driven (c.args.seconds - c.loop-left.left) c.args.run.now.next c.args.speed []) was.0 was.1 time)
 
 -- ---- and the events on the cards
@@ -151,7 +144,7 @@ returns-clause-cards g c = λ o done last r time.
 
 pub returns-in_err-step-clause-cards : goal.returns-in_err-step-clause-cards
 returns-in_err-step-clause-cards g c = λ o done last r time.
-    let was = c.loop-left.invariant.cards o done last r (c.in_err-step.ensures.time time) in
+    let was = c.loop-left.invariant.cards o done last r (after-time c.in_err-step.ensures.later time) in
     absurd (c.in_err-step.ensures.cards o (done ++ driven (c.args.seconds - c.loop-left.left) c.args.run.now.next c.args.speed []) was.0 was.1 time)
 
 -- ---- how often the unit broke down

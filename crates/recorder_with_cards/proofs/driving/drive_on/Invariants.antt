@@ -21,7 +21,6 @@ invariant-loop-left g l = record {
   few : l.left ≤ l.seconds;
   ringed : (o : Origin) (done : List TraceSecond) → LastAt done l.speed → RunRinged o done l.fn.run l.fn.outcome (devices (g.M.Medium.state l.fn.unit) (g.C.Chip.state l.fn.card_a) (g.D.Chip.state l.fn.card_b)) → HaveTime (devices (g.M.Medium.state l.unit) (g.C.Chip.state l.card_a) (g.D.Chip.state l.card_b)) → LastAt (done ++ driven (l.seconds - l.left) l.fn.run.next l.speed []) l.speed × RunRinged o (done ++ driven (l.seconds - l.left) l.fn.run.next l.speed []) l.run l.outcome (devices (g.M.Medium.state l.unit) (g.C.Chip.state l.card_a) (g.D.Chip.state l.card_b));
   cards : (o : Origin) (done : List TraceSecond) → LastAt done l.speed → RunCarded o done l.fn.run l.fn.outcome (devices (g.M.Medium.state l.fn.unit) (g.C.Chip.state l.fn.card_a) (g.D.Chip.state l.fn.card_b)) → HaveTime (devices (g.M.Medium.state l.unit) (g.C.Chip.state l.card_a) (g.D.Chip.state l.card_b)) → LastAt (done ++ driven (l.seconds - l.left) l.fn.run.next l.speed []) l.speed × RunCarded o (done ++ driven (l.seconds - l.left) l.fn.run.next l.speed []) l.run l.outcome (devices (g.M.Medium.state l.unit) (g.C.Chip.state l.card_a) (g.D.Chip.state l.card_b));
-  time : HaveTime (devices (g.M.Medium.state l.unit) (g.C.Chip.state l.card_a) (g.D.Chip.state l.card_b)) → HaveTime (devices (g.M.Medium.state l.fn.unit) (g.C.Chip.state l.fn.card_a) (g.D.Chip.state l.fn.card_b));
   later : AreAfter (devices (g.M.Medium.state l.fn.unit) (g.C.Chip.state l.fn.card_a) (g.D.Chip.state l.fn.card_b)) (devices (g.M.Medium.state l.unit) (g.C.Chip.state l.card_a) (g.D.Chip.state l.card_b));
   calm : AreCalm l.fn.outcome.breaks.items l.outcome.breaks.items (devices (g.M.Medium.state l.fn.unit) (g.C.Chip.state l.fn.card_a) (g.D.Chip.state l.fn.card_b)) (devices (g.M.Medium.state l.unit) (g.C.Chip.state l.card_a) (g.D.Chip.state l.card_b));
   broke : BreaksDown l.fn.outcome.breaks.items l.outcome.breaks.items (g.M.Medium.state l.fn.unit) (g.M.Medium.state l.unit);

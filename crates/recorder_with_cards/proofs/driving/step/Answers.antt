@@ -2,7 +2,6 @@ use Rattle.std.proofs.Common.{rules, ◌≡◌, ◌∙◌, ℕ, ◌+◌, ◌-◌
 use Rattle.trace_model.specs.Trace.{TraceSecond, driven}
 use Rattle.safety_model.specs.Safe.{Devices}
 use Rattle.run_promise.specs.Between.{devices}
-use Rattle.run_minutes.proofs.DecidedBooked.{time-before}
 use Rattle.run_minutes.specs.Keeping.{with_lines}
 use Rattle.run_acts.specs.declared.run.Run.{Run}
 use Rattle.run_acts.specs.Power.{is_lit, has_power, passed}
@@ -25,6 +24,7 @@ use Rattle.run_acts.specs.Recording.{IsNow}
 use Rattle.std.specs.Prelude.{Ok}
 use Rattle.run_promise.specs.Origin.{Origin}
 use Rattle.recorder_with_cards.proofs.Resumed.{same-devices}
+use Rattle.recorder_with_cards.proofs.Time.{after-time}
 use Rattle.recorder_with_cards.proofs.driving.step.Given.{Over}
 use Rattle.recorder_with_cards.proofs.driving.step.Goals.{After-turn}
 use Rattle.recorder_with_cards.proofs.driving.step.Goals as goal
@@ -45,25 +45,25 @@ module _ (g : Over) (c : After-turn g) where
   second = record { number = c.args.run.now.next; has_power = true; speed = c.args.speed; actions = [] }
 
   now-begun : IsNow second c.args.speed c.begin_second.new.run
-  now-begun = record { number = sym c.in_ok-begin_second.ensures.next; given = refl; speed_is = refl }
+  now-begun = record { number = sym c.in_ok-begin_second.ensures.begun.next; given = refl; speed_is = refl }
 
   time-begun : HaveTime dev2 → HaveTime dev1
-  time-begun time = time-before dev1 dev2 c.turn.ensures.clock c.turn.ensures.clock_a c.turn.ensures.clock_b time
+  time-begun time = after-time c.turn.ensures.goes.later time
 
   -- there was power: so far the second has come
   module _ (given : c.in_ok-begin_second.field-0 ≡ true) where
     has-given : has_power c.args.run.now.power c.args.run.now.next ≡ true
-    has-given = sym c.in_ok-begin_second.ensures.power ∙ given
+    has-given = sym c.in_ok-begin_second.ensures.begun.has ∙ given
 
     came : CameSo c.args.run.now.next c.args.run.now c.begin_second.new.run c.args.outcome.now c.begin_second.new.outcome
     came =
         came-begun c.args.speed c.args.run.now.next c.args.run.now c.begin_second.new.run c.args.outcome.now c.begin_second.new.outcome dev0 dev1 refl
-        (λ on. let is = c.in_ok-begin_second.ensures.lit on in (is.1, is.2)) (λ dark. c.in_ok-begin_second.ensures.noted dark has-given)
+        (λ on. let is = c.in_ok-begin_second.ensures.lit on in (is.1, is.2)) (λ dark. c.in_ok-begin_second.ensures.promises.noted dark has-given)
 
   -- there was no power: nothing was called
   module _ (away : c.in_ok-begin_second.field-0 ≡ false) where
     none-given : has_power c.args.run.now.power c.args.run.now.next ≡ false
-    none-given = sym c.in_ok-begin_second.ensures.power ∙ away
+    none-given = sym c.in_ok-begin_second.ensures.begun.has ∙ away
 
     dark : is_lit c.begin_second.new.run.power ≡ false
     dark = ap (λ (x : Run). is_lit x.power) (c.in_ok-begin_second.ensures.dark away).0 ∙ away-dark c.args.run.now.power c.args.run.now.next none-given
@@ -75,7 +75,7 @@ module _ (g : Over) (c : After-turn g) where
         same-devices P g.M.Medium.state g.C.Chip.state g.D.Chip.state c.args.unit.now c.turn.new.unit c.args.card_a.now c.turn.new.card_a c.args.card_b.now c.turn.new.card_b (turned.0 ∙ kept.2, turned.1 ∙ kept.3, turned.2 ∙ kept.4) h
 
     passes : (c.turn.new.run ≡ passed c.args.n 0 c.begin_second.new.run) × (c.turn.new.outcome ≡ c.begin_second.new.outcome)
-    passes = passes-dark c.begin_second.new.run c.turn.new.run c.begin_second.new.outcome c.turn.new.outcome c.args.n c.args.speed 0 dark c.turn.ensures.turned
+    passes = passes-dark c.begin_second.new.run c.turn.new.run c.begin_second.new.outcome c.turn.new.outcome c.args.n c.args.speed 0 dark c.turn.ensures.turned.seconds
 
     passed-on : c.turn.new.run ≡ passed c.args.n 0 c.args.run.now
     passed-on = passes.0 ∙ ap (passed c.args.n 0) (c.in_ok-begin_second.ensures.dark away).0
@@ -114,8 +114,8 @@ pub returns-clause-gone : goal.returns-clause-gone
 returns-clause-gone g c = record {
   late = tt;
   going = c.turn.ensures.going;
-  next = let turned = c.turn.ensures.next in let begun = c.in_ok-begin_second.ensures.next in omega (arith, turned, begun);
-  unfound = let turned = c.turn.ensures.unfound in let few = c.turn.ensures.breaks in let begun = c.in_ok-begin_second.ensures.unfound in omega (arith, turned, few, begun);
+  next = let turned = c.turn.ensures.turned.next in let begun = c.in_ok-begin_second.ensures.begun.next in omega (arith, turned, begun);
+  unfound = let turned = c.turn.ensures.turned.unfound in let few = c.turn.ensures.goes.more in let begun = c.in_ok-begin_second.ensures.begun.unfound in omega (arith, turned, few, begun);
   is_unit = c.turn.ensures.going.held.is_unit;
 }
 
@@ -128,32 +128,26 @@ returns-in_err-begin_second-clause-gone g c = record {
   is_unit = c.in_err-begin_second.ensures.unit;
 }
 
-pub returns-clause-time : goal.returns-clause-time
-returns-clause-time g c = λ time. time-before (dev0 g c) (dev1 g c) c.in_ok-begin_second.ensures.clock c.in_ok-begin_second.ensures.clock_a c.in_ok-begin_second.ensures.clock_b (time-begun g c time)
-
-pub returns-in_err-begin_second-clause-time : goal.returns-in_err-begin_second-clause-time
-returns-in_err-begin_second-clause-time g c = time-before (devices (g.M.Medium.state c.args.unit.now) (g.C.Chip.state c.args.card_a.now) (g.D.Chip.state c.args.card_b.now)) (devices (g.M.Medium.state c.begin_second.new.unit) (g.C.Chip.state c.begin_second.new.card_a) (g.D.Chip.state c.begin_second.new.card_b)) c.in_err-begin_second.ensures.clock c.in_err-begin_second.ensures.clock_a c.in_err-begin_second.ensures.clock_b
-
 pub returns-clause-later : goal.returns-clause-later
-returns-clause-later g c = after-then (dev0 g c) (dev1 g c) (dev2 g c) (after-of (dev0 g c) (dev1 g c) c.in_ok-begin_second.ensures.later) c.turn.ensures.later
+returns-clause-later g c = after-then (dev0 g c) (dev1 g c) (dev2 g c) (after-of (dev0 g c) (dev1 g c) c.in_ok-begin_second.ensures.goes.later) c.turn.ensures.goes.later
 
 pub returns-in_err-begin_second-clause-later : goal.returns-in_err-begin_second-clause-later
 returns-in_err-begin_second-clause-later g c =
     after-of (devices (g.M.Medium.state c.args.unit.now) (g.C.Chip.state c.args.card_a.now) (g.D.Chip.state c.args.card_b.now)) (devices (g.M.Medium.state c.begin_second.new.unit) (g.C.Chip.state c.begin_second.new.card_a) (g.D.Chip.state c.begin_second.new.card_b))
-    c.in_err-begin_second.ensures.later
+    c.in_err-begin_second.ensures.goes.later
 
 -- ---- what is recorded, with its events and rings
 
 pub returns-clause-ringed : goal.returns-clause-ringed
 returns-clause-ringed g c = λ o done last r time.
-    stepped g c RunRinged InSecondRinged o done (c.in_ok-begin_second.ensures.ringed o done (second g c) (record { number = refl; given = refl; speed_is = refl }) r (time-begun g c time))
-    (λ lit_ in_. c.turn.ensures.ringed o done (second g c) (now-begun g c) refl (λ more. (refl, last)) in_ time)
+    stepped g c RunRinged InSecondRinged o done (c.in_ok-begin_second.ensures.promises.ringed o done (second g c) (record { number = refl; given = refl; speed_is = refl }) r (time-begun g c time))
+    (λ lit_ in_. c.turn.ensures.promises.ringed o done (second g c) (now-begun g c) refl (λ more. (refl, last)) in_ time)
     (λ away. dark-ringed o done c.args.run.now c.args.outcome.now (dev0 g c) r c.args.n c.args.speed 0 [] c.requires.some (none-given g c away) c.requires.minute c.turn.new.run c.turn.new.outcome (passed-on g c away) (refused-none g c away))
 
 pub returns-in_err-begin_second-clause-ringed : goal.returns-in_err-begin_second-clause-ringed
 returns-in_err-begin_second-clause-ringed g c = λ o done last r time.
     let s : TraceSecond = record { number = c.args.run.now.next; has_power = true; speed = c.args.speed; actions = [] } in
-    absurd (c.in_err-begin_second.ensures.ringed o done s (record { number = refl; given = refl; speed_is = refl }) r time)
+    absurd (c.in_err-begin_second.ensures.promises.ringed o done s (record { number = refl; given = refl; speed_is = refl }) r time)
 
 -- ---- and the events on the cards
 
@@ -161,32 +155,32 @@ pub returns-clause-cards : goal.returns-clause-cards
 returns-clause-cards g c = λ o done last r time.
     let low = c.requires.going.low in
     let positive : 0 < c.args.run.now.next = omega (arith, low) in
-    stepped g c RunCarded InSecondCarded o done (c.in_ok-begin_second.ensures.cards o done (second g c) (record { number = refl; given = refl; speed_is = refl }) r (time-begun g c time))
-    (λ lit_ in_. turned-carded o done (second g c) c.args.n c.args.speed 0 c.begin_second.new.run c.turn.new.run c.begin_second.new.outcome c.turn.new.outcome (dev1 g c) (dev2 g c) refl positive in_ c.turn.ensures.turned
-    (λ x. c.turn.ensures.ringed o done (second g c) (now-begun g c) refl (λ more. (refl, last)) x time)
-    (λ x. c.turn.ensures.cards o done (second g c) (now-begun g c) refl (λ more. refl) x time)
-    (c.turn.ensures.speeds o done (second g c) (now-begun g c) refl (λ more. refl)
-    (in-second o done (second g c) c.args.run.now c.begin_second.new.run c.args.outcome.now c.begin_second.new.outcome (dev0 g c) (dev1 g c) r.ringed.evented.recorded r.speeds refl refl (has-given g c lit_) (came g c lit_) c.in_ok-begin_second.ensures.later.speeds 0
+    stepped g c RunCarded InSecondCarded o done (c.in_ok-begin_second.ensures.promises.cards o done (second g c) (record { number = refl; given = refl; speed_is = refl }) r (time-begun g c time))
+    (λ lit_ in_. turned-carded o done (second g c) c.args.n c.args.speed 0 c.begin_second.new.run c.turn.new.run c.begin_second.new.outcome c.turn.new.outcome (dev1 g c) (dev2 g c) refl positive in_ c.turn.ensures.turned.seconds
+    (λ x. c.turn.ensures.promises.ringed o done (second g c) (now-begun g c) refl (λ more. (refl, last)) x time)
+    (λ x. c.turn.ensures.promises.cards o done (second g c) (now-begun g c) refl (λ more. refl) x time)
+    (c.turn.ensures.promises.speeds o done (second g c) (now-begun g c) refl (λ more. refl)
+    (in-second o done (second g c) c.args.run.now c.begin_second.new.run c.args.outcome.now c.begin_second.new.outcome (dev0 g c) (dev1 g c) r.ringed.evented.recorded r.speeds refl refl (has-given g c lit_) (came g c lit_) c.in_ok-begin_second.ensures.goes.later.speeds 0
     (carded-in (is_lit c.begin_second.new.run.power) o done (second g c) 0 c.begin_second.new.run c.begin_second.new.outcome (dev1 g c) in_)) time))
     (λ away. dark-carded o done c.args.run.now c.args.outcome.now (dev0 g c) r c.requires.going.low c.args.n c.args.speed 0 [] c.requires.some (none-given g c away) c.requires.minute c.turn.new.run c.turn.new.outcome (passed-on g c away) (refused-none g c away))
 
 pub returns-in_err-begin_second-clause-cards : goal.returns-in_err-begin_second-clause-cards
 returns-in_err-begin_second-clause-cards g c = λ o done last r time.
     let s : TraceSecond = record { number = c.args.run.now.next; has_power = true; speed = c.args.speed; actions = [] } in
-    absurd (c.in_err-begin_second.ensures.cards o done s (record { number = refl; given = refl; speed_is = refl }) r time)
+    absurd (c.in_err-begin_second.ensures.promises.cards o done s (record { number = refl; given = refl; speed_is = refl }) r time)
 
 -- ---- how often the unit broke down
 
 pub returns-clause-broke : goal.returns-clause-broke
-returns-clause-broke g c = broke-then c.in_ok-begin_second.ensures.broke c.turn.ensures.broke
+returns-clause-broke g c = broke-then c.in_ok-begin_second.ensures.goes.broke c.turn.ensures.goes.broke
 
 pub returns-in_err-begin_second-clause-broke : goal.returns-in_err-begin_second-clause-broke
-returns-in_err-begin_second-clause-broke g c = c.in_err-begin_second.ensures.broke
+returns-in_err-begin_second-clause-broke g c = c.in_err-begin_second.ensures.goes.broke
 
 -- ---- where no tear of a failed call is told no card has broken down
 
 pub returns-clause-calm : goal.returns-clause-calm
-returns-clause-calm g c = calm-then (dev0 g c) (dev1 g c) (dev2 g c) c.in_ok-begin_second.ensures.calm c.turn.ensures.calm
+returns-clause-calm g c = calm-then (dev0 g c) (dev1 g c) (dev2 g c) c.in_ok-begin_second.ensures.goes.calm c.turn.ensures.goes.calm
 
 pub returns-in_err-begin_second-clause-calm : goal.returns-in_err-begin_second-clause-calm
-returns-in_err-begin_second-clause-calm g c = c.in_err-begin_second.ensures.calm
+returns-in_err-begin_second-clause-calm g c = c.in_err-begin_second.ensures.goes.calm

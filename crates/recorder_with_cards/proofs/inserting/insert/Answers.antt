@@ -1,4 +1,4 @@
-use Rattle.std.proofs.Common.{rules, ◌≡◌, ◌∙◌, inl, inr, ◌+◌, ◌/◌, ◌≤◌, Bool, true, false, Some, None, List, [], ◌∷◌, ◌++◌, length, refl, ap, sym, subst, arith, ◌*◌}
+use Rattle.std.proofs.Common.{rules, ◌≡◌, ◌∙◌, ℕ, inl, inr, ◌+◌, ◌/◌, ◌≤◌, Bool, true, false, Some, None, List, [], ◌∷◌, ◌++◌, length, refl, ap, sym, subst, arith, ◌*◌}
 use Rattle.tach_media.proofs.Runs.{cause_after}
 use Rattle.minute_model.specs.Span.{ungiven_of}
 use Rattle.run_crew.specs.declared.cabin.Cabin.{Cabin}
@@ -15,6 +15,7 @@ use Rattle.safety_model.specs.Safe.{Devices}
 use Rattle.run_promise.specs.Between.{devices}
 use Rattle.run_outcome.specs.declared.outcome.Outcome.{Outcome}
 use Rattle.run_minutes.proofs.DecidedBooked.{time-before}
+use Rattle.minute_rules.specs.Kept.{Kept as Minutes}
 use Rattle.run_acts.specs.declared.run.Run.{Run}
 use Rattle.run_acts.specs.declared.run.Power.{Power}
 use Rattle.run_acts.specs.Recording.{log_of, GoesOnOrFails}
@@ -27,13 +28,14 @@ use Rattle.run_minutes.specs.declared.keeper.Moment.{Moment}
 use Rattle.run_course.specs.Moment.{entering_by}
 use Rattle.run_rings.specs.Spans.{with_second}
 use Rattle.run_acts.specs.RunRinged.{RingsGoOn}
+use Rattle.run_acts.proofs.GoesOn.{settled-left, settled-later, settled-noted}
 use Rattle.run_acts.proofs.RingedLines.{AreTears, up-to-tells}
 use Rattle.run_acts.proofs.RingedSecond.{more-left}
 use Rattle.run_acts.proofs.RingedClosed.{fewer-seats}
 use Rattle.recorder_with_cards.proofs.ActsRecorded.{refuses}
 use Rattle.recorder_with_cards.proofs.Inserted.{at-is, unsettled, inserted, waiting as waits-within, next-judged, next-cards, unsettled-evented, inserted-evented}
 use Rattle.recorder_with_cards.proofs.InsertedRinged.{unsettled-ringed, inserted-ringed, odometer-mid}
-use Rattle.tach_media.specs.Medium.{State}
+use Rattle.tach_media.specs.Medium.{State, HasCause}
 use Rattle.run_acts.specs.NotedEvents.{NotesEvents}
 use Rattle.run_acts.proofs.NotedEvents.{then-noted}
 use Rattle.run_acts.specs.Faults.{NotesSettling}
@@ -82,7 +84,7 @@ seat-there g c =
     let cabin = c.args.run.now.keeper.cabin in
     let stands = subst (λ (b : Cabin). CabinIsSound (ungiven_of h.span) None b) c.put_in.ensures.kept (c.put_in.ensures.stands (ungiven_of h.span) h.cabin) in
     let here = subst (λ (b : Cabin). IsBareIn b c.args.slot) (sym c.put_in.ensures.kept) (put-bare c.args.slot c.args.card cabin (ungiven_of h.span) stands) in
-    (c.in_ok-settle.ensures.bare c.args.slot here).0 ∙ ap (λ (b : Cabin). seat_in b.slots.seats c.args.slot) c.put_in.ensures.kept ∙ seat-put c.args.slot c.args.card cabin
+    (c.in_ok-settle.ensures.behind.bare refl c.args.slot here).0 ∙ ap (λ (b : Cabin). seat_in b.slots.seats c.args.slot) c.put_in.ensures.kept ∙ seat-put c.args.slot c.args.card cabin
 
 -- where the unit failed
 module _ (g : Over) (c : After-from_residual g) where
@@ -95,7 +97,7 @@ module _ (g : Over) (c : After-from_residual g) where
 -- and where the card was judged
 module _ (g : Over) (c : After-accept_in g) where
   abbrev settling : After-settle g
-  settling = (goal.at.returns-clause-cause g c).After-settle
+  settling = (goal.at.returns-clause-held g c).After-settle
 
   abbrev behind : Devices
   behind = devices (g.M.Medium.state c.accept_in.new.unit) (g.C.Chip.state c.accept_in.new.card_a) (g.D.Chip.state c.accept_in.new.card_b)
@@ -103,12 +105,12 @@ module _ (g : Over) (c : After-accept_in g) where
   settles : IsSettled c.args.at false (put g settling) c.settle.new.run c.args.outcome.now c.settle.new.outcome
   settles = subst (λ (b : Cabin). IsSettled c.args.at false (with_cabin b c.args.run.now) c.settle.new.run c.args.outcome.now c.settle.new.outcome) c.put_in.ensures.kept c.in_ok-settle.ensures.settled
 
-  records : RecordsSettling c.in_ok-settle.ensures.recorded.0 c.args.at false (put g settling) c.settle.new.run c.args.outcome.now c.settle.new.outcome (found g settling) (settled g settling)
+  records : RecordsSettling c.in_ok-settle.ensures.keeps.decided c.args.at false (put g settling) c.settle.new.run c.args.outcome.now c.settle.new.outcome (found g settling) (settled g settling)
   records =
-      subst (λ (b : Cabin). RecordsSettling c.in_ok-settle.ensures.recorded.0 c.args.at false (with_cabin b c.args.run.now) c.settle.new.run c.args.outcome.now c.settle.new.outcome (found g settling) (settled g settling)) c.put_in.ensures.kept c.in_ok-settle.ensures.recorded.2
+      subst (λ (b : Cabin). RecordsSettling c.in_ok-settle.ensures.keeps.decided c.args.at false (with_cabin b c.args.run.now) c.settle.new.run c.args.outcome.now c.settle.new.outcome (found g settling) (settled g settling)) c.put_in.ensures.kept c.in_ok-settle.ensures.keeps.recorded
 
   time-settled : HaveTime behind → HaveTime (settled g settling)
-  time-settled time = time-before (settled g settling) behind c.accept_in.ensures.clock c.accept_in.ensures.clock_a c.accept_in.ensures.clock_b time
+  time-settled time = time-before (settled g settling) behind c.accept_in.ensures.goes.later.unit.clock c.accept_in.ensures.goes.later.card_a.clock c.accept_in.ensures.goes.later.card_b.clock time
 
   room-then : length c.args.outcome.now.marks.items + 3 * c.args.run.now.minutes.owing + MOST_OWED ≤ c.args.outcome.now.marks.room → length c.settle.new.outcome.marks.items + MOST_OWED ≤ c.settle.new.outcome.marks.room
   room-then room =
@@ -144,27 +146,12 @@ returns-clause-takes g c =
     put-then c.args.slot c.args.card run c.requires.empty c.settle.new.run c.accept_in.new.run c.args.outcome.now c.settle.new.outcome c.accept_in.new.outcome
     (taken g (settling g c)) c.accept_in.ensures.takes
 
-pub returns-clause-cause : goal.returns-clause-cause
-returns-clause-cause g c = cause_after c.in_ok-settle.ensures.cause c.accept_in.ensures.cause
-
 pub accept_in-requires-clause-going : goal.accept_in-requires-clause-going
 accept_in-requires-clause-going g c =
     let run = c.args.run.now in
     c.in_ok-settle.ensures.going None
     (subst (λ (b : Cabin). RunHasPowerAllSeated (run.next / 60) (with_cabin b run) (g.M.Medium.state c.args.unit.now) (g.C.Chip.card c.args.card_a.now) (g.D.Chip.card c.args.card_b.now) (g.C.Chip.state c.args.card_a.now) (g.D.Chip.state c.args.card_b.now))
     (sym c.put_in.ensures.kept) (put-going c.args.slot c.args.card (run.next / 60) run (λ from s. subst (λ (b : Cabin). CabinIsSound from None b) c.put_in.ensures.kept (c.put_in.ensures.stands from s)) c.requires.going))
-
-pub returns-clause-inserted : goal.returns-clause-inserted
-returns-clause-inserted g c =
-    let run = c.args.run.now in let a = c.accept_in.ensures.accepted in
-    inr (record {
-      between = c.settle.new.run;
-      told = c.settle.new.outcome;
-      settled_first = subst (λ (b : Cabin). IsSettled c.args.at false (with_cabin b run) c.settle.new.run c.args.outcome.now c.settle.new.outcome) c.put_in.ensures.kept c.in_ok-settle.ensures.settled;
-      entering = a.0;
-      now = a.1;
-      accepted = a.2;
-    })
 
 pub accept_in-requires-clause-seat : goal.accept_in-requires-clause-seat
 accept_in-requires-clause-seat g c = seat-there g (goal.at.accept_in-requires-clause-seat g c).In_ok-settle
@@ -176,244 +163,273 @@ accept_in-requires-clause-breaks g c =
     let had = c.requires.breaks in
     omega (arith, t, room, f, had)
 
--- ---- WHAT IS RECORDED
-
-pub returns-in_err-settle-clause-recorded : goal.returns-in_err-settle-clause-recorded
-returns-in_err-settle-clause-recorded g c = λ late room o done s now front rest actions begun allowed within time.
-    let at = (goal.at.returns-in_err-settle-clause-recorded g c).After-settle in
-    let r = c.in_err-settle.ensures.recorded in
-    let records = subst (λ (b : Cabin). RecordsSettling r.0 c.args.at true (with_cabin b c.args.run.now) c.settle.new.run c.args.outcome.now c.settle.new.outcome (found g at) (settled g at)) c.put_in.ensures.kept r.2 in
-    let fails = unsettled c.args.slot c.args.card c.args.at c.args.speed c.args.run.now c.args.outcome.now (found g at) o done s now front rest actions c.requires.at begun late allowed within (ungiven_of c.requires.going.span) c.requires.going.cabin c.settle.new.run c.settle.new.outcome true (unsettles g c) r.0 r.1 (settled g at) records time refl in
-    subst (λ (f : Bool). GoesOnOrFails f o done s (In c.args.at.begun) [] c.settle.new.run c.settle.new.outcome (settled g at) within.within.b) (failed g c) fails
-
-pub returns-clause-recorded : goal.returns-clause-recorded
-returns-clause-recorded g c = λ late room o done s now front rest actions begun allowed within time.
-    let r = c.in_ok-settle.ensures.recorded in
-    inserted c.args.slot c.args.card c.args.at c.args.speed c.args.run.now c.args.outcome.now (found g (settling g c)) o done s now front rest actions c.requires.at begun late allowed within (ungiven_of c.requires.going.span) c.requires.going.cabin c.settle.new.run c.settle.new.outcome false (settles g c) r.0 r.1 (settled g (settling g c)) (records g c)
-    (time-settled g c time) refl (seat-there g (goal.at.returns-clause-recorded g c).In_ok-settle) (is_err c.accept_in.result) c.accept_in.new.run c.accept_in.new.outcome (behind g c)
-    (c.accept_in.ensures.recorded (room-then g c room)) time
-
--- ---- the events of it
-
-pub returns-in_err-settle-clause-evented : goal.returns-in_err-settle-clause-evented
-returns-in_err-settle-clause-evented g c = λ late room o done s now front rest actions begun allowed within events time.
-    let at = (goal.at.returns-in_err-settle-clause-evented g c).After-settle in
-    let r = c.in_err-settle.ensures.evented in
-    let notes = subst (λ (b : Cabin). EventsSettling r.0 c.args.at true (with_cabin b c.args.run.now) c.settle.new.run c.args.outcome.now c.settle.new.outcome (found g at) (settled g at)) c.put_in.ensures.kept r.2 in
-    let fails = unsettled-evented c.args.slot c.args.card c.args.at c.args.speed c.args.run.now c.args.outcome.now (found g at) o done s now front rest actions c.requires.at begun late allowed within (ungiven_of c.requires.going.span) c.requires.going.cabin (bare g at) c.settle.new.run c.settle.new.outcome true (unsettles g c) r.0 r.1 (settled g at) notes time events refl in
-    subst (λ (f : Bool). EventsGoOn f o done s within.within.b.run (In c.args.at.begun) Acting (log_of c.settle.new.outcome) (settled g at)) (failed g c) fails
-
-pub returns-clause-evented : goal.returns-clause-evented
-returns-clause-evented g c = λ late room o done s now front rest actions begun allowed within events time.
-    let r = c.in_ok-settle.ensures.evented in
-    let q = c.in_ok-settle.ensures.recorded in
-    let notes = subst (λ (b : Cabin). EventsSettling r.0 c.args.at false (with_cabin b c.args.run.now) c.settle.new.run c.args.outcome.now c.settle.new.outcome (found g (settling g c)) (settled g (settling g c))) c.put_in.ensures.kept r.2 in
-    inserted-evented c.args.slot c.args.card c.args.at c.args.speed c.args.run.now c.args.outcome.now (found g (settling g c)) o done s now front rest actions c.requires.at begun late allowed within (ungiven_of c.requires.going.span) c.requires.going.cabin (bare g (settling g c)) c.settle.new.run c.settle.new.outcome false (settles g c) r.0 r.1 (settled g (settling g c)) notes (time-settled g c time) events
-    q.0 q.1 (records g c) refl (seat-there g (goal.at.returns-clause-evented g c).In_ok-settle) (is_err c.accept_in.result) c.accept_in.new.run c.accept_in.new.outcome (behind g c) (c.accept_in.ensures.evented (room-then g c room)) time
-
--- ---- its insertion in the rings of the run
-
-pub returns-in_err-settle-clause-ringed : goal.returns-in_err-settle-clause-ringed
-returns-in_err-settle-clause-ringed g c = λ late room o done s now front rest actions begun allowed within spans t rings time.
-    let run = c.args.run.now in
-    let out = c.args.outcome.now in
-    let put : Run = put_run c.args.slot c.args.card run in
-    let mid : Run = c.settle.new.run in
-    let told : Outcome = c.settle.new.outcome in
-    let U : State = g.M.Medium.state c.args.unit.now in
-    let V : State = g.M.Medium.state c.settle.new.unit in
-    let d : Devices = devices U (g.C.Chip.state c.args.card_a.now) (g.D.Chip.state c.args.card_b.now) in
-    let e : Devices = devices V (g.C.Chip.state c.settle.new.card_a) (g.D.Chip.state c.settle.new.card_b) in
-    let settles = unsettles g c in
-    let lines = up-to-tells c.args.at settles.decided true (told_of put out) (told_of mid told) settles.kept in
-    let at = at-is c.args.slot c.args.card c.args.at c.args.speed run out d o done s now front rest actions c.requires.at begun late allowed within (ungiven_of c.requires.going.span) c.requires.going.cabin in
-    let v = c.in_err-settle.ensures.places in
-    let stay = subst (λ (b : Cabin). PlacesSettling v.0 c.args.at (with_cabin b run) mid out d e) c.put_in.ensures.kept v.2 in
-    let places : PlacesStay o d e = stay o done s (length front) (entering_by (length front) (Insert c.args.slot c.args.card)) at
-    (waits-within c.args.slot c.args.card c.args.at c.args.speed run out d o done s now front rest actions c.requires.at begun late allowed within (ungiven_of c.requires.going.span) c.requires.going.cabin mid told true settles v.0 v.1) time in
-    let rung = unsettled-ringed o done s front rest c.args.slot c.args.card actions run out d within spans t rings (refuses o done s c.args.speed run out d now front (Insert c.args.slot c.args.card) rest actions within None allowed)
-    mid told e lines.lines (ap log_of settles.outcome ∙ ap (λ (bs : List Break). record (log_of out) { breaks = bs }) lines.are) (subst (λ (m : Moment). AreTears m lines.lines) at lines.tears)
-    (settling-leaves c.args.at true (with_cabin c.put_in.new.self run) mid out told U V c.in_err-settle.ensures.noted)
-    (more-left o d e (within.within.powered.lit.unit.unit_holds [] []).later within.within.there.clocks c.settle.ensures.keeps) places
-    (fewer-seats put mid (ap (λ (r : Run). r.noted) settles.only) lines.sessions) lines.odometer (ap (λ (r : Run). r.noted) settles.only) in
-    subst (λ (f : Bool). RingsGoOn f o done s within.within.b (front ++ Insert c.args.slot c.args.card ∷ []) mid (log_of told) spans t e) (failed g c) rung
-
-pub returns-clause-ringed : goal.returns-clause-ringed
-returns-clause-ringed g c = λ late room o done s now front rest actions begun allowed within spans t rings time.
-    let run = c.args.run.now in
-    let out = c.args.outcome.now in
-    let put : Run = put_run c.args.slot c.args.card run in
-    let mid : Run = c.settle.new.run in
-    let told : Outcome = c.settle.new.outcome in
-    let U : State = g.M.Medium.state c.args.unit.now in
-    let V : State = g.M.Medium.state c.settle.new.unit in
-    let d = found g (settling g c) in
-    let e = settled g (settling g c) in
-    let last = behind g c in
-    let q = c.in_ok-settle.ensures.recorded in
-    let settles = settles g c in
-    let before = time-settled g c time in
-    let lines = up-to-tells c.args.at settles.decided false (told_of put out) (told_of mid told) settles.kept in
-    let at = at-is c.args.slot c.args.card c.args.at c.args.speed run out d o done s now front rest actions c.requires.at begun late allowed within (ungiven_of c.requires.going.span) c.requires.going.cabin in
-    let fine = refuses o done s c.args.speed run out d now front (Insert c.args.slot c.args.card) rest actions within None allowed in
-    let log : log_of told ≡ record (log_of out) { breaks = (log_of out).breaks ++ lines.lines } = ap log_of settles.outcome ∙ ap (λ (bs : List Break). record (log_of out) { breaks = bs }) lines.are in
-    let tears = subst (λ (m : Moment). AreTears m lines.lines) at lines.tears in
-    let leaves = settling-leaves c.args.at false (with_cabin c.put_in.new.self run) mid out told U V c.in_ok-settle.ensures.noted in
-    let left = more-left o d e (within.within.powered.lit.unit.unit_holds [] []).later within.within.there.clocks c.settle.ensures.keeps in
-    let v = c.in_ok-settle.ensures.places in
-    let stay = subst (λ (b : Cabin). PlacesSettling v.0 c.args.at (with_cabin b run) mid out d e) c.put_in.ensures.kept v.2 in
-    let places : PlacesStay o d e = stay o done s (length front) (entering_by (length front) (Insert c.args.slot c.args.card)) at
-    (waits-within c.args.slot c.args.card c.args.at c.args.speed run out d o done s now front rest actions c.requires.at begun late allowed within (ungiven_of c.requires.going.span) c.requires.going.cabin mid told false settles v.0 v.1) before in
-    let noted : mid.noted ≡ run.noted = ap (λ (r : Run). r.noted) settles.only in
-    let fewer = fewer-seats put mid noted lines.sessions in
-    let counted : mid.noted ≤ length (log_of told).finds = let few = rings.counted in let same = ap (λ (l : RunLog). length l.finds) log in omega (arith, few, same, noted) in
-    let j = next-judged c.args.slot c.args.card c.args.at c.args.speed run out d o done s now front rest actions c.requires.at begun late allowed within (ungiven_of c.requires.going.span) c.requires.going.cabin mid told false settles q.0 q.1 e (records g c) before refl (seat-there g (goal.at.returns-clause-ringed g c).In_ok-settle) (with_second spans run.keeper.odometer t)
-    (odometer-mid o done s front rest c.args.slot c.args.card actions run out d within spans t rings fine mid told e lines.lines log tears leaves left places fewer lines.odometer noted (entering_by (length front) (Insert c.args.slot c.args.card)))
-    counted (is_err c.accept_in.result) c.accept_in.new.run c.accept_in.new.outcome last (c.accept_in.ensures.ringed (room-then g c room)) time in
-    inserted-ringed o done s front rest c.args.slot c.args.card actions run out d within spans t rings fine mid told e lines.lines log tears leaves left places fewer lines.odometer noted
-    (is_err c.accept_in.result) c.accept_in.new.run c.accept_in.new.outcome last j
-
--- ---- what is noted
-
-pub returns-in_err-settle-clause-noted : goal.returns-in_err-settle-clause-noted
-returns-in_err-settle-clause-noted g c =
-    let run = c.args.run.now in
-    let put : Run = put_run c.args.slot c.args.card run in
-    let out = c.args.outcome.now in
-    let mid : Run = c.settle.new.run in
-    let told : Outcome = c.settle.new.outcome in
-    let U : State = g.M.Medium.state c.args.unit.now in
-    let V : State = g.M.Medium.state c.settle.new.unit in
-    let X : State = g.C.Chip.state c.args.card_a.now in
-    let Y : State = g.D.Chip.state c.args.card_b.now in
-    let X1 : State = g.C.Chip.state c.settle.new.card_a in
-    let Y1 : State = g.D.Chip.state c.settle.new.card_b in
-    let settling = subst (λ (b : Cabin). NotesSettling c.args.at true (with_cabin b run) mid out told U V) c.put_in.ensures.kept c.in_err-settle.ensures.noted in
-    let these = settles-these c.args.at true put mid out told U V X Y X1 Y1 (g.met.M.Medium.coherent c.args.unit.now) c.requires.held.is_unit settling in
-    record {
-      events = these.0;
-      are = inl (sym (failed g c), these.1);
-      notes = subst (λ (f : Bool). NotesEvents these.0 f (devices U X Y) (devices V X1 Y1)) (failed g c) these.2;
-    }
-
-pub returns-clause-noted : goal.returns-clause-noted
-returns-clause-noted g c =
-    let run = c.args.run.now in
-    let put : Run = put_run c.args.slot c.args.card run in
-    let out = c.args.outcome.now in
-    let mid : Run = c.settle.new.run in
-    let told : Outcome = c.settle.new.outcome in
-    let U : State = g.M.Medium.state c.args.unit.now in
-    let V : State = g.M.Medium.state c.settle.new.unit in
-    let X : State = g.C.Chip.state c.args.card_a.now in
-    let Y : State = g.D.Chip.state c.args.card_b.now in
-    let X1 : State = g.C.Chip.state c.settle.new.card_a in
-    let Y1 : State = g.D.Chip.state c.settle.new.card_b in
-    let settling = subst (λ (b : Cabin). NotesSettling c.args.at false (with_cabin b run) mid out told U V) c.put_in.ensures.kept c.in_ok-settle.ensures.noted in
-    let these = settles-these c.args.at false put mid out told U V X Y X1 Y1 (g.met.M.Medium.coherent c.args.unit.now) c.requires.held.is_unit settling in
-    let new : Run = c.accept_in.new.run in
-    let after : Outcome = c.accept_in.new.outcome in
-    let e : Devices = devices V X1 Y1 in
-    let f : Devices = devices (g.M.Medium.state c.accept_in.new.unit) (g.C.Chip.state c.accept_in.new.card_a) (g.D.Chip.state c.accept_in.new.card_b) in
-    let judged = anew-these (Some c.args.card) c.args.slot c.args.at c.args.at c.args.speed (is_err c.accept_in.result) mid new told after e f refl c.accept_in.ensures.noted in
-    record {
-      events = these.0 ++ judged.0;
-      are = inr (record { between = mid; told = told; faults = these.0; judged = judged.0; settles = these.1; judges = judged.1; are = refl });
-      notes = then-noted these.0 judged.0 (is_err c.accept_in.result) (devices U X Y) e f these.2 judged.2;
-    }
-
--- ---- the rings
-
-pub returns-in_err-settle-clause-rings : goal.returns-in_err-settle-clause-rings
-returns-in_err-settle-clause-rings g c = λ tells.
-    let U : State = g.M.Medium.state c.args.unit.now in
-    let V : State = g.M.Medium.state c.settle.new.unit in
-    inl (sym (failed g c), unsettles g c, settling-leaves c.args.at true (with_cabin c.put_in.new.self c.args.run.now) c.settle.new.run c.args.outcome.now c.settle.new.outcome U V c.in_err-settle.ensures.noted)
-
-pub returns-clause-rings : goal.returns-clause-rings
-returns-clause-rings g c = λ tells.
-    let U : State = g.M.Medium.state c.args.unit.now in
-    let V : State = g.M.Medium.state c.settle.new.unit in
-    let W : State = g.M.Medium.state c.accept_in.new.unit in
-    let leaves = settling-leaves c.args.at false (with_cabin c.put_in.new.self c.args.run.now) c.settle.new.run c.args.outcome.now c.settle.new.outcome U V c.in_ok-settle.ensures.noted in
-    let j = c.accept_in.ensures.rings in
-    inr (record {
-      between = c.settle.new.run;
-      told = c.settle.new.outcome;
-      settled_first = settles g c;
-      judges = (
-        j.0,
-        j.1,
-        record {
-          accepted = j.2.accepted;
-          writes = λ here. writes-behind (ending_of j.2.accepted.way) j.0 (is_err c.accept_in.result) U V W leaves (j.2.writes (c.in_ok-settle.ensures.tells ∙ tells));
-        },
-      );
-    })
-
--- ---- what holds of the devices after any calls
-
-pub returns-in_err-settle-clause-later : goal.returns-in_err-settle-clause-later
-returns-in_err-settle-clause-later g c = c.settle.ensures.later
-
-pub returns-clause-later : goal.returns-clause-later
-returns-clause-later g c = later-then (found g (settling g c)) (settled g (settling g c)) (behind g c) c.settle.ensures.later c.accept_in.ensures.later
-
--- ---- its events on the card
-
-pub returns-in_err-settle-clause-cards : goal.returns-in_err-settle-clause-cards
-returns-in_err-settle-clause-cards g c = λ late room o done s now front rest actions begun allowed vehicle within cards time.
-    let run = c.args.run.now in
-    let out = c.args.outcome.now in
-    let put : Run = put_run c.args.slot c.args.card run in
-    let mid : Run = c.settle.new.run in
-    let told : Outcome = c.settle.new.outcome in
-    let d : Devices = devices (g.M.Medium.state c.args.unit.now) (g.C.Chip.state c.args.card_a.now) (g.D.Chip.state c.args.card_b.now) in
-    let e : Devices = devices (g.M.Medium.state c.settle.new.unit) (g.C.Chip.state c.settle.new.card_a) (g.D.Chip.state c.settle.new.card_b) in
-    let settles = unsettles g c in
-    let lines = up-to-tells c.args.at settles.decided true (told_of put out) (told_of mid told) settles.kept in
-    let at = at-is c.args.slot c.args.card c.args.at c.args.speed run out d o done s now front rest actions c.requires.at begun late allowed within (ungiven_of c.requires.going.span) c.requires.going.cabin in
-    let v = c.in_err-settle.ensures.cards in
-    let shows = subst (λ (b : Cabin). CardsSettling v.0 c.args.at (with_cabin b run) mid out d e) c.put_in.ensures.kept v.2 in
-    let still : StillShow o d e = shows o done s (length front) (entering_by (length front) (Insert c.args.slot c.args.card)) at
-    (waits-within c.args.slot c.args.card c.args.at c.args.speed run out d o done s now front rest actions c.requires.at begun late allowed within (ungiven_of c.requires.going.span) c.requires.going.cabin mid told true settles v.0 v.1) time in
-    let goes = unsettled-cards o done s front rest c.args.slot c.args.card actions run out d within cards (refuses o done s c.args.speed run out d now front (Insert c.args.slot c.args.card) rest actions within None allowed)
-    told e lines.lines (ap log_of settles.outcome ∙ ap (λ (bs : List Break). record (log_of out) { breaks = bs }) lines.are) (subst (λ (m : Moment). AreTears m lines.lines) at lines.tears)
-    (more-left o d e (within.within.powered.lit.unit.unit_holds [] []).later within.within.there.clocks c.settle.ensures.keeps) still in
-    subst (λ (f : Bool). CardsGoOn f o done s within.within.b.run.log (front ++ Insert c.args.slot c.args.card ∷ []) (log_of told) e) (failed g c) goes
-
-pub returns-clause-cards : goal.returns-clause-cards
-returns-clause-cards g c = λ late room o done s now front rest actions begun allowed vehicle within cards time.
-    let run = c.args.run.now in
-    let out = c.args.outcome.now in
-    let put : Run = put_run c.args.slot c.args.card run in
-    let mid : Run = c.settle.new.run in
-    let told : Outcome = c.settle.new.outcome in
-    let d = found g (settling g c) in
-    let e = settled g (settling g c) in
-    let last = behind g c in
-    let q = c.in_ok-settle.ensures.recorded in
-    let v = c.in_ok-settle.ensures.cards in
-    let settles = settles g c in
-    let shows = subst (λ (b : Cabin). CardsSettling v.0 c.args.at (with_cabin b run) mid out d e) c.put_in.ensures.kept v.2 in
-    let before = time-settled g c time in
-    let lines = up-to-tells c.args.at settles.decided false (told_of put out) (told_of mid told) settles.kept in
-    let at = at-is c.args.slot c.args.card c.args.at c.args.speed run out d o done s now front rest actions c.requires.at begun late allowed within (ungiven_of c.requires.going.span) c.requires.going.cabin in
-    let fine = refuses o done s c.args.speed run out d now front (Insert c.args.slot c.args.card) rest actions within None allowed in
-    let log : log_of told ≡ record (log_of out) { breaks = (log_of out).breaks ++ lines.lines } = ap log_of settles.outcome ∙ ap (λ (bs : List Break). record (log_of out) { breaks = bs }) lines.are in
-    let tears = subst (λ (m : Moment). AreTears m lines.lines) at lines.tears in
-    let left = more-left o d e (within.within.powered.lit.unit.unit_holds [] []).later within.within.there.clocks c.settle.ensures.keeps in
-    let still : StillShow o d e = shows o done s (length front) (entering_by (length front) (Insert c.args.slot c.args.card)) at
-    (waits-within c.args.slot c.args.card c.args.at c.args.speed run out d o done s now front rest actions c.requires.at begun late allowed within (ungiven_of c.requires.going.span) c.requires.going.cabin mid told false settles v.0 v.1) before in
-    let own : mid.keeper.memory.registration ≡ vehicle_in o = ap (λ m. m.registration) (settled-watched c.args.at false put mid out told settles).memory ∙ vehicle in
-    let j = next-cards c.args.slot c.args.card c.args.at c.args.speed run out d o done s now front rest actions c.requires.at begun late allowed within (ungiven_of c.requires.going.span) c.requires.going.cabin mid told false settles q.0 q.1 e (records g c) before refl (seat-there g (goal.at.returns-clause-cards g c).In_ok-settle)
-    (is_err c.accept_in.result) c.accept_in.new.outcome last (c.accept_in.ensures.cards (room-then g c room)) own time in
-    inserted-cards o done s front rest c.args.slot c.args.card actions run out d within cards fine told e lines.lines log tears left still (is_err c.accept_in.result) c.accept_in.new.outcome last j
-
 -- ---- where no tear of a failed call is told no card has broken down
 
-pub returns-in_err-settle-clause-calm : goal.returns-in_err-settle-clause-calm
-returns-in_err-settle-clause-calm g c = c.settle.ensures.calm
+pub returns-in_err-settle-clause-inserted : goal.returns-in_err-settle-clause-inserted
+returns-in_err-settle-clause-inserted g c = record {
+  enters = inl (sym (failed g c), unsettles g c);
+  run =
+      let only = c.settle.ensures.settled.only in
+      only ∙ ap (λ (n : ℕ). record c.args.run.now { minutes = c.settle.new.run.minutes; keeper = c.settle.new.run.keeper; noted = n }) (sym (ap (λ (r : Run). r.noted) only));
+  refused = ap (λ (o : Outcome). o.refused) c.settle.ensures.settled.outcome;
+}
 
-pub returns-clause-calm : goal.returns-clause-calm
-returns-clause-calm g c = calm-then (found g (settling g c)) (settled g (settling g c)) (behind g c) c.settle.ensures.calm c.accept_in.ensures.calm
+pub returns-in_err-settle-clause-promises : goal.returns-in_err-settle-clause-promises
+returns-in_err-settle-clause-promises g c = record {
+  recorded =
+      λ late room o done s now front rest actions begun allowed within time.
+      let at = (goal.at.returns-in_err-settle-clause-promises g c).After-settle in
+      let r = c.in_err-settle.ensures.keeps in
+      let records = subst (λ (b : Cabin). RecordsSettling r.decided c.args.at true (with_cabin b c.args.run.now) c.settle.new.run c.args.outcome.now c.settle.new.outcome (found g at) (settled g at)) c.put_in.ensures.kept r.recorded in
+      let fails = unsettled c.args.slot c.args.card c.args.at c.args.speed c.args.run.now c.args.outcome.now (found g at) o done s now front rest actions c.requires.at begun late allowed within (ungiven_of c.requires.going.span) c.requires.going.cabin c.settle.new.run c.settle.new.outcome true (unsettles g c) r.decided r.given (settled g at) records time refl in
+      subst (λ (f : Bool). GoesOnOrFails f o done s (In c.args.at.begun) [] c.settle.new.run c.settle.new.outcome (settled g at) within.within.b) (failed g c) fails;
+  evented =
+      λ late room o done s now front rest actions begun allowed within events time.
+      let at = (goal.at.returns-in_err-settle-clause-promises g c).After-settle in
+      let r = c.in_err-settle.ensures.keeps in
+      let notes = subst (λ (b : Cabin). EventsSettling r.decided c.args.at true (with_cabin b c.args.run.now) c.settle.new.run c.args.outcome.now c.settle.new.outcome (found g at) (settled g at)) c.put_in.ensures.kept r.evented in
+      let fails = unsettled-evented c.args.slot c.args.card c.args.at c.args.speed c.args.run.now c.args.outcome.now (found g at) o done s now front rest actions c.requires.at begun late allowed within (ungiven_of c.requires.going.span) c.requires.going.cabin (bare g at) c.settle.new.run c.settle.new.outcome true (unsettles g c) r.decided r.given (settled g at) notes time events refl in
+      subst (λ (f : Bool). EventsGoOn f o done s within.within.b.run (In c.args.at.begun) Acting (log_of c.settle.new.outcome) (settled g at)) (failed g c) fails;
+  ringed =
+      λ late room o done s now front rest actions begun allowed within spans t rings time.
+      let run = c.args.run.now in
+      let out = c.args.outcome.now in
+      let put : Run = put_run c.args.slot c.args.card run in
+      let mid : Run = c.settle.new.run in
+      let told : Outcome = c.settle.new.outcome in
+      let U : State = g.M.Medium.state c.args.unit.now in
+      let V : State = g.M.Medium.state c.settle.new.unit in
+      let d : Devices = devices U (g.C.Chip.state c.args.card_a.now) (g.D.Chip.state c.args.card_b.now) in
+      let e : Devices = devices V (g.C.Chip.state c.settle.new.card_a) (g.D.Chip.state c.settle.new.card_b) in
+      let settles = unsettles g c in
+      let lines = up-to-tells c.args.at settles.decided true (told_of put out) (told_of mid told) settles.kept in
+      let at = at-is c.args.slot c.args.card c.args.at c.args.speed run out d o done s now front rest actions c.requires.at begun late allowed within (ungiven_of c.requires.going.span) c.requires.going.cabin in
+      let v = c.in_err-settle.ensures.keeps in
+      let stay = subst (λ (b : Cabin). PlacesSettling v.decided c.args.at (with_cabin b run) mid out d e) c.put_in.ensures.kept v.places in
+      let places : PlacesStay o d e = stay o done s (length front) (entering_by (length front) (Insert c.args.slot c.args.card)) at
+      (waits-within c.args.slot c.args.card c.args.at c.args.speed run out d o done s now front rest actions c.requires.at begun late allowed within (ungiven_of c.requires.going.span) c.requires.going.cabin mid told true settles v.decided v.given) time in
+      let rung = unsettled-ringed o done s front rest c.args.slot c.args.card actions run out d within spans t rings (refuses o done s c.args.speed run out d now front (Insert c.args.slot c.args.card) rest actions within None allowed)
+      mid told e lines.lines (ap log_of settles.outcome ∙ ap (λ (bs : List Break). record (log_of out) { breaks = bs }) lines.are) (subst (λ (m : Moment). AreTears m lines.lines) at lines.tears)
+      (settling-leaves c.args.at true (with_cabin c.put_in.new.self run) mid out told U V (settled-noted c.in_err-settle.ensures.keeps))
+      (more-left o d e (within.within.powered.lit.unit.unit_holds [] []).later within.within.there.clocks (settled-left c.settle.ensures.goes)) places
+      (fewer-seats put mid (ap (λ (r : Run). r.noted) settles.only) lines.sessions) lines.odometer (ap (λ (r : Run). r.noted) settles.only) in
+      subst (λ (f : Bool). RingsGoOn f o done s within.within.b (front ++ Insert c.args.slot c.args.card ∷ []) mid (log_of told) spans t e) (failed g c) rung;
+  cards =
+      λ late room o done s now front rest actions begun allowed vehicle within cards time.
+      let run = c.args.run.now in
+      let out = c.args.outcome.now in
+      let put : Run = put_run c.args.slot c.args.card run in
+      let mid : Run = c.settle.new.run in
+      let told : Outcome = c.settle.new.outcome in
+      let d : Devices = devices (g.M.Medium.state c.args.unit.now) (g.C.Chip.state c.args.card_a.now) (g.D.Chip.state c.args.card_b.now) in
+      let e : Devices = devices (g.M.Medium.state c.settle.new.unit) (g.C.Chip.state c.settle.new.card_a) (g.D.Chip.state c.settle.new.card_b) in
+      let settles = unsettles g c in
+      let lines = up-to-tells c.args.at settles.decided true (told_of put out) (told_of mid told) settles.kept in
+      let at = at-is c.args.slot c.args.card c.args.at c.args.speed run out d o done s now front rest actions c.requires.at begun late allowed within (ungiven_of c.requires.going.span) c.requires.going.cabin in
+      let v = c.in_err-settle.ensures.keeps in
+      let shows = subst (λ (b : Cabin). CardsSettling v.decided c.args.at (with_cabin b run) mid out d e) c.put_in.ensures.kept v.cards in
+      let still : StillShow o d e = shows o done s (length front) (entering_by (length front) (Insert c.args.slot c.args.card)) at
+      (waits-within c.args.slot c.args.card c.args.at c.args.speed run out d o done s now front rest actions c.requires.at begun late allowed within (ungiven_of c.requires.going.span) c.requires.going.cabin mid told true settles v.decided v.given) time in
+      let goes = unsettled-cards o done s front rest c.args.slot c.args.card actions run out d within cards (refuses o done s c.args.speed run out d now front (Insert c.args.slot c.args.card) rest actions within None allowed)
+      told e lines.lines (ap log_of settles.outcome ∙ ap (λ (bs : List Break). record (log_of out) { breaks = bs }) lines.are) (subst (λ (m : Moment). AreTears m lines.lines) at lines.tears)
+      (more-left o d e (within.within.powered.lit.unit.unit_holds [] []).later within.within.there.clocks (settled-left c.settle.ensures.goes)) still in
+      subst (λ (f : Bool). CardsGoOn f o done s within.within.b.run.log (front ++ Insert c.args.slot c.args.card ∷ []) (log_of told) e) (failed g c) goes;
+}
+
+pub returns-in_err-settle-clause-leaves : goal.returns-in_err-settle-clause-leaves
+returns-in_err-settle-clause-leaves g c = record {
+  rings =
+      λ tells.
+      let U : State = g.M.Medium.state c.args.unit.now in
+      let V : State = g.M.Medium.state c.settle.new.unit in
+      inl (sym (failed g c), unsettles g c, settling-leaves c.args.at true (with_cabin c.put_in.new.self c.args.run.now) c.settle.new.run c.args.outcome.now c.settle.new.outcome U V (settled-noted c.in_err-settle.ensures.keeps));
+  noted =
+      let run = c.args.run.now in
+      let put : Run = put_run c.args.slot c.args.card run in
+      let out = c.args.outcome.now in
+      let mid : Run = c.settle.new.run in
+      let told : Outcome = c.settle.new.outcome in
+      let U : State = g.M.Medium.state c.args.unit.now in
+      let V : State = g.M.Medium.state c.settle.new.unit in
+      let X : State = g.C.Chip.state c.args.card_a.now in
+      let Y : State = g.D.Chip.state c.args.card_b.now in
+      let X1 : State = g.C.Chip.state c.settle.new.card_a in
+      let Y1 : State = g.D.Chip.state c.settle.new.card_b in
+      let settling = subst (λ (b : Cabin). NotesSettling c.args.at true (with_cabin b run) mid out told U V) c.put_in.ensures.kept (settled-noted c.in_err-settle.ensures.keeps) in
+      let these = settles-these c.args.at true put mid out told U V X Y X1 Y1 (g.met.M.Medium.coherent c.args.unit.now) c.requires.held.is_unit settling in
+      record {
+        events = these.0;
+        are = inl (sym (failed g c), these.1);
+        notes = subst (λ (f : Bool). NotesEvents these.0 f (devices U X Y) (devices V X1 Y1)) (failed g c) these.2;
+      };
+}
+
+pub returns-in_err-settle-clause-held : goal.returns-in_err-settle-clause-held
+returns-in_err-settle-clause-held g c = record {
+  held = c.settle.ensures.held;
+  cause = subst (λ (b : Bool). HasCause (g.M.Medium.state c.args.unit.now) (g.M.Medium.state c.settle.new.unit) b) (failed g c) c.in_err-settle.ensures.behind.cause;
+}
+
+pub returns-in_err-settle-clause-goes : goal.returns-in_err-settle-clause-goes
+returns-in_err-settle-clause-goes g c = record {
+  later = settled-later c.settle.ensures.goes c.settle.ensures.speeds;
+  calm = c.settle.ensures.goes.all.calm;
+}
+
+pub returns-clause-inserted : goal.returns-clause-inserted
+returns-clause-inserted g c = record {
+  enters =
+      let run = c.args.run.now in let a = c.accept_in.ensures.accepted.enters in
+      inr (record {
+        between = c.settle.new.run;
+        told = c.settle.new.outcome;
+        settled_first = subst (λ (b : Cabin). IsSettled c.args.at false (with_cabin b run) c.settle.new.run c.args.outcome.now c.settle.new.outcome) c.put_in.ensures.kept c.in_ok-settle.ensures.settled;
+        entering = a.0;
+        now = a.1;
+        accepted = a.2;
+      });
+  run =
+      let new : Run = c.accept_in.new.run in
+      let last = c.accept_in.ensures.accepted.run in
+      last ∙ ap (λ (r : Run). record r { keeper = new.keeper; noted = new.noted }) c.settle.ensures.settled.only
+      ∙ ap (λ (m : Minutes). record c.args.run.now { minutes = m; keeper = new.keeper; noted = new.noted }) (sym (ap (λ (r : Run). r.minutes) last));
+  refused = c.accept_in.ensures.accepted.refused ∙ ap (λ (o : Outcome). o.refused) c.settle.ensures.settled.outcome;
+}
+
+pub returns-clause-promises : goal.returns-clause-promises
+returns-clause-promises g c = record {
+  recorded =
+      λ late room o done s now front rest actions begun allowed within time.
+      let r = c.in_ok-settle.ensures.keeps in
+      inserted c.args.slot c.args.card c.args.at c.args.speed c.args.run.now c.args.outcome.now (found g (settling g c)) o done s now front rest actions c.requires.at begun late allowed within (ungiven_of c.requires.going.span) c.requires.going.cabin c.settle.new.run c.settle.new.outcome false (settles g c) r.decided r.given (settled g (settling g c)) (records g c)
+      (time-settled g c time) refl (seat-there g (goal.at.returns-clause-promises g c).In_ok-settle) (is_err c.accept_in.result) c.accept_in.new.run c.accept_in.new.outcome (behind g c)
+      (c.accept_in.ensures.promises.recorded (room-then g c room)) time;
+  evented =
+      λ late room o done s now front rest actions begun allowed within events time.
+      let r = c.in_ok-settle.ensures.keeps in
+      let q = c.in_ok-settle.ensures.keeps in
+      let notes = subst (λ (b : Cabin). EventsSettling r.decided c.args.at false (with_cabin b c.args.run.now) c.settle.new.run c.args.outcome.now c.settle.new.outcome (found g (settling g c)) (settled g (settling g c))) c.put_in.ensures.kept r.evented in
+      inserted-evented c.args.slot c.args.card c.args.at c.args.speed c.args.run.now c.args.outcome.now (found g (settling g c)) o done s now front rest actions c.requires.at begun late allowed within (ungiven_of c.requires.going.span) c.requires.going.cabin (bare g (settling g c)) c.settle.new.run c.settle.new.outcome false (settles g c) r.decided r.given (settled g (settling g c)) notes (time-settled g c time) events
+      q.decided q.given (records g c) refl (seat-there g (goal.at.returns-clause-promises g c).In_ok-settle) (is_err c.accept_in.result) c.accept_in.new.run c.accept_in.new.outcome (behind g c) (c.accept_in.ensures.promises.evented (room-then g c room)) time;
+  ringed =
+      λ late room o done s now front rest actions begun allowed within spans t rings time.
+      let run = c.args.run.now in
+      let out = c.args.outcome.now in
+      let put : Run = put_run c.args.slot c.args.card run in
+      let mid : Run = c.settle.new.run in
+      let told : Outcome = c.settle.new.outcome in
+      let U : State = g.M.Medium.state c.args.unit.now in
+      let V : State = g.M.Medium.state c.settle.new.unit in
+      let d = found g (settling g c) in
+      let e = settled g (settling g c) in
+      let last = behind g c in
+      let q = c.in_ok-settle.ensures.keeps in
+      let settles = settles g c in
+      let before = time-settled g c time in
+      let lines = up-to-tells c.args.at settles.decided false (told_of put out) (told_of mid told) settles.kept in
+      let at = at-is c.args.slot c.args.card c.args.at c.args.speed run out d o done s now front rest actions c.requires.at begun late allowed within (ungiven_of c.requires.going.span) c.requires.going.cabin in
+      let fine = refuses o done s c.args.speed run out d now front (Insert c.args.slot c.args.card) rest actions within None allowed in
+      let log : log_of told ≡ record (log_of out) { breaks = (log_of out).breaks ++ lines.lines } = ap log_of settles.outcome ∙ ap (λ (bs : List Break). record (log_of out) { breaks = bs }) lines.are in
+      let tears = subst (λ (m : Moment). AreTears m lines.lines) at lines.tears in
+      let leaves = settling-leaves c.args.at false (with_cabin c.put_in.new.self run) mid out told U V (settled-noted c.in_ok-settle.ensures.keeps) in
+      let left = more-left o d e (within.within.powered.lit.unit.unit_holds [] []).later within.within.there.clocks (settled-left c.settle.ensures.goes) in
+      let v = c.in_ok-settle.ensures.keeps in
+      let stay = subst (λ (b : Cabin). PlacesSettling v.decided c.args.at (with_cabin b run) mid out d e) c.put_in.ensures.kept v.places in
+      let places : PlacesStay o d e = stay o done s (length front) (entering_by (length front) (Insert c.args.slot c.args.card)) at
+      (waits-within c.args.slot c.args.card c.args.at c.args.speed run out d o done s now front rest actions c.requires.at begun late allowed within (ungiven_of c.requires.going.span) c.requires.going.cabin mid told false settles v.decided v.given) before in
+      let noted : mid.noted ≡ run.noted = ap (λ (r : Run). r.noted) settles.only in
+      let fewer = fewer-seats put mid noted lines.sessions in
+      let counted : mid.noted ≤ length (log_of told).finds = let few = rings.counted in let same = ap (λ (l : RunLog). length l.finds) log in omega (arith, few, same, noted) in
+      let j = next-judged c.args.slot c.args.card c.args.at c.args.speed run out d o done s now front rest actions c.requires.at begun late allowed within (ungiven_of c.requires.going.span) c.requires.going.cabin mid told false settles q.decided q.given e (records g c) before refl (seat-there g (goal.at.returns-clause-promises g c).In_ok-settle) (with_second spans run.keeper.odometer t)
+      (odometer-mid o done s front rest c.args.slot c.args.card actions run out d within spans t rings fine mid told e lines.lines log tears leaves left places fewer lines.odometer noted (entering_by (length front) (Insert c.args.slot c.args.card)))
+      counted (is_err c.accept_in.result) c.accept_in.new.run c.accept_in.new.outcome last (c.accept_in.ensures.promises.ringed (room-then g c room)) time in
+      inserted-ringed o done s front rest c.args.slot c.args.card actions run out d within spans t rings fine mid told e lines.lines log tears leaves left places fewer lines.odometer noted
+      (is_err c.accept_in.result) c.accept_in.new.run c.accept_in.new.outcome last j;
+  cards =
+      λ late room o done s now front rest actions begun allowed vehicle within cards time.
+      let run = c.args.run.now in
+      let out = c.args.outcome.now in
+      let put : Run = put_run c.args.slot c.args.card run in
+      let mid : Run = c.settle.new.run in
+      let told : Outcome = c.settle.new.outcome in
+      let d = found g (settling g c) in
+      let e = settled g (settling g c) in
+      let last = behind g c in
+      let q = c.in_ok-settle.ensures.keeps in
+      let v = c.in_ok-settle.ensures.keeps in
+      let settles = settles g c in
+      let shows = subst (λ (b : Cabin). CardsSettling v.decided c.args.at (with_cabin b run) mid out d e) c.put_in.ensures.kept v.cards in
+      let before = time-settled g c time in
+      let lines = up-to-tells c.args.at settles.decided false (told_of put out) (told_of mid told) settles.kept in
+      let at = at-is c.args.slot c.args.card c.args.at c.args.speed run out d o done s now front rest actions c.requires.at begun late allowed within (ungiven_of c.requires.going.span) c.requires.going.cabin in
+      let fine = refuses o done s c.args.speed run out d now front (Insert c.args.slot c.args.card) rest actions within None allowed in
+      let log : log_of told ≡ record (log_of out) { breaks = (log_of out).breaks ++ lines.lines } = ap log_of settles.outcome ∙ ap (λ (bs : List Break). record (log_of out) { breaks = bs }) lines.are in
+      let tears = subst (λ (m : Moment). AreTears m lines.lines) at lines.tears in
+      let left = more-left o d e (within.within.powered.lit.unit.unit_holds [] []).later within.within.there.clocks (settled-left c.settle.ensures.goes) in
+      let still : StillShow o d e = shows o done s (length front) (entering_by (length front) (Insert c.args.slot c.args.card)) at
+      (waits-within c.args.slot c.args.card c.args.at c.args.speed run out d o done s now front rest actions c.requires.at begun late allowed within (ungiven_of c.requires.going.span) c.requires.going.cabin mid told false settles v.decided v.given) before in
+      let own : mid.keeper.memory.registration ≡ vehicle_in o = ap (λ m. m.registration) (settled-watched c.args.at false put mid out told settles).memory ∙ vehicle in
+      let j = next-cards c.args.slot c.args.card c.args.at c.args.speed run out d o done s now front rest actions c.requires.at begun late allowed within (ungiven_of c.requires.going.span) c.requires.going.cabin mid told false settles q.decided q.given e (records g c) before refl (seat-there g (goal.at.returns-clause-promises g c).In_ok-settle)
+      (is_err c.accept_in.result) c.accept_in.new.outcome last (c.accept_in.ensures.promises.cards (room-then g c room)) own time in
+      inserted-cards o done s front rest c.args.slot c.args.card actions run out d within cards fine told e lines.lines log tears left still (is_err c.accept_in.result) c.accept_in.new.outcome last j;
+}
+
+pub returns-clause-leaves : goal.returns-clause-leaves
+returns-clause-leaves g c = record {
+  rings =
+      λ tells.
+      let U : State = g.M.Medium.state c.args.unit.now in
+      let V : State = g.M.Medium.state c.settle.new.unit in
+      let W : State = g.M.Medium.state c.accept_in.new.unit in
+      let leaves = settling-leaves c.args.at false (with_cabin c.put_in.new.self c.args.run.now) c.settle.new.run c.args.outcome.now c.settle.new.outcome U V (settled-noted c.in_ok-settle.ensures.keeps) in
+      let j = c.accept_in.ensures.leaves.rings in
+      inr (record {
+        between = c.settle.new.run;
+        told = c.settle.new.outcome;
+        settled_first = settles g c;
+        judges = (
+          j.0,
+          j.1,
+          record {
+            accepted = j.2.accepted;
+            writes = λ here. writes-behind (ending_of j.2.accepted.way) j.0 (is_err c.accept_in.result) U V W leaves (j.2.writes (c.in_ok-settle.ensures.goes.unit_tells ∙ tells));
+          },
+        );
+      });
+  noted =
+      let run = c.args.run.now in
+      let put : Run = put_run c.args.slot c.args.card run in
+      let out = c.args.outcome.now in
+      let mid : Run = c.settle.new.run in
+      let told : Outcome = c.settle.new.outcome in
+      let U : State = g.M.Medium.state c.args.unit.now in
+      let V : State = g.M.Medium.state c.settle.new.unit in
+      let X : State = g.C.Chip.state c.args.card_a.now in
+      let Y : State = g.D.Chip.state c.args.card_b.now in
+      let X1 : State = g.C.Chip.state c.settle.new.card_a in
+      let Y1 : State = g.D.Chip.state c.settle.new.card_b in
+      let settling = subst (λ (b : Cabin). NotesSettling c.args.at false (with_cabin b run) mid out told U V) c.put_in.ensures.kept (settled-noted c.in_ok-settle.ensures.keeps) in
+      let these = settles-these c.args.at false put mid out told U V X Y X1 Y1 (g.met.M.Medium.coherent c.args.unit.now) c.requires.held.is_unit settling in
+      let new : Run = c.accept_in.new.run in
+      let after : Outcome = c.accept_in.new.outcome in
+      let e : Devices = devices V X1 Y1 in
+      let f : Devices = devices (g.M.Medium.state c.accept_in.new.unit) (g.C.Chip.state c.accept_in.new.card_a) (g.D.Chip.state c.accept_in.new.card_b) in
+      let judged = anew-these (Some c.args.card) c.args.slot c.args.at c.args.at c.args.speed (is_err c.accept_in.result) mid new told after e f refl c.accept_in.ensures.leaves.noted in
+      record {
+        events = these.0 ++ judged.0;
+        are = inr (record { between = mid; told = told; faults = these.0; judged = judged.0; settles = these.1; judges = judged.1; are = refl });
+        notes = then-noted these.0 judged.0 (is_err c.accept_in.result) (devices U X Y) e f these.2 judged.2;
+      };
+}
+
+pub returns-clause-held : goal.returns-clause-held
+returns-clause-held g c = record {
+  held = c.accept_in.ensures.held.held;
+  cause = cause_after c.in_ok-settle.ensures.behind.cause c.accept_in.ensures.held.cause;
+}
+
+pub returns-clause-goes : goal.returns-clause-goes
+returns-clause-goes g c = record {
+  later = later-then (found g (settling g c)) (settled g (settling g c)) (behind g c) (settled-later c.settle.ensures.goes c.settle.ensures.speeds) c.accept_in.ensures.goes.later;
+  calm = calm-then (found g (settling g c)) (settled g (settling g c)) (behind g c) c.settle.ensures.goes.all.calm c.accept_in.ensures.goes.calm;
+}

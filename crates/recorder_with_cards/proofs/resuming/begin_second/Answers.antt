@@ -1,4 +1,5 @@
-use Rattle.std.proofs.Common.{◌≡◌, ◌∙◌, ℕ, ◌+◌, ◌/◌, ◌%◌, ◌==◌, Bool, true, false, refl, ap, sym, subst, arith}
+use Rattle.std.proofs.lemmas.Grind.{common_steps}
+use Rattle.std.proofs.Common.{rules, ◌≡◌, ◌∙◌, ℕ, ◌+◌, ◌/◌, ◌%◌, ◌==◌, Bool, true, false, refl, ap, sym, subst, arith}
 use Rattle.run_crew.specs.Cabin.{KnowsEnded}
 use Rattle.run_acts.specs.declared.run.Run.{Run}
 use Rattle.run_acts.specs.declared.run.Power.{Power}
@@ -62,7 +63,7 @@ returns-clause-room g c = λ left offs insertions actions h.
     let run = c.args.run.now in
     let dark : is_lit run.power ≡ false = sym c.is_lit.ensures ∙ c.if-is_lit.false in
     let has : has_power run.power run.next ≡ true = sym c.has_power.ensures ∙ c.if-not-has_power.false in
-    room-awake run c.power_on.new.run c.args.outcome.now c.power_on.new.outcome c.power_on.ensures.next dark has c.in_ok-power_on.ensures.awake c.power_on.ensures.takes c.power_on.ensures.refused (1 + left) offs insertions actions h
+    room-awake run c.power_on.new.run c.args.outcome.now c.power_on.new.outcome c.power_on.ensures.woken.next dark has c.in_ok-power_on.ensures.woken.awake c.power_on.ensures.takes c.power_on.ensures.woken.refused (1 + left) offs insertions actions h
 
 -- ---- what has changed
 
@@ -84,126 +85,149 @@ returns-in_err-power_on-clause-lit g c = λ lit.
     let dark : is_lit c.args.run.now.power ≡ false = sym c.is_lit.ensures ∙ c.if-is_lit.false in
     absurd (let bad : false ≡ true = sym dark ∙ lit in cc)
 
--- ---- what is noted
-
-pub returns-then-not-has_power-clause-noted : goal.returns-then-not-has_power-clause-noted
-returns-then-not-has_power-clause-noted g c = λ dark has.
-    let away : has_power c.args.run.now.power c.args.run.now.next ≡ false = sym c.has_power.ensures ∙ c.if-not-has_power.true in
-    absurd (let bad : true ≡ false = sym has ∙ away in cc)
-
-pub returns-then-is_lit-clause-noted : goal.returns-then-is_lit-clause-noted
-returns-then-is_lit-clause-noted g c = λ dark has.
-    let yes : is_lit c.args.run.now.power ≡ true = sym c.is_lit.ensures ∙ c.if-is_lit.true in
-    absurd (let bad : true ≡ false = sym yes ∙ dark in cc)
-
-pub returns-clause-noted : goal.returns-clause-noted
-returns-clause-noted g c = λ dark has. c.in_ok-power_on.ensures.noted
-
--- ---- what holds of the devices after any calls
-
-pub returns-then-not-has_power-clause-later : goal.returns-then-not-has_power-clause-later
-returns-then-not-has_power-clause-later g c = later-same (devices (g.M.Medium.state c.args.unit.now) (g.C.Chip.state c.args.card_a.now) (g.D.Chip.state c.args.card_b.now))
-
-pub returns-then-is_lit-clause-later : goal.returns-then-is_lit-clause-later
-returns-then-is_lit-clause-later g c = later-same (devices (g.M.Medium.state c.args.unit.now) (g.C.Chip.state c.args.card_a.now) (g.D.Chip.state c.args.card_b.now))
-
-pub returns-in_err-power_on-clause-later : goal.returns-in_err-power_on-clause-later
-returns-in_err-power_on-clause-later g c = c.power_on.ensures.later
-
-pub returns-clause-later : goal.returns-clause-later
-returns-clause-later g c = c.power_on.ensures.later
-
--- ---- how often the unit broke down
-
-pub returns-then-not-has_power-clause-broke : goal.returns-then-not-has_power-clause-broke
-returns-then-not-has_power-clause-broke g c = broke-none c.args.outcome.now.breaks.items {old = (g.M.Medium.state c.args.unit.now)} {new = (g.M.Medium.state c.args.unit.now)} (omega arith)
-
-pub returns-then-is_lit-clause-broke : goal.returns-then-is_lit-clause-broke
-returns-then-is_lit-clause-broke g c = broke-none c.args.outcome.now.breaks.items {old = (g.M.Medium.state c.args.unit.now)} {new = (g.M.Medium.state c.args.unit.now)} (omega arith)
-
-pub returns-in_err-power_on-clause-broke : goal.returns-in_err-power_on-clause-broke
-returns-in_err-power_on-clause-broke g c = c.power_on.ensures.broke
-
-pub returns-clause-broke : goal.returns-clause-broke
-returns-clause-broke g c = c.power_on.ensures.broke
-
--- ---- what is recorded, with its events and rings
-
-pub returns-then-not-has_power-clause-ringed : goal.returns-then-not-has_power-clause-ringed
-returns-then-not-has_power-clause-ringed g c = λ o done s now rec time. rec
-
-pub returns-then-is_lit-clause-ringed : goal.returns-then-is_lit-clause-ringed
-returns-then-is_lit-clause-ringed g c = λ o done s now rec time.
-    let run = c.args.run.now in
-    let out = c.args.outcome.now in
-    let U : State = g.M.Medium.state c.args.unit.now in
-    let X : State = g.C.Chip.state c.args.card_a.now in
-    let Y : State = g.D.Chip.state c.args.card_b.now in
-    let yes : is_lit run.power ≡ true = sym c.is_lit.ensures ∙ c.if-is_lit.true in
-    let lit : run.power ≡ Lit = lit-is run.power yes in
-    let on = lit-ringed o done s run out (devices U X Y) U (g.C.Chip.card c.args.card_a.now) (g.D.Chip.card c.args.card_b.now) X Y lit now.number now.given c.requires.going.low (c.requires.going.lit yes) rec in
-    subst (λ (r : Run). InSecondRinged o done s 0 r out (devices U X Y)) (sym c.end_minute.ensures.run)
-    (subst (λ (b : Bool). InSecondRingedBy b o done s 0 (minute_over run) out (devices U X Y)) (sym (ap is_lit on.evented.within.lit)) on)
-
-pub returns-in_err-power_on-clause-ringed : goal.returns-in_err-power_on-clause-ringed
-returns-in_err-power_on-clause-ringed g c = λ o done s now rec time.
-    let run = c.args.run.now in
-    let dark : is_lit run.power ≡ false = sym c.is_lit.ensures ∙ c.if-is_lit.false in
-    let has : has_power run.power run.next ≡ true = sym c.has_power.ensures ∙ c.if-not-has_power.false in
-    absurd (c.in_err-power_on.ensures.ringed (marks-due run c.args.outcome.now dark has c.requires.room) o done s now rec has time)
-
-pub returns-clause-ringed : goal.returns-clause-ringed
-returns-clause-ringed g c = λ o done s now rec time.
-    let run = c.args.run.now in
-    let dark : is_lit run.power ≡ false = sym c.is_lit.ensures ∙ c.if-is_lit.false in
-    let has : has_power run.power run.next ≡ true = sym c.has_power.ensures ∙ c.if-not-has_power.false in
-    c.in_ok-power_on.ensures.ringed (marks-due run c.args.outcome.now dark has c.requires.room) o done s now rec has time
-
--- ---- and the events on the cards
-
-pub returns-then-not-has_power-clause-cards : goal.returns-then-not-has_power-clause-cards
-returns-then-not-has_power-clause-cards g c = λ o done s now rec time. rec
-
-pub returns-then-is_lit-clause-cards : goal.returns-then-is_lit-clause-cards
-returns-then-is_lit-clause-cards g c = λ o done s now rec time.
-    let run = c.args.run.now in
-    let out = c.args.outcome.now in
-    let d : Devices = devices (g.M.Medium.state c.args.unit.now) (g.C.Chip.state c.args.card_a.now) (g.D.Chip.state c.args.card_b.now) in
-    let yes : is_lit run.power ≡ true = sym c.is_lit.ensures ∙ c.if-is_lit.true in
-    let lit : run.power ≡ Lit = lit-is run.power yes in
-    let new : Run = c.end_minute.new.self in
-    let still : is_lit new.power ≡ true = ap (λ (r : Run). is_lit r.power) c.end_minute.ensures.run ∙ over-lit (run.next % 60 == 0) run ∙ yes in
-    let w = ringed-lit o done s new out d 0 still (returns-then-is_lit-clause-ringed g c o done s now rec.ringed time) in
-    in-carded_lit o done s new out d 0 (record {
-      ringed = w;
-      vehicle = ap (λ (r : Run). r.keeper.memory.registration) c.end_minute.ensures.run ∙ over-vehicle (run.next % 60 == 0) run ∙ rec.vehicle;
-      cards = begins-cards o done run out d rec lit s now.number now.given;
-    })
-
-pub returns-in_err-power_on-clause-cards : goal.returns-in_err-power_on-clause-cards
-returns-in_err-power_on-clause-cards g c = λ o done s now rec time.
-    let run = c.args.run.now in
-    let dark : is_lit run.power ≡ false = sym c.is_lit.ensures ∙ c.if-is_lit.false in
-    let has : has_power run.power run.next ≡ true = sym c.has_power.ensures ∙ c.if-not-has_power.false in
-    absurd (c.in_err-power_on.ensures.cards (marks-due run c.args.outcome.now dark has c.requires.room) o done s now rec has time)
-
-pub returns-clause-cards : goal.returns-clause-cards
-returns-clause-cards g c = λ o done s now rec time.
-    let run = c.args.run.now in
-    let dark : is_lit run.power ≡ false = sym c.is_lit.ensures ∙ c.if-is_lit.false in
-    let has : has_power run.power run.next ≡ true = sym c.has_power.ensures ∙ c.if-not-has_power.false in
-    c.in_ok-power_on.ensures.cards (marks-due run c.args.outcome.now dark has c.requires.room) o done s now rec has time
-
 -- ---- where no tear of a failed call is told no card has broken down
 
-pub returns-then-not-has_power-clause-calm : goal.returns-then-not-has_power-clause-calm
-returns-then-not-has_power-clause-calm g c = calm-same (devices (g.M.Medium.state c.args.unit.now) (g.C.Chip.state c.args.card_a.now) (g.D.Chip.state c.args.card_b.now))
+pub returns-then-not-has_power-clause-begun : goal.returns-then-not-has_power-clause-begun
+returns-then-not-has_power-clause-begun g c = record {
+  late = tt;
+  has = sym (sym c.has_power.ensures ∙ c.if-not-has_power.true);
+  next = refl;
+  unfound = c.requires.unfound;
+  refused = refl;
+}
 
-pub returns-then-is_lit-clause-calm : goal.returns-then-is_lit-clause-calm
-returns-then-is_lit-clause-calm g c = calm-same (devices (g.M.Medium.state c.args.unit.now) (g.C.Chip.state c.args.card_a.now) (g.D.Chip.state c.args.card_b.now))
+pub returns-then-not-has_power-clause-promises : goal.returns-then-not-has_power-clause-promises
+returns-then-not-has_power-clause-promises g c = record {
+  ringed = λ o done s now rec time. rec;
+  cards = λ o done s now rec time. rec;
+  noted =
+      λ dark has.
+      let away : has_power c.args.run.now.power c.args.run.now.next ≡ false = sym c.has_power.ensures ∙ c.if-not-has_power.true in
+      absurd (let bad : true ≡ false = sym has ∙ away in cc);
+}
 
-pub returns-in_err-power_on-clause-calm : goal.returns-in_err-power_on-clause-calm
-returns-in_err-power_on-clause-calm g c = c.power_on.ensures.calm
+pub returns-then-not-has_power-clause-goes : goal.returns-then-not-has_power-clause-goes
+returns-then-not-has_power-clause-goes g c = record {
+  later = later-same (devices (g.M.Medium.state c.args.unit.now) (g.C.Chip.state c.args.card_a.now) (g.D.Chip.state c.args.card_b.now));
+  calm = calm-same (devices (g.M.Medium.state c.args.unit.now) (g.C.Chip.state c.args.card_a.now) (g.D.Chip.state c.args.card_b.now));
+  broke = broke-none c.args.outcome.now.breaks.items {old = (g.M.Medium.state c.args.unit.now)} {new = (g.M.Medium.state c.args.unit.now)} (omega arith);
+}
 
-pub returns-clause-calm : goal.returns-clause-calm
-returns-clause-calm g c = c.power_on.ensures.calm
+pub returns-then-is_lit-clause-begun : goal.returns-then-is_lit-clause-begun
+returns-then-is_lit-clause-begun g c = record {
+  late = tt;
+  has = sym (sym c.has_power.ensures ∙ c.if-not-has_power.false);
+  next = first_of (search rules, grind (arith, common_steps));
+  unfound = first_of (search rules, grind (arith, common_steps));
+  refused = refl;
+}
+
+pub returns-then-is_lit-clause-promises : goal.returns-then-is_lit-clause-promises
+returns-then-is_lit-clause-promises g c = record {
+  ringed =
+      λ o done s now rec time.
+      let run = c.args.run.now in
+      let out = c.args.outcome.now in
+      let U : State = g.M.Medium.state c.args.unit.now in
+      let X : State = g.C.Chip.state c.args.card_a.now in
+      let Y : State = g.D.Chip.state c.args.card_b.now in
+      let yes : is_lit run.power ≡ true = sym c.is_lit.ensures ∙ c.if-is_lit.true in
+      let lit : run.power ≡ Lit = lit-is run.power yes in
+      let on = lit-ringed o done s run out (devices U X Y) U (g.C.Chip.card c.args.card_a.now) (g.D.Chip.card c.args.card_b.now) X Y lit now.number now.given c.requires.going.low (c.requires.going.lit yes) rec in
+      subst (λ (r : Run). InSecondRinged o done s 0 r out (devices U X Y)) (sym c.end_minute.ensures.run)
+      (subst (λ (b : Bool). InSecondRingedBy b o done s 0 (minute_over run) out (devices U X Y)) (sym (ap is_lit on.evented.within.lit)) on);
+  cards =
+      λ o done s now rec time.
+      let run = c.args.run.now in
+      let out = c.args.outcome.now in
+      let d : Devices = devices (g.M.Medium.state c.args.unit.now) (g.C.Chip.state c.args.card_a.now) (g.D.Chip.state c.args.card_b.now) in
+      let yes : is_lit run.power ≡ true = sym c.is_lit.ensures ∙ c.if-is_lit.true in
+      let lit : run.power ≡ Lit = lit-is run.power yes in
+      let new : Run = c.end_minute.new.self in
+      let still : is_lit new.power ≡ true = ap (λ (r : Run). is_lit r.power) c.end_minute.ensures.run ∙ over-lit (run.next % 60 == 0) run ∙ yes in
+      let on = lit-ringed o done s run out d (g.M.Medium.state c.args.unit.now) (g.C.Chip.card c.args.card_a.now) (g.D.Chip.card c.args.card_b.now) (g.C.Chip.state c.args.card_a.now) (g.D.Chip.state c.args.card_b.now) lit now.number now.given c.requires.going.low (c.requires.going.lit yes) rec.ringed in
+      let w = ringed-lit o done s new out d 0 still (subst (λ (r : Run). InSecondRinged o done s 0 r out d) (sym c.end_minute.ensures.run)
+      (subst (λ (b : Bool). InSecondRingedBy b o done s 0 (minute_over run) out d) (sym (ap is_lit on.evented.within.lit)) on)) in
+      in-carded_lit o done s new out d 0 (record {
+        ringed = w;
+        vehicle = ap (λ (r : Run). r.keeper.memory.registration) c.end_minute.ensures.run ∙ over-vehicle (run.next % 60 == 0) run ∙ rec.vehicle;
+        cards = begins-cards o done run out d rec lit s now.number now.given;
+      });
+  noted =
+      λ dark has.
+      let yes : is_lit c.args.run.now.power ≡ true = sym c.is_lit.ensures ∙ c.if-is_lit.true in
+      absurd (let bad : true ≡ false = sym yes ∙ dark in cc);
+}
+
+pub returns-then-is_lit-clause-goes : goal.returns-then-is_lit-clause-goes
+returns-then-is_lit-clause-goes g c = record {
+  later = later-same (devices (g.M.Medium.state c.args.unit.now) (g.C.Chip.state c.args.card_a.now) (g.D.Chip.state c.args.card_b.now));
+  calm = calm-same (devices (g.M.Medium.state c.args.unit.now) (g.C.Chip.state c.args.card_a.now) (g.D.Chip.state c.args.card_b.now));
+  broke = broke-none c.args.outcome.now.breaks.items {old = (g.M.Medium.state c.args.unit.now)} {new = (g.M.Medium.state c.args.unit.now)} (omega arith);
+}
+
+pub returns-in_err-power_on-clause-begun : goal.returns-in_err-power_on-clause-begun
+returns-in_err-power_on-clause-begun g c = record {
+  late = first_of (search rules, grind (arith, common_steps));
+  has = first_of (search rules, grind (arith, common_steps));
+  next = first_of (search rules, grind (arith, common_steps));
+  unfound = first_of (search rules, grind (arith, common_steps));
+  refused = c.power_on.ensures.woken.refused;
+}
+
+pub returns-in_err-power_on-clause-promises : goal.returns-in_err-power_on-clause-promises
+returns-in_err-power_on-clause-promises g c = record {
+  ringed =
+      λ o done s now rec time.
+      let run = c.args.run.now in
+      let dark : is_lit run.power ≡ false = sym c.is_lit.ensures ∙ c.if-is_lit.false in
+      let has : has_power run.power run.next ≡ true = sym c.has_power.ensures ∙ c.if-not-has_power.false in
+      absurd (c.in_err-power_on.ensures.promises.ringed (marks-due run c.args.outcome.now dark has c.requires.room) o done s now rec has time);
+  cards =
+      λ o done s now rec time.
+      let run = c.args.run.now in
+      let dark : is_lit run.power ≡ false = sym c.is_lit.ensures ∙ c.if-is_lit.false in
+      let has : has_power run.power run.next ≡ true = sym c.has_power.ensures ∙ c.if-not-has_power.false in
+      absurd (c.in_err-power_on.ensures.promises.cards (marks-due run c.args.outcome.now dark has c.requires.room) o done s now rec has time);
+  noted = first_of (search rules, grind (arith, common_steps));
+}
+
+pub returns-in_err-power_on-clause-goes : goal.returns-in_err-power_on-clause-goes
+returns-in_err-power_on-clause-goes g c = record {
+  later = c.power_on.ensures.goes.later;
+  calm = c.power_on.ensures.goes.calm;
+  broke = c.power_on.ensures.goes.broke;
+}
+
+pub returns-clause-begun : goal.returns-clause-begun
+returns-clause-begun g c = record {
+  late = tt;
+  has = sym (sym c.has_power.ensures ∙ c.if-not-has_power.false);
+  next = c.power_on.ensures.woken.next;
+  unfound = c.in_ok-power_on.ensures.woken.unfound;
+  refused = c.power_on.ensures.woken.refused;
+}
+
+pub returns-clause-promises : goal.returns-clause-promises
+returns-clause-promises g c = record {
+  ringed =
+      λ o done s now rec time.
+      let run = c.args.run.now in
+      let dark : is_lit run.power ≡ false = sym c.is_lit.ensures ∙ c.if-is_lit.false in
+      let has : has_power run.power run.next ≡ true = sym c.has_power.ensures ∙ c.if-not-has_power.false in
+      c.in_ok-power_on.ensures.promises.ringed (marks-due run c.args.outcome.now dark has c.requires.room) o done s now rec has time;
+  cards =
+      λ o done s now rec time.
+      let run = c.args.run.now in
+      let dark : is_lit run.power ≡ false = sym c.is_lit.ensures ∙ c.if-is_lit.false in
+      let has : has_power run.power run.next ≡ true = sym c.has_power.ensures ∙ c.if-not-has_power.false in
+      c.in_ok-power_on.ensures.promises.cards (marks-due run c.args.outcome.now dark has c.requires.room) o done s now rec has time;
+  noted = λ dark has. c.in_ok-power_on.ensures.noted;
+}
+
+pub returns-clause-goes : goal.returns-clause-goes
+returns-clause-goes g c = record {
+  later = c.power_on.ensures.goes.later;
+  calm = c.power_on.ensures.goes.calm;
+  broke = c.power_on.ensures.goes.broke;
+}

@@ -1,4 +1,4 @@
-use Rattle.std.proofs.Common.{rules, ◌≡◌, ◌∙◌, ℕ, ◌+◌, ◌/◌, ◌<◌, Bool, true, false, [], ◌∷◌, ◌++◌, refl, ap, sym, subst, arith, ◌*◌, List, length, ◌≤◌}
+use Rattle.std.proofs.Common.{rules, ◌≡◌, ◌∙◌, ℕ, ◌+◌, ◌/◌, ◌<◌, Bool, true, false, [], ◌∷◌, ◌++◌, refl, ap, sym, subst, arith, ◌*◌, List, length, ◌≤◌, inl, inr}
 use Rattle.std.specs.Prelude.{is_err, IfErr}
 use Rattle.std.proofs.lemmas.Grind.{common_steps}
 use Rattle.tach_media.specs.Medium.{State}
@@ -88,7 +88,7 @@ module _ (g : Over) (c : After-resume g) where
   began = log_of (record out { breaks = c.learn.new.breaks })
 
   next : mid.next ≡ run.next
-  next = c.resume.ensures.next ∙ ap (λ (r : Run). r.next) c.learn.ensures.run
+  next = c.resume.ensures.resumed.next ∙ ap (λ (r : Run). r.next) c.learn.ensures.run
 
   log : began ≡ found_log run.unfound c.last_kept-kept.result (log_of out)
   log = ap (λ (l : Listed Break). log_of (record out { breaks = l })) c.learn.ensures.breaks
@@ -115,7 +115,7 @@ module _ (g : Over) (c : After-resume g) where
     stay rec = all-of o (marked out.marks.items (truths_of o (log_of out) done)) 0 (log_of out) (notes_in (log_of out) done) run.keeper.memory.registration c.learn.new.self.keeper.memory.registration run.keeper.cabin dev0 (ap (λ (r : Run). r.keeper.memory.registration) c.learn.ensures.run) rec.stay
 
     resumed : RunRecorded o done run out dev0 → GoesOnOrCut (is_err c.resume.result) o done s (In 0) [] mid told dev1
-    resumed rec = c.resume.ensures.recorded room_learnt o rec.origin done s rec.supply (values_of run out) rec.recorded (stay rec) (may rec) now.number now.given values time
+    resumed rec = c.resume.ensures.promises.recorded room_learnt o rec.origin done s rec.supply (values_of run out) rec.recorded (stay rec) (may rec) now.number now.given values time
 
     limit : RunEvented o done run out dev0 → c.learn.new.self.keeper.memory.limit ≡ limit_in o
     limit all = ap (λ (r : Run). r.keeper.memory.limit) c.learn.ensures.run ∙ all.limit
@@ -123,7 +123,7 @@ module _ (g : Over) (c : After-resume g) where
     woken : RunEvented o done run out dev0 → EventsWoken (is_err c.resume.result) began o done s mid told dev1
     woken all =
         let rec = all.recorded in
-        c.resume.ensures.evented room_learnt o rec.origin done s rec.supply (values_of run out) rec.recorded (stay rec) (may rec) now.number now.given now.speed_is values all.evented (limit all) time
+        c.resume.ensures.promises.evented room_learnt o rec.origin done s rec.supply (values_of run out) rec.recorded (stay rec) (may rec) now.number now.given now.speed_is values all.evented (limit all) time
 
     rung : (all : RunRinged o done run out dev0) → RingsWoken (is_err c.resume.result) began o done s all.spans mid (log_of told) dev1
     rung all =
@@ -133,14 +133,14 @@ module _ (g : Over) (c : After-resume g) where
         let ringed : RingedBehind o done began s.number all.spans (seats_of run) dev0 = subst (λ (l : RunLog). RingedBehind o done l s.number all.spans (seats_of run) dev0) (sym log)
         (learned-ringed o done (log_of out) run.unfound c.last_kept-kept.result run.next s.number rec.recorded.recorded.followed.order now.number all.spans (seats_of run) dev0 all.ringed) in
         let off : StoresOff o (log_of out) run.unfound all.spans dev0 = subst (λ (b : Bool). Stores b o (log_of out) run.unfound run.keeper.odometer all.spans dev0) c.requires.dark all.stored in
-        c.resume.ensures.ringed room_learnt o rec.origin done s rec.supply (values_of run out) rec.recorded (stay rec) (may rec) now.number now.given values all.spans (seats_of run) ringed (omega (arith, counted, noted)) off time
+        c.resume.ensures.promises.ringed room_learnt o rec.origin done s rec.supply (values_of run out) rec.recorded (stay rec) (may rec) now.number now.given values all.spans (seats_of run) ringed (omega (arith, counted, noted)) off time
 
     shown : RunCarded o done run out dev0 → CardsWoken (is_err c.resume.result) began o done s mid (log_of told) dev1
     shown all =
         let rec = all.ringed.evented.recorded in
         let cards : CardsBehind o done began dev0 = subst (λ (l : RunLog). CardsBehind o done l dev0) (sym log)
         (learned-cards o done (log_of out) run.unfound c.last_kept-kept.result dev0 rec.recorded.recorded.followed.order all.ringed.evented.evented.gaps.known all.cards) in
-        c.resume.ensures.cards room_learnt o rec.origin done s rec.supply (values_of run out) rec.recorded (stay rec) (may rec) now.number now.given now.speed_is values all.ringed.evented.evented (limit all.ringed.evented) (ap (λ (r : Run). r.keeper.memory.registration) c.learn.ensures.run ∙ all.vehicle) cards time
+        c.resume.ensures.promises.cards room_learnt o rec.origin done s rec.supply (values_of run out) rec.recorded (stay rec) (may rec) now.number now.given now.speed_is values all.ringed.evented.evented (limit all.ringed.evented) (ap (λ (r : Run). r.keeper.memory.registration) c.learn.ensures.run ∙ all.vehicle) cards time
 
 -- ---- where the clock is judged to have been put back: that is never so behind what is recorded
 
@@ -201,7 +201,7 @@ cut-requires-clause-room g c =
 
 pub returns-then-is_err-clause-takes : goal.returns-then-is_err-clause-takes
 returns-then-is_err-clause-takes g c =
-    let stand = c.resume.ensures.held.stand in
+    let stand = c.resume.ensures.held.held.stand in
     up-lost c.args.run.now c.learn.new.self c.resume.new.run c.args.outcome.now c.learn.new.breaks c.resume.new.outcome (ap (λ (r : Run). r.keeper) c.learn.ensures.run) c.learn.ensures.same (ap (λ (l : Listed Break). l.room) c.learn.ensures.breaks) c.resume.ensures.takes
     c.resume.new.run.next stand.0 stand.1 (cut_at c.resume.new.run.next true 0) c.cut.new.self c.cut.new.breaks stand.2 c.cut.ensures.run c.cut.ensures.breaks
 
@@ -212,87 +212,12 @@ returns-clause-takes g c =
 pub returns-then-is_err-clause-going : goal.returns-then-is_err-clause-going
 returns-then-is_err-clause-going g c =
     let woken_run : Run = c.resume.new.run in
-    let held = c.resume.ensures.held in
+    let held = c.resume.ensures.held.held in
     let same = next g (resuming g c) in
     let low = c.requires.going.low in
     let small = c.requires.going.small in
     subst (λ (r : Run). IsAt (r.next / 60) r (g.M.Medium.state c.resume.new.unit) (g.C.Chip.card c.resume.new.card_a) (g.D.Chip.card c.resume.new.card_b) (g.C.Chip.state c.resume.new.card_a) (g.D.Chip.state c.resume.new.card_b)) (sym c.cut.ensures.run)
     (cut-at woken_run (woken_run.next / 60) (woken_run.next / 60) woken_run.next (omega (arith, low, same)) (omega (arith, small, same)) held held.minute (omega arith))
-
--- ---- WHAT IS RECORDED
-
-pub returns-in_err-judge_clock-clause-recorded : goal.returns-in_err-judge_clock-clause-recorded
-returns-in_err-judge_clock-clause-recorded g c = λ room o done s now rec has time. absurd (never g c o done rec has)
-
-pub returns-then-is_err-clause-recorded : goal.returns-then-is_err-clause-recorded
-returns-then-is_err-clause-recorded g c = λ room o done s now rec has time. cut-in o done s c.cut.new.self (lost g c) (dev1 g (resuming g c)) 0 (recorded_cut g c room o done s now has time rec)
-
-pub returns-clause-recorded : goal.returns-clause-recorded
-returns-clause-recorded g c = λ room o done s now rec has time.
-    let here = (goal.at.returns-clause-recorded g c).After-resume in
-    let well : is_err c.resume.result ≡ false = sym c.is_err.ensures.value ∙ c.if-is_err.false in
-    let lit : c.resume.new.run.power ≡ Lit = ok_gives c.resume.result c.resume.ensures.power well in
-    subst (λ (b : Bool). InSecondBy b o done s 0 (mid g here) (told g here) (dev1 g here)) (sym (ap is_lit lit)) (subst (λ (f : Bool). GoesOnOrCut f o done s (In 0) [] (mid g here) (told g here) (dev1 g here)) well (resumed g here room o done s now has time rec))
-
--- ---- WHAT IS NOTED, beside what is recorded
-
-pub returns-in_err-judge_clock-clause-evented : goal.returns-in_err-judge_clock-clause-evented
-returns-in_err-judge_clock-clause-evented g c = λ room o done s now all has time. absurd (never g c o done all.recorded has)
-
-pub returns-then-is_err-clause-evented : goal.returns-then-is_err-clause-evented
-returns-then-is_err-clause-evented g c = λ room o done s now all has time. in-evented_cut o done s c.cut.new.self (lost g c) (dev1 g (resuming g c)) 0 (evented_cut g c room o done s now has time all)
-
-pub returns-clause-evented : goal.returns-clause-evented
-returns-clause-evented g c = λ room o done s now all has time.
-    let here = (goal.at.returns-clause-evented g c).After-resume in
-    let well : is_err c.resume.result ≡ false = sym c.is_err.ensures.value ∙ c.if-is_err.false in
-    in-evented_lit o done s (mid g here) (told g here) (dev1 g here) 0 (subst (λ (f : Bool). EventsWoken f (began g here) o done s (mid g here) (told g here) (dev1 g here)) well (woken g here room o done s now has time all)).0
-
--- ---- AND THE RINGS
-
-pub returns-in_err-judge_clock-clause-ringed : goal.returns-in_err-judge_clock-clause-ringed
-returns-in_err-judge_clock-clause-ringed g c = λ room o done s now all has time. absurd (never g c o done all.evented.recorded has)
-
-pub returns-then-is_err-clause-ringed : goal.returns-then-is_err-clause-ringed
-returns-then-is_err-clause-ringed g c = λ room o done s now all has time. ringed_cut g c room o done s now has time all
-
-pub returns-clause-ringed : goal.returns-clause-ringed
-returns-clause-ringed g c = λ room o done s now all has time.
-    let here = (goal.at.returns-clause-ringed g c).After-resume in
-    let well : is_err c.resume.result ≡ false = sym c.is_err.ensures.value ∙ c.if-is_err.false in
-    lit-woken o done s (mid g here) (told g here) (dev1 g here) (began g here) all.spans (subst (λ (f : Bool). EventsWoken f (began g here) o done s (mid g here) (told g here) (dev1 g here)) well (woken g here room o done s now has time all.evented))
-    (subst (λ (f : Bool). RingsWoken f (began g here) o done s all.spans (mid g here) (log_of (told g here)) (dev1 g here)) well (rung g here room o done s now has time all))
-
--- ---- AND THE EVENTS ON THE CARDS
-
-pub returns-in_err-judge_clock-clause-cards : goal.returns-in_err-judge_clock-clause-cards
-returns-in_err-judge_clock-clause-cards g c = λ room o done s now all has time. absurd (never g c o done all.ringed.evented.recorded has)
-
-pub returns-then-is_err-clause-cards : goal.returns-then-is_err-clause-cards
-returns-then-is_err-clause-cards g c = λ room o done s now all has time.
-    let after : Devices = dev1 g (resuming g c) in
-    let cards = subst (λ (f : Bool). CardsWoken f (began g (resuming g c)) o done s c.resume.new.run (log_of c.resume.new.outcome) after) (failed g c) (shown g (resuming g c) room o done s now has time all) in
-    let is_log : with_cut (log_of c.resume.new.outcome) s [] ≡ log_of (lost g c) = ap (λ (u : ℕ). and_break (log_of c.resume.new.outcome) (cut_at u true 0)) (now.number ∙ sym (next g (resuming g c))) ∙ sym (ap log_of (line g c)) in
-    in-carded_cut o done s c.cut.new.self (lost g c) after 0 (record {
-      ringed = ringed-cut o done s c.cut.new.self (lost g c) after 0 (ap (λ (q : Run). is_lit q.power) c.cut.ensures.run) (ringed_cut g c room o done s now has time all.ringed);
-      vehicle = ap (λ (q : Run). q.keeper.memory.registration) c.cut.ensures.run ∙ cards.0;
-      cards = subst (λ (l : RunLog). CardsBehind o (done ++ s ∷ []) l after) is_log cards.1;
-    })
-
-pub returns-clause-cards : goal.returns-clause-cards
-returns-clause-cards g c = λ room o done s now all has time.
-    let here = (goal.at.returns-clause-cards g c).After-resume in
-    let well : is_err c.resume.result ≡ false = sym c.is_err.ensures.value ∙ c.if-is_err.false in
-    let on = subst (λ (f : Bool). EventsWoken f (began g here) o done s (mid g here) (told g here) (dev1 g here)) well (woken g here room o done s now has time all.ringed.evented) in
-    let cards = subst (λ (f : Bool). CardsWoken f (began g here) o done s (mid g here) (log_of (told g here)) (dev1 g here)) well (shown g here room o done s now has time all) in
-    let low = c.requires.going.low in
-    let number = now.number in
-    let positive : 0 < s.number = omega (arith, low, number) in
-    in-carded_lit o done s (mid g here) (told g here) (dev1 g here) 0 (record {
-      ringed = ringed-lit o done s (mid g here) (told g here) (dev1 g here) 0 (ap is_lit on.0.within.lit) (returns-clause-ringed g c room o done s now all.ringed has time);
-      vehicle = cards.0;
-      cards = cards-on o done s 0 (mid g here) (told g here) (dev1 g here) [] s.actions on.0.within.within.b refl refl positive (record { goes = on.0.within; began = refl }) (subst (λ (l : RunLog). CardsIn o done s l [] (log_of (told g here)) (dev1 g here)) (sym on.1) cards.1);
-    })
 
 -- ---- what is noted
 
@@ -313,48 +238,120 @@ returns-clause-noted g c = record {
   ends = (refl, refl);
 }
 
--- ---- what holds of the devices after any calls
-
-pub returns-in_err-judge_clock-clause-later : goal.returns-in_err-judge_clock-clause-later
-returns-in_err-judge_clock-clause-later g c = later-same (before g c)
-
-pub returns-then-is_err-clause-later : goal.returns-then-is_err-clause-later
-returns-then-is_err-clause-later g c = c.resume.ensures.later
-
-pub returns-clause-later : goal.returns-clause-later
-returns-clause-later g c = c.resume.ensures.later
-
--- ---- the clock that was put back
-
-pub returns-in_err-judge_clock-clause-late : goal.returns-in_err-judge_clock-clause-late
-returns-in_err-judge_clock-clause-late g c =
-    let back : IfErr c.from_residual.result (IsClockBack c.last_kept-kept.result c.learn.new.self.next) = first_of (search rules, grind (arith, common_steps)) in
-    if-err c.from_residual.result (λ fault is. subst IsFoundLater (sym is.0) is.1) back
-
--- ---- how often the unit broke down
-
-pub returns-in_err-judge_clock-clause-broke : goal.returns-in_err-judge_clock-clause-broke
-returns-in_err-judge_clock-clause-broke g c = broke-found _ _ {old = (g.M.Medium.state c.args.unit.now)} {new = (g.M.Medium.state c.args.unit.now)} (ap (λ (l : Listed Break). l.items) c.learn.ensures.breaks) (omega arith)
-
-pub returns-then-is_err-clause-broke : goal.returns-then-is_err-clause-broke
-returns-then-is_err-clause-broke g c =
-    broke-then (broke g (resuming g c))
-    (cut-broke _ _ _ _ _ (g.M.Medium.state c.args.unit.now) (g.M.Medium.state c.resume.new.unit) (is_err c.resume.result) c.requires.loaded.works c.resume.ensures.cause (failed g c) c.resume.ensures.uncut (ap (λ (l : Listed Break). l.items) c.cut.ensures.breaks))
-
-pub returns-clause-broke : goal.returns-clause-broke
-returns-clause-broke g c =
-    broke-then (broke g (goal.at.returns-clause-broke g c).After-resume) (uncut-broke _ _ (g.M.Medium.state c.args.unit.now) (g.M.Medium.state c.resume.new.unit) (is_err c.resume.result) c.resume.ensures.cause (sym c.is_err.ensures.value ∙ c.if-is_err.false) c.resume.ensures.uncut)
-
 -- ---- where no tear of a failed call is told no card has broken down
 
-pub returns-in_err-judge_clock-clause-calm : goal.returns-in_err-judge_clock-clause-calm
-returns-in_err-judge_clock-clause-calm g c = calm-none (before g c) (ap (λ (l : Listed Break). failed_tears l.items) c.learn.ensures.breaks ∙ found-tears c.args.run.now.unfound c.last_kept-kept.result c.args.outcome.now.breaks.items)
+pub returns-in_err-judge_clock-clause-woken : goal.returns-in_err-judge_clock-clause-woken
+returns-in_err-judge_clock-clause-woken g c = record {
+  late =
+      let back : IfErr c.from_residual.result (IsClockBack c.last_kept-kept.result c.learn.new.self.next) = first_of (search rules, grind (arith, common_steps)) in
+      if-err c.from_residual.result (λ fault is. subst IsFoundLater (sym is.0) is.1) back;
+  next = ap (λ (r : Run). r.next) c.learn.ensures.run;
+  awake = first_of (search rules, grind (arith, common_steps));
+  unfound = first_of (search rules, grind (arith, common_steps));
+  refused = refl;
+}
 
-pub returns-then-is_err-clause-calm : goal.returns-then-is_err-clause-calm
-returns-then-is_err-clause-calm g c =
-    calm-then (dev0 g (resuming g c)) (dev0 g (resuming g c)) (dev1 g (resuming g c)) {mids = c.learn.new.breaks.items} (calm g (resuming g c)) (calm-more (dev0 g (resuming g c)) (dev1 g (resuming g c)) _ c.resume.ensures.calm (ap (λ (l : Listed Break). l.items) c.cut.ensures.breaks) refl)
+pub returns-in_err-judge_clock-clause-promises : goal.returns-in_err-judge_clock-clause-promises
+returns-in_err-judge_clock-clause-promises g c = record {
+  recorded = λ room o done s now rec has time. absurd (never g c o done rec has);
+  evented = λ room o done s now all has time. absurd (never g c o done all.recorded has);
+  ringed = λ room o done s now all has time. absurd (never g c o done all.evented.recorded has);
+  cards = λ room o done s now all has time. absurd (never g c o done all.ringed.evented.recorded has);
+}
 
-pub returns-clause-calm : goal.returns-clause-calm
-returns-clause-calm g c =
-    let here = (goal.at.returns-clause-calm g c).After-resume in
-    calm-then (dev0 g here) (dev0 g here) (dev1 g here) {mids = c.learn.new.breaks.items} (calm g here) c.resume.ensures.calm
+pub returns-in_err-judge_clock-clause-goes : goal.returns-in_err-judge_clock-clause-goes
+returns-in_err-judge_clock-clause-goes g c = record {
+  later = later-same (before g c);
+  calm = calm-none (before g c) (ap (λ (l : Listed Break). failed_tears l.items) c.learn.ensures.breaks ∙ found-tears c.args.run.now.unfound c.last_kept-kept.result c.args.outcome.now.breaks.items);
+  broke = broke-found _ _ {old = (g.M.Medium.state c.args.unit.now)} {new = (g.M.Medium.state c.args.unit.now)} (ap (λ (l : Listed Break). l.items) c.learn.ensures.breaks) (omega arith);
+}
+
+pub returns-then-is_err-clause-woken : goal.returns-then-is_err-clause-woken
+returns-then-is_err-clause-woken g c = record {
+  late = tt;
+  next = ap (λ (r : Run). r.next) c.cut.ensures.run ∙ c.resume.ensures.resumed.next ∙ ap (λ (r : Run). r.next) c.learn.ensures.run;
+  awake = inr (ap (λ (r : Run). r.power) c.cut.ensures.run);
+  unfound = first_of (search rules, grind (arith, common_steps));
+  refused = c.resume.ensures.resumed.refused;
+}
+
+pub returns-then-is_err-clause-promises : goal.returns-then-is_err-clause-promises
+returns-then-is_err-clause-promises g c = record {
+  recorded = λ room o done s now rec has time. cut-in o done s c.cut.new.self (lost g c) (dev1 g (resuming g c)) 0 (recorded_cut g c room o done s now has time rec);
+  evented = λ room o done s now all has time. in-evented_cut o done s c.cut.new.self (lost g c) (dev1 g (resuming g c)) 0 (evented_cut g c room o done s now has time all);
+  ringed = λ room o done s now all has time. ringed_cut g c room o done s now has time all;
+  cards =
+      λ room o done s now all has time.
+      let after : Devices = dev1 g (resuming g c) in
+      let cards = subst (λ (f : Bool). CardsWoken f (began g (resuming g c)) o done s c.resume.new.run (log_of c.resume.new.outcome) after) (failed g c) (shown g (resuming g c) room o done s now has time all) in
+      let is_log : with_cut (log_of c.resume.new.outcome) s [] ≡ log_of (lost g c) = ap (λ (u : ℕ). and_break (log_of c.resume.new.outcome) (cut_at u true 0)) (now.number ∙ sym (next g (resuming g c))) ∙ sym (ap log_of (line g c)) in
+      in-carded_cut o done s c.cut.new.self (lost g c) after 0 (record {
+        ringed = ringed-cut o done s c.cut.new.self (lost g c) after 0 (ap (λ (q : Run). is_lit q.power) c.cut.ensures.run) (ringed_cut g c room o done s now has time all.ringed);
+        vehicle = ap (λ (q : Run). q.keeper.memory.registration) c.cut.ensures.run ∙ cards.0;
+        cards = subst (λ (l : RunLog). CardsBehind o (done ++ s ∷ []) l after) is_log cards.1;
+      });
+}
+
+pub returns-then-is_err-clause-goes : goal.returns-then-is_err-clause-goes
+returns-then-is_err-clause-goes g c = record {
+  later = c.resume.ensures.goes.later;
+  calm = calm-then (dev0 g (resuming g c)) (dev0 g (resuming g c)) (dev1 g (resuming g c)) {mids = c.learn.new.breaks.items} (calm g (resuming g c)) (calm-more (dev0 g (resuming g c)) (dev1 g (resuming g c)) _ c.resume.ensures.goes.calm (ap (λ (l : Listed Break). l.items) c.cut.ensures.breaks) refl);
+  broke =
+      broke-then (broke g (resuming g c))
+      (cut-broke _ _ _ _ _ (g.M.Medium.state c.args.unit.now) (g.M.Medium.state c.resume.new.unit) (is_err c.resume.result) c.requires.loaded.works c.resume.ensures.held.cause (failed g c) c.resume.ensures.resumed.uncut (ap (λ (l : Listed Break). l.items) c.cut.ensures.breaks));
+}
+
+pub returns-clause-woken : goal.returns-clause-woken
+returns-clause-woken g c = record {
+  late = tt;
+  next = c.resume.ensures.resumed.next ∙ ap (λ (r : Run). r.next) c.learn.ensures.run;
+  awake =
+      let well : is_err c.resume.result ≡ false = sym c.is_err.ensures.value ∙ c.if-is_err.false in
+      inl (ok_gives c.resume.result c.resume.ensures.resumed.power well, ok_gives c.resume.result c.resume.ensures.resumed.owes well);
+  unfound = first_of (search rules, grind (arith, common_steps));
+  refused = c.resume.ensures.resumed.refused;
+}
+
+pub returns-clause-promises : goal.returns-clause-promises
+returns-clause-promises g c = record {
+  recorded =
+      λ room o done s now rec has time.
+      let here = (goal.at.returns-clause-promises g c).After-resume in
+      let well : is_err c.resume.result ≡ false = sym c.is_err.ensures.value ∙ c.if-is_err.false in
+      let lit : c.resume.new.run.power ≡ Lit = ok_gives c.resume.result c.resume.ensures.resumed.power well in
+      subst (λ (b : Bool). InSecondBy b o done s 0 (mid g here) (told g here) (dev1 g here)) (sym (ap is_lit lit)) (subst (λ (f : Bool). GoesOnOrCut f o done s (In 0) [] (mid g here) (told g here) (dev1 g here)) well (resumed g here room o done s now has time rec));
+  evented =
+      λ room o done s now all has time.
+      let here = (goal.at.returns-clause-promises g c).After-resume in
+      let well : is_err c.resume.result ≡ false = sym c.is_err.ensures.value ∙ c.if-is_err.false in
+      in-evented_lit o done s (mid g here) (told g here) (dev1 g here) 0 (subst (λ (f : Bool). EventsWoken f (began g here) o done s (mid g here) (told g here) (dev1 g here)) well (woken g here room o done s now has time all)).0;
+  ringed =
+      λ room o done s now all has time.
+      let here = (goal.at.returns-clause-promises g c).After-resume in
+      let well : is_err c.resume.result ≡ false = sym c.is_err.ensures.value ∙ c.if-is_err.false in
+      lit-woken o done s (mid g here) (told g here) (dev1 g here) (began g here) all.spans (subst (λ (f : Bool). EventsWoken f (began g here) o done s (mid g here) (told g here) (dev1 g here)) well (woken g here room o done s now has time all.evented))
+      (subst (λ (f : Bool). RingsWoken f (began g here) o done s all.spans (mid g here) (log_of (told g here)) (dev1 g here)) well (rung g here room o done s now has time all));
+  cards =
+      λ room o done s now all has time.
+      let here = (goal.at.returns-clause-promises g c).After-resume in
+      let well : is_err c.resume.result ≡ false = sym c.is_err.ensures.value ∙ c.if-is_err.false in
+      let on = subst (λ (f : Bool). EventsWoken f (began g here) o done s (mid g here) (told g here) (dev1 g here)) well (woken g here room o done s now has time all.ringed.evented) in
+      let cards = subst (λ (f : Bool). CardsWoken f (began g here) o done s (mid g here) (log_of (told g here)) (dev1 g here)) well (shown g here room o done s now has time all) in
+      let low = c.requires.going.low in
+      let number = now.number in
+      let positive : 0 < s.number = omega (arith, low, number) in
+      in-carded_lit o done s (mid g here) (told g here) (dev1 g here) 0 (record {
+        ringed = ringed-lit o done s (mid g here) (told g here) (dev1 g here) 0 (ap is_lit on.0.within.lit) (lit-woken o done s (mid g here) (told g here) (dev1 g here) (began g here) all.ringed.spans on (subst (λ (f : Bool). RingsWoken f (began g here) o done s all.ringed.spans (mid g here) (log_of (told g here)) (dev1 g here)) well (rung g here room o done s now has time all.ringed)));
+        vehicle = cards.0;
+        cards = cards-on o done s 0 (mid g here) (told g here) (dev1 g here) [] s.actions on.0.within.within.b refl refl positive (record { goes = on.0.within; began = refl }) (subst (λ (l : RunLog). CardsIn o done s l [] (log_of (told g here)) (dev1 g here)) (sym on.1) cards.1);
+      });
+}
+
+pub returns-clause-goes : goal.returns-clause-goes
+returns-clause-goes g c = record {
+  later = c.resume.ensures.goes.later;
+  calm =
+      let here = (goal.at.returns-clause-goes g c).After-resume in
+      calm-then (dev0 g here) (dev0 g here) (dev1 g here) {mids = c.learn.new.breaks.items} (calm g here) c.resume.ensures.goes.calm;
+  broke = broke-then (broke g (goal.at.returns-clause-goes g c).After-resume) (uncut-broke _ _ (g.M.Medium.state c.args.unit.now) (g.M.Medium.state c.resume.new.unit) (is_err c.resume.result) c.resume.ensures.held.cause (sym c.is_err.ensures.value ∙ c.if-is_err.false) c.resume.ensures.resumed.uncut);
+}

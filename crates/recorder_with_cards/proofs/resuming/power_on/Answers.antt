@@ -1,4 +1,5 @@
-use Rattle.std.proofs.Common.{◌≡◌, ◌∙◌, inl, inr, ℕ, ◌/◌, ◌<◌, Bool, true, false, Some, List, [], ◌∷◌, ◌++◌, refl, ap, sym, subst, arith, IfSome}
+use Rattle.std.proofs.lemmas.Grind.{common_steps}
+use Rattle.std.proofs.Common.{rules, ◌≡◌, ◌∙◌, inl, inr, ℕ, ◌/◌, ◌<◌, Bool, true, false, Some, List, [], ◌∷◌, ◌++◌, refl, ap, sym, subst, arith, IfSome}
 use Rattle.tach_media.specs.Medium.{State, IsCoherent}
 use Rattle.log_model.specs.declared.lines.Break.{Break}
 use Rattle.unit_model.specs.Decoding.{first_bad_place}
@@ -168,7 +169,7 @@ module _ (g : Over) (c : After-open_unit g) where
 
 module _ (g : Over) (c : After-cut g) where
   abbrev reading : After-open_unit g
-  reading = (goal.at.returns-in-Err-Failed-clause-recorded g c).After-open_unit
+  reading = (goal.at.returns-in-Err-Failed-clause-promises g c).After-open_unit
 
   abbrev lost : Outcome
   lost = record c.args.outcome.now { breaks = c.cut.new.breaks }
@@ -226,65 +227,6 @@ returns-in-Err-Failed-clause-going g c =
 pub found-requires-clause-rule : goal.found-requires-clause-rule
 found-requires-clause-rule g c = rule-known (g.M.Medium.state c.open_unit.new.unit).image c.in-Ok.opened.memory c.rule-rule.result c.in-Ok.ensures.facts c.rule-rule.ensures
 
--- ---- WHAT IS RECORDED
-
-pub returns-in-Ok-clause-recorded : goal.returns-in-Ok-clause-recorded
-returns-in-Ok-clause-recorded g c = λ room o done s now rec has time. c.found.ensures.recorded room o done s now (recorded g (goal.at.returns-in-Ok-clause-recorded g c).After-open_unit o done has rec) has time
-
-pub returns-in-Err-BadUnit-clause-recorded : goal.returns-in-Err-BadUnit-clause-recorded
-returns-in-Err-BadUnit-clause-recorded g c = λ room o done s now rec has time.
-    absurd (never-bad g (goal.at.returns-in-Err-BadUnit-clause-recorded g c).After-open_unit o done has rec c.in-Err-BadUnit.place (rw c.in-Err-BadUnit.field-0-is at c.in-Err-BadUnit.ensures.bad))
-
-pub returns-in-Err-Failed-clause-recorded : goal.returns-in-Err-Failed-clause-recorded
-returns-in-Err-Failed-clause-recorded g c = λ room o done s now rec has time. cut-in o done s c.cut.new.self (lost g c) (dev1 g (reading g c)) 0 (recorded_cut g c o done s now has rec)
-
--- ---- WHAT IS NOTED, beside what is recorded
-
-pub returns-in-Ok-clause-evented : goal.returns-in-Ok-clause-evented
-returns-in-Ok-clause-evented g c = λ room o done s now all has time. c.found.ensures.evented room o done s now (evented g (goal.at.returns-in-Ok-clause-evented g c).After-open_unit o done has all) has time
-
-pub returns-in-Err-BadUnit-clause-evented : goal.returns-in-Err-BadUnit-clause-evented
-returns-in-Err-BadUnit-clause-evented g c = λ room o done s now all has time. absurd (returns-in-Err-BadUnit-clause-recorded g c room o done s now all.recorded has time)
-
-pub returns-in-Err-Failed-clause-evented : goal.returns-in-Err-Failed-clause-evented
-returns-in-Err-Failed-clause-evented g c = λ room o done s now all has time. in-evented_cut o done s c.cut.new.self (lost g c) (dev1 g (reading g c)) 0 (evented_cut g c o done s now has all)
-
--- ---- AND THE RINGS
-
-pub returns-in-Ok-clause-ringed : goal.returns-in-Ok-clause-ringed
-returns-in-Ok-clause-ringed g c = λ room o done s now all has time. c.found.ensures.ringed room o done s now (ringed g (goal.at.returns-in-Ok-clause-ringed g c).After-open_unit o done has all) has time
-
-pub returns-in-Err-BadUnit-clause-ringed : goal.returns-in-Err-BadUnit-clause-ringed
-returns-in-Err-BadUnit-clause-ringed g c = λ room o done s now all has time. absurd (returns-in-Err-BadUnit-clause-recorded g c room o done s now all.evented.recorded has time)
-
-pub returns-in-Err-Failed-clause-ringed : goal.returns-in-Err-Failed-clause-ringed
-returns-in-Err-Failed-clause-ringed g c = λ room o done s now all has time. ringed_cut g c o done s now has all
-
--- ---- AND THE EVENTS ON THE CARDS
-
-pub returns-in-Ok-clause-cards : goal.returns-in-Ok-clause-cards
-returns-in-Ok-clause-cards g c = λ room o done s now all has time.
-    let at = (goal.at.returns-in-Ok-clause-cards g c).After-open_unit in
-    c.found.ensures.cards room o done s now (record { ringed = ringed g at o done has all.ringed; vehicle = all.vehicle; cards = shown g at o done all.cards; speeds = speeds g at o done all.speeds }) has time
-
-pub returns-in-Err-BadUnit-clause-cards : goal.returns-in-Err-BadUnit-clause-cards
-returns-in-Err-BadUnit-clause-cards g c = λ room o done s now all has time. absurd (returns-in-Err-BadUnit-clause-recorded g c room o done s now all.ringed.evented.recorded has time)
-
-pub returns-in-Err-Failed-clause-cards : goal.returns-in-Err-Failed-clause-cards
-returns-in-Err-Failed-clause-cards g c = λ room o done s now all has time.
-    let at = reading g c in
-    let rec = all.ringed.evented.recorded in
-    let low = c.requires.going.low in
-    let number = now.number in
-    let positive : 0 < s.number = omega (arith, low, number) in
-    let cut_shown = unpowered-cards o done s (progress (values_of (run g at) (out g at)) rec.supply rec.recorded.book) rec.recorded.recorded.followed (comes g c o done s now has rec) now.number now.given positive (dev1 g at) (shown g at o done all.cards) in
-    let is_log : with_cut (log_of (out g at)) s [] ≡ log_of (lost g c) = ap (λ (u : ℕ). and_break (log_of (out g at)) (cut_at u true 0)) now.number ∙ sym (ap log_of (line g c)) in
-    in-carded_cut o done s c.cut.new.self (lost g c) (dev1 g at) 0 (record {
-      ringed = ringed-cut o done s c.cut.new.self (lost g c) (dev1 g at) 0 (ap (λ (q : Run). is_lit q.power) c.cut.ensures.run) (ringed_cut g c o done s now has all.ringed);
-      vehicle = ap (λ (q : Run). q.keeper.memory.registration) c.cut.ensures.run ∙ all.vehicle;
-      cards = subst (λ (l : RunLog). CardsBehind o (done ++ s ∷ []) l (dev1 g at)) is_log cut_shown;
-    })
-
 -- ---- what is noted
 
 pub returns-in-Ok-clause-noted : goal.returns-in-Ok-clause-noted
@@ -300,43 +242,102 @@ returns-in-Err-Failed-clause-noted g c = inr (record {
   notes = read-noted (g.M.Medium.state c.args.unit.now) (g.M.Medium.state c.open_unit.new.unit) (g.C.Chip.state c.args.card_a.now) (g.D.Chip.state c.args.card_b.now) c.open_unit.ensures.leaves true;
 })
 
--- ---- what holds of the devices after any calls
-
-pub returns-in-Ok-clause-later : goal.returns-in-Ok-clause-later
-returns-in-Ok-clause-later g c =
-    let at = (goal.at.returns-in-Ok-clause-later g c).After-open_unit in
-    later-then (dev0 g at) (dev1 g at) (devices (g.M.Medium.state c.found.new.unit) (g.C.Chip.state c.found.new.card_a) (g.D.Chip.state c.found.new.card_b)) (later g at) c.found.ensures.later
-
-pub returns-in-Err-BadUnit-clause-later : goal.returns-in-Err-BadUnit-clause-later
-returns-in-Err-BadUnit-clause-later g c = later g (goal.at.returns-in-Err-BadUnit-clause-later g c).After-open_unit
-
-pub returns-in-Err-Failed-clause-later : goal.returns-in-Err-Failed-clause-later
-returns-in-Err-Failed-clause-later g c = later g (reading g c)
-
--- ---- how often the unit broke down
-
-pub returns-in-Ok-clause-broke : goal.returns-in-Ok-clause-broke
-returns-in-Ok-clause-broke g c = broke-then (broke-none c.args.outcome.now.breaks.items {old = (g.M.Medium.state c.args.unit.now)} {new = (g.M.Medium.state c.open_unit.new.unit)} (c.in-Ok.ensures.cause.unbroken refl)) c.found.ensures.broke
-
-pub returns-in-Err-BadUnit-clause-broke : goal.returns-in-Err-BadUnit-clause-broke
-returns-in-Err-BadUnit-clause-broke g c =
-    let cause = rw c.in-Err-BadUnit.field-0-is at c.in-Err-BadUnit.ensures.cause in
-    broke-none c.args.outcome.now.breaks.items {old = (g.M.Medium.state c.args.unit.now)} {new = (g.M.Medium.state c.open_unit.new.unit)} (cause.unbroken refl)
-
-pub returns-in-Err-Failed-clause-broke : goal.returns-in-Err-Failed-clause-broke
-returns-in-Err-Failed-clause-broke g c =
-    let rose = rw c.in-Err-Failed.field-0-is at c.in-Err-Failed.ensures.broke in
-    broke-once _ _ (ap (λ (l : Listed Break). l.items) c.cut.ensures.breaks) rose
-
 -- ---- where no tear of a failed call is told no card has broken down
 
-pub returns-in-Ok-clause-calm : goal.returns-in-Ok-clause-calm
-returns-in-Ok-clause-calm g c =
-    let at = (goal.at.returns-in-Ok-clause-calm g c).After-open_unit in
-    calm-then (dev0 g at) (dev1 g at) (devices (g.M.Medium.state c.found.new.unit) (g.C.Chip.state c.found.new.card_a) (g.D.Chip.state c.found.new.card_b)) (calm g at) c.found.ensures.calm
+pub returns-in-Ok-clause-woken : goal.returns-in-Ok-clause-woken
+returns-in-Ok-clause-woken g c = record {
+  late = c.found.ensures.woken.late;
+  next = c.found.ensures.woken.next;
+  awake = c.found.ensures.woken.awake;
+  unfound = c.found.ensures.woken.unfound;
+  refused = c.found.ensures.woken.refused;
+}
 
-pub returns-in-Err-BadUnit-clause-calm : goal.returns-in-Err-BadUnit-clause-calm
-returns-in-Err-BadUnit-clause-calm g c = calm g (goal.at.returns-in-Err-BadUnit-clause-calm g c).After-open_unit
+pub returns-in-Ok-clause-promises : goal.returns-in-Ok-clause-promises
+returns-in-Ok-clause-promises g c = record {
+  recorded = λ room o done s now rec has time. c.found.ensures.promises.recorded room o done s now (recorded g (goal.at.returns-in-Ok-clause-promises g c).After-open_unit o done has rec) has time;
+  evented = λ room o done s now all has time. c.found.ensures.promises.evented room o done s now (evented g (goal.at.returns-in-Ok-clause-promises g c).After-open_unit o done has all) has time;
+  ringed = λ room o done s now all has time. c.found.ensures.promises.ringed room o done s now (ringed g (goal.at.returns-in-Ok-clause-promises g c).After-open_unit o done has all) has time;
+  cards =
+      λ room o done s now all has time.
+      let at = (goal.at.returns-in-Ok-clause-promises g c).After-open_unit in
+      c.found.ensures.promises.cards room o done s now (record { ringed = ringed g at o done has all.ringed; vehicle = all.vehicle; cards = shown g at o done all.cards; speeds = speeds g at o done all.speeds }) has time;
+}
 
-pub returns-in-Err-Failed-clause-calm : goal.returns-in-Err-Failed-clause-calm
-returns-in-Err-Failed-clause-calm g c = calm-more (dev0 g (reading g c)) (dev1 g (reading g c)) _ (calm g (reading g c)) (ap (λ (l : Listed Break). l.items) c.cut.ensures.breaks) refl
+pub returns-in-Ok-clause-goes : goal.returns-in-Ok-clause-goes
+returns-in-Ok-clause-goes g c = record {
+  later =
+      let at = (goal.at.returns-in-Ok-clause-goes g c).After-open_unit in
+      later-then (dev0 g at) (dev1 g at) (devices (g.M.Medium.state c.found.new.unit) (g.C.Chip.state c.found.new.card_a) (g.D.Chip.state c.found.new.card_b)) (later g at) c.found.ensures.goes.later;
+  calm =
+      let at = (goal.at.returns-in-Ok-clause-goes g c).After-open_unit in
+      calm-then (dev0 g at) (dev1 g at) (devices (g.M.Medium.state c.found.new.unit) (g.C.Chip.state c.found.new.card_a) (g.D.Chip.state c.found.new.card_b)) (calm g at) c.found.ensures.goes.calm;
+  broke = broke-then (broke-none c.args.outcome.now.breaks.items {old = (g.M.Medium.state c.args.unit.now)} {new = (g.M.Medium.state c.open_unit.new.unit)} (c.in-Ok.ensures.cause.unbroken refl)) c.found.ensures.goes.broke;
+}
+
+pub returns-in-Err-BadUnit-clause-woken : goal.returns-in-Err-BadUnit-clause-woken
+returns-in-Err-BadUnit-clause-woken g c = record {
+  late = tt;
+  next = refl;
+  awake = tt;
+  unfound = tt;
+  refused = refl;
+}
+
+pub returns-in-Err-BadUnit-clause-promises : goal.returns-in-Err-BadUnit-clause-promises
+returns-in-Err-BadUnit-clause-promises g c = record {
+  recorded =
+      λ room o done s now rec has time.
+      absurd (never-bad g (goal.at.returns-in-Err-BadUnit-clause-promises g c).After-open_unit o done has rec c.in-Err-BadUnit.place (rw c.in-Err-BadUnit.field-0-is at c.in-Err-BadUnit.ensures.bad));
+  evented = λ room o done s now all has time. absurd (never-bad g (goal.at.returns-in-Err-BadUnit-clause-promises g c).After-open_unit o done has all.recorded c.in-Err-BadUnit.place (rw c.in-Err-BadUnit.field-0-is at c.in-Err-BadUnit.ensures.bad));
+  ringed = λ room o done s now all has time. absurd (never-bad g (goal.at.returns-in-Err-BadUnit-clause-promises g c).After-open_unit o done has all.evented.recorded c.in-Err-BadUnit.place (rw c.in-Err-BadUnit.field-0-is at c.in-Err-BadUnit.ensures.bad));
+  cards = λ room o done s now all has time. absurd (never-bad g (goal.at.returns-in-Err-BadUnit-clause-promises g c).After-open_unit o done has all.ringed.evented.recorded c.in-Err-BadUnit.place (rw c.in-Err-BadUnit.field-0-is at c.in-Err-BadUnit.ensures.bad));
+}
+
+pub returns-in-Err-BadUnit-clause-goes : goal.returns-in-Err-BadUnit-clause-goes
+returns-in-Err-BadUnit-clause-goes g c = record {
+  later = later g (goal.at.returns-in-Err-BadUnit-clause-goes g c).After-open_unit;
+  calm = calm g (goal.at.returns-in-Err-BadUnit-clause-goes g c).After-open_unit;
+  broke =
+      let cause = rw c.in-Err-BadUnit.field-0-is at c.in-Err-BadUnit.ensures.cause in
+      broke-none c.args.outcome.now.breaks.items {old = (g.M.Medium.state c.args.unit.now)} {new = (g.M.Medium.state c.open_unit.new.unit)} (cause.unbroken refl);
+}
+
+pub returns-in-Err-Failed-clause-woken : goal.returns-in-Err-Failed-clause-woken
+returns-in-Err-Failed-clause-woken g c = record {
+  late = tt;
+  next = ap (λ (r : Run). r.next) c.cut.ensures.run;
+  awake = inr (ap (λ (r : Run). r.power) c.cut.ensures.run);
+  unfound = first_of (search rules, grind (arith, common_steps));
+  refused = refl;
+}
+
+pub returns-in-Err-Failed-clause-promises : goal.returns-in-Err-Failed-clause-promises
+returns-in-Err-Failed-clause-promises g c = record {
+  recorded = λ room o done s now rec has time. cut-in o done s c.cut.new.self (lost g c) (dev1 g (reading g c)) 0 (recorded_cut g c o done s now has rec);
+  evented = λ room o done s now all has time. in-evented_cut o done s c.cut.new.self (lost g c) (dev1 g (reading g c)) 0 (evented_cut g c o done s now has all);
+  ringed = λ room o done s now all has time. ringed_cut g c o done s now has all;
+  cards =
+      λ room o done s now all has time.
+      let at = reading g c in
+      let rec = all.ringed.evented.recorded in
+      let low = c.requires.going.low in
+      let number = now.number in
+      let positive : 0 < s.number = omega (arith, low, number) in
+      let cut_shown = unpowered-cards o done s (progress (values_of (run g at) (out g at)) rec.supply rec.recorded.book) rec.recorded.recorded.followed (comes g c o done s now has rec) now.number now.given positive (dev1 g at) (shown g at o done all.cards) in
+      let is_log : with_cut (log_of (out g at)) s [] ≡ log_of (lost g c) = ap (λ (u : ℕ). and_break (log_of (out g at)) (cut_at u true 0)) now.number ∙ sym (ap log_of (line g c)) in
+      in-carded_cut o done s c.cut.new.self (lost g c) (dev1 g at) 0 (record {
+        ringed = ringed-cut o done s c.cut.new.self (lost g c) (dev1 g at) 0 (ap (λ (q : Run). is_lit q.power) c.cut.ensures.run) (ringed_cut g c o done s now has all.ringed);
+        vehicle = ap (λ (q : Run). q.keeper.memory.registration) c.cut.ensures.run ∙ all.vehicle;
+        cards = subst (λ (l : RunLog). CardsBehind o (done ++ s ∷ []) l (dev1 g at)) is_log cut_shown;
+      });
+}
+
+pub returns-in-Err-Failed-clause-goes : goal.returns-in-Err-Failed-clause-goes
+returns-in-Err-Failed-clause-goes g c = record {
+  later = later g (reading g c);
+  calm = calm-more (dev0 g (reading g c)) (dev1 g (reading g c)) _ (calm g (reading g c)) (ap (λ (l : Listed Break). l.items) c.cut.ensures.breaks) refl;
+  broke =
+      let rose = rw c.in-Err-Failed.field-0-is at c.in-Err-Failed.ensures.broke in
+      broke-once _ _ (ap (λ (l : Listed Break). l.items) c.cut.ensures.breaks) rose;
+}

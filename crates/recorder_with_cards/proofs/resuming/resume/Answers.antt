@@ -1,7 +1,11 @@
+use Rattle.std.proofs.lemmas.Grind.{common_steps}
 use Rattle.std.proofs.Common.{rules, ◌≡◌, ◌∙◌, ℕ, ◌+◌, ◌/◌, ◌<◌, ◌^◌, suc, Bool, true, false, Option, None, option_map, List, [], ◌∷◌, ◌++◌, length, refl, ap, sym, subst, arith, ◌≤◌, ◌*◌}
 use Rattle.std.specs.Prelude.{is_err, IfSome}
 use Rattle.tach_media.specs.Medium.{HasCause, State}
-use Rattle.tach_media.proofs.Runs.{on_ok, ok_gives, cause_after}
+use Rattle.tach_media.proofs.Runs.{on_ok, ok_gives, cause_after, from_told}
+use Rattle.gated_ring.specs.Ring.{PointsInside}
+use Rattle.message_model.specs.Records.{speed_ring}
+use Rattle.unit_model.specs.Decoding.{Decodes}
 use Rattle.activity_codec.specs.declared.values.Slot.TheVariants.{Driver, CoDriver}
 use Rattle.unit_minutes.specs.Image.{Agrees}
 use Rattle.unit_minutes.specs.declared.notes.Notes.{Notes}
@@ -14,6 +18,9 @@ use Rattle.run_acts.specs.Going.{CanBeCut, RunHasPowerAllSeated}
 use Rattle.run_acts.specs.Room.{falls_of, bare_count, waiting, Takes, bare_seats}
 use Rattle.run_acts.proofs.Standing.{span-lit, span-held}
 use Rattle.recorder_with_cards.specs.Accepting.{IsBare}
+use Rattle.recorder_with_cards.proofs.SideShown.{speeds-inside}
+use Rattle.run_events.specs.Blocks.{KnowsNewest}
+use Rattle.run_events.proofs.Newest.{knows-left}
 use Rattle.recorder_with_cards.proofs.Begun.{begun-none, dark-bare}
 use Rattle.run_outcome.specs.declared.outcome.Outcome.{Outcome}
 use Rattle.recorder_with_cards.proofs.Taken.{takes-then, takes-breaks, awake-takes, takes-nothing, anew-more}
@@ -84,7 +91,7 @@ use Rattle.run_minutes.specs.Books.{HaveTime}
 use Rattle.run_minutes.specs.Later.{AreLater, AreCalm}
 use Rattle.run_outcome.specs.Broken.{failed_cuts}
 use Rattle.run_outcome.specs.declared.outcome.TheConstants.{MOST_OWED}
-use Rattle.run_promise.specs.Origin.{Origin, rule_of, start_at, first_of}
+use Rattle.run_promise.specs.Origin.{Origin, rule_of, start_at, first_of as first_second_of}
 use Rattle.run_promise.specs.Beside.{HaveLeftMore}
 use Rattle.run_record.specs.Powering.{read_values}
 use Rattle.run_acts.specs.Stays.{AllStay}
@@ -211,6 +218,13 @@ module _ (g : Over) (c : After-moment-at g) where
   later = later-of-unit (g.M.Medium.state c.args.unit.now) (g.M.Medium.state c.mend.new.unit) (g.C.Chip.state c.args.card_a.now) (g.D.Chip.state c.args.card_b.now) (state-by (g.M.Medium.state c.args.unit.now) (g.M.Medium.state c.mend.new.unit) _ c.mend.ensures.clock c.mend.ensures.cause)
       (mending-leaves c.args.journal (g.M.Medium.state c.args.unit.now) (g.M.Medium.state c.mend.new.unit) (g.met.M.Medium.coherent c.args.unit.now) c.mend.ensures.moments)
 
+  -- no block is added yet: the pointer is an index, as in each image that decodes
+  newest : KnowsNewest None (g.M.Medium.state c.mend.new.unit)
+  newest =
+      let loaded = c.requires.loaded in
+      knows-left None (g.M.Medium.state c.args.unit.now) (g.M.Medium.state c.mend.new.unit) (g.met.M.Medium.coherent c.args.unit.now) (g.met.M.Medium.coherent c.mend.new.unit) loaded.works later.speeds
+      (from_told (g.M.Medium.state c.args.unit.now).image Decodes (PointsInside speed_ring) loaded.decodes (λ x is decodes. speeds-inside x decodes))
+
   calm : AreCalm out.breaks.items out.breaks.items dev0 mended
   calm = calm-of-unit (g.M.Medium.state c.args.unit.now) (g.M.Medium.state c.mend.new.unit) (g.C.Chip.state c.args.card_a.now) (g.D.Chip.state c.args.card_b.now)
 
@@ -258,7 +272,7 @@ module _ (g : Over) (c : After-moment-at g) where
     began_log : woke.0.run.log ≡ log_of out
     began_log = ap (λ (q : Progress). q.log) is.0 ∙ sym log_is
 
-    woken : WithEvents p → WakesEvented p.o p.done p.s woke.0 (waiting_in Driver first_card ++ others) both_slots mid out mended × ComesInTurn Driver (log_of out) p.s.number × BookFollowsRun (rule_of p.o) (start_at p.o) p.o.from (first_of p.o) p.done (found_again c.args.journal.kept (progress p.v p.supply p.r.book))
+    woken : WithEvents p → WakesEvented p.o p.done p.s woke.0 (waiting_in Driver first_card ++ others) both_slots mid out mended × ComesInTurn Driver (log_of out) p.s.number × BookFollowsRun (rule_of p.o) (start_at p.o) p.o.from (first_second_of p.o) p.done (found_again c.args.journal.kept (progress p.v p.supply p.r.book))
     woken e = wakes-evented p.o p.done p.s p.supply p.v dev0 mended p.r p.may p.number p.given c.args.journal.kept e.evented quiet woke.0 (waiting_in Driver first_card ++ others) mid out woke.1 is log_is
 
     -- of the rings
@@ -319,16 +333,16 @@ module _ (g : Over) (c : After-accept_anew g) where
   still nobody_sits P = same-devices P g.M.Medium.state g.C.Chip.state g.D.Chip.state c.mend.new.unit c.accept_anew.new.unit c.args.card_a.now c.accept_anew.new.card_a c.args.card_b.now c.accept_anew.new.card_b (c.accept_anew.ensures.still nobody_sits)
 
   same-one : (one.keeper.memory ≡ (mid g span).keeper.memory) × (one.watch ≡ (mid g span).watch)
-  same-one = anew-limit (first_card g span) Driver c.moment-at.result c.args.speed (mid g span) one (out g span) out1 c.accept_anew.ensures.accepted
+  same-one = anew-limit (first_card g span) Driver c.moment-at.result c.args.speed (mid g span) one (out g span) out1 c.accept_anew.ensures.accepted.enters
 
   power-one : one.power ≡ Lit
-  power-one = ap (λ (r : Run). r.power) c.accept_anew.ensures.only ∙ c.begin_span.ensures.begun.power
+  power-one = ap (λ (r : Run). r.power) c.accept_anew.ensures.accepted.run ∙ c.begin_span.ensures.begun.power
 
   unfound-one : one.unfound ≡ (mid g span).unfound
-  unfound-one = ap (λ (r : Run). r.unfound) c.accept_anew.ensures.only
+  unfound-one = ap (λ (r : Run). r.unfound) c.accept_anew.ensures.accepted.run
 
   next-one : one.next ≡ (mid g span).next
-  next-one = ap (λ (r : Run). r.next) c.accept_anew.ensures.only
+  next-one = ap (λ (r : Run). r.next) c.accept_anew.ensures.accepted.run
 
   vehicle-one : (o : Origin) → (run g span).keeper.memory.registration ≡ vehicle_in o → ((mid g span).keeper.memory.registration ≡ vehicle_in o) × (one.keeper.memory.registration ≡ vehicle_in o)
   vehicle-one o vehicle =
@@ -336,13 +350,13 @@ module _ (g : Over) (c : After-accept_anew g) where
       (begun, ap (λ (m : UnitFacts). m.registration) same-one.0 ∙ begun)
 
   noted-one : (vs : List UnitEvent) × JudgesDriver c.args.speed (mid g span) one (out g span) out1 vs × NotesEvents vs (is_err c.accept_anew.result) (dev0 g span) dev1
-  noted-one = driver-these c.moment-at.result c.args.speed (is_err c.accept_anew.result) (mid g span) one (out g span) out1 (dev0 g span) (mended g span) dev1 c.moment-at.ensures (noted g span) c.accept_anew.ensures.noted
+  noted-one = driver-these c.moment-at.result c.args.speed (is_err c.accept_anew.result) (mid g span) one (out g span) out1 (dev0 g span) (mended g span) dev1 c.moment-at.ensures (noted g span) c.accept_anew.ensures.leaves.noted
 
   later-one : AreLater (dev0 g span) dev1
-  later-one = later-then (dev0 g span) (mended g span) dev1 (later g span) c.accept_anew.ensures.later
+  later-one = later-then (dev0 g span) (mended g span) dev1 (later g span) c.accept_anew.ensures.goes.later
 
   calm-one : AreCalm (out g span).breaks.items out1.breaks.items (dev0 g span) dev1
-  calm-one = calm-then (dev0 g span) (mended g span) dev1 (calm g span) c.accept_anew.ensures.calm
+  calm-one = calm-then (dev0 g span) (mended g span) dev1 (calm g span) c.accept_anew.ensures.goes.calm
 
   module _ (p : Premises g span) (time : HaveTime dev1) where
     room-one : length (out g span).marks.items + MOST_OWED * bare_count (mid g span).keeper.cabin.slots.seats.driver ≤ (out g span).marks.room
@@ -351,12 +365,12 @@ module _ (g : Over) (c : After-accept_anew g) where
     first : (is_err c.accept_anew.result ≡ false → RunWaking p.o p.done p.s (woke g span p).0 (others g span) (CoDriver ∷ []) one out1 dev1) × (is_err c.accept_anew.result ≡ true → GoesOnOrCut true p.o p.done p.s (In 0) [] one out1 dev1)
     first =
         driver-judged p.o p.done p.s (woke g span p).0 (first_card g span) (others g span) (mid g span) (out g span) (mended g span) (woke g span p).1 (at-once CoDriver (card_in (mid g span).keeper.cabin.slots.seats.codriver)) refl (bare g span)
-        c.moment-at.result (now g span p) c.args.speed (is_err c.accept_anew.result) one out1 c.accept_anew.ensures.accepted dev1 still time (c.accept_anew.ensures.recorded room-one)
+        c.moment-at.result (now g span p) c.args.speed (is_err c.accept_anew.result) one out1 c.accept_anew.ensures.accepted.enters dev1 still time (c.accept_anew.ensures.promises.recorded room-one)
 
     evented-one : WithEvents g span p → EventsGoOn (is_err c.accept_anew.result) p.o p.done p.s (woke g span p).0.run (In 0) Waking (log_of out1) dev1
     evented-one e =
         driver-evented p.o p.done p.s (woke g span p).0 (first_card g span) (others g span) (mid g span) (out g span) (mended g span) (woken g span p e).0 (woken g span p e).1 (at-once CoDriver (card_in (mid g span).keeper.cabin.slots.seats.codriver)) refl (bare g span)
-        c.moment-at.result (now g span p) c.args.speed e.speed_is (is_err c.accept_anew.result) one out1 c.accept_anew.ensures.accepted dev1 still time (c.accept_anew.ensures.recorded room-one) (c.accept_anew.ensures.evented room-one)
+        c.moment-at.result (now g span p) c.args.speed e.speed_is (is_err c.accept_anew.result) one out1 c.accept_anew.ensures.accepted.enters dev1 still time (c.accept_anew.ensures.promises.recorded room-one) (c.accept_anew.ensures.promises.evented room-one)
 
     limit-one : WithEvents g span p → one.keeper.memory.limit ≡ limit_in p.o
     limit-one e = ap (λ (m : UnitFacts). m.limit) (same-one.0 ∙ ap (λ (k : Keeper). k.memory) c.begin_span.ensures.begun.keeper) ∙ e.limit
@@ -370,12 +384,12 @@ module _ (g : Over) (c : After-accept_anew g) where
     ringed-one : (q : WithRings g span p) → RingsGoOn (is_err c.accept_anew.result) p.o p.done p.s (woke g span p).0 [] one (log_of out1) q.spans (told g span p q) dev1
     ringed-one q =
         driver-ringed p.o p.done p.s (woke g span p).0 (first_card g span) (others g span) (mid g span) (out g span) (mended g span) q.spans (told g span p q) (starts g span p q) ((woke g span p).1.waking.none CoDriver (in-both CoDriver))
-        (at-once CoDriver (card_in (mid g span).keeper.cabin.slots.seats.codriver)) refl (bare g span) c.moment-at.result (now g span p) c.args.speed (is_err c.accept_anew.result) one out1 c.accept_anew.ensures.accepted dev1 still time (c.accept_anew.ensures.recorded room-one) (c.accept_anew.ensures.ringed room-one)
+        (at-once CoDriver (card_in (mid g span).keeper.cabin.slots.seats.codriver)) refl (bare g span) c.moment-at.result (now g span p) c.args.speed (is_err c.accept_anew.result) one out1 c.accept_anew.ensures.accepted.enters dev1 still time (c.accept_anew.ensures.promises.recorded room-one) (c.accept_anew.ensures.promises.ringed room-one)
 
     cards-one : p.s.speed ≡ c.args.speed → (run g span).keeper.memory.registration ≡ vehicle_in p.o → CardsBehind p.o p.done (log_of (out g span)) (dev0 g span) → WakesOn (is_err c.accept_anew.result) p.o p.done p.s (woke g span p).0.run.log (log_of out1) dev1
     cards-one speed_is vehicle shown =
         driver-woken p.o p.done p.s (woke g span p).0 (first_card g span) (others g span) (mid g span) (out g span) (mended g span) (woke g span p).1 (at-once CoDriver (card_in (mid g span).keeper.cabin.slots.seats.codriver)) refl (bare g span) (positive g span p) (vehicle-one p.o vehicle).0
-        (cards-begun g span p shown) c.moment-at.result (now g span p) c.args.speed speed_is (is_err c.accept_anew.result) one out1 c.accept_anew.ensures.accepted dev1 still time (c.accept_anew.ensures.recorded room-one) (c.accept_anew.ensures.cards room-one)
+        (cards-begun g span p shown) c.moment-at.result (now g span p) c.args.speed speed_is (is_err c.accept_anew.result) one out1 c.accept_anew.ensures.accepted.enters dev1 still time (c.accept_anew.ensures.promises.recorded room-one) (c.accept_anew.ensures.promises.cards room-one)
 
 -- ---- and that in the co-driver slot
 
@@ -402,7 +416,7 @@ module _ (g : Over) (c : After-accept_anew-2 g) where
   well = search rules
 
   beside : (one g driver).keeper.cabin.slots.seats.codriver ≡ (mid g start).keeper.cabin.slots.seats.codriver
-  beside = c.accept_anew.ensures.beside
+  beside = c.accept_anew.ensures.accepted.beside
 
   bare-two : IsBare (one g driver).keeper.cabin.slots.seats.codriver
   bare-two = subst IsBare (sym beside) (bare_too g start)
@@ -414,13 +428,13 @@ module _ (g : Over) (c : After-accept_anew-2 g) where
   still-two nobody_sits P = same-devices P g.M.Medium.state g.C.Chip.state g.D.Chip.state c.accept_anew.new.unit c.accept_anew-2.new.unit c.accept_anew.new.card_a c.accept_anew-2.new.card_a c.accept_anew.new.card_b c.accept_anew-2.new.card_b (c.accept_anew-2.ensures.still nobody_sits)
 
   same-two : (two.keeper.memory ≡ (one g driver).keeper.memory) × (two.watch ≡ (one g driver).watch)
-  same-two = anew-limit second_card CoDriver c.moment-at.result c.args.speed (one g driver) two (out1 g driver) out2 c.accept_anew-2.ensures.accepted
+  same-two = anew-limit second_card CoDriver c.moment-at.result c.args.speed (one g driver) two (out1 g driver) out2 c.accept_anew-2.ensures.accepted.enters
 
   power-two : two.power ≡ Lit
-  power-two = ap (λ (r : Run). r.power) c.accept_anew-2.ensures.only ∙ power-one g driver
+  power-two = ap (λ (r : Run). r.power) c.accept_anew-2.ensures.accepted.run ∙ power-one g driver
 
   unfound-two : two.unfound ≡ (mid g start).unfound
-  unfound-two = ap (λ (r : Run). r.unfound) c.accept_anew-2.ensures.only ∙ unfound-one g driver
+  unfound-two = ap (λ (r : Run). r.unfound) c.accept_anew-2.ensures.accepted.run ∙ unfound-one g driver
 
   vehicle-two : (o : Origin) → (run g start).keeper.memory.registration ≡ vehicle_in o → two.keeper.memory.registration ≡ vehicle_in o
   vehicle-two o vehicle = ap (λ (m : UnitFacts). m.registration) same-two.0 ∙ (vehicle-one g driver o vehicle).1
@@ -437,28 +451,28 @@ module _ (g : Over) (c : After-accept_anew-2 g) where
 
   more-two : length (out g start).breaks.items ≤ length out2.breaks.items
   more-two =
-      let first_more = anew-more (first_card g start) Driver c.moment-at.result c.args.speed (mid g start) (one g driver) (out g start) (out1 g driver) c.accept_anew.ensures.accepted in
-      let second_more = anew-more second_card CoDriver c.moment-at.result c.args.speed (one g driver) two (out1 g driver) out2 c.accept_anew-2.ensures.accepted in
+      let first_more = anew-more (first_card g start) Driver c.moment-at.result c.args.speed (mid g start) (one g driver) (out g start) (out1 g driver) c.accept_anew.ensures.accepted.enters in
+      let second_more = anew-more second_card CoDriver c.moment-at.result c.args.speed (one g driver) two (out1 g driver) out2 c.accept_anew-2.ensures.accepted.enters in
       omega (arith, first_more, second_more)
 
   noted-two : (ws : List UnitEvent) × JudgesBoth c.args.speed (mid g start) two (out g start) out2 ws × NotesEvents ws (is_err c.accept_anew-2.result) (dev0 g start) dev2
   noted-two =
       let these = noted-one g driver in
       both-these c.moment-at.result c.args.speed (is_err c.accept_anew-2.result) (mid g start) (one g driver) two (out g start) (out1 g driver) out2 (dev0 g start) (dev1 g driver) dev2 c.moment-at.ensures these.0 these.1
-      (subst (λ (f : Bool). NotesEvents these.0 f (dev0 g start) (dev1 g driver)) well these.2) c.accept_anew-2.ensures.noted
+      (subst (λ (f : Bool). NotesEvents these.0 f (dev0 g start) (dev1 g driver)) well these.2) c.accept_anew-2.ensures.leaves.noted
 
   later-two : AreLater (dev0 g start) dev2
-  later-two = later-then (dev0 g start) (dev1 g driver) dev2 (later-one g driver) c.accept_anew-2.ensures.later
+  later-two = later-then (dev0 g start) (dev1 g driver) dev2 (later-one g driver) c.accept_anew-2.ensures.goes.later
 
   calm-two : AreCalm (out g start).breaks.items out2.breaks.items (dev0 g start) dev2
-  calm-two = calm-then (dev0 g start) (dev1 g driver) dev2 (calm-one g driver) c.accept_anew-2.ensures.calm
+  calm-two = calm-then (dev0 g start) (dev1 g driver) dev2 (calm-one g driver) c.accept_anew-2.ensures.goes.calm
 
   uncut-two : failed_cuts out2.breaks.items ≡ failed_cuts (out g start).breaks.items
-  uncut-two = anew-uncut _ _ _ _ _ _ _ _ c.accept_anew-2.ensures.accepted ∙ anew-uncut _ _ _ _ _ _ _ _ c.accept_anew.ensures.accepted
+  uncut-two = anew-uncut _ _ _ _ _ _ _ _ c.accept_anew-2.ensures.accepted.enters ∙ anew-uncut _ _ _ _ _ _ _ _ c.accept_anew.ensures.accepted.enters
 
   module _ (p : Premises g start) (time : HaveTime dev2) where
     time-one : HaveTime (dev1 g driver)
-    time-one = time-before (dev1 g driver) dev2 c.accept_anew-2.ensures.clock c.accept_anew-2.ensures.clock_a c.accept_anew-2.ensures.clock_b time
+    time-one = time-before (dev1 g driver) dev2 c.accept_anew-2.ensures.goes.later.unit.clock c.accept_anew-2.ensures.goes.later.card_a.clock c.accept_anew-2.ensures.goes.later.card_b.clock time
 
     room-two : length (out1 g driver).marks.items + MOST_OWED * bare_count (one g driver).keeper.cabin.slots.seats.codriver ≤ (out1 g driver).marks.room
     room-two =
@@ -476,14 +490,14 @@ module _ (g : Over) (c : After-accept_anew-2 g) where
 
     second : GoesOnOrCut (is_err c.accept_anew-2.result) p.o p.done p.s (In 0) [] two out2 dev2
     second =
-        codriver-judged p.o p.done p.s (woke g start p).0 second_card (one g driver) (out1 g driver) (dev1 g driver) waking refl bare-two c.moment-at.result (now g start p) c.args.speed (is_err c.accept_anew-2.result) two out2 c.accept_anew-2.ensures.accepted dev2 still-two time
-        (c.accept_anew-2.ensures.recorded room-two)
+        codriver-judged p.o p.done p.s (woke g start p).0 second_card (one g driver) (out1 g driver) (dev1 g driver) waking refl bare-two c.moment-at.result (now g start p) c.args.speed (is_err c.accept_anew-2.result) two out2 c.accept_anew-2.ensures.accepted.enters dev2 still-two time
+        (c.accept_anew-2.ensures.promises.recorded room-two)
 
     -- nobody waits any more
     goes-on : is_err c.accept_anew-2.result ≡ false → RunWaking p.o p.done p.s (woke g start p).0 [] [] two out2 dev2
     goes-on fine =
-        codriver-on p.o p.done p.s (woke g start p).0 second_card (one g driver) (out1 g driver) (dev1 g driver) waking refl bare-two c.moment-at.result (now g start p) c.args.speed (is_err c.accept_anew-2.result) two out2 c.accept_anew-2.ensures.accepted dev2 still-two time
-        (c.accept_anew-2.ensures.recorded room-two) fine
+        codriver-on p.o p.done p.s (woke g start p).0 second_card (one g driver) (out1 g driver) (dev1 g driver) waking refl bare-two c.moment-at.result (now g start p) c.args.speed (is_err c.accept_anew-2.result) two out2 c.accept_anew-2.ensures.accepted.enters dev2 still-two time
+        (c.accept_anew-2.ensures.promises.recorded room-two) fine
 
     evented-two : WithEvents g start p → EventsGoOn (is_err c.accept_anew-2.result) p.o p.done p.s (woke g start p).0.run (In 0) Waking (log_of out2) dev2
     evented-two e =
@@ -493,17 +507,17 @@ module _ (g : Over) (c : After-accept_anew-2 g) where
           empty = (woken g start p e).0.empty;
           evented = subst (λ (f : Bool). EventsGoOn f p.o p.done p.s (woke g start p).0.run (In 0) Waking (log_of (out1 g driver)) (dev1 g driver)) well (evented-one g driver p time-one e);
         } in
-        codriver-evented p.o p.done p.s (woke g start p).0 second_card (one g driver) (out1 g driver) (dev1 g driver) behind refl bare-two c.moment-at.result (now g start p) c.args.speed e.speed_is (is_err c.accept_anew-2.result) two out2 c.accept_anew-2.ensures.accepted dev2 still-two time
-        (c.accept_anew-2.ensures.recorded room-two) (c.accept_anew-2.ensures.evented room-two)
+        codriver-evented p.o p.done p.s (woke g start p).0 second_card (one g driver) (out1 g driver) (dev1 g driver) behind refl bare-two c.moment-at.result (now g start p) c.args.speed e.speed_is (is_err c.accept_anew-2.result) two out2 c.accept_anew-2.ensures.accepted.enters dev2 still-two time
+        (c.accept_anew-2.ensures.promises.recorded room-two) (c.accept_anew-2.ensures.promises.evented room-two)
 
     limit-two : WithEvents g start p → two.keeper.memory.limit ≡ limit_in p.o
     limit-two e = ap (λ (m : UnitFacts). m.limit) same-two.0 ∙ limit-one g driver p time-one e
 
     began-unfound-two : (woke g start p).0.run.unfound ≡ two.unfound
-    began-unfound-two = began-unfound g driver p time-one ∙ sym (ap (λ (r : Run). r.unfound) c.accept_anew-2.ensures.only)
+    began-unfound-two = began-unfound g driver p time-one ∙ sym (ap (λ (r : Run). r.unfound) c.accept_anew-2.ensures.accepted.run)
 
     began-next-two : (woke g start p).0.run.next ≡ two.next
-    began-next-two = began-next g driver p time-one ∙ sym (ap (λ (r : Run). r.next) c.accept_anew-2.ensures.only)
+    began-next-two = began-next g driver p time-one ∙ sym (ap (λ (r : Run). r.next) c.accept_anew-2.ensures.accepted.run)
 
     ringed-two : (q : WithRings g start p) → RingsGoOn (is_err c.accept_anew-2.result) p.o p.done p.s (woke g start p).0 [] two (log_of out2) q.spans (told g start p q) dev2
     ringed-two q =
@@ -511,8 +525,8 @@ module _ (g : Over) (c : After-accept_anew-2 g) where
           waking = waking;
           rings = subst (λ (f : Bool). RingsGoOn f p.o p.done p.s (woke g start p).0 [] (one g driver) (log_of (out1 g driver)) q.spans (told g start p q) (dev1 g driver)) well (ringed-one g driver p time-one q);
         } in
-        codriver-ringed p.o p.done p.s (woke g start p).0 second_card (one g driver) (out1 g driver) (dev1 g driver) q.spans (told g start p q) behind refl bare-two c.moment-at.result (now g start p) c.args.speed (is_err c.accept_anew-2.result) two out2 c.accept_anew-2.ensures.accepted dev2 still-two time
-        (c.accept_anew-2.ensures.recorded room-two) (c.accept_anew-2.ensures.ringed room-two)
+        codriver-ringed p.o p.done p.s (woke g start p).0 second_card (one g driver) (out1 g driver) (dev1 g driver) q.spans (told g start p q) behind refl bare-two c.moment-at.result (now g start p) c.args.speed (is_err c.accept_anew-2.result) two out2 c.accept_anew-2.ensures.accepted.enters dev2 still-two time
+        (c.accept_anew-2.ensures.promises.recorded room-two) (c.accept_anew-2.ensures.promises.ringed room-two)
 
     rings-two : (q : WithRings g start p) → RingsWoken (is_err c.accept_anew-2.result) (log_of (out g start)) p.o p.done p.s q.spans two (log_of out2) dev2
     rings-two q =
@@ -523,7 +537,7 @@ module _ (g : Over) (c : After-accept_anew-2 g) where
     cards-two speed_is vehicle shown =
         codriver-woken p.o p.done p.s (woke g start p).0 second_card (one g driver) (out1 g driver) (dev1 g driver) waking refl bare-two (positive g start p) (vehicle-one g driver p.o vehicle).1
         (subst (λ (f : Bool). WakesOn f p.o p.done p.s (woke g start p).0.run.log (log_of (out1 g driver)) (dev1 g driver)) well (cards-one g driver p time-one speed_is vehicle shown))
-        c.moment-at.result (now g start p) c.args.speed speed_is (is_err c.accept_anew-2.result) two out2 c.accept_anew-2.ensures.accepted dev2 still-two time (c.accept_anew-2.ensures.recorded room-two) (c.accept_anew-2.ensures.cards room-two)
+        c.moment-at.result (now g start p) c.args.speed speed_is (is_err c.accept_anew-2.result) two out2 c.accept_anew-2.ensures.accepted.enters dev2 still-two time (c.accept_anew-2.ensures.promises.recorded room-two) (c.accept_anew-2.ensures.promises.cards room-two)
 
     -- where all went well
     module _ (fine : is_err c.accept_anew-2.result ≡ false) where
@@ -567,10 +581,10 @@ module _ (g : Over) (c : After-accept_anew-2 g) where
 
 module _ (g : Over) (c : After-note_gap g) where
   abbrev both : After-accept_anew-2 g
-  both = (goal.at.returns-clause-more g c).After-accept_anew-2
+  both = (goal.at.returns-clause-goes g c).After-accept_anew-2
 
   abbrev begin : After-moment-at g
-  begin = (goal.at.returns-clause-more g c).After-moment-at
+  begin = (goal.at.returns-clause-goes g c).After-moment-at
 
   abbrev new : Run
   new = c.note_gap.new.run
@@ -588,22 +602,22 @@ module _ (g : Over) (c : After-note_gap g) where
   some = is-some (length (out g begin).breaks.items) (sym c.is_empty-is_first.ensures ∙ c.if-is_first.false)
 
   stays : new.keeper.memory ≡ (two g both).keeper.memory
-  stays = gap-memory (gap_of c.last_kept-kept.result (two g both).next) (now_moment (two g both)) (is_err c.note_gap.result) (two g both) new (out2 g both).breaks c.note_gap.new.breaks c.note_gap.ensures.noted.0 c.note_gap.ensures.noted.1
+  stays = gap-memory (gap_of c.last_kept-kept.result (two g both).next) (now_moment (two g both)) (is_err c.note_gap.result) (two g both) new (out2 g both).breaks c.note_gap.new.breaks c.note_gap.ensures.noted.reach.0 c.note_gap.ensures.noted.reach.1
 
   -- its events, by what was kept before
-  gap-events : AreGapEvents (gap_of c.args.journal.kept (two g both).next) (now_moment (two g both)) (is_err c.note_gap.result) (two g both) new (out2 g both).breaks c.note_gap.new.breaks c.note_gap.ensures.events.0 c.note_gap.ensures.events.1
+  gap-events : AreGapEvents (gap_of c.args.journal.kept (two g both).next) (now_moment (two g both)) (is_err c.note_gap.result) (two g both) new (out2 g both).breaks c.note_gap.new.breaks c.note_gap.ensures.leaves.events.0 c.note_gap.ensures.leaves.events.1
   gap-events =
-      subst (λ (k : ℕ). AreGapEvents (gap_of k (two g both).next) (now_moment (two g both)) (is_err c.note_gap.result) (two g both) new (out2 g both).breaks c.note_gap.new.breaks c.note_gap.ensures.events.0 c.note_gap.ensures.events.1) c.last_kept-kept.ensures.kept c.note_gap.ensures.events.2
+      subst (λ (k : ℕ). AreGapEvents (gap_of k (two g both).next) (now_moment (two g both)) (is_err c.note_gap.result) (two g both) new (out2 g both).breaks c.note_gap.new.breaks c.note_gap.ensures.leaves.events.0 c.note_gap.ensures.leaves.events.1) c.last_kept-kept.ensures.kept c.note_gap.ensures.leaves.events.2
 
   module _ (p : Premises g begin) (time : HaveTime dev3) where
     time-two : HaveTime (dev2 g both)
-    time-two = time-before (dev2 g both) dev3 c.note_gap.ensures.clock c.note_gap.ensures.clock_a c.note_gap.ensures.clock_b time
+    time-two = time-before (dev2 g both) dev3 c.note_gap.ensures.goes.later.unit.clock c.note_gap.ensures.goes.later.card_a.clock c.note_gap.ensures.goes.later.card_b.clock time
 
     abbrev here : RunWithin p.o p.done p.s (In 0) [] [] (two g both) (out2 g both) (dev2 g both)
     here = within g both p time-two fine
 
     goes : GoesOnOrFails (is_err c.note_gap.result) p.o p.done p.s (In 0) [] new out3 dev3 here.within.b
-    goes = c.note_gap.ensures.recorded p.o p.done p.s (out2 g both) here (λ first_. comes g both p time-two fine)
+    goes = c.note_gap.ensures.promises.recorded p.o p.done p.s (out2 g both) here (λ first_. comes g both p time-two fine)
 
     told-before : p.v.log.breaks ≡ [] → ⊥
     told-before = some-told p.v.unfound c.args.journal.kept p.v.log.breaks (out g begin).breaks.items (ap (λ (x : Values). x.log.breaks) p.values) some
@@ -668,7 +682,7 @@ accept_anew-requires-clause-going g c =
     let kept = ap (λ (j : Notes). j.kept) c.in_ok-mend.ensures.notes in
     let early = c.requires.later in
     subst (λ (m : ℕ). RunHasPowerAllSeated (m / 60) (mid g at) (g.M.Medium.state c.mend.new.unit) (g.C.Chip.card c.args.card_a.now) (g.D.Chip.card c.args.card_b.now) (g.C.Chip.state c.args.card_a.now) (g.D.Chip.state c.args.card_b.now)) (sym c.begin_span.ensures.begun.next)
-    (span-lit c.args.rule (run g at) (mid g at) c.mend.new.journal c.requires.dark c.requires.going c.begin_span.ensures.begun (omega (arith, kept, early)) (ready g at))
+    (span-lit c.args.rule (run g at) (mid g at) c.mend.new.journal c.requires.dark c.requires.going c.begin_span.ensures.begun (omega (arith, kept, early)) (ready g at) (newest g at))
 
 pub accept_anew-requires-clause-none : goal.accept_anew-requires-clause-none
 accept_anew-requires-clause-none g c = none g (goal.at.accept_anew-requires-clause-none g c).After-moment-at
@@ -691,10 +705,10 @@ accept_anew-requires-clause-finds g c =
 -- ---- the co-driver's slot
 
 pub accept_anew-requires-2-clause-none : goal.accept_anew-requires-2-clause-none
-accept_anew-requires-2-clause-none g c = ap (λ (r : Run). r.minutes.owing) c.accept_anew.ensures.only ∙ none g (goal.at.accept_anew-requires-2-clause-none g c).After-moment-at
+accept_anew-requires-2-clause-none g c = ap (λ (r : Run). r.minutes.owing) c.accept_anew.ensures.accepted.run ∙ none g (goal.at.accept_anew-requires-2-clause-none g c).After-moment-at
 
 pub accept_anew-requires-2-clause-bare : goal.accept_anew-requires-2-clause-bare
-accept_anew-requires-2-clause-bare g c = subst IsBare (sym c.accept_anew.ensures.beside) (bare_too g (goal.at.accept_anew-requires-2-clause-bare g c).After-moment-at)
+accept_anew-requires-2-clause-bare g c = subst IsBare (sym c.accept_anew.ensures.accepted.beside) (bare_too g (goal.at.accept_anew-requires-2-clause-bare g c).After-moment-at)
 
 pub accept_anew-requires-2-clause-breaks : goal.accept_anew-requires-2-clause-breaks
 accept_anew-requires-2-clause-breaks g c =
@@ -708,18 +722,13 @@ pub accept_anew-requires-2-clause-finds : goal.accept_anew-requires-2-clause-fin
 accept_anew-requires-2-clause-finds g c =
     let at = (goal.at.accept_anew-requires-2-clause-finds g c).After-moment-at in
     let driver_few = few g at in
-    let codriver_few = ap bare_count c.accept_anew.ensures.beside ∙ few_too g at in
+    let codriver_few = ap bare_count c.accept_anew.ensures.accepted.beside ∙ few_too g at in
     let told_so = c.accept_anew.ensures.takes.finds in
     let rooms = c.accept_anew.ensures.takes.rooms.2 in
     let room = c.requires.finds in
     omega (arith, driver_few, codriver_few, told_so, rooms, room)
 
 -- ---- what is held and taken up
-
-pub returns-in_err-mend-clause-held : goal.returns-in_err-mend-clause-held
-returns-in_err-mend-clause-held g c =
-    let h = c.requires.going.held in
-    record { is_unit = c.mend.ensures.unit; odometer = h.odometer; minute = h.minute; card_a = h.card_a; card_b = h.card_b; stand = h.stand }
 
 pub returns-in_err-mend-clause-takes : goal.returns-in_err-mend-clause-takes
 returns-in_err-mend-clause-takes g c = takes-nothing c.args.run.now c.args.outcome.now
@@ -741,83 +750,9 @@ returns-clause-takes g c =
     let cards = both g c in
     let at = begin g c in
     let some_seats : ℕ = bare_count (mid g at).keeper.cabin.slots.seats.driver + bare_count c.accept_anew.new.run.keeper.cabin.slots.seats.codriver in
-    let gap = takes-breaks (two g cards) (new g c) (out2 g cards) c.note_gap.new.breaks c.note_gap.ensures.only c.note_gap.ensures.room.0 c.note_gap.ensures.room.1 in
+    let gap = takes-breaks (two g cards) (new g c) (out2 g cards) c.note_gap.new.breaks c.note_gap.ensures.noted.run c.note_gap.ensures.noted.room.0 c.note_gap.ensures.noted.room.1 in
     let seats : some_seats ≤ bare_seats (run g at).keeper.cabin.slots.seats = seats-two g cards in
     awake-takes (some_seats + 0) (run g at) (mid g at) (new g c) (out g at) (out3 g c) (falls g at) c.begin_span.ensures.begun.power (none g at) (omega (arith, seats)) (takes-then some_seats 0 (mid g at) (two g cards) (new g c) (out g at) (out2 g cards) (out3 g c) (takes-two g cards) gap)
-
--- ---- breaks, and what failed
-
-pub returns-in_err-accept_anew-clause-more : goal.returns-in_err-accept_anew-clause-more
-returns-in_err-accept_anew-clause-more g c =
-    let at = (goal.at.returns-in_err-accept_anew-clause-more g c).After-moment-at in
-    anew-more (first_card g at) Driver c.moment-at.result c.args.speed (mid g at) c.accept_anew.new.run (out g at) c.accept_anew.new.outcome c.accept_anew.ensures.accepted
-
-pub returns-in_err-accept_anew-2-clause-more : goal.returns-in_err-accept_anew-2-clause-more
-returns-in_err-accept_anew-2-clause-more g c = more-two g (goal.at.returns-in_err-accept_anew-2-clause-more g c).After-accept_anew-2
-
-pub returns-clause-more : goal.returns-clause-more
-returns-clause-more g c =
-    let cards = more-two g (both g c) in
-    let gap = c.note_gap.ensures.more in
-    omega (arith, cards, gap)
-
-pub returns-in_err-accept_anew-clause-cause : goal.returns-in_err-accept_anew-clause-cause
-returns-in_err-accept_anew-clause-cause g c =
-    subst (λ (f : Bool). HasCause (g.M.Medium.state c.args.unit.now) (g.M.Medium.state c.accept_anew.new.unit) f) (failed-one g c) (cause_after c.in_ok-mend.ensures.cause c.in_err-accept_anew.ensures.cause)
-
-pub returns-in_err-accept_anew-2-clause-cause : goal.returns-in_err-accept_anew-2-clause-cause
-returns-in_err-accept_anew-2-clause-cause g c =
-    subst (λ (f : Bool). HasCause (g.M.Medium.state c.args.unit.now) (g.M.Medium.state c.accept_anew-2.new.unit) f) (failed-two g c) (cause_after c.in_ok-mend.ensures.cause (cause_after c.in_ok-accept_anew.ensures.cause c.in_err-accept_anew-2.ensures.cause))
-
-pub returns-then-is_first-clause-cause : goal.returns-then-is_first-clause-cause
-returns-then-is_first-clause-cause g c = cause_after c.in_ok-mend.ensures.cause (cause_after c.in_ok-accept_anew.ensures.cause c.in_ok-accept_anew-2.ensures.cause)
-
-pub returns-clause-cause : goal.returns-clause-cause
-returns-clause-cause g c = cause_after c.in_ok-mend.ensures.cause (cause_after c.in_ok-accept_anew.ensures.cause (cause_after c.in_ok-accept_anew-2.ensures.cause c.note_gap.ensures.cause))
-
-pub returns-clause-power : goal.returns-clause-power
-returns-clause-power g c = on_ok c.note_gap.result (λ well_. ap (λ (r : Run). r.power) c.note_gap.ensures.only ∙ power-two g (both g c))
-
-pub returns-clause-none : goal.returns-clause-none
-returns-clause-none g c = on_ok c.note_gap.result (λ well_.
-    ap (λ (r : Run). r.minutes.owing) c.note_gap.ensures.only ∙ ap (λ (r : Run). r.minutes.owing) c.accept_anew-2.ensures.only ∙ ap (λ (r : Run). r.minutes.owing) c.accept_anew.ensures.only ∙ none g (begin g c))
-
--- ---- WHAT IS RECORDED
-
-pub returns-in_err-mend-clause-recorded : goal.returns-in_err-mend-clause-recorded
-returns-in_err-mend-clause-recorded g c = λ room o origin done s supply v r stay may number given values time.
-    let U : State = g.M.Medium.state c.args.unit.now in
-    let X : State = g.C.Chip.state c.args.card_a.now in
-    let Y : State = g.D.Chip.state c.args.card_b.now in
-    let W : State = g.M.Medium.state c.mend.new.unit in
-    let bad = c.in_err-mend.ensures in
-    let loaded = c.requires.loaded in
-    subst (λ (f : Bool). GoesOnOrCut f o done s (In 0) [] c.args.run.now c.args.outcome.now (as_left g c)) (failed-mend g c)
-    (unmended o origin done s supply v U X Y r may number given (g.met.M.Medium.coherent c.args.unit.now) (wholes-of U X Y (g.met.C.Chip.coherent c.args.card_a.now) (g.met.D.Chip.coherent c.args.card_b.now)) loaded.works c.args.journal (kept-of c.args.journal U.image loaded.found)
-    W true c.mend.ensures.moments c.mend.ensures.tells bad.cause c.mend.ensures.holds bad.first bad.second c.args.run.now c.args.outcome.now values refl c.requires.dark)
-
-pub returns-in_err-accept_anew-clause-recorded : goal.returns-in_err-accept_anew-clause-recorded
-returns-in_err-accept_anew-clause-recorded g c = λ room o origin done s supply v r stay may number given values time.
-    let card = (goal.at.returns-in_err-accept_anew-clause-recorded g c).After-accept_anew in
-    let p = premises g (span g card) room o origin done s supply v r stay may number given values in
-    subst (λ (f : Bool). GoesOnOrCut f o done s (In 0) [] (one g card) (out1 g card) (dev1 g card)) (failed-one g c) ((first g card p time).1 (fails-one g c))
-
-pub returns-in_err-accept_anew-2-clause-recorded : goal.returns-in_err-accept_anew-2-clause-recorded
-returns-in_err-accept_anew-2-clause-recorded g c = λ room o origin done s supply v r stay may number given values time.
-    let cards = (goal.at.returns-in_err-accept_anew-2-clause-recorded g c).After-accept_anew-2 in
-    let p = premises g (start g cards) room o origin done s supply v r stay may number given values in
-    subst (λ (f : Bool). GoesOnOrCut f o done s (In 0) [] (two g cards) (out2 g cards) (dev2 g cards)) (fails-two g c ∙ failed-two g c) (second g cards p time)
-
-pub returns-then-is_first-clause-recorded : goal.returns-then-is_first-clause-recorded
-returns-then-is_first-clause-recorded g c = λ room o origin done s supply v r stay may number given values time.
-    let cards = (goal.at.returns-then-is_first-clause-recorded g c).After-accept_anew-2 in
-    let p = premises g (start g cards) room o origin done s supply v r stay may number given values in
-    subst (λ (f : Bool). GoesOnOrCut f o done s (In 0) [] (two g cards) (out2 g cards) (dev2 g cards)) (fine-first g c) (second g cards p time)
-
-pub returns-clause-recorded : goal.returns-clause-recorded
-returns-clause-recorded g c = λ room o origin done s supply v r stay may number given values time.
-    let p = premises g (begin g c) room o origin done s supply v r stay may number given values in
-    goes-plain (is_err c.note_gap.result) o done s (In 0) [] (new g c) (out3 g c) (dev3 g c) (here g c p time).within.b (goes g c p time)
 
 -- ---- WHAT IS NOTED
 
@@ -866,7 +801,7 @@ pub returns-clause-noted : goal.returns-clause-noted
 returns-clause-noted g c =
     let cards = both g c in
     let these = noted-two g cards in
-    let gap = c.note_gap.ensures.events in
+    let gap = c.note_gap.ensures.leaves.events in
     record {
       reach = AtGap (mid g (begin g c)) gap.0;
       events = these.0 ++ gap.1;
@@ -887,258 +822,363 @@ returns-clause-noted g c =
       notes = then-noted these.0 gap.1 (is_err c.note_gap.result) (dev0 g (begin g c)) (dev2 g cards) (dev3 g c) (subst (λ (f : Bool). NotesEvents these.0 f (dev0 g (begin g c)) (dev2 g cards)) (fine g c) these.2) gap.3;
     }
 
--- ---- WHAT IS NOTED, beside what is recorded
-
-pub returns-in_err-mend-clause-evented : goal.returns-in_err-mend-clause-evented
-returns-in_err-mend-clause-evented g c = λ room o origin done s supply v r stay may number given speed_is values evented limit time.
-    let p : Behind c.args.journal.kept c.args.run.now c.args.outcome.now (as_found g c) = record { room = room; o = o; origin = origin; done = done; s = s; supply = supply; v = v; r = r; stay = stay; may = may; number = number; given = given; values = values } in
-    let again : Progress = found_again c.args.journal.kept (progress v supply r.book) in
-    let silent = says c.args.journal (g.M.Medium.state c.args.unit.now) (g.M.Medium.state c.mend.new.unit) (g.C.Chip.state c.args.card_a.now) (g.D.Chip.state c.args.card_b.now) (g.met.M.Medium.coherent c.args.unit.now) c.mend.ensures.moments in
-    let lost = unmended-evented o done s supply v (as_found g c) (as_left g c) r may number given c.args.journal.kept evented silent (read g c p).left (read g c p).followed (read g c p) in
-    subst (λ (f : Bool). EventsWoken f (log_of c.args.outcome.now) o done s c.args.run.now c.args.outcome.now (as_left g c)) (failed-mend g c)
-    (woken-fails o done s again Waking c.args.run.now c.args.outcome.now (as_left g c) (log_of c.args.outcome.now)
-    (subst (λ (l : RunLog). Evented o (done ++ s ∷ []) (and_break l (cut_at s.number true 0)) again.unfound (suc v.next) Lost (as_left g c)) (sym (log-found g c p)) lost)
-    (sym (ap (λ (x : Values). x.unfound) values)) (sym (ap (λ (x : Values). x.next) values)) limit)
-
-pub returns-in_err-accept_anew-clause-evented : goal.returns-in_err-accept_anew-clause-evented
-returns-in_err-accept_anew-clause-evented g c = λ room o origin done s supply v r stay may number given speed_is values evented limit time.
-    let card = (goal.at.returns-in_err-accept_anew-clause-evented g c).After-accept_anew in
-    let at = span g card in
-    let p = premises g at room o origin done s supply v r stay may number given values in
-    let e : WithEvents g at p = record { speed_is = speed_is; evented = evented; limit = limit } in
-    let cut = subst (λ (f : Bool). EventsGoOn f o done s (woke g at p).0.run (In 0) Waking (log_of (out1 g card)) (dev1 g card)) (fails-one g c) (evented-one g card p time e) in
-    subst (λ (f : Bool). EventsWoken f (log_of (out g at)) o done s (one g card) (out1 g card) (dev1 g card)) (failed-one g c)
-    (woken-fails o done s (woke g at p).0.run Waking (one g card) (out1 g card) (dev1 g card) (log_of (out g at)) cut (began-unfound g card p time) (began-next g card p time) (limit-one g card p time e))
-
-pub returns-in_err-accept_anew-2-clause-evented : goal.returns-in_err-accept_anew-2-clause-evented
-returns-in_err-accept_anew-2-clause-evented g c = λ room o origin done s supply v r stay may number given speed_is values evented limit time.
-    let cards = (goal.at.returns-in_err-accept_anew-2-clause-evented g c).After-accept_anew-2 in
-    let at = start g cards in
-    let p = premises g at room o origin done s supply v r stay may number given values in
-    let e : WithEvents g at p = record { speed_is = speed_is; evented = evented; limit = limit } in
-    let cut = subst (λ (f : Bool). EventsGoOn f o done s (woke g at p).0.run (In 0) Waking (log_of (out2 g cards)) (dev2 g cards)) (fails-two g c) (evented-two g cards p time e) in
-    subst (λ (f : Bool). EventsWoken f (log_of (out g at)) o done s (two g cards) (out2 g cards) (dev2 g cards)) (failed-two g c)
-    (woken-fails o done s (woke g at p).0.run Waking (two g cards) (out2 g cards) (dev2 g cards) (log_of (out g at)) cut (began-unfound-two g cards p time) (began-next-two g cards p time) (limit-two g cards p time e))
-
-pub returns-then-is_first-clause-evented : goal.returns-then-is_first-clause-evented
-returns-then-is_first-clause-evented g c = λ room o origin done s supply v r stay may number given speed_is values evented limit time.
-    let cards = (goal.at.returns-then-is_first-clause-evented g c).After-accept_anew-2 in
-    let at = start g cards in
-    let well_two = fine-first g c in
-    let p = premises g at room o origin done s supply v r stay may number given values in
-    let e : WithEvents g at p = record { speed_is = speed_is; evented = evented; limit = limit } in
-    let untold = none-told v.unfound c.args.journal.kept v.log.breaks (out g at).breaks.items (ap (λ (x : Values). x.log.breaks) values) (none-before g c) in
-    let stands_so = lit g cards p time well_two in
-    let noted_so =
-    none-woken o origin done s supply v (dev0 g at) (mended g at) r may number given c.args.journal.kept evented (quiet g at) (is g at p).2 (woken g at p e).2 (woke g at p).0 (is g at p).0 (is g at p).1 (woken g at p e).0.bare
-    (two g cards) (out2 g cards) (dev2 g cards) (goes-on g cards p time well_two) (evented-on g cards p time well_two e) (ungiven_of stands_so.span) stands_so.cabin (small g at p) untold (same-noted (dev2 g cards).unit (dev2 g cards).card_a (dev2 g cards).card_b) in
-    woken-on o done s (within g cards p time well_two).within.b (two g cards) (out2 g cards) (dev2 g cards) (empty g cards p time well_two e) (within g cards p time well_two) refl noted_so (limit-two g cards p time e)
-    (begun-watched o c.args.rule (run g at) (mid g at) (two g cards) c.mend.new.journal c.begin_span.ensures.begun limit ((same-two g cards).1 ∙ (same-one g (driver g cards)).1)) (log_of (out g at)) (began-here g cards p time well_two)
-
-pub returns-clause-evented : goal.returns-clause-evented
-returns-clause-evented g c = λ room o origin done s supply v r stay may number given speed_is values evented limit time.
-    let cards = both g c in
-    let at = begin g c in
-    let p = premises g at room o origin done s supply v r stay may number given values in
-    let e : WithEvents g at p = record { speed_is = speed_is; evented = evented; limit = limit } in
-    let past = time-two g c p time in
-    let stands_so = lit g cards p past (fine g c) in
-    let early : c.args.journal.kept < s.number / 60 = subst (λ (n : ℕ). c.args.journal.kept < n / 60) (next_is g at p) c.requires.later in
-    let gap = c.note_gap.ensures.events in
-    let noted_so =
-    gap-woken o origin done s supply v (dev0 g at) (mended g at) r may number given c.args.journal.kept evented (quiet g at) (is g at p).2 (woken g at p e).2 (woke g at p).0 (is g at p).0 (is g at p).1 (woken g at p e).0.bare
-    (two g cards) (out2 g cards) (dev2 g cards) (goes-on g cards p past (fine g c)) (evented-on g cards p past (fine g c) e) (ungiven_of stands_so.span) stands_so.cabin (small g at p) (told-before g c p time) early (dev3 g c)
-    (is_err c.note_gap.result) (new g c) c.note_gap.new.breaks gap.0 gap.1 (gap-events g c) gap.3 (c.note_gap.ensures.leaves o done s (out2 g cards) (here g c p time) (comes g cards p past (fine g c))) in
-    woken-ends o done s (here g c p time).within.b (empty g cards p past (fine g c) e) (is_err c.note_gap.result) (new g c) (out3 g c) (dev3 g c) (goes g c p time) noted_so
-    (ap (λ (b : Beginning). b.run.unfound) (began g cards p past (fine g c)) ∙ began-unfound-two g cards p past ∙ sym (ap (λ (r : Run). r.unfound) c.note_gap.ensures.only))
-    (ap (λ (b : Beginning). b.run.next) (began g cards p past (fine g c)) ∙ began-next-two g cards p past ∙ sym (ap (λ (r : Run). r.next) c.note_gap.ensures.only))
-    (ap (λ (m : UnitFacts). m.limit) (stays g c) ∙ limit-two g cards p past e)
-    (begun-watched o c.args.rule (run g at) (mid g at) (new g c) c.mend.new.journal c.begin_span.ensures.begun limit (ap (λ (r : Run). r.watch) c.note_gap.ensures.only ∙ (same-two g cards).1 ∙ (same-one g (driver g cards)).1)) (log_of (out g at)) (began-here g cards p past (fine g c))
-
--- ---- the rings
-
-pub returns-in_err-mend-clause-ringed : goal.returns-in_err-mend-clause-ringed
-returns-in_err-mend-clause-ringed g c = λ room o origin done s supply v r stay may number given values spans seats ringed counted off time.
-    let U : State = g.M.Medium.state c.args.unit.now in
-    let X : State = g.C.Chip.state c.args.card_a.now in
-    let Y : State = g.D.Chip.state c.args.card_b.now in
-    let W : State = g.M.Medium.state c.mend.new.unit in
-    let bad = c.in_err-mend.ensures in
-    let loaded = c.requires.loaded in
-    let p : Behind c.args.journal.kept c.args.run.now c.args.outcome.now (as_found g c) = record { room = room; o = o; origin = origin; done = done; s = s; supply = supply; v = v; r = r; stay = stay; may = may; number = number; given = given; values = values } in
-    let q : Progress = found_again c.args.journal.kept (progress v supply r.book) in
-    let behind = behind-stays (as_found g c) (as_left g c) o done (log_of c.args.outcome.now) s.number spans seats ringed (mend-leaves c.args.journal U W (g.met.M.Medium.coherent c.args.unit.now) c.mend.ensures.moments) (read g c p).left (places-beside o U W X Y) in
-    let log_now : log_of c.args.outcome.now ≡ found_log v.unfound c.args.journal.kept v.log = log-found g c p in
-    let are = spans-before o done supply v (as_found g c) r c.args.journal.kept (log_of c.args.outcome.now) log_now spans ringed.spans_are in
-    let stands_so =
-    unmended-stands o origin done s supply v U X Y r may number given (g.met.M.Medium.coherent c.args.unit.now) (wholes-of U X Y (g.met.C.Chip.coherent c.args.card_a.now) (g.met.D.Chip.coherent c.args.card_b.now)) loaded.works c.args.journal (kept-of c.args.journal U.image loaded.found)
-    W true c.mend.ensures.moments c.mend.ensures.tells bad.cause c.mend.ensures.holds bad.first bad.second c.args.run.now c.args.outcome.now values refl spans are off in
-    let base = stands_so.0 in
-    let cut = unpowered-ringed o done s q (read g c p).followed (read g c p).followed.power number given (as_left g c) spans seats (subst (λ (l : RunLog). RingedBehind o done l s.number spans seats (as_left g c)) (log-found g c p) behind) base in
-    let kept_so = stays-stored o v.log v.unfound spans (as_found g c) (as_left g c) (mend-stays c.args.journal (as_found g c) (as_left g c) (g.met.M.Medium.coherent c.args.unit.now) c.mend.ensures.moments) off in
-    let stored = unmended-stored o done s q (read g c p).followed (read g c p).followed.power number given spans (as_left g c) base stands_so.1 kept_so.stores in
-    let after : List SpanFrom = spans_cut spans base (with_cut q.log s []) done s in
-    subst (λ (f : Bool). RingsWoken f (log_of c.args.outcome.now) o done s spans c.args.run.now (log_of c.args.outcome.now) (as_left g c)) (failed-mend g c) (
-      after,
-      counted,
-      subst (λ (l : RunLog). RingedBehind o (done ++ s ∷ []) (with_cut l s []) (suc s.number) after nobody (as_left g c)) (sym (log-found g c p)) cut,
-      subst (λ (l : RunLog). StoresOff o (with_cut l s []) c.args.run.now.unfound after (as_left g c)) (sym (log-found g c p)) (subst (λ (n : ℕ). StoresOff o (with_cut q.log s []) n after (as_left g c)) (sym (ap (λ (x : Values). x.unfound) values)) stored),
-    )
-
-pub returns-in_err-accept_anew-clause-ringed : goal.returns-in_err-accept_anew-clause-ringed
-returns-in_err-accept_anew-clause-ringed g c = λ room o origin done s supply v r stay may number given values spans seats ringed counted off time.
-    let card = (goal.at.returns-in_err-accept_anew-clause-ringed g c).After-accept_anew in
-    let at = span g card in
-    let p = premises g at room o origin done s supply v r stay may number given values in
-    let q : WithRings g at p = record { spans = spans; seats = seats; ringed = ringed; counted = counted; off = off } in
-    subst (λ (f : Bool). RingsWoken f (log_of (out g at)) o done s spans (one g card) (log_of (out1 g card)) (dev1 g card)) (fails-one g c ∙ failed-one g c)
-    (rings-then g at p q (is_err c.accept_anew.result) (one g card) (out1 g card) (dev1 g card) (ringed-one g card p time q) (first g card p time).1 (power-one g card) (unfound-one g card) (λ well_one. ((first g card p time).0 well_one).odometer ∙ sym (woke g at p).1.odometer))
-
-pub returns-in_err-accept_anew-2-clause-ringed : goal.returns-in_err-accept_anew-2-clause-ringed
-returns-in_err-accept_anew-2-clause-ringed g c = λ room o origin done s supply v r stay may number given values spans seats ringed counted off time.
-    let cards = (goal.at.returns-in_err-accept_anew-2-clause-ringed g c).After-accept_anew-2 in
-    let p = premises g (start g cards) room o origin done s supply v r stay may number given values in
-    let q : WithRings g (start g cards) p = record { spans = spans; seats = seats; ringed = ringed; counted = counted; off = off } in
-    subst (λ (f : Bool). RingsWoken f (log_of (out g (start g cards))) o done s spans (two g cards) (log_of (out2 g cards)) (dev2 g cards)) (fails-two g c ∙ failed-two g c) (rings-two g cards p time q)
-
-pub returns-then-is_first-clause-ringed : goal.returns-then-is_first-clause-ringed
-returns-then-is_first-clause-ringed g c = λ room o origin done s supply v r stay may number given values spans seats ringed counted off time.
-    let cards = (goal.at.returns-then-is_first-clause-ringed g c).After-accept_anew-2 in
-    let p = premises g (start g cards) room o origin done s supply v r stay may number given values in
-    let q : WithRings g (start g cards) p = record { spans = spans; seats = seats; ringed = ringed; counted = counted; off = off } in
-    subst (λ (f : Bool). RingsWoken f (log_of (out g (start g cards))) o done s spans (two g cards) (log_of (out2 g cards)) (dev2 g cards)) (fine-first g c) (rings-two g cards p time q)
-
-pub returns-clause-ringed : goal.returns-clause-ringed
-returns-clause-ringed g c = λ room o origin done s supply v r stay may number given values spans seats ringed counted off time.
-    let cards = both g c in
-    let at = begin g c in
-    let p = premises g at room o origin done s supply v r stay may number given values in
-    let q : WithRings g at p = record { spans = spans; seats = seats; ringed = ringed; counted = counted; off = off } in
-    let past = time-two g c p time in
-    let began_so = began g cards p past (fine g c) in
-    let rings = subst (λ (b : Beginning). RingsWithin o done s b.run.log [] (two g cards) (log_of (out2 g cards)) spans (told g at p q) (dev2 g cards)) (sym began_so)
-    (subst (λ (f : Bool). RingsGoOn f o done s (woke g at p).0 [] (two g cards) (log_of (out2 g cards)) spans (told g at p q) (dev2 g cards)) (fine g c) (ringed-two g cards p past q)) in
-    let gone : RingsGoOn (is_err c.note_gap.result) o done s (woke g at p).0 [] (new g c) (log_of (out3 g c)) spans (told g at p q) (dev3 g c) =
-    subst (λ (b : Beginning). RingsGoOn (is_err c.note_gap.result) o done s b [] (new g c) (log_of (out3 g c)) spans (told g at p q) (dev3 g c)) began_so
-    (c.note_gap.ensures.ringed o done s (out2 g cards) (here g c p time) (comes g cards p past (fine g c)) spans (told g at p q) rings) in
-    rings-then g at p q (is_err c.note_gap.result) (new g c) (out3 g c) (dev3 g c) gone (λ fails. subst (λ (f : Bool). GoesOnOrFails f o done s (In 0) [] (new g c) (out3 g c) (dev3 g c) (here g c p time).within.b) fails (goes g c p time))
-    (ap (λ (r : Run). r.power) c.note_gap.ensures.only ∙ power-two g cards) (ap (λ (r : Run). r.unfound) c.note_gap.ensures.only ∙ unfound-two g cards)
-    (λ well_three. goes-odometer (is_err c.note_gap.result) o done s (In 0) [] (new g c) (out3 g c) (dev3 g c) (here g c p time).within.b (goes g c p time) well_three ∙ ap (λ (b : Beginning). odometer_after (odometer_at o.recording.unit) b.travel.before) began_so ∙ sym (woke g at p).1.odometer)
-
--- ---- the events on the cards
-
-pub returns-in_err-mend-clause-cards : goal.returns-in_err-mend-clause-cards
-returns-in_err-mend-clause-cards g c = λ room o origin done s supply v r stay may number given speed_is values evented limit vehicle shown time.
-    let p : Behind c.args.journal.kept c.args.run.now c.args.outcome.now (as_found g c) = record { room = room; o = o; origin = origin; done = done; s = s; supply = supply; v = v; r = r; stay = stay; may = may; number = number; given = given; values = values } in
-    let q : Progress = found_again c.args.journal.kept (progress v supply r.book) in
-    let here_is : c.args.run.now.next ≡ v.next = ap (λ (x : Values). x.next) values in
-    let low = c.requires.going.low in
-    let some_so : 0 < s.number = omega (arith, number, here_is, low) in
-    let alone = unit-alone o done (log_of c.args.outcome.now) (g.M.Medium.state c.args.unit.now) (g.M.Medium.state c.mend.new.unit) (g.C.Chip.state c.args.card_a.now) (g.D.Chip.state c.args.card_b.now) shown in
-    let cut = unpowered-cards o done s q (read g c p).followed (read g c p).followed.power number given some_so (as_left g c) (subst (λ (l : RunLog). CardsBehind o done l (as_left g c)) (log-found g c p) alone) in
-    subst (λ (f : Bool). CardsWoken f (log_of c.args.outcome.now) o done s c.args.run.now (log_of c.args.outcome.now) (as_left g c)) (failed-mend g c) (vehicle, subst (λ (l : RunLog). CardsBehind o (done ++ s ∷ []) (with_cut l s []) (as_left g c)) (sym (log-found g c p)) cut)
-
-pub returns-in_err-accept_anew-clause-cards : goal.returns-in_err-accept_anew-clause-cards
-returns-in_err-accept_anew-clause-cards g c = λ room o origin done s supply v r stay may number given speed_is values evented limit vehicle shown time.
-    let card = (goal.at.returns-in_err-accept_anew-clause-cards g c).After-accept_anew in
-    let at = span g card in
-    let p = premises g at room o origin done s supply v r stay may number given values in
-    subst (λ (f : Bool). CardsWoken f (log_of (out g at)) o done s (one g card) (log_of (out1 g card)) (dev1 g card)) (failed-one g c) (
-      (vehicle-one g card o vehicle).1,
-      subst (λ (f : Bool). WakesOn f o done s (woke g at p).0.run.log (log_of (out1 g card)) (dev1 g card)) (fails-one g c) (cards-one g card p time speed_is vehicle shown),
-    )
-
-pub returns-in_err-accept_anew-2-clause-cards : goal.returns-in_err-accept_anew-2-clause-cards
-returns-in_err-accept_anew-2-clause-cards g c = λ room o origin done s supply v r stay may number given speed_is values evented limit vehicle shown time.
-    let cards = (goal.at.returns-in_err-accept_anew-2-clause-cards g c).After-accept_anew-2 in
-    let at = start g cards in
-    let p = premises g at room o origin done s supply v r stay may number given values in
-    subst (λ (f : Bool). CardsWoken f (log_of (out g at)) o done s (two g cards) (log_of (out2 g cards)) (dev2 g cards)) (failed-two g c) (
-      vehicle-two g cards o vehicle,
-      subst (λ (f : Bool). WakesOn f o done s (woke g at p).0.run.log (log_of (out2 g cards)) (dev2 g cards)) (fails-two g c) (cards-two g cards p time speed_is vehicle shown),
-    )
-
-pub returns-then-is_first-clause-cards : goal.returns-then-is_first-clause-cards
-returns-then-is_first-clause-cards g c = λ room o origin done s supply v r stay may number given speed_is values evented limit vehicle shown time.
-    let cards = (goal.at.returns-then-is_first-clause-cards g c).After-accept_anew-2 in
-    let at = start g cards in
-    let well_two = fine-first g c in
-    let p = premises g at room o origin done s supply v r stay may number given values in
-    let e : WithEvents g at p = record { speed_is = speed_is; evented = evented; limit = limit } in
-    let untold = none-told v.unfound c.args.journal.kept v.log.breaks (out g at).breaks.items (ap (λ (x : Values). x.log.breaks) values) (none-before g c) in
-    let stands_so = lit g cards p time well_two in
-    let x = within g cards p time well_two in
-    woken-all false o done s x.within.b.run.log (log_of (out g at)) (two g cards) (log_of (out2 g cards)) (dev2 g cards) (began-here g cards p time well_two) (vehicle-two g cards o vehicle)
-    (gap-shown o done s (two g cards) (out2 g cards) (dev2 g cards) (dev2 g cards) x (ungiven_of stands_so.span) stands_so.cabin (off-here g cards p time well_two) (bare-here g cards p time well_two e) (positive g at p) None
-    (none-list o done s supply v (dev0 g at) (mended g at) r may number given c.args.journal.kept evented (quiet g at) (is g at p).2 (woken g at p e).2 x.within.b.run.log (log-here g cards p time well_two) untold) (vehicle-two g cards o vehicle) (cards-here g cards p time well_two speed_is vehicle shown)
-    false (two g cards) (out2 g cards).breaks NoGap (refl, refl, refl) (left-itself o (dev2 g cards)) (λ bad. none-fails bad) (none-noted (two g cards).keeper.cabin.cards (two g cards).keeper.memory.registration (dev2 g cards)))
-
-pub returns-clause-cards : goal.returns-clause-cards
-returns-clause-cards g c = λ room o origin done s supply v r stay may number given speed_is values evented limit vehicle shown time.
-    let cards = both g c in
-    let at = begin g c in
-    let p = premises g at room o origin done s supply v r stay may number given values in
-    let e : WithEvents g at p = record { speed_is = speed_is; evented = evented; limit = limit } in
-    let past = time-two g c p time in
-    let stands_so = lit g cards p past (fine g c) in
-    let x = here g c p time in
-    let here_is : (two g cards).next ≡ s.number = x.within.next ∙ sym x.within.moment.number in
-    let same_gap : gap_of c.args.journal.kept s.number ≡ gap_of c.last_kept-kept.result (two g cards).next = ap (λ (n : ℕ). gap_of n s.number) (sym c.last_kept-kept.ensures.kept) ∙ ap (gap_of c.last_kept-kept.result) (sym here_is) in
-    woken-all (is_err c.note_gap.result) o done s x.within.b.run.log (log_of (out g at)) (new g c) (log_of (out3 g c)) (dev3 g c) (began-here g cards p past (fine g c)) (ap (λ (m : UnitFacts). m.registration) (stays g c) ∙ vehicle-two g cards o vehicle)
-    (gap-shown o done s (two g cards) (out2 g cards) (dev2 g cards) (dev3 g c) x (ungiven_of stands_so.span) stands_so.cabin (off-here g cards p past (fine g c)) (bare-here g cards p past (fine g c) e) (positive g at p) (gap_of c.last_kept-kept.result (two g cards).next)
-    (λ crew. some-list o done s supply v (dev0 g at) (mended g at) r may number given c.args.journal.kept evented (quiet g at) (is g at p).2 (woken g at p e).2 x.within.b.run.log (log-here g cards p past (fine g c)) (told-before g c p time) crew ∙ ap (λ (q : Option Span). gap_list q crew) same_gap)
-    (vehicle-two g cards o vehicle) (cards-here g cards p past (fine g c) speed_is vehicle shown)
-    (is_err c.note_gap.result) (new g c) c.note_gap.new.breaks c.note_gap.ensures.noted.0 c.note_gap.ensures.noted.1 (c.note_gap.ensures.leaves o done s (out2 g cards) x (comes g cards p past (fine g c))).0
-    (λ fails. (subst (λ (f : Bool). GoesOnOrFails f o done s (In 0) [] (new g c) (out3 g c) (dev3 g c) x.within.b) fails (goes g c p time)).within.moment.up_to.uncut) c.note_gap.ensures.card_events)
-
--- ---- what holds of the devices after any calls
-
-pub returns-in_err-mend-clause-later : goal.returns-in_err-mend-clause-later
-returns-in_err-mend-clause-later g c = later-of-unit (g.M.Medium.state c.args.unit.now) (g.M.Medium.state c.mend.new.unit) (g.C.Chip.state c.args.card_a.now) (g.D.Chip.state c.args.card_b.now) (state-by (g.M.Medium.state c.args.unit.now) (g.M.Medium.state c.mend.new.unit) _ c.mend.ensures.clock c.mend.ensures.cause)
-    (mending-leaves c.args.journal (g.M.Medium.state c.args.unit.now) (g.M.Medium.state c.mend.new.unit) (g.met.M.Medium.coherent c.args.unit.now) c.mend.ensures.moments)
-
-pub returns-in_err-accept_anew-clause-later : goal.returns-in_err-accept_anew-clause-later
-returns-in_err-accept_anew-clause-later g c = later-one g (goal.at.returns-in_err-accept_anew-clause-later g c).After-accept_anew
-
-pub returns-in_err-accept_anew-2-clause-later : goal.returns-in_err-accept_anew-2-clause-later
-returns-in_err-accept_anew-2-clause-later g c = later-two g (goal.at.returns-in_err-accept_anew-2-clause-later g c).After-accept_anew-2
-
-pub returns-then-is_first-clause-later : goal.returns-then-is_first-clause-later
-returns-then-is_first-clause-later g c = later-two g (goal.at.returns-then-is_first-clause-later g c).After-accept_anew-2
-
-pub returns-clause-later : goal.returns-clause-later
-returns-clause-later g c = later-then (dev0 g (begin g c)) (dev2 g (both g c)) (dev3 g c) (later-two g (both g c)) c.note_gap.ensures.later
-
--- ---- how often the unit broke down
-
-pub returns-in_err-mend-clause-uncut : goal.returns-in_err-mend-clause-uncut
-returns-in_err-mend-clause-uncut g c = refl
-
-pub returns-in_err-accept_anew-clause-uncut : goal.returns-in_err-accept_anew-clause-uncut
-returns-in_err-accept_anew-clause-uncut g c = anew-uncut _ _ _ _ _ _ _ _ c.accept_anew.ensures.accepted
-
-pub returns-in_err-accept_anew-2-clause-uncut : goal.returns-in_err-accept_anew-2-clause-uncut
-returns-in_err-accept_anew-2-clause-uncut g c = uncut-two g (goal.at.returns-in_err-accept_anew-2-clause-uncut g c).After-accept_anew-2
-
-pub returns-then-is_first-clause-uncut : goal.returns-then-is_first-clause-uncut
-returns-then-is_first-clause-uncut g c = uncut-two g (goal.at.returns-then-is_first-clause-uncut g c).After-accept_anew-2
-
-pub returns-clause-uncut : goal.returns-clause-uncut
-returns-clause-uncut g c = gap-uncut _ _ _ _ _ _ _ c.note_gap.ensures.noted.0 c.note_gap.ensures.noted.1 ∙ uncut-two g (both g c)
-
 -- ---- where no tear of a failed call is told no card has broken down
 
-pub returns-in_err-mend-clause-calm : goal.returns-in_err-mend-clause-calm
-returns-in_err-mend-clause-calm g c = calm-of-unit (g.M.Medium.state c.args.unit.now) (g.M.Medium.state c.mend.new.unit) (g.C.Chip.state c.args.card_a.now) (g.D.Chip.state c.args.card_b.now)
+pub returns-in_err-mend-clause-resumed : goal.returns-in_err-mend-clause-resumed
+returns-in_err-mend-clause-resumed g c = record {
+  next = refl;
+  unfound = refl;
+  power = search rules;
+  owes = search rules;
+  refused = refl;
+  uncut = refl;
+}
 
-pub returns-in_err-accept_anew-clause-calm : goal.returns-in_err-accept_anew-clause-calm
-returns-in_err-accept_anew-clause-calm g c = calm-one g (goal.at.returns-in_err-accept_anew-clause-calm g c).After-accept_anew
+pub returns-in_err-mend-clause-promises : goal.returns-in_err-mend-clause-promises
+returns-in_err-mend-clause-promises g c = record {
+  recorded =
+      λ room o origin done s supply v r stay may number given values time.
+      let U : State = g.M.Medium.state c.args.unit.now in
+      let X : State = g.C.Chip.state c.args.card_a.now in
+      let Y : State = g.D.Chip.state c.args.card_b.now in
+      let W : State = g.M.Medium.state c.mend.new.unit in
+      let bad = c.in_err-mend.ensures in
+      let loaded = c.requires.loaded in
+      subst (λ (f : Bool). GoesOnOrCut f o done s (In 0) [] c.args.run.now c.args.outcome.now (as_left g c)) (failed-mend g c)
+      (unmended o origin done s supply v U X Y r may number given (g.met.M.Medium.coherent c.args.unit.now) (wholes-of U X Y (g.met.C.Chip.coherent c.args.card_a.now) (g.met.D.Chip.coherent c.args.card_b.now)) loaded.works c.args.journal (kept-of c.args.journal U.image loaded.found)
+      W true c.mend.ensures.moments c.mend.ensures.tells bad.cause c.mend.ensures.holds bad.first bad.second c.args.run.now c.args.outcome.now values refl c.requires.dark);
+  evented =
+      λ room o origin done s supply v r stay may number given speed_is values evented limit time.
+      let p : Behind c.args.journal.kept c.args.run.now c.args.outcome.now (as_found g c) = record { room = room; o = o; origin = origin; done = done; s = s; supply = supply; v = v; r = r; stay = stay; may = may; number = number; given = given; values = values } in
+      let again : Progress = found_again c.args.journal.kept (progress v supply r.book) in
+      let silent = says c.args.journal (g.M.Medium.state c.args.unit.now) (g.M.Medium.state c.mend.new.unit) (g.C.Chip.state c.args.card_a.now) (g.D.Chip.state c.args.card_b.now) (g.met.M.Medium.coherent c.args.unit.now) c.mend.ensures.moments in
+      let lost = unmended-evented o done s supply v (as_found g c) (as_left g c) r may number given c.args.journal.kept evented silent (read g c p).left (read g c p).followed (read g c p) in
+      subst (λ (f : Bool). EventsWoken f (log_of c.args.outcome.now) o done s c.args.run.now c.args.outcome.now (as_left g c)) (failed-mend g c)
+      (woken-fails o done s again Waking c.args.run.now c.args.outcome.now (as_left g c) (log_of c.args.outcome.now)
+      (subst (λ (l : RunLog). Evented o (done ++ s ∷ []) (and_break l (cut_at s.number true 0)) again.unfound (suc v.next) Lost (as_left g c)) (sym (log-found g c p)) lost)
+      (sym (ap (λ (x : Values). x.unfound) values)) (sym (ap (λ (x : Values). x.next) values)) limit);
+  ringed =
+      λ room o origin done s supply v r stay may number given values spans seats ringed counted off time.
+      let U : State = g.M.Medium.state c.args.unit.now in
+      let X : State = g.C.Chip.state c.args.card_a.now in
+      let Y : State = g.D.Chip.state c.args.card_b.now in
+      let W : State = g.M.Medium.state c.mend.new.unit in
+      let bad = c.in_err-mend.ensures in
+      let loaded = c.requires.loaded in
+      let p : Behind c.args.journal.kept c.args.run.now c.args.outcome.now (as_found g c) = record { room = room; o = o; origin = origin; done = done; s = s; supply = supply; v = v; r = r; stay = stay; may = may; number = number; given = given; values = values } in
+      let q : Progress = found_again c.args.journal.kept (progress v supply r.book) in
+      let behind = behind-stays (as_found g c) (as_left g c) o done (log_of c.args.outcome.now) s.number spans seats ringed (mend-leaves c.args.journal U W (g.met.M.Medium.coherent c.args.unit.now) c.mend.ensures.moments) (read g c p).left (places-beside o U W X Y) in
+      let log_now : log_of c.args.outcome.now ≡ found_log v.unfound c.args.journal.kept v.log = log-found g c p in
+      let are = spans-before o done supply v (as_found g c) r c.args.journal.kept (log_of c.args.outcome.now) log_now spans ringed.spans_are in
+      let stands_so =
+      unmended-stands o origin done s supply v U X Y r may number given (g.met.M.Medium.coherent c.args.unit.now) (wholes-of U X Y (g.met.C.Chip.coherent c.args.card_a.now) (g.met.D.Chip.coherent c.args.card_b.now)) loaded.works c.args.journal (kept-of c.args.journal U.image loaded.found)
+      W true c.mend.ensures.moments c.mend.ensures.tells bad.cause c.mend.ensures.holds bad.first bad.second c.args.run.now c.args.outcome.now values refl spans are off in
+      let base = stands_so.0 in
+      let cut = unpowered-ringed o done s q (read g c p).followed (read g c p).followed.power number given (as_left g c) spans seats (subst (λ (l : RunLog). RingedBehind o done l s.number spans seats (as_left g c)) (log-found g c p) behind) base in
+      let kept_so = stays-stored o v.log v.unfound spans (as_found g c) (as_left g c) (mend-stays c.args.journal (as_found g c) (as_left g c) (g.met.M.Medium.coherent c.args.unit.now) c.mend.ensures.moments) off in
+      let stored = unmended-stored o done s q (read g c p).followed (read g c p).followed.power number given spans (as_left g c) base stands_so.1 kept_so.stores in
+      let after : List SpanFrom = spans_cut spans base (with_cut q.log s []) done s in
+      subst (λ (f : Bool). RingsWoken f (log_of c.args.outcome.now) o done s spans c.args.run.now (log_of c.args.outcome.now) (as_left g c)) (failed-mend g c) (
+        after,
+        counted,
+        subst (λ (l : RunLog). RingedBehind o (done ++ s ∷ []) (with_cut l s []) (suc s.number) after nobody (as_left g c)) (sym (log-found g c p)) cut,
+        subst (λ (l : RunLog). StoresOff o (with_cut l s []) c.args.run.now.unfound after (as_left g c)) (sym (log-found g c p)) (subst (λ (n : ℕ). StoresOff o (with_cut q.log s []) n after (as_left g c)) (sym (ap (λ (x : Values). x.unfound) values)) stored),
+      );
+  cards =
+      λ room o origin done s supply v r stay may number given speed_is values evented limit vehicle shown time.
+      let p : Behind c.args.journal.kept c.args.run.now c.args.outcome.now (as_found g c) = record { room = room; o = o; origin = origin; done = done; s = s; supply = supply; v = v; r = r; stay = stay; may = may; number = number; given = given; values = values } in
+      let q : Progress = found_again c.args.journal.kept (progress v supply r.book) in
+      let here_is : c.args.run.now.next ≡ v.next = ap (λ (x : Values). x.next) values in
+      let low = c.requires.going.low in
+      let some_so : 0 < s.number = omega (arith, number, here_is, low) in
+      let alone = unit-alone o done (log_of c.args.outcome.now) (g.M.Medium.state c.args.unit.now) (g.M.Medium.state c.mend.new.unit) (g.C.Chip.state c.args.card_a.now) (g.D.Chip.state c.args.card_b.now) shown in
+      let cut = unpowered-cards o done s q (read g c p).followed (read g c p).followed.power number given some_so (as_left g c) (subst (λ (l : RunLog). CardsBehind o done l (as_left g c)) (log-found g c p) alone) in
+      subst (λ (f : Bool). CardsWoken f (log_of c.args.outcome.now) o done s c.args.run.now (log_of c.args.outcome.now) (as_left g c)) (failed-mend g c) (vehicle, subst (λ (l : RunLog). CardsBehind o (done ++ s ∷ []) (with_cut l s []) (as_left g c)) (sym (log-found g c p)) cut);
+}
 
-pub returns-in_err-accept_anew-2-clause-calm : goal.returns-in_err-accept_anew-2-clause-calm
-returns-in_err-accept_anew-2-clause-calm g c = calm-two g (goal.at.returns-in_err-accept_anew-2-clause-calm g c).After-accept_anew-2
+pub returns-in_err-mend-clause-held : goal.returns-in_err-mend-clause-held
+returns-in_err-mend-clause-held g c = record {
+  held =
+      let h = c.requires.going.held in
+      record { is_unit = c.mend.ensures.unit; odometer = h.odometer; minute = h.minute; card_a = h.card_a; card_b = h.card_b; stand = h.stand };
+  cause = search rules;
+}
 
-pub returns-then-is_first-clause-calm : goal.returns-then-is_first-clause-calm
-returns-then-is_first-clause-calm g c = calm-two g (goal.at.returns-then-is_first-clause-calm g c).After-accept_anew-2
+pub returns-in_err-mend-clause-goes : goal.returns-in_err-mend-clause-goes
+returns-in_err-mend-clause-goes g c = record {
+  later =
+      later-of-unit (g.M.Medium.state c.args.unit.now) (g.M.Medium.state c.mend.new.unit) (g.C.Chip.state c.args.card_a.now) (g.D.Chip.state c.args.card_b.now) (state-by (g.M.Medium.state c.args.unit.now) (g.M.Medium.state c.mend.new.unit) _ c.mend.ensures.clock c.mend.ensures.cause)
+      (mending-leaves c.args.journal (g.M.Medium.state c.args.unit.now) (g.M.Medium.state c.mend.new.unit) (g.met.M.Medium.coherent c.args.unit.now) c.mend.ensures.moments);
+  calm = calm-of-unit (g.M.Medium.state c.args.unit.now) (g.M.Medium.state c.mend.new.unit) (g.C.Chip.state c.args.card_a.now) (g.D.Chip.state c.args.card_b.now);
+  more = omega arith;
+}
 
-pub returns-clause-calm : goal.returns-clause-calm
-returns-clause-calm g c = calm-then (dev0 g (begin g c)) (dev2 g (both g c)) (dev3 g c) (calm-two g (both g c)) c.note_gap.ensures.calm
+pub returns-in_err-accept_anew-clause-resumed : goal.returns-in_err-accept_anew-clause-resumed
+returns-in_err-accept_anew-clause-resumed g c = record {
+  next = ap (λ (r : Run). r.next) c.accept_anew.ensures.accepted.run ∙ c.begin_span.ensures.begun.next;
+  unfound = ap (λ (r : Run). r.unfound) c.accept_anew.ensures.accepted.run ∙ c.begin_span.ensures.begun.unfound;
+  power = search rules;
+  owes = search rules;
+  refused = c.accept_anew.ensures.accepted.refused;
+  uncut = anew-uncut _ _ _ _ _ _ _ _ c.accept_anew.ensures.accepted.enters;
+}
+
+pub returns-in_err-accept_anew-clause-promises : goal.returns-in_err-accept_anew-clause-promises
+returns-in_err-accept_anew-clause-promises g c = record {
+  recorded =
+      λ room o origin done s supply v r stay may number given values time.
+      let card = (goal.at.returns-in_err-accept_anew-clause-promises g c).After-accept_anew in
+      let p = premises g (span g card) room o origin done s supply v r stay may number given values in
+      subst (λ (f : Bool). GoesOnOrCut f o done s (In 0) [] (one g card) (out1 g card) (dev1 g card)) (failed-one g c) ((first g card p time).1 (fails-one g c));
+  evented =
+      λ room o origin done s supply v r stay may number given speed_is values evented limit time.
+      let card = (goal.at.returns-in_err-accept_anew-clause-promises g c).After-accept_anew in
+      let at = span g card in
+      let p = premises g at room o origin done s supply v r stay may number given values in
+      let e : WithEvents g at p = record { speed_is = speed_is; evented = evented; limit = limit } in
+      let cut = subst (λ (f : Bool). EventsGoOn f o done s (woke g at p).0.run (In 0) Waking (log_of (out1 g card)) (dev1 g card)) (fails-one g c) (evented-one g card p time e) in
+      subst (λ (f : Bool). EventsWoken f (log_of (out g at)) o done s (one g card) (out1 g card) (dev1 g card)) (failed-one g c)
+      (woken-fails o done s (woke g at p).0.run Waking (one g card) (out1 g card) (dev1 g card) (log_of (out g at)) cut (began-unfound g card p time) (began-next g card p time) (limit-one g card p time e));
+  ringed =
+      λ room o origin done s supply v r stay may number given values spans seats ringed counted off time.
+      let card = (goal.at.returns-in_err-accept_anew-clause-promises g c).After-accept_anew in
+      let at = span g card in
+      let p = premises g at room o origin done s supply v r stay may number given values in
+      let q : WithRings g at p = record { spans = spans; seats = seats; ringed = ringed; counted = counted; off = off } in
+      subst (λ (f : Bool). RingsWoken f (log_of (out g at)) o done s spans (one g card) (log_of (out1 g card)) (dev1 g card)) (fails-one g c ∙ failed-one g c)
+      (rings-then g at p q (is_err c.accept_anew.result) (one g card) (out1 g card) (dev1 g card) (ringed-one g card p time q) (first g card p time).1 (power-one g card) (unfound-one g card) (λ well_one. ((first g card p time).0 well_one).odometer ∙ sym (woke g at p).1.odometer));
+  cards =
+      λ room o origin done s supply v r stay may number given speed_is values evented limit vehicle shown time.
+      let card = (goal.at.returns-in_err-accept_anew-clause-promises g c).After-accept_anew in
+      let at = span g card in
+      let p = premises g at room o origin done s supply v r stay may number given values in
+      subst (λ (f : Bool). CardsWoken f (log_of (out g at)) o done s (one g card) (log_of (out1 g card)) (dev1 g card)) (failed-one g c) (
+        (vehicle-one g card o vehicle).1,
+        subst (λ (f : Bool). WakesOn f o done s (woke g at p).0.run.log (log_of (out1 g card)) (dev1 g card)) (fails-one g c) (cards-one g card p time speed_is vehicle shown),
+      );
+}
+
+pub returns-in_err-accept_anew-clause-held : goal.returns-in_err-accept_anew-clause-held
+returns-in_err-accept_anew-clause-held g c = record {
+  held = c.accept_anew.ensures.held.held;
+  cause = subst (λ (f : Bool). HasCause (g.M.Medium.state c.args.unit.now) (g.M.Medium.state c.accept_anew.new.unit) f) (failed-one g c) (cause_after c.in_ok-mend.ensures.cause c.in_err-accept_anew.ensures.held.cause);
+}
+
+pub returns-in_err-accept_anew-clause-goes : goal.returns-in_err-accept_anew-clause-goes
+returns-in_err-accept_anew-clause-goes g c = record {
+  later = later-one g (goal.at.returns-in_err-accept_anew-clause-goes g c).After-accept_anew;
+  calm = calm-one g (goal.at.returns-in_err-accept_anew-clause-goes g c).After-accept_anew;
+  more =
+      let at = (goal.at.returns-in_err-accept_anew-clause-goes g c).After-moment-at in
+      anew-more (first_card g at) Driver c.moment-at.result c.args.speed (mid g at) c.accept_anew.new.run (out g at) c.accept_anew.new.outcome c.accept_anew.ensures.accepted.enters;
+}
+
+pub returns-in_err-accept_anew-2-clause-resumed : goal.returns-in_err-accept_anew-2-clause-resumed
+returns-in_err-accept_anew-2-clause-resumed g c = record {
+  next = ap (λ (r : Run). r.next) c.accept_anew-2.ensures.accepted.run ∙ ap (λ (r : Run). r.next) c.accept_anew.ensures.accepted.run ∙ c.begin_span.ensures.begun.next;
+  unfound = ap (λ (r : Run). r.unfound) c.accept_anew-2.ensures.accepted.run ∙ ap (λ (r : Run). r.unfound) c.accept_anew.ensures.accepted.run ∙ c.begin_span.ensures.begun.unfound;
+  power = search rules;
+  owes = search rules;
+  refused = c.accept_anew-2.ensures.accepted.refused ∙ c.accept_anew.ensures.accepted.refused;
+  uncut = uncut-two g (goal.at.returns-in_err-accept_anew-2-clause-resumed g c).After-accept_anew-2;
+}
+
+pub returns-in_err-accept_anew-2-clause-promises : goal.returns-in_err-accept_anew-2-clause-promises
+returns-in_err-accept_anew-2-clause-promises g c = record {
+  recorded =
+      λ room o origin done s supply v r stay may number given values time.
+      let cards = (goal.at.returns-in_err-accept_anew-2-clause-promises g c).After-accept_anew-2 in
+      let p = premises g (start g cards) room o origin done s supply v r stay may number given values in
+      subst (λ (f : Bool). GoesOnOrCut f o done s (In 0) [] (two g cards) (out2 g cards) (dev2 g cards)) (fails-two g c ∙ failed-two g c) (second g cards p time);
+  evented =
+      λ room o origin done s supply v r stay may number given speed_is values evented limit time.
+      let cards = (goal.at.returns-in_err-accept_anew-2-clause-promises g c).After-accept_anew-2 in
+      let at = start g cards in
+      let p = premises g at room o origin done s supply v r stay may number given values in
+      let e : WithEvents g at p = record { speed_is = speed_is; evented = evented; limit = limit } in
+      let cut = subst (λ (f : Bool). EventsGoOn f o done s (woke g at p).0.run (In 0) Waking (log_of (out2 g cards)) (dev2 g cards)) (fails-two g c) (evented-two g cards p time e) in
+      subst (λ (f : Bool). EventsWoken f (log_of (out g at)) o done s (two g cards) (out2 g cards) (dev2 g cards)) (failed-two g c)
+      (woken-fails o done s (woke g at p).0.run Waking (two g cards) (out2 g cards) (dev2 g cards) (log_of (out g at)) cut (began-unfound-two g cards p time) (began-next-two g cards p time) (limit-two g cards p time e));
+  ringed =
+      λ room o origin done s supply v r stay may number given values spans seats ringed counted off time.
+      let cards = (goal.at.returns-in_err-accept_anew-2-clause-promises g c).After-accept_anew-2 in
+      let p = premises g (start g cards) room o origin done s supply v r stay may number given values in
+      let q : WithRings g (start g cards) p = record { spans = spans; seats = seats; ringed = ringed; counted = counted; off = off } in
+      subst (λ (f : Bool). RingsWoken f (log_of (out g (start g cards))) o done s spans (two g cards) (log_of (out2 g cards)) (dev2 g cards)) (fails-two g c ∙ failed-two g c) (rings-two g cards p time q);
+  cards =
+      λ room o origin done s supply v r stay may number given speed_is values evented limit vehicle shown time.
+      let cards = (goal.at.returns-in_err-accept_anew-2-clause-promises g c).After-accept_anew-2 in
+      let at = start g cards in
+      let p = premises g at room o origin done s supply v r stay may number given values in
+      subst (λ (f : Bool). CardsWoken f (log_of (out g at)) o done s (two g cards) (log_of (out2 g cards)) (dev2 g cards)) (failed-two g c) (
+        vehicle-two g cards o vehicle,
+        subst (λ (f : Bool). WakesOn f o done s (woke g at p).0.run.log (log_of (out2 g cards)) (dev2 g cards)) (fails-two g c) (cards-two g cards p time speed_is vehicle shown),
+      );
+}
+
+pub returns-in_err-accept_anew-2-clause-held : goal.returns-in_err-accept_anew-2-clause-held
+returns-in_err-accept_anew-2-clause-held g c = record {
+  held = c.accept_anew-2.ensures.held.held;
+  cause = subst (λ (f : Bool). HasCause (g.M.Medium.state c.args.unit.now) (g.M.Medium.state c.accept_anew-2.new.unit) f) (failed-two g c) (cause_after c.in_ok-mend.ensures.cause (cause_after c.in_ok-accept_anew.ensures.held.cause c.in_err-accept_anew-2.ensures.held.cause));
+}
+
+pub returns-in_err-accept_anew-2-clause-goes : goal.returns-in_err-accept_anew-2-clause-goes
+returns-in_err-accept_anew-2-clause-goes g c = record {
+  later = later-two g (goal.at.returns-in_err-accept_anew-2-clause-goes g c).After-accept_anew-2;
+  calm = calm-two g (goal.at.returns-in_err-accept_anew-2-clause-goes g c).After-accept_anew-2;
+  more = more-two g (goal.at.returns-in_err-accept_anew-2-clause-goes g c).After-accept_anew-2;
+}
+
+pub returns-then-is_first-clause-resumed : goal.returns-then-is_first-clause-resumed
+returns-then-is_first-clause-resumed g c = record {
+  next = ap (λ (r : Run). r.next) c.accept_anew-2.ensures.accepted.run ∙ ap (λ (r : Run). r.next) c.accept_anew.ensures.accepted.run ∙ c.begin_span.ensures.begun.next;
+  unfound = ap (λ (r : Run). r.unfound) c.accept_anew-2.ensures.accepted.run ∙ ap (λ (r : Run). r.unfound) c.accept_anew.ensures.accepted.run ∙ c.begin_span.ensures.begun.unfound;
+  power = power-two g (goal.at.returns-then-is_first-clause-resumed g c).After-accept_anew-2;
+  owes = ap (λ (r : Run). r.minutes.owing) c.accept_anew-2.ensures.accepted.run ∙ ap (λ (r : Run). r.minutes.owing) c.accept_anew.ensures.accepted.run ∙ none g (goal.at.returns-then-is_first-clause-resumed g c).After-moment-at;
+  refused = c.accept_anew-2.ensures.accepted.refused ∙ c.accept_anew.ensures.accepted.refused;
+  uncut = uncut-two g (goal.at.returns-then-is_first-clause-resumed g c).After-accept_anew-2;
+}
+
+pub returns-then-is_first-clause-promises : goal.returns-then-is_first-clause-promises
+returns-then-is_first-clause-promises g c = record {
+  recorded =
+      λ room o origin done s supply v r stay may number given values time.
+      let cards = (goal.at.returns-then-is_first-clause-promises g c).After-accept_anew-2 in
+      let p = premises g (start g cards) room o origin done s supply v r stay may number given values in
+      subst (λ (f : Bool). GoesOnOrCut f o done s (In 0) [] (two g cards) (out2 g cards) (dev2 g cards)) (fine-first g c) (second g cards p time);
+  evented =
+      λ room o origin done s supply v r stay may number given speed_is values evented limit time.
+      let cards = (goal.at.returns-then-is_first-clause-promises g c).After-accept_anew-2 in
+      let at = start g cards in
+      let well_two = fine-first g c in
+      let p = premises g at room o origin done s supply v r stay may number given values in
+      let e : WithEvents g at p = record { speed_is = speed_is; evented = evented; limit = limit } in
+      let untold = none-told v.unfound c.args.journal.kept v.log.breaks (out g at).breaks.items (ap (λ (x : Values). x.log.breaks) values) (none-before g c) in
+      let stands_so = lit g cards p time well_two in
+      let noted_so =
+      none-woken o origin done s supply v (dev0 g at) (mended g at) r may number given c.args.journal.kept evented (quiet g at) (is g at p).2 (woken g at p e).2 (woke g at p).0 (is g at p).0 (is g at p).1 (woken g at p e).0.bare
+      (two g cards) (out2 g cards) (dev2 g cards) (goes-on g cards p time well_two) (evented-on g cards p time well_two e) (ungiven_of stands_so.span) stands_so.cabin (small g at p) untold (same-noted (dev2 g cards).unit (dev2 g cards).card_a (dev2 g cards).card_b) in
+      woken-on o done s (within g cards p time well_two).within.b (two g cards) (out2 g cards) (dev2 g cards) (empty g cards p time well_two e) (within g cards p time well_two) refl noted_so (limit-two g cards p time e)
+      (begun-watched o c.args.rule (run g at) (mid g at) (two g cards) c.mend.new.journal c.begin_span.ensures.begun limit ((same-two g cards).1 ∙ (same-one g (driver g cards)).1)) (log_of (out g at)) (began-here g cards p time well_two);
+  ringed =
+      λ room o origin done s supply v r stay may number given values spans seats ringed counted off time.
+      let cards = (goal.at.returns-then-is_first-clause-promises g c).After-accept_anew-2 in
+      let p = premises g (start g cards) room o origin done s supply v r stay may number given values in
+      let q : WithRings g (start g cards) p = record { spans = spans; seats = seats; ringed = ringed; counted = counted; off = off } in
+      subst (λ (f : Bool). RingsWoken f (log_of (out g (start g cards))) o done s spans (two g cards) (log_of (out2 g cards)) (dev2 g cards)) (fine-first g c) (rings-two g cards p time q);
+  cards =
+      λ room o origin done s supply v r stay may number given speed_is values evented limit vehicle shown time.
+      let cards = (goal.at.returns-then-is_first-clause-promises g c).After-accept_anew-2 in
+      let at = start g cards in
+      let well_two = fine-first g c in
+      let p = premises g at room o origin done s supply v r stay may number given values in
+      let e : WithEvents g at p = record { speed_is = speed_is; evented = evented; limit = limit } in
+      let untold = none-told v.unfound c.args.journal.kept v.log.breaks (out g at).breaks.items (ap (λ (x : Values). x.log.breaks) values) (none-before g c) in
+      let stands_so = lit g cards p time well_two in
+      let x = within g cards p time well_two in
+      woken-all false o done s x.within.b.run.log (log_of (out g at)) (two g cards) (log_of (out2 g cards)) (dev2 g cards) (began-here g cards p time well_two) (vehicle-two g cards o vehicle)
+      (gap-shown o done s (two g cards) (out2 g cards) (dev2 g cards) (dev2 g cards) x (ungiven_of stands_so.span) stands_so.cabin (off-here g cards p time well_two) (bare-here g cards p time well_two e) (positive g at p) None
+      (none-list o done s supply v (dev0 g at) (mended g at) r may number given c.args.journal.kept evented (quiet g at) (is g at p).2 (woken g at p e).2 x.within.b.run.log (log-here g cards p time well_two) untold) (vehicle-two g cards o vehicle) (cards-here g cards p time well_two speed_is vehicle shown)
+      false (two g cards) (out2 g cards).breaks NoGap (refl, refl, refl) (left-itself o (dev2 g cards)) (λ bad. none-fails bad) (none-noted (two g cards).keeper.cabin.cards (two g cards).keeper.memory.registration (dev2 g cards)));
+}
+
+pub returns-then-is_first-clause-held : goal.returns-then-is_first-clause-held
+returns-then-is_first-clause-held g c = record {
+  held = c.accept_anew-2.ensures.held.held;
+  cause = cause_after c.in_ok-mend.ensures.cause (cause_after c.in_ok-accept_anew.ensures.held.cause c.in_ok-accept_anew-2.ensures.held.cause);
+}
+
+pub returns-then-is_first-clause-goes : goal.returns-then-is_first-clause-goes
+returns-then-is_first-clause-goes g c = record {
+  later = later-two g (goal.at.returns-then-is_first-clause-goes g c).After-accept_anew-2;
+  calm = calm-two g (goal.at.returns-then-is_first-clause-goes g c).After-accept_anew-2;
+  more = more-two g (goal.at.returns-then-is_first-clause-goes g c).After-accept_anew-2;
+}
+
+pub returns-clause-resumed : goal.returns-clause-resumed
+returns-clause-resumed g c = record {
+  next = ap (λ (r : Run). r.next) c.note_gap.ensures.noted.run ∙ ap (λ (r : Run). r.next) c.accept_anew-2.ensures.accepted.run ∙ ap (λ (r : Run). r.next) c.accept_anew.ensures.accepted.run ∙ c.begin_span.ensures.begun.next;
+  unfound = ap (λ (r : Run). r.unfound) c.note_gap.ensures.noted.run ∙ ap (λ (r : Run). r.unfound) c.accept_anew-2.ensures.accepted.run ∙ ap (λ (r : Run). r.unfound) c.accept_anew.ensures.accepted.run ∙ c.begin_span.ensures.begun.unfound;
+  power = on_ok c.note_gap.result (λ well_. ap (λ (r : Run). r.power) c.note_gap.ensures.noted.run ∙ power-two g (both g c));
+  owes =
+      on_ok c.note_gap.result (λ well_.
+      ap (λ (r : Run). r.minutes.owing) c.note_gap.ensures.noted.run ∙ ap (λ (r : Run). r.minutes.owing) c.accept_anew-2.ensures.accepted.run ∙ ap (λ (r : Run). r.minutes.owing) c.accept_anew.ensures.accepted.run ∙ none g (begin g c));
+  refused = c.accept_anew-2.ensures.accepted.refused ∙ c.accept_anew.ensures.accepted.refused;
+  uncut = gap-uncut _ _ _ _ _ _ _ c.note_gap.ensures.noted.reach.0 c.note_gap.ensures.noted.reach.1 ∙ uncut-two g (both g c);
+}
+
+pub returns-clause-promises : goal.returns-clause-promises
+returns-clause-promises g c = record {
+  recorded =
+      λ room o origin done s supply v r stay may number given values time.
+      let p = premises g (begin g c) room o origin done s supply v r stay may number given values in
+      goes-plain (is_err c.note_gap.result) o done s (In 0) [] (new g c) (out3 g c) (dev3 g c) (here g c p time).within.b (goes g c p time);
+  evented =
+      λ room o origin done s supply v r stay may number given speed_is values evented limit time.
+      let cards = both g c in
+      let at = begin g c in
+      let p = premises g at room o origin done s supply v r stay may number given values in
+      let e : WithEvents g at p = record { speed_is = speed_is; evented = evented; limit = limit } in
+      let past = time-two g c p time in
+      let stands_so = lit g cards p past (fine g c) in
+      let early : c.args.journal.kept < s.number / 60 = subst (λ (n : ℕ). c.args.journal.kept < n / 60) (next_is g at p) c.requires.later in
+      let gap = c.note_gap.ensures.leaves.events in
+      let noted_so =
+      gap-woken o origin done s supply v (dev0 g at) (mended g at) r may number given c.args.journal.kept evented (quiet g at) (is g at p).2 (woken g at p e).2 (woke g at p).0 (is g at p).0 (is g at p).1 (woken g at p e).0.bare
+      (two g cards) (out2 g cards) (dev2 g cards) (goes-on g cards p past (fine g c)) (evented-on g cards p past (fine g c) e) (ungiven_of stands_so.span) stands_so.cabin (small g at p) (told-before g c p time) early (dev3 g c)
+      (is_err c.note_gap.result) (new g c) c.note_gap.new.breaks gap.0 gap.1 (gap-events g c) gap.3 (c.note_gap.ensures.leaves.beside o done s (out2 g cards) (here g c p time) (comes g cards p past (fine g c))) in
+      woken-ends o done s (here g c p time).within.b (empty g cards p past (fine g c) e) (is_err c.note_gap.result) (new g c) (out3 g c) (dev3 g c) (goes g c p time) noted_so
+      (ap (λ (b : Beginning). b.run.unfound) (began g cards p past (fine g c)) ∙ began-unfound-two g cards p past ∙ sym (ap (λ (r : Run). r.unfound) c.note_gap.ensures.noted.run))
+      (ap (λ (b : Beginning). b.run.next) (began g cards p past (fine g c)) ∙ began-next-two g cards p past ∙ sym (ap (λ (r : Run). r.next) c.note_gap.ensures.noted.run))
+      (ap (λ (m : UnitFacts). m.limit) (stays g c) ∙ limit-two g cards p past e)
+      (begun-watched o c.args.rule (run g at) (mid g at) (new g c) c.mend.new.journal c.begin_span.ensures.begun limit (ap (λ (r : Run). r.watch) c.note_gap.ensures.noted.run ∙ (same-two g cards).1 ∙ (same-one g (driver g cards)).1)) (log_of (out g at)) (began-here g cards p past (fine g c));
+  ringed =
+      λ room o origin done s supply v r stay may number given values spans seats ringed counted off time.
+      let cards = both g c in
+      let at = begin g c in
+      let p = premises g at room o origin done s supply v r stay may number given values in
+      let q : WithRings g at p = record { spans = spans; seats = seats; ringed = ringed; counted = counted; off = off } in
+      let past = time-two g c p time in
+      let began_so = began g cards p past (fine g c) in
+      let rings = subst (λ (b : Beginning). RingsWithin o done s b.run.log [] (two g cards) (log_of (out2 g cards)) spans (told g at p q) (dev2 g cards)) (sym began_so)
+      (subst (λ (f : Bool). RingsGoOn f o done s (woke g at p).0 [] (two g cards) (log_of (out2 g cards)) spans (told g at p q) (dev2 g cards)) (fine g c) (ringed-two g cards p past q)) in
+      let gone : RingsGoOn (is_err c.note_gap.result) o done s (woke g at p).0 [] (new g c) (log_of (out3 g c)) spans (told g at p q) (dev3 g c) =
+      subst (λ (b : Beginning). RingsGoOn (is_err c.note_gap.result) o done s b [] (new g c) (log_of (out3 g c)) spans (told g at p q) (dev3 g c)) began_so
+      (c.note_gap.ensures.promises.ringed o done s (out2 g cards) (here g c p time) (comes g cards p past (fine g c)) spans (told g at p q) rings) in
+      rings-then g at p q (is_err c.note_gap.result) (new g c) (out3 g c) (dev3 g c) gone (λ fails. subst (λ (f : Bool). GoesOnOrFails f o done s (In 0) [] (new g c) (out3 g c) (dev3 g c) (here g c p time).within.b) fails (goes g c p time))
+      (ap (λ (r : Run). r.power) c.note_gap.ensures.noted.run ∙ power-two g cards) (ap (λ (r : Run). r.unfound) c.note_gap.ensures.noted.run ∙ unfound-two g cards)
+      (λ well_three. goes-odometer (is_err c.note_gap.result) o done s (In 0) [] (new g c) (out3 g c) (dev3 g c) (here g c p time).within.b (goes g c p time) well_three ∙ ap (λ (b : Beginning). odometer_after (odometer_at o.recording.unit) b.travel.before) began_so ∙ sym (woke g at p).1.odometer);
+  cards =
+      λ room o origin done s supply v r stay may number given speed_is values evented limit vehicle shown time.
+      let cards = both g c in
+      let at = begin g c in
+      let p = premises g at room o origin done s supply v r stay may number given values in
+      let e : WithEvents g at p = record { speed_is = speed_is; evented = evented; limit = limit } in
+      let past = time-two g c p time in
+      let stands_so = lit g cards p past (fine g c) in
+      let x = here g c p time in
+      let here_is : (two g cards).next ≡ s.number = x.within.next ∙ sym x.within.moment.number in
+      let same_gap : gap_of c.args.journal.kept s.number ≡ gap_of c.last_kept-kept.result (two g cards).next = ap (λ (n : ℕ). gap_of n s.number) (sym c.last_kept-kept.ensures.kept) ∙ ap (gap_of c.last_kept-kept.result) (sym here_is) in
+      woken-all (is_err c.note_gap.result) o done s x.within.b.run.log (log_of (out g at)) (new g c) (log_of (out3 g c)) (dev3 g c) (began-here g cards p past (fine g c)) (ap (λ (m : UnitFacts). m.registration) (stays g c) ∙ vehicle-two g cards o vehicle)
+      (gap-shown o done s (two g cards) (out2 g cards) (dev2 g cards) (dev3 g c) x (ungiven_of stands_so.span) stands_so.cabin (off-here g cards p past (fine g c)) (bare-here g cards p past (fine g c) e) (positive g at p) (gap_of c.last_kept-kept.result (two g cards).next)
+      (λ crew. some-list o done s supply v (dev0 g at) (mended g at) r may number given c.args.journal.kept evented (quiet g at) (is g at p).2 (woken g at p e).2 x.within.b.run.log (log-here g cards p past (fine g c)) (told-before g c p time) crew ∙ ap (λ (q : Option Span). gap_list q crew) same_gap)
+      (vehicle-two g cards o vehicle) (cards-here g cards p past (fine g c) speed_is vehicle shown)
+      (is_err c.note_gap.result) (new g c) c.note_gap.new.breaks c.note_gap.ensures.noted.reach.0 c.note_gap.ensures.noted.reach.1 (c.note_gap.ensures.leaves.beside o done s (out2 g cards) x (comes g cards p past (fine g c))).0
+      (λ fails. (subst (λ (f : Bool). GoesOnOrFails f o done s (In 0) [] (new g c) (out3 g c) (dev3 g c) x.within.b) fails (goes g c p time)).within.moment.up_to.uncut) c.note_gap.ensures.leaves.card_events);
+}
+
+pub returns-clause-held : goal.returns-clause-held
+returns-clause-held g c = record {
+  held = c.note_gap.ensures.held.held;
+  cause = cause_after c.in_ok-mend.ensures.cause (cause_after c.in_ok-accept_anew.ensures.held.cause (cause_after c.in_ok-accept_anew-2.ensures.held.cause c.note_gap.ensures.held.cause));
+}
+
+pub returns-clause-goes : goal.returns-clause-goes
+returns-clause-goes g c = record {
+  later = later-then (dev0 g (begin g c)) (dev2 g (both g c)) (dev3 g c) (later-two g (both g c)) c.note_gap.ensures.goes.later;
+  calm = calm-then (dev0 g (begin g c)) (dev2 g (both g c)) (dev3 g c) (calm-two g (both g c)) c.note_gap.ensures.goes.calm;
+  more =
+      let cards = more-two g (both g c) in
+      let gap = c.note_gap.ensures.goes.more in
+      omega (arith, cards, gap);
+}

@@ -125,15 +125,6 @@ returns-in-Run-clause-room g c = λ left offs insertions actions h.
     on_ok c.drive.result (λ well some. ok_gives c.drive.result (c.drive.ensures.room left offs insertions actions
     (room-less cuts_from run o (c.in-Run.seconds + left) (c.in-Run.seconds + left) (0 + offs) offs (k + insertions) (k + insertions) (a + actions) (a + actions) (omega arith) (omega arith) (omega arith) (omega arith) here)) well)
 
-pub returns-in-Act-clause-time : goal.returns-in-Act-clause-time
-returns-in-Act-clause-time g c = λ h. h
-
-pub returns-in-Off-clause-time : goal.returns-in-Off-clause-time
-returns-in-Off-clause-time g c = λ h. h
-
-pub returns-in-Run-clause-time : goal.returns-in-Run-clause-time
-returns-in-Run-clause-time g c = c.drive.ensures.time
-
 pub returns-in-Act-clause-later : goal.returns-in-Act-clause-later
 returns-in-Act-clause-later g c = after-same (devices (g.M.Medium.state c.args.unit.now) (g.C.Chip.state c.args.card_a.now) (g.D.Chip.state c.args.card_b.now))
 

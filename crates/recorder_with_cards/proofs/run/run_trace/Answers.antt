@@ -39,6 +39,7 @@ use Rattle.recorder_with_cards.proofs.Later.{state-as-it-was}
 use Rattle.run_acts.specs.Recording.{log_of}
 use Rattle.run_outcome.proofs.Broken.{broke-none, broke-then, broke-all, broke-nothing, calm-all}
 use Rattle.run_minutes.proofs.Calm.{card-rests, calm-then, still-all}
+use Rattle.recorder_with_cards.proofs.Time.{after-time}
 use Rattle.recorder_with_cards.proofs.run.run_trace.Goals as goal
 
 -- ---- the opening
@@ -169,7 +170,7 @@ loop-i-preserved g c =
           f.idle f.room);
       unfound = e.unfound;
       waits = subst (λ (n : ℕ). Waits items n (i + 1)) (sym waits) (waits-more items i c.loop-i.first item c.get-item.ensures v.first c.requires.well.runs v.waits);
-      time = λ h. v.time (f.time h);
+      time = λ h. v.time (after-time f.later h);
       later = after-then (devices (g.U.Medium.state c.args.unit.now) (g.C.Chip.state c.args.card_a.now) (g.C.Chip.state c.args.card_b.now)) (devices (g.U.Medium.state c.loop-i.unit) (g.C.Chip.state c.loop-i.card_a) (g.C.Chip.state c.loop-i.card_b)) (devices (g.U.Medium.state c.go_on.new.unit) (g.C.Chip.state c.go_on.new.card_a) (g.C.Chip.state c.go_on.new.card_b)) v.later f.later;
       calm = calm-then (devices (g.U.Medium.state c.args.unit.now) (g.C.Chip.state c.args.card_a.now) (g.C.Chip.state c.args.card_b.now)) (devices (g.U.Medium.state c.loop-i.unit) (g.C.Chip.state c.loop-i.card_a) (g.C.Chip.state c.loop-i.card_b)) (devices (g.U.Medium.state c.go_on.new.unit) (g.C.Chip.state c.go_on.new.card_a) (g.C.Chip.state c.go_on.new.card_b)) v.calm f.calm;
       broke = broke-then v.broke f.broke;
@@ -185,7 +186,7 @@ loop-i-preserved g c =
           let parts = total-parts items i in
           let at = v.next in
           let here : number_after start (take i items) ≡ c.loop-i.run.next = omega (arith, parts, at) in
-          let was = v.cards x a b h (f.time time) few in
+          let was = v.cards x a b h (after-time f.later time) few in
           subst (λ (ss : List TraceSecond). RunCarded o ss c.go_on.new.run c.go_on.new.outcome now)
           (sym (seconds-more start items i c.loop-i.first item c.loop-i.run.next c.get-item.ensures here v.waits))
           (f.cards many o (seconds_of start (take i items)) little was time);
@@ -240,7 +241,7 @@ returns-in_err-go_on-clause-fault g c = λ x a b h time few.
     let many = v.waits.count in
     let first = v.first in
     let low : c.loop-i.i < length items = omega (arith, c.loop-i-test.true, c.len-i-end.ensures) in
-    absurd (f.cards many (origin_of x a b c.args.trace.now.start (devices (g.U.Medium.state c.args.unit.now) (g.C.Chip.state c.args.card_a.now) (g.C.Chip.state c.args.card_b.now))) (seconds_of c.args.trace.now.start (take c.loop-i.i items)) (omega (arith, many, few, low, first)) (v.cards x a b h (f.time time) few) time)
+    absurd (f.cards many (origin_of x a b c.args.trace.now.start (devices (g.U.Medium.state c.args.unit.now) (g.C.Chip.state c.args.card_a.now) (g.C.Chip.state c.args.card_b.now))) (seconds_of c.args.trace.now.start (take c.loop-i.i items)) (omega (arith, many, few, low, first)) (v.cards x a b h (after-time f.later time) few) time)
 
 pub returns-clause-later : goal.returns-clause-later
 returns-clause-later g c = c.loop-i.invariant.later

@@ -1,8 +1,8 @@
-use Rattle.std.proofs.Common.{◌≡◌, ◌∙◌, ℕ, Bool, true, false, Option, Some, None, [], ◌∷◌, refl, ap, sym, subst, IfSome, is_some, ◌≤◌}
+use Rattle.std.proofs.Common.{arith, rules, ◌≡◌, ◌∙◌, ℕ, Bool, true, false, Option, Some, None, [], ◌∷◌, refl, ap, sym, subst, IfSome, is_some, ◌≤◌}
 use Rattle.activity_codec.specs.declared.values.Slot.{Slot}
 use Rattle.trace_model.specs.declared.Card.{Card}
 use Rattle.trace_model.specs.declared.Card.TheVariants.{A, B}
-use Rattle.tach_media.proofs.Runs.{on_ok, ok_gives}
+use Rattle.tach_media.proofs.Runs.{on_ok, ok_gives, no_reads}
 use Rattle.card_slots.specs.Calls.{seat_in, card_in}
 use Rattle.run_crew.specs.declared.cards.Known.{Known}
 use Rattle.run_crew.specs.Cards.{session_of, known_of}
@@ -22,6 +22,7 @@ use Rattle.run_acts.specs.Noting.{fall_events, IsNoteRecorded, NotesFall}
 use Rattle.run_acts.proofs.NotedEvents.{same-noted, noted-any}
 use Rattle.run_rings.proofs.Same.{rings-left}
 use Rattle.run_speeds.specs.Speeds.{LeavesSpeeds}
+use Rattle.run_events.proofs.Newest.{knows-left}
 use Rattle.run_minutes.proofs.Later.{state-by, later-same}
 use Rattle.card_files.specs.declared.card_event.CardEvent.{CardEvent}
 use Rattle.safety_model.specs.Safe.{card_of, Devices}
@@ -155,7 +156,7 @@ module _ (g : Over) (c : In-Some-number_in g) (k : OneCard c.in-Some.card (g.C.C
 
 module _ (g : Over) (c : After-note_on g) where
   abbrev there-a : In-Some-number_in g
-  there-a = (goal.at.returns-in-A-clause-cause g c).In-Some-number_in
+  there-a = (goal.at.returns-in-A-clause-held g c).In-Some-number_in
 
   abbrev side-a : OneCard there-a.in-Some.card (g.C.Chip.state c.args.card_a.now) (g.D.Chip.state c.args.card_b.now)
   side-a =
@@ -164,7 +165,7 @@ module _ (g : Over) (c : After-note_on g) where
 
 module _ (g : Over) (c : After-note_on-in-B g) where
   abbrev there-b : In-Some-number_in g
-  there-b = (goal.at.returns-in-B-clause-cause g c).In-Some-number_in
+  there-b = (goal.at.returns-in-B-clause-held g c).In-Some-number_in
 
   abbrev side-b : OneCard there-b.in-Some.card (g.C.Chip.state c.args.card_a.now) (g.D.Chip.state c.args.card_b.now)
   side-b =
@@ -173,97 +174,85 @@ module _ (g : Over) (c : After-note_on-in-B g) where
 
 -- ---- card a, and card b
 
-pub returns-in-A-clause-held : goal.returns-in-A-clause-held
-returns-in-A-clause-held g c =
-    let e = c.note_on.ensures in
-    held-noted A c.args.slot (now_moment c.args.run.now) c.args.run.now c.note_on.new.run c.args.breaks.now c.note_on.new.breaks c.note_on.ensures.noted.0 c.note_on.ensures.noted.1 (g.M.Medium.state c.args.unit.now) (g.M.Medium.state c.note_on.new.unit) (g.C.Chip.state c.args.card_a.now) (g.C.Chip.state c.note_on.new.card) (g.D.Chip.state c.args.card_b.now) (g.C.Chip.card c.args.card_a.now) (g.C.Chip.card c.note_on.new.card) (g.D.Chip.card c.args.card_b.now) refl c.requires.held e.unit e.card e.size e.stands
-
 pub returns-in-A-clause-going : goal.returns-in-A-clause-going
 returns-in-A-clause-going g c =
     let e = c.note_on.ensures in
-    on_ok c.note_on.result (λ well. going-noted A c.args.slot (now_moment c.args.run.now) c.args.run.now c.note_on.new.run c.args.breaks.now c.note_on.new.breaks c.note_on.ensures.noted.0 c.note_on.ensures.noted.1 (g.M.Medium.state c.args.unit.now) (g.M.Medium.state c.note_on.new.unit) (g.C.Chip.state c.args.card_a.now) (g.C.Chip.state c.note_on.new.card) (g.D.Chip.state c.args.card_b.now) (g.C.Chip.card c.args.card_a.now) (g.C.Chip.card c.note_on.new.card) (g.D.Chip.card c.args.card_b.now) c.requires.going (ok_gives c.note_on.result e.ready well) e.card (λ card h. ok_gives c.note_on.result (e.rows card h) well) e.stands)
-
-pub returns-in-A-clause-only : goal.returns-in-A-clause-only
-returns-in-A-clause-only g c = only-noted A c.args.slot (now_moment c.args.run.now) c.args.run.now c.note_on.new.run c.args.breaks.now c.note_on.new.breaks c.note_on.ensures.noted.0 c.note_on.ensures.noted.1
-
-pub returns-in-A-clause-room : goal.returns-in-A-clause-room
-returns-in-A-clause-room g c = room-noted A c.args.slot (now_moment c.args.run.now) c.args.run.now c.note_on.new.run c.args.breaks.now c.note_on.new.breaks c.note_on.ensures.noted.0 c.note_on.ensures.noted.1 (some g (there-a g c) (side-a g c) c.note_on.ensures)
-
-pub returns-in-A-clause-more : goal.returns-in-A-clause-more
-returns-in-A-clause-more g c = more-noted A c.args.slot (now_moment c.args.run.now) c.args.run.now c.note_on.new.run c.args.breaks.now c.note_on.new.breaks c.note_on.ensures.noted.0 c.note_on.ensures.noted.1
-
-pub returns-in-A-clause-cause : goal.returns-in-A-clause-cause
-returns-in-A-clause-cause g c = c.note_on.ensures.cause
+    on_ok c.note_on.result (λ well. going-noted A c.args.slot (now_moment c.args.run.now) c.args.run.now c.note_on.new.run c.args.breaks.now c.note_on.new.breaks c.note_on.ensures.noted.0 c.note_on.ensures.noted.1 (g.M.Medium.state c.args.unit.now) (g.M.Medium.state c.note_on.new.unit) (g.C.Chip.state c.args.card_a.now) (g.C.Chip.state c.note_on.new.card) (g.D.Chip.state c.args.card_b.now) (g.C.Chip.card c.args.card_a.now) (g.C.Chip.card c.note_on.new.card) (g.D.Chip.card c.args.card_b.now) c.requires.going (ok_gives c.note_on.result e.ready well) e.card (λ card h. ok_gives c.note_on.result (e.rows card h) well) e.stands
+    (knows-left c.args.run.now.watch.newest (g.M.Medium.state c.args.unit.now) (g.M.Medium.state c.note_on.new.unit) (g.met.M.Medium.coherent c.args.unit.now) (g.met.M.Medium.coherent c.note_on.new.unit) c.requires.going.ready.unit_ready.works e.speeds))
 
 pub returns-in-A-clause-recorded : goal.returns-in-A-clause-recorded
 returns-in-A-clause-recorded g c = recorded g (there-a g c) (side-a g c) c.note_on.ensures
 
-pub returns-in-A-clause-leaves : goal.returns-in-A-clause-leaves
-returns-in-A-clause-leaves g c = leaves g (there-a g c) (side-a g c) c.note_on.ensures
-
-pub returns-in-A-clause-events : goal.returns-in-A-clause-events
-returns-in-A-clause-events g c = notes g (there-a g c) (side-a g c) c.note_on.ensures
-
-pub returns-in-A-clause-later : goal.returns-in-A-clause-later
-returns-in-A-clause-later g c = later g (there-a g c) (side-a g c) c.note_on.ensures
-
-pub returns-in-A-clause-card_events : goal.returns-in-A-clause-card_events
-returns-in-A-clause-card_events g c = card-events g (there-a g c) (side-a g c) c.note_on.ensures
-
-pub returns-in-A-clause-places : goal.returns-in-A-clause-places
-returns-in-A-clause-places g c = places g (there-a g c) (side-a g c) c.note_on.ensures
-
-pub returns-in-A-clause-calm : goal.returns-in-A-clause-calm
-returns-in-A-clause-calm g c = calm g (there-a g c) (side-a g c) c.note_on.ensures
-
 pub returns-in-A-clause-noted : goal.returns-in-A-clause-noted
-returns-in-A-clause-noted g c = (c.note_on.ensures.events.fell, noted-then g (there-a g c) (side-a g c) c.note_on.ensures, c.note_on.ensures.events.failing)
+returns-in-A-clause-noted g c = record {
+  fell = (c.note_on.ensures.events.fell, noted-then g (there-a g c) (side-a g c) c.note_on.ensures, c.note_on.ensures.events.failing);
+  run = only-noted A c.args.slot (now_moment c.args.run.now) c.args.run.now c.note_on.new.run c.args.breaks.now c.note_on.new.breaks c.note_on.ensures.noted.0 c.note_on.ensures.noted.1;
+  room = room-noted A c.args.slot (now_moment c.args.run.now) c.args.run.now c.note_on.new.run c.args.breaks.now c.note_on.new.breaks c.note_on.ensures.noted.0 c.note_on.ensures.noted.1 (some g (there-a g c) (side-a g c) c.note_on.ensures);
+}
 
-pub returns-in-B-clause-held : goal.returns-in-B-clause-held
-returns-in-B-clause-held g c =
-    let e = c.note_on-in-B.ensures in
-    held-noted B c.args.slot (now_moment c.args.run.now) c.args.run.now c.note_on-in-B.new.run c.args.breaks.now c.note_on-in-B.new.breaks c.note_on-in-B.ensures.noted.0 c.note_on-in-B.ensures.noted.1 (g.M.Medium.state c.args.unit.now) (g.M.Medium.state c.note_on-in-B.new.unit) (g.D.Chip.state c.args.card_b.now) (g.D.Chip.state c.note_on-in-B.new.card) (g.C.Chip.state c.args.card_a.now) (g.D.Chip.card c.args.card_b.now) (g.D.Chip.card c.note_on-in-B.new.card) (g.C.Chip.card c.args.card_a.now) refl c.requires.held e.unit e.card e.size e.stands
+pub returns-in-A-clause-leaves : goal.returns-in-A-clause-leaves
+returns-in-A-clause-leaves g c = record {
+  card_events = card-events g (there-a g c) (side-a g c) c.note_on.ensures;
+  places = places g (there-a g c) (side-a g c) c.note_on.ensures;
+  events = notes g (there-a g c) (side-a g c) c.note_on.ensures;
+  rings = c.note_on.ensures.rings;
+  beside = leaves g (there-a g c) (side-a g c) c.note_on.ensures;
+}
+
+pub returns-in-A-clause-held : goal.returns-in-A-clause-held
+returns-in-A-clause-held g c = record {
+  held =
+      let e = c.note_on.ensures in
+      held-noted A c.args.slot (now_moment c.args.run.now) c.args.run.now c.note_on.new.run c.args.breaks.now c.note_on.new.breaks c.note_on.ensures.noted.0 c.note_on.ensures.noted.1 (g.M.Medium.state c.args.unit.now) (g.M.Medium.state c.note_on.new.unit) (g.C.Chip.state c.args.card_a.now) (g.C.Chip.state c.note_on.new.card) (g.D.Chip.state c.args.card_b.now) (g.C.Chip.card c.args.card_a.now) (g.C.Chip.card c.note_on.new.card) (g.D.Chip.card c.args.card_b.now) refl c.requires.held e.unit e.card e.size e.stands;
+  cause = c.note_on.ensures.cause;
+}
+
+pub returns-in-A-clause-goes : goal.returns-in-A-clause-goes
+returns-in-A-clause-goes g c = record {
+  later = later g (there-a g c) (side-a g c) c.note_on.ensures;
+  calm = calm g (there-a g c) (side-a g c) c.note_on.ensures;
+  more = more-noted A c.args.slot (now_moment c.args.run.now) c.args.run.now c.note_on.new.run c.args.breaks.now c.note_on.new.breaks c.note_on.ensures.noted.0 c.note_on.ensures.noted.1;
+}
 
 pub returns-in-B-clause-going : goal.returns-in-B-clause-going
 returns-in-B-clause-going g c =
     let e = c.note_on-in-B.ensures in
-    on_ok c.note_on-in-B.result (λ well. going-noted B c.args.slot (now_moment c.args.run.now) c.args.run.now c.note_on-in-B.new.run c.args.breaks.now c.note_on-in-B.new.breaks c.note_on-in-B.ensures.noted.0 c.note_on-in-B.ensures.noted.1 (g.M.Medium.state c.args.unit.now) (g.M.Medium.state c.note_on-in-B.new.unit) (g.D.Chip.state c.args.card_b.now) (g.D.Chip.state c.note_on-in-B.new.card) (g.C.Chip.state c.args.card_a.now) (g.D.Chip.card c.args.card_b.now) (g.D.Chip.card c.note_on-in-B.new.card) (g.C.Chip.card c.args.card_a.now) c.requires.going (ok_gives c.note_on-in-B.result e.ready well) e.card (λ card h. ok_gives c.note_on-in-B.result (e.rows card h) well) e.stands)
-
-pub returns-in-B-clause-only : goal.returns-in-B-clause-only
-returns-in-B-clause-only g c = only-noted B c.args.slot (now_moment c.args.run.now) c.args.run.now c.note_on-in-B.new.run c.args.breaks.now c.note_on-in-B.new.breaks c.note_on-in-B.ensures.noted.0 c.note_on-in-B.ensures.noted.1
-
-pub returns-in-B-clause-room : goal.returns-in-B-clause-room
-returns-in-B-clause-room g c = room-noted B c.args.slot (now_moment c.args.run.now) c.args.run.now c.note_on-in-B.new.run c.args.breaks.now c.note_on-in-B.new.breaks c.note_on-in-B.ensures.noted.0 c.note_on-in-B.ensures.noted.1 (some g (there-b g c) (side-b g c) c.note_on-in-B.ensures)
-
-pub returns-in-B-clause-more : goal.returns-in-B-clause-more
-returns-in-B-clause-more g c = more-noted B c.args.slot (now_moment c.args.run.now) c.args.run.now c.note_on-in-B.new.run c.args.breaks.now c.note_on-in-B.new.breaks c.note_on-in-B.ensures.noted.0 c.note_on-in-B.ensures.noted.1
-
-pub returns-in-B-clause-cause : goal.returns-in-B-clause-cause
-returns-in-B-clause-cause g c = c.note_on-in-B.ensures.cause
+    on_ok c.note_on-in-B.result (λ well. going-noted B c.args.slot (now_moment c.args.run.now) c.args.run.now c.note_on-in-B.new.run c.args.breaks.now c.note_on-in-B.new.breaks c.note_on-in-B.ensures.noted.0 c.note_on-in-B.ensures.noted.1 (g.M.Medium.state c.args.unit.now) (g.M.Medium.state c.note_on-in-B.new.unit) (g.D.Chip.state c.args.card_b.now) (g.D.Chip.state c.note_on-in-B.new.card) (g.C.Chip.state c.args.card_a.now) (g.D.Chip.card c.args.card_b.now) (g.D.Chip.card c.note_on-in-B.new.card) (g.C.Chip.card c.args.card_a.now) c.requires.going (ok_gives c.note_on-in-B.result e.ready well) e.card (λ card h. ok_gives c.note_on-in-B.result (e.rows card h) well) e.stands
+    (knows-left c.args.run.now.watch.newest (g.M.Medium.state c.args.unit.now) (g.M.Medium.state c.note_on-in-B.new.unit) (g.met.M.Medium.coherent c.args.unit.now) (g.met.M.Medium.coherent c.note_on-in-B.new.unit) c.requires.going.ready.unit_ready.works e.speeds))
 
 pub returns-in-B-clause-recorded : goal.returns-in-B-clause-recorded
 returns-in-B-clause-recorded g c = recorded g (there-b g c) (side-b g c) c.note_on-in-B.ensures
 
-pub returns-in-B-clause-leaves : goal.returns-in-B-clause-leaves
-returns-in-B-clause-leaves g c = leaves g (there-b g c) (side-b g c) c.note_on-in-B.ensures
-
-pub returns-in-B-clause-events : goal.returns-in-B-clause-events
-returns-in-B-clause-events g c = notes g (there-b g c) (side-b g c) c.note_on-in-B.ensures
-
-pub returns-in-B-clause-later : goal.returns-in-B-clause-later
-returns-in-B-clause-later g c = later g (there-b g c) (side-b g c) c.note_on-in-B.ensures
-
-pub returns-in-B-clause-card_events : goal.returns-in-B-clause-card_events
-returns-in-B-clause-card_events g c = card-events g (there-b g c) (side-b g c) c.note_on-in-B.ensures
-
-pub returns-in-B-clause-places : goal.returns-in-B-clause-places
-returns-in-B-clause-places g c = places g (there-b g c) (side-b g c) c.note_on-in-B.ensures
-
-pub returns-in-B-clause-calm : goal.returns-in-B-clause-calm
-returns-in-B-clause-calm g c = calm g (there-b g c) (side-b g c) c.note_on-in-B.ensures
-
 pub returns-in-B-clause-noted : goal.returns-in-B-clause-noted
-returns-in-B-clause-noted g c = (c.note_on-in-B.ensures.events.fell, noted-then g (there-b g c) (side-b g c) c.note_on-in-B.ensures, c.note_on-in-B.ensures.events.failing)
+returns-in-B-clause-noted g c = record {
+  fell = (c.note_on-in-B.ensures.events.fell, noted-then g (there-b g c) (side-b g c) c.note_on-in-B.ensures, c.note_on-in-B.ensures.events.failing);
+  run = only-noted B c.args.slot (now_moment c.args.run.now) c.args.run.now c.note_on-in-B.new.run c.args.breaks.now c.note_on-in-B.new.breaks c.note_on-in-B.ensures.noted.0 c.note_on-in-B.ensures.noted.1;
+  room = room-noted B c.args.slot (now_moment c.args.run.now) c.args.run.now c.note_on-in-B.new.run c.args.breaks.now c.note_on-in-B.new.breaks c.note_on-in-B.ensures.noted.0 c.note_on-in-B.ensures.noted.1 (some g (there-b g c) (side-b g c) c.note_on-in-B.ensures);
+}
+
+pub returns-in-B-clause-leaves : goal.returns-in-B-clause-leaves
+returns-in-B-clause-leaves g c = record {
+  card_events = card-events g (there-b g c) (side-b g c) c.note_on-in-B.ensures;
+  places = places g (there-b g c) (side-b g c) c.note_on-in-B.ensures;
+  events = notes g (there-b g c) (side-b g c) c.note_on-in-B.ensures;
+  rings = c.note_on-in-B.ensures.rings;
+  beside = leaves g (there-b g c) (side-b g c) c.note_on-in-B.ensures;
+}
+
+pub returns-in-B-clause-held : goal.returns-in-B-clause-held
+returns-in-B-clause-held g c = record {
+  held =
+      let e = c.note_on-in-B.ensures in
+      held-noted B c.args.slot (now_moment c.args.run.now) c.args.run.now c.note_on-in-B.new.run c.args.breaks.now c.note_on-in-B.new.breaks c.note_on-in-B.ensures.noted.0 c.note_on-in-B.ensures.noted.1 (g.M.Medium.state c.args.unit.now) (g.M.Medium.state c.note_on-in-B.new.unit) (g.D.Chip.state c.args.card_b.now) (g.D.Chip.state c.note_on-in-B.new.card) (g.C.Chip.state c.args.card_a.now) (g.D.Chip.card c.args.card_b.now) (g.D.Chip.card c.note_on-in-B.new.card) (g.C.Chip.card c.args.card_a.now) refl c.requires.held e.unit e.card e.size e.stands;
+  cause = c.note_on-in-B.ensures.cause;
+}
+
+pub returns-in-B-clause-goes : goal.returns-in-B-clause-goes
+returns-in-B-clause-goes g c = record {
+  later = later g (there-b g c) (side-b g c) c.note_on-in-B.ensures;
+  calm = calm g (there-b g c) (side-b g c) c.note_on-in-B.ensures;
+  more = more-noted B c.args.slot (now_moment c.args.run.now) c.args.run.now c.note_on-in-B.new.run c.args.breaks.now c.note_on-in-B.new.breaks c.note_on-in-B.ensures.noted.0 c.note_on-in-B.ensures.noted.1;
+}
 
 -- ---- there is nobody to note it for
 
@@ -277,85 +266,95 @@ returns-in_default-clause-recorded g c = λ o done s out w power. record { goes 
 pub returns-in_default-number_in-clause-recorded : goal.returns-in_default-number_in-clause-recorded
 returns-in_default-number_in-clause-recorded g c = λ o done s out w power. record { goes = w; began = refl }
 
-pub returns-in_default-clause-leaves : goal.returns-in_default-clause-leaves
-returns-in_default-clause-leaves g c = λ o done s out w power. (record { unit = λ x h. h; card = λ card x h. h }, λ bad. absurd (let wrong : false ≡ true = bad in cc))
-
-pub returns-in_default-number_in-clause-leaves : goal.returns-in_default-number_in-clause-leaves
-returns-in_default-number_in-clause-leaves g c = λ o done s out w power. (record { unit = λ x h. h; card = λ card x h. h }, λ bad. absurd (let wrong : false ≡ true = bad in cc))
-
 pub returns-in_default-clause-noted : goal.returns-in_default-clause-noted
-returns-in_default-clause-noted g c =
-    let run = c.args.run.now in
-    (false, noted-not (card_in (seat_in run.keeper.cabin.slots.seats c.args.slot)) c.args.slot (now_moment run) run c.args.breaks.now, λ bad. bad)
+returns-in_default-clause-noted g c = record {
+  fell =
+      let run = c.args.run.now in
+      (false, noted-not (card_in (seat_in run.keeper.cabin.slots.seats c.args.slot)) c.args.slot (now_moment run) run c.args.breaks.now, λ bad. bad);
+  run = refl;
+  room = (refl, omega arith);
+}
+
+pub returns-in_default-clause-leaves : goal.returns-in_default-clause-leaves
+returns-in_default-clause-leaves g c = record {
+  card_events =
+      let run = c.args.run.now in
+      let seat = seat_in run.keeper.cabin.slots.seats c.args.slot in
+      let event : CardEvent = card_entry c.args.event.now run.keeper.memory.registration in
+      let none : card_in (seat_in run.keeper.cabin.slots.seats c.args.slot) ≡ None = sym c.card.ensures ∙ none-there c.card.result c.in_default.not-Some in
+      let d = devices (g.M.Medium.state c.args.unit.now) (g.C.Chip.state c.args.card_a.now) (g.D.Chip.state c.args.card_b.now) in
+      λ card. on-other false seat event card (session_of run.keeper.cabin.cards card) (session_of run.keeper.cabin.cards card) (card_of d card) (seat-none seat card none) refl;
+  places =
+      let d = devices (g.M.Medium.state c.args.unit.now) (g.C.Chip.state c.args.card_a.now) (g.D.Chip.state c.args.card_b.now) in
+      λ card. places-self (session_of c.args.run.now.keeper.cabin.cards card) (card_of d card);
+  events =
+      let run = c.args.run.now in
+      record {
+        fell = false;
+        noted = noted-not (card_in (seat_in run.keeper.cabin.slots.seats c.args.slot)) c.args.slot (now_moment run) run c.args.breaks.now;
+        failing = λ bad. bad;
+        notes = same-noted (g.M.Medium.state c.args.unit.now) (g.C.Chip.state c.args.card_a.now) (g.D.Chip.state c.args.card_b.now);
+      };
+  rings = rings-left (g.M.Medium.state c.args.unit.now);
+  beside = λ o done s out w power. (record { unit = λ x h. h; card = λ card x h. h }, λ bad. absurd (let wrong : false ≡ true = bad in cc));
+}
+
+pub returns-in_default-clause-held : goal.returns-in_default-clause-held
+returns-in_default-clause-held g c = record {
+  held = c.requires.held;
+  cause = (no_reads (g.M.Medium.state c.args.unit.now) c.requires.going.ready.unit_ready.works).cause;
+}
+
+pub returns-in_default-clause-goes : goal.returns-in_default-clause-goes
+returns-in_default-clause-goes g c = record {
+  later = later-same (devices (g.M.Medium.state c.args.unit.now) (g.C.Chip.state c.args.card_a.now) (g.D.Chip.state c.args.card_b.now));
+  calm = calm-same (devices (g.M.Medium.state c.args.unit.now) (g.C.Chip.state c.args.card_a.now) (g.D.Chip.state c.args.card_b.now));
+  more = omega arith;
+}
 
 pub returns-in_default-number_in-clause-noted : goal.returns-in_default-number_in-clause-noted
-returns-in_default-number_in-clause-noted g c =
-    let run = c.args.run.now in
-    (false, noted-not (card_in (seat_in run.keeper.cabin.slots.seats c.args.slot)) c.args.slot (now_moment run) run c.args.breaks.now, λ bad. bad)
+returns-in_default-number_in-clause-noted g c = record {
+  fell =
+      let run = c.args.run.now in
+      (false, noted-not (card_in (seat_in run.keeper.cabin.slots.seats c.args.slot)) c.args.slot (now_moment run) run c.args.breaks.now, λ bad. bad);
+  run = refl;
+  room = (refl, omega arith);
+}
 
-pub returns-in_default-clause-events : goal.returns-in_default-clause-events
-returns-in_default-clause-events g c =
-    let run = c.args.run.now in
-    record {
-      fell = false;
-      noted = noted-not (card_in (seat_in run.keeper.cabin.slots.seats c.args.slot)) c.args.slot (now_moment run) run c.args.breaks.now;
-      failing = λ bad. bad;
-      notes = same-noted (g.M.Medium.state c.args.unit.now) (g.C.Chip.state c.args.card_a.now) (g.D.Chip.state c.args.card_b.now);
-    }
+pub returns-in_default-number_in-clause-leaves : goal.returns-in_default-number_in-clause-leaves
+returns-in_default-number_in-clause-leaves g c = record {
+  card_events =
+      let run = c.args.run.now in
+      let seat = seat_in run.keeper.cabin.slots.seats c.args.slot in
+      let event : CardEvent = card_entry c.args.event.now run.keeper.memory.registration in
+      let none : number_of_seat run.keeper.cabin.cards (seat_in run.keeper.cabin.slots.seats c.args.slot) ≡ None = sym c.number_in.ensures ∙ none-there c.number_in.result c.in_default-number_in.not-Some in
+      let d = devices (g.M.Medium.state c.args.unit.now) (g.C.Chip.state c.args.card_a.now) (g.D.Chip.state c.args.card_b.now) in
+      let ready = c.requires.going.ready in
+      λ card. bare-seat run.keeper.cabin.cards seat event ready.card_a.is_known ready.card_b.is_known none card (card_of d card);
+  places =
+      let d = devices (g.M.Medium.state c.args.unit.now) (g.C.Chip.state c.args.card_a.now) (g.D.Chip.state c.args.card_b.now) in
+      λ card. places-self (session_of c.args.run.now.keeper.cabin.cards card) (card_of d card);
+  events =
+      let run = c.args.run.now in
+      record {
+        fell = false;
+        noted = noted-not (card_in (seat_in run.keeper.cabin.slots.seats c.args.slot)) c.args.slot (now_moment run) run c.args.breaks.now;
+        failing = λ bad. bad;
+        notes = same-noted (g.M.Medium.state c.args.unit.now) (g.C.Chip.state c.args.card_a.now) (g.D.Chip.state c.args.card_b.now);
+      };
+  rings = rings-left (g.M.Medium.state c.args.unit.now);
+  beside = λ o done s out w power. (record { unit = λ x h. h; card = λ card x h. h }, λ bad. absurd (let wrong : false ≡ true = bad in cc));
+}
 
-pub returns-in_default-number_in-clause-events : goal.returns-in_default-number_in-clause-events
-returns-in_default-number_in-clause-events g c =
-    let run = c.args.run.now in
-    record {
-      fell = false;
-      noted = noted-not (card_in (seat_in run.keeper.cabin.slots.seats c.args.slot)) c.args.slot (now_moment run) run c.args.breaks.now;
-      failing = λ bad. bad;
-      notes = same-noted (g.M.Medium.state c.args.unit.now) (g.C.Chip.state c.args.card_a.now) (g.D.Chip.state c.args.card_b.now);
-    }
+pub returns-in_default-number_in-clause-held : goal.returns-in_default-number_in-clause-held
+returns-in_default-number_in-clause-held g c = record {
+  held = c.requires.held;
+  cause = (no_reads (g.M.Medium.state c.args.unit.now) c.requires.going.ready.unit_ready.works).cause;
+}
 
-pub returns-in_default-clause-rings : goal.returns-in_default-clause-rings
-returns-in_default-clause-rings g c = rings-left (g.M.Medium.state c.args.unit.now)
-
-pub returns-in_default-number_in-clause-rings : goal.returns-in_default-number_in-clause-rings
-returns-in_default-number_in-clause-rings g c = rings-left (g.M.Medium.state c.args.unit.now)
-
-pub returns-in_default-clause-later : goal.returns-in_default-clause-later
-returns-in_default-clause-later g c = later-same (devices (g.M.Medium.state c.args.unit.now) (g.C.Chip.state c.args.card_a.now) (g.D.Chip.state c.args.card_b.now))
-
-pub returns-in_default-number_in-clause-later : goal.returns-in_default-number_in-clause-later
-returns-in_default-number_in-clause-later g c = later-same (devices (g.M.Medium.state c.args.unit.now) (g.C.Chip.state c.args.card_a.now) (g.D.Chip.state c.args.card_b.now))
-
-pub returns-in_default-clause-card_events : goal.returns-in_default-clause-card_events
-returns-in_default-clause-card_events g c =
-    let run = c.args.run.now in
-    let seat = seat_in run.keeper.cabin.slots.seats c.args.slot in
-    let event : CardEvent = card_entry c.args.event.now run.keeper.memory.registration in
-    let none : card_in (seat_in run.keeper.cabin.slots.seats c.args.slot) ≡ None = sym c.card.ensures ∙ none-there c.card.result c.in_default.not-Some in
-    let d = devices (g.M.Medium.state c.args.unit.now) (g.C.Chip.state c.args.card_a.now) (g.D.Chip.state c.args.card_b.now) in
-    λ card. on-other false seat event card (session_of run.keeper.cabin.cards card) (session_of run.keeper.cabin.cards card) (card_of d card) (seat-none seat card none) refl
-
-pub returns-in_default-number_in-clause-card_events : goal.returns-in_default-number_in-clause-card_events
-returns-in_default-number_in-clause-card_events g c =
-    let run = c.args.run.now in
-    let seat = seat_in run.keeper.cabin.slots.seats c.args.slot in
-    let event : CardEvent = card_entry c.args.event.now run.keeper.memory.registration in
-    let none : number_of_seat run.keeper.cabin.cards (seat_in run.keeper.cabin.slots.seats c.args.slot) ≡ None = sym c.number_in.ensures ∙ none-there c.number_in.result c.in_default-number_in.not-Some in
-    let d = devices (g.M.Medium.state c.args.unit.now) (g.C.Chip.state c.args.card_a.now) (g.D.Chip.state c.args.card_b.now) in
-    let ready = c.requires.going.ready in
-    λ card. bare-seat run.keeper.cabin.cards seat event ready.card_a.is_known ready.card_b.is_known none card (card_of d card)
-
-pub returns-in_default-clause-places : goal.returns-in_default-clause-places
-returns-in_default-clause-places g c =
-    let d = devices (g.M.Medium.state c.args.unit.now) (g.C.Chip.state c.args.card_a.now) (g.D.Chip.state c.args.card_b.now) in
-    λ card. places-self (session_of c.args.run.now.keeper.cabin.cards card) (card_of d card)
-
-pub returns-in_default-number_in-clause-places : goal.returns-in_default-number_in-clause-places
-returns-in_default-number_in-clause-places g c =
-    let d = devices (g.M.Medium.state c.args.unit.now) (g.C.Chip.state c.args.card_a.now) (g.D.Chip.state c.args.card_b.now) in
-    λ card. places-self (session_of c.args.run.now.keeper.cabin.cards card) (card_of d card)
-
-pub returns-in_default-clause-calm : goal.returns-in_default-clause-calm
-returns-in_default-clause-calm g c = calm-same (devices (g.M.Medium.state c.args.unit.now) (g.C.Chip.state c.args.card_a.now) (g.D.Chip.state c.args.card_b.now))
-
-pub returns-in_default-number_in-clause-calm : goal.returns-in_default-number_in-clause-calm
-returns-in_default-number_in-clause-calm g c = calm-same (devices (g.M.Medium.state c.args.unit.now) (g.C.Chip.state c.args.card_a.now) (g.D.Chip.state c.args.card_b.now))
+pub returns-in_default-number_in-clause-goes : goal.returns-in_default-number_in-clause-goes
+returns-in_default-number_in-clause-goes g c = record {
+  later = later-same (devices (g.M.Medium.state c.args.unit.now) (g.C.Chip.state c.args.card_a.now) (g.D.Chip.state c.args.card_b.now));
+  calm = calm-same (devices (g.M.Medium.state c.args.unit.now) (g.C.Chip.state c.args.card_a.now) (g.D.Chip.state c.args.card_b.now));
+  more = omega arith;
+}

@@ -1,6 +1,6 @@
 use Rattle.std.proofs.Common.{rules, ◌≡◌, ◌∙◌, ℕ, Bool, true, false, Option, Some, None, is_some, length, refl, ap, sym, subst, arith, inl, inr, ◌^◌, ◌<◌, ◌≤◌}
 use Rattle.trace_model.specs.declared.Card.TheVariants.{A, B}
-use Rattle.tach_media.proofs.Runs.{on_ok, ok_gives, cause_after}
+use Rattle.tach_media.proofs.Runs.{on_ok, ok_gives, cause_after, no_reads}
 use Rattle.minute_model.specs.Span.{ungiven_of}
 use Rattle.card_slots.specs.Calls.{seat_in, card_in, logged}
 use Rattle.run_crew.specs.Cards.{session_of, known_of}
@@ -10,7 +10,7 @@ use Rattle.run_outcome.specs.Lines.{Listed}
 use Rattle.run_minutes.specs.Keeping.{HasLeftMore, with_lines, CardMayBeCalled, HasItsRow, UnitMayBeCalled}
 use Rattle.run_acts.specs.declared.run.Run.{Run}
 use Rattle.run_insertion.proofs.Noted.{noted-ready, noted-row}
-use Rattle.run_acts.specs.Acting.{noted_run, IsNotedOn, falls_by}
+use Rattle.run_acts.specs.Acting.{noted_run, IsNotedOn, IsPlaced, falls_by}
 use Rattle.run_acts.proofs.Cabins.{numbered-session}
 use Rattle.std.specs.Prelude.{is_err, suc, IfSome, List, [], ◌∷◌, ◌++◌, OnOk, Result}
 use Rattle.std.proofs.lemmas.List.{append-nil}
@@ -34,7 +34,8 @@ use Rattle.message_model.specs.Records.{unit_place_ring}
 use Rattle.run_acts.specs.NotedEvents.{NotesEvents}
 use Rattle.run_acts.specs.Noting.{NotesPlace, fall_events, IsNoteRecorded, NotesFall}
 use Rattle.run_acts.proofs.NotedEvents.{same-noted, noted-any, then-noted}
-use Rattle.run_acts.proofs.ActsNoted.{says-of, quiet-any, adding-nothing, no-place, same-fell}
+use Rattle.run_acts.proofs.ActsNoted.{says-of, quiet-any, adding-nothing, none-placed, no-place, same-fell}
+use Rattle.run_minutes.proofs.Units.{unit-stays}
 use Rattle.tacho_types.specs.declared.card_number.FullCardNumber.{FullCardNumber}
 use Rattle.tach_media.specs.Medium.{State, LeavesOnly, HasBroken, HasCause}
 use Rattle.unit_notes.specs.Entries.{unit_place_bytes}
@@ -44,6 +45,7 @@ use Rattle.run_rings.proofs.Same.{rings-left}
 use Rattle.run_acts.specs.Ringing.{WritesPlace}
 use Rattle.run_acts.proofs.Ringing.{place-broken, place-then}
 use Rattle.run_speeds.specs.Speeds.{LeavesSpeeds}
+use Rattle.run_events.proofs.Newest.{knows-left}
 use Rattle.run_events.proofs.NoteSpeeds.{place-leaves}
 use Rattle.run_minutes.proofs.Later.{state-by, later-same, later-then, later-of-unit}
 use Rattle.run_note_record.specs.Noting.{Acting}
@@ -180,6 +182,9 @@ module _ (g : Over) (c : In_ok-note_place g) (k : OneCard c.in-Some.card (g.C.Ch
       subst (λ (m : Devices). NotesEvents (fall_events fell c.args.at.second k.new) (is_err k.result) m last) (sym (k.beside_it (g.M.Medium.state c.note_place.new.unit)))
       (noted-any (fall_events fell c.args.at.second k.new) (is_err k.result) (devices (g.M.Medium.state c.note_place.new.unit) (k.state k.before) (k.state k.before)) (devices k.unit (k.state k.after) (k.state k.after)) between last (unit-is k.which (g.M.Medium.state c.note_place.new.unit) (k.state k.before) k.beside) (unit-is k.which k.unit (k.state k.after) k.beside) notes)
 
+  placed : (fell : Bool) × IsPlaced (card_in (seat_in c.args.run.now.keeper.cabin.slots.seats c.args.slot)) c.args.slot c.args.at c.args.run.now k.new c.args.breaks.now k.breaks fell
+  placed = (e.noted.0, subst (λ (q : Option Card). IsPlaced q c.args.slot c.args.at c.args.run.now k.new c.args.breaks.now k.breaks e.noted.0) (sym seat) e.noted.1)
+
   events : NotesPlace (card_in (seat_in c.args.run.now.keeper.cabin.slots.seats c.args.slot)) c.args.slot c.args.at (is_err k.result) c.args.run.now k.new c.args.breaks.now k.breaks (first g c) last
   events =
       let n = e.events in
@@ -299,7 +304,7 @@ module _ (g : Over) (c : In_ok-note_place g) (k : OneCard c.in-Some.card (g.C.Ch
 
 module _ (g : Over) (c : After-note_place_in g) where
   abbrev noted-first-a : In_ok-note_place g
-  noted-first-a = (goal.at.returns-in-A-clause-cause g c).In_ok-note_place
+  noted-first-a = (goal.at.returns-in-A-clause-held g c).In_ok-note_place
 
   abbrev side-a : OneCard noted-first-a.in-Some.card (g.C.Chip.state c.args.card_a.now) (g.D.Chip.state c.args.card_b.now)
   side-a =
@@ -308,7 +313,7 @@ module _ (g : Over) (c : After-note_place_in g) where
 
 module _ (g : Over) (c : After-note_place_in-in-B g) where
   abbrev noted-first-b : In_ok-note_place g
-  noted-first-b = (goal.at.returns-in-B-clause-cause g c).In_ok-note_place
+  noted-first-b = (goal.at.returns-in-B-clause-held g c).In_ok-note_place
 
   abbrev side-b : OneCard noted-first-b.in-Some.card (g.C.Chip.state c.args.card_a.now) (g.D.Chip.state c.args.card_b.now)
   side-b =
@@ -325,346 +330,361 @@ no-number cards (Some s) o is never = absurd (never s.card is)
 no-entering : {T : Type 0} (cards : Cards) (seat : Option Seat) (there : IsThere cards seat) → number_of_seat cards seat ≡ None → T
 no-entering {T} cards seat there none = absurd (let clash : Some there.number ≡ None = sym there.numbered ∙ none in cc)
 
-pub returns-in_default-clause-recorded : goal.returns-in_default-clause-recorded
-returns-in_default-clause-recorded g c = λ late ending country region speed before is o done s now front rest are n allowed w time.
-    place-first o done s c.args.slot ending country region c.args.at.begun speed c.args.run.now before c.args.breaks.now (devices (g.M.Medium.state c.args.unit.now) (g.C.Chip.state c.args.card_a.now) (g.D.Chip.state c.args.card_b.now)) is now front rest are n allowed w
+pub returns-in_default-clause-placed : goal.returns-in_default-clause-placed
+returns-in_default-clause-placed g c = record {
+  card = (false, none-placed (card_in (seat_in c.args.run.now.keeper.cabin.slots.seats c.args.slot)) c.args.slot c.args.at c.args.run.now c.args.breaks.now);
+  run = refl;
+  room = (refl, omega arith);
+}
 
-pub returns-in_default-number_in-clause-recorded : goal.returns-in_default-number_in-clause-recorded
-returns-in_default-number_in-clause-recorded g c = λ late ending country region speed before is o done s now front rest are n allowed w time.
-    place-first o done s c.args.slot ending country region c.args.at.begun speed c.args.run.now before c.args.breaks.now (devices (g.M.Medium.state c.args.unit.now) (g.C.Chip.state c.args.card_a.now) (g.D.Chip.state c.args.card_b.now)) is now front rest are n allowed w
+pub returns-in_default-clause-leaves : goal.returns-in_default-clause-leaves
+returns-in_default-clause-leaves g c = record {
+  card_events =
+      let d = devices (g.M.Medium.state c.args.unit.now) (g.C.Chip.state c.args.card_a.now) (g.D.Chip.state c.args.card_b.now) in
+      λ card. on-none false (session_of c.args.run.now.keeper.cabin.cards card) (card_of d card);
+  on_card =
+      λ card there.
+      let none : card_in (seat_in c.args.run.now.keeper.cabin.slots.seats c.args.slot) ≡ None = sym c.card.ensures ∙ none-there c.card.result c.in_default.not-Some in
+      absurd (let wrong : None ≡ Some card = sym none ∙ there in cc);
+  events =
+      let run = c.args.run.now in
+      let U = g.M.Medium.state c.args.unit.now in
+      let A0 = g.C.Chip.state c.args.card_a.now in
+      let B0 = g.D.Chip.state c.args.card_b.now in
+      no-place (card_in (seat_in run.keeper.cabin.slots.seats c.args.slot)) c.args.slot c.args.at run c.args.breaks.now (devices U A0 B0) (same-noted U A0 B0);
+  rings =
+      λ tells.
+      let run = c.args.run.now in
+      let U = g.M.Medium.state c.args.unit.now in
+      let none = no-number run.keeper.cabin.cards (seat_in run.keeper.cabin.slots.seats c.args.slot) c.card.result c.card.ensures c.in_default.not-Some in
+      subst (λ (o : Option FullCardNumber). WritesPlace o c.args.entry.now false U U) (sym none) (rings-left U);
+}
 
-pub returns-in_default-clause-events : goal.returns-in_default-clause-events
-returns-in_default-clause-events g c =
-    let run = c.args.run.now in
-    let U = g.M.Medium.state c.args.unit.now in
-    let A0 = g.C.Chip.state c.args.card_a.now in
-    let B0 = g.D.Chip.state c.args.card_b.now in
-    no-place (card_in (seat_in run.keeper.cabin.slots.seats c.args.slot)) c.args.slot c.args.at run c.args.breaks.now (devices U A0 B0) (same-noted U A0 B0)
+pub returns-in_default-clause-promises : goal.returns-in_default-clause-promises
+returns-in_default-clause-promises g c = record {
+  recorded =
+      λ late ending country region speed before is o done s now front rest are n allowed w time.
+      place-first o done s c.args.slot ending country region c.args.at.begun speed c.args.run.now before c.args.breaks.now (devices (g.M.Medium.state c.args.unit.now) (g.C.Chip.state c.args.card_a.now) (g.D.Chip.state c.args.card_b.now)) is now front rest are n allowed w;
+  evented =
+      λ late ending country region speed before is o done s now front rest are n allowed w events time.
+      let d : Devices = devices (g.M.Medium.state c.args.unit.now) (g.C.Chip.state c.args.card_a.now) (g.D.Chip.state c.args.card_b.now) in
+      subst (λ (l : Listed Break). EventedNow o done s w.within.b.run Acting (log_of (record before { breaks = l })) d) is events;
+  ringed =
+      λ ending country region now late speed before is o done s here front rest are n allowed w spans t rings time.
+      let cabin = c.args.run.now.keeper.cabin in
+      let lit = c.requires.going in
+      no-entering cabin.cards (seat_in cabin.slots.seats c.args.slot) (who-enters (ungiven_of lit.span) cabin lit.cabin c.args.slot speed ending country region allowed)
+      (no-number cabin.cards (seat_in cabin.slots.seats c.args.slot) c.card.result c.card.ensures c.in_default.not-Some);
+  cards =
+      λ late ending country region speed before is o done s here front rest are n allowed vehicle w cards time.
+      let cabin = c.args.run.now.keeper.cabin in
+      let lit = c.requires.going in
+      no-entering cabin.cards (seat_in cabin.slots.seats c.args.slot) (who-enters (ungiven_of lit.span) cabin lit.cabin c.args.slot speed ending country region allowed)
+      (no-number cabin.cards (seat_in cabin.slots.seats c.args.slot) c.card.result c.card.ensures c.in_default.not-Some);
+}
 
-pub returns-in_default-number_in-clause-events : goal.returns-in_default-number_in-clause-events
-returns-in_default-number_in-clause-events g c =
-    let run = c.args.run.now in
-    let U = g.M.Medium.state c.args.unit.now in
-    let A0 = g.C.Chip.state c.args.card_a.now in
-    let B0 = g.D.Chip.state c.args.card_b.now in
-    no-place (card_in (seat_in run.keeper.cabin.slots.seats c.args.slot)) c.args.slot c.args.at run c.args.breaks.now (devices U A0 B0) (same-noted U A0 B0)
+pub returns-in_default-clause-held : goal.returns-in_default-clause-held
+returns-in_default-clause-held g c = record {
+  held = c.requires.held;
+  cause = (no_reads (g.M.Medium.state c.args.unit.now) c.requires.going.ready.unit_ready.works).cause;
+}
 
-pub returns-in_default-clause-rings : goal.returns-in_default-clause-rings
-returns-in_default-clause-rings g c = λ tells.
-    let run = c.args.run.now in
-    let U = g.M.Medium.state c.args.unit.now in
-    let none = no-number run.keeper.cabin.cards (seat_in run.keeper.cabin.slots.seats c.args.slot) c.card.result c.card.ensures c.in_default.not-Some in
-    subst (λ (o : Option FullCardNumber). WritesPlace o c.args.entry.now false U U) (sym none) (rings-left U)
+pub returns-in_default-clause-goes : goal.returns-in_default-clause-goes
+returns-in_default-clause-goes g c = record {
+  later = later-same (devices (g.M.Medium.state c.args.unit.now) (g.C.Chip.state c.args.card_a.now) (g.D.Chip.state c.args.card_b.now));
+  calm = calm-same (devices (g.M.Medium.state c.args.unit.now) (g.C.Chip.state c.args.card_a.now) (g.D.Chip.state c.args.card_b.now));
+  more = omega arith;
+}
 
-pub returns-in_default-number_in-clause-rings : goal.returns-in_default-number_in-clause-rings
-returns-in_default-number_in-clause-rings g c = λ tells.
-    let run = c.args.run.now in
-    let U = g.M.Medium.state c.args.unit.now in
-    let none : number_of_seat run.keeper.cabin.cards (seat_in run.keeper.cabin.slots.seats c.args.slot) ≡ None = sym c.number_in.ensures ∙ none-there c.number_in.result c.in_default-number_in.not-Some in
-    subst (λ (o : Option FullCardNumber). WritesPlace o c.args.entry.now false U U) (sym none) (rings-left U)
+pub returns-in_default-number_in-clause-placed : goal.returns-in_default-number_in-clause-placed
+returns-in_default-number_in-clause-placed g c = record {
+  card = (false, none-placed (card_in (seat_in c.args.run.now.keeper.cabin.slots.seats c.args.slot)) c.args.slot c.args.at c.args.run.now c.args.breaks.now);
+  run = refl;
+  room = (refl, omega arith);
+}
 
-pub returns-in_default-clause-later : goal.returns-in_default-clause-later
-returns-in_default-clause-later g c = later-same (devices (g.M.Medium.state c.args.unit.now) (g.C.Chip.state c.args.card_a.now) (g.D.Chip.state c.args.card_b.now))
+pub returns-in_default-number_in-clause-leaves : goal.returns-in_default-number_in-clause-leaves
+returns-in_default-number_in-clause-leaves g c = record {
+  card_events =
+      let d = devices (g.M.Medium.state c.args.unit.now) (g.C.Chip.state c.args.card_a.now) (g.D.Chip.state c.args.card_b.now) in
+      λ card. on-none false (session_of c.args.run.now.keeper.cabin.cards card) (card_of d card);
+  on_card =
+      λ card there.
+      let run = c.args.run.now in
+      let cards = run.keeper.cabin.cards in
+      let d = devices (g.M.Medium.state c.args.unit.now) (g.C.Chip.state c.args.card_a.now) (g.D.Chip.state c.args.card_b.now) in
+      let unnamed : number_of_seat cards (seat_in run.keeper.cabin.slots.seats c.args.slot) ≡ None = sym c.number_in.ensures ∙ none-there c.number_in.result c.in_default-number_in.not-Some in
+      place-bare c.args.entry.now (card_of d card) (card_of d card) (session_of cards card) (session_of cards card) false
+      (seat-bare cards (seat_in run.keeper.cabin.slots.seats c.args.slot) card c.requires.going.ready.card_a.is_known c.requires.going.ready.card_b.is_known unnamed there);
+  events =
+      let run = c.args.run.now in
+      let U = g.M.Medium.state c.args.unit.now in
+      let A0 = g.C.Chip.state c.args.card_a.now in
+      let B0 = g.D.Chip.state c.args.card_b.now in
+      no-place (card_in (seat_in run.keeper.cabin.slots.seats c.args.slot)) c.args.slot c.args.at run c.args.breaks.now (devices U A0 B0) (same-noted U A0 B0);
+  rings =
+      λ tells.
+      let run = c.args.run.now in
+      let U = g.M.Medium.state c.args.unit.now in
+      let none : number_of_seat run.keeper.cabin.cards (seat_in run.keeper.cabin.slots.seats c.args.slot) ≡ None = sym c.number_in.ensures ∙ none-there c.number_in.result c.in_default-number_in.not-Some in
+      subst (λ (o : Option FullCardNumber). WritesPlace o c.args.entry.now false U U) (sym none) (rings-left U);
+}
 
-pub returns-in_default-number_in-clause-later : goal.returns-in_default-number_in-clause-later
-returns-in_default-number_in-clause-later g c = later-same (devices (g.M.Medium.state c.args.unit.now) (g.C.Chip.state c.args.card_a.now) (g.D.Chip.state c.args.card_b.now))
+pub returns-in_default-number_in-clause-promises : goal.returns-in_default-number_in-clause-promises
+returns-in_default-number_in-clause-promises g c = record {
+  recorded =
+      λ late ending country region speed before is o done s now front rest are n allowed w time.
+      place-first o done s c.args.slot ending country region c.args.at.begun speed c.args.run.now before c.args.breaks.now (devices (g.M.Medium.state c.args.unit.now) (g.C.Chip.state c.args.card_a.now) (g.D.Chip.state c.args.card_b.now)) is now front rest are n allowed w;
+  evented =
+      λ late ending country region speed before is o done s now front rest are n allowed w events time.
+      let d : Devices = devices (g.M.Medium.state c.args.unit.now) (g.C.Chip.state c.args.card_a.now) (g.D.Chip.state c.args.card_b.now) in
+      subst (λ (l : Listed Break). EventedNow o done s w.within.b.run Acting (log_of (record before { breaks = l })) d) is events;
+  ringed =
+      λ ending country region now late speed before is o done s here front rest are n allowed w spans t rings time.
+      let cabin = c.args.run.now.keeper.cabin in
+      let lit = c.requires.going in
+      no-entering cabin.cards (seat_in cabin.slots.seats c.args.slot) (who-enters (ungiven_of lit.span) cabin lit.cabin c.args.slot speed ending country region allowed)
+      (sym c.number_in.ensures ∙ none-there c.number_in.result c.in_default-number_in.not-Some);
+  cards =
+      λ late ending country region speed before is o done s here front rest are n allowed vehicle w cards time.
+      let cabin = c.args.run.now.keeper.cabin in
+      let lit = c.requires.going in
+      no-entering cabin.cards (seat_in cabin.slots.seats c.args.slot) (who-enters (ungiven_of lit.span) cabin lit.cabin c.args.slot speed ending country region allowed)
+      (sym c.number_in.ensures ∙ none-there c.number_in.result c.in_default-number_in.not-Some);
+}
 
-pub returns-in_default-clause-evented : goal.returns-in_default-clause-evented
-returns-in_default-clause-evented g c = λ late ending country region speed before is o done s now front rest are n allowed w events time.
-    let d : Devices = devices (g.M.Medium.state c.args.unit.now) (g.C.Chip.state c.args.card_a.now) (g.D.Chip.state c.args.card_b.now) in
-    subst (λ (l : Listed Break). EventedNow o done s w.within.b.run Acting (log_of (record before { breaks = l })) d) is events
+pub returns-in_default-number_in-clause-held : goal.returns-in_default-number_in-clause-held
+returns-in_default-number_in-clause-held g c = record {
+  held = c.requires.held;
+  cause = (no_reads (g.M.Medium.state c.args.unit.now) c.requires.going.ready.unit_ready.works).cause;
+}
 
-pub returns-in_default-number_in-clause-evented : goal.returns-in_default-number_in-clause-evented
-returns-in_default-number_in-clause-evented g c = λ late ending country region speed before is o done s now front rest are n allowed w events time.
-    let d : Devices = devices (g.M.Medium.state c.args.unit.now) (g.C.Chip.state c.args.card_a.now) (g.D.Chip.state c.args.card_b.now) in
-    subst (λ (l : Listed Break). EventedNow o done s w.within.b.run Acting (log_of (record before { breaks = l })) d) is events
-
-pub returns-in_default-clause-ringed : goal.returns-in_default-clause-ringed
-returns-in_default-clause-ringed g c = λ ending country region now late speed before is o done s here front rest are n allowed w spans t rings time.
-    let cabin = c.args.run.now.keeper.cabin in
-    let lit = c.requires.going in
-    no-entering cabin.cards (seat_in cabin.slots.seats c.args.slot) (who-enters (ungiven_of lit.span) cabin lit.cabin c.args.slot speed ending country region allowed)
-    (no-number cabin.cards (seat_in cabin.slots.seats c.args.slot) c.card.result c.card.ensures c.in_default.not-Some)
-
-pub returns-in_default-number_in-clause-ringed : goal.returns-in_default-number_in-clause-ringed
-returns-in_default-number_in-clause-ringed g c = λ ending country region now late speed before is o done s here front rest are n allowed w spans t rings time.
-    let cabin = c.args.run.now.keeper.cabin in
-    let lit = c.requires.going in
-    no-entering cabin.cards (seat_in cabin.slots.seats c.args.slot) (who-enters (ungiven_of lit.span) cabin lit.cabin c.args.slot speed ending country region allowed)
-    (sym c.number_in.ensures ∙ none-there c.number_in.result c.in_default-number_in.not-Some)
-
-pub returns-in_default-clause-card_events : goal.returns-in_default-clause-card_events
-returns-in_default-clause-card_events g c =
-    let d = devices (g.M.Medium.state c.args.unit.now) (g.C.Chip.state c.args.card_a.now) (g.D.Chip.state c.args.card_b.now) in
-    λ card. on-none false (session_of c.args.run.now.keeper.cabin.cards card) (card_of d card)
-
-pub returns-in_default-number_in-clause-card_events : goal.returns-in_default-number_in-clause-card_events
-returns-in_default-number_in-clause-card_events g c =
-    let d = devices (g.M.Medium.state c.args.unit.now) (g.C.Chip.state c.args.card_a.now) (g.D.Chip.state c.args.card_b.now) in
-    λ card. on-none false (session_of c.args.run.now.keeper.cabin.cards card) (card_of d card)
-
-pub returns-in_default-clause-cards : goal.returns-in_default-clause-cards
-returns-in_default-clause-cards g c = λ late ending country region speed before is o done s here front rest are n allowed vehicle w cards time.
-    let cabin = c.args.run.now.keeper.cabin in
-    let lit = c.requires.going in
-    no-entering cabin.cards (seat_in cabin.slots.seats c.args.slot) (who-enters (ungiven_of lit.span) cabin lit.cabin c.args.slot speed ending country region allowed)
-    (no-number cabin.cards (seat_in cabin.slots.seats c.args.slot) c.card.result c.card.ensures c.in_default.not-Some)
-
-pub returns-in_default-number_in-clause-cards : goal.returns-in_default-number_in-clause-cards
-returns-in_default-number_in-clause-cards g c = λ late ending country region speed before is o done s here front rest are n allowed vehicle w cards time.
-    let cabin = c.args.run.now.keeper.cabin in
-    let lit = c.requires.going in
-    no-entering cabin.cards (seat_in cabin.slots.seats c.args.slot) (who-enters (ungiven_of lit.span) cabin lit.cabin c.args.slot speed ending country region allowed)
-    (sym c.number_in.ensures ∙ none-there c.number_in.result c.in_default-number_in.not-Some)
-
-pub returns-in_default-clause-on_card : goal.returns-in_default-clause-on_card
-returns-in_default-clause-on_card g c = λ card there.
-    let none : card_in (seat_in c.args.run.now.keeper.cabin.slots.seats c.args.slot) ≡ None = sym c.card.ensures ∙ none-there c.card.result c.in_default.not-Some in
-    absurd (let wrong : None ≡ Some card = sym none ∙ there in cc)
-
-pub returns-in_default-number_in-clause-on_card : goal.returns-in_default-number_in-clause-on_card
-returns-in_default-number_in-clause-on_card g c = λ card there.
-    let run = c.args.run.now in
-    let cards = run.keeper.cabin.cards in
-    let d = devices (g.M.Medium.state c.args.unit.now) (g.C.Chip.state c.args.card_a.now) (g.D.Chip.state c.args.card_b.now) in
-    let unnamed : number_of_seat cards (seat_in run.keeper.cabin.slots.seats c.args.slot) ≡ None = sym c.number_in.ensures ∙ none-there c.number_in.result c.in_default-number_in.not-Some in
-    place-bare c.args.entry.now (card_of d card) (card_of d card) (session_of cards card) (session_of cards card) false
-    (seat-bare cards (seat_in run.keeper.cabin.slots.seats c.args.slot) card c.requires.going.ready.card_a.is_known c.requires.going.ready.card_b.is_known unnamed there)
-
-pub returns-in_default-clause-calm : goal.returns-in_default-clause-calm
-returns-in_default-clause-calm g c = calm-same (devices (g.M.Medium.state c.args.unit.now) (g.C.Chip.state c.args.card_a.now) (g.D.Chip.state c.args.card_b.now))
-
-pub returns-in_default-number_in-clause-calm : goal.returns-in_default-number_in-clause-calm
-returns-in_default-number_in-clause-calm g c = calm-same (devices (g.M.Medium.state c.args.unit.now) (g.C.Chip.state c.args.card_a.now) (g.D.Chip.state c.args.card_b.now))
+pub returns-in_default-number_in-clause-goes : goal.returns-in_default-number_in-clause-goes
+returns-in_default-number_in-clause-goes g c = record {
+  later = later-same (devices (g.M.Medium.state c.args.unit.now) (g.C.Chip.state c.args.card_a.now) (g.D.Chip.state c.args.card_b.now));
+  calm = calm-same (devices (g.M.Medium.state c.args.unit.now) (g.C.Chip.state c.args.card_a.now) (g.D.Chip.state c.args.card_b.now));
+  more = omega arith;
+}
 
 -- ---- the note on the unit fails
 
-pub returns-in_err-note_place-clause-recorded : goal.returns-in_err-note_place-clause-recorded
-returns-in_err-note_place-clause-recorded g c = λ late ending country region speed before is o done s now front rest are n allowed w time.
-    let run = c.args.run.now in
-    let lit = c.requires.going in
-    let U = g.M.Medium.state c.args.unit.now in
-    let V = g.M.Medium.state c.note_place.new.unit in
-    let A0 = g.C.Chip.state c.args.card_a.now in
-    let B0 = g.D.Chip.state c.args.card_b.now in
-    let failed : true ≡ is_err c.from_residual.result = search rules in
-    let w1 = place-first o done s c.args.slot ending country region c.args.at.begun speed run before c.args.breaks.now (devices U A0 B0) is now front rest are n allowed w in
-    subst (λ (q : Bool). GoesOnOrFails q o done s (In c.args.at.begun) [] run (record before { breaks = c.args.breaks.now }) (devices V A0 B0) w.within.b) failed
-    (unit-recorded o done s c.args.at.begun run (record before { breaks = c.args.breaks.now }) U V A0 B0 (g.met.M.Medium.coherent c.args.unit.now) c.note_place.ensures.journal lit.span lit.stands lit.next w1.goes true c.in_err-note_place.ensures.cause
-    (λ fine. place-more (unit_place_bytes c.in-Some-number_in.number c.args.entry.now) (g.M.Medium.state c.args.unit.now) (g.M.Medium.state c.note_place.new.unit) (g.met.M.Medium.coherent c.args.unit.now) c.note_place.ensures.moments))
+pub returns-in_err-note_place-clause-placed : goal.returns-in_err-note_place-clause-placed
+returns-in_err-note_place-clause-placed g c = record {
+  card = (false, none-placed (card_in (seat_in c.args.run.now.keeper.cabin.slots.seats c.args.slot)) c.args.slot c.args.at c.args.run.now c.args.breaks.now);
+  run = refl;
+  room = (refl, omega arith);
+}
 
-pub returns-in_err-note_place-clause-events : goal.returns-in_err-note_place-clause-events
-returns-in_err-note_place-clause-events g c =
-    let run = c.args.run.now in
-    let U = g.M.Medium.state c.args.unit.now in
-    let V = g.M.Medium.state c.note_place.new.unit in
-    let A0 = g.C.Chip.state c.args.card_a.now in
-    let B0 = g.D.Chip.state c.args.card_b.now in
-    let there : card_in (seat_in run.keeper.cabin.slots.seats c.args.slot) ≡ Some c.in-Some.card = cc in
-    let failed : true ≡ is_err c.from_residual.result = search rules in
-    let ring = says-of U V (g.met.M.Medium.coherent c.args.unit.now) (IsAdding unit_place_ring (unit_place_bytes c.in-Some-number_in.number c.args.entry.now)) (adding-nothing (unit_place_bytes c.in-Some-number_in.number c.args.entry.now)) c.in_err-note_place.ensures.moments in
-    subst (λ (b : Bool). NotesPlace (card_in (seat_in run.keeper.cabin.slots.seats c.args.slot)) c.args.slot c.args.at b run run c.args.breaks.now c.args.breaks.now (devices U A0 B0) (devices V A0 B0)) failed
-    (subst (λ (q : Option Card). NotesPlace q c.args.slot c.args.at true run run c.args.breaks.now c.args.breaks.now (devices U A0 B0) (devices V A0 B0)) (sym there) (inl (refl, refl, refl, quiet-any U V A0 B0 A0 B0 true ring)))
+pub returns-in_err-note_place-clause-leaves : goal.returns-in_err-note_place-clause-leaves
+returns-in_err-note_place-clause-leaves g c = record {
+  card_events =
+      let run = c.args.run.now in
+      both-cards (λ card. NotesOn false (session_of run.keeper.cabin.cards card) (session_of run.keeper.cabin.cards card) []
+      (card_of (devices (g.M.Medium.state c.args.unit.now) (g.C.Chip.state c.args.card_a.now) (g.D.Chip.state c.args.card_b.now)) card) (card_of (devices (g.M.Medium.state c.note_place.new.unit) (g.C.Chip.state c.args.card_a.now) (g.D.Chip.state c.args.card_b.now)) card))
+      (on-none false (session_of run.keeper.cabin.cards A) (g.C.Chip.state c.args.card_a.now)) (on-none false (session_of run.keeper.cabin.cards B) (g.D.Chip.state c.args.card_b.now));
+  on_card =
+      λ card there.
+      let run = c.args.run.now in
+      let s = session_of run.keeper.cabin.cards card in
+      let d = devices (g.M.Medium.state c.args.unit.now) (g.C.Chip.state c.args.card_a.now) (g.D.Chip.state c.args.card_b.now) in
+      let e = devices (g.M.Medium.state c.note_place.new.unit) (g.C.Chip.state c.args.card_a.now) (g.D.Chip.state c.args.card_b.now) in
+      let failed : true ≡ is_err c.from_residual.result = search rules in
+      subst (λ (b : Bool). PlaceOn s s b c.args.entry.now (card_of d card) (card_of e card)) failed (place-unit c.args.entry.now (card_of d card) (card_of e card) s s);
+  events =
+      let run = c.args.run.now in
+      let U = g.M.Medium.state c.args.unit.now in
+      let V = g.M.Medium.state c.note_place.new.unit in
+      let A0 = g.C.Chip.state c.args.card_a.now in
+      let B0 = g.D.Chip.state c.args.card_b.now in
+      let there : card_in (seat_in run.keeper.cabin.slots.seats c.args.slot) ≡ Some c.in-Some.card = cc in
+      let failed : true ≡ is_err c.from_residual.result = search rules in
+      let ring = says-of U V (g.met.M.Medium.coherent c.args.unit.now) (IsAdding unit_place_ring (unit_place_bytes c.in-Some-number_in.number c.args.entry.now)) (adding-nothing (unit_place_bytes c.in-Some-number_in.number c.args.entry.now)) c.in_err-note_place.ensures.moments in
+      subst (λ (b : Bool). NotesPlace (card_in (seat_in run.keeper.cabin.slots.seats c.args.slot)) c.args.slot c.args.at b run run c.args.breaks.now c.args.breaks.now (devices U A0 B0) (devices V A0 B0)) failed
+      (subst (λ (q : Option Card). NotesPlace q c.args.slot c.args.at true run run c.args.breaks.now c.args.breaks.now (devices U A0 B0) (devices V A0 B0)) (sym there) (inl (refl, refl, refl, quiet-any U V A0 B0 A0 B0 true ring)));
+  rings =
+      λ tells.
+      let run = c.args.run.now in
+      let U = g.M.Medium.state c.args.unit.now in
+      let V = g.M.Medium.state c.note_place.new.unit in
+      let number = c.in-Some-number_in.number in
+      let told : number_of_seat run.keeper.cabin.cards (seat_in run.keeper.cabin.slots.seats c.args.slot) ≡ Some number = cc in
+      let failed : true ≡ is_err c.from_residual.result = search rules in
+      subst (λ (q : Bool). WritesPlace (number_of_seat run.keeper.cabin.cards (seat_in run.keeper.cabin.slots.seats c.args.slot)) c.args.entry.now q U V) failed
+      (subst (λ (o : Option FullCardNumber). WritesPlace o c.args.entry.now true U V) (sym told)
+      (place-broken (unit_place_bytes number c.args.entry.now) U V V (g.met.M.Medium.coherent c.args.unit.now) (g.met.M.Medium.coherent c.note_place.new.unit) tells c.note_place.ensures.moments));
+}
 
-pub returns-in_err-note_place-clause-rings : goal.returns-in_err-note_place-clause-rings
-returns-in_err-note_place-clause-rings g c = λ tells.
-    let run = c.args.run.now in
-    let U = g.M.Medium.state c.args.unit.now in
-    let V = g.M.Medium.state c.note_place.new.unit in
-    let number = c.in-Some-number_in.number in
-    let told : number_of_seat run.keeper.cabin.cards (seat_in run.keeper.cabin.slots.seats c.args.slot) ≡ Some number = cc in
-    let failed : true ≡ is_err c.from_residual.result = search rules in
-    subst (λ (q : Bool). WritesPlace (number_of_seat run.keeper.cabin.cards (seat_in run.keeper.cabin.slots.seats c.args.slot)) c.args.entry.now q U V) failed
-    (subst (λ (o : Option FullCardNumber). WritesPlace o c.args.entry.now true U V) (sym told)
-    (place-broken (unit_place_bytes number c.args.entry.now) U V V (g.met.M.Medium.coherent c.args.unit.now) (g.met.M.Medium.coherent c.note_place.new.unit) tells c.note_place.ensures.moments))
+pub returns-in_err-note_place-clause-promises : goal.returns-in_err-note_place-clause-promises
+returns-in_err-note_place-clause-promises g c = record {
+  recorded =
+      λ late ending country region speed before is o done s now front rest are n allowed w time.
+      let run = c.args.run.now in
+      let lit = c.requires.going in
+      let U = g.M.Medium.state c.args.unit.now in
+      let V = g.M.Medium.state c.note_place.new.unit in
+      let A0 = g.C.Chip.state c.args.card_a.now in
+      let B0 = g.D.Chip.state c.args.card_b.now in
+      let failed : true ≡ is_err c.from_residual.result = search rules in
+      let w1 = place-first o done s c.args.slot ending country region c.args.at.begun speed run before c.args.breaks.now (devices U A0 B0) is now front rest are n allowed w in
+      subst (λ (q : Bool). GoesOnOrFails q o done s (In c.args.at.begun) [] run (record before { breaks = c.args.breaks.now }) (devices V A0 B0) w.within.b) failed
+      (unit-recorded o done s c.args.at.begun run (record before { breaks = c.args.breaks.now }) U V A0 B0 (g.met.M.Medium.coherent c.args.unit.now) c.note_place.ensures.journal lit.span lit.stands lit.next w1.goes true c.in_err-note_place.ensures.cause
+      (λ fine. place-more (unit_place_bytes c.in-Some-number_in.number c.args.entry.now) (g.M.Medium.state c.args.unit.now) (g.M.Medium.state c.note_place.new.unit) (g.met.M.Medium.coherent c.args.unit.now) c.note_place.ensures.moments));
+  evented =
+      λ late ending country region speed before is o done s now front rest are n allowed w events time.
+      let run = c.args.run.now in
+      let lit = c.requires.going in
+      let U = g.M.Medium.state c.args.unit.now in
+      let V = g.M.Medium.state c.note_place.new.unit in
+      let A0 = g.C.Chip.state c.args.card_a.now in
+      let B0 = g.D.Chip.state c.args.card_b.now in
+      let begun : ℕ = c.args.at.begun in
+      let out : Outcome = record before { breaks = c.args.breaks.now } in
+      let failed : true ≡ is_err c.from_residual.result = search rules in
+      let left = left-over front rest (Place c.args.slot ending country region) s begun n are in
+      let ring = says-of U V (g.met.M.Medium.coherent c.args.unit.now) (IsAdding unit_place_ring (unit_place_bytes c.in-Some-number_in.number c.args.entry.now)) (adding-nothing (unit_place_bytes c.in-Some-number_in.number c.args.entry.now)) c.in_err-note_place.ensures.moments in
+      let w1 = place-first o done s c.args.slot ending country region begun speed run before c.args.breaks.now (devices U A0 B0) is now front rest are n allowed w in
+      let first : EventedNow o done s w1.goes.within.b.run Acting (log_of out) (devices U A0 B0) = subst (λ (b : Beginning). EventedNow o done s b.run Acting (log_of out) (devices U A0 B0)) (sym w1.began)
+      (subst (λ (l : Listed Break). EventedNow o done s w.within.b.run Acting (log_of (record before { breaks = l })) (devices U A0 B0)) is events) in
+      subst (λ (q : Bool). EventsGoOn q o done s w.within.b.run (In begun) Acting (log_of out) (devices V A0 B0)) failed
+      (subst (λ (b : Beginning). EventsGoOn true o done s b.run (In begun) Acting (log_of out) (devices V A0 B0)) w1.began
+      (unit-evented o done s begun run out U V A0 B0 (g.met.M.Medium.coherent c.args.unit.now) c.note_place.ensures.journal lit.span lit.stands lit.next w1.goes rest left true c.in_err-note_place.ensures.cause (quiet-any U V A0 B0 A0 B0 true ring) first));
+  ringed =
+      let run = c.args.run.now in
+      let lit = c.requires.going in
+      let number = c.in-Some-number_in.number in
+      let card : Card = c.in-Some.card in
+      let breaks : Listed Break = c.args.breaks.now in
+      let U = g.M.Medium.state c.args.unit.now in
+      let V = g.M.Medium.state c.note_place.new.unit in
+      let A0 = g.C.Chip.state c.args.card_a.now in
+      let B0 = g.D.Chip.state c.args.card_b.now in
+      let there : card_in (seat_in run.keeper.cabin.slots.seats c.args.slot) ≡ Some card = cc in
+      let told : number_of_seat run.keeper.cabin.cards (seat_in run.keeper.cabin.slots.seats c.args.slot) ≡ Some number = cc in
+      let failed : true ≡ is_err c.from_residual.result = search rules in
+      let none : breaks ≡ with_lines [] breaks = ap (λ (bs : List Break). record breaks { items = bs }) (sym (append-nil breaks.items)) in
+      place-goes c.args.slot c.args.entry.now c.args.at (is_err c.from_residual.result) run run breaks breaks (devices U A0 B0) (devices V A0 B0) card number false there told
+      (numbered-session run.keeper.cabin.cards (seat_in run.keeper.cabin.slots.seats c.args.slot) card number there told) (ungiven_of lit.span) lit.cabin c.requires.at c.requires.small (record { run = refl; told = none })
+      (λ tells. subst (λ (o : Option FullCardNumber). WritesPlace o c.args.entry.now (is_err c.from_residual.result) U V) told ((returns-in_err-note_place-clause-leaves g c).rings tells))
+      (record { unit = c.note_place.ensures.journal.keeps; card_a = λ t x le at. at; card_b = λ t x le at. at })
+      (λ a at_. both-cards (λ k. PlaceCall false (is_err c.from_residual.result) a.session.application c.args.entry.now (card_of (devices U A0 B0) k) (card_of (devices V A0 B0) k))
+      (subst (λ (q : Bool). PlaceCall false q a.session.application c.args.entry.now A0 A0) failed (call-unbegun a.session.application c.args.entry.now A0))
+      (subst (λ (q : Bool). PlaceCall false q a.session.application c.args.entry.now B0 B0) failed (call-unbegun a.session.application c.args.entry.now B0)) card)
+      (λ k apart. both-cards (λ k. (y : List ℕ) → (card_of (devices V A0 B0) k).may_leave y → (card_of (devices U A0 B0) k).may_leave y) (λ y left. left) (λ y left. left) k);
+  cards =
+      let run = c.args.run.now in
+      let breaks : Listed Break = c.args.breaks.now in
+      let U = g.M.Medium.state c.args.unit.now in
+      let V = g.M.Medium.state c.note_place.new.unit in
+      let A0 = g.C.Chip.state c.args.card_a.now in
+      let B0 = g.D.Chip.state c.args.card_b.now in
+      let none : breaks ≡ with_lines [] breaks = ap (λ (bs : List Break). record breaks { items = bs }) (sym (append-nil breaks.items)) in
+      place-cards c.args.slot c.args.at (is_err c.from_residual.result) false run run breaks breaks (devices U A0 B0) (devices V A0 B0) c.requires.at none ((returns-in_err-note_place-clause-leaves g c).card_events)
+      (record { unit = c.note_place.ensures.journal.keeps; card_a = λ t x le at. at; card_b = λ t x le at. at });
+}
 
-pub returns-in_err-note_place-clause-later : goal.returns-in_err-note_place-clause-later
-returns-in_err-note_place-clause-later g c = later-of-unit (g.M.Medium.state c.args.unit.now) (g.M.Medium.state c.note_place.new.unit) (g.C.Chip.state c.args.card_a.now) (g.D.Chip.state c.args.card_b.now) (state-by (g.M.Medium.state c.args.unit.now) (g.M.Medium.state c.note_place.new.unit) _ c.note_place.ensures.journal.later c.note_place.ensures.cause)
-    (place-leaves (unit_place_bytes c.in-Some-number_in.number c.args.entry.now) (g.M.Medium.state c.args.unit.now) (g.M.Medium.state c.note_place.new.unit) (g.met.M.Medium.coherent c.args.unit.now) c.note_place.ensures.moments)
+pub returns-in_err-note_place-clause-held : goal.returns-in_err-note_place-clause-held
+returns-in_err-note_place-clause-held g c = record {
+  held = record { is_unit = unit-stays c.note_place.ensures.journal c.requires.held.is_unit; odometer = c.requires.held.odometer; minute = c.requires.held.minute; card_a = c.requires.held.card_a; card_b = c.requires.held.card_b; stand = c.requires.held.stand };
+  cause =
+      let failed : true ≡ is_err c.from_residual.result = search rules in
+      subst (λ (f : Bool). HasCause (g.M.Medium.state c.args.unit.now) (g.M.Medium.state c.note_place.new.unit) f) failed c.in_err-note_place.ensures.cause;
+}
 
-pub returns-in_err-note_place-clause-evented : goal.returns-in_err-note_place-clause-evented
-returns-in_err-note_place-clause-evented g c = λ late ending country region speed before is o done s now front rest are n allowed w events time.
-    let run = c.args.run.now in
-    let lit = c.requires.going in
-    let U = g.M.Medium.state c.args.unit.now in
-    let V = g.M.Medium.state c.note_place.new.unit in
-    let A0 = g.C.Chip.state c.args.card_a.now in
-    let B0 = g.D.Chip.state c.args.card_b.now in
-    let begun : ℕ = c.args.at.begun in
-    let out : Outcome = record before { breaks = c.args.breaks.now } in
-    let failed : true ≡ is_err c.from_residual.result = search rules in
-    let left = left-over front rest (Place c.args.slot ending country region) s begun n are in
-    let ring = says-of U V (g.met.M.Medium.coherent c.args.unit.now) (IsAdding unit_place_ring (unit_place_bytes c.in-Some-number_in.number c.args.entry.now)) (adding-nothing (unit_place_bytes c.in-Some-number_in.number c.args.entry.now)) c.in_err-note_place.ensures.moments in
-    let w1 = place-first o done s c.args.slot ending country region begun speed run before c.args.breaks.now (devices U A0 B0) is now front rest are n allowed w in
-    let first : EventedNow o done s w1.goes.within.b.run Acting (log_of out) (devices U A0 B0) = subst (λ (b : Beginning). EventedNow o done s b.run Acting (log_of out) (devices U A0 B0)) (sym w1.began)
-    (subst (λ (l : Listed Break). EventedNow o done s w.within.b.run Acting (log_of (record before { breaks = l })) (devices U A0 B0)) is events) in
-    subst (λ (q : Bool). EventsGoOn q o done s w.within.b.run (In begun) Acting (log_of out) (devices V A0 B0)) failed
-    (subst (λ (b : Beginning). EventsGoOn true o done s b.run (In begun) Acting (log_of out) (devices V A0 B0)) w1.began
-    (unit-evented o done s begun run out U V A0 B0 (g.met.M.Medium.coherent c.args.unit.now) c.note_place.ensures.journal lit.span lit.stands lit.next w1.goes rest left true c.in_err-note_place.ensures.cause (quiet-any U V A0 B0 A0 B0 true ring) first))
-
-pub returns-in_err-note_place-clause-ringed : goal.returns-in_err-note_place-clause-ringed
-returns-in_err-note_place-clause-ringed g c =
-    let run = c.args.run.now in
-    let lit = c.requires.going in
-    let number = c.in-Some-number_in.number in
-    let card : Card = c.in-Some.card in
-    let breaks : Listed Break = c.args.breaks.now in
-    let U = g.M.Medium.state c.args.unit.now in
-    let V = g.M.Medium.state c.note_place.new.unit in
-    let A0 = g.C.Chip.state c.args.card_a.now in
-    let B0 = g.D.Chip.state c.args.card_b.now in
-    let there : card_in (seat_in run.keeper.cabin.slots.seats c.args.slot) ≡ Some card = cc in
-    let told : number_of_seat run.keeper.cabin.cards (seat_in run.keeper.cabin.slots.seats c.args.slot) ≡ Some number = cc in
-    let failed : true ≡ is_err c.from_residual.result = search rules in
-    let none : breaks ≡ with_lines [] breaks = ap (λ (bs : List Break). record breaks { items = bs }) (sym (append-nil breaks.items)) in
-    place-goes c.args.slot c.args.entry.now c.args.at (is_err c.from_residual.result) run run breaks breaks (devices U A0 B0) (devices V A0 B0) card number false there told
-    (numbered-session run.keeper.cabin.cards (seat_in run.keeper.cabin.slots.seats c.args.slot) card number there told) (ungiven_of lit.span) lit.cabin c.requires.at c.requires.small (record { run = refl; told = none })
-    (λ tells. subst (λ (o : Option FullCardNumber). WritesPlace o c.args.entry.now (is_err c.from_residual.result) U V) told (returns-in_err-note_place-clause-rings g c tells))
-    (record { unit = c.note_place.ensures.journal.keeps; card_a = λ t x le at. at; card_b = λ t x le at. at })
-    (λ a at_. both-cards (λ k. PlaceCall false (is_err c.from_residual.result) a.session.application c.args.entry.now (card_of (devices U A0 B0) k) (card_of (devices V A0 B0) k))
-    (subst (λ (q : Bool). PlaceCall false q a.session.application c.args.entry.now A0 A0) failed (call-unbegun a.session.application c.args.entry.now A0))
-    (subst (λ (q : Bool). PlaceCall false q a.session.application c.args.entry.now B0 B0) failed (call-unbegun a.session.application c.args.entry.now B0)) card)
-    (λ k apart. both-cards (λ k. (y : List ℕ) → (card_of (devices V A0 B0) k).may_leave y → (card_of (devices U A0 B0) k).may_leave y) (λ y left. left) (λ y left. left) k)
-
-pub returns-in_err-note_place-clause-card_events : goal.returns-in_err-note_place-clause-card_events
-returns-in_err-note_place-clause-card_events g c =
-    let run = c.args.run.now in
-    both-cards (λ card. NotesOn false (session_of run.keeper.cabin.cards card) (session_of run.keeper.cabin.cards card) []
-    (card_of (devices (g.M.Medium.state c.args.unit.now) (g.C.Chip.state c.args.card_a.now) (g.D.Chip.state c.args.card_b.now)) card) (card_of (devices (g.M.Medium.state c.note_place.new.unit) (g.C.Chip.state c.args.card_a.now) (g.D.Chip.state c.args.card_b.now)) card))
-    (on-none false (session_of run.keeper.cabin.cards A) (g.C.Chip.state c.args.card_a.now)) (on-none false (session_of run.keeper.cabin.cards B) (g.D.Chip.state c.args.card_b.now))
-
-pub returns-in_err-note_place-clause-cards : goal.returns-in_err-note_place-clause-cards
-returns-in_err-note_place-clause-cards g c =
-    let run = c.args.run.now in
-    let breaks : Listed Break = c.args.breaks.now in
-    let U = g.M.Medium.state c.args.unit.now in
-    let V = g.M.Medium.state c.note_place.new.unit in
-    let A0 = g.C.Chip.state c.args.card_a.now in
-    let B0 = g.D.Chip.state c.args.card_b.now in
-    let none : breaks ≡ with_lines [] breaks = ap (λ (bs : List Break). record breaks { items = bs }) (sym (append-nil breaks.items)) in
-    place-cards c.args.slot c.args.at (is_err c.from_residual.result) false run run breaks breaks (devices U A0 B0) (devices V A0 B0) c.requires.at none (returns-in_err-note_place-clause-card_events g c)
-    (record { unit = c.note_place.ensures.journal.keeps; card_a = λ t x le at. at; card_b = λ t x le at. at })
-
-pub returns-in_err-note_place-clause-on_card : goal.returns-in_err-note_place-clause-on_card
-returns-in_err-note_place-clause-on_card g c = λ card there.
-    let run = c.args.run.now in
-    let s = session_of run.keeper.cabin.cards card in
-    let d = devices (g.M.Medium.state c.args.unit.now) (g.C.Chip.state c.args.card_a.now) (g.D.Chip.state c.args.card_b.now) in
-    let e = devices (g.M.Medium.state c.note_place.new.unit) (g.C.Chip.state c.args.card_a.now) (g.D.Chip.state c.args.card_b.now) in
-    let failed : true ≡ is_err c.from_residual.result = search rules in
-    subst (λ (b : Bool). PlaceOn s s b c.args.entry.now (card_of d card) (card_of e card)) failed (place-unit c.args.entry.now (card_of d card) (card_of e card) s s)
-
-pub returns-in_err-note_place-clause-calm : goal.returns-in_err-note_place-clause-calm
-returns-in_err-note_place-clause-calm g c = calm-of-unit (g.M.Medium.state c.args.unit.now) (g.M.Medium.state c.note_place.new.unit) (g.C.Chip.state c.args.card_a.now) (g.D.Chip.state c.args.card_b.now)
+pub returns-in_err-note_place-clause-goes : goal.returns-in_err-note_place-clause-goes
+returns-in_err-note_place-clause-goes g c = record {
+  later =
+      later-of-unit (g.M.Medium.state c.args.unit.now) (g.M.Medium.state c.note_place.new.unit) (g.C.Chip.state c.args.card_a.now) (g.D.Chip.state c.args.card_b.now) (state-by (g.M.Medium.state c.args.unit.now) (g.M.Medium.state c.note_place.new.unit) _ c.note_place.ensures.journal.later c.note_place.ensures.cause)
+      (place-leaves (unit_place_bytes c.in-Some-number_in.number c.args.entry.now) (g.M.Medium.state c.args.unit.now) (g.M.Medium.state c.note_place.new.unit) (g.met.M.Medium.coherent c.args.unit.now) c.note_place.ensures.moments);
+  calm = calm-of-unit (g.M.Medium.state c.args.unit.now) (g.M.Medium.state c.note_place.new.unit) (g.C.Chip.state c.args.card_a.now) (g.D.Chip.state c.args.card_b.now);
+  more = omega arith;
+}
 
 -- ---- card a, and card b
-
-pub returns-in-A-clause-held : goal.returns-in-A-clause-held
-returns-in-A-clause-held g c =
-    let e = c.note_place_in.ensures in
-    held-noted A c.args.slot c.args.at c.args.run.now c.note_place_in.new.run c.args.breaks.now c.note_place_in.new.breaks c.note_place_in.ensures.noted.0 c.note_place_in.ensures.noted.1 (g.M.Medium.state c.args.unit.now) (g.M.Medium.state c.note_place_in.new.unit) (g.C.Chip.state c.args.card_a.now) (g.C.Chip.state c.note_place_in.new.card) (g.D.Chip.state c.args.card_b.now) (g.C.Chip.card c.args.card_a.now) (g.C.Chip.card c.note_place_in.new.card) (g.D.Chip.card c.args.card_b.now) c.requires.at c.requires.held e.unit e.card e.size e.stands
 
 pub returns-in-A-clause-going : goal.returns-in-A-clause-going
 returns-in-A-clause-going g c =
     let e = c.note_place_in.ensures in
-    on_ok c.note_place_in.result (λ well. going-noted A c.args.slot c.args.at c.args.run.now c.note_place_in.new.run c.args.breaks.now c.note_place_in.new.breaks c.note_place_in.ensures.noted.0 c.note_place_in.ensures.noted.1 (g.M.Medium.state c.args.unit.now) (g.M.Medium.state c.note_place_in.new.unit) (g.C.Chip.state c.args.card_a.now) (g.C.Chip.state c.note_place_in.new.card) (g.D.Chip.state c.args.card_b.now) (g.C.Chip.card c.args.card_a.now) (g.C.Chip.card c.note_place_in.new.card) (g.D.Chip.card c.args.card_b.now) c.requires.going (ok_gives c.note_place_in.result e.ready well) e.card (rows-then g (noted-first-a g c) (side-a g c) c.note_place_in.ensures well) e.stands)
+    on_ok c.note_place_in.result (λ well. going-noted A c.args.slot c.args.at c.args.run.now c.note_place_in.new.run c.args.breaks.now c.note_place_in.new.breaks c.note_place_in.ensures.noted.0 c.note_place_in.ensures.noted.1 (g.M.Medium.state c.args.unit.now) (g.M.Medium.state c.note_place_in.new.unit) (g.C.Chip.state c.args.card_a.now) (g.C.Chip.state c.note_place_in.new.card) (g.D.Chip.state c.args.card_b.now) (g.C.Chip.card c.args.card_a.now) (g.C.Chip.card c.note_place_in.new.card) (g.D.Chip.card c.args.card_b.now) c.requires.going (ok_gives c.note_place_in.result e.ready well) e.card (rows-then g (noted-first-a g c) (side-a g c) c.note_place_in.ensures well) e.stands
+    (knows-left c.args.run.now.watch.newest (g.M.Medium.state c.args.unit.now) (g.M.Medium.state c.note_place_in.new.unit) (g.met.M.Medium.coherent c.args.unit.now) (g.met.M.Medium.coherent c.note_place_in.new.unit) c.requires.going.ready.unit_ready.works (later g (noted-first-a g c) (side-a g c) c.note_place_in.ensures).speeds))
 
-pub returns-in-A-clause-only : goal.returns-in-A-clause-only
-returns-in-A-clause-only g c = only-noted A c.args.slot c.args.at c.args.run.now c.note_place_in.new.run c.args.breaks.now c.note_place_in.new.breaks c.note_place_in.ensures.noted.0 c.note_place_in.ensures.noted.1
+pub returns-in-A-clause-placed : goal.returns-in-A-clause-placed
+returns-in-A-clause-placed g c = record {
+  card = placed g (noted-first-a g c) (side-a g c) c.note_place_in.ensures;
+  run = only-noted A c.args.slot c.args.at c.args.run.now c.note_place_in.new.run c.args.breaks.now c.note_place_in.new.breaks c.note_place_in.ensures.noted.0 c.note_place_in.ensures.noted.1;
+  room = room-noted A c.args.slot c.args.at c.args.run.now c.note_place_in.new.run c.args.breaks.now c.note_place_in.new.breaks c.note_place_in.ensures.noted.0 c.note_place_in.ensures.noted.1 (some g (noted-first-a g c) (side-a g c) c.note_place_in.ensures);
+}
 
-pub returns-in-A-clause-room : goal.returns-in-A-clause-room
-returns-in-A-clause-room g c = room-noted A c.args.slot c.args.at c.args.run.now c.note_place_in.new.run c.args.breaks.now c.note_place_in.new.breaks c.note_place_in.ensures.noted.0 c.note_place_in.ensures.noted.1 (some g (noted-first-a g c) (side-a g c) c.note_place_in.ensures)
+pub returns-in-A-clause-leaves : goal.returns-in-A-clause-leaves
+returns-in-A-clause-leaves g c = record {
+  card_events = card-events g (noted-first-a g c) (side-a g c) c.note_place_in.ensures;
+  on_card = on-card g (noted-first-a g c) (side-a g c) c.note_place_in.ensures;
+  events = events g (noted-first-a g c) (side-a g c) c.note_place_in.ensures;
+  rings = writes g (noted-first-a g c) (side-a g c) c.note_place_in.ensures;
+}
 
-pub returns-in-A-clause-more : goal.returns-in-A-clause-more
-returns-in-A-clause-more g c = more-noted A c.args.slot c.args.at c.args.run.now c.note_place_in.new.run c.args.breaks.now c.note_place_in.new.breaks c.note_place_in.ensures.noted.0 c.note_place_in.ensures.noted.1
+pub returns-in-A-clause-promises : goal.returns-in-A-clause-promises
+returns-in-A-clause-promises g c = record {
+  recorded = λ late ending country region speed before is o done s now front rest are n allowed w time. recorded g (noted-first-a g c) (side-a g c) c.note_place_in.ensures late ending country region speed before is o done s now front rest are n allowed w;
+  evented = λ late ending country region speed before is o done s now front rest are n allowed w events time. evented g (noted-first-a g c) (side-a g c) c.note_place_in.ensures late ending country region speed before is o done s now front rest are n allowed w events;
+  ringed = ringed g (noted-first-a g c) (side-a g c) c.note_place_in.ensures;
+  cards = shown g (noted-first-a g c) (side-a g c) c.note_place_in.ensures;
+}
 
-pub returns-in-A-clause-cause : goal.returns-in-A-clause-cause
-returns-in-A-clause-cause g c = cause_after c.in_ok-note_place.ensures.cause c.note_place_in.ensures.cause
+pub returns-in-A-clause-held : goal.returns-in-A-clause-held
+returns-in-A-clause-held g c = record {
+  held =
+      let e = c.note_place_in.ensures in
+      held-noted A c.args.slot c.args.at c.args.run.now c.note_place_in.new.run c.args.breaks.now c.note_place_in.new.breaks c.note_place_in.ensures.noted.0 c.note_place_in.ensures.noted.1 (g.M.Medium.state c.args.unit.now) (g.M.Medium.state c.note_place_in.new.unit) (g.C.Chip.state c.args.card_a.now) (g.C.Chip.state c.note_place_in.new.card) (g.D.Chip.state c.args.card_b.now) (g.C.Chip.card c.args.card_a.now) (g.C.Chip.card c.note_place_in.new.card) (g.D.Chip.card c.args.card_b.now) c.requires.at c.requires.held e.unit e.card e.size e.stands;
+  cause = cause_after c.in_ok-note_place.ensures.cause c.note_place_in.ensures.cause;
+}
 
-pub returns-in-A-clause-clock_a : goal.returns-in-A-clause-clock_a
-returns-in-A-clause-clock_a g c = c.note_place_in.ensures.clock_card
-
-pub returns-in-A-clause-events : goal.returns-in-A-clause-events
-returns-in-A-clause-events g c = events g (noted-first-a g c) (side-a g c) c.note_place_in.ensures
-
-pub returns-in-A-clause-rings : goal.returns-in-A-clause-rings
-returns-in-A-clause-rings g c = writes g (noted-first-a g c) (side-a g c) c.note_place_in.ensures
-
-pub returns-in-A-clause-later : goal.returns-in-A-clause-later
-returns-in-A-clause-later g c = later g (noted-first-a g c) (side-a g c) c.note_place_in.ensures
-
-pub returns-in-A-clause-calm : goal.returns-in-A-clause-calm
-returns-in-A-clause-calm g c = calm g (noted-first-a g c) (side-a g c) c.note_place_in.ensures
-
-pub returns-in-A-clause-card_events : goal.returns-in-A-clause-card_events
-returns-in-A-clause-card_events g c = card-events g (noted-first-a g c) (side-a g c) c.note_place_in.ensures
-
-pub returns-in-A-clause-cards : goal.returns-in-A-clause-cards
-returns-in-A-clause-cards g c = shown g (noted-first-a g c) (side-a g c) c.note_place_in.ensures
-
-pub returns-in-A-clause-ringed : goal.returns-in-A-clause-ringed
-returns-in-A-clause-ringed g c = ringed g (noted-first-a g c) (side-a g c) c.note_place_in.ensures
-
-pub returns-in-A-clause-on_card : goal.returns-in-A-clause-on_card
-returns-in-A-clause-on_card g c = on-card g (noted-first-a g c) (side-a g c) c.note_place_in.ensures
-
-pub returns-in-A-clause-recorded : goal.returns-in-A-clause-recorded
-returns-in-A-clause-recorded g c = λ late ending country region speed before is o done s now front rest are n allowed w time. recorded g (noted-first-a g c) (side-a g c) c.note_place_in.ensures late ending country region speed before is o done s now front rest are n allowed w
-
-pub returns-in-A-clause-evented : goal.returns-in-A-clause-evented
-returns-in-A-clause-evented g c = λ late ending country region speed before is o done s now front rest are n allowed w events time. evented g (noted-first-a g c) (side-a g c) c.note_place_in.ensures late ending country region speed before is o done s now front rest are n allowed w events
-
-pub returns-in-B-clause-held : goal.returns-in-B-clause-held
-returns-in-B-clause-held g c =
-    let e = c.note_place_in-in-B.ensures in
-    held-noted B c.args.slot c.args.at c.args.run.now c.note_place_in-in-B.new.run c.args.breaks.now c.note_place_in-in-B.new.breaks c.note_place_in-in-B.ensures.noted.0 c.note_place_in-in-B.ensures.noted.1 (g.M.Medium.state c.args.unit.now) (g.M.Medium.state c.note_place_in-in-B.new.unit) (g.D.Chip.state c.args.card_b.now) (g.D.Chip.state c.note_place_in-in-B.new.card) (g.C.Chip.state c.args.card_a.now) (g.D.Chip.card c.args.card_b.now) (g.D.Chip.card c.note_place_in-in-B.new.card) (g.C.Chip.card c.args.card_a.now) c.requires.at c.requires.held e.unit e.card e.size e.stands
+pub returns-in-A-clause-goes : goal.returns-in-A-clause-goes
+returns-in-A-clause-goes g c = record {
+  later = later g (noted-first-a g c) (side-a g c) c.note_place_in.ensures;
+  calm = calm g (noted-first-a g c) (side-a g c) c.note_place_in.ensures;
+  more = more-noted A c.args.slot c.args.at c.args.run.now c.note_place_in.new.run c.args.breaks.now c.note_place_in.new.breaks c.note_place_in.ensures.noted.0 c.note_place_in.ensures.noted.1;
+}
 
 pub returns-in-B-clause-going : goal.returns-in-B-clause-going
 returns-in-B-clause-going g c =
     let e = c.note_place_in-in-B.ensures in
-    on_ok c.note_place_in-in-B.result (λ well. going-noted B c.args.slot c.args.at c.args.run.now c.note_place_in-in-B.new.run c.args.breaks.now c.note_place_in-in-B.new.breaks c.note_place_in-in-B.ensures.noted.0 c.note_place_in-in-B.ensures.noted.1 (g.M.Medium.state c.args.unit.now) (g.M.Medium.state c.note_place_in-in-B.new.unit) (g.D.Chip.state c.args.card_b.now) (g.D.Chip.state c.note_place_in-in-B.new.card) (g.C.Chip.state c.args.card_a.now) (g.D.Chip.card c.args.card_b.now) (g.D.Chip.card c.note_place_in-in-B.new.card) (g.C.Chip.card c.args.card_a.now) c.requires.going (ok_gives c.note_place_in-in-B.result e.ready well) e.card (rows-then g (noted-first-b g c) (side-b g c) c.note_place_in-in-B.ensures well) e.stands)
+    on_ok c.note_place_in-in-B.result (λ well. going-noted B c.args.slot c.args.at c.args.run.now c.note_place_in-in-B.new.run c.args.breaks.now c.note_place_in-in-B.new.breaks c.note_place_in-in-B.ensures.noted.0 c.note_place_in-in-B.ensures.noted.1 (g.M.Medium.state c.args.unit.now) (g.M.Medium.state c.note_place_in-in-B.new.unit) (g.D.Chip.state c.args.card_b.now) (g.D.Chip.state c.note_place_in-in-B.new.card) (g.C.Chip.state c.args.card_a.now) (g.D.Chip.card c.args.card_b.now) (g.D.Chip.card c.note_place_in-in-B.new.card) (g.C.Chip.card c.args.card_a.now) c.requires.going (ok_gives c.note_place_in-in-B.result e.ready well) e.card (rows-then g (noted-first-b g c) (side-b g c) c.note_place_in-in-B.ensures well) e.stands
+    (knows-left c.args.run.now.watch.newest (g.M.Medium.state c.args.unit.now) (g.M.Medium.state c.note_place_in-in-B.new.unit) (g.met.M.Medium.coherent c.args.unit.now) (g.met.M.Medium.coherent c.note_place_in-in-B.new.unit) c.requires.going.ready.unit_ready.works (later g (noted-first-b g c) (side-b g c) c.note_place_in-in-B.ensures).speeds))
 
-pub returns-in-B-clause-only : goal.returns-in-B-clause-only
-returns-in-B-clause-only g c = only-noted B c.args.slot c.args.at c.args.run.now c.note_place_in-in-B.new.run c.args.breaks.now c.note_place_in-in-B.new.breaks c.note_place_in-in-B.ensures.noted.0 c.note_place_in-in-B.ensures.noted.1
+pub returns-in-B-clause-placed : goal.returns-in-B-clause-placed
+returns-in-B-clause-placed g c = record {
+  card = placed g (noted-first-b g c) (side-b g c) c.note_place_in-in-B.ensures;
+  run = only-noted B c.args.slot c.args.at c.args.run.now c.note_place_in-in-B.new.run c.args.breaks.now c.note_place_in-in-B.new.breaks c.note_place_in-in-B.ensures.noted.0 c.note_place_in-in-B.ensures.noted.1;
+  room = room-noted B c.args.slot c.args.at c.args.run.now c.note_place_in-in-B.new.run c.args.breaks.now c.note_place_in-in-B.new.breaks c.note_place_in-in-B.ensures.noted.0 c.note_place_in-in-B.ensures.noted.1 (some g (noted-first-b g c) (side-b g c) c.note_place_in-in-B.ensures);
+}
 
-pub returns-in-B-clause-room : goal.returns-in-B-clause-room
-returns-in-B-clause-room g c = room-noted B c.args.slot c.args.at c.args.run.now c.note_place_in-in-B.new.run c.args.breaks.now c.note_place_in-in-B.new.breaks c.note_place_in-in-B.ensures.noted.0 c.note_place_in-in-B.ensures.noted.1 (some g (noted-first-b g c) (side-b g c) c.note_place_in-in-B.ensures)
+pub returns-in-B-clause-leaves : goal.returns-in-B-clause-leaves
+returns-in-B-clause-leaves g c = record {
+  card_events = card-events g (noted-first-b g c) (side-b g c) c.note_place_in-in-B.ensures;
+  on_card = on-card g (noted-first-b g c) (side-b g c) c.note_place_in-in-B.ensures;
+  events = events g (noted-first-b g c) (side-b g c) c.note_place_in-in-B.ensures;
+  rings = writes g (noted-first-b g c) (side-b g c) c.note_place_in-in-B.ensures;
+}
 
-pub returns-in-B-clause-more : goal.returns-in-B-clause-more
-returns-in-B-clause-more g c = more-noted B c.args.slot c.args.at c.args.run.now c.note_place_in-in-B.new.run c.args.breaks.now c.note_place_in-in-B.new.breaks c.note_place_in-in-B.ensures.noted.0 c.note_place_in-in-B.ensures.noted.1
+pub returns-in-B-clause-promises : goal.returns-in-B-clause-promises
+returns-in-B-clause-promises g c = record {
+  recorded = λ late ending country region speed before is o done s now front rest are n allowed w time. recorded g (noted-first-b g c) (side-b g c) c.note_place_in-in-B.ensures late ending country region speed before is o done s now front rest are n allowed w;
+  evented = λ late ending country region speed before is o done s now front rest are n allowed w events time. evented g (noted-first-b g c) (side-b g c) c.note_place_in-in-B.ensures late ending country region speed before is o done s now front rest are n allowed w events;
+  ringed = ringed g (noted-first-b g c) (side-b g c) c.note_place_in-in-B.ensures;
+  cards = shown g (noted-first-b g c) (side-b g c) c.note_place_in-in-B.ensures;
+}
 
-pub returns-in-B-clause-cause : goal.returns-in-B-clause-cause
-returns-in-B-clause-cause g c = cause_after c.in_ok-note_place.ensures.cause c.note_place_in-in-B.ensures.cause
+pub returns-in-B-clause-held : goal.returns-in-B-clause-held
+returns-in-B-clause-held g c = record {
+  held =
+      let e = c.note_place_in-in-B.ensures in
+      held-noted B c.args.slot c.args.at c.args.run.now c.note_place_in-in-B.new.run c.args.breaks.now c.note_place_in-in-B.new.breaks c.note_place_in-in-B.ensures.noted.0 c.note_place_in-in-B.ensures.noted.1 (g.M.Medium.state c.args.unit.now) (g.M.Medium.state c.note_place_in-in-B.new.unit) (g.D.Chip.state c.args.card_b.now) (g.D.Chip.state c.note_place_in-in-B.new.card) (g.C.Chip.state c.args.card_a.now) (g.D.Chip.card c.args.card_b.now) (g.D.Chip.card c.note_place_in-in-B.new.card) (g.C.Chip.card c.args.card_a.now) c.requires.at c.requires.held e.unit e.card e.size e.stands;
+  cause = cause_after c.in_ok-note_place.ensures.cause c.note_place_in-in-B.ensures.cause;
+}
 
-pub returns-in-B-clause-clock_b : goal.returns-in-B-clause-clock_b
-returns-in-B-clause-clock_b g c = c.note_place_in-in-B.ensures.clock_card
-
-pub returns-in-B-clause-events : goal.returns-in-B-clause-events
-returns-in-B-clause-events g c = events g (noted-first-b g c) (side-b g c) c.note_place_in-in-B.ensures
-
-pub returns-in-B-clause-rings : goal.returns-in-B-clause-rings
-returns-in-B-clause-rings g c = writes g (noted-first-b g c) (side-b g c) c.note_place_in-in-B.ensures
-
-pub returns-in-B-clause-later : goal.returns-in-B-clause-later
-returns-in-B-clause-later g c = later g (noted-first-b g c) (side-b g c) c.note_place_in-in-B.ensures
-
-pub returns-in-B-clause-calm : goal.returns-in-B-clause-calm
-returns-in-B-clause-calm g c = calm g (noted-first-b g c) (side-b g c) c.note_place_in-in-B.ensures
-
-pub returns-in-B-clause-card_events : goal.returns-in-B-clause-card_events
-returns-in-B-clause-card_events g c = card-events g (noted-first-b g c) (side-b g c) c.note_place_in-in-B.ensures
-
-pub returns-in-B-clause-cards : goal.returns-in-B-clause-cards
-returns-in-B-clause-cards g c = shown g (noted-first-b g c) (side-b g c) c.note_place_in-in-B.ensures
-
-pub returns-in-B-clause-ringed : goal.returns-in-B-clause-ringed
-returns-in-B-clause-ringed g c = ringed g (noted-first-b g c) (side-b g c) c.note_place_in-in-B.ensures
-
-pub returns-in-B-clause-on_card : goal.returns-in-B-clause-on_card
-returns-in-B-clause-on_card g c = on-card g (noted-first-b g c) (side-b g c) c.note_place_in-in-B.ensures
-
-pub returns-in-B-clause-recorded : goal.returns-in-B-clause-recorded
-returns-in-B-clause-recorded g c = λ late ending country region speed before is o done s now front rest are n allowed w time. recorded g (noted-first-b g c) (side-b g c) c.note_place_in-in-B.ensures late ending country region speed before is o done s now front rest are n allowed w
-
-pub returns-in-B-clause-evented : goal.returns-in-B-clause-evented
-returns-in-B-clause-evented g c = λ late ending country region speed before is o done s now front rest are n allowed w events time. evented g (noted-first-b g c) (side-b g c) c.note_place_in-in-B.ensures late ending country region speed before is o done s now front rest are n allowed w events
+pub returns-in-B-clause-goes : goal.returns-in-B-clause-goes
+returns-in-B-clause-goes g c = record {
+  later = later g (noted-first-b g c) (side-b g c) c.note_place_in-in-B.ensures;
+  calm = calm g (noted-first-b g c) (side-b g c) c.note_place_in-in-B.ensures;
+  more = more-noted B c.args.slot c.args.at c.args.run.now c.note_place_in-in-B.new.run c.args.breaks.now c.note_place_in-in-B.new.breaks c.note_place_in-in-B.ensures.noted.0 c.note_place_in-in-B.ensures.noted.1;
+}

@@ -1,17 +1,18 @@
-use Rattle.std.proofs.Common.{suc, ◌≡◌, ◌∙◌, ℕ, ◌/◌, length, refl, ap, arith}
+use Rattle.std.proofs.Common.{suc, ◌≡◌, ℕ, ◌/◌, length, refl, ap, arith}
 use Rattle.std.specs.Prelude.{is_err}
-use Rattle.tach_media.proofs.Runs.{on_ok, ok_gives}
+use Rattle.tach_media.proofs.Runs.{on_ok}
 use Rattle.minute_model.specs.Span.{ungiven_of, settled}
-use Rattle.run_minutes.specs.Minutes.{AreKept, KeepingState, kept_after}
+use Rattle.run_minutes.specs.Minutes.{AreKept, KeepingState}
 use Rattle.run_acts.specs.declared.run.Run.{Run}
 use Rattle.run_acts.specs.declared.run.Power.{Power}
 use Rattle.run_acts.specs.Room.{waiting}
 use Rattle.run_acts.proofs.Kept.{given-ended, given-rows, kept-going, seats-less, owing-is, owing-sum}
 use Rattle.run_acts.specs.Acting.{told_of}
-use Rattle.run_acts.proofs.Settled.{settled-ungiven, settled-later, settled-decides}
+use Rattle.run_acts.proofs.Settled.{settled-ungiven, settled-later, settled-most, settled-decides}
 use Rattle.run_acts.proofs.Bare.{all-bare}
-use Rattle.run_acts.proofs.GoesOn.{same-left}
+use Rattle.run_acts.proofs.GoesOn.{kept-devices}
 use Rattle.run_outcome.specs.declared.outcome.Outcome.{Outcome}
+use Rattle.run_events.proofs.Newest.{knows-left}
 use Rattle.run_acts.proofs.Ringing.{settling-leaves}
 use Rattle.run_acts.proofs.Comings.{leaves-more}
 use Rattle.run_acts.proofs.SettledRecorded.{settling-so, booked}
@@ -32,40 +33,35 @@ module _ (g : Over) (c : After-as_slice g) where
   decided : Decides (ungiven_of c.requires.going.1.span) (ungiven_of (settled c.requires.going.1.span)) c.args.run.now.keeper.journal.kept c.settle-decided.result.items
   decided = let h = c.requires.going in settled-decides h.0 (c.args.run.now.next / 60) c.args.run.now h.1 c.settle-decided.result.items c.requires.small (c.settle-decided.ensures.given h.1.span h.1.stands)
 
-pub keep_all-requires-clause-due : goal.keep_all-requires-clause-due
-keep_all-requires-clause-due g c =
-    rw c.as_slice.ensures.value (decided g (goal.at.keep_all-requires-clause-due g c).After-as_slice).due
+pub keep_all-requires-clause-ready : goal.keep_all-requires-clause-ready
+keep_all-requires-clause-ready g c = c.requires.going.1.ready
 
-pub keep_all-requires-clause-ended : goal.keep_all-requires-clause-ended
-keep_all-requires-clause-ended g c =
+pub keep_all-requires-clause-may : goal.keep_all-requires-clause-may
+keep_all-requires-clause-may g c =
     let h = c.requires.going in
-    let d = decided g (goal.at.keep_all-requires-clause-ended g c).After-as_slice in
-    let is = settled-ungiven h.0 (c.args.run.now.next / 60) c.args.run.now h.1 in
-    rw c.as_slice.ensures.value (given-ended h.0 (c.args.run.now.next / 60) (ungiven_of (settled h.1.span)) c.args.run.now h.1 c.settle-decided.result.items d (omega (arith, is)))
-
-pub keep_all-requires-clause-rows : goal.keep_all-requires-clause-rows
-keep_all-requires-clause-rows g c =
-    let h = c.requires.going in
-    let d = decided g (goal.at.keep_all-requires-clause-rows g c).After-as_slice in
-    let is = settled-ungiven h.0 (c.args.run.now.next / 60) c.args.run.now h.1 in
-    rw c.as_slice.ensures.value (given-rows h.0 (c.args.run.now.next / 60) (ungiven_of (settled h.1.span)) c.args.run.now h.1 c.settle-decided.result.items d (omega (arith, is)))
-
-pub keep_all-requires-clause-stands : goal.keep_all-requires-clause-stands
-keep_all-requires-clause-stands g c =
-    let h = c.requires.going in
-    let d = decided g (goal.at.keep_all-requires-clause-stands g c).After-as_slice in
-    (ungiven_of h.1.span, h.0, rw c.as_slice.ensures.value d.from, h.1.cabin)
-
-pub keep_all-requires-clause-marks : goal.keep_all-requires-clause-marks
-keep_all-requires-clause-marks g c =
-    let h = c.requires.going in
-    let d = decided g (goal.at.keep_all-requires-clause-marks g c).After-as_slice in
+    let d = decided g (goal.at.keep_all-requires-clause-may g c).After-as_slice in
     let is = settled-ungiven h.0 (c.args.run.now.next / 60) c.args.run.now h.1 in
     let count = d.count in
     let sum = owing-sum c.args.run.now.minutes h.1.span h.1.stands in
     let end = h.1.next in
+    let at = c.requires.at in
+    let low = c.requires.low in
+    let early = c.requires.held.minute in
     let room = c.requires.marks in
-    rw c.as_slice.ensures.value (omega (arith, is, count, sum, end, room))
+    record {
+      due = rw c.as_slice.ensures.value d.due;
+      ended = rw c.as_slice.ensures.value (given-ended h.0 (c.args.run.now.next / 60) (ungiven_of (settled h.1.span)) c.args.run.now h.1 c.settle-decided.result.items d (omega (arith, is)));
+      rows = rw c.as_slice.ensures.value (given-rows h.0 (c.args.run.now.next / 60) (ungiven_of (settled h.1.span)) c.args.run.now h.1 c.settle-decided.result.items d (omega (arith, is)));
+      from = ungiven_of h.1.span;
+      leaving = h.0;
+      late = rw c.as_slice.ensures.value d.from;
+      stands = h.1.cabin;
+      odometer = c.requires.held.odometer;
+      minute = omega (arith, at, early);
+      second = λ none. absurd (omega (arith, at, low, none));
+      marks = rw c.as_slice.ensures.value (omega (arith, is, count, sum, end, room));
+      breaks = c.requires.breaks;
+    }
 
 -- ---- what is kept
 
@@ -77,14 +73,7 @@ module _ (g : Over) (c : After-keep_all g) where
   last = devices (g.M.Medium.state c.keep_all.new.unit) (g.C.Chip.state c.keep_all.new.card_a) (g.D.Chip.state c.keep_all.new.card_b)
 
   went : DevicesGoOn (is_err c.keep_all.result) c.args.run.now.keeper.cabin.cards c.keep_all.new.self.cabin.cards first last
-  went = record {
-    cause = c.keep_all.ensures.cause;
-    keeps = c.keep_all.ensures.unit_keeps;
-    tells = c.keep_all.ensures.tells;
-    clock = c.keep_all.ensures.clock;
-    card_a = record { keeps = c.keep_all.ensures.a_keeps; clock = c.keep_all.ensures.clock_a; tells = c.keep_all.ensures.tells_a; more = c.keep_all.ensures.more_a; broken = c.keep_all.ensures.a_broken; rests = c.keep_all.ensures.rests.card_a; bare = λ none. same-left (g.C.Chip.state c.args.card_a.now) (g.C.Chip.state c.keep_all.new.card_a) (ap g.C.Chip.state (c.keep_all.ensures.a_bare none)) };
-    card_b = record { keeps = c.keep_all.ensures.b_keeps; clock = c.keep_all.ensures.clock_b; tells = c.keep_all.ensures.tells_b; more = c.keep_all.ensures.more_b; broken = c.keep_all.ensures.b_broken; rests = c.keep_all.ensures.rests.card_b; bare = λ none. same-left (g.D.Chip.state c.args.card_b.now) (g.D.Chip.state c.keep_all.new.card_b) (ap g.D.Chip.state (c.keep_all.ensures.b_bare none)) };
-  }
+  went = kept-devices c.keep_all.ensures.stands c.keep_all.ensures.goes (λ none. ap g.C.Chip.state (c.keep_all.ensures.bare.card_a none)) (λ none. ap g.D.Chip.state (c.keep_all.ensures.bare.card_b none))
 
 pub returns-clause-settled : goal.returns-clause-settled
 returns-clause-settled g c = record {
@@ -92,23 +81,63 @@ returns-clause-settled g c = record {
   minutes = c.settle-decided.ensures.settled;
   decided = c.settle-decided.result.items;
   given = c.settle-decided.ensures.given;
-  kept = rw c.as_slice.ensures.value at c.keep_all.ensures.kept;
+  kept = (rw c.as_slice.ensures.value at c.keep_all.ensures.kept).kept;
   outcome = refl;
 }
 
-pub returns-clause-booked : goal.returns-clause-booked
-returns-clause-booked g c =
-    let b = rw c.as_slice.ensures.value at c.keep_all.ensures.booked in
-    (c.settle-decided.result.items, b.0, c.settle-decided.ensures.given, b.1, b.2)
+pub returns-clause-keeps : goal.returns-clause-keeps
+returns-clause-keeps g c =
+    let h = c.requires.going in
+    let k = c.keep_all.ensures in
+    let old = c.args.run.now in
+    let items = c.settle-decided.result.items in
+    let given = c.settle-decided.ensures.given in
+    let b = rw c.as_slice.ensures.value at k.kept in
+    let U = g.M.Medium.state c.args.unit.now in
+    let V = g.M.Medium.state c.keep_all.new.unit in
+    let new : Run = record old { minutes = c.settle-decided.new.self; keeper = c.keep_all.new.self } in
+    let after : Outcome = record c.args.outcome.now { marks = c.keep_all.new.marks; breaks = c.keep_all.new.breaks } in
+    let leaves = settling-leaves c.args.at (is_err c.keep_all.result) old new c.args.outcome.now after U V (items, given, b.reach, b.is, b.noted) in
+    let its = booked old c.args.outcome.now c.settle-decided.new.self c.keep_all.new.self c.keep_all.new.marks c.keep_all.new.breaks c.args.at (is_err c.keep_all.result) items (first g c) (last g c)
+    h.0 h.1 c.requires.small (c.settle-decided.ensures.settled h.1.span h.1.stands) (given h.1.span h.1.stands) k.goes.odometer b.reach b.is b.books (went g c) in
+    record {
+      decided = items;
+      given = given;
+      reach = b.reach;
+      is = b.is;
+      books = b.books;
+      noted = b.noted;
+      recorded = λ o done s n waits some here r time. settling-so old c.args.outcome.now c.settle-decided.new.self c.keep_all.new.self c.keep_all.new.marks c.keep_all.new.breaks c.args.at (is_err c.keep_all.result) items
+          (first g c) (last g c)
+          h.0 h.1 c.requires.small (c.settle-decided.ensures.settled h.1.span h.1.stands) (given h.1.span h.1.stands) k.goes.odometer b.reach b.is b.books
+          (went g c)
+          o done s n waits some here r time (leaves-more U V leaves);
+      evented = λ o done s n waits here r untold evented time. settling-events old c.args.outcome.now c.settle-decided.new.self c.keep_all.new.self c.keep_all.new.marks c.keep_all.new.breaks c.args.at (is_err c.keep_all.result) items
+          (first g c) (last g c)
+          h.0 h.1 c.requires.small (c.settle-decided.ensures.settled h.1.span h.1.stands) (given h.1.span h.1.stands) k.goes.odometer b.reach b.is b.books
+          (went g c)
+          (g.met.M.Medium.coherent c.args.unit.now) c.requires.held.is_unit b.noted o done s n waits here r time untold evented;
+      cards = λ o done s n waits here r time. timed-still o r.origin (first g c) (last g c) (its o done s (suc n) waits (omega arith) here r time).1;
+      places = λ o done s n waits here r time. timed-places o r.origin (first g c) (last g c) (its o done s (suc n) waits (omega arith) here r time).1;
+    }
 
-pub returns-clause-none : goal.returns-clause-none
-returns-clause-none g c =
+pub returns-clause-behind : goal.returns-clause-behind
+returns-clause-behind g c =
     let h = c.requires.going in
     let now = c.settle-decided.ensures.settled h.1.span h.1.stands in
     let is = owing-is c.settle-decided.new.self (settled h.1.span) now in
     let at = settled-ungiven h.0 (c.args.run.now.next / 60) c.args.run.now h.1 in
     let end = h.1.next in
-    omega (arith, is, at, end)
+    let t = told_of c.args.run.now c.args.outcome.now in
+    let u : KeepingState = record { keeper = c.keep_all.new.self; marks = c.keep_all.new.marks; breaks = c.keep_all.new.breaks } in
+    record {
+      none = omega (arith, is, at, end);
+      bare = λ well slot free.
+          let kept : AreKept c.args.at c.as_slice.result.now t u = (rw well at c.keep_all.ensures.kept).kept in
+          let stays = all-bare c.args.at c.as_slice.result.now t u slot kept free in
+          (stays.seat, stays.bare);
+      cause = c.keep_all.ensures.stands.cause;
+    }
 
 pub returns-clause-held : goal.returns-clause-held
 returns-clause-held g c =
@@ -118,27 +147,26 @@ returns-clause-held g c =
     let later = settled-later h.0 (c.args.run.now.next / 60) c.args.run.now h.1 in
     let next : ℕ = ungiven_of (settled h.1.span) in
     record {
-      is_unit = e.unit;
-      odometer = let same = e.same.1 in let most = c.requires.held.odometer in omega (arith, same, most);
-      minute = let le = e.minute in let at = c.requires.at in omega (arith, le, at);
-      card_a = record { port = e.card_a.port; size = let same = e.size_a in let size = c.requires.held.card_a.size in omega (arith, same, size) };
-      card_b = record { port = e.card_b.port; size = let same = e.size_b in let size = c.requires.held.card_b.size in omega (arith, same, size) };
-      stand = (next, h.0, e.stands (ungiven_of h.1.span) h.0 (rw c.as_slice.ensures.value d.from) h.1.cabin next later (rw c.as_slice.ensures.value d.last));
+      is_unit = e.stands.unit;
+      odometer = let same = e.goes.odometer in let most = c.requires.held.odometer in omega (arith, same, most);
+      minute = let le = e.stands.minute in let at = c.requires.at in omega (arith, le, at);
+      card_a = record { port = e.stands.card_a.port; size = let same = e.goes.card_a.size in let size = c.requires.held.card_a.size in omega (arith, same, size) };
+      card_b = record { port = e.stands.card_b.port; size = let same = e.goes.card_b.size in let size = c.requires.held.card_b.size in omega (arith, same, size) };
+      stand = (next, h.0, e.kept.stands (ungiven_of h.1.span) h.0 (rw c.as_slice.ensures.value d.from) h.1.cabin next later (rw c.as_slice.ensures.value d.last));
     }
 
 pub returns-clause-going : goal.returns-clause-going
 returns-clause-going g c = λ leaving h.
     on_ok c.keep_all.result (λ well.
     let e = c.keep_all.ensures in
+    let b = rw c.as_slice.ensures.value at e.kept in
     let old = c.args.run.now in
     let items = c.settle-decided.result.items in
     let new : Run = record old { minutes = c.settle-decided.new.self; keeper = c.keep_all.new.self } in
     let d = settled-decides leaving (old.next / 60) old h items c.requires.small (c.settle-decided.ensures.given h.span h.stands) in
-    let at = settled-ungiven leaving (old.next / 60) old h in
-    kept-going leaving (old.next / 60) old new h (settled h.span) items d (c.settle-decided.ensures.settled h.span h.stands) h.next refl (settled-later leaving (old.next / 60) old h) (omega (arith, at))
-    (ok_gives c.keep_all.result e.ready well) (λ card row. ok_gives c.keep_all.result (e.rows card row) well) e.same.2
-    (ok_gives c.keep_all.result e.last well ∙ ap (kept_after old.keeper.journal.kept) c.as_slice.ensures.value)
-    (rw c.as_slice.ensures.value at e.stands) e.sessions refl h.watches h.limit)
+    kept-going leaving (old.next / 60) old new h (settled h.span) items d (c.settle-decided.ensures.settled h.span h.stands) h.next refl (settled-later leaving (old.next / 60) old h) (settled-most leaving (old.next / 60) old h)
+    (e.stands.ready well) (e.stands.rows well) e.goes.past (b.last well) b.stands e.goes.sessions refl h.watches h.limit
+    (knows-left old.watch.newest (g.M.Medium.state c.args.unit.now) (g.M.Medium.state c.keep_all.new.unit) (g.met.M.Medium.coherent c.args.unit.now) (g.met.M.Medium.coherent c.keep_all.new.unit) h.ready.unit_ready.works e.speeds h.newest))
 
 pub returns-clause-takes : goal.returns-clause-takes
 returns-clause-takes g c =
@@ -154,117 +182,22 @@ returns-clause-takes g c =
     let is = owing-is c.settle-decided.new.self (settled h.1.span) now in
     let was : waiting old.power old.minutes.owing ≡ old.minutes.owing = ap (λ (p : Power). waiting p old.minutes.owing) c.requires.lit in
     let then : waiting old.power c.settle-decided.new.self.owing ≡ c.settle-decided.new.self.owing = ap (λ (p : Power). waiting p c.settle-decided.new.self.owing) c.requires.lit in
-    let few = e.marks.1 in
+    let few = e.kept.marks in
     let same : length c.as_slice.result.now ≡ length c.settle-decided.result.items = ap length c.as_slice.ensures.value in
-    let seats = seats-less old.keeper.cabin.slots.seats c.keep_all.new.self.cabin.slots.seats e.seats in
-    let tears = e.breaks.1 in
+    let seats = seats-less old.keeper.cabin.slots.seats c.keep_all.new.self.cabin.slots.seats e.goes.seats in
+    let tears = e.goes.tears in
     record {
-      rooms = (e.marks.0, e.breaks.0, refl, refl);
+      rooms = (e.goes.all.mark_room, e.goes.all.break_room, refl, refl);
       marks = omega (arith, few, same, at, count, sum, end, is, was, then);
       breaks = omega (arith, seats, tears);
       finds = omega arith;
       refused = omega arith;
     }
 
-pub returns-clause-bare : goal.returns-clause-bare
-returns-clause-bare g c =
-    on_ok c.keep_all.result (λ well slot h.
-    let o = c.args.outcome.now in
-    let t = told_of c.args.run.now o in
-    let u : KeepingState = record { keeper = c.keep_all.new.self; marks = c.keep_all.new.marks; breaks = c.keep_all.new.breaks } in
-    let kept : AreKept c.args.at c.as_slice.result.now t u = rw well at c.keep_all.ensures.kept in
-    let stays = all-bare c.args.at c.as_slice.result.now t u slot kept h in
-    (stays.seat, stays.bare))
+-- ---- all goes on
 
-pub returns-clause-recorded : goal.returns-clause-recorded
-returns-clause-recorded g c =
-    let h = c.requires.going in
-    let k = c.keep_all.ensures in
-    let old = c.args.run.now in
-    let items = c.settle-decided.result.items in
-    let b = rw c.as_slice.ensures.value at k.booked in
-    let U = g.M.Medium.state c.args.unit.now in
-    let V = g.M.Medium.state c.keep_all.new.unit in
-    let new : Run = record old { minutes = c.settle-decided.new.self; keeper = c.keep_all.new.self } in
-    let after : Outcome = record c.args.outcome.now { marks = c.keep_all.new.marks; breaks = c.keep_all.new.breaks } in
-    let leaves = settling-leaves c.args.at (is_err c.keep_all.result) old new c.args.outcome.now after U V (items, c.settle-decided.ensures.given, b.0, b.1, b.3) in (
-      items,
-      c.settle-decided.ensures.given,
-      λ o done s n waits some here r time. settling-so old c.args.outcome.now c.settle-decided.new.self c.keep_all.new.self c.keep_all.new.marks c.keep_all.new.breaks c.args.at (is_err c.keep_all.result) items
-          (first g c) (last g c)
-          h.0 h.1 c.requires.small (c.settle-decided.ensures.settled h.1.span h.1.stands) (c.settle-decided.ensures.given h.1.span h.1.stands) k.same.1 b.0 b.1 b.2
-          (went g c)
-          o done s n waits some here r time (leaves-more U V leaves),
-    )
+pub returns-clause-goes : goal.returns-clause-goes
+returns-clause-goes g c = c.keep_all.ensures.goes
 
--- ---- which events the cards show
-
-pub returns-clause-cards : goal.returns-clause-cards
-returns-clause-cards g c =
-    let h = c.requires.going in
-    let k = c.keep_all.ensures in
-    let old = c.args.run.now in
-    let items = c.settle-decided.result.items in
-    let b = rw c.as_slice.ensures.value at k.booked in (
-      items,
-      c.settle-decided.ensures.given,
-      λ o done s n waits here r time. timed-still o r.origin (first g c) (last g c)
-          (booked old c.args.outcome.now c.settle-decided.new.self c.keep_all.new.self c.keep_all.new.marks c.keep_all.new.breaks c.args.at (is_err c.keep_all.result) items (first g c) (last g c)
-          h.0 h.1 c.requires.small (c.settle-decided.ensures.settled h.1.span h.1.stands) (c.settle-decided.ensures.given h.1.span h.1.stands) k.same.1 b.0 b.1 b.2
-          (went g c)
-          o done s (suc n) waits (omega arith) here r time).1,
-    )
-
--- ---- which faults are noted
-
-pub returns-clause-noted : goal.returns-clause-noted
-returns-clause-noted g c =
-    let b = rw c.as_slice.ensures.value at c.keep_all.ensures.booked in
-    (c.settle-decided.result.items, c.settle-decided.ensures.given, b.0, b.1, b.3)
-
-pub returns-clause-evented : goal.returns-clause-evented
-returns-clause-evented g c =
-    let h = c.requires.going in
-    let k = c.keep_all.ensures in
-    let old = c.args.run.now in
-    let items = c.settle-decided.result.items in
-    let b = rw c.as_slice.ensures.value at k.booked in (
-      items,
-      c.settle-decided.ensures.given,
-      λ o done s n waits here r untold evented time. settling-events old c.args.outcome.now c.settle-decided.new.self c.keep_all.new.self c.keep_all.new.marks c.keep_all.new.breaks c.args.at (is_err c.keep_all.result) items
-          (first g c) (last g c)
-          h.0 h.1 c.requires.small (c.settle-decided.ensures.settled h.1.span h.1.stands) (c.settle-decided.ensures.given h.1.span h.1.stands) k.same.1 b.0 b.1 b.2
-          (went g c)
-          (g.met.M.Medium.coherent c.args.unit.now) c.requires.held.is_unit b.3 o done s n waits here r time untold evented,
-    )
-
--- ---- what holds of the devices after any calls
-
-pub returns-clause-later : goal.returns-clause-later
-returns-clause-later g c = c.keep_all.ensures.later
-
-pub returns-clause-keeps : goal.returns-clause-keeps
-returns-clause-keeps g c = record { unit = c.keep_all.ensures.unit_keeps; card_a = c.keep_all.ensures.a_keeps; card_b = c.keep_all.ensures.b_keeps }
-
--- ---- the places on the cards
-
-pub returns-clause-places : goal.returns-clause-places
-returns-clause-places g c =
-    let h = c.requires.going in
-    let k = c.keep_all.ensures in
-    let old = c.args.run.now in
-    let items = c.settle-decided.result.items in
-    let b = rw c.as_slice.ensures.value at k.booked in (
-      items,
-      c.settle-decided.ensures.given,
-      λ o done s n waits here r time. timed-places o r.origin (first g c) (last g c)
-          (booked old c.args.outcome.now c.settle-decided.new.self c.keep_all.new.self c.keep_all.new.marks c.keep_all.new.breaks c.args.at (is_err c.keep_all.result) items (first g c) (last g c)
-          h.0 h.1 c.requires.small (c.settle-decided.ensures.settled h.1.span h.1.stands) (c.settle-decided.ensures.given h.1.span h.1.stands) k.same.1 b.0 b.1 b.2
-          (went g c)
-          o done s (suc n) waits (omega arith) here r time).1,
-    )
-
--- ---- where no tear of a failed call is told no card has broken down
-
-pub returns-clause-calm : goal.returns-clause-calm
-returns-clause-calm g c = c.keep_all.ensures.calm
+pub returns-clause-speeds : goal.returns-clause-speeds
+returns-clause-speeds g c = c.keep_all.ensures.speeds

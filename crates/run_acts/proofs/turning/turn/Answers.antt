@@ -36,11 +36,6 @@ use Rattle.run_acts.proofs.turning.turn.Goals as goal
 
 -- ---- without power
 
-pub returns-then-not-is_lit-clause-turned : goal.returns-then-not-is_lit-clause-turned
-returns-then-not-is_lit-clause-turned g c =
-    let dark : is_lit c.args.run.now.power ≡ false = sym c.is_lit.ensures ∙ c.if-not-is_lit.true in
-    subst (λ (b : Bool). IsTurnOf b c.args.n c.args.speed c.args.begun c.args.run.now c.pass.new.self c.args.outcome.now c.args.outcome.now) (sym dark) (c.pass.ensures, refl)
-
 pub returns-then-not-is_lit-clause-going : goal.returns-then-not-is_lit-clause-going
 returns-then-not-is_lit-clause-going g c =
     let dark : is_lit c.args.run.now.power ≡ false = sym c.is_lit.ensures ∙ c.if-not-is_lit.true in
@@ -55,11 +50,6 @@ returns-then-not-is_lit-clause-room g c = λ left offs insertions actions h.
 
 -- ---- with power
 
-pub returns-clause-turned : goal.returns-clause-turned
-returns-clause-turned g c =
-    let lit : is_lit c.args.run.now.power ≡ true = sym c.is_lit.ensures ∙ c.if-not-is_lit.false in
-    subst (λ (b : Bool). IsTurnOf b c.args.n c.args.speed c.args.begun c.args.run.now c.pass-2.new.self c.args.outcome.now c.lit_turn.new.outcome) (sym lit) (c.lit_turn.new.run, c.lit_turn.ensures.turned, c.pass-2.ensures)
-
 pub returns-clause-going : goal.returns-clause-going
 returns-clause-going g c =
     subst (λ (r : Run). IsBetweenSeconds r (g.M.Medium.state c.lit_turn.new.unit) (g.C.Chip.card c.lit_turn.new.card_a) (g.D.Chip.card c.lit_turn.new.card_b) (g.C.Chip.state c.lit_turn.new.card_a) (g.D.Chip.state c.lit_turn.new.card_b)) (sym c.pass-2.ensures) c.lit_turn.ensures.going
@@ -68,64 +58,8 @@ pub returns-clause-room : goal.returns-clause-room
 returns-clause-room g c = λ left offs insertions actions h.
     subst (λ (r : Run). HasRoom r c.lit_turn.new.outcome left offs insertions actions) (sym c.pass-2.ensures) (c.lit_turn.ensures.room left offs insertions actions h)
 
-pub returns-then-not-is_lit-clause-booked : goal.returns-then-not-is_lit-clause-booked
-returns-then-not-is_lit-clause-booked g c = λ lit. let dark : is_lit c.args.run.now.power ≡ false = sym c.is_lit.ensures ∙ c.if-not-is_lit.true in absurd (cc)
-
-pub returns-clause-booked : goal.returns-clause-booked
-returns-clause-booked g c = λ lit. (c.lit_turn.new.run, c.lit_turn.ensures.booked, c.pass-2.ensures)
-
 pub returns-clause-dark : goal.returns-clause-dark
 returns-clause-dark g c = λ dark. let lit : is_lit c.args.run.now.power ≡ true = sym c.is_lit.ensures ∙ c.if-not-is_lit.false in absurd (cc)
-
--- ---- what is recorded
-
-pub returns-then-not-is_lit-clause-recorded : goal.returns-then-not-is_lit-clause-recorded
-returns-then-not-is_lit-clause-recorded g c = λ o done s now actions none within time.
-    let run = c.args.run.now in
-    let before = c.args.outcome.now in
-    let d = devices (g.M.Medium.state c.args.unit.now) (g.C.Chip.state c.args.card_a.now) (g.D.Chip.state c.args.card_b.now) in
-    let dark : is_lit run.power ≡ false = sym c.is_lit.ensures ∙ c.if-not-is_lit.true in
-    let r : RunCut o done s run before d = subst (λ (b : Bool). InSecondBy b o done s c.args.begun run before d) dark within in
-    subst (λ (x : Run). RunRecorded o (done ++ s ∷ driven (c.args.n - 1) (s.number + 1) c.args.speed []) x before d) (sym c.pass.ensures)
-    (turn-dark c.args.n c.args.speed c.args.begun run before d c.requires.some c.requires.minute o done s now actions (λ more. none (omega (arith, more))) r)
-
-pub returns-clause-recorded : goal.returns-clause-recorded
-returns-clause-recorded g c = λ o done s now actions none within time.
-    let run = c.args.run.now in
-    let before = c.args.outcome.now in
-    let d = devices (g.M.Medium.state c.args.unit.now) (g.C.Chip.state c.args.card_a.now) (g.D.Chip.state c.args.card_b.now) in
-    let e = devices (g.M.Medium.state c.lit_turn.new.unit) (g.C.Chip.state c.lit_turn.new.card_a) (g.D.Chip.state c.lit_turn.new.card_b) in
-    let lit : is_lit run.power ≡ true = sym c.is_lit.ensures ∙ c.if-not-is_lit.false in
-    let r : RunWithin o done s (In c.args.begun) [] [] run before d = subst (λ (b : Bool). InSecondBy b o done s c.args.begun run before d) lit within in
-    let there : RunWithin o done s (In (length s.actions)) [] [] run before d = subst (λ (k : ℕ). RunWithin o done s (In k) [] [] run before d) (sym actions) r in
-    subst (λ (x : Run). RunRecorded o (done ++ s ∷ driven (c.args.n - 1) (s.number + 1) c.args.speed []) x c.lit_turn.new.outcome e) (sym c.pass-2.ensures)
-    (turn-lit c.args.n c.args.speed c.args.begun run c.lit_turn.new.run before c.lit_turn.new.outcome d e (c.requires.going.lit lit) r.lit c.requires.some c.requires.minute c.requires.small c.lit_turn.ensures.booked
-    o done s now actions (λ more. none (omega (arith, more))) there time
-    (leaves-more (g.M.Medium.state c.args.unit.now) (g.M.Medium.state c.lit_turn.new.unit) (turn-leaves c.args.n c.args.speed c.args.begun run c.lit_turn.new.run before c.lit_turn.new.outcome (g.M.Medium.state c.args.unit.now) (g.M.Medium.state c.lit_turn.new.unit) (g.met.M.Medium.coherent c.args.unit.now) c.requires.going.held.is_unit c.lit_turn.ensures.noted)))
-
--- ---- what is noted
-
-pub returns-then-not-is_lit-clause-noted : goal.returns-then-not-is_lit-clause-noted
-returns-then-not-is_lit-clause-noted g c = λ lit. let dark : is_lit c.args.run.now.power ≡ false = sym c.is_lit.ensures ∙ c.if-not-is_lit.true in absurd (cc)
-
-pub returns-clause-noted : goal.returns-clause-noted
-returns-clause-noted g c = λ lit. (c.lit_turn.new.run, c.lit_turn.ensures.noted, c.pass-2.ensures)
-
--- ---- what holds of the devices after any calls
-
-pub returns-then-not-is_lit-clause-later : goal.returns-then-not-is_lit-clause-later
-returns-then-not-is_lit-clause-later g c = after-same (devices (g.M.Medium.state c.args.unit.now) (g.C.Chip.state c.args.card_a.now) (g.D.Chip.state c.args.card_b.now))
-
-pub returns-clause-later : goal.returns-clause-later
-returns-clause-later g c = c.lit_turn.ensures.later
-
--- ---- how often the unit broke down
-
-pub returns-then-not-is_lit-clause-broke : goal.returns-then-not-is_lit-clause-broke
-returns-then-not-is_lit-clause-broke g c = broke-none c.args.outcome.now.breaks.items {old = (g.M.Medium.state c.args.unit.now)} {new = (g.M.Medium.state c.args.unit.now)} (omega arith)
-
-pub returns-clause-broke : goal.returns-clause-broke
-returns-clause-broke g c = c.lit_turn.ensures.broke
 
 -- ---- the events
 
@@ -159,10 +93,10 @@ returns-clause-evented g c = λ o done s now actions behind within time.
     let seconds = done ++ s ∷ driven (c.args.n - 1) (s.number + 1) c.args.speed [] in
     let after = c.lit_turn.new.outcome in
     let turned : Run = passed c.args.n c.args.begun c.lit_turn.new.run in
-    let rec : RunRecorded o seconds turned after e = turn-lit c.args.n c.args.speed c.args.begun run c.lit_turn.new.run before after d e (c.requires.going.lit lit) r.within.lit c.requires.some c.requires.minute c.requires.small c.lit_turn.ensures.booked
+    let rec : RunRecorded o seconds turned after e = turn-lit c.args.n c.args.speed c.args.begun run c.lit_turn.new.run before after d e (c.requires.going.lit lit) r.within.lit c.requires.some c.requires.minute c.requires.small c.lit_turn.ensures.leaves.booked
     o done s now actions (λ more. (behind (omega (arith, more))).0) there time
-    (leaves-more (g.M.Medium.state c.args.unit.now) (g.M.Medium.state c.lit_turn.new.unit) (turn-leaves c.args.n c.args.speed c.args.begun run c.lit_turn.new.run before c.lit_turn.new.outcome (g.M.Medium.state c.args.unit.now) (g.M.Medium.state c.lit_turn.new.unit) (g.met.M.Medium.coherent c.args.unit.now) c.requires.going.held.is_unit c.lit_turn.ensures.noted)) in
-    let t = c.lit_turn.ensures.evented o done s now actions behind r time in
+    (leaves-more (g.M.Medium.state c.args.unit.now) (g.M.Medium.state c.lit_turn.new.unit) (turn-leaves c.args.n c.args.speed c.args.begun run c.lit_turn.new.run before c.lit_turn.new.outcome (g.M.Medium.state c.args.unit.now) (g.M.Medium.state c.lit_turn.new.unit) (g.met.M.Medium.coherent c.args.unit.now) c.requires.going.held.is_unit c.lit_turn.ensures.leaves.noted)) in
+    let t = c.lit_turn.ensures.leaves.evented o done s now actions behind r time in
     subst (λ (x : Run). RunEvented o seconds x after e) (sym c.pass-2.ensures)
     (record {
       recorded = rec;
@@ -182,96 +116,160 @@ whole-front : (front rest acts : List Action) → acts ≡ front ++ rest → len
 whole-front front [] acts are same = sym (are ∙ append-nil front)
 whole-front front (a ∷ rest) acts are same = absurd (let all = ap (λ (l : List Action). length l) are ∙ length-append front (a ∷ rest) in omega (arith, all, same))
 
-pub returns-then-not-is_lit-clause-ringed : goal.returns-then-not-is_lit-clause-ringed
-returns-then-not-is_lit-clause-ringed g c = λ o done s now actions behind within time.
-    let run = c.args.run.now in
-    let before = c.args.outcome.now in
-    let d : Devices = devices (g.M.Medium.state c.args.unit.now) (g.C.Chip.state c.args.card_a.now) (g.D.Chip.state c.args.card_b.now) in
-    let dark : is_lit run.power ≡ false = sym c.is_lit.ensures ∙ c.if-not-is_lit.true in
-    let r : CutRinged o done s run before d = subst (λ (b : Bool). InSecondRingedBy b o done s c.args.begun run before d) dark within in
-    let seconds : List TraceSecond = done ++ s ∷ driven (c.args.n - 1) (s.number + 1) c.args.speed [] in
-    let events : RunEvented o seconds c.pass.new.self before d = returns-then-not-is_lit-clause-evented g c o done s now actions behind (subst (λ (b : Bool). InSecondEventedBy b o done s c.args.begun run before d) (sym dark) r.evented) time in
-    let rings : TurnedRings o seconds c.pass.new.self before d = subst (λ (x : Run). TurnedRings o seconds x before d) (sym c.pass.ensures)
-    (dark-ringed c.args.n c.args.speed c.args.begun run before d c.requires.some c.requires.minute o done s now r.evented.cut r.spans r.counted r.ringed r.stored) in
-    ringed-of o seconds c.pass.new.self before d events rings
-
-pub returns-clause-ringed : goal.returns-clause-ringed
-returns-clause-ringed g c = λ o done s now actions behind within time.
-    let run = c.args.run.now in
-    let before = c.args.outcome.now in
-    let after = c.lit_turn.new.outcome in
-    let U = g.M.Medium.state c.args.unit.now in
-    let V = g.M.Medium.state c.lit_turn.new.unit in
-    let d : Devices = devices U (g.C.Chip.state c.args.card_a.now) (g.D.Chip.state c.args.card_b.now) in
-    let e : Devices = devices V (g.C.Chip.state c.lit_turn.new.card_a) (g.D.Chip.state c.lit_turn.new.card_b) in
-    let lit : is_lit run.power ≡ true = sym c.is_lit.ensures ∙ c.if-not-is_lit.false in
-    let there : WithinRinged o done s c.args.begun run before d = subst (λ (b : Bool). InSecondRingedBy b o done s c.args.begun run before d) lit within in
-    let r : WithinRinged o done s (length s.actions) run before d = subst (λ (k : ℕ). WithinRinged o done s k run before d) (sym actions) there in
-    let seconds : List TraceSecond = done ++ s ∷ driven (c.args.n - 1) (s.number + 1) c.args.speed [] in
-    let events : RunEvented o seconds c.pass-2.new.self after e = returns-clause-evented g c o done s now actions behind (subst (λ (b : Bool). InSecondEventedBy b o done s c.args.begun run before d) (sym lit) there.evented) time in
-    let leaves = turn-leaves c.args.n c.args.speed c.args.begun run c.lit_turn.new.run before after U V (g.met.M.Medium.coherent c.args.unit.now) c.requires.going.held.is_unit c.lit_turn.ensures.noted in
-    let within_all : RingsWithin o done s r.evented.within.within.b.run.log s.actions run (log_of before) r.spans r.told d =
-    subst (λ (acts : List Action). RingsWithin o done s r.evented.within.within.b.run.log acts run (log_of before) r.spans r.told d) (whole-front r.front r.rest s.actions r.are r.number) r.rings in
-    let rings : TurnedRings o seconds c.pass-2.new.self after e = subst (λ (x : Run). TurnedRings o seconds x after e) (sym c.pass-2.ensures)
-    (seconds-ringed c.args.n c.args.speed c.args.begun run c.lit_turn.new.run before after d e (c.requires.going.lit lit) r.evented.within.lit c.requires.some c.requires.minute c.requires.small c.lit_turn.ensures.booked leaves
-    o done s now actions (λ more. (behind (omega (arith, more))).0) r.evented.within time r.spans r.told within_all r.stored) in
-    ringed-of o seconds c.pass-2.new.self after e events rings
-
--- ---- which events the cards show
-
-pub returns-then-not-is_lit-clause-cards : goal.returns-then-not-is_lit-clause-cards
-returns-then-not-is_lit-clause-cards g c = λ o done s now actions none there time.
-    let run = c.args.run.now in
-    let before = c.args.outcome.now in
-    let d : Devices = devices (g.M.Medium.state c.args.unit.now) (g.C.Chip.state c.args.card_a.now) (g.D.Chip.state c.args.card_b.now) in
-    let dark : is_lit run.power ≡ false = sym c.is_lit.ensures ∙ c.if-not-is_lit.true in
-    let r : CardsAtBy false o done s c.args.begun run before d = subst (λ (b : Bool). CardsAtBy b o done s c.args.begun run before d) dark there in
-    dark-cards c.args.n c.args.speed run before d c.requires.some c.requires.minute o done s now r.0 r.1
-
-pub returns-clause-cards : goal.returns-clause-cards
-returns-clause-cards g c = λ o done s now actions none there time.
-    let run = c.args.run.now in
-    let before = c.args.outcome.now in
-    let after = c.lit_turn.new.outcome in
-    let d : Devices = devices (g.M.Medium.state c.args.unit.now) (g.C.Chip.state c.args.card_a.now) (g.D.Chip.state c.args.card_b.now) in
-    let e : Devices = devices (g.M.Medium.state c.lit_turn.new.unit) (g.C.Chip.state c.lit_turn.new.card_a) (g.D.Chip.state c.lit_turn.new.card_b) in
-    let lit : is_lit run.power ≡ true = sym c.is_lit.ensures ∙ c.if-not-is_lit.false in
-    let at : CardsAtBy true o done s c.args.begun run before d = subst (λ (b : Bool). CardsAtBy b o done s c.args.begun run before d) lit there in
-    let r : CardsAtBy true o done s (length s.actions) run before d = subst (λ (k : ℕ). CardsAtBy true o done s k run before d) (sym actions) at in
-    let low : 0 < run.next = let first = c.requires.going.low in omega (arith, first) in
-    seconds-shown c.args.n c.args.speed c.args.begun run c.lit_turn.new.run before after d e (c.requires.going.lit lit) r.0.lit c.requires.some c.requires.minute c.requires.small low c.lit_turn.ensures.booked
-    o done s now actions (λ more. none (omega (arith, more))) r.0 time r.1
-
--- ---- and the blocks of detailed speed
-
-pub returns-then-not-is_lit-clause-speeds : goal.returns-then-not-is_lit-clause-speeds
-returns-then-not-is_lit-clause-speeds g c = λ o done s now actions none there time.
-    let run = c.args.run.now in
-    let before = c.args.outcome.now in
-    let d : Devices = devices (g.M.Medium.state c.args.unit.now) (g.C.Chip.state c.args.card_a.now) (g.D.Chip.state c.args.card_b.now) in
-    let dark : is_lit run.power ≡ false = sym c.is_lit.ensures ∙ c.if-not-is_lit.true in
-    let r : SpeedsInBy false o done s c.args.begun run before d = subst (λ (b : Bool). SpeedsInBy b o done s c.args.begun run before d) dark there in
-    subst (λ (x : Run). SpeedsBehind o (done ++ s ∷ driven (c.args.n - 1) (s.number + 1) c.args.speed []) x before d) (sym c.pass.ensures)
-    (dark-speeds c.args.n c.args.speed c.args.begun run before d c.requires.some c.requires.minute o done s now r.0 r.1)
-
-pub returns-clause-speeds : goal.returns-clause-speeds
-returns-clause-speeds g c = λ o done s now actions none there time.
-    let run = c.args.run.now in
-    let before = c.args.outcome.now in
-    let after = c.lit_turn.new.outcome in
-    let d : Devices = devices (g.M.Medium.state c.args.unit.now) (g.C.Chip.state c.args.card_a.now) (g.D.Chip.state c.args.card_b.now) in
-    let e : Devices = devices (g.M.Medium.state c.lit_turn.new.unit) (g.C.Chip.state c.lit_turn.new.card_a) (g.D.Chip.state c.lit_turn.new.card_b) in
-    let lit : is_lit run.power ≡ true = sym c.is_lit.ensures ∙ c.if-not-is_lit.false in
-    let at : SpeedsInBy true o done s c.args.begun run before d = subst (λ (b : Bool). SpeedsInBy b o done s c.args.begun run before d) lit there in
-    let r : SpeedsInBy true o done s (length s.actions) run before d = subst (λ (k : ℕ). SpeedsInBy true o done s k run before d) (sym actions) at in
-    subst (λ (x : Run). SpeedsBehind o (done ++ s ∷ driven (c.args.n - 1) (s.number + 1) c.args.speed []) x after e) (sym c.pass-2.ensures)
-    (seconds-speeds c.args.n c.args.speed c.args.begun run c.lit_turn.new.run before after d e (c.requires.going.lit lit) r.0.lit c.requires.some c.requires.minute c.requires.small c.lit_turn.ensures.booked c.lit_turn.ensures.speeds
-    o done s now actions (λ more. none (omega (arith, more))) r.0 time r.1 r.2)
-
 -- ---- where no tear of a failed call is told no card has broken down
 
-pub returns-then-not-is_lit-clause-calm : goal.returns-then-not-is_lit-clause-calm
-returns-then-not-is_lit-clause-calm g c = calm-same (devices (g.M.Medium.state c.args.unit.now) (g.C.Chip.state c.args.card_a.now) (g.D.Chip.state c.args.card_b.now))
+pub returns-then-not-is_lit-clause-turned : goal.returns-then-not-is_lit-clause-turned
+returns-then-not-is_lit-clause-turned g c = record {
+  seconds =
+      let dark : is_lit c.args.run.now.power ≡ false = sym c.is_lit.ensures ∙ c.if-not-is_lit.true in
+      subst (λ (b : Bool). IsTurnOf b c.args.n c.args.speed c.args.begun c.args.run.now c.pass.new.self c.args.outcome.now c.args.outcome.now) (sym dark) (c.pass.ensures, refl);
+  next = ap (λ (r : Run). r.next) c.pass.ensures;
+  unfound = ap (λ (r : Run). r.unfound) c.pass.ensures;
+  refused = refl;
+  finds = refl;
+}
 
-pub returns-clause-calm : goal.returns-clause-calm
-returns-clause-calm g c = c.lit_turn.ensures.calm
+pub returns-then-not-is_lit-clause-leaves : goal.returns-then-not-is_lit-clause-leaves
+returns-then-not-is_lit-clause-leaves g c = record {
+  booked = λ lit. let dark : is_lit c.args.run.now.power ≡ false = sym c.is_lit.ensures ∙ c.if-not-is_lit.true in absurd (cc);
+  noted = λ lit. let dark : is_lit c.args.run.now.power ≡ false = sym c.is_lit.ensures ∙ c.if-not-is_lit.true in absurd (cc);
+}
+
+pub returns-then-not-is_lit-clause-promises : goal.returns-then-not-is_lit-clause-promises
+returns-then-not-is_lit-clause-promises g c = record {
+  recorded =
+      λ o done s now actions none within time.
+      let run = c.args.run.now in
+      let before = c.args.outcome.now in
+      let d = devices (g.M.Medium.state c.args.unit.now) (g.C.Chip.state c.args.card_a.now) (g.D.Chip.state c.args.card_b.now) in
+      let dark : is_lit run.power ≡ false = sym c.is_lit.ensures ∙ c.if-not-is_lit.true in
+      let r : RunCut o done s run before d = subst (λ (b : Bool). InSecondBy b o done s c.args.begun run before d) dark within in
+      subst (λ (x : Run). RunRecorded o (done ++ s ∷ driven (c.args.n - 1) (s.number + 1) c.args.speed []) x before d) (sym c.pass.ensures)
+      (turn-dark c.args.n c.args.speed c.args.begun run before d c.requires.some c.requires.minute o done s now actions (λ more. none (omega (arith, more))) r);
+  ringed =
+      λ o done s now actions behind within time.
+      let run = c.args.run.now in
+      let before = c.args.outcome.now in
+      let d : Devices = devices (g.M.Medium.state c.args.unit.now) (g.C.Chip.state c.args.card_a.now) (g.D.Chip.state c.args.card_b.now) in
+      let dark : is_lit run.power ≡ false = sym c.is_lit.ensures ∙ c.if-not-is_lit.true in
+      let r : CutRinged o done s run before d = subst (λ (b : Bool). InSecondRingedBy b o done s c.args.begun run before d) dark within in
+      let seconds : List TraceSecond = done ++ s ∷ driven (c.args.n - 1) (s.number + 1) c.args.speed [] in
+      let events : RunEvented o seconds c.pass.new.self before d = returns-then-not-is_lit-clause-evented g c o done s now actions behind (subst (λ (b : Bool). InSecondEventedBy b o done s c.args.begun run before d) (sym dark) r.evented) time in
+      let rings : TurnedRings o seconds c.pass.new.self before d = subst (λ (x : Run). TurnedRings o seconds x before d) (sym c.pass.ensures)
+      (dark-ringed c.args.n c.args.speed c.args.begun run before d c.requires.some c.requires.minute o done s now r.evented.cut r.spans r.counted r.ringed r.stored) in
+      ringed-of o seconds c.pass.new.self before d events rings;
+  cards =
+      λ o done s now actions none there time.
+      let run = c.args.run.now in
+      let before = c.args.outcome.now in
+      let d : Devices = devices (g.M.Medium.state c.args.unit.now) (g.C.Chip.state c.args.card_a.now) (g.D.Chip.state c.args.card_b.now) in
+      let dark : is_lit run.power ≡ false = sym c.is_lit.ensures ∙ c.if-not-is_lit.true in
+      let r : CardsAtBy false o done s c.args.begun run before d = subst (λ (b : Bool). CardsAtBy b o done s c.args.begun run before d) dark there in
+      dark-cards c.args.n c.args.speed run before d c.requires.some c.requires.minute o done s now r.0 r.1;
+  speeds =
+      λ o done s now actions none there time.
+      let run = c.args.run.now in
+      let before = c.args.outcome.now in
+      let d : Devices = devices (g.M.Medium.state c.args.unit.now) (g.C.Chip.state c.args.card_a.now) (g.D.Chip.state c.args.card_b.now) in
+      let dark : is_lit run.power ≡ false = sym c.is_lit.ensures ∙ c.if-not-is_lit.true in
+      let r : SpeedsInBy false o done s c.args.begun run before d = subst (λ (b : Bool). SpeedsInBy b o done s c.args.begun run before d) dark there in
+      subst (λ (x : Run). SpeedsBehind o (done ++ s ∷ driven (c.args.n - 1) (s.number + 1) c.args.speed []) x before d) (sym c.pass.ensures)
+      (dark-speeds c.args.n c.args.speed c.args.begun run before d c.requires.some c.requires.minute o done s now r.0 r.1);
+}
+
+pub returns-then-not-is_lit-clause-goes : goal.returns-then-not-is_lit-clause-goes
+returns-then-not-is_lit-clause-goes g c = record {
+  later = after-same (devices (g.M.Medium.state c.args.unit.now) (g.C.Chip.state c.args.card_a.now) (g.D.Chip.state c.args.card_b.now));
+  calm = calm-same (devices (g.M.Medium.state c.args.unit.now) (g.C.Chip.state c.args.card_a.now) (g.D.Chip.state c.args.card_b.now));
+  more = omega arith;
+  broke = broke-none c.args.outcome.now.breaks.items {old = (g.M.Medium.state c.args.unit.now)} {new = (g.M.Medium.state c.args.unit.now)} (omega arith);
+}
+
+pub returns-clause-turned : goal.returns-clause-turned
+returns-clause-turned g c = record {
+  seconds =
+      let lit : is_lit c.args.run.now.power ≡ true = sym c.is_lit.ensures ∙ c.if-not-is_lit.false in
+      subst (λ (b : Bool). IsTurnOf b c.args.n c.args.speed c.args.begun c.args.run.now c.pass-2.new.self c.args.outcome.now c.lit_turn.new.outcome) (sym lit) (c.lit_turn.new.run, c.lit_turn.ensures.turned.seconds, c.pass-2.ensures);
+  next = ap (λ (r : Run). r.next) c.pass-2.ensures ∙ ap (λ (m : ℕ). m + c.args.n) c.lit_turn.ensures.turned.next;
+  unfound = ap (λ (r : Run). r.unfound) c.pass-2.ensures ∙ c.lit_turn.ensures.turned.unfound;
+  refused = c.lit_turn.ensures.turned.refused;
+  finds = c.lit_turn.ensures.turned.finds;
+}
+
+pub returns-clause-leaves : goal.returns-clause-leaves
+returns-clause-leaves g c = record {
+  booked = λ lit. (c.lit_turn.new.run, c.lit_turn.ensures.leaves.booked, c.pass-2.ensures);
+  noted = λ lit. (c.lit_turn.new.run, c.lit_turn.ensures.leaves.noted, c.pass-2.ensures);
+}
+
+pub returns-clause-promises : goal.returns-clause-promises
+returns-clause-promises g c = record {
+  recorded =
+      λ o done s now actions none within time.
+      let run = c.args.run.now in
+      let before = c.args.outcome.now in
+      let d = devices (g.M.Medium.state c.args.unit.now) (g.C.Chip.state c.args.card_a.now) (g.D.Chip.state c.args.card_b.now) in
+      let e = devices (g.M.Medium.state c.lit_turn.new.unit) (g.C.Chip.state c.lit_turn.new.card_a) (g.D.Chip.state c.lit_turn.new.card_b) in
+      let lit : is_lit run.power ≡ true = sym c.is_lit.ensures ∙ c.if-not-is_lit.false in
+      let r : RunWithin o done s (In c.args.begun) [] [] run before d = subst (λ (b : Bool). InSecondBy b o done s c.args.begun run before d) lit within in
+      let there : RunWithin o done s (In (length s.actions)) [] [] run before d = subst (λ (k : ℕ). RunWithin o done s (In k) [] [] run before d) (sym actions) r in
+      subst (λ (x : Run). RunRecorded o (done ++ s ∷ driven (c.args.n - 1) (s.number + 1) c.args.speed []) x c.lit_turn.new.outcome e) (sym c.pass-2.ensures)
+      (turn-lit c.args.n c.args.speed c.args.begun run c.lit_turn.new.run before c.lit_turn.new.outcome d e (c.requires.going.lit lit) r.lit c.requires.some c.requires.minute c.requires.small c.lit_turn.ensures.leaves.booked
+      o done s now actions (λ more. none (omega (arith, more))) there time
+      (leaves-more (g.M.Medium.state c.args.unit.now) (g.M.Medium.state c.lit_turn.new.unit) (turn-leaves c.args.n c.args.speed c.args.begun run c.lit_turn.new.run before c.lit_turn.new.outcome (g.M.Medium.state c.args.unit.now) (g.M.Medium.state c.lit_turn.new.unit) (g.met.M.Medium.coherent c.args.unit.now) c.requires.going.held.is_unit c.lit_turn.ensures.leaves.noted)));
+  ringed =
+      λ o done s now actions behind within time.
+      let run = c.args.run.now in
+      let before = c.args.outcome.now in
+      let after = c.lit_turn.new.outcome in
+      let U = g.M.Medium.state c.args.unit.now in
+      let V = g.M.Medium.state c.lit_turn.new.unit in
+      let d : Devices = devices U (g.C.Chip.state c.args.card_a.now) (g.D.Chip.state c.args.card_b.now) in
+      let e : Devices = devices V (g.C.Chip.state c.lit_turn.new.card_a) (g.D.Chip.state c.lit_turn.new.card_b) in
+      let lit : is_lit run.power ≡ true = sym c.is_lit.ensures ∙ c.if-not-is_lit.false in
+      let there : WithinRinged o done s c.args.begun run before d = subst (λ (b : Bool). InSecondRingedBy b o done s c.args.begun run before d) lit within in
+      let r : WithinRinged o done s (length s.actions) run before d = subst (λ (k : ℕ). WithinRinged o done s k run before d) (sym actions) there in
+      let seconds : List TraceSecond = done ++ s ∷ driven (c.args.n - 1) (s.number + 1) c.args.speed [] in
+      let events : RunEvented o seconds c.pass-2.new.self after e = returns-clause-evented g c o done s now actions behind (subst (λ (b : Bool). InSecondEventedBy b o done s c.args.begun run before d) (sym lit) there.evented) time in
+      let leaves = turn-leaves c.args.n c.args.speed c.args.begun run c.lit_turn.new.run before after U V (g.met.M.Medium.coherent c.args.unit.now) c.requires.going.held.is_unit c.lit_turn.ensures.leaves.noted in
+      let within_all : RingsWithin o done s r.evented.within.within.b.run.log s.actions run (log_of before) r.spans r.told d =
+      subst (λ (acts : List Action). RingsWithin o done s r.evented.within.within.b.run.log acts run (log_of before) r.spans r.told d) (whole-front r.front r.rest s.actions r.are r.number) r.rings in
+      let rings : TurnedRings o seconds c.pass-2.new.self after e = subst (λ (x : Run). TurnedRings o seconds x after e) (sym c.pass-2.ensures)
+      (seconds-ringed c.args.n c.args.speed c.args.begun run c.lit_turn.new.run before after d e (c.requires.going.lit lit) r.evented.within.lit c.requires.some c.requires.minute c.requires.small c.lit_turn.ensures.leaves.booked leaves
+      o done s now actions (λ more. (behind (omega (arith, more))).0) r.evented.within time r.spans r.told within_all r.stored) in
+      ringed-of o seconds c.pass-2.new.self after e events rings;
+  cards =
+      λ o done s now actions none there time.
+      let run = c.args.run.now in
+      let before = c.args.outcome.now in
+      let after = c.lit_turn.new.outcome in
+      let d : Devices = devices (g.M.Medium.state c.args.unit.now) (g.C.Chip.state c.args.card_a.now) (g.D.Chip.state c.args.card_b.now) in
+      let e : Devices = devices (g.M.Medium.state c.lit_turn.new.unit) (g.C.Chip.state c.lit_turn.new.card_a) (g.D.Chip.state c.lit_turn.new.card_b) in
+      let lit : is_lit run.power ≡ true = sym c.is_lit.ensures ∙ c.if-not-is_lit.false in
+      let at : CardsAtBy true o done s c.args.begun run before d = subst (λ (b : Bool). CardsAtBy b o done s c.args.begun run before d) lit there in
+      let r : CardsAtBy true o done s (length s.actions) run before d = subst (λ (k : ℕ). CardsAtBy true o done s k run before d) (sym actions) at in
+      let low : 0 < run.next = let first = c.requires.going.low in omega (arith, first) in
+      seconds-shown c.args.n c.args.speed c.args.begun run c.lit_turn.new.run before after d e (c.requires.going.lit lit) r.0.lit c.requires.some c.requires.minute c.requires.small low c.lit_turn.ensures.leaves.booked
+      o done s now actions (λ more. none (omega (arith, more))) r.0 time r.1;
+  speeds =
+      λ o done s now actions none there time.
+      let run = c.args.run.now in
+      let before = c.args.outcome.now in
+      let after = c.lit_turn.new.outcome in
+      let d : Devices = devices (g.M.Medium.state c.args.unit.now) (g.C.Chip.state c.args.card_a.now) (g.D.Chip.state c.args.card_b.now) in
+      let e : Devices = devices (g.M.Medium.state c.lit_turn.new.unit) (g.C.Chip.state c.lit_turn.new.card_a) (g.D.Chip.state c.lit_turn.new.card_b) in
+      let lit : is_lit run.power ≡ true = sym c.is_lit.ensures ∙ c.if-not-is_lit.false in
+      let at : SpeedsInBy true o done s c.args.begun run before d = subst (λ (b : Bool). SpeedsInBy b o done s c.args.begun run before d) lit there in
+      let r : SpeedsInBy true o done s (length s.actions) run before d = subst (λ (k : ℕ). SpeedsInBy true o done s k run before d) (sym actions) at in
+      subst (λ (x : Run). SpeedsBehind o (done ++ s ∷ driven (c.args.n - 1) (s.number + 1) c.args.speed []) x after e) (sym c.pass-2.ensures)
+      (seconds-speeds c.args.n c.args.speed c.args.begun run c.lit_turn.new.run before after d e (c.requires.going.lit lit) r.0.lit c.requires.some c.requires.minute c.requires.small c.lit_turn.ensures.leaves.booked c.lit_turn.ensures.leaves.block
+      o done s now actions (λ more. none (omega (arith, more))) r.0 time r.1 r.2);
+}
+
+pub returns-clause-goes : goal.returns-clause-goes
+returns-clause-goes g c = record {
+  later = c.lit_turn.ensures.goes.later;
+  calm = c.lit_turn.ensures.goes.calm;
+  more = c.lit_turn.ensures.goes.more;
+  broke = c.lit_turn.ensures.goes.broke;
+}

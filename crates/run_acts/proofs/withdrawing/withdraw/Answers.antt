@@ -2,7 +2,7 @@ use Rattle.std.proofs.Common.{rules, ◌≡◌, ◌∙◌, inl, inr, ℕ, ◌+�
 use Rattle.std.specs.Prelude.{is_err, suc, [], ◌∷◌, IfSome, OnOk, Result}
 use Rattle.trace_model.specs.declared.Card.{Card}
 use Rattle.trace_model.specs.declared.Card.TheVariants.{A, B}
-use Rattle.tach_media.proofs.Runs.{on_ok, ok_gives, cause_after}
+use Rattle.tach_media.proofs.Runs.{on_ok, ok_gives, cause_after, no_reads}
 use Rattle.activity_codec.specs.declared.values.Slot.{Slot}
 use Rattle.minute_model.specs.declared.Minute.{Minute}
 use Rattle.minute_model.specs.Span.{Span, settled, decided_in, ungiven_of}
@@ -24,6 +24,7 @@ use Rattle.run_acts.specs.declared.run.Run.{Run}
 use Rattle.run_acts.specs.Power.{with_cabin}
 use Rattle.run_acts.specs.Going.{CanBeCut, RunHasPower, RunHasPowerAllSeated}
 use Rattle.run_acts.specs.Room.{waiting_of, falls_of, Takes}
+use Rattle.run_acts.proofs.GoesOn.{settled-left, settled-later, settled-noted}
 use Rattle.run_acts.proofs.Torn.{tears-without}
 use Rattle.run_acts.specs.Behind.{BooksWithdrawn}
 use Rattle.run_acts.proofs.Withdrawn.{withdrawn-cut, withdrawn-closed, time-before}
@@ -46,6 +47,7 @@ use Rattle.run_acts.specs.Ringing.{WithdrawsSo, ClosesRings, ClosesSo}
 use Rattle.run_acts.proofs.Comings.{closes-more}
 use Rattle.run_acts.proofs.Ringing.{settling-leaves, closes-behind}
 use Rattle.run_speeds.specs.Speeds.{LeavesSpeeds}
+use Rattle.run_events.proofs.Newest.{knows-left}
 use Rattle.run_minutes.proofs.Later.{state-by, later-same, later-then}
 use Rattle.tach_media.specs.Medium.{State, LeavesOnly, HasBroken, HasCause}
 use Rattle.run_note_record.specs.Noting.{Acting}
@@ -209,8 +211,6 @@ Closes state chip which slot at result old new breaks after U V x y = record {
   stands : (from : ℕ) → CabinIsSound from (Some which) old.keeper.cabin → CabinIsSound from None new.keeper.cabin;
   card : CardMayBeCalled (known_of new.keeper.cabin.cards which) (chip y) (state y);
   size : (state y).size ≡ (state x).size;
-  more : (state x).breakdowns ≤ (state y).breakdowns;
-  clock_card : (state x).clock ≤ (state y).clock;
   cause : HasCause U V (is_err result);
   later : IsLater (state x) (state y);
   calm : IsCalm breaks.items after.items (state x) (state y);
@@ -283,52 +283,52 @@ module _ (g : Over) (c : In_ok-settle g) (k : OneCard c.in-Some.card (g.C.Chip.s
       }
 
   more : length c.args.outcome.now.breaks.items ≤ length k.breaks.items
-  more = let told_more = c.settle.ensures.more in let length_is = lines in omega (arith, told_more, length_is)
+  more = let told_more = c.settle.ensures.goes.all.more in let length_is = lines in omega (arith, told_more, length_is)
 
   later : AreLater first_ last
   later =
-      later-then first_ between last (subst (λ (m : Devices). AreLater first_ m) (k.beside_it (g.M.Medium.state c.settle.new.unit)) c.settle.ensures.later)
+      later-then first_ between last (subst (λ (m : Devices). AreLater first_ m) (k.beside_it (g.M.Medium.state c.settle.new.unit)) (settled-later c.settle.ensures.goes c.settle.ensures.speeds))
       (later-by k.which (g.M.Medium.state c.settle.new.unit) k.unit (k.state k.before) (k.state k.after) k.beside (state-by (g.M.Medium.state c.settle.new.unit) k.unit _ closes.journal.later closes.cause) closes.later closes.speeds)
 
   calm : AreCalm c.args.outcome.now.breaks.items k.breaks.items first_ last
   calm =
-      calm-then first_ between last (subst (λ (m : Devices). AreCalm c.args.outcome.now.breaks.items c.settle.new.outcome.breaks.items first_ m) (k.beside_it (g.M.Medium.state c.settle.new.unit)) c.settle.ensures.calm)
+      calm-then first_ between last (subst (λ (m : Devices). AreCalm c.args.outcome.now.breaks.items c.settle.new.outcome.breaks.items first_ m) (k.beside_it (g.M.Medium.state c.settle.new.unit)) c.settle.ensures.goes.all.calm)
       (calm-by k.which (g.M.Medium.state c.settle.new.unit) k.unit (k.state k.before) (k.state k.after) k.beside closes.calm)
 
   -- which card it is that was there
   same-card : (card : Card) → card_in (seat_in c.args.run.now.keeper.cabin.slots.seats c.args.slot) ≡ Some card → k.which ≡ card
   same-card card there = let mine = seat in cc
 
-  books : BooksAll c.in_ok-settle.ensures.booked.0 false c.in_ok-settle.ensures.booked.1 (told_of (with_cabin c.leave.new.self c.args.run.now) c.args.outcome.now) (told_of c.settle.new.run c.settle.new.outcome) first_ between
+  books : BooksAll c.in_ok-settle.ensures.keeps.decided false c.in_ok-settle.ensures.keeps.reach (told_of (with_cabin c.leave.new.self c.args.run.now) c.args.outcome.now) (told_of c.settle.new.run c.settle.new.outcome) first_ between
   books =
-      let b = c.in_ok-settle.ensures.booked in
-      subst (λ (m : Devices). BooksAll b.0 false b.1 (told_of (with_cabin c.leave.new.self c.args.run.now) c.args.outcome.now) (told_of c.settle.new.run c.settle.new.outcome) first_ m) (k.beside_it (g.M.Medium.state c.settle.new.unit)) b.4
+      let b = c.in_ok-settle.ensures.keeps in
+      subst (λ (m : Devices). BooksAll b.decided false b.reach (told_of (with_cabin c.leave.new.self c.args.run.now) c.args.outcome.now) (told_of c.settle.new.run c.settle.new.outcome) first_ m) (k.beside_it (g.M.Medium.state c.settle.new.unit)) b.books
 
   booked : (card : Card) → card_in (seat_in c.args.run.now.keeper.cabin.slots.seats c.args.slot) ≡ Some card → Booked c.args.slot c.args.at card (is_err k.result) c.args.run.now k.new c.args.outcome.now told first_ last (with_slot_left c.args.slot c.args.at.second c.args.run.now.keeper.cabin)
   booked card there =
       let n = closes.closed in
-      let b = c.in_ok-settle.ensures.booked in
+      let b = c.in_ok-settle.ensures.keeps in
       let v = told_of c.settle.new.run c.settle.new.outcome in
       subst (λ (q : Card). Booked c.args.slot c.args.at q (is_err k.result) c.args.run.now k.new c.args.outcome.now told first_ last (with_slot_left c.args.slot c.args.at.second c.args.run.now.keeper.cabin)) (same-card card there)
       (subst (λ (left : Cabin). Booked c.args.slot c.args.at k.which (is_err k.result) c.args.run.now k.new c.args.outcome.now told first_ last left) c.leave.ensures.kept (
-        b.0,
-        b.1,
+        b.decided,
+        b.reach,
         Some n.0,
         v,
-        b.2,
-        b.3,
-        withdrawn-closed k.state k.which c.args.at.second (g.M.Medium.state c.settle.new.unit) k.unit k.beside k.before k.after (g.met.M.Medium.coherent c.settle.new.unit) k.whole k.size closes.journal (is_err k.result) closes.cause.works n.0 b.0 c.args.at
-            (told_of (with_cabin c.leave.new.self c.args.run.now) c.args.outcome.now) v (told_of k.new told) first_ closes.left closes.bare n.1.is (ap (λ (r : Run). r.keeper.cabin.cards) n.1.run) refl b.1 b.3 books,
+        b.given,
+        b.is,
+        withdrawn-closed k.state k.which c.args.at.second (g.M.Medium.state c.settle.new.unit) k.unit k.beside k.before k.after (g.met.M.Medium.coherent c.settle.new.unit) k.whole k.size closes.journal (is_err k.result) closes.cause.works n.0 b.decided c.args.at
+            (told_of (with_cabin c.leave.new.self c.args.run.now) c.args.outcome.now) v (told_of k.new told) first_ closes.left closes.bare n.1.is (ap (λ (r : Run). r.keeper.cabin.cards) n.1.run) refl b.reach b.is books,
       ))
 
   shut : (card : Card) → card_in (seat_in c.args.run.now.keeper.cabin.slots.seats c.args.slot) ≡ Some card → WithdrawsShut card c.args.slot c.args.at (is_err k.result) c.args.run.now k.new c.args.outcome.now told first_ last
   shut card there =
       let n = closes.shut in
-      let b = c.in_ok-settle.ensures.booked in
+      let b = c.in_ok-settle.ensures.keeps in
       subst (λ (q : Card). WithdrawsShut q c.args.slot c.args.at (is_err k.result) c.args.run.now k.new c.args.outcome.now told first_ last) (same-card card there)
       (inr (subst (λ (left : Cabin). ShutsBehind k.which c.args.slot c.args.at (told_of (with_cabin left c.args.run.now) c.args.outcome.now) c.args.run.now k.new told first_ last) c.leave.ensures.kept (record {
-        decided = b.0;
-        given = b.2;
+        decided = b.decided;
+        given = b.given;
         between = c.settle.new.run;
         told = c.settle.new.outcome;
         closing = n.closing;
@@ -337,24 +337,24 @@ module _ (g : Over) (c : In_ok-settle g) (k : OneCard c.in-Some.card (g.C.Chip.s
         selected = n.selected;
         shut = λ how f w start t may gone stored time valid.
             subst (λ (x : State). IsShut (session_of c.settle.new.run.keeper.cabin.cards k.which) n.act x) (card-is k.which k.unit (k.state k.after) k.beside)
-            (withdrawn-shut k.which (g.M.Medium.state c.settle.new.unit) k.unit (k.state k.before) (k.state k.after) k.beside closes.journal closes.clock_card n.closing b.0 c.args.at (told_of (with_cabin c.leave.new.self c.args.run.now) c.args.outcome.now) (told_of c.settle.new.run c.settle.new.outcome) first_ n.act n.closes b.1 b.3 books
+            (withdrawn-shut k.which (g.M.Medium.state c.settle.new.unit) k.unit (k.state k.before) (k.state k.after) k.beside closes.journal closes.later.clock n.closing b.decided c.args.at (told_of (with_cabin c.leave.new.self c.args.run.now) c.args.outcome.now) (told_of c.settle.new.run c.settle.new.outcome) first_ n.act n.closes b.reach b.is books
             how f w start t may gone stored time valid);
       })))
 
   events : NotesWithdrawing (card_in (seat_in c.args.run.now.keeper.cabin.slots.seats c.args.slot)) c.args.slot c.args.at (is_err k.result) c.args.run.now k.new c.args.outcome.now told first_ last
   events =
-      let settling = left-there (λ m run. NotesSettling m false run c.settle.new.run c.args.outcome.now c.settle.new.outcome (g.M.Medium.state c.args.unit.now) (g.M.Medium.state c.settle.new.unit)) c.args.slot c.args.at c.args.at c.args.run.now c.leave.new.self c.leave.ensures.kept refl c.in_ok-settle.ensures.noted in
+      let settling = left-there (λ m run. NotesSettling m false run c.settle.new.run c.args.outcome.now c.settle.new.outcome (g.M.Medium.state c.args.unit.now) (g.M.Medium.state c.settle.new.unit)) c.args.slot c.args.at c.args.at c.args.run.now c.leave.new.self c.leave.ensures.kept refl (settled-noted c.in_ok-settle.ensures.keeps) in
       let these = settles-these c.args.at false (left_run c.args.slot c.args.at.second c.args.run.now) c.settle.new.run c.args.outcome.now c.settle.new.outcome (g.M.Medium.state c.args.unit.now) (g.M.Medium.state c.settle.new.unit) (g.C.Chip.state c.args.card_a.now) (g.D.Chip.state c.args.card_b.now) (g.C.Chip.state c.settle.new.card_a) (g.D.Chip.state c.settle.new.card_b) (g.met.M.Medium.coherent c.args.unit.now) c.requires.held.is_unit settling in
       withdrawal-noted (card_in (seat_in c.args.run.now.keeper.cabin.slots.seats c.args.slot)) k.which seat c.args.slot c.args.at (is_err k.result) c.args.run.now c.settle.new.run k.new c.args.outcome.now c.settle.new.outcome k.breaks first_ between last these.0 these.1 (subst (λ (m : Devices). NotesEvents these.0 false first_ m) (k.beside_it (g.M.Medium.state c.settle.new.unit)) these.2)
       (closing-any k.which c.args.slot c.args.at (is_err k.result) c.settle.new.run k.new c.settle.new.outcome.breaks k.breaks (devices (g.M.Medium.state c.settle.new.unit) (k.state k.before) (k.state k.before)) (devices k.unit (k.state k.after) (k.state k.after)) between last
       (unit-is k.which (g.M.Medium.state c.settle.new.unit) (k.state k.before) k.beside) (unit-is k.which k.unit (k.state k.after) k.beside) closes.events)
 
   leaves : LeavesRings (g.M.Medium.state c.args.unit.now) (g.M.Medium.state c.settle.new.unit)
-  leaves = settling-leaves c.args.at false (with_cabin c.leave.new.self c.args.run.now) c.settle.new.run c.args.outcome.now c.settle.new.outcome (g.M.Medium.state c.args.unit.now) (g.M.Medium.state c.settle.new.unit) c.in_ok-settle.ensures.noted
+  leaves = settling-leaves c.args.at false (with_cabin c.leave.new.self c.args.run.now) c.settle.new.run c.args.outcome.now c.settle.new.outcome (g.M.Medium.state c.args.unit.now) (g.M.Medium.state c.settle.new.unit) (settled-noted c.in_ok-settle.ensures.keeps)
 
   rings_ : is_some (g.M.Medium.state c.args.unit.now).image ≡ true → WithdrawsSo (card_in (seat_in c.args.run.now.keeper.cabin.slots.seats c.args.slot)) c.args.slot c.args.at (is_err k.result) c.args.run.now k.new c.args.outcome.now told (g.M.Medium.state c.args.unit.now) k.unit
   rings_ tells =
-      let n = closes.rings (c.in_ok-settle.ensures.tells ∙ tells) in
+      let n = closes.rings (c.in_ok-settle.ensures.goes.unit_tells ∙ tells) in
       subst (λ (q : Option Card). WithdrawsSo q c.args.slot c.args.at (is_err k.result) c.args.run.now k.new c.args.outcome.now told (g.M.Medium.state c.args.unit.now) k.unit) (sym seat)
       (inr (record {
         closed = record { between = c.settle.new.run; told = c.settle.new.outcome; settled_first = settled-first g c; closing = n.closing; closed = n.closed; outcome = refl };
@@ -374,11 +374,11 @@ module _ (g : Over) (c : In_ok-settle g) (k : OneCard c.in-Some.card (g.C.Chip.s
     minutes = c.in_ok-settle.ensures.settled.minutes w.within.sp w.within.minutes
 
     time-then : HaveTime between
-    time-then = time-before k.which (g.M.Medium.state c.settle.new.unit) k.unit (k.state k.before) (k.state k.after) k.beside closes.journal.later closes.clock_card time
+    time-then = time-before k.which (g.M.Medium.state c.settle.new.unit) k.unit (k.state k.before) (k.state k.after) k.beside closes.journal.later closes.later.clock time
 
-    records : RecordsSettling c.in_ok-settle.ensures.recorded.0 (acting_at s.number (suc (length front))) false (left_run c.args.slot s.number c.args.run.now) c.settle.new.run c.args.outcome.now c.settle.new.outcome first_ between
-    records = left-there (λ m run. RecordsSettling c.in_ok-settle.ensures.recorded.0 m false run c.settle.new.run c.args.outcome.now c.settle.new.outcome first_ between) c.args.slot c.args.at (acting_at s.number (suc (length front))) c.args.run.now c.leave.new.self c.leave.ensures.kept moment
-        (subst (λ (m : Devices). RecordsSettling c.in_ok-settle.ensures.recorded.0 c.args.at false (with_cabin c.leave.new.self c.args.run.now) c.settle.new.run c.args.outcome.now c.settle.new.outcome first_ m) (k.beside_it (g.M.Medium.state c.settle.new.unit)) c.in_ok-settle.ensures.recorded.2)
+    records : RecordsSettling c.in_ok-settle.ensures.keeps.decided (acting_at s.number (suc (length front))) false (left_run c.args.slot s.number c.args.run.now) c.settle.new.run c.args.outcome.now c.settle.new.outcome first_ between
+    records = left-there (λ m run. RecordsSettling c.in_ok-settle.ensures.keeps.decided m false run c.settle.new.run c.args.outcome.now c.settle.new.outcome first_ between) c.args.slot c.args.at (acting_at s.number (suc (length front))) c.args.run.now c.leave.new.self c.leave.ensures.kept moment
+        (subst (λ (m : Devices). RecordsSettling c.in_ok-settle.ensures.keeps.decided c.args.at false (with_cabin c.leave.new.self c.args.run.now) c.settle.new.run c.args.outcome.now c.settle.new.outcome first_ m) (k.beside_it (g.M.Medium.state c.settle.new.unit)) c.in_ok-settle.ensures.keeps.recorded)
 
     abbrev kept : IsSettled (acting_at s.number (suc (length front))) false (left_run c.args.slot s.number c.args.run.now) c.settle.new.run c.args.outcome.now c.settle.new.outcome
     kept = left-there (λ m run. IsSettled m false run c.settle.new.run c.args.outcome.now c.settle.new.outcome) c.args.slot c.args.at (acting_at s.number (suc (length front))) c.args.run.now c.leave.new.self c.leave.ensures.kept moment c.in_ok-settle.ensures.settled
@@ -389,11 +389,11 @@ module _ (g : Over) (c : In_ok-settle g) (k : OneCard c.in-Some.card (g.C.Chip.s
     recorded : GoesOnOrFails (is_err k.result) o done s (In c.args.at.begun) [] k.new told last w.within.b
     recorded =
         let going = going-with g c k.which k.is in
-        let r = c.in_ok-settle.ensures.recorded in
+        let r = c.in_ok-settle.ensures.keeps in
         let n_ = closes.closed in
-        let rung = closes.rings (c.settle.ensures.tells ∙ w.within.there.unit) in
+        let rung = closes.rings (c.settle.ensures.goes.unit_tells ∙ w.within.there.unit) in
         subst (λ (q : ℕ). GoesOnOrFails (is_err k.result) o done s (In q) [] k.new told last w.within.b) (sym n)
-        (closing-recorded o done s front rest c.args.slot are speed now.speed_is k.which c.args.run.now c.settle.new.run c.args.outcome.now c.settle.new.outcome first_ w seat allowed (ungiven_of c.requires.going.span) c.requires.going.cabin minutes r.0 (r.1 w.within.sp w.within.minutes)
+        (closing-recorded o done s front rest c.args.slot are speed now.speed_is k.which c.args.run.now c.settle.new.run c.args.outcome.now c.settle.new.outcome first_ w seat allowed (ungiven_of c.requires.going.span) c.requires.going.cabin minutes r.decided (r.given w.within.sp w.within.minutes)
         k.state (g.M.Medium.state c.settle.new.unit) k.unit k.beside k.before k.after (g.met.M.Medium.coherent c.settle.new.unit) k.whole k.size closes.left closes.bare closes.journal (is_err k.result) closes.cause going.span going.stands going.next
         records time-then c.args.at c.in_ok-settle.ensures.settled.decided (told_of (with_cabin c.leave.new.self c.args.run.now) c.args.outcome.now) c.in_ok-settle.ensures.settled.kept session-then
         (λ fine. closes-more rung.closing (session_of c.settle.new.run.keeper.cabin.cards k.which) c.args.at (is_err k.result) c.settle.new.run (g.M.Medium.state c.settle.new.unit) k.unit k.unit_whole closes.unit going.span going.stands rung.rings fine)
@@ -403,19 +403,19 @@ module _ (g : Over) (c : In_ok-settle g) (k : OneCard c.in-Some.card (g.C.Chip.s
     evented before =
         let going = going-with g c k.which k.is in
         let second : c.args.at.second ≡ s.number = c.requires.at ∙ sym now.number in
-        let r = c.in_ok-settle.ensures.recorded in
-        let v = c.in_ok-settle.ensures.evented in
+        let r = c.in_ok-settle.ensures.keeps in
+        let v = c.in_ok-settle.ensures.keeps in
         let n_ = closes.events in
         let fell = closes.closed in
         let settles =
-        left-there (λ m run. EventsSettling v.0 m false run c.settle.new.run c.args.outcome.now c.settle.new.outcome first_ between) c.args.slot c.args.at (acting_at s.number (suc (length front))) c.args.run.now c.leave.new.self c.leave.ensures.kept moment
-        (subst (λ (m : Devices). EventsSettling v.0 c.args.at false (with_cabin c.leave.new.self c.args.run.now) c.settle.new.run c.args.outcome.now c.settle.new.outcome first_ m) (k.beside_it (g.M.Medium.state c.settle.new.unit)) v.2) in
-        let told_then = settled-evented o done s front rest c.args.slot are speed now.speed_is k.which c.args.run.now c.settle.new.run c.args.outcome.now c.settle.new.outcome first_ w seat allowed (ungiven_of c.requires.going.span) c.requires.going.cabin minutes v.0 (v.1 w.within.sp w.within.minutes) false between settles before time-then in
+        left-there (λ m run. EventsSettling v.decided m false run c.settle.new.run c.args.outcome.now c.settle.new.outcome first_ between) c.args.slot c.args.at (acting_at s.number (suc (length front))) c.args.run.now c.leave.new.self c.leave.ensures.kept moment
+        (subst (λ (m : Devices). EventsSettling v.decided c.args.at false (with_cabin c.leave.new.self c.args.run.now) c.settle.new.run c.args.outcome.now c.settle.new.outcome first_ m) (k.beside_it (g.M.Medium.state c.settle.new.unit)) v.evented) in
+        let told_then = settled-evented o done s front rest c.args.slot are speed now.speed_is k.which c.args.run.now c.settle.new.run c.args.outcome.now c.settle.new.outcome first_ w seat allowed (ungiven_of c.requires.going.span) c.requires.going.cabin minutes v.decided (v.given w.within.sp w.within.minutes) false between settles before time-then in
         let same = same-closing k.which c.args.slot c.args.at c.settle.new.run k.new c.settle.new.outcome.breaks k.breaks n_.closing fell.0 n_.closed fell.1 in
         let notes =
         noted-any (closed_events n_.closing c.args.at.second k.new) (is_err k.result) (devices (g.M.Medium.state c.settle.new.unit) (k.state k.before) (k.state k.before)) (devices k.unit (k.state k.after) (k.state k.after)) between last (unit-is k.which (g.M.Medium.state c.settle.new.unit) (k.state k.before) k.beside) (unit-is k.which k.unit (k.state k.after) k.beside) n_.notes in
         subst (λ (q : ℕ). EventsGoOn (is_err k.result) o done s w.within.b.run (In q) Acting (log_of told) last) (sym n)
-        (closing-evented o done s front rest c.args.slot are speed now.speed_is k.which c.args.run.now c.settle.new.run c.args.outcome.now c.settle.new.outcome first_ w seat allowed (ungiven_of c.requires.going.span) c.requires.going.cabin minutes r.0 (r.1 w.within.sp w.within.minutes)
+        (closing-evented o done s front rest c.args.slot are speed now.speed_is k.which c.args.run.now c.settle.new.run c.args.outcome.now c.settle.new.outcome first_ w seat allowed (ungiven_of c.requires.going.span) c.requires.going.cabin minutes r.decided (r.given w.within.sp w.within.minutes)
         k.state (g.M.Medium.state c.settle.new.unit) k.unit k.beside k.before k.after (g.met.M.Medium.coherent c.settle.new.unit) k.whole k.size closes.left closes.bare closes.journal (is_err k.result) closes.cause going.span going.stands going.next
         records time-then c.args.at c.in_ok-settle.ensures.settled.decided (told_of (with_cabin c.leave.new.self c.args.run.now) c.args.outcome.now) c.in_ok-settle.ensures.settled.kept session-then
         small (ap (λ (x : Outcome). x.finds) c.in_ok-settle.ensures.settled.outcome) (ungiven_of going.span) going.cabin told_then
@@ -425,28 +425,28 @@ module _ (g : Over) (c : In_ok-settle g) (k : OneCard c.in-Some.card (g.C.Chip.s
     left : HaveLeftMore o first_ last
     left =
         more-left o first_ last (w.within.powered.lit.unit.unit_holds [] []).later w.within.there.clocks
-        (keeps-by k.which first_ (g.M.Medium.state c.settle.new.unit) k.unit (k.state k.before) (k.state k.after) k.beside (subst (λ (m : Devices). AreLeftMore first_ m) (k.beside_it (g.M.Medium.state c.settle.new.unit)) c.settle.ensures.keeps) (subst (λ (m : Devices). AreLater first_ m) (k.beside_it (g.M.Medium.state c.settle.new.unit)) c.settle.ensures.later) closes.journal.keeps
+        (keeps-by k.which first_ (g.M.Medium.state c.settle.new.unit) k.unit (k.state k.before) (k.state k.after) k.beside (subst (λ (m : Devices). AreLeftMore first_ m) (k.beside_it (g.M.Medium.state c.settle.new.unit)) (settled-left c.settle.ensures.goes)) (subst (λ (m : Devices). AreLater first_ m) (k.beside_it (g.M.Medium.state c.settle.new.unit)) (settled-later c.settle.ensures.goes c.settle.ensures.speeds)) closes.journal.keeps
         (closing-left k.state k.before k.after (session_of c.settle.new.run.keeper.cabin.cards k.which) closes.left closes.bare))
 
     places : PlacesStay o first_ last
     places =
-        let r = c.in_ok-settle.ensures.recorded in
-        let v = c.in_ok-settle.ensures.places in
+        let r = c.in_ok-settle.ensures.keeps in
+        let v = c.in_ok-settle.ensures.keeps in
         let settles =
-        left-there (λ m run. PlacesSettling v.0 m run c.settle.new.run c.args.outcome.now first_ between) c.args.slot c.args.at (acting_at s.number (suc (length front))) c.args.run.now c.leave.new.self c.leave.ensures.kept moment
-        (subst (λ (m : Devices). PlacesSettling v.0 c.args.at (with_cabin c.leave.new.self c.args.run.now) c.settle.new.run c.args.outcome.now first_ m) (k.beside_it (g.M.Medium.state c.settle.new.unit)) v.2) in
-        stay-then o first_ between last (settled-places o done s front rest c.args.slot are speed now.speed_is k.which c.args.run.now c.settle.new.run c.args.outcome.now c.settle.new.outcome first_ w seat allowed (ungiven_of c.requires.going.span) c.requires.going.cabin minutes v.0 (v.1 w.within.sp w.within.minutes) between settles time-then)
-        (closed-places o done s front rest c.args.slot are speed now.speed_is k.which c.args.run.now c.settle.new.run c.args.outcome.now c.settle.new.outcome first_ w seat allowed (ungiven_of c.requires.going.span) c.requires.going.cabin minutes r.0 (r.1 w.within.sp w.within.minutes) k.state (g.M.Medium.state c.settle.new.unit) k.unit k.beside k.before k.after k.whole k.size closes.left closes.bare records time-then)
+        left-there (λ m run. PlacesSettling v.decided m run c.settle.new.run c.args.outcome.now first_ between) c.args.slot c.args.at (acting_at s.number (suc (length front))) c.args.run.now c.leave.new.self c.leave.ensures.kept moment
+        (subst (λ (m : Devices). PlacesSettling v.decided c.args.at (with_cabin c.leave.new.self c.args.run.now) c.settle.new.run c.args.outcome.now first_ m) (k.beside_it (g.M.Medium.state c.settle.new.unit)) v.places) in
+        stay-then o first_ between last (settled-places o done s front rest c.args.slot are speed now.speed_is k.which c.args.run.now c.settle.new.run c.args.outcome.now c.settle.new.outcome first_ w seat allowed (ungiven_of c.requires.going.span) c.requires.going.cabin minutes v.decided (v.given w.within.sp w.within.minutes) between settles time-then)
+        (closed-places o done s front rest c.args.slot are speed now.speed_is k.which c.args.run.now c.settle.new.run c.args.outcome.now c.settle.new.outcome first_ w seat allowed (ungiven_of c.requires.going.span) c.requires.going.cabin minutes r.decided (r.given w.within.sp w.within.minutes) k.state (g.M.Medium.state c.settle.new.unit) k.unit k.beside k.before k.after k.whole k.size closes.left closes.bare records time-then)
 
     shows : StillShow o first_ last
     shows =
-        let r = c.in_ok-settle.ensures.recorded in
-        let v = c.in_ok-settle.ensures.cards in
+        let r = c.in_ok-settle.ensures.keeps in
+        let v = c.in_ok-settle.ensures.keeps in
         let settles =
-        left-there (λ m run. CardsSettling v.0 m run c.settle.new.run c.args.outcome.now first_ between) c.args.slot c.args.at (acting_at s.number (suc (length front))) c.args.run.now c.leave.new.self c.leave.ensures.kept moment
-        (subst (λ (m : Devices). CardsSettling v.0 c.args.at (with_cabin c.leave.new.self c.args.run.now) c.settle.new.run c.args.outcome.now first_ m) (k.beside_it (g.M.Medium.state c.settle.new.unit)) v.2) in
-        shows-then o first_ between last (settled-still o done s front rest c.args.slot are speed now.speed_is k.which c.args.run.now c.settle.new.run c.args.outcome.now c.settle.new.outcome first_ w seat allowed (ungiven_of c.requires.going.span) c.requires.going.cabin minutes v.0 (v.1 w.within.sp w.within.minutes) between settles time-then)
-        (closed-still o done s front rest c.args.slot are speed now.speed_is k.which c.args.run.now c.settle.new.run c.args.outcome.now c.settle.new.outcome first_ w seat allowed (ungiven_of c.requires.going.span) c.requires.going.cabin minutes r.0 (r.1 w.within.sp w.within.minutes) k.state (g.M.Medium.state c.settle.new.unit) k.unit k.beside k.before k.after k.whole k.size closes.left closes.bare records time-then)
+        left-there (λ m run. CardsSettling v.decided m run c.settle.new.run c.args.outcome.now first_ between) c.args.slot c.args.at (acting_at s.number (suc (length front))) c.args.run.now c.leave.new.self c.leave.ensures.kept moment
+        (subst (λ (m : Devices). CardsSettling v.decided c.args.at (with_cabin c.leave.new.self c.args.run.now) c.settle.new.run c.args.outcome.now first_ m) (k.beside_it (g.M.Medium.state c.settle.new.unit)) v.cards) in
+        shows-then o first_ between last (settled-still o done s front rest c.args.slot are speed now.speed_is k.which c.args.run.now c.settle.new.run c.args.outcome.now c.settle.new.outcome first_ w seat allowed (ungiven_of c.requires.going.span) c.requires.going.cabin minutes v.decided (v.given w.within.sp w.within.minutes) between settles time-then)
+        (closed-still o done s front rest c.args.slot are speed now.speed_is k.which c.args.run.now c.settle.new.run c.args.outcome.now c.settle.new.outcome first_ w seat allowed (ungiven_of c.requires.going.span) c.requires.going.cabin minutes r.decided (r.given w.within.sp w.within.minutes) k.state (g.M.Medium.state c.settle.new.unit) k.unit k.beside k.before k.after k.whole k.size closes.left closes.bare records time-then)
 
     cards_ : CardsIn o done s w.within.b.run.log front (log_of c.args.outcome.now) first_ → CardsGoOn (is_err k.result) o done s w.within.b.run.log (front ++ Withdraw c.args.slot ∷ []) (log_of told) last
     cards_ before =
@@ -458,8 +458,8 @@ module _ (g : Over) (c : In_ok-settle g) (k : OneCard c.in-Some.card (g.C.Chip.s
     ringed : (spans : List SpanFrom) (t : Rattle.log_model.specs.Course.ToldSecond) → RingsWithin o done s w.within.b.run.log front c.args.run.now (log_of c.args.outcome.now) spans t first_ → RingsGoOn (is_err k.result) o done s w.within.b (front ++ Withdraw c.args.slot ∷ []) k.new (log_of told) spans t last
     ringed spans t rings =
         let lit = c.requires.going in
-        let r = c.in_ok-settle.ensures.recorded in
-        let n_ = closes.rings (c.settle.ensures.tells ∙ w.within.there.unit) in
+        let r = c.in_ok-settle.ensures.keeps in
+        let n_ = closes.rings (c.settle.ensures.goes.unit_tells ∙ w.within.there.unit) in
         let entries = entry-of c.args.run.now.noted (session_of c.args.run.now.keeper.cabin.cards k.which) (lit.entries k.which) in
         let closed = subst (λ (m : Moment). IsClosed k.which c.args.slot m c.settle.new.run k.new c.settle.new.outcome.breaks k.breaks n_.closing) moment n_.closed in
         let writes : ClosesRings n_.closing (session_of c.settle.new.run.keeper.cabin.cards k.which) (acting_at s.number (suc (length front))) (is_err k.result) c.settle.new.run (g.M.Medium.state c.args.unit.now) last.unit =
@@ -470,15 +470,15 @@ module _ (g : Over) (c : In_ok-settle g) (k : OneCard c.in-Some.card (g.C.Chip.s
         let later_ = (settled-decides None (c.args.run.now.next / 60) c.args.run.now lit kept.decided c.requires.small (kept.given lit.span lit.stands)).from in
         closing-ringed o done s front rest c.args.slot are speed now.speed_is k.which c.args.run.now c.settle.new.run c.args.outcome.now c.settle.new.outcome first_ last w seat allowed false kept left places spans t rings (ungiven_of c.requires.going.span) c.requires.going.cabin small entries
         k.new k.breaks n_.closing closed minutes
-        (λ had has. untorn-then o done s front rest c.args.slot are speed now.speed_is k.which c.args.run.now c.settle.new.run c.args.outcome.now c.settle.new.outcome first_ w seat allowed (ungiven_of c.requires.going.span) c.requires.going.cabin minutes r.0 (r.1 w.within.sp w.within.minutes) between records time-then had has)
+        (λ had has. untorn-then o done s front rest c.args.slot are speed now.speed_is k.which c.args.run.now c.settle.new.run c.args.outcome.now c.settle.new.outcome first_ w seat allowed (ungiven_of c.requires.going.span) c.requires.going.cabin minutes r.decided (r.given w.within.sp w.within.minutes) between records time-then had has)
         (λ had none. gone-told o done s front rest c.args.slot are speed now.speed_is k.which c.args.run.now c.settle.new.run c.args.outcome.now c.settle.new.outcome first_ last w seat allowed false kept left places spans t rings (ungiven_of c.requires.going.span) c.requires.going.cabin small entries kept.kept w.within.from
-        (sat-there o done s front rest c.args.slot are speed now.speed_is k.which c.args.run.now c.settle.new.run c.args.outcome.now c.settle.new.outcome first_ w seat allowed (ungiven_of c.requires.going.span) c.requires.going.cabin minutes r.0 (r.1 w.within.sp w.within.minutes) had)
+        (sat-there o done s front rest c.args.slot are speed now.speed_is k.which c.args.run.now c.settle.new.run c.args.outcome.now c.settle.new.outcome first_ w seat allowed (ungiven_of c.requires.going.span) c.requires.going.cabin minutes r.decided (r.given w.within.sp w.within.minutes) had)
         (subst (λ (low : ℕ). All (λ (m : Minute). low ≤ m.minute) kept.decided) (sym from_is) later_) had none)
         (is_err k.result) writes
 
 module _ (g : Over) (c : After-close g) where
   abbrev kept-a : In_ok-settle g
-  kept-a = (goal.at.returns-in-A-clause-cause g c).In_ok-settle
+  kept-a = (goal.at.returns-in-A-clause-held g c).In_ok-settle
 
   abbrev side-a : OneCard kept-a.in-Some.card (g.C.Chip.state c.settle.new.card_a) (g.D.Chip.state c.settle.new.card_b)
   side-a =
@@ -487,7 +487,7 @@ module _ (g : Over) (c : After-close g) where
 
 module _ (g : Over) (c : After-close-in-B g) where
   abbrev kept-b : In_ok-settle g
-  kept-b = (goal.at.returns-in-B-clause-cause g c).In_ok-settle
+  kept-b = (goal.at.returns-in-B-clause-held g c).In_ok-settle
 
   abbrev side-b : OneCard kept-b.in-Some.card (g.C.Chip.state c.settle.new.card_a) (g.D.Chip.state c.settle.new.card_b)
   side-b =
@@ -500,43 +500,57 @@ module _ (g : Over) (c : In_default g) where
   none-in : card_in (seat_in c.args.run.now.keeper.cabin.slots.seats c.args.slot) ≡ None
   none-in = sym c.card.ensures ∙ none-there c.card.result c.in_default.not-Some
 
-pub returns-in_default-clause-recorded : goal.returns-in_default-clause-recorded
-returns-in_default-clause-recorded g c = λ late speed o done s now front rest are n allowed w time.
-    absurd (withdraws-one c.args.run.now.keeper.cabin.slots.seats c.args.slot speed allowed (none-in g c))
+pub returns-in_default-clause-withdrawn : goal.returns-in_default-clause-withdrawn
+returns-in_default-clause-withdrawn g c = record {
+  card = subst (λ (q : Option Card). IsWithdrawn q c.args.slot c.args.at false c.args.run.now c.args.run.now c.args.outcome.now c.args.outcome.now) (sym (none-in g c)) (refl, refl);
+  run = refl;
+  outcome = refl;
+}
 
-pub returns-in_default-clause-evented : goal.returns-in_default-clause-evented
-returns-in_default-clause-evented g c = λ late speed o done s now front rest are n allowed w events time.
-    absurd (withdraws-one c.args.run.now.keeper.cabin.slots.seats c.args.slot speed allowed (none-in g c))
+pub returns-in_default-clause-leaves : goal.returns-in_default-clause-leaves
+returns-in_default-clause-leaves g c = record {
+  booked = λ card there. absurd (let wrong : None ≡ Some card = sym (none-in g c) ∙ there in cc);
+  events =
+      let run = c.args.run.now in
+      let d = devices (g.M.Medium.state c.args.unit.now) (g.C.Chip.state c.args.card_a.now) (g.D.Chip.state c.args.card_b.now) in
+      subst (λ (q : Option Card). NotesWithdrawing q c.args.slot c.args.at false run run c.args.outcome.now c.args.outcome.now d d) (sym (none-in g c))
+      (refl, refl, refl, same-noted (g.M.Medium.state c.args.unit.now) (g.C.Chip.state c.args.card_a.now) (g.D.Chip.state c.args.card_b.now));
+  rings =
+      λ tells.
+      let run = c.args.run.now in
+      let U = g.M.Medium.state c.args.unit.now in
+      subst (λ (o : Option Card). WithdrawsSo o c.args.slot c.args.at false run run c.args.outcome.now c.args.outcome.now U U) (sym (none-in g c)) (rings-left U);
+  shut = λ card there. absurd (let wrong : None ≡ Some card = sym (none-in g c) ∙ there in cc);
+}
 
-pub returns-in_default-clause-ringed : goal.returns-in_default-clause-ringed
-returns-in_default-clause-ringed g c = λ late speed o done s now front rest are n allowed w spans t rings time.
-    absurd (withdraws-one c.args.run.now.keeper.cabin.slots.seats c.args.slot speed allowed (none-in g c))
+pub returns-in_default-clause-promises : goal.returns-in_default-clause-promises
+returns-in_default-clause-promises g c = record {
+  recorded =
+      λ late speed o done s now front rest are n allowed w time.
+      absurd (withdraws-one c.args.run.now.keeper.cabin.slots.seats c.args.slot speed allowed (none-in g c));
+  evented =
+      λ late speed o done s now front rest are n allowed w events time.
+      absurd (withdraws-one c.args.run.now.keeper.cabin.slots.seats c.args.slot speed allowed (none-in g c));
+  ringed =
+      λ late speed o done s now front rest are n allowed w spans t rings time.
+      absurd (withdraws-one c.args.run.now.keeper.cabin.slots.seats c.args.slot speed allowed (none-in g c));
+  cards =
+      λ late speed o done s now front rest are n allowed vehicle w cards time.
+      absurd (withdraws-one c.args.run.now.keeper.cabin.slots.seats c.args.slot speed allowed (none-in g c));
+}
 
-pub returns-in_default-clause-cards : goal.returns-in_default-clause-cards
-returns-in_default-clause-cards g c = λ late speed o done s now front rest are n allowed vehicle w cards time.
-    absurd (withdraws-one c.args.run.now.keeper.cabin.slots.seats c.args.slot speed allowed (none-in g c))
+pub returns-in_default-clause-held : goal.returns-in_default-clause-held
+returns-in_default-clause-held g c = record {
+  held = c.requires.held;
+  cause = (no_reads (g.M.Medium.state c.args.unit.now) c.requires.going.ready.unit_ready.works).cause;
+}
 
-pub returns-in_default-clause-events : goal.returns-in_default-clause-events
-returns-in_default-clause-events g c =
-    let run = c.args.run.now in
-    let d = devices (g.M.Medium.state c.args.unit.now) (g.C.Chip.state c.args.card_a.now) (g.D.Chip.state c.args.card_b.now) in
-    subst (λ (q : Option Card). NotesWithdrawing q c.args.slot c.args.at false run run c.args.outcome.now c.args.outcome.now d d) (sym (none-in g c))
-    (refl, refl, refl, same-noted (g.M.Medium.state c.args.unit.now) (g.C.Chip.state c.args.card_a.now) (g.D.Chip.state c.args.card_b.now))
-
-pub returns-in_default-clause-rings : goal.returns-in_default-clause-rings
-returns-in_default-clause-rings g c = λ tells.
-    let run = c.args.run.now in
-    let U = g.M.Medium.state c.args.unit.now in
-    subst (λ (o : Option Card). WithdrawsSo o c.args.slot c.args.at false run run c.args.outcome.now c.args.outcome.now U U) (sym (none-in g c)) (rings-left U)
-
-pub returns-in_default-clause-shut : goal.returns-in_default-clause-shut
-returns-in_default-clause-shut g c = λ card there. absurd (let wrong : None ≡ Some card = sym (none-in g c) ∙ there in cc)
-
-pub returns-in_default-clause-later : goal.returns-in_default-clause-later
-returns-in_default-clause-later g c = later-same (devices (g.M.Medium.state c.args.unit.now) (g.C.Chip.state c.args.card_a.now) (g.D.Chip.state c.args.card_b.now))
-
-pub returns-in_default-clause-calm : goal.returns-in_default-clause-calm
-returns-in_default-clause-calm g c = calm-same (devices (g.M.Medium.state c.args.unit.now) (g.C.Chip.state c.args.card_a.now) (g.D.Chip.state c.args.card_b.now))
+pub returns-in_default-clause-goes : goal.returns-in_default-clause-goes
+returns-in_default-clause-goes g c = record {
+  later = later-same (devices (g.M.Medium.state c.args.unit.now) (g.C.Chip.state c.args.card_a.now) (g.D.Chip.state c.args.card_b.now));
+  calm = calm-same (devices (g.M.Medium.state c.args.unit.now) (g.C.Chip.state c.args.card_a.now) (g.D.Chip.state c.args.card_b.now));
+  more = omega arith;
+}
 
 -- ---- the keeping fails
 
@@ -564,22 +578,22 @@ module _ (g : Over) (c : After-from_residual g) where
 
     cut-recorded : GoesOnOrFails (is_err c.from_residual.result) o done s (In c.args.at.begun) [] c.settle.new.run c.settle.new.outcome end w.within.b
     cut-recorded =
-        let r = c.in_err-settle.ensures.recorded in
+        let r = c.in_err-settle.ensures.keeps in
         subst (λ (q : Bool). GoesOnOrFails q o done s (In c.args.at.begun) [] c.settle.new.run c.settle.new.outcome end w.within.b) failed
         (subst (λ (q : ℕ). RunFails o done s (In q) c.settle.new.run c.settle.new.outcome end) (sym n)
-        (settling-cut o done s front rest c.args.slot are speed now.speed_is c.in-Some.card c.args.run.now c.settle.new.run c.args.outcome.now c.settle.new.outcome start w seat-left allowed (ungiven_of c.requires.going.span) c.requires.going.cabin (c.in_err-settle.ensures.settled.minutes w.within.sp w.within.minutes) r.0 (r.1 w.within.sp w.within.minutes) end
-        (left-there (λ m run. RecordsSettling r.0 m true run c.settle.new.run c.args.outcome.now c.settle.new.outcome start end) c.args.slot c.args.at (acting_at s.number (suc (length front))) c.args.run.now c.leave.new.self c.leave.ensures.kept at-moment r.2) time))
+        (settling-cut o done s front rest c.args.slot are speed now.speed_is c.in-Some.card c.args.run.now c.settle.new.run c.args.outcome.now c.settle.new.outcome start w seat-left allowed (ungiven_of c.requires.going.span) c.requires.going.cabin (c.in_err-settle.ensures.settled.minutes w.within.sp w.within.minutes) r.decided (r.given w.within.sp w.within.minutes) end
+        (left-there (λ m run. RecordsSettling r.decided m true run c.settle.new.run c.args.outcome.now c.settle.new.outcome start end) c.args.slot c.args.at (acting_at s.number (suc (length front))) c.args.run.now c.leave.new.self c.leave.ensures.kept at-moment r.recorded) time))
 
     cut-evented : EventedNow o done s w.within.b.run Acting (log_of c.args.outcome.now) start → EventsGoOn (is_err c.from_residual.result) o done s w.within.b.run (In c.args.at.begun) Acting (log_of c.settle.new.outcome) end
     cut-evented events_ =
-        let v = c.in_err-settle.ensures.evented in
+        let v = c.in_err-settle.ensures.keeps in
         subst (λ (q : Bool). EventsGoOn q o done s w.within.b.run (In c.args.at.begun) Acting (log_of c.settle.new.outcome) end) failed
         (subst (λ (q : ℕ). EventsGoOn true o done s w.within.b.run (In q) Acting (log_of c.settle.new.outcome) end) (sym n)
-        (settled-evented o done s front rest c.args.slot are speed now.speed_is c.in-Some.card c.args.run.now c.settle.new.run c.args.outcome.now c.settle.new.outcome start w seat-left allowed (ungiven_of c.requires.going.span) c.requires.going.cabin (c.in_err-settle.ensures.settled.minutes w.within.sp w.within.minutes) v.0 (v.1 w.within.sp w.within.minutes) true end
-        (left-there (λ m run. EventsSettling v.0 m true run c.settle.new.run c.args.outcome.now c.settle.new.outcome start end) c.args.slot c.args.at (acting_at s.number (suc (length front))) c.args.run.now c.leave.new.self c.leave.ensures.kept at-moment v.2) events_ time))
+        (settled-evented o done s front rest c.args.slot are speed now.speed_is c.in-Some.card c.args.run.now c.settle.new.run c.args.outcome.now c.settle.new.outcome start w seat-left allowed (ungiven_of c.requires.going.span) c.requires.going.cabin (c.in_err-settle.ensures.settled.minutes w.within.sp w.within.minutes) v.decided (v.given w.within.sp w.within.minutes) true end
+        (left-there (λ m run. EventsSettling v.decided m true run c.settle.new.run c.args.outcome.now c.settle.new.outcome start end) c.args.slot c.args.at (acting_at s.number (suc (length front))) c.args.run.now c.leave.new.self c.leave.ensures.kept at-moment v.evented) events_ time))
 
     cut-left : HaveLeftMore o start end
-    cut-left = more-left o start end (w.within.powered.lit.unit.unit_holds [] []).later w.within.there.clocks c.settle.ensures.keeps
+    cut-left = more-left o start end (w.within.powered.lit.unit.unit_holds [] []).later w.within.there.clocks (settled-left c.settle.ensures.goes)
 
     cut-ringed : (spans : List SpanFrom) (t : Rattle.log_model.specs.Course.ToldSecond) → RingsWithin o done s w.within.b.run.log front c.args.run.now (log_of c.args.outcome.now) spans t start
         → RingsGoOn (is_err c.from_residual.result) o done s w.within.b (front ++ Withdraw c.args.slot ∷ []) c.settle.new.run (log_of c.settle.new.outcome) spans t end
@@ -587,95 +601,83 @@ module _ (g : Over) (c : After-from_residual g) where
         let card : Card = c.in-Some.card in
         let lit = c.requires.going in
         let low : s.number < 2 ^ 32 = let most = c.requires.small in let same = now.number in omega (arith, most, same) in
-        let v = c.in_err-settle.ensures.places in
-        let stay = settled-places o done s front rest c.args.slot are speed now.speed_is c.in-Some.card c.args.run.now c.settle.new.run c.args.outcome.now c.settle.new.outcome start w seat-left allowed (ungiven_of c.requires.going.span) c.requires.going.cabin (c.in_err-settle.ensures.settled.minutes w.within.sp w.within.minutes) v.0 (v.1 w.within.sp w.within.minutes) end (left-there (λ m run. PlacesSettling v.0 m run c.settle.new.run c.args.outcome.now start end) c.args.slot c.args.at (acting_at s.number (suc (length front))) c.args.run.now c.leave.new.self c.leave.ensures.kept at-moment v.2) time in
+        let v = c.in_err-settle.ensures.keeps in
+        let stay = settled-places o done s front rest c.args.slot are speed now.speed_is c.in-Some.card c.args.run.now c.settle.new.run c.args.outcome.now c.settle.new.outcome start w seat-left allowed (ungiven_of c.requires.going.span) c.requires.going.cabin (c.in_err-settle.ensures.settled.minutes w.within.sp w.within.minutes) v.decided (v.given w.within.sp w.within.minutes) end (left-there (λ m run. PlacesSettling v.decided m run c.settle.new.run c.args.outcome.now start end) c.args.slot c.args.at (acting_at s.number (suc (length front))) c.args.run.now c.leave.new.self c.leave.ensures.kept at-moment v.places) time in
         subst (λ (q : Bool). RingsGoOn q o done s w.within.b (front ++ Withdraw c.args.slot ∷ []) c.settle.new.run (log_of c.settle.new.outcome) spans t end) failed
         (settling-ringed o done s front rest c.args.slot are speed now.speed_is card c.args.run.now c.settle.new.run c.args.outcome.now c.settle.new.outcome start end w seat-left allowed true
         (left-there (λ m run. IsSettled m true run c.settle.new.run c.args.outcome.now c.settle.new.outcome) c.args.slot c.args.at (acting_at s.number (suc (length front))) c.args.run.now c.leave.new.self c.leave.ensures.kept at-moment c.in_err-settle.ensures.settled)
         cut-left stay spans t rings (ungiven_of lit.span) lit.cabin low (entry-of c.args.run.now.noted (session_of c.args.run.now.keeper.cabin.cards card) (lit.entries card))
-        (settling-leaves c.args.at true (with_cabin c.leave.new.self c.args.run.now) c.settle.new.run c.args.outcome.now c.settle.new.outcome (g.M.Medium.state c.args.unit.now) (g.M.Medium.state c.settle.new.unit) c.in_err-settle.ensures.noted))
+        (settling-leaves c.args.at true (with_cabin c.leave.new.self c.args.run.now) c.settle.new.run c.args.outcome.now c.settle.new.outcome (g.M.Medium.state c.args.unit.now) (g.M.Medium.state c.settle.new.unit) (settled-noted c.in_err-settle.ensures.keeps)))
 
     cut-cards : CardsIn o done s w.within.b.run.log front (log_of c.args.outcome.now) start → CardsGoOn (is_err c.from_residual.result) o done s w.within.b.run.log (front ++ Withdraw c.args.slot ∷ []) (log_of c.settle.new.outcome) end
     cut-cards cards =
-        let v = c.in_err-settle.ensures.cards in
-        let still = settled-still o done s front rest c.args.slot are speed now.speed_is c.in-Some.card c.args.run.now c.settle.new.run c.args.outcome.now c.settle.new.outcome start w seat-left allowed (ungiven_of c.requires.going.span) c.requires.going.cabin (c.in_err-settle.ensures.settled.minutes w.within.sp w.within.minutes) v.0 (v.1 w.within.sp w.within.minutes) end (left-there (λ m run. CardsSettling v.0 m run c.settle.new.run c.args.outcome.now start end) c.args.slot c.args.at (acting_at s.number (suc (length front))) c.args.run.now c.leave.new.self c.leave.ensures.kept at-moment v.2) time in
+        let v = c.in_err-settle.ensures.keeps in
+        let still = settled-still o done s front rest c.args.slot are speed now.speed_is c.in-Some.card c.args.run.now c.settle.new.run c.args.outcome.now c.settle.new.outcome start w seat-left allowed (ungiven_of c.requires.going.span) c.requires.going.cabin (c.in_err-settle.ensures.settled.minutes w.within.sp w.within.minutes) v.decided (v.given w.within.sp w.within.minutes) end (left-there (λ m run. CardsSettling v.decided m run c.settle.new.run c.args.outcome.now start end) c.args.slot c.args.at (acting_at s.number (suc (length front))) c.args.run.now c.leave.new.self c.leave.ensures.kept at-moment v.cards) time in
         let t : TellsLines (acting_at s.number (suc (length front))) c.args.outcome.now c.settle.new.outcome = subst (λ (m : Moment). TellsLines m c.args.outcome.now c.settle.new.outcome) at-moment
         (settled-lines c.args.at true (with_cabin c.leave.new.self c.args.run.now) c.settle.new.run c.args.outcome.now c.settle.new.outcome c.in_err-settle.ensures.settled) in
         quiet-goes o done s front rest (Withdraw c.args.slot) are c.args.run.now c.args.outcome.now start end w tt t.lines (log_of c.settle.new.outcome) t.are t.tears cut-left still cards (is_err c.from_residual.result)
 
-pub returns-in_err-settle-clause-recorded : goal.returns-in_err-settle-clause-recorded
-returns-in_err-settle-clause-recorded g c = λ late speed o done s now front rest are n allowed w time. cut-recorded g c late speed o done s now front rest are n allowed w time
-
-pub returns-in_err-settle-clause-evented : goal.returns-in_err-settle-clause-evented
-returns-in_err-settle-clause-evented g c = λ late speed o done s now front rest are n allowed w events time. cut-evented g c late speed o done s now front rest are n allowed w time events
-
-pub returns-in_err-settle-clause-ringed : goal.returns-in_err-settle-clause-ringed
-returns-in_err-settle-clause-ringed g c = λ late speed o done s now front rest are n allowed w spans t rings time. cut-ringed g c late speed o done s now front rest are n allowed w time spans t rings
-
-pub returns-in_err-settle-clause-cards : goal.returns-in_err-settle-clause-cards
-returns-in_err-settle-clause-cards g c = λ late speed o done s now front rest are n allowed vehicle w cards time. cut-cards g c late speed o done s now front rest are n allowed w time cards
-
-pub returns-in_err-settle-clause-booked : goal.returns-in_err-settle-clause-booked
-returns-in_err-settle-clause-booked g c = λ card there.
-    let run = c.args.run.now in
-    let D = start g c in
-    let E = end g c in
-    let b = c.in_err-settle.ensures.booked in
-    subst (λ (q : Bool). Booked c.args.slot c.args.at card q run c.settle.new.run c.args.outcome.now c.settle.new.outcome D E (with_slot_left c.args.slot c.args.at.second run.keeper.cabin)) (failed g c)
-    (subst (λ (left : Cabin). Booked c.args.slot c.args.at card true run c.settle.new.run c.args.outcome.now c.settle.new.outcome D E left) c.leave.ensures.kept (
-      b.0,
-      b.1,
-      None,
-      told_of c.settle.new.run c.settle.new.outcome,
-      b.2,
-      b.3,
-      withdrawn-cut card b.0 c.args.at (told_of (with_cabin c.leave.new.self run) c.args.outcome.now) (told_of c.settle.new.run c.settle.new.outcome) D E b.1 b.3 b.4,
-    ))
-
-pub returns-in_err-settle-clause-events : goal.returns-in_err-settle-clause-events
-returns-in_err-settle-clause-events g c =
-    let settling = left-there (λ m run. NotesSettling m true run c.settle.new.run c.args.outcome.now c.settle.new.outcome (g.M.Medium.state c.args.unit.now) (g.M.Medium.state c.settle.new.unit)) c.args.slot c.args.at c.args.at c.args.run.now c.leave.new.self c.leave.ensures.kept refl c.in_err-settle.ensures.noted in
-    let these = settles-these c.args.at true (left_run c.args.slot c.args.at.second c.args.run.now) c.settle.new.run c.args.outcome.now c.settle.new.outcome (g.M.Medium.state c.args.unit.now) (g.M.Medium.state c.settle.new.unit) (g.C.Chip.state c.args.card_a.now) (g.D.Chip.state c.args.card_b.now) (g.C.Chip.state c.settle.new.card_a) (g.D.Chip.state c.settle.new.card_b) (g.met.M.Medium.coherent c.args.unit.now) c.requires.held.is_unit settling in
-    subst (λ (b : Bool). NotesWithdrawing (card_in (seat_in c.args.run.now.keeper.cabin.slots.seats c.args.slot)) c.args.slot c.args.at b c.args.run.now c.settle.new.run c.args.outcome.now c.settle.new.outcome (start g c) (end g c)) (failed g c)
-    (withdrawal-cut (card_in (seat_in c.args.run.now.keeper.cabin.slots.seats c.args.slot)) c.in-Some.card (seat-left g c) c.args.slot c.args.at c.args.run.now c.settle.new.run c.args.outcome.now c.settle.new.outcome (start g c) (end g c) these.0 these.1 these.2)
-
-pub returns-in_err-settle-clause-rings : goal.returns-in_err-settle-clause-rings
-returns-in_err-settle-clause-rings g c = λ tells.
-    subst (λ (o : Option Card). WithdrawsSo o c.args.slot c.args.at (is_err c.from_residual.result) c.args.run.now c.settle.new.run c.args.outcome.now c.settle.new.outcome (g.M.Medium.state c.args.unit.now) (g.M.Medium.state c.settle.new.unit)) (sym (seat-left g c))
-    (inl (sym (failed g c), cut-first g c, settling-leaves c.args.at true (with_cabin c.leave.new.self c.args.run.now) c.settle.new.run c.args.outcome.now c.settle.new.outcome (g.M.Medium.state c.args.unit.now) (g.M.Medium.state c.settle.new.unit) c.in_err-settle.ensures.noted))
-
 pub returns-in_err-settle-clause-withdrawn : goal.returns-in_err-settle-clause-withdrawn
-returns-in_err-settle-clause-withdrawn g c =
-    subst (λ (o : Option Card). IsWithdrawn o c.args.slot c.args.at (is_err c.from_residual.result) c.args.run.now c.settle.new.run c.args.outcome.now c.settle.new.outcome) (sym (seat-left g c))
-    (inl (sym (failed g c), cut-first g c))
+returns-in_err-settle-clause-withdrawn g c = record {
+  card =
+      subst (λ (o : Option Card). IsWithdrawn o c.args.slot c.args.at (is_err c.from_residual.result) c.args.run.now c.settle.new.run c.args.outcome.now c.settle.new.outcome) (sym (seat-left g c))
+      (inl (sym (failed g c), cut-first g c));
+  run = c.settle.ensures.settled.only;
+  outcome = c.settle.ensures.settled.outcome;
+}
 
-pub returns-in_err-settle-clause-shut : goal.returns-in_err-settle-clause-shut
-returns-in_err-settle-clause-shut g c = λ card there. inl (sym (failed g c), cut-first g c)
+pub returns-in_err-settle-clause-leaves : goal.returns-in_err-settle-clause-leaves
+returns-in_err-settle-clause-leaves g c = record {
+  booked =
+      λ card there.
+      let run = c.args.run.now in
+      let D = start g c in
+      let E = end g c in
+      let b = c.in_err-settle.ensures.keeps in
+      subst (λ (q : Bool). Booked c.args.slot c.args.at card q run c.settle.new.run c.args.outcome.now c.settle.new.outcome D E (with_slot_left c.args.slot c.args.at.second run.keeper.cabin)) (failed g c)
+      (subst (λ (left : Cabin). Booked c.args.slot c.args.at card true run c.settle.new.run c.args.outcome.now c.settle.new.outcome D E left) c.leave.ensures.kept (
+        b.decided,
+        b.reach,
+        None,
+        told_of c.settle.new.run c.settle.new.outcome,
+        b.given,
+        b.is,
+        withdrawn-cut card b.decided c.args.at (told_of (with_cabin c.leave.new.self run) c.args.outcome.now) (told_of c.settle.new.run c.settle.new.outcome) D E b.reach b.is b.books,
+      ));
+  events =
+      let settling = left-there (λ m run. NotesSettling m true run c.settle.new.run c.args.outcome.now c.settle.new.outcome (g.M.Medium.state c.args.unit.now) (g.M.Medium.state c.settle.new.unit)) c.args.slot c.args.at c.args.at c.args.run.now c.leave.new.self c.leave.ensures.kept refl (settled-noted c.in_err-settle.ensures.keeps) in
+      let these = settles-these c.args.at true (left_run c.args.slot c.args.at.second c.args.run.now) c.settle.new.run c.args.outcome.now c.settle.new.outcome (g.M.Medium.state c.args.unit.now) (g.M.Medium.state c.settle.new.unit) (g.C.Chip.state c.args.card_a.now) (g.D.Chip.state c.args.card_b.now) (g.C.Chip.state c.settle.new.card_a) (g.D.Chip.state c.settle.new.card_b) (g.met.M.Medium.coherent c.args.unit.now) c.requires.held.is_unit settling in
+      subst (λ (b : Bool). NotesWithdrawing (card_in (seat_in c.args.run.now.keeper.cabin.slots.seats c.args.slot)) c.args.slot c.args.at b c.args.run.now c.settle.new.run c.args.outcome.now c.settle.new.outcome (start g c) (end g c)) (failed g c)
+      (withdrawal-cut (card_in (seat_in c.args.run.now.keeper.cabin.slots.seats c.args.slot)) c.in-Some.card (seat-left g c) c.args.slot c.args.at c.args.run.now c.settle.new.run c.args.outcome.now c.settle.new.outcome (start g c) (end g c) these.0 these.1 these.2);
+  rings =
+      λ tells.
+      subst (λ (o : Option Card). WithdrawsSo o c.args.slot c.args.at (is_err c.from_residual.result) c.args.run.now c.settle.new.run c.args.outcome.now c.settle.new.outcome (g.M.Medium.state c.args.unit.now) (g.M.Medium.state c.settle.new.unit)) (sym (seat-left g c))
+      (inl (sym (failed g c), cut-first g c, settling-leaves c.args.at true (with_cabin c.leave.new.self c.args.run.now) c.settle.new.run c.args.outcome.now c.settle.new.outcome (g.M.Medium.state c.args.unit.now) (g.M.Medium.state c.settle.new.unit) (settled-noted c.in_err-settle.ensures.keeps)));
+  shut = λ card there. inl (sym (failed g c), cut-first g c);
+}
 
-pub returns-in_err-settle-clause-later : goal.returns-in_err-settle-clause-later
-returns-in_err-settle-clause-later g c = c.settle.ensures.later
+pub returns-in_err-settle-clause-promises : goal.returns-in_err-settle-clause-promises
+returns-in_err-settle-clause-promises g c = record {
+  recorded = λ late speed o done s now front rest are n allowed w time. cut-recorded g c late speed o done s now front rest are n allowed w time;
+  evented = λ late speed o done s now front rest are n allowed w events time. cut-evented g c late speed o done s now front rest are n allowed w time events;
+  ringed = λ late speed o done s now front rest are n allowed w spans t rings time. cut-ringed g c late speed o done s now front rest are n allowed w time spans t rings;
+  cards = λ late speed o done s now front rest are n allowed vehicle w cards time. cut-cards g c late speed o done s now front rest are n allowed w time cards;
+}
 
-pub returns-in_err-settle-clause-calm : goal.returns-in_err-settle-clause-calm
-returns-in_err-settle-clause-calm g c = c.settle.ensures.calm
+pub returns-in_err-settle-clause-held : goal.returns-in_err-settle-clause-held
+returns-in_err-settle-clause-held g c = record {
+  held = c.settle.ensures.held;
+  cause = subst (λ (b : Bool). HasCause (g.M.Medium.state c.args.unit.now) (g.M.Medium.state c.settle.new.unit) b) (failed g c) c.in_err-settle.ensures.behind.cause;
+}
+
+pub returns-in_err-settle-clause-goes : goal.returns-in_err-settle-clause-goes
+returns-in_err-settle-clause-goes g c = record {
+  later = settled-later c.settle.ensures.goes c.settle.ensures.speeds;
+  calm = c.settle.ensures.goes.all.calm;
+  more = c.settle.ensures.goes.all.more;
+}
 
 -- ---- card a, and card b
-
-pub returns-in-A-clause-withdrawn : goal.returns-in-A-clause-withdrawn
-returns-in-A-clause-withdrawn g c = withdrawn g (kept-a g c) (side-a g c) c.close.ensures
-
-pub returns-in-A-clause-only : goal.returns-in-A-clause-only
-returns-in-A-clause-only g c = only g (kept-a g c) (side-a g c) c.close.ensures
-
-pub returns-in-A-clause-rest : goal.returns-in-A-clause-rest
-returns-in-A-clause-rest g c = rest_ g (kept-a g c) (side-a g c) c.close.ensures
-
-pub returns-in-A-clause-held : goal.returns-in-A-clause-held
-returns-in-A-clause-held g c =
-    let e = c.close.ensures in
-    let going = going-with g (kept-a g c) A c.in-A.is in
-    held-closed A c.args.slot c.args.at c.settle.new.run c.close.new.run c.settle.new.outcome.breaks c.close.new.breaks e.closed.0 e.closed.1 (g.M.Medium.state c.settle.new.unit) (g.M.Medium.state c.close.new.unit) (g.C.Chip.state c.settle.new.card_a) (g.C.Chip.state c.close.new.card) (g.D.Chip.state c.settle.new.card_b)
-    (g.C.Chip.card c.settle.new.card_a) (g.C.Chip.card c.close.new.card) (g.D.Chip.card c.settle.new.card_b)
-    (at-then g (kept-a g c)) c.settle.ensures.held e.unit e.card e.size (ungiven_of going.span, None, e.stands (ungiven_of going.span) going.cabin)
 
 pub returns-in-A-clause-going : goal.returns-in-A-clause-going
 returns-in-A-clause-going g c =
@@ -684,63 +686,52 @@ returns-in-A-clause-going g c =
     on_ok c.close.result (λ well.
     going-closed A c.args.slot c.args.at c.settle.new.run c.close.new.run c.settle.new.outcome.breaks c.close.new.breaks e.closed.0 e.closed.1 (g.M.Medium.state c.settle.new.unit) (g.M.Medium.state c.close.new.unit) (g.C.Chip.state c.settle.new.card_a) (g.C.Chip.state c.close.new.card) (g.D.Chip.state c.settle.new.card_b)
     (g.C.Chip.card c.settle.new.card_a) (g.C.Chip.card c.close.new.card) (g.D.Chip.card c.settle.new.card_b)
-    going (ok_gives c.close.result e.ready well) e.card (λ card h. ok_gives c.close.result (e.rows card h) well) (e.stands (ungiven_of going.span) going.cabin))
+    going (ok_gives c.close.result e.ready well) e.card (λ card h. ok_gives c.close.result (e.rows card h) well) (e.stands (ungiven_of going.span) going.cabin)
+    (knows-left c.settle.new.run.watch.newest (g.M.Medium.state c.settle.new.unit) (g.M.Medium.state c.close.new.unit) (g.met.M.Medium.coherent c.settle.new.unit) (g.met.M.Medium.coherent c.close.new.unit) going.ready.unit_ready.works e.speeds))
 
 pub returns-in-A-clause-takes : goal.returns-in-A-clause-takes
 returns-in-A-clause-takes g c = takes g (kept-a g c) (side-a g c) c.close.ensures
 
-pub returns-in-A-clause-more : goal.returns-in-A-clause-more
-returns-in-A-clause-more g c = more g (kept-a g c) (side-a g c) c.close.ensures
+pub returns-in-A-clause-withdrawn : goal.returns-in-A-clause-withdrawn
+returns-in-A-clause-withdrawn g c = record {
+  card = withdrawn g (kept-a g c) (side-a g c) c.close.ensures;
+  run = only g (kept-a g c) (side-a g c) c.close.ensures;
+  outcome = rest_ g (kept-a g c) (side-a g c) c.close.ensures;
+}
 
-pub returns-in-A-clause-cause : goal.returns-in-A-clause-cause
-returns-in-A-clause-cause g c = cause_after c.in_ok-settle.ensures.cause c.close.ensures.cause
+pub returns-in-A-clause-leaves : goal.returns-in-A-clause-leaves
+returns-in-A-clause-leaves g c = record {
+  booked = booked g (kept-a g c) (side-a g c) c.close.ensures;
+  events = events g (kept-a g c) (side-a g c) c.close.ensures;
+  rings = rings_ g (kept-a g c) (side-a g c) c.close.ensures;
+  shut = shut g (kept-a g c) (side-a g c) c.close.ensures;
+}
 
-pub returns-in-A-clause-booked : goal.returns-in-A-clause-booked
-returns-in-A-clause-booked g c = booked g (kept-a g c) (side-a g c) c.close.ensures
+pub returns-in-A-clause-promises : goal.returns-in-A-clause-promises
+returns-in-A-clause-promises g c = record {
+  recorded = λ late speed o done s now front rest are n allowed w time. recorded g (kept-a g c) (side-a g c) c.close.ensures late speed o done s now front rest are n allowed w time;
+  evented = λ late speed o done s now front rest are n allowed w events time. evented g (kept-a g c) (side-a g c) c.close.ensures late speed o done s now front rest are n allowed w time events;
+  ringed = λ late speed o done s now front rest are n allowed w spans t rings time. ringed g (kept-a g c) (side-a g c) c.close.ensures late speed o done s now front rest are n allowed w time spans t rings;
+  cards = λ late speed o done s now front rest are n allowed vehicle w cards time. cards_ g (kept-a g c) (side-a g c) c.close.ensures late speed o done s now front rest are n allowed w time cards;
+}
 
-pub returns-in-A-clause-events : goal.returns-in-A-clause-events
-returns-in-A-clause-events g c = events g (kept-a g c) (side-a g c) c.close.ensures
+pub returns-in-A-clause-held : goal.returns-in-A-clause-held
+returns-in-A-clause-held g c = record {
+  held =
+      let e = c.close.ensures in
+      let going = going-with g (kept-a g c) A c.in-A.is in
+      held-closed A c.args.slot c.args.at c.settle.new.run c.close.new.run c.settle.new.outcome.breaks c.close.new.breaks e.closed.0 e.closed.1 (g.M.Medium.state c.settle.new.unit) (g.M.Medium.state c.close.new.unit) (g.C.Chip.state c.settle.new.card_a) (g.C.Chip.state c.close.new.card) (g.D.Chip.state c.settle.new.card_b)
+      (g.C.Chip.card c.settle.new.card_a) (g.C.Chip.card c.close.new.card) (g.D.Chip.card c.settle.new.card_b)
+      (at-then g (kept-a g c)) c.settle.ensures.held e.unit e.card e.size (ungiven_of going.span, None, e.stands (ungiven_of going.span) going.cabin);
+  cause = cause_after c.in_ok-settle.ensures.behind.cause c.close.ensures.cause;
+}
 
-pub returns-in-A-clause-rings : goal.returns-in-A-clause-rings
-returns-in-A-clause-rings g c = rings_ g (kept-a g c) (side-a g c) c.close.ensures
-
-pub returns-in-A-clause-shut : goal.returns-in-A-clause-shut
-returns-in-A-clause-shut g c = shut g (kept-a g c) (side-a g c) c.close.ensures
-
-pub returns-in-A-clause-later : goal.returns-in-A-clause-later
-returns-in-A-clause-later g c = later g (kept-a g c) (side-a g c) c.close.ensures
-
-pub returns-in-A-clause-calm : goal.returns-in-A-clause-calm
-returns-in-A-clause-calm g c = calm g (kept-a g c) (side-a g c) c.close.ensures
-
-pub returns-in-A-clause-recorded : goal.returns-in-A-clause-recorded
-returns-in-A-clause-recorded g c = λ late speed o done s now front rest are n allowed w time. recorded g (kept-a g c) (side-a g c) c.close.ensures late speed o done s now front rest are n allowed w time
-
-pub returns-in-A-clause-evented : goal.returns-in-A-clause-evented
-returns-in-A-clause-evented g c = λ late speed o done s now front rest are n allowed w events time. evented g (kept-a g c) (side-a g c) c.close.ensures late speed o done s now front rest are n allowed w time events
-
-pub returns-in-A-clause-ringed : goal.returns-in-A-clause-ringed
-returns-in-A-clause-ringed g c = λ late speed o done s now front rest are n allowed w spans t rings time. ringed g (kept-a g c) (side-a g c) c.close.ensures late speed o done s now front rest are n allowed w time spans t rings
-
-pub returns-in-A-clause-cards : goal.returns-in-A-clause-cards
-returns-in-A-clause-cards g c = λ late speed o done s now front rest are n allowed vehicle w cards time. cards_ g (kept-a g c) (side-a g c) c.close.ensures late speed o done s now front rest are n allowed w time cards
-
-pub returns-in-B-clause-withdrawn : goal.returns-in-B-clause-withdrawn
-returns-in-B-clause-withdrawn g c = withdrawn g (kept-b g c) (side-b g c) c.close-in-B.ensures
-
-pub returns-in-B-clause-only : goal.returns-in-B-clause-only
-returns-in-B-clause-only g c = only g (kept-b g c) (side-b g c) c.close-in-B.ensures
-
-pub returns-in-B-clause-rest : goal.returns-in-B-clause-rest
-returns-in-B-clause-rest g c = rest_ g (kept-b g c) (side-b g c) c.close-in-B.ensures
-
-pub returns-in-B-clause-held : goal.returns-in-B-clause-held
-returns-in-B-clause-held g c =
-    let e = c.close-in-B.ensures in
-    let going = going-with g (kept-b g c) B c.in-B.is in
-    held-closed B c.args.slot c.args.at c.settle.new.run c.close-in-B.new.run c.settle.new.outcome.breaks c.close-in-B.new.breaks e.closed.0 e.closed.1 (g.M.Medium.state c.settle.new.unit) (g.M.Medium.state c.close-in-B.new.unit) (g.D.Chip.state c.settle.new.card_b) (g.D.Chip.state c.close-in-B.new.card) (g.C.Chip.state c.settle.new.card_a)
-    (g.D.Chip.card c.settle.new.card_b) (g.D.Chip.card c.close-in-B.new.card) (g.C.Chip.card c.settle.new.card_a)
-    (at-then g (kept-b g c)) c.settle.ensures.held e.unit e.card e.size (ungiven_of going.span, None, e.stands (ungiven_of going.span) going.cabin)
+pub returns-in-A-clause-goes : goal.returns-in-A-clause-goes
+returns-in-A-clause-goes g c = record {
+  later = later g (kept-a g c) (side-a g c) c.close.ensures;
+  calm = calm g (kept-a g c) (side-a g c) c.close.ensures;
+  more = more g (kept-a g c) (side-a g c) c.close.ensures;
+}
 
 pub returns-in-B-clause-going : goal.returns-in-B-clause-going
 returns-in-B-clause-going g c =
@@ -749,43 +740,49 @@ returns-in-B-clause-going g c =
     on_ok c.close-in-B.result (λ well.
     going-closed B c.args.slot c.args.at c.settle.new.run c.close-in-B.new.run c.settle.new.outcome.breaks c.close-in-B.new.breaks e.closed.0 e.closed.1 (g.M.Medium.state c.settle.new.unit) (g.M.Medium.state c.close-in-B.new.unit) (g.D.Chip.state c.settle.new.card_b) (g.D.Chip.state c.close-in-B.new.card) (g.C.Chip.state c.settle.new.card_a)
     (g.D.Chip.card c.settle.new.card_b) (g.D.Chip.card c.close-in-B.new.card) (g.C.Chip.card c.settle.new.card_a)
-    going (ok_gives c.close-in-B.result e.ready well) e.card (λ card h. ok_gives c.close-in-B.result (e.rows card h) well) (e.stands (ungiven_of going.span) going.cabin))
+    going (ok_gives c.close-in-B.result e.ready well) e.card (λ card h. ok_gives c.close-in-B.result (e.rows card h) well) (e.stands (ungiven_of going.span) going.cabin)
+    (knows-left c.settle.new.run.watch.newest (g.M.Medium.state c.settle.new.unit) (g.M.Medium.state c.close-in-B.new.unit) (g.met.M.Medium.coherent c.settle.new.unit) (g.met.M.Medium.coherent c.close-in-B.new.unit) going.ready.unit_ready.works e.speeds))
 
 pub returns-in-B-clause-takes : goal.returns-in-B-clause-takes
 returns-in-B-clause-takes g c = takes g (kept-b g c) (side-b g c) c.close-in-B.ensures
 
-pub returns-in-B-clause-more : goal.returns-in-B-clause-more
-returns-in-B-clause-more g c = more g (kept-b g c) (side-b g c) c.close-in-B.ensures
+pub returns-in-B-clause-withdrawn : goal.returns-in-B-clause-withdrawn
+returns-in-B-clause-withdrawn g c = record {
+  card = withdrawn g (kept-b g c) (side-b g c) c.close-in-B.ensures;
+  run = only g (kept-b g c) (side-b g c) c.close-in-B.ensures;
+  outcome = rest_ g (kept-b g c) (side-b g c) c.close-in-B.ensures;
+}
 
-pub returns-in-B-clause-cause : goal.returns-in-B-clause-cause
-returns-in-B-clause-cause g c = cause_after c.in_ok-settle.ensures.cause c.close-in-B.ensures.cause
+pub returns-in-B-clause-leaves : goal.returns-in-B-clause-leaves
+returns-in-B-clause-leaves g c = record {
+  booked = booked g (kept-b g c) (side-b g c) c.close-in-B.ensures;
+  events = events g (kept-b g c) (side-b g c) c.close-in-B.ensures;
+  rings = rings_ g (kept-b g c) (side-b g c) c.close-in-B.ensures;
+  shut = shut g (kept-b g c) (side-b g c) c.close-in-B.ensures;
+}
 
-pub returns-in-B-clause-booked : goal.returns-in-B-clause-booked
-returns-in-B-clause-booked g c = booked g (kept-b g c) (side-b g c) c.close-in-B.ensures
+pub returns-in-B-clause-promises : goal.returns-in-B-clause-promises
+returns-in-B-clause-promises g c = record {
+  recorded = λ late speed o done s now front rest are n allowed w time. recorded g (kept-b g c) (side-b g c) c.close-in-B.ensures late speed o done s now front rest are n allowed w time;
+  evented = λ late speed o done s now front rest are n allowed w events time. evented g (kept-b g c) (side-b g c) c.close-in-B.ensures late speed o done s now front rest are n allowed w time events;
+  ringed = λ late speed o done s now front rest are n allowed w spans t rings time. ringed g (kept-b g c) (side-b g c) c.close-in-B.ensures late speed o done s now front rest are n allowed w time spans t rings;
+  cards = λ late speed o done s now front rest are n allowed vehicle w cards time. cards_ g (kept-b g c) (side-b g c) c.close-in-B.ensures late speed o done s now front rest are n allowed w time cards;
+}
 
-pub returns-in-B-clause-events : goal.returns-in-B-clause-events
-returns-in-B-clause-events g c = events g (kept-b g c) (side-b g c) c.close-in-B.ensures
+pub returns-in-B-clause-held : goal.returns-in-B-clause-held
+returns-in-B-clause-held g c = record {
+  held =
+      let e = c.close-in-B.ensures in
+      let going = going-with g (kept-b g c) B c.in-B.is in
+      held-closed B c.args.slot c.args.at c.settle.new.run c.close-in-B.new.run c.settle.new.outcome.breaks c.close-in-B.new.breaks e.closed.0 e.closed.1 (g.M.Medium.state c.settle.new.unit) (g.M.Medium.state c.close-in-B.new.unit) (g.D.Chip.state c.settle.new.card_b) (g.D.Chip.state c.close-in-B.new.card) (g.C.Chip.state c.settle.new.card_a)
+      (g.D.Chip.card c.settle.new.card_b) (g.D.Chip.card c.close-in-B.new.card) (g.C.Chip.card c.settle.new.card_a)
+      (at-then g (kept-b g c)) c.settle.ensures.held e.unit e.card e.size (ungiven_of going.span, None, e.stands (ungiven_of going.span) going.cabin);
+  cause = cause_after c.in_ok-settle.ensures.behind.cause c.close-in-B.ensures.cause;
+}
 
-pub returns-in-B-clause-rings : goal.returns-in-B-clause-rings
-returns-in-B-clause-rings g c = rings_ g (kept-b g c) (side-b g c) c.close-in-B.ensures
-
-pub returns-in-B-clause-shut : goal.returns-in-B-clause-shut
-returns-in-B-clause-shut g c = shut g (kept-b g c) (side-b g c) c.close-in-B.ensures
-
-pub returns-in-B-clause-later : goal.returns-in-B-clause-later
-returns-in-B-clause-later g c = later g (kept-b g c) (side-b g c) c.close-in-B.ensures
-
-pub returns-in-B-clause-calm : goal.returns-in-B-clause-calm
-returns-in-B-clause-calm g c = calm g (kept-b g c) (side-b g c) c.close-in-B.ensures
-
-pub returns-in-B-clause-recorded : goal.returns-in-B-clause-recorded
-returns-in-B-clause-recorded g c = λ late speed o done s now front rest are n allowed w time. recorded g (kept-b g c) (side-b g c) c.close-in-B.ensures late speed o done s now front rest are n allowed w time
-
-pub returns-in-B-clause-evented : goal.returns-in-B-clause-evented
-returns-in-B-clause-evented g c = λ late speed o done s now front rest are n allowed w events time. evented g (kept-b g c) (side-b g c) c.close-in-B.ensures late speed o done s now front rest are n allowed w time events
-
-pub returns-in-B-clause-ringed : goal.returns-in-B-clause-ringed
-returns-in-B-clause-ringed g c = λ late speed o done s now front rest are n allowed w spans t rings time. ringed g (kept-b g c) (side-b g c) c.close-in-B.ensures late speed o done s now front rest are n allowed w time spans t rings
-
-pub returns-in-B-clause-cards : goal.returns-in-B-clause-cards
-returns-in-B-clause-cards g c = λ late speed o done s now front rest are n allowed vehicle w cards time. cards_ g (kept-b g c) (side-b g c) c.close-in-B.ensures late speed o done s now front rest are n allowed w time cards
+pub returns-in-B-clause-goes : goal.returns-in-B-clause-goes
+returns-in-B-clause-goes g c = record {
+  later = later g (kept-b g c) (side-b g c) c.close-in-B.ensures;
+  calm = calm g (kept-b g c) (side-b g c) c.close-in-B.ensures;
+  more = more g (kept-b g c) (side-b g c) c.close-in-B.ensures;
+}

@@ -140,26 +140,6 @@ returns-in_default-clause-clock g c = c.tear.ensures.journal.later
 pub returns-in-Err-clause-clock : goal.returns-in-Err-clause-clock
 returns-in-Err-clause-clock g c = c.refuse.ensures.journal.later
 
-pub returns-in_default-clause-clock_card : goal.returns-in_default-clause-clock_card
-returns-in_default-clause-clock_card g c = let same = c.wake.ensures.clock in omega (arith, same)
-
-pub returns-in-Ok-sizes-clause-clock_card : goal.returns-in-Ok-sizes-clause-clock_card
-returns-in-Ok-sizes-clause-clock_card g c = let same = c.wake.ensures.clock in let later = c.accept_by.ensures.clock_card in omega (arith, same, later)
-
-pub returns-in-Err-clause-clock_card : goal.returns-in-Err-clause-clock_card
-returns-in-Err-clause-clock_card g c = let same = c.wake.ensures.clock in omega (arith, same)
-
--- ---- how often it broke down
-
-pub returns-in_default-clause-more : goal.returns-in_default-clause-more
-returns-in_default-clause-more g c = c.in_default.ensures.cause.breakdowns
-
-pub returns-in-Ok-sizes-clause-more : goal.returns-in-Ok-sizes-clause-more
-returns-in-Ok-sizes-clause-more g c = let first = c.in-Ok.ensures.cause.breakdowns in let next = c.accept_by.ensures.more in omega (arith, first, next)
-
-pub returns-in-Err-clause-more : goal.returns-in-Err-clause-more
-returns-in-Err-clause-more g c = c.in-Ok.ensures.cause.breakdowns
-
 -- ---- a card that was written told of no later time
 
 pub returns-in_default-clause-in_time : goal.returns-in_default-clause-in_time

@@ -120,38 +120,6 @@ returns-in-Err-NotValid-clause-clock g c = let same = c.in-Err-NotValid.ensures.
 pub returns-in-Err-TimeOverlap-clause-clock : goal.returns-in-Err-TimeOverlap-clause-clock
 returns-in-Err-TimeOverlap-clause-clock g c = let same = c.in-Err-TimeOverlap.ensures.enters.unit.clock in let later = c.defer.ensures.journal.later in omega (arith, same, later)
 
-pub returns-in-Ok-clause-clock_card : goal.returns-in-Ok-clause-clock_card
-returns-in-Ok-clause-clock_card g c = let first = c.enter.ensures.leaves.later in let next = c.take_in.ensures.ended.3.later in omega (arith, first, next)
-
-pub returns-in-Err-UnitFailed-clause-clock_card : goal.returns-in-Err-UnitFailed-clause-clock_card
-returns-in-Err-UnitFailed-clause-clock_card g c = c.enter.ensures.leaves.later
-
-pub returns-in-Err-CardFailed-clause-clock_card : goal.returns-in-Err-CardFailed-clause-clock_card
-returns-in-Err-CardFailed-clause-clock_card g c = c.enter.ensures.leaves.later
-
-pub returns-in-Err-NotValid-clause-clock_card : goal.returns-in-Err-NotValid-clause-clock_card
-returns-in-Err-NotValid-clause-clock_card g c = c.enter.ensures.leaves.later
-
-pub returns-in-Err-TimeOverlap-clause-clock_card : goal.returns-in-Err-TimeOverlap-clause-clock_card
-returns-in-Err-TimeOverlap-clause-clock_card g c = c.enter.ensures.leaves.later
-
--- ---- how often it broke down
-
-pub returns-in-Ok-clause-more : goal.returns-in-Ok-clause-more
-returns-in-Ok-clause-more g c = let first = c.in-Ok.ensures.enters.cause.breakdowns in let next = c.take_in.ensures.more in omega (arith, first, next)
-
-pub returns-in-Err-UnitFailed-clause-more : goal.returns-in-Err-UnitFailed-clause-more
-returns-in-Err-UnitFailed-clause-more g c = c.in-Err-UnitFailed.ensures.enters.cause.breakdowns
-
-pub returns-in-Err-CardFailed-clause-more : goal.returns-in-Err-CardFailed-clause-more
-returns-in-Err-CardFailed-clause-more g c = c.in-Err-CardFailed.ensures.enters.cause.breakdowns
-
-pub returns-in-Err-NotValid-clause-more : goal.returns-in-Err-NotValid-clause-more
-returns-in-Err-NotValid-clause-more g c = c.in-Err-NotValid.ensures.enters.cause.breakdowns
-
-pub returns-in-Err-TimeOverlap-clause-more : goal.returns-in-Err-TimeOverlap-clause-more
-returns-in-Err-TimeOverlap-clause-more g c = c.in-Err-TimeOverlap.ensures.enters.cause.breakdowns
-
 -- ---- a card that was written told of no later time
 
 pub returns-in-Ok-clause-in_time : goal.returns-in-Ok-clause-in_time

@@ -99,18 +99,6 @@ returns-clause-timed g c = elim c.if-entering-gt0.branch [
   | else-entering-gt0 w ↦ rw w.card-is (λ f wc a may. beside-none f c.args.entering.which (g.C.Chip.state c.args.card.now))
 ]
 
-pub returns-then-session-eq0-clause-more : goal.returns-then-session-eq0-clause-more
-returns-then-session-eq0-clause-more g c = elim c.if-entering-gt0.branch [
-  | then-entering-gt0+in_ok-note_moving w ↦ rw w.card-is w.in_ok-note_moving.ensures.more
-  | else-entering-gt0 w ↦ rw w.card-is (omega arith)
-]
-
-pub returns-clause-more : goal.returns-clause-more
-returns-clause-more g c = elim c.if-entering-gt0.branch [
-  | then-entering-gt0+in_ok-note_moving w ↦ rw w.card-is w.in_ok-note_moving.ensures.more
-  | else-entering-gt0 w ↦ rw w.card-is (omega arith)
-]
-
 -- ---- what holds of the devices after any calls
 
 pub returns-in_err-note_moving-clause-later : goal.returns-in_err-note_moving-clause-later

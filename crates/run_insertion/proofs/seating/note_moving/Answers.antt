@@ -72,17 +72,6 @@ returns-in-Ok-clause-timed g c = λ f w a m. booked.moved-timed f w c.args.app a
 pub returns-in-Err-clause-timed : goal.returns-in-Err-clause-timed
 returns-in-Err-clause-timed g c = λ f w a m. booked.moved-timed f w c.args.app a c.args.entering c.args.keeper.now (g.M.Medium.state c.args.unit.now) (g.M.Medium.state c.note_driving.new.unit) (g.C.Chip.state c.args.card.now) (g.D.Chip.state c.args.others.now) m (g.met.M.Medium.coherent c.args.unit.now) c.note_driving.ensures.journal c.in_ok-note_driving.ensures.cause (g.met.M.Medium.coherent c.note_driving.new.unit) (g.met.C.Chip.coherent c.args.card.now) (g.C.Chip.state c.note_event_on.new.card) (g.met.C.Chip.coherent c.note_event_on.new.card) c.on_card-event.result c.note_event_on.ensures.moments
 
--- ---- how often it broke down
-
-pub returns-in_err-note_driving-clause-more : goal.returns-in_err-note_driving-clause-more
-returns-in_err-note_driving-clause-more g c = omega arith
-
-pub returns-in-Ok-clause-more : goal.returns-in-Ok-clause-more
-returns-in-Ok-clause-more g c = c.in-Ok.ensures.cause.breakdowns
-
-pub returns-in-Err-clause-more : goal.returns-in-Err-clause-more
-returns-in-Err-clause-more g c = c.in-Err.ensures.cause.breakdowns
-
 -- ---- what holds of the devices after any calls
 
 pub returns-in_err-note_driving-clause-later : goal.returns-in_err-note_driving-clause-later

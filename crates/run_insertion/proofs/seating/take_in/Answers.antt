@@ -83,12 +83,6 @@ returns-clause-stands g c = λ from le s.
     let same = seated-minute c.args.entered.look c.args.entered.session c.args.entered.row c.args.entering false c.args.keeper.now c.seat.new.keeper c.args.noted.now c.seat.new.noted (g.M.Medium.state c.args.unit.now).image t.0 t.1.by in
     c.note_entered.ensures.stands from (subst (λ (m : ℕ). m ≤ from) (sym same) le) (c.in_ok-seat.ensures.stands from le s)
 
-pub returns-in_err-seat-clause-more : goal.returns-in_err-seat-clause-more
-returns-in_err-seat-clause-more g c = omega arith
-
-pub returns-clause-more : goal.returns-clause-more
-returns-clause-more g c = c.note_entered.ensures.more
-
 pub returns-in_err-seat-clause-most : goal.returns-in_err-seat-clause-most
 returns-in_err-seat-clause-most g c = c.tell_replayed.ensures.most
 

@@ -15,8 +15,9 @@ use Rattle.run_minutes.proofs.Units.{unit-stays}
 use Rattle.tach_media.proofs.Runs.{ok_gives, starts}
 use Rattle.run_minutes.proofs.Fates.{nobody-brought}
 use Rattle.run_minutes.proofs.Brought.{brought-booked, nobody-booked}
+use Rattle.run_speeds.proofs.Leaving.{leaves-none}
 use Rattle.run_minutes.proofs.Speeds.{fault-leaves}
-use Rattle.run_minutes.proofs.Later.{state-by, later-of-a, later-of-b}
+use Rattle.run_minutes.proofs.Later.{state-by, after-of-a, after-of-b}
 use Rattle.run_minutes.proofs.Calm.{brought-calm, calm-of-a, calm-of-b}
 use Rattle.run_minutes.proofs.Rests.{brought-rests, rest-of-a, rest-of-b}
 use Rattle.run_minutes.proofs.keeper.Keeper.bring.Goals as goal
@@ -94,7 +95,7 @@ returns-in-Some-A-clause-goes g c =
     let rests : (session_of c.args.self.now.cabin.cards A ≡ None) → Y.breakdowns ≡ X.breakdowns = λ none. ap (λ (s : State). s.breakdowns) (ap g.C.Chip.state (e.bare none)) in
     goes_of_a c.args.kept.now c.args.at (is_err c.bring_to.result) c.args.self.now c.bring_to.new.self c.args.marks.now c.bring_to.new.marks c.args.breaks.now c.bring_to.new.breaks e.brought.0 U V X Y Z (g.C.Chip.card c.args.card_a.now) (g.C.Chip.card c.bring_to.new.card) (g.D.Chip.card c.args.card_b.now)
     e.journal.keeps e.journal.tells b (record { size = e.size; tells = e.tells; keeps = e.card_keeps; broken = e.broken })
-    (later-of-a U V X Y Z (state-by U V (is_err c.bring_to.result) e.journal.later e.cause) e.later (fault-leaves e.brought.0 c.args.at.second (crew_of c.bring_to.new.self.cabin) U V (g.met.M.Medium.coherent c.args.unit.now) e.brought.2))
+    (after-of-a U V X Y Z (state-by U V (is_err c.bring_to.result) e.journal.later e.cause) e.later)
     (calm-of-a U V X Y Z (brought-calm A _ _ _ _ _ _ _ _ _ _ _ _ _ _ b rests))
     (rest-of-a c.args.self.now.cabin.cards c.bring_to.new.self.cabin.cards U V X Y Z (brought-rests A _ _ _ _ _ _ _ _ _ _ _ _ _ _ b rests))
 
@@ -110,9 +111,24 @@ returns-in-Some-B-clause-goes g c =
     let rests : (session_of c.args.self.now.cabin.cards B ≡ None) → Y.breakdowns ≡ X.breakdowns = λ none. ap (λ (s : State). s.breakdowns) (ap g.D.Chip.state (e.bare none)) in
     goes_of_b c.args.kept.now c.args.at (is_err c.bring_to-in-Some-B.result) c.args.self.now c.bring_to-in-Some-B.new.self c.args.marks.now c.bring_to-in-Some-B.new.marks c.args.breaks.now c.bring_to-in-Some-B.new.breaks e.brought.0 U V X Y Z (g.D.Chip.card c.args.card_b.now) (g.D.Chip.card c.bring_to-in-Some-B.new.card) (g.C.Chip.card c.args.card_a.now)
     e.journal.keeps e.journal.tells b (record { size = e.size; tells = e.tells; keeps = e.card_keeps; broken = e.broken })
-    (later-of-b U V Z X Y (state-by U V (is_err c.bring_to-in-Some-B.result) e.journal.later e.cause) e.later (fault-leaves e.brought.0 c.args.at.second (crew_of c.bring_to-in-Some-B.new.self.cabin) U V (g.met.M.Medium.coherent c.args.unit.now) e.brought.2))
+    (after-of-b U V Z X Y (state-by U V (is_err c.bring_to-in-Some-B.result) e.journal.later e.cause) e.later)
     (calm-of-b U V Z X Y (brought-calm B _ _ _ _ _ _ _ _ _ _ _ _ _ _ b rests))
     (rest-of-b c.args.self.now.cabin.cards c.bring_to-in-Some-B.new.self.cabin.cards U V Z X Y (brought-rests B _ _ _ _ _ _ _ _ _ _ _ _ _ _ b rests))
+
+-- ---- the detailed speed stays
+
+pub returns-in-None-clause-speeds : goal.returns-in-None-clause-speeds
+returns-in-None-clause-speeds g c = leaves-none (g.M.Medium.state c.args.unit.now)
+
+pub returns-in-Some-A-clause-speeds : goal.returns-in-Some-A-clause-speeds
+returns-in-Some-A-clause-speeds g c =
+    let was = c.bring_to.ensures.brought in
+    fault-leaves was.0 c.args.at.second (crew_of c.bring_to.new.self.cabin) (g.M.Medium.state c.args.unit.now) (g.M.Medium.state c.bring_to.new.unit) (g.met.M.Medium.coherent c.args.unit.now) was.2
+
+pub returns-in-Some-B-clause-speeds : goal.returns-in-Some-B-clause-speeds
+returns-in-Some-B-clause-speeds g c =
+    let was = c.bring_to-in-Some-B.ensures.brought in
+    fault-leaves was.0 c.args.at.second (crew_of c.bring_to-in-Some-B.new.self.cabin) (g.M.Medium.state c.args.unit.now) (g.M.Medium.state c.bring_to-in-Some-B.new.unit) (g.met.M.Medium.coherent c.args.unit.now) was.2
 
 -- ---- how it stands
 

@@ -1,132 +1,81 @@
--- Each clause follows from one of `keep_decided`.
-use Rattle.tach_media.proofs.Runs.{on_ok}
+use Rattle.std.proofs.Common.{rules, ◌≡◌, true, refl, arith}
+use Rattle.std.specs.Prelude.{is_err}
+use Rattle.run_speeds.proofs.Leaving.{leaves-none, leaves-then}
+use Rattle.run_minutes.proofs.Goes.{bare-none, bare-then, keeping_then, stands_then, stands_by}
+use Rattle.run_minutes.proofs.SoFar.{so-none, so-all, so-more, so-cut, may-next, stands-next, ended-next}
 use Rattle.run_minutes.proofs.keeper.Keeper.keep_all.Goals as goal
 
-pub keep_decided-requires-clause-may : goal.keep_decided-requires-clause-may
-keep_decided-requires-clause-may g c =
-    let r = c.requires in
+pub loop-minute-init : goal.loop-minute-init
+loop-minute-init g c = record {
+  so = so-none c.args.decided.now c.args.at c.requires.may c.requires.ready;
+  speeds = leaves-none (g.M.Medium.state c.args.unit.now);
+  bare = bare-none c.args.self.now.cabin.cards c.args.card_a.now c.args.card_b.now;
+}
+
+pub present-present-requires : goal.present-present-requires
+present-present-requires g c = record { ended = ended-next c.args.decided.now c.args.at c.requires.may c.loop-minute.minute-index c.loop-minute.invariant.so c.loop-minute-test.true }
+
+pub kept_of-kept-requires : goal.kept_of-kept-requires
+kept_of-kept-requires g c = let same = c.loop-minute.invariant.so.goes.odometer in let low = c.requires.may.odometer in omega (arith, same, low)
+
+pub keep_minute-requires-clause-ready : goal.keep_minute-requires-clause-ready
+keep_minute-requires-clause-ready g c = c.loop-minute.invariant.so.behind.ready refl
+
+pub keep_minute-requires-clause-may : goal.keep_minute-requires-clause-may
+keep_minute-requires-clause-may g c =
+    let so = c.loop-minute.invariant.so in
+    let low = c.loop-minute-test.true in
+    let i = c.loop-minute.minute-index in
+    may-next c.args.decided.now c.args.at c.requires.may i so low c.present-present.result c.present-present.ensures.present c.kept_of-kept.ensures
+    (c.present-present.ensures.stands _ c.requires.may.leaving (omega arith) (stands-next c.args.decided.now c.args.at c.requires.may i so low))
+
+pub loop-minute-preserved : goal.loop-minute-preserved
+loop-minute-preserved g c =
+    let so = c.loop-minute.invariant.so in
+    let e = c.in_ok-keep_minute.ensures in
     record {
-      due = r.due;
-      ended = r.ended;
-      rows = r.rows;
-      from = r.stands.0;
-      leaving = r.stands.1;
-      late = r.stands.2;
-      stands = r.stands.3;
-      odometer = r.odometer;
-      minute = r.minute;
-      second = r.second;
-      marks = r.marks;
-      breaks = r.breaks;
+      so = so-more c.args.decided.now c.args.at c.requires.may c.loop-minute.minute-index so c.loop-minute-test.true c.present-present.result c.present-present.ensures.present c.kept_of-kept.ensures e.goes e.stands e.kept;
+      speeds = leaves-then (g.M.Medium.state c.args.unit.now) (g.M.Medium.state c.loop-minute.unit) (g.M.Medium.state c.keep_minute.new.unit) c.loop-minute.invariant.speeds e.speeds;
+      bare = bare-then c.args.self.now.cabin.cards c.loop-minute.self.cabin.cards c.args.card_a.now c.loop-minute.card_a c.keep_minute.new.card_a c.args.card_b.now c.loop-minute.card_b c.keep_minute.new.card_b so.goes.sessions c.loop-minute.invariant.bare e.calls.bare;
     }
 
-pub returns-clause-kept : goal.returns-clause-kept
-returns-clause-kept g c = c.keep_decided.ensures.kept.kept
-
-pub returns-clause-booked : goal.returns-clause-booked
-returns-clause-booked g c = let e = c.keep_decided.ensures.kept in (e.reach, e.is, e.books, e.noted)
-
-pub returns-clause-unit : goal.returns-clause-unit
-returns-clause-unit g c = c.keep_decided.ensures.stands.unit
-
-pub returns-clause-more : goal.returns-clause-more
-returns-clause-more g c = c.keep_decided.ensures.goes.all.more
-
-pub returns-clause-ready : goal.returns-clause-ready
-returns-clause-ready g c = on_ok c.keep_decided.result (λ well. c.keep_decided.ensures.stands.ready well)
-
-pub returns-clause-rows : goal.returns-clause-rows
-returns-clause-rows g c = λ card h. on_ok c.keep_decided.result (λ well. c.keep_decided.ensures.stands.rows well card h)
-
-pub returns-clause-same : goal.returns-clause-same
-returns-clause-same g c = let e = c.keep_decided.ensures.goes in (e.memory, e.odometer, e.past)
-
-pub returns-clause-minute : goal.returns-clause-minute
-returns-clause-minute g c = c.keep_decided.ensures.stands.minute
-
-pub returns-clause-last : goal.returns-clause-last
-returns-clause-last g c = on_ok c.keep_decided.result (λ well. c.keep_decided.ensures.kept.last well)
+-- ---- all of them are kept
 
 pub returns-clause-stands : goal.returns-clause-stands
-returns-clause-stands g c = c.keep_decided.ensures.kept.stands
+returns-clause-stands g c = c.loop-minute.invariant.so.behind
 
-pub returns-clause-seats : goal.returns-clause-seats
-returns-clause-seats g c = c.keep_decided.ensures.goes.seats
+pub returns-clause-goes : goal.returns-clause-goes
+returns-clause-goes g c = c.loop-minute.invariant.so.goes
 
-pub returns-clause-sessions : goal.returns-clause-sessions
-returns-clause-sessions g c = c.keep_decided.ensures.goes.sessions
+pub returns-clause-kept : goal.returns-clause-kept
+returns-clause-kept g c = so-all c.args.decided.now c.args.at c.requires.may c.loop-minute.minute-index c.loop-minute.invariant.so (omega (arith, c.loop-minute-test.false))
 
-pub returns-clause-card_a : goal.returns-clause-card_a
-returns-clause-card_a g c = c.keep_decided.ensures.stands.card_a
+pub returns-clause-speeds : goal.returns-clause-speeds
+returns-clause-speeds g c = c.loop-minute.invariant.speeds
 
-pub returns-clause-card_b : goal.returns-clause-card_b
-returns-clause-card_b g c = c.keep_decided.ensures.stands.card_b
+pub returns-clause-bare : goal.returns-clause-bare
+returns-clause-bare g c = c.loop-minute.invariant.bare
 
-pub returns-clause-size_a : goal.returns-clause-size_a
-returns-clause-size_a g c = c.keep_decided.ensures.goes.card_a.size
+-- ---- the unit failed
 
-pub returns-clause-size_b : goal.returns-clause-size_b
-returns-clause-size_b g c = c.keep_decided.ensures.goes.card_b.size
+pub returns-in_err-keep_minute-clause-stands : goal.returns-in_err-keep_minute-clause-stands
+returns-in_err-keep_minute-clause-stands g c =
+    let failed : true ≡ is_err c.from_residual.result = search rules in
+    stands_by failed (stands_then c.loop-minute.invariant.so.behind c.in_err-keep_minute.ensures.stands)
 
-pub returns-clause-clock_a : goal.returns-clause-clock_a
-returns-clause-clock_a g c = c.keep_decided.ensures.goes.all.later.card_a.clock
+pub returns-in_err-keep_minute-clause-goes : goal.returns-in_err-keep_minute-clause-goes
+returns-in_err-keep_minute-clause-goes g c = keeping_then c.loop-minute.invariant.so.goes c.in_err-keep_minute.ensures.goes
 
-pub returns-clause-clock_b : goal.returns-clause-clock_b
-returns-clause-clock_b g c = c.keep_decided.ensures.goes.all.later.card_b.clock
+pub returns-in_err-keep_minute-clause-kept : goal.returns-in_err-keep_minute-clause-kept
+returns-in_err-keep_minute-clause-kept g c =
+    let failed : true ≡ is_err c.from_residual.result = search rules in
+    let e = c.in_err-keep_minute.ensures in
+    so-cut c.args.decided.now c.args.at c.requires.may c.loop-minute.minute-index c.loop-minute.invariant.so c.loop-minute-test.true c.present-present.result c.present-present.ensures.present failed c.kept_of-kept.ensures e.goes e.kept
 
-pub returns-clause-unit_keeps : goal.returns-clause-unit_keeps
-returns-clause-unit_keeps g c = c.keep_decided.ensures.goes.unit_keeps
+pub returns-in_err-keep_minute-clause-speeds : goal.returns-in_err-keep_minute-clause-speeds
+returns-in_err-keep_minute-clause-speeds g c =
+    leaves-then (g.M.Medium.state c.args.unit.now) (g.M.Medium.state c.loop-minute.unit) (g.M.Medium.state c.keep_minute.new.unit) c.loop-minute.invariant.speeds c.in_err-keep_minute.ensures.speeds
 
-pub returns-clause-a_keeps : goal.returns-clause-a_keeps
-returns-clause-a_keeps g c = c.keep_decided.ensures.goes.card_a.keeps
-
-pub returns-clause-b_keeps : goal.returns-clause-b_keeps
-returns-clause-b_keeps g c = c.keep_decided.ensures.goes.card_b.keeps
-
-pub returns-clause-tells_a : goal.returns-clause-tells_a
-returns-clause-tells_a g c = c.keep_decided.ensures.goes.card_a.tells
-
-pub returns-clause-tells_b : goal.returns-clause-tells_b
-returns-clause-tells_b g c = c.keep_decided.ensures.goes.card_b.tells
-
-pub returns-clause-more_a : goal.returns-clause-more_a
-returns-clause-more_a g c = c.keep_decided.ensures.goes.all.later.card_a.breakdowns
-
-pub returns-clause-more_b : goal.returns-clause-more_b
-returns-clause-more_b g c = c.keep_decided.ensures.goes.all.later.card_b.breakdowns
-
-pub returns-clause-a_bare : goal.returns-clause-a_bare
-returns-clause-a_bare g c = c.keep_decided.ensures.bare.card_a
-
-pub returns-clause-b_bare : goal.returns-clause-b_bare
-returns-clause-b_bare g c = c.keep_decided.ensures.bare.card_b
-
-pub returns-clause-marks : goal.returns-clause-marks
-returns-clause-marks g c = (c.keep_decided.ensures.goes.all.mark_room, c.keep_decided.ensures.kept.marks)
-
-pub returns-clause-breaks : goal.returns-clause-breaks
-returns-clause-breaks g c = (c.keep_decided.ensures.goes.all.break_room, c.keep_decided.ensures.goes.tears)
-
-pub returns-clause-a_broken : goal.returns-clause-a_broken
-returns-clause-a_broken g c = c.keep_decided.ensures.goes.card_a.broken
-
-pub returns-clause-b_broken : goal.returns-clause-b_broken
-returns-clause-b_broken g c = c.keep_decided.ensures.goes.card_b.broken
-
-pub returns-clause-clock : goal.returns-clause-clock
-returns-clause-clock g c = c.keep_decided.ensures.goes.all.later.unit.clock
-
-pub returns-clause-tells : goal.returns-clause-tells
-returns-clause-tells g c = c.keep_decided.ensures.goes.unit_tells
-
-pub returns-clause-cause : goal.returns-clause-cause
-returns-clause-cause g c = c.keep_decided.ensures.stands.cause
-
-pub returns-clause-later : goal.returns-clause-later
-returns-clause-later g c = let e = c.keep_decided.ensures.goes in record { unit = e.all.later.unit; card_a = e.all.later.card_a; card_b = e.all.later.card_b; speeds = e.speeds }
-
-pub returns-clause-calm : goal.returns-clause-calm
-returns-clause-calm g c = c.keep_decided.ensures.goes.all.calm
-
-pub returns-clause-rests : goal.returns-clause-rests
-returns-clause-rests g c = c.keep_decided.ensures.goes.rests
+pub returns-in_err-keep_minute-clause-bare : goal.returns-in_err-keep_minute-clause-bare
+returns-in_err-keep_minute-clause-bare g c =
+    bare-then c.args.self.now.cabin.cards c.loop-minute.self.cabin.cards c.args.card_a.now c.loop-minute.card_a c.keep_minute.new.card_a c.args.card_b.now c.loop-minute.card_b c.keep_minute.new.card_b c.loop-minute.invariant.so.goes.sessions c.loop-minute.invariant.bare c.in_err-keep_minute.ensures.calls.bare

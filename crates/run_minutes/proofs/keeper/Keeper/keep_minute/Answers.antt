@@ -21,7 +21,7 @@ use Rattle.run_minutes.proofs.Counts.{tears-one, lines-length, first-stays, seco
 use Rattle.run_minutes.proofs.Rounds.{told-of, told-same, brought-minute, brought-tears, brought-tear-room, brought-marks, brought-mark-room, cut-is, cut-told, whole-driver, whole-codriver, whole-is, whole-told}
 use Rattle.run_minutes.proofs.Units.{unit-stays}
 use Rattle.run_minutes.proofs.Seats.{stays-none, other-behind}
-use Rattle.run_minutes.proofs.Later.{state-by}
+use Rattle.run_speeds.proofs.Leaving.{leaves-then}
 use Rattle.run_crew.specs.declared.cards.Cards.{Cards}
 use Rattle.run_minutes.specs.Kept.{Keeps}
 use Rattle.run_minutes.specs.Stand.{StandsAfter, KeepingGoes, standing}
@@ -50,7 +50,7 @@ returns-in_err-commit-clause-kept g c =
       round = None;
       is = (refl, told-same c.commit.new.self k c.commit.new.marks c.args.marks.now c.args.breaks.now c.args.breaks.now keeper same.1 refl);
       books = λ says. λ f w start v leg may gone odometer time. (c.in_err-commit.ensures.booked says f w start v leg (record { booked = may.booked; comes = may.comes }) gone odometer time.unit, timed-at f U V X Y (devices V X Y) (λ card valid. stays-self (found_of f card) (card_of (devices V X Y) card)), λ well. absurd (cc));
-      noted = c.in_err-commit.ensures.quiet;
+      noted = c.in_err-commit.ensures.goes.quiet;
       last = λ well. absurd (cc);
       marks = omega (arith, few);
       stands = λ from leaving le h. subst (λ (q : Keeper). CabinIsSound (m.minute + 1) leaving q.cabin) (sym c.commit.ensures.keeper) (stands-later from (m.minute + 1) le leaving k.cabin h);
@@ -64,23 +64,28 @@ returns-in_err-commit-clause-stands g c =
     let s = standing c.args.self.now c.args.marks.now c.args.breaks.now (g.M.Medium.state c.args.unit.now) (g.C.Chip.state c.args.card_a.now) (g.D.Chip.state c.args.card_b.now) (g.C.Chip.card c.args.card_a.now) (g.D.Chip.card c.args.card_b.now) in
     let t = standing c.commit.new.self c.commit.new.marks c.args.breaks.now (g.M.Medium.state c.commit.new.unit) (g.C.Chip.state c.args.card_a.now) (g.D.Chip.state c.args.card_b.now) (g.C.Chip.card c.args.card_a.now) (g.D.Chip.card c.args.card_b.now) in
     subst (λ (f : Bool). StandsAfter c.args.at f s t) failed (record {
-      unit = c.commit.ensures.unit;
+      unit = c.commit.ensures.stands.unit;
       card_a = subst (λ (q : Keeper). CardMayBeCalled q.cabin.cards.a (g.C.Chip.card c.args.card_a.now) X) (sym c.commit.ensures.keeper) c.requires.ready.card_a;
       card_b = subst (λ (q : Keeper). CardMayBeCalled q.cabin.cards.b (g.D.Chip.card c.args.card_b.now) Y) (sym c.commit.ensures.keeper) c.requires.ready.card_b;
       minute = subst (λ (q : Keeper). q.cabin.slots.minute ≤ c.args.at.second / 60) (sym c.commit.ensures.keeper) c.requires.may.early;
-      cause = c.in_err-commit.ensures.cause;
+      cause = c.in_err-commit.ensures.goes.cause;
       ready = λ well. absurd (cc);
       rows = λ well card h. absurd (cc);
     })
 
 pub returns-in_err-commit-clause-goes : goal.returns-in_err-commit-clause-goes
 returns-in_err-commit-clause-goes g c =
-    let U = g.M.Medium.state c.args.unit.now in
-    let V = g.M.Medium.state c.commit.new.unit in
-    goes_of_unit c.args.self.now c.commit.new.self c.args.marks.now c.commit.new.marks c.args.breaks.now U V (g.C.Chip.state c.args.card_a.now) (g.D.Chip.state c.args.card_b.now) (g.C.Chip.card c.args.card_a.now) (g.D.Chip.card c.args.card_b.now)
-    c.commit.ensures.keeper (ap (λ (l : Listed Mark). l.room) c.in_err-commit.ensures.same.1) c.commit.ensures.unit_keeps c.commit.ensures.tells (state-by U V (is_err c.commit.result) c.commit.ensures.clock c.commit.ensures.cause) c.commit.ensures.speeds
+    goes_of_unit c.args.self.now c.commit.new.self c.args.marks.now c.commit.new.marks c.args.breaks.now (g.C.Chip.state c.args.card_a.now) (g.D.Chip.state c.args.card_b.now) (g.C.Chip.card c.args.card_a.now) (g.D.Chip.card c.args.card_b.now)
+    c.commit.ensures.keeper (ap (λ (l : Listed Mark). l.room) c.in_err-commit.ensures.same.1) c.commit.ensures.goes
 
 -- ---- what each entry asks
+
+pub bring-requires-clause-ready : goal.bring-requires-clause-ready
+bring-requires-clause-ready g c = record {
+  unit_ready = c.in_ok-commit.ensures.stands.ready refl;
+  card_a = subst (λ (q : Keeper). CardMayBeCalled q.cabin.cards.a (g.C.Chip.card c.args.card_a.now) (g.C.Chip.state c.args.card_a.now)) (sym c.commit.ensures.keeper) c.requires.ready.card_a;
+  card_b = subst (λ (q : Keeper). CardMayBeCalled q.cabin.cards.b (g.D.Chip.card c.args.card_b.now) (g.D.Chip.state c.args.card_b.now)) (sym c.commit.ensures.keeper) c.requires.ready.card_b;
+}
 
 pub bring-requires-clause-behind : goal.bring-requires-clause-behind
 bring-requires-clause-behind g c =
@@ -140,7 +145,7 @@ returns-in_err-bring-clause-kept g c =
       books = λ says. booked-cut m p says c.requires.may.kept.apart k c.commit.new.self c.args.marks.now c.commit.new.marks c.args.breaks.now (ap (λ (q : Keeper). q.cabin.cards) c.commit.ensures.keeper) (g.M.Medium.state c.args.unit.now) U A0 B0
           (c.in_ok-commit.ensures.booked says) true was.0 c.bring.new.self c.args.at.second b.keeper V A1 B1 first refl (g.met.M.Medium.coherent c.commit.new.unit) c.bring.ensures.journal (told-of c.bring.new.self c.bring.new.marks c.bring.new.breaks)
           (record { journal = c.commit.new.self.journal; clock = clock; driver = was.0; codriver = Still }) refl refl refl;
-      noted = round-cut p c.args.at (record { journal = c.commit.new.self.journal; clock = clock; driver = was.0; codriver = Still }) k.cabin (g.M.Medium.state c.args.unit.now) U V refl c.in_ok-commit.ensures.quiet
+      noted = round-cut p c.args.at (record { journal = c.commit.new.self.journal; clock = clock; driver = was.0; codriver = Still }) k.cabin (g.M.Medium.state c.args.unit.now) U V refl c.in_ok-commit.ensures.goes.quiet
           (brought-notes p.driver (kept_in m Driver) c.args.at true c.commit.new.self c.bring.new.self c.commit.new.marks c.bring.new.marks c.args.breaks.now c.bring.new.breaks was.0 U V X Y b
           (g.met.M.Medium.coherent c.commit.new.unit) (g.met.M.Medium.coherent c.bring.new.unit) was.2 c.in_err-bring.ensures.stands.cause k.cabin (ap (λ (q : Keeper). q.cabin) c.commit.ensures.keeper));
       last = λ well. absurd (cc);
@@ -155,23 +160,21 @@ returns-in_err-bring-clause-stands g c =
     let s = standing c.args.self.now c.args.marks.now c.args.breaks.now (g.M.Medium.state c.args.unit.now) (g.C.Chip.state c.args.card_a.now) (g.D.Chip.state c.args.card_b.now) (g.C.Chip.card c.args.card_a.now) (g.D.Chip.card c.args.card_b.now) in
     let u = standing c.bring.new.self c.bring.new.marks c.bring.new.breaks (g.M.Medium.state c.bring.new.unit) (g.C.Chip.state c.bring.new.card_a) (g.D.Chip.state c.bring.new.card_b) (g.C.Chip.card c.bring.new.card_a) (g.D.Chip.card c.bring.new.card_b) in
     subst (λ (f : Bool). StandsAfter c.args.at f s u) failed (record {
-      unit = unit-stays c.bring.ensures.journal c.commit.ensures.unit;
+      unit = unit-stays c.bring.ensures.journal c.commit.ensures.stands.unit;
       card_a = c.bring.ensures.stands.card_a;
       card_b = c.bring.ensures.stands.card_b;
       minute = brought-minute _ _ _ _ _ _ _ _ _ _ _ _ _ _ _ c.bring.ensures.brought.1 (subst (λ (q : Keeper). q.cabin.slots.minute ≤ c.args.at.second / 60) (sym c.commit.ensures.keeper) c.requires.may.early);
-      cause = cause_after c.in_ok-commit.ensures.cause c.in_err-bring.ensures.stands.cause;
+      cause = cause_after c.in_ok-commit.ensures.goes.cause c.in_err-bring.ensures.stands.cause;
       ready = λ well. absurd (cc);
       rows = λ well card h. absurd (cc);
     })
 
 pub returns-in_err-bring-clause-goes : goal.returns-in_err-bring-clause-goes
 returns-in_err-bring-clause-goes g c =
-    let U = g.M.Medium.state c.args.unit.now in
-    let V = g.M.Medium.state c.commit.new.unit in
     let s = standing c.args.self.now c.args.marks.now c.args.breaks.now (g.M.Medium.state c.args.unit.now) (g.C.Chip.state c.args.card_a.now) (g.D.Chip.state c.args.card_b.now) (g.C.Chip.card c.args.card_a.now) (g.D.Chip.card c.args.card_b.now) in
     let t = standing c.commit.new.self c.commit.new.marks c.args.breaks.now (g.M.Medium.state c.commit.new.unit) (g.C.Chip.state c.args.card_a.now) (g.D.Chip.state c.args.card_b.now) (g.C.Chip.card c.args.card_a.now) (g.D.Chip.card c.args.card_b.now) in
-    let first : KeepingGoes s t = goes_of_unit c.args.self.now c.commit.new.self c.args.marks.now c.commit.new.marks c.args.breaks.now U V (g.C.Chip.state c.args.card_a.now) (g.D.Chip.state c.args.card_b.now) (g.C.Chip.card c.args.card_a.now) (g.D.Chip.card c.args.card_b.now)
-    c.commit.ensures.keeper (ap (λ (l : Listed Mark). l.room) c.in_ok-commit.ensures.marked) c.commit.ensures.unit_keeps c.commit.ensures.tells (state-by U V (is_err c.commit.result) c.commit.ensures.clock c.commit.ensures.cause) c.commit.ensures.speeds in
+    let first : KeepingGoes s t = goes_of_unit c.args.self.now c.commit.new.self c.args.marks.now c.commit.new.marks c.args.breaks.now (g.C.Chip.state c.args.card_a.now) (g.D.Chip.state c.args.card_b.now) (g.C.Chip.card c.args.card_a.now) (g.D.Chip.card c.args.card_b.now)
+    c.commit.ensures.keeper (ap (λ (l : Listed Mark). l.room) c.in_ok-commit.ensures.marked) c.commit.ensures.goes in
     keeping_then first c.bring.ensures.goes
 
 -- ---- both entries were brought
@@ -259,7 +262,7 @@ returns-clause-kept g c =
           (c.in_ok-commit.ensures.booked says) false was.0 c.bring.new.self c.args.at.second b.keeper V A1 B1 first refl failed is.0 c.bring-2.new.self d.keeper W A2 B2 second
           (λ none. clock-rests g.C.Chip.state c.bring.new.card_a c.bring-2.new.card_a (c.bring-2.ensures.calls.out.card_a none)) (λ none. clock-rests g.D.Chip.state c.bring.new.card_b c.bring-2.new.card_b (c.bring-2.ensures.calls.out.card_b none))
           (g.met.M.Medium.coherent c.commit.new.unit) c.bring.ensures.journal (g.met.M.Medium.coherent c.bring.new.unit) c.bring-2.ensures.journal c.bring-2.new.marks c.bring-2.new.breaks (record { journal = j; clock = clock; driver = was.0; codriver = is.0 }) refl refl refl;
-      noted = round-whole p c.args.at failed (record { journal = j; clock = clock; driver = was.0; codriver = is.0 }) k.cabin (g.M.Medium.state c.args.unit.now) U V W c.in_ok-commit.ensures.quiet
+      noted = round-whole p c.args.at failed (record { journal = j; clock = clock; driver = was.0; codriver = is.0 }) k.cabin (g.M.Medium.state c.args.unit.now) U V W c.in_ok-commit.ensures.goes.quiet
           (brought-notes p.driver (kept_in m Driver) c.args.at false c.commit.new.self c.bring.new.self c.commit.new.marks c.bring.new.marks c.args.breaks.now c.bring.new.breaks was.0 U V (state_at p.driver A0 B0) (state_at p.driver A1 B1) b
           (g.met.M.Medium.coherent c.commit.new.unit) (g.met.M.Medium.coherent c.bring.new.unit) was.2 c.in_ok-bring.ensures.stands.cause k.cabin (ap (λ (q : Keeper). q.cabin) c.commit.ensures.keeper))
           (brought-notes p.codriver (kept_in m CoDriver) c.args.at failed c.bring.new.self c.bring-2.new.self c.bring.new.marks c.bring-2.new.marks c.bring.new.breaks c.bring-2.new.breaks is.0 V W (state_at p.codriver A1 B1) (state_at p.codriver A2 B2) d
@@ -275,25 +278,39 @@ returns-clause-kept g c =
 
 pub returns-clause-stands : goal.returns-clause-stands
 returns-clause-stands g c = record {
-  unit = unit-stays c.bring-2.ensures.journal (unit-stays c.bring.ensures.journal c.commit.ensures.unit);
+  unit = unit-stays c.bring-2.ensures.journal (unit-stays c.bring.ensures.journal c.commit.ensures.stands.unit);
   card_a = c.bring-2.ensures.stands.card_a;
   card_b = c.bring-2.ensures.stands.card_b;
   minute = brought-minute _ _ _ _ _ _ _ _ _ _ _ _ _ _ _ c.bring-2.ensures.brought.1
       (brought-minute _ _ _ _ _ _ _ _ _ _ _ _ _ _ _ c.bring.ensures.brought.1 (subst (λ (q : Keeper). q.cabin.slots.minute ≤ c.args.at.second / 60) (sym c.commit.ensures.keeper) c.requires.may.early));
-  cause = cause_after (cause_after c.in_ok-commit.ensures.cause c.in_ok-bring.ensures.stands.cause) c.bring-2.ensures.stands.cause;
+  cause = cause_after (cause_after c.in_ok-commit.ensures.goes.cause c.in_ok-bring.ensures.stands.cause) c.bring-2.ensures.stands.cause;
   ready = c.bring-2.ensures.stands.ready;
-  rows = λ well card h. c.bring-2.ensures.stands.rows well card (c.in_ok-bring.ensures.stands.rows refl card (c.in_ok-commit.ensures.rows card h));
+  rows = λ well card h. c.bring-2.ensures.stands.rows well card (c.in_ok-bring.ensures.stands.rows refl card (c.in_ok-commit.ensures.stands.rows refl card h));
 }
 
 pub returns-clause-goes : goal.returns-clause-goes
 returns-clause-goes g c =
-    let U = g.M.Medium.state c.args.unit.now in
-    let V = g.M.Medium.state c.commit.new.unit in
     let s = standing c.args.self.now c.args.marks.now c.args.breaks.now (g.M.Medium.state c.args.unit.now) (g.C.Chip.state c.args.card_a.now) (g.D.Chip.state c.args.card_b.now) (g.C.Chip.card c.args.card_a.now) (g.D.Chip.card c.args.card_b.now) in
     let t = standing c.commit.new.self c.commit.new.marks c.args.breaks.now (g.M.Medium.state c.commit.new.unit) (g.C.Chip.state c.args.card_a.now) (g.D.Chip.state c.args.card_b.now) (g.C.Chip.card c.args.card_a.now) (g.D.Chip.card c.args.card_b.now) in
-    let first : KeepingGoes s t = goes_of_unit c.args.self.now c.commit.new.self c.args.marks.now c.commit.new.marks c.args.breaks.now U V (g.C.Chip.state c.args.card_a.now) (g.D.Chip.state c.args.card_b.now) (g.C.Chip.card c.args.card_a.now) (g.D.Chip.card c.args.card_b.now)
-    c.commit.ensures.keeper (ap (λ (l : Listed Mark). l.room) c.in_ok-commit.ensures.marked) c.commit.ensures.unit_keeps c.commit.ensures.tells (state-by U V (is_err c.commit.result) c.commit.ensures.clock c.commit.ensures.cause) c.commit.ensures.speeds in
+    let first : KeepingGoes s t = goes_of_unit c.args.self.now c.commit.new.self c.args.marks.now c.commit.new.marks c.args.breaks.now (g.C.Chip.state c.args.card_a.now) (g.D.Chip.state c.args.card_b.now) (g.C.Chip.card c.args.card_a.now) (g.D.Chip.card c.args.card_b.now)
+    c.commit.ensures.keeper (ap (λ (l : Listed Mark). l.room) c.in_ok-commit.ensures.marked) c.commit.ensures.goes in
     keeping_then first (keeping_then c.bring.ensures.goes c.bring-2.ensures.goes)
+
+-- ---- the detailed speed stays
+
+pub returns-in_err-commit-clause-speeds : goal.returns-in_err-commit-clause-speeds
+returns-in_err-commit-clause-speeds g c = c.commit.ensures.goes.speeds
+
+pub returns-in_err-bring-clause-speeds : goal.returns-in_err-bring-clause-speeds
+returns-in_err-bring-clause-speeds g c =
+    leaves-then (g.M.Medium.state c.args.unit.now) (g.M.Medium.state c.commit.new.unit) (g.M.Medium.state c.bring.new.unit) c.commit.ensures.goes.speeds c.bring.ensures.speeds
+
+pub returns-clause-speeds : goal.returns-clause-speeds
+returns-clause-speeds g c =
+    let V = g.M.Medium.state c.commit.new.unit in
+    let W = g.M.Medium.state c.bring.new.unit in
+    let Z = g.M.Medium.state c.bring-2.new.unit in
+    leaves-then (g.M.Medium.state c.args.unit.now) V Z c.commit.ensures.goes.speeds (leaves-then V W Z c.bring.ensures.speeds c.bring-2.ensures.speeds)
 
 -- ---- the cards that are not called
 

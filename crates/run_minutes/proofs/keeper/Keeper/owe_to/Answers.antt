@@ -1,17 +1,19 @@
-use Rattle.std.proofs.Common.{◌∙◌, Option, IfSome, ap, subst}
+use Rattle.std.proofs.Common.{◌∙◌, Option, IfSome, ap, sym, subst}
+use Rattle.std.specs.Prelude.{is_err}
+use Rattle.tach_media.proofs.Runs.{ok_gives}
 use Rattle.unit_owed.specs.Rows.{IsPutting}
 use Rattle.tacho_types.specs.CardNumber.{card_number_bytes}
 use Rattle.tacho_types.specs.declared.card_number.FullCardNumber.{FullCardNumber}
 use Rattle.run_events.specs.Entries.{number_or_no_card}
-use Rattle.tach_media.proofs.Runs.{on_ok, ok_gives}
 use Rattle.run_crew.specs.declared.cards.Known.{Known}
-use Rattle.run_crew.specs.Cards.{known_of}
+use Rattle.unit_minutes.specs.Image.{Agrees}
+use Rattle.unit_minutes.specs.declared.notes.Notes.{Notes}
 use Rattle.trace_model.specs.declared.Card.{Card}
 use Rattle.run_minutes.specs.Keeping.{HasItsRow}
 use Rattle.run_minutes.proofs.EntryPut.{row-known, books-put-a, books-put-b}
-use Rattle.run_minutes.proofs.Faults.{notes-nothing, putting-nothing}
-use Rattle.run_speeds.proofs.Leaving.{leaves-none}
-use Rattle.run_minutes.proofs.Speeds.{putting-leaves}
+use Rattle.run_minutes.proofs.Faults.{putting-nothing}
+use Rattle.run_minutes.proofs.Speeds.{putting-speeds}
+use Rattle.run_minutes.proofs.OnUnit.{unit-none, unit-moments, unit-stands-none, journal-stands}
 use Rattle.run_minutes.proofs.keeper.Keeper.owe_to.Goals as goal
 
 pub returns-in-A-clause-booked : goal.returns-in-A-clause-booked
@@ -26,29 +28,43 @@ returns-in-B-clause-booked g c =
     (g.met.M.Medium.coherent c.args.unit.now) c.requires.row c.owe-in-B.ensures.tells c.owe-in-B.ensures.cause c.owe-in-B.ensures.holds c.in-Some.card c.in-Some.is c.in-B.is
     (ap (λ (n : FullCardNumber). card_number_bytes n) (c.number_or_zeros-number.ensures ∙ ap (λ (known : Known). number_or_no_card known.number) c.of-known.ensures)) c.owe-in-B.ensures.mine c.owe-in-B.ensures.other
 
-pub returns-in-A-clause-quiet : goal.returns-in-A-clause-quiet
-returns-in-A-clause-quiet g c =
+-- ---- the unit goes on
+
+pub returns-in_default-clause-goes : goal.returns-in_default-clause-goes
+returns-in_default-clause-goes g c = unit-none (g.M.Medium.state c.args.unit.now) c.requires.ready.works
+
+pub returns-in-A-clause-goes : goal.returns-in-A-clause-goes
+returns-in-A-clause-goes g c =
     let number = card_number_bytes c.number_or_zeros-number.result in
-    notes-nothing _ (g.M.Medium.state c.args.unit.now) (g.M.Medium.state c.owe.new.unit) (IsPutting number c.args.entry.now) (g.met.M.Medium.coherent c.args.unit.now) (g.met.M.Medium.coherent c.owe.new.unit) c.owe.ensures.moments
-    (λ x y h. putting-nothing number c.args.entry.now x y h)
+    let e = c.args.entry.now in
+    unit-moments _ (g.M.Medium.state c.args.unit.now) (g.M.Medium.state c.owe.new.unit) (IsPutting number e) (g.met.M.Medium.coherent c.args.unit.now) (g.met.M.Medium.coherent c.owe.new.unit) c.owe.ensures.moments
+    (putting-speeds number e) (λ x y h. putting-nothing number e x y h) c.owe.ensures.cause
 
-pub returns-in-B-clause-quiet : goal.returns-in-B-clause-quiet
-returns-in-B-clause-quiet g c =
+pub returns-in-B-clause-goes : goal.returns-in-B-clause-goes
+returns-in-B-clause-goes g c =
     let number = card_number_bytes c.number_or_zeros-number.result in
-    notes-nothing _ (g.M.Medium.state c.args.unit.now) (g.M.Medium.state c.owe-in-B.new.unit) (IsPutting number c.args.entry.now) (g.met.M.Medium.coherent c.args.unit.now) (g.met.M.Medium.coherent c.owe-in-B.new.unit) c.owe-in-B.ensures.moments
-    (λ x y h. putting-nothing number c.args.entry.now x y h)
+    let e = c.args.entry.now in
+    unit-moments _ (g.M.Medium.state c.args.unit.now) (g.M.Medium.state c.owe-in-B.new.unit) (IsPutting number e) (g.met.M.Medium.coherent c.args.unit.now) (g.met.M.Medium.coherent c.owe-in-B.new.unit) c.owe-in-B.ensures.moments
+    (putting-speeds number e) (λ x y h. putting-nothing number e x y h) c.owe-in-B.ensures.cause
 
--- nor is the detailed speed written
-pub returns-in_default-clause-speeds : goal.returns-in_default-clause-speeds
-returns-in_default-clause-speeds g c = leaves-none (g.M.Medium.state c.args.unit.now)
+-- ---- how it stands
 
-pub returns-in-A-clause-speeds : goal.returns-in-A-clause-speeds
-returns-in-A-clause-speeds g c =
-    putting-leaves (card_number_bytes c.number_or_zeros-number.result) c.args.entry.now (g.M.Medium.state c.args.unit.now) (g.M.Medium.state c.owe.new.unit) (g.met.M.Medium.coherent c.args.unit.now) c.owe.ensures.moments
+pub returns-in_default-clause-stands : goal.returns-in_default-clause-stands
+returns-in_default-clause-stands g c = unit-stands-none c.args.self.now (g.M.Medium.state c.args.unit.now) c.requires.ready
 
-pub returns-in-B-clause-speeds : goal.returns-in-B-clause-speeds
-returns-in-B-clause-speeds g c =
-    putting-leaves (card_number_bytes c.number_or_zeros-number.result) c.args.entry.now (g.M.Medium.state c.args.unit.now) (g.M.Medium.state c.owe-in-B.new.unit) (g.met.M.Medium.coherent c.args.unit.now) c.owe-in-B.ensures.moments
+pub returns-in-A-clause-stands : goal.returns-in-A-clause-stands
+returns-in-A-clause-stands g c =
+    let V = g.M.Medium.state c.owe.new.unit in
+    journal-stands c.args.self.now c.owe.new.journal (g.M.Medium.state c.args.unit.now) V (is_err c.owe.result) c.owe.ensures.unit c.owe.ensures.cause
+    (λ well. subst (λ (j : Notes). IfSome V.image (Agrees j)) (sym c.owe.ensures.same) (ok_gives c.owe.result c.owe.ensures.agrees well)) (λ well r n h. ok_gives c.owe.result (c.owe.ensures.rows r n h) well)
+
+pub returns-in-B-clause-stands : goal.returns-in-B-clause-stands
+returns-in-B-clause-stands g c =
+    let V = g.M.Medium.state c.owe-in-B.new.unit in
+    journal-stands c.args.self.now c.owe-in-B.new.journal (g.M.Medium.state c.args.unit.now) V (is_err c.owe-in-B.result) c.owe-in-B.ensures.unit c.owe-in-B.ensures.cause
+    (λ well. subst (λ (j : Notes). IfSome V.image (Agrees j)) (sym c.owe-in-B.ensures.same) (ok_gives c.owe-in-B.result c.owe-in-B.ensures.agrees well)) (λ well r n h. ok_gives c.owe-in-B.result (c.owe-in-B.ensures.rows r n h) well)
+
+-- ---- the row of the card
 
 pub owe-requires-clause-low : goal.owe-requires-clause-low
 owe-requires-clause-low g c =
@@ -69,21 +85,3 @@ pub owe-requires-in-B-clause-row : goal.owe-requires-in-B-clause-row
 owe-requires-in-B-clause-row g c =
     (row-known c.args.self.now.cabin.cards (g.M.Medium.state c.args.unit.now) c.in-Some.card c.of-known.result.now c.number_or_zeros-number.result
     (subst (λ (o : Option Card). IfSome o (HasItsRow c.args.self.now.cabin.cards (g.M.Medium.state c.args.unit.now))) c.in-Some.is c.requires.row) c.of-known.ensures c.number_or_zeros-number.ensures).1
-
-pub returns-in-A-clause-rows : goal.returns-in-A-clause-rows
-returns-in-A-clause-rows g c = λ card h.
-    on_ok c.owe.result (λ well. record {
-      number = h.number;
-      told = h.told;
-      low = h.low;
-      row = ok_gives c.owe.result (c.owe.ensures.rows (known_of c.args.self.now.cabin.cards card).row (card_number_bytes h.number) h.row) well;
-    })
-
-pub returns-in-B-clause-rows : goal.returns-in-B-clause-rows
-returns-in-B-clause-rows g c = λ card h.
-    on_ok c.owe-in-B.result (λ well. record {
-      number = h.number;
-      told = h.told;
-      low = h.low;
-      row = ok_gives c.owe-in-B.result (c.owe-in-B.ensures.rows (known_of c.args.self.now.cabin.cards card).row (card_number_bytes h.number) h.row) well;
-    })

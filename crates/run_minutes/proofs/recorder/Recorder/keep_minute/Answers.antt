@@ -11,3 +11,6 @@ returns-clause-kept g c = c.keep_minute.ensures.kept
 
 pub returns-clause-calls : goal.returns-clause-calls
 returns-clause-calls g c = c.keep_minute.ensures.calls
+
+pub returns-clause-speeds : goal.returns-clause-speeds
+returns-clause-speeds g c = c.keep_minute.ensures.speeds

@@ -1,0 +1,317 @@
+-- What judging, inserting, acting and waking do, leave and promise, each in a few records (profile).
+use Rattle.std.specs.Prelude.{ℕ, ◌*◌, ◌+◌, ◌≡◌, ◌≤◌, Bool, IfErr, IfOk, List, None, OnOk, Result, false, is_some}
+use Rattle.std.specs.Prelude.{length, true}
+use Rattle.activity_codec.specs.declared.values.Slot.{Slot}
+use Rattle.card_slots.specs.Calls.{card_in, logged, seat_in}
+use Rattle.log_model.specs.Slots.{other_slot, refusal}
+use Rattle.log_model.specs.declared.lines.Break.{Break}
+use Rattle.run_acts.specs.Evented.{EventsAction}
+use Rattle.run_acts.specs.Going.{IsFoundLater, largest_number}
+use Rattle.run_acts.specs.Power.{has_power, is_lit}
+use Rattle.run_acts.specs.Recording.{RecordsAction}
+use Rattle.run_acts.specs.Room.{bare_count, bare_seats}
+use Rattle.run_acts.specs.RunCards.{CardsAction}
+use Rattle.run_acts.specs.RunRinged.{RingsAction}
+use Rattle.run_acts.specs.declared.run.Power.TheVariants.{Lit}
+use Rattle.run_acts.specs.declared.run.Run.{Run}
+use Rattle.run_insertion.specs.declared.lines.Entering.{Entering as Enters}
+use Rattle.run_minutes.specs.Keeping.{with_lines}
+use Rattle.run_minutes.specs.Later.{AreCalm, AreLater, IsCalm, IsLater}
+use Rattle.run_minutes.specs.declared.keeper.Moment.{Moment}
+use Rattle.run_opening.specs.declared.fault.RunFault.{RunFault}
+use Rattle.run_outcome.specs.Broken.{BreaksDown, failed_cuts}
+use Rattle.run_outcome.specs.declared.outcome.Outcome.{Outcome}
+use Rattle.run_outcome.specs.declared.outcome.TheConstants.{MOST_OWED}
+use Rattle.run_speeds.specs.Speeds.{LeavesSpeeds}
+use Rattle.safety_model.specs.Safe.{Devices}
+use Rattle.tach_media.specs.Medium.{State}
+use Rattle.tach_media.specs.declared.fault.Failed.{Failed}
+use Rattle.trace_model.specs.declared.Action.{Action}
+use Rattle.trace_model.specs.declared.Action.TheVariants.{Insert}
+use Rattle.trace_model.specs.declared.Card.{Card}
+use Rattle.trace_model.specs.declared.Item.{Item}
+use Rattle.recorder_with_cards.specs.Accepting.{IsAccepted, IsAnew, IsEnteringNow, IsInserted, IsOdometerNow}
+use Rattle.recorder_with_cards.specs.Acting.{AreActed, IsActed, IsActedBy, IsDone, IsFine, IsItemActed, IsSelected}
+use Rattle.recorder_with_cards.specs.Acting.{StaysIn, refusal_lines, refused_by}
+use Rattle.recorder_with_cards.specs.Carded.{BeginsCarded, CardsActions}
+use Rattle.recorder_with_cards.specs.CardsWoken.{CardsPowering, CardsResuming}
+use Rattle.recorder_with_cards.specs.EnteredRings.{IsJudgedRinging, RingsAnew, RingsDone, RingsInserting, RingsJudging}
+use Rattle.recorder_with_cards.specs.Judged.{EventsAnew, EventsJudged, JudgesAnew, JudgesSo}
+use Rattle.recorder_with_cards.specs.JudgedCards.{CardsAnew, CardsJudged}
+use Rattle.recorder_with_cards.specs.JudgedRings.{RingsEntering, RingsJudged, RingsJudgedAnew}
+use Rattle.recorder_with_cards.specs.Noting.{IsJudgedNoting, NotesAnew, NotesDone, NotesInserting, NotesJudging}
+use Rattle.recorder_with_cards.specs.Noting.{NotesPowerOn}
+use Rattle.recorder_with_cards.specs.Recorded.{BeginsRinged, RingsActions, actions_in}
+use Rattle.recorder_with_cards.specs.Waking.{IsAwake}
+use Rattle.recorder_with_cards.specs.Woken.{EventsResuming, EventsWaking, ResumesSo, RingsResuming, RingsWaking}
+use Rattle.recorder_with_cards.specs.Woken.{WakesSo}
+
+-- A CARD THAT SITS IN A SLOT WAS JUDGED: what became of it, and nothing else has changed
+pub record AcceptsIn (slot : Slot) (card : Card) (at : Moment) (speed : ℕ) (old new : Run)
+    (before after : Outcome) : Type 0 where
+  pub enters : (e : Enters) × IsEnteringNow slot card at speed old e × IsAccepted e old new before after
+  pub run : new ≡ record old { keeper = new.keeper; noted = new.noted }
+  pub refused : after.refused ≡ before.refused
+  pub beside : seat_in new.keeper.cabin.slots.seats (other_slot slot)
+      ≡ seat_in old.keeper.cabin.slots.seats (other_slot slot)
+
+-- WHAT A RUN PROMISES goes on with it, where there is room for what the card is owed
+pub record PromisesAccepting (slot : Slot) (card : Card) (at : Moment) (speed : ℕ) (failed : Bool) (old new : Run)
+    (before after : Outcome) (d e : Devices) : Type 0 where
+  pub recorded : length before.marks.items + MOST_OWED ≤ before.marks.room
+      → JudgesSo slot card at failed old new before after d e
+  pub evented : length before.marks.items + MOST_OWED ≤ before.marks.room
+      → EventsJudged slot card at speed failed old new before after d e
+  pub ringed : length before.marks.items + MOST_OWED ≤ before.marks.room
+      → RingsJudged slot card at failed old new before after d e
+  pub cards : length before.marks.items + MOST_OWED ≤ before.marks.room
+      → CardsJudged slot card at speed failed old before after d e
+
+-- WHAT THAT LEAVES ON THE DEVICES: entries in the rings of the unit, and what is noted
+pub record LeavesAccepted (slot : Slot) (card : Card) (at : Moment) (speed : ℕ) (failed : Bool) (old new : Run)
+    (before after : Outcome) (d e : Devices) : Type 0 where
+  pub rings : RingsJudging slot card at speed failed old new before after d.unit e.unit
+  pub noted : NotesJudging slot card at speed failed old new before after d e
+
+-- THE DEVICES GO ON: no clock and no count falls, none breaks down but in a call that failed, and no card without the
+-- line of a tear
+pub record DevicesGo (before after : List Break) (d e : Devices) : Type 0 where
+  pub later : AreLater d e
+  pub calm : AreCalm before after d e
+
+-- SO IT IS where the card of a slot is judged anew, if one sits there without a session
+pub record AcceptsAnew (slot : Slot) (at : Moment) (speed : ℕ) (old new : Run) (before after : Outcome) : Type 0 where
+  pub enters : IsAnew (card_in (seat_in old.keeper.cabin.slots.seats slot)) slot at speed old new before after
+  pub run : new ≡ record old { keeper = new.keeper; noted = new.noted }
+  pub refused : after.refused ≡ before.refused
+  pub beside : seat_in new.keeper.cabin.slots.seats (other_slot slot)
+      ≡ seat_in old.keeper.cabin.slots.seats (other_slot slot)
+
+-- what a run promises goes on with it
+pub record PromisesAnew (slot : Slot) (at : Moment) (speed : ℕ) (failed : Bool) (old new : Run) (before after : Outcome)
+    (d e : Devices) : Type 0 where
+  pub recorded : length before.marks.items + MOST_OWED * bare_count (seat_in old.keeper.cabin.slots.seats slot)
+      ≤ before.marks.room → JudgesAnew (card_in (seat_in old.keeper.cabin.slots.seats slot)) slot at failed old new
+      before after d e
+  pub evented : length before.marks.items + MOST_OWED * bare_count (seat_in old.keeper.cabin.slots.seats slot)
+      ≤ before.marks.room → EventsAnew (card_in (seat_in old.keeper.cabin.slots.seats slot)) slot at speed failed old
+      new before after d e
+  pub ringed : length before.marks.items + MOST_OWED * bare_count (seat_in old.keeper.cabin.slots.seats slot)
+      ≤ before.marks.room → RingsJudgedAnew (card_in (seat_in old.keeper.cabin.slots.seats slot)) slot at failed old new
+      before after d e
+  pub cards : length before.marks.items + MOST_OWED * bare_count (seat_in old.keeper.cabin.slots.seats slot)
+      ≤ before.marks.room → CardsAnew (card_in (seat_in old.keeper.cabin.slots.seats slot)) slot at speed failed old
+      before after d e
+
+-- and this is left
+pub record LeavesAnew (slot : Slot) (at : Moment) (speed : ℕ) (failed : Bool) (old new : Run) (before after : Outcome)
+    (d e : Devices) : Type 0 where
+  pub rings : RingsAnew (card_in (seat_in old.keeper.cabin.slots.seats slot)) slot at speed failed old new before after
+      d.unit e.unit
+  pub noted : NotesAnew (card_in (seat_in old.keeper.cabin.slots.seats slot)) slot at speed failed old new before after
+      d e
+
+-- A CARD IS PUT INTO A SLOT, the minutes before are kept, and it is judged; nothing else has changed
+pub record Inserts (slot : Slot) (card : Card) (at : Moment) (speed : ℕ) (failed : Bool) (old new : Run)
+    (before after : Outcome) : Type 0 where
+  pub enters : IsInserted slot card at speed failed old new before after
+  pub run : new ≡ record old { minutes = new.minutes; keeper = new.keeper; noted = new.noted }
+  pub refused : after.refused ≡ before.refused
+
+-- what a run promises goes on with it
+pub record PromisesInsertion (slot : Slot) (card : Card) (at : Moment) (speed : ℕ) (failed : Bool) (old new : Run)
+    (before after : Outcome) (d e : Devices) : Type 0 where
+  pub recorded : at.late ≡ false → length before.marks.items + 3 * old.minutes.owing + MOST_OWED ≤ before.marks.room
+      → RecordsAction (Insert slot card) at.begun speed failed old new before after d e
+  pub evented : at.late ≡ false → length before.marks.items + 3 * old.minutes.owing + MOST_OWED ≤ before.marks.room
+      → EventsAction (Insert slot card) at.begun speed failed old new before after d e
+  pub ringed : at.late ≡ false → length before.marks.items + 3 * old.minutes.owing + MOST_OWED ≤ before.marks.room
+      → RingsAction (Insert slot card) at.begun speed failed old new before after d e
+  pub cards : at.late ≡ false → length before.marks.items + 3 * old.minutes.owing + MOST_OWED ≤ before.marks.room
+      → CardsAction (Insert slot card) at.begun speed failed old before after d e
+
+-- and this is left
+pub record LeavesInserted (slot : Slot) (card : Card) (at : Moment) (speed : ℕ) (failed : Bool) (old new : Run)
+    (before after : Outcome) (d e : Devices) : Type 0 where
+  pub rings : is_some d.unit.image ≡ true → RingsInserting slot card at speed failed old new before after d.unit e.unit
+  pub noted : NotesInserting slot card at speed failed old new before after d e
+
+-- AN ACTION IS CARRIED OUT: what it did, and what it leaves as it was
+pub record CarriesOut (action : Action) (at : Moment) (speed : ℕ) (failed : Bool) (old new : Run)
+    (before after : Outcome) : Type 0 where
+  pub action_done : IsDone action at speed failed old new before after
+  pub selected : IsSelected action old new
+  pub fine : IsFine action failed
+  pub stays : StaysIn old new
+  pub refused : after.refused ≡ before.refused
+
+-- what a run promises goes on with it
+pub record PromisesAction (action : Action) (begun speed : ℕ) (failed : Bool) (old new : Run) (before after : Outcome)
+    (d e : Devices) : Type 0 where
+  pub recorded : RecordsAction action begun speed failed old new before after d e
+  pub evented : EventsAction action begun speed failed old new before after d e
+  pub ringed : RingsAction action begun speed failed old new before after d e
+  pub cards : CardsAction action begun speed failed old before after d e
+
+-- and this is left
+pub record LeavesDone (action : Action) (at : Moment) (speed : ℕ) (failed : Bool) (old new : Run)
+    (before after : Outcome) (d e : Devices) : Type 0 where
+  pub events : NotesDone action at speed failed old new before after d e
+  pub rings : is_some d.unit.image ≡ true → RingsDone action at speed failed old new before after d.unit e.unit
+
+-- AN ACTION WITH POWER: it is refused, or carried out; and what it leaves as it was
+pub record ActsLit (action : Action) (begun speed : ℕ) (old new : Run) (before after : Outcome) : Type 0 where
+  pub done : IsActedBy (refusal (logged old.keeper.cabin.slots.seats) speed action) action begun speed old new before
+      after
+  pub refused : after.refused ≡ with_lines
+      (refusal_lines (refusal (logged old.keeper.cabin.slots.seats) speed action) old.next begun) before.refused
+  pub none : (refusal (logged old.keeper.cabin.slots.seats) speed action ≡ None → ⊥) → new ≡ old
+  pub selected : IsSelected action old new
+  pub next : new.next ≡ old.next
+  pub unfound : new.unfound ≡ old.unfound
+
+-- WHAT A RUN PROMISES goes on with these actions: its record with the events and the rings, and the events of the cards
+pub record PromisesActions (actions : List Action) (begun speed : ℕ) (old new : Run) (before after : Outcome)
+    (d e : Devices) : Type 0 where
+  pub ringed : RingsActions actions begun speed old new before after d e
+  pub cards : CardsActions actions begun speed old new before after d e
+
+-- ALL GOES ON over the actions of a second, and the unit broke down where the power is lost, and nowhere else
+pub record ActGoes (before after : List Break) (d e : Devices) : Type 0 where
+  pub later : AreLater d e
+  pub calm : AreCalm before after d e
+  pub more : length before ≤ length after
+  pub broke : BreaksDown before after d.unit e.unit
+
+-- AN ACTION, with power in its second or without it
+pub record ActsSo (has_power : Bool) (action : Action) (begun speed : ℕ) (old new : Run) (before after : Outcome) : Type
+    0 where
+  pub done : IsActed has_power (is_lit old.power) action begun speed old new before after
+  pub refused : after.refused ≡ with_lines
+      (refusal_lines (refused_by has_power (is_lit old.power) old.keeper.cabin.slots.seats speed action) old.next begun)
+      before.refused
+  pub none : (refused_by has_power (is_lit old.power) old.keeper.cabin.slots.seats speed action ≡ None → ⊥) → new ≡ old
+  pub lost : has_power ≡ true → is_lit old.power ≡ false → (new ≡ old) × (after ≡ before)
+  pub selected : is_lit old.power ≡ true → IsSelected action old new
+  pub next : new.next ≡ old.next
+  pub unfound : new.unfound ≡ old.unfound
+
+-- THE ACTION OF A LINE, if it has one
+pub record ActsItem (item : Item) (has_power : Bool) (begun speed : ℕ) (old new : Run) (before after : Outcome) : Type
+    0 where
+  pub done : IsItemActed item has_power (is_lit old.power) begun speed old new before after
+  pub next : new.next ≡ old.next
+  pub unfound : new.unfound ≡ old.unfound
+
+-- POWER IS BACK, and the cards are judged anew: it is the same second, and nothing is refused or cut
+pub record Resumes (result : Result (Unit {0}) Failed) (old new : Run) (before after : Outcome) : Type 0 where
+  pub next : new.next ≡ old.next
+  pub unfound : new.unfound ≡ old.unfound
+  pub power : OnOk result (new.power ≡ Lit)
+  pub owes : OnOk result (new.minutes.owing ≡ 0)
+  pub refused : after.refused ≡ before.refused
+  pub uncut : failed_cuts after.breaks.items ≡ failed_cuts before.breaks.items
+
+-- WHAT A RUN PROMISES goes on with it, where there is room for what the cards are owed
+pub record PromisesResuming (kept speed : ℕ) (failed : Bool) (old new : Run) (before after : Outcome)
+    (d e : Devices) : Type 0 where
+  pub recorded : length before.marks.items + MOST_OWED * bare_seats old.keeper.cabin.slots.seats ≤ before.marks.room
+      → ResumesSo kept failed old new before after d e
+  pub evented : length before.marks.items + MOST_OWED * bare_seats old.keeper.cabin.slots.seats ≤ before.marks.room
+      → EventsResuming kept speed failed old new before after d e
+  pub ringed : length before.marks.items + MOST_OWED * bare_seats old.keeper.cabin.slots.seats ≤ before.marks.room
+      → RingsResuming kept failed old new before after d e
+  pub cards : length before.marks.items + MOST_OWED * bare_seats old.keeper.cabin.slots.seats ≤ before.marks.room
+      → CardsResuming kept speed failed old new before after d e
+
+-- POWER IS BACK, or the unit is refused: it is the same second, and the run is awake
+pub record IsWoken (result : Result (Unit {0}) RunFault) (old new : Run) (before after : Outcome) : Type 0 where
+  pub late : IfErr result IsFoundLater
+  pub next : new.next ≡ old.next
+  pub awake : OnOk result (IsAwake new)
+  pub unfound : OnOk result (new.unfound ≤ length after.breaks.items)
+  pub refused : after.refused ≡ before.refused
+
+-- what a run promises goes on with it
+pub record PromisesWaking (result : Result (Unit {0}) RunFault) (speed : ℕ) (old new : Run) (before after : Outcome)
+    (d e : Devices) : Type 0 where
+  pub recorded : length before.marks.items + MOST_OWED * bare_seats old.keeper.cabin.slots.seats ≤ before.marks.room
+      → WakesSo result speed old new before after d e
+  pub evented : length before.marks.items + MOST_OWED * bare_seats old.keeper.cabin.slots.seats ≤ before.marks.room
+      → EventsWaking result speed old new before after d e
+  pub ringed : length before.marks.items + MOST_OWED * bare_seats old.keeper.cabin.slots.seats ≤ before.marks.room
+      → RingsWaking result speed old new before after d e
+  pub cards : length before.marks.items + MOST_OWED * bare_seats old.keeper.cabin.slots.seats ≤ before.marks.room
+      → CardsPowering result speed old new before after d e
+
+-- ALL GOES ON: no clock and no count of a device falls, the unit broke down where the power is lost and nowhere else,
+-- and no card without the line of a tear
+pub record BreaksGo (before after : List Break) (d e : Devices) : Type 0 where
+  pub later : AreLater d e
+  pub calm : AreCalm before after d e
+  pub broke : BreaksDown before after d.unit e.unit
+
+-- A SECOND BEGINS, with the power that is due: it is the next one, and nothing is refused
+pub record BeginsSecond (result : Result Bool RunFault) (old new : Run) (before after : Outcome) : Type 0 where
+  pub late : IfErr result IsFoundLater
+  pub has : IfOk result (λ powered. powered ≡ has_power old.power old.next)
+  pub next : OnOk result (new.next ≡ old.next)
+  pub unfound : OnOk result (new.unfound ≤ length after.breaks.items)
+  pub refused : after.refused ≡ before.refused
+
+-- what a run promises goes on with it, and what is noted where power is back
+pub record PromisesSecond (result : Result Bool RunFault) (speed : ℕ) (old new : Run) (before after : Outcome)
+    (d e : Devices) : Type 0 where
+  pub ringed : BeginsRinged result speed old new before after d e
+  pub cards : BeginsCarded result speed old new before after d e
+  pub noted : OnOk result (is_lit old.power ≡ false → has_power old.power old.next ≡ true
+      → NotesPowerOn speed old new before after d e)
+
+-- THE ACTIONS OF A SECOND, one after another
+pub record ActsAll (has_power : Bool) (speed : ℕ) (items : List Item) (old new : Run) (before after : Outcome) : Type
+    0 where
+  pub done : AreActed has_power speed 0 items old new before after
+  pub next : new.next ≡ old.next
+  pub unfound : new.unfound ≡ old.unfound
+
+-- What a run promises goes on with them, in a second with power whose items are all actions
+pub record PromisesAll (has_power : Bool) (speed count : ℕ) (items : List Item) (old new : Run) (before after : Outcome)
+    (d e : Devices) : Type 0 where
+  pub ringed : has_power ≡ true → length (actions_in items) ≡ count → count ≤ largest_number
+      → RingsActions (actions_in items) count speed old new before after d e
+  pub cards : has_power ≡ true → length (actions_in items) ≡ count → count ≤ largest_number
+      → CardsActions (actions_in items) count speed old new before after d e
+
+-- A CARD THAT SITS IN A SLOT WAS JUDGED as it enters: what became of it, and nothing else has changed
+pub record AcceptsHere (entering : Enters) (old new : Run) (before after : Outcome) : Type 0 where
+  pub enters : IsAccepted entering old new before after
+  pub run : new ≡ record old { keeper = new.keeper; noted = new.noted }
+  pub refused : after.refused ≡ before.refused
+  pub beside : seat_in new.keeper.cabin.slots.seats (other_slot entering.slot)
+      ≡ seat_in old.keeper.cabin.slots.seats (other_slot entering.slot)
+
+-- what a run promises goes on with it
+pub record PromisesHere (entering : Enters) (failed : Bool) (old new : Run) (before after : Outcome)
+    (d e : Devices) : Type 0 where
+  pub recorded : length before.marks.items + MOST_OWED ≤ before.marks.room → IsOdometerNow old entering.odometer.0
+      → JudgesSo entering.slot entering.which entering.at failed old new before after d e
+  pub evented : length before.marks.items + MOST_OWED ≤ before.marks.room
+      → EventsJudged entering.slot entering.which entering.at entering.speed failed old new before after d e
+  pub ringed : length before.marks.items + MOST_OWED ≤ before.marks.room
+      → RingsEntering entering.slot entering.which entering.at entering.odometer.0 failed old new before after d e
+  pub cards : length before.marks.items + MOST_OWED ≤ before.marks.room
+      → CardsJudged entering.slot entering.which entering.at entering.speed failed old before after d e
+
+-- and this is left
+pub record LeavesHere (entering : Enters) (failed : Bool) (old new : Run) (before after : Outcome) (U V : State)
+    (d e : Devices) : Type 0 where
+  pub rings : IsJudgedRinging entering failed old new before after U V
+  pub noted : IsJudgedNoting entering failed old new before after d e
+
+-- THE UNIT AND ONE CARD GO ON: no clock and no count falls, the detailed speed stays, and the card does not break down
+-- without the line of a tear
+pub record CardGoes (before after : List Break) (U V x y : State) : Type 0 where
+  pub clock : U.clock ≤ V.clock
+  pub later : IsLater x y
+  pub speeds : LeavesSpeeds U V
+  pub calm : IsCalm before after x y
