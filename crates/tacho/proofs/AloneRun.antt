@@ -123,6 +123,7 @@ module _ (x : List ℕ) (start : ℕ) (items : List Item) (out : Outcome) (U V A
       owed = λ y left. owes-still x no_image no_image y no-valid no-valid (h.rows y left);
       odometer = h.ends.odometer;
       days = h.ends.days;
+      words = h.ends.words;
       stored = λ y left. let s = h.side y left in record { spans = s.spans; are_spans = s.are_spans; odometer = s.odometer };
       events = λ number sessions t y left. events-alone sessions t number y left;
       insertions = λ dense y left. shows-old insertion_ring _ _ _ x y (ap insertions_of (notes-nothing log ss selects)) ((h.side y left).insertions dense) (h.dense.insertions dense y left);

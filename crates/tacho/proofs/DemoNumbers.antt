@@ -82,6 +82,7 @@ module _ (x a b : List ℕ) (start : ℕ) (items : List Item) (out : Outcome) (p
       brings = h.ends.brings;
       odometer = h.ends.odometer;
       days = h.ends.days;
+      words = h.ends.words;
       whole = h.ends.whole;
     };
     side = λ y left. side-by y (h.side y left);

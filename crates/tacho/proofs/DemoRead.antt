@@ -201,6 +201,7 @@ module _ (U V : State) (is : IsRead U V) where
             brings = h.ends.brings;
             odometer = λ y left. h.ends.odometer y (now-back y left);
             days = λ y left. h.ends.days y (now-back y left);
+            words = λ y left. h.ends.words y (now-back y left);
             whole = λ nothing. let w = h.ends.whole nothing in
                 record { decided = w.decided; unit = λ y left. w.unit y (now-back y left); card = λ c u valid accepted y left. full-read c y (λ on. w.card c u valid accepted y on) left };
           };

@@ -6,7 +6,7 @@ use Rattle.std.specs.Fmt.{digits}
 use Rattle.minute_model.specs.declared.Rule.TheVariants.{Original, Amended}
 use Rattle.trace_model.specs.declared.Card.TheVariants.{B}
 use Rattle.tacho.specs.declared.forms.Form.TheVariants.{Minutes, Upgrade, State, Serve, ServeHex, ServePackets, Download, DownloadNoisy, DownloadPackets, Read, Help, Version}
-use Rattle.tacho.specs.declared.forms.Reading.TheVariants.{View, ByHand, Match, MatchAll, Totals, Speeds}
+use Rattle.tacho.specs.declared.forms.Reading.TheVariants.{View, ByHand, Match, MatchAll, Totals, Speeds, Show}
 use Rattle.tacho.specs.declared.forms.TheConstants.{PLATE, SEED_MOST}
 use Rattle.tacho.specs.Texts.{word_in, number_in}
 use Rattle.trace_model.specs.Names.{card_named}
@@ -119,6 +119,10 @@ speeds-last-row = refl
 speeds-too-many-row : form_of (codes "speeds" ∷ codes "last" ∷ codes "1441" ∷ []) ≡ None
 unfolding form_of number_in
 speeds-too-many-row = refl
+
+show-row : form_of (codes "show" ∷ []) ≡ Some (Read Show)
+unfolding form_of
+show-row = refl
 
 not-last-row : form_of (codes "view" ∷ codes "first" ∷ codes "1" ∷ []) ≡ None
 unfolding form_of

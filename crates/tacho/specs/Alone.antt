@@ -27,7 +27,7 @@ use Rattle.run_unit_course.specs.Complete.{AreMarked}
 use Rattle.unit_rule.specs.Odometer.{OdometerSafe}
 use Rattle.unit_rule.specs.OtherRows.{OwesStill}
 use Rattle.unit_minutes.specs.DayOdometers.{RecordsDay}
-use Rattle.run_promise.specs.Days.{IsBegunIn}
+use Rattle.run_promise.specs.Days.{HasWords, IsBegunIn}
 use Rattle.unit_events.specs.Shown.{ShowsRun}
 use Rattle.run_opening.specs.declared.fault.RunFault.{RunFault}
 use Rattle.run_opening.specs.declared.fault.RunFault.TheVariants.{MediumFault, BadUnit, ClockBack, SameCard}
@@ -120,6 +120,9 @@ pub record IsAlone (cards : Start) (x : List ℕ) (start : ℕ) (items : List It
   -- run began the day
   pub days : (y : List ℕ) → unit.may_leave y → (day odometer : ℕ) → RecordsDay y day odometer
       → RecordsDay x day odometer ⊎ IsBegunIn (recording_of x no_image no_image start items o) y day odometer
+  -- and its days have, up to its last-kept minute, the words of the start with just the new ones of the minutes that it
+  -- has
+  pub words : (y : List ℕ) → unit.may_leave y → HasWords (recording_of x no_image no_image start items o) y
   -- of each type of event none of which was noted in a second in which a call on the unit failed, each image that a
   -- stop may leave holds those of the run; so it is with the first over speeding and their number
   pub events : (number : Card → List ℕ) (sessions : ℕ → Visit → ℕ) (t : Tearing) (y : List ℕ) → unit.may_leave y

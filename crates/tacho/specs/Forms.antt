@@ -12,7 +12,7 @@ use Rattle.tacho.specs.declared.forms.Form.TheVariants.{Minutes, Record, FormatC
 use Rattle.tacho.specs.declared.forms.Form.TheVariants.{ServeHex, ServePackets, Download, DownloadNoisy}
 use Rattle.tacho.specs.declared.forms.Form.TheVariants.{DownloadPackets, Read, CardFile, Demo, Help, Version}
 use Rattle.tacho.specs.declared.forms.Reading.{Reading}
-use Rattle.tacho.specs.declared.forms.Reading.TheVariants.{View, ByHand, Match, MatchAll, Totals, Chart, Speeds}
+use Rattle.tacho.specs.declared.forms.Reading.TheVariants.{View, ByHand, Match, MatchAll, Totals, Chart, Speeds, Show}
 use Rattle.tacho.specs.declared.forms.TheConstants.{CARD_NUMBER, NAME, PLATE, VIN, NATION_MOST, LIMIT_LEAST, LIMIT_MOST}
 use Rattle.tacho.specs.declared.forms.TheConstants.{LAST_LEAST, LAST_MOST, SPEEDS_MOST, SEED_MOST}
 use Rattle.tacho_types.specs.Texts.{padded_text}
@@ -53,14 +53,15 @@ unit_in nation plate vin limit = do
   limit ← number_in LIMIT_LEAST LIMIT_MOST limit
   Some (record { vin = vin; registration = registration; limit = limit })
 
--- `view`, `match`, `totals`, `chart` and `speeds`
+-- `view`, `match`, `totals`, `chart`, `speeds` and `show`
 abbrev pub reading_of : List ℕ → Option Reading
 reading_of word =
     if bytes_eq word (codes "view") then Some (View None)
     else (if bytes_eq word (codes "match") then Some Match
     else (if bytes_eq word (codes "totals") then Some (Totals None)
     else (if bytes_eq word (codes "chart") then Some (Chart None)
-    else (if bytes_eq word (codes "speeds") then Some (Speeds None) else None))))
+    else (if bytes_eq word (codes "speeds") then Some (Speeds None)
+    else (if bytes_eq word (codes "show") then Some Show else None)))))
 
 abbrev pub read_form : List ℕ → Option Form
 read_form word = do

@@ -7,13 +7,13 @@ use Rattle.card_match.specs.Files.{IsBadSource}
 use Rattle.file_view.specs.UnitFiles.{IsBadUnitFile}
 use Rattle.unit_speeds.specs.Text.{PrintsSpeeds}
 use Rattle.tacho.specs.declared.forms.Reading.{Reading}
-use Rattle.tacho.specs.declared.forms.Reading.TheVariants.{View, ByHand, Match, MatchAll, Totals, Chart, Speeds}
+use Rattle.tacho.specs.declared.forms.Reading.TheVariants.{View, ByHand, Match, MatchAll, Totals, Chart, Speeds, Show}
 use Rattle.tacho.specs.declared.end.Fault.{Fault}
 use Rattle.tacho.specs.declared.end.Fault.TheVariants.{Done, TooLong, ReadFault, WriteFault, Memory, BadFile}
 use Rattle.tacho.specs.Outside.{Outside}
 use Rattle.tacho.specs.View.{PrintsFile, IsBadFile, PrintsByHand, IsNoCardFile}
 use Rattle.tacho.specs.Match.{PrintsMatch, PrintsDifferences}
-use Rattle.tacho.specs.Reports.{PrintsTotals, PrintsChart}
+use Rattle.tacho.specs.Reports.{PrintsTotals, PrintsChart, PrintsJson}
 
 -- a source has at most so many bytes
 abbrev pub most_bytes : ℕ
@@ -28,6 +28,7 @@ Prints MatchAll bytes out = PrintsDifferences bytes out
 Prints (Totals last) bytes out = PrintsTotals last bytes out
 Prints (Chart last) bytes out = PrintsChart last bytes out
 Prints (Speeds last) bytes out = PrintsSpeeds last bytes out
+Prints Show bytes out = PrintsJson bytes out
 
 -- the bytes are outside the grammar, first at this place
 abbrev pub IsBad : Reading → (place : ℕ) → List ℕ → Type 0
@@ -38,6 +39,7 @@ IsBad MatchAll place bytes = IsBadSource place bytes
 IsBad (Totals last) place bytes = IsBadFile place bytes
 IsBad (Chart last) place bytes = IsBadFile place bytes
 IsBad (Speeds last) place bytes = IsBadUnitFile place bytes
+IsBad Show place bytes = IsBadFile place bytes
 
 -- the file is bad at a place of which this holds, or memory ran out
 abbrev pub IsUnshown : (ℕ → Type 0) → Fault → Type 0

@@ -1,5 +1,7 @@
 -- What the commands `totals` and `chart` print of a file, of all its days or of the last so many.
 use Rattle.std.specs.Prelude.{ℕ, MatchBool, Option, List}
+use Rattle.file_json.specs.Cards.{IsCardJson}
+use Rattle.file_json.specs.Units.{IsUnitJson}
 use Rattle.day_reports.specs.Printing.{PrintsUnitTotals, PrintsCardTotals, PrintsUnitChart, PrintsCardChart}
 use Rattle.tacho.specs.View.{is_unit_file}
 
@@ -12,3 +14,7 @@ PrintsTotals last bytes out = MatchBool (is_unit_file bytes) (PrintsUnitTotals l
 abbrev pub PrintsChart : Option ℕ → (bytes out : List ℕ) → Type 0
 PrintsChart last bytes out = MatchBool (is_unit_file bytes) (PrintsUnitChart last bytes out)
     (PrintsCardChart last bytes out)
+
+-- `show` prints all that stands in a file, as JSON
+abbrev pub PrintsJson : (bytes out : List ℕ) → Type 0
+PrintsJson bytes out = MatchBool (is_unit_file bytes) (IsUnitJson bytes out) (IsCardJson bytes out)

@@ -105,6 +105,8 @@ pub enum Reading {
     Chart { last: Option<u32> },
     /// `speeds`: the detailed speed of a unit file; `speeds last N`: of its last so many minutes, from 1 to 1440.
     Speeds { last: Option<u32> },
+    /// `show`: all that stands in a unit file or a card file, as JSON.
+    Show,
 }
 
 /// What the words ask for, if they are in a form that is known. The test takes no memory.
@@ -180,6 +182,9 @@ fn reading_of(word: &str) -> Option<Reading>
     }
     if is_text(word, "speeds") {
         return Some(Reading::Speeds { last: None });
+    }
+    if is_text(word, "show") {
+        return Some(Reading::Show);
     }
     None
 }

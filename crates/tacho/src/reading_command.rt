@@ -10,7 +10,7 @@ ghost use Rattle.tacho.specs.Read.{most_bytes, Prints, IsBad, IsUnshown, IsReadi
 use crate::end::Fault;
 use crate::forms::Reading;
 use crate::match_command::{match_all_answer, match_answer};
-use crate::report_command::{file_chart, file_speeds, file_totals};
+use crate::report_command::{file_chart, file_show, file_speeds, file_totals};
 use crate::view_command::{file_view, hand_view};
 use std::alloc::Global;
 use tach_media::{Sink, Source, TakeFault, put_all, take_all};
@@ -73,5 +73,6 @@ fn reading_text(alloc: Global, reading: Reading, b: &[u8]) -> Result<Vec<u8>, Fa
         Reading::Totals { last } => file_totals(alloc, last, b),
         Reading::Chart { last } => file_chart(alloc, last, b),
         Reading::Speeds { last } => file_speeds(alloc, last, b),
+        Reading::Show => file_show(alloc, b),
     }
 }
