@@ -257,7 +257,7 @@ fn a_unit_that_fails_in_the_opening_is_told(rt: HostRuntime) -> Result<(), Fail>
 }
 
 #[test]
-fn a_minute_takes_three_writes(rt: HostRuntime) -> Result<(), Fail> {
+fn the_writes_of_an_hour_of_driving(rt: HostRuntime) -> Result<(), Fail> {
     let alloc = rt.alloc();
     let writes = count_run(alloc, DRIVE, Vec::new(alloc))?.writes;
     // three a minute, two more where the day begins, and two for the words of the second minute; and of the 59 blocks

@@ -216,9 +216,9 @@ fn cut_once(rt: &(impl Abort + AllocGlobal), call: u64, has_it: bool) -> Result<
     Ok(())
 }
 
-/// The calls of the unit that a minute's block of detailed speed takes behind the keeping: three reads and three
-/// writes.
-const BLOCK: u64 = 6;
+/// The calls of the unit that a minute's block of detailed speed takes behind the keeping, where another one was added
+/// in the same span before it: one read and three writes.
+const BLOCK: u64 = 4;
 
 /// Behind the last write of the keeping the unit has the new mark.
 #[test]
@@ -229,6 +229,62 @@ fn a_unit_that_is_stopped_behind_a_write(rt: HostRuntime) -> Result<(), Fail> {
     assert!(rt; from < to);
     for call in from..to {
         cut_once(&rt, call, call == to - 1)?;
+    }
+    Ok(())
+}
+
+/// The index of the newest block of detailed speed, and the third block.
+const NEWEST_BLOCK: u32 = 2393644;
+
+const THIRD_BLOCK: u32 = 2393776;
+
+/// What stands there of a unit: the index, and the time of the block.
+fn third_block_on(unit: &mut MemMedium) -> Result<([u8; 4], [u8; 4]), Failed>
+    requires { IsUnit (memory_state unit.old.log unit.old.counts) }
+{
+    let newest: [u8; 4] = unit_bytes(&mut *unit, NEWEST_BLOCK)?;
+    let time: [u8; 4] = unit_bytes(unit, THIRD_BLOCK)?;
+    Ok((newest, time))
+}
+
+/// The same behind a drive of 360 seconds that stops so.
+fn third_block(alloc: Global, stops: Stops) -> Result<(Ran, [u8; 4], [u8; 4]), Fail> {
+    let mut d = new_devices(alloc, stops)?;
+    let ran = d.run(alloc, UNTIL)?;
+    let (newest, time) = third_block_on(&mut d.unit)?;
+    Ok((ran, newest, time))
+}
+
+/// The unit is stopped behind this call of the third block, in the second in which a minute was kept: that stays. Two
+/// more blocks come when power is back, and where the third one is there, they come behind it.
+fn cut_in_block(rt: &(impl Abort + AllocGlobal), call: u64, has_it: bool) -> Result<(), Fail> {
+    let alloc = rt.alloc();
+    let left = Left::After;
+    let (ran, newest, time) = third_block(
+        alloc,
+        Stops::one(alloc, Device::Unit, Stop { call, left })?,
+    )?;
+    let cut = Break::Cut {
+        second: T0 + 239,
+        kept: M0 + 1,
+        failed: true,
+        begun: 0,
+    };
+    assert!(rt; ran.has(2, 2) && ran.breaks == 1);
+    assert_eq!(rt; ran.last_break, Some(cut));
+    assert_eq!(rt; ran.replayed(), Some(0));
+    let third = if has_it { T0 + 180 } else { T0 + 240 };
+    assert_eq!(rt; time, third.to_be_bytes());
+    assert_eq!(rt; newest, [0, 0, 0, if has_it { 4 } else { 3 }]);
+    Ok(())
+}
+
+/// Each call of the block. Only behind the last write it is there.
+#[test]
+fn a_unit_that_is_stopped_in_a_block(rt: HostRuntime) -> Result<(), Fail> {
+    let to = calls_of(rt.alloc(), BEHIND)?.unit;
+    for call in to.saturating_sub(BLOCK)..to {
+        cut_in_block(&rt, call, call == to - 1)?;
     }
     Ok(())
 }
@@ -410,14 +466,15 @@ fn calls_between(alloc: Global, before: &[u8], behind: &[u8]) -> Result<(u64, u6
 }
 
 /// A minute takes three writes of the unit, three more for each card to which it is owed, and three of each card;
-/// nothing is read. Its block of detailed speed takes three writes more of the unit, and three reads.
+/// nothing is read. Its block of detailed speed takes three writes more of the unit, and one read: the span has added
+/// one before, so of the ring the place alone is read that it takes.
 #[test]
 fn a_minute_with_cards_takes_few_calls(rt: HostRuntime) -> Result<(), Fail> {
     let alloc = rt.alloc();
-    assert_eq!(rt; calls_between(alloc, TEN, ELEVEN)?, (12, 3, 0));
+    assert_eq!(rt; calls_between(alloc, TEN, ELEVEN)?, (10, 3, 0));
     assert_eq!(rt;
         calls_between(alloc, TEN_OF_TWO, ELEVEN_OF_TWO)?,
-        (15, 3, 3)
+        (13, 3, 3)
     );
     Ok(())
 }
