@@ -3,7 +3,7 @@
 _tacho() {
   local word=${COMP_WORDS[COMP_CWORD]} words=
   case "$COMP_CWORD ${COMP_WORDS[*]:1:COMP_CWORD-1}" in
-    '1 ') words='minutes record serve download card view totals chart speeds match format upgrade state demo help --help --version' ;;
+    '1 ') words='minutes record serve download card view totals chart speeds show match format upgrade state demo help --help --version' ;;
     '2 minutes') words=2009 ;;
     '2 serve') words='--hex packets' ;;
     '2 match') words=all ;;
@@ -11,7 +11,6 @@ _tacho() {
     '2 card') words='a b' ;;
     '2 view') words='last manual' ;;
     '2 totals' | '2 chart' | '2 speeds') words=last ;;
-    '2 match') words=all ;;
     '2 format') words='unit a b' ;;
   esac
   mapfile -t COMPREPLY < <(compgen -W "$words" -- "$word")
