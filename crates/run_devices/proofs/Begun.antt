@@ -48,6 +48,7 @@ held-later f c b y z X later h = record {
   since = h.since;
   number = h.number;
   still = h.still;
+  registered = h.registered;
 }
 
 -- ---- THE ROW IS BEGUN of a card that was put in, where the calls say this
@@ -93,7 +94,7 @@ module _ (f : Found) (w : RunLedger) (cards : Cards) (c : Card) (U V X Y : State
       goes = record {
         has = brought_by c (found_of f c).start w.book;
         all = append-nil (brought_by c (found_of f c).start w.book);
-        goes = record { time = now; stands = refl; sizes = put.sizes; session = put.session; ends = put.ends; goes = put.goes };
+        goes = record { time = now; stands = refl; sizes = put.sizes; vehicle = put.vehicle; session = put.session; ends = put.ends; goes = put.goes };
       };
     }
 

@@ -80,6 +80,10 @@ use Rattle.run_devices.specs.Strung.{CardHoldsString, HasSameHolder}
 use Rattle.run_devices.specs.Told.{HasFoundSo, AreFoundCards, IsPutIn, DevicesPowered, DevicesUnpowered, arranged, card_marks, with_marks}
 use Rattle.run_devices.proofs.Parts.{both_of, as-steps, of-steps, told-one, CardLit, off-of, UnitLit, AreParts, MarksLit, parts-of, powered-of, powerless-of, brought-on}
 use Rattle.run_devices.proofs.Holders.{inserting-rest}
+use Rattle.run_devices.specs.Registered.{AreRegistered, IsUsedSo}
+use Rattle.run_devices.proofs.Registered.{MayBe, inserting-on}
+use Rattle.run_devices.proofs.Used.{inserting-used}
+use Rattle.card_session.specs.Sessions.{book_of}
 use Rattle.run_devices.proofs.OnCards.{valid-own, valid-or, no-marks, number-own, own-holder-still, Rises, rises-run, none-falls, marks-on, brought-card, bound_of, held-on, held-read, valid-on}
 use Rattle.run_devices.proofs.StringMore.{mark-own}
 use Rattle.run_devices.proofs.Power.{follow-of}
@@ -287,7 +291,7 @@ module _ (f : Found) (b : Book) (c : Card) (u x : List ℕ) (sound : IsApplicati
 -- ---- A CARD IS PUT IN, over the devices: what is carried of it stands at each exit
 
 module _ (f : Found) (w : RunLedger) (c : Card) (U V X Y : State) (two : f.card_a.number ≢ f.card_b.number) (sound : IsApplication (own_sizes (found_of f c).image)) (unit_whole : IsCoherent U) (unit_after : IsCoherent V) (whole : IsCoherent X) (after : IsCoherent Y)
-    (registration : Registration) (long : length registration.0 ≡ 15) (odometer now : ℕ) (few : now < 2 ^ 32) (answer : Result Entered NotEntered) (unit : UnitLit f w U) (ks : List ℕ) (one : CardLit f w.book Out ks None c U X) (late : w.due ≤ now / 60)
+    (registration : Registration) (long : length registration.0 ≡ 15) (vehicle : registration ≡ (found_of f c).vehicle) (odometer now : ℕ) (few : now < 2 ^ 32) (answer : Result Entered NotEntered) (unit : UnitLit f w U) (ks : List ℕ) (one : CardLit f w.book Out ks None c U X) (late : w.due ≤ now / 60)
     (room : image_size_of (own_sizes (found_of f c).image) ≤ X.size) (enters : IsEntering (own_sizes (found_of f c).image) registration odometer now U V X Y answer) where
   is-asked : IfSome X.image (IsAsked (both_of f two) c (own_sizes (found_of f c).image))
   is-asked = if_told X.image (IsAsked (both_of f two) c (own_sizes (found_of f c).image)) (λ x is. record { sizes = (one.held.now x (whole.is_left x is)).0; number = one.held.number x (whole.is_left x is) ∙ number-as f two c })
@@ -349,7 +353,15 @@ module _ (f : Found) (w : RunLedger) (c : Card) (U V X Y : State) (two : f.card_
               sizes-at y (moment-at a y t m) ∙ sizes,
               put-holds f w.book c u x sound registration long odometer now few fits sizes (one.held.number x there) valid unit.none sure meets (one.held.now x there).1 are y (moment-at a y t m),
             ))
-            (λ a y t m. subst (λ (l : List ℕ). HasSameHolder l y) (this a t) (same-holder f w.book c u x sound registration long odometer now few fits sizes (one.held.number x there) valid unit.none sure meets (one.held.now x there).1 y (moment-at a y t m))) whole one.held;
+            (λ a y t m. subst (λ (l : List ℕ). HasSameHolder l y) (this a t) (same-holder f w.book c u x sound registration long odometer now few fits sizes (one.held.number x there) valid unit.none sure meets (one.held.now x there).1 y (moment-at a y t m)))
+            (λ a y t m own told. record {
+              entries = inserting-on (MayBe (found_of f c).vehicle (book_of (own_sizes (found_of f c).image) (found_of f c).image).vehicles) (own_sizes (found_of f c).image) sound registration (inl vehicle) long now x fits
+                  (subst (AreRegistered (own_sizes (found_of f c).image) (found_of f c).vehicle (found_of f c).image) (sym (this a t)) told.entries) odometer (owed_on (own_sizes (found_of f c).image) u x) y (moment-at a y t m);
+              session = subst (λ (v : Registration). IsUsedSo (own_sizes (found_of f c).image) v (found_of f c).image y) vehicle
+                  (inserting-used (own_sizes (found_of f c).image) registration (found_of f c).image now long few x fits
+                  (subst (λ (v : Registration). IsUsedSo (own_sizes (found_of f c).image) v (found_of f c).image x) (sym vehicle) (subst (IsUsedSo (own_sizes (found_of f c).image) (found_of f c).vehicle (found_of f c).image) (sym (this a t)) told.session))
+                  odometer (owed_on (own_sizes (found_of f c).image) u x) y (moment-at a y t m));
+            }) whole one.held;
         valid = valid-on (found_of f c).began (IsCardInserting (own_sizes (found_of f c).image) registration odometer (owed_on (own_sizes (found_of f c).image) u x) now) X Y one.rule.dark.later run
             (λ a y t m. valid-own (own_sizes (found_of f c).image) y (sizes-at y (moment-at a y t m) ∙ sizes)
             (put-valid f w.book c u x sound registration long odometer now few fits sizes (one.held.number x there) valid unit.none sure meets (one.held.now x there).1 are y (moment-at a y t m))) one.valid;
@@ -483,6 +495,7 @@ module _ (f : Found) (w : RunLedger) (c : Card) (U V X Y : State) (two : f.card_
       record {
         entered = entered-now told-u.0 told-x.0 told-u.1 told-x.1 e y.0 ok y.1;
         sizes = (took told-u.0 told-x.0 told-u.1 told-x.1 e y.0 ok y.1).sizes;
+        vehicle = (took told-u.0 told-x.0 told-u.1 told-x.1 e y.0 ok y.1).vehicle ∙ vehicle;
         session = if_told Y.image (IsSession e.session) (λ n is. (put-at told-u.0 told-x.0 told-u.1 told-x.1 e n ok is).0);
         ends = if_told Y.image (MayEnd e.session.application) (λ n is. (put-at told-u.0 told-x.0 told-u.1 told-x.1 e n ok is).1);
         goes = if_told Y.image (GoesSince e.session.application (found_of f c).image (brought_by c (found_of f c).start w.book) (suc (max (found_of f c).start.word e.session.minute))) (λ n is. (put-at told-u.0 told-x.0 told-u.1 told-x.1 e n ok is).2);
@@ -545,7 +558,7 @@ module _ (f : Found) (w : RunLedger) (c : Card) (U V X Y : State) (two : f.card_
 
 -- ---- so all of it stands, where nothing more is written on the unit
 
-module _ (f : Found) (w : RunLedger) (cards : Cards) (c : Card) (U V X Y Z : State) (found : AreFoundCards f cards) (unit_whole : IsCoherent U) (unit_after : IsCoherent V) (whole : IsCoherent X) (after : IsCoherent Y) (registration : Registration) (long : length registration.0 ≡ 15) (odometer now : ℕ) (few : now < 2 ^ 32) (answer : Result Entered NotEntered)
+module _ (f : Found) (w : RunLedger) (cards : Cards) (c : Card) (U V X Y Z : State) (found : AreFoundCards f cards) (unit_whole : IsCoherent U) (unit_after : IsCoherent V) (whole : IsCoherent X) (after : IsCoherent Y) (registration : Registration) (long : length registration.0 ≡ 15) (vehicle : registration ≡ (found_of f c).vehicle) (odometer now : ℕ) (few : now < 2 ^ 32) (answer : Result Entered NotEntered)
     (out : w.standing c ≡ Out) (bare : session_of cards c ≡ None) (p : DevicesPowered f w cards (arranged c U X Z)) (late : w.due ≤ now / 60) (app : Application) (measured : IsOwnValid (found_of f c).image → app ≡ own_sizes (found_of f c).image) (size : image_size_of app ≤ X.size) (told : IsEntering app registration odometer now U V X Y answer) where
   room : IsOwnValid (found_of f c).image → image_size_of (own_sizes (found_of f c).image) ≤ X.size
   room valid = subst (λ (a : Application). image_size_of a ≤ X.size) (measured valid) size
@@ -561,7 +574,7 @@ module _ (f : Found) (w : RunLedger) (cards : Cards) (c : Card) (U V X Y Z : Sta
 
   one-after : IsOwnValid (found_of f c).image → CardLit f w.book (w.standing c) (w.brought c) (session_of cards c) c V Y
   one-after valid = subst (λ (z : Standing). CardLit f w.book z (w.brought c) (session_of cards c) c V Y) (sym out) (subst (λ (o : Option Accepted). CardLit f w.book Out (w.brought c) o c V Y) (sym bare)
-      (entered-lit f w c U V X Y found.two (found.sizes c valid) unit_whole unit_after whole after registration long odometer now few answer parts.unit (w.brought c) (one-before valid) late (room valid) (enters valid)))
+      (entered-lit f w c U V X Y found.two (found.sizes c valid) unit_whole unit_after whole after registration long vehicle odometer now few answer parts.unit (w.brought c) (one-before valid) late (room valid) (enters valid)))
 
   others-after : IsOwnValid (found_of f (other c)).image → CardLit f w.book (w.standing (other c)) (w.brought (other c)) (session_of cards (other c)) (other c) V Z
   others-after valid =
@@ -580,7 +593,7 @@ module _ (f : Found) (w : RunLedger) (cards : Cards) (c : Card) (U V X Y Z : Sta
   marks-after = by (valid-or (found_of f c).image)
     where
       by : IsOwnValid (found_of f c).image ⊎ (IsOwnValid (found_of f c).image → ⊥) → MarksLit f w c Y
-      by (inl valid) = entered-marks f w c U V X Y found.two (found.sizes c valid) unit_whole unit_after whole after registration long odometer now few answer parts.unit (w.brought c) (one-before valid) late (room valid) (enters valid) parts.marks_mine
+      by (inl valid) = entered-marks f w c U V X Y found.two (found.sizes c valid) unit_whole unit_after whole after registration long vehicle odometer now few answer parts.unit (w.brought c) (one-before valid) late (room valid) (enters valid) parts.marks_mine
       by (inr bad) = no-marks f c w.book w.marks X Y bad parts.marks_mine
 
   unit-after : UnitFollowsBook (once_mended f.unit) w.due w.book w.marks V
@@ -610,40 +623,40 @@ module _ (f : Found) (w : RunLedger) (cards : Cards) (c : Card) (U V X Y Z : Sta
 
   -- a card that is accepted
   pub accepted-put-by : IsOwnValid (found_of f c).image → (e : Entered) → answer ≡ Ok e → IsPutIn (found_of f c) c w.book now e.session Y
-  accepted-put-by valid e ok = entered-put f w c U V X Y found.two (found.sizes c valid) unit_whole unit_after whole after registration long odometer now few answer parts.unit (w.brought c) (one-before valid) late (room valid) (enters valid) e ok
+  accepted-put-by valid e ok = entered-put f w c U V X Y found.two (found.sizes c valid) unit_whole unit_after whole after registration long vehicle odometer now few answer parts.unit (w.brought c) (one-before valid) late (room valid) (enters valid) e ok
 
   -- and the entries that were put on it are marked, where its clock has not stopped
   pub accepted-marked-by : IsOwnValid (found_of f c).image → (e : Entered) → answer ≡ Ok e → V.works ≡ true → IsSettled Y → DevicesPowered f (with_marks (card_marks c Y.clock e.owed.items) w) cards (arranged c V Y Z)
   accepted-marked-by valid e ok works settled =
-      let facts = entered-owed f w c U V X Y found.two (found.sizes c valid) unit_whole unit_after whole after registration long odometer now few answer parts.unit (w.brought c) (one-before valid) late (room valid) (enters valid) e ok in
+      let facts = entered-owed f w c U V X Y found.two (found.sizes c valid) unit_whole unit_after whole after registration long vehicle odometer now few answer parts.unit (w.brought c) (one-before valid) late (room valid) (enters valid) e ok in
       marked-powered f w cards c V Y Z found (entered-powered-by works) after settled valid facts.began e.owed.items facts.rises facts.sure facts.there (λ m in_. facts.older m (All-contains (IsCardHeld (found_of f c) c w.book X) (marks_of (device_of c) w.marks) m parts.marks_mine.held in_))
 
   -- the number that it told is its own
   pub accepted-number-by : IsOwnValid (found_of f c).image → (e : Entered) → answer ≡ Ok e → card_number_bytes e.look.number ≡ (found_of f c).number
-  accepted-number-by valid e ok = told-own f w c U V X Y found.two (found.sizes c valid) unit_whole unit_after whole after registration long odometer now few answer parts.unit (w.brought c) (one-before valid) late (room valid) (enters valid) e ok
+  accepted-number-by valid e ok = told-own f w c U V X Y found.two (found.sizes c valid) unit_whole unit_after whole after registration long vehicle odometer now few answer parts.unit (w.brought c) (one-before valid) late (room valid) (enters valid) e ok
 
   -- and by some images of unit and card that a stop might leave then so many entries were owed
   pub accepted-found-by : IsOwnValid (found_of f c).image → (e : Entered) → answer ≡ Ok e → HasFoundSo f c U X now e.owed.items e.replayed
-  accepted-found-by valid e ok = verdict-found f w c U V X Y found.two (found.sizes c valid) unit_whole unit_after whole after registration long odometer now few answer parts.unit (w.brought c) (one-before valid) late (room valid) (enters valid) e ok
+  accepted-found-by valid e ok = verdict-found f w c U V X Y found.two (found.sizes c valid) unit_whole unit_after whole after registration long vehicle odometer now few answer parts.unit (w.brought c) (one-before valid) late (room valid) (enters valid) e ok
 
   pub accepted-whole-by : IsOwnValid (found_of f c).image → (e : Entered) → answer ≡ Ok e → e.replayed ≡ length e.owed.items
-  accepted-whole-by valid e ok = told-whole f w c U V X Y found.two (found.sizes c valid) unit_whole unit_after whole after registration long odometer now few answer parts.unit (w.brought c) (one-before valid) late (room valid) (enters valid) e ok
+  accepted-whole-by valid e ok = told-whole f w c U V X Y found.two (found.sizes c valid) unit_whole unit_after whole after registration long vehicle odometer now few answer parts.unit (w.brought c) (one-before valid) late (room valid) (enters valid) e ok
 
 -- ---- by the card's own sizes
 
-module _ (f : Found) (w : RunLedger) (cards : Cards) (c : Card) (U V X Y Z : State) (found : AreFoundCards f cards) (unit_whole : IsCoherent U) (unit_after : IsCoherent V) (whole : IsCoherent X) (after : IsCoherent Y) (registration : Registration) (long : length registration.0 ≡ 15) (odometer now : ℕ) (few : now < 2 ^ 32) (answer : Result Entered NotEntered)
+module _ (f : Found) (w : RunLedger) (cards : Cards) (c : Card) (U V X Y Z : State) (found : AreFoundCards f cards) (unit_whole : IsCoherent U) (unit_after : IsCoherent V) (whole : IsCoherent X) (after : IsCoherent Y) (registration : Registration) (long : length registration.0 ≡ 15) (vehicle : registration ≡ (found_of f c).vehicle) (odometer now : ℕ) (few : now < 2 ^ 32) (answer : Result Entered NotEntered)
     (out : w.standing c ≡ Out) (bare : session_of cards c ≡ None) (p : DevicesPowered f w cards (arranged c U X Z)) (late : w.due ≤ now / 60) (room : image_size_of (own_sizes (found_of f c).image) ≤ X.size) (enters : IsEntering (own_sizes (found_of f c).image) registration odometer now U V X Y answer) where
   pub entered-powered : V.works ≡ true → DevicesPowered f w cards (arranged c V Y Z)
-  entered-powered = entered-powered-by f w cards c U V X Y Z found unit_whole unit_after whole after registration long odometer now few answer out bare p late (own_sizes (found_of f c).image) (λ valid. refl) room enters
+  entered-powered = entered-powered-by f w cards c U V X Y Z found unit_whole unit_after whole after registration long vehicle odometer now few answer out bare p late (own_sizes (found_of f c).image) (λ valid. refl) room enters
 
   pub entered-powerless : DevicesUnpowered f w (arranged c V Y Z)
-  entered-powerless = entered-powerless-by f w cards c U V X Y Z found unit_whole unit_after whole after registration long odometer now few answer out bare p late (own_sizes (found_of f c).image) (λ valid. refl) room enters
+  entered-powerless = entered-powerless-by f w cards c U V X Y Z found unit_whole unit_after whole after registration long vehicle odometer now few answer out bare p late (own_sizes (found_of f c).image) (λ valid. refl) room enters
 
   pub accepted-put : IsOwnValid (found_of f c).image → (e : Entered) → answer ≡ Ok e → IsPutIn (found_of f c) c w.book now e.session Y
-  accepted-put = accepted-put-by f w cards c U V X Y Z found unit_whole unit_after whole after registration long odometer now few answer out bare p late (own_sizes (found_of f c).image) (λ valid. refl) room enters
+  accepted-put = accepted-put-by f w cards c U V X Y Z found unit_whole unit_after whole after registration long vehicle odometer now few answer out bare p late (own_sizes (found_of f c).image) (λ valid. refl) room enters
 
   pub accepted-marked : IsOwnValid (found_of f c).image → (e : Entered) → answer ≡ Ok e → V.works ≡ true → IsSettled Y → DevicesPowered f (with_marks (card_marks c Y.clock e.owed.items) w) cards (arranged c V Y Z)
-  accepted-marked = accepted-marked-by f w cards c U V X Y Z found unit_whole unit_after whole after registration long odometer now few answer out bare p late (own_sizes (found_of f c).image) (λ valid. refl) room enters
+  accepted-marked = accepted-marked-by f w cards c U V X Y Z found unit_whole unit_after whole after registration long vehicle odometer now few answer out bare p late (own_sizes (found_of f c).image) (λ valid. refl) room enters
 
 -- the sizes that it was measured by are those that it told at the start
 pub measured-own : (f : Found) (w : RunLedger) (cards : Cards) (c : Card) (U X Z : State) → DevicesPowered f w cards (arranged c U X Z) → IsCoherent X → (app : Application) → IfSome X.image (λ x. own_sizes x ≡ app) → IsOwnValid (found_of f c).image → app ≡ own_sizes (found_of f c).image

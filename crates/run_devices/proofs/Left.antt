@@ -51,6 +51,10 @@ use Rattle.run_promise.specs.Between.{RunLedger}
 use Rattle.run_devices.specs.Told.{AreFoundCards, SessionIsOnCard, DevicesPowered, for_card, arranged, with_standing}
 use Rattle.run_devices.proofs.Parts.{both_of, as-steps, of-steps, left-one, CardLit, UnitLit, AreParts, MarksLit, parts-of, powered-of, at-card, at-other}
 use Rattle.run_devices.proofs.Holders.{HaveSameRest, closing-rest}
+use Rattle.run_devices.specs.Registered.{AreIn, IsUsedSo, TellsOfTwo}
+use Rattle.run_devices.proofs.Registered.{MayBe, close-on}
+use Rattle.run_devices.proofs.Used.{close-used}
+use Rattle.tacho_types.specs.declared.texts.Registration.{Registration}
 use Rattle.run_devices.proofs.OnCards.{own-valid, valid-own, valid-or, no-marks, own-holder-still, Rises, rises-run, none-falls, marks-on, brought-card, held-on, valid-on, bound_of as place_on}
 
 pub own-sizes-same : (app : Application) (x y : List ℕ) → HaveSameSizes app x y → own_sizes y ≡ own_sizes x
@@ -180,6 +184,17 @@ module _ (f : Found) (w : RunLedger) (c : Card) (U X Y : State) (two : f.card_a.
           (omega (arith, minute-low x there, step.newest)) (omega (arith, newest-here, step.newest))
           (at_image (GoesSince a.session.application (found_of f c).image one.goes.has (suc (max (found_of f c).start.word a.session.minute))) is on.goes) closing))
 
+  -- and it tells of no other vehicle
+  closed-named : (x : List ℕ) (is : X.image ≡ Some x) (y : List ℕ) → IsCardClosing a.session act x y → TellsOfTwo (own_sizes (found_of f c).image) (found_of f c).vehicle (found_of f c).image x → TellsOfTwo (own_sizes (found_of f c).image) (found_of f c).vehicle (found_of f c).image y
+  closed-named x is y k told =
+      let May : Registration → Type 0 = MayBe (found_of f c).vehicle (book_of (own_sizes (found_of f c).image) (found_of f c).image).vehicles in
+      record {
+        entries = subst (λ (p : Application). AreIn May (book_of p y).vehicles) on.sizes
+            (close-on May a.session act x y sound-s (long x is) (subst (λ (p : Application). AreIn May (book_of p x).vehicles) (sym on.sizes) told.entries) k);
+        session = subst (λ (p : Application). IsUsedSo p (found_of f c).vehicle (found_of f c).image y) on.sizes
+            (close-used a.session (found_of f c).vehicle (found_of f c).image act x y (long x is) (subst (λ (p : Application). IsUsedSo p (found_of f c).vehicle (found_of f c).image x) (sym on.sizes) told.session) k);
+      }
+
   closes : LeavesOnly X Y (IsCardClosing a.session act)
   closes = weaken run (λ x y is k. k (knows x is))
 
@@ -204,7 +219,8 @@ module _ (f : Found) (w : RunLedger) (c : Card) (U X Y : State) (two : f.card_a.
               (omega (arith, minute-low x there, ap (λ (z : Standing). since z (own_view x).newest) on.stands)) h.1,
         ))
         (λ x y is k h. (same-sizes x is y k ∙ h.0, string x is y k))
-        (λ x y is k. own-holder-still a.session.application x y (own x is) (same-sizes x is y k ∙ own x is) (same-number x is y k) (same-rest x is y k)) whole one.held;
+        (λ x y is k. own-holder-still a.session.application x y (own x is) (same-sizes x is y k ∙ own x is) (same-number x is y k) (same-rest x is y k))
+        (λ x y is k own told. closed-named x is y k told) whole one.held;
     goes = record { has = brought_by c (found_of f c).start w.book; all = append-nil (brought_by c (found_of f c).start w.book); goes = tt };
   }
 

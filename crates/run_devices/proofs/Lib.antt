@@ -4,6 +4,9 @@ pub mod Parts
 pub mod Holders
 pub mod OnCards
 pub mod NotedCard
+pub mod Registered
+pub mod CardUse
+pub mod Used
 pub mod Noted
 pub mod Begun
 pub mod Left

@@ -26,6 +26,7 @@ use Rattle.unit_rule.specs.Rule.{Started}
 use Rattle.unit_rule.specs.Marks.{UnitFollowsBook}
 use Rattle.run_promise.specs.Found.{CardFound, Found, found_of, unit_seen, AnyKept}
 use Rattle.run_promise.specs.Cards.{brought_by, IsCardHeld, CardMarksHold}
+use Rattle.run_devices.specs.Registered.{TellsOfTwo}
 use Rattle.run_devices.specs.Strung.{HasSameRest, CardHoldsString, HasSameHolder}
 use Rattle.run_promise.specs.Stays.{NoMarkFalls}
 use Rattle.run_promise.proofs.Stays.{stays, adds-none}
@@ -137,14 +138,18 @@ module _ (f : CardFound) (c : Card) (b : Book) (sound : IsApplication (own_sizes
 
   pub held-on : (y z : Standing) (R : List ℕ → List ℕ → Type 0) (X Y : State) → f.began ≤ X.clock → LeavesOnly X Y R → ((x : List ℕ) → X.may_leave x → Holds_at y x → Holds_at z x) → ((x n : List ℕ) → X.image ≡ Some x → R x n → Holds_at y x → Holds_at z n)
       → ((x n : List ℕ) → X.image ≡ Some x → R x n → HasSameHolder x n)
+      → ((x n : List ℕ) → X.image ≡ Some x → R x n → own_sizes x ≡ own_sizes f.image → TellsOfTwo (own_sizes f.image) f.vehicle f.image x → TellsOfTwo (own_sizes f.image) f.vehicle f.image n)
       → IsCoherent X → CardHoldsString f c b y X → CardHoldsString f c b z Y
-  held-on y z R X Y began run still made same whole h = record {
+  held-on y z R X Y began run still made same names whole h = record {
     tells = run.tells ∙ h.tells;
     now = λ n there. ⊎_elim (λ was. still n was (h.now n was)) (λ one. made one.0 n one.1 one.2 (h.now one.0 (whole.is_left one.0 one.1))) (run.now n there);
     since = λ n left. ⊎_elim (h.since n)
         (λ one. let is = made one.0 n one.1 one.2 (h.now one.0 (whole.is_left one.0 one.1)) in (is.0, holds_kept (own_sizes f.image) sound f.image n refl is.0 (brought_by c f.start b) (bound_of f z n) is.1)) (run.since f.began n began left);
     number = λ n there. ⊎_elim (h.number n) (λ one. (same one.0 n one.1 one.2).number ∙ h.number one.0 (whole.is_left one.0 one.1)) (run.now n there);
     still = λ n left. ⊎_elim (h.still n) (λ one. then-holder f.image one.0 n (h.still one.0 (whole.counts_now f.began one.0 began (whole.is_left one.0 one.1))) (same one.0 n one.1 one.2)) (run.since f.began n began left);
+    registered = λ n left. ⊎_elim (h.registered n)
+        (λ one. let there = whole.is_left one.0 one.1 in names one.0 n one.1 one.2 (h.now one.0 there).0 (h.registered one.0 (whole.counts_now f.began one.0 began there)))
+        (run.since f.began n began left);
   }
 
 -- a card that was only read
@@ -155,6 +160,7 @@ held-read f c b z X Y began run h = record {
   since = λ n left. ⊎_elim (h.since n) (λ one. absurd one.2) (run.since f.began n began left);
   number = λ n there. ⊎_elim (h.number n) (λ one. absurd one.2) (run.now n there);
   still = λ n left. ⊎_elim (h.still n) (λ one. absurd one.2) (run.since f.began n began left);
+  registered = λ n left. ⊎_elim (h.registered n) (λ one. absurd one.2) (run.since f.began n began left);
 }
 
 -- each image since the start is valid still

@@ -34,6 +34,9 @@ use Rattle.run_promise.specs.Cards.{brought_by}
 use Rattle.run_promise.specs.Between.{LedgerStands}
 use Rattle.run_promise.specs.Opening.{BeginsAs, IsLookedAt, carried_first}
 use Rattle.run_promise.proofs.OwedRises.{owed-rises}
+use Rattle.run_devices.specs.Registered.{TellsOfTwo}
+use Rattle.run_devices.proofs.Registered.{registered-first}
+use Rattle.run_devices.proofs.Used.{first-used}
 use Rattle.run_devices.specs.Strung.{CardHoldsString, HasSameHolder}
 use Rattle.run_devices.specs.Told.{CardHoldsStringUnpowered, DevicesUnpowered}
 use Rattle.run_devices.proofs.Parts.{held-dark}
@@ -115,6 +118,7 @@ module _ (f : Found) (c : Card) (u x : List ℕ) (card : State) (whole : IsCoher
         (same-sizes, holds_kept (own_sizes (found_of f c).image) (subst (λ (i : List ℕ). IsApplication (own_sizes i)) (sym looked.image) sound) (found_of f c).image x refl same-sizes (brought_by c (found_of f c).start not_begun) (bound_of (found_of f c) Out x) found-starts);
     number = λ y there. ap own_number (only-now y there) ∙ sym number;
     still = λ y left. subst (HasSameHolder (found_of f c).image) (looked.image ∙ sym (only y left)) (same-holder (found_of f c).image);
+    registered = λ y left. subst (TellsOfTwo (own_sizes (found_of f c).image) (found_of f c).vehicle (found_of f c).image) (looked.image ∙ sym (only y left)) (record { entries = registered-first (own_sizes (found_of f c).image) (found_of f c).vehicle (found_of f c).image; session = first-used (own_sizes (found_of f c).image) (found_of f c).vehicle (found_of f c).image });
   }
 
   pub opened-wait : CardHoldsStringUnpowered (found_of f c) c not_begun Out card

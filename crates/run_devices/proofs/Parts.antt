@@ -86,6 +86,7 @@ held-same f c b d z X same h = record {
   since = λ x left. subst (λ (es : List Entry). (own_sizes x ≡ own_sizes f.image) × KeepsSince f.image es x) same (h.since x left);
   number = h.number;
   still = h.still;
+  registered = h.registered;
 }
 
 -- a book that has no minute but the sure ones

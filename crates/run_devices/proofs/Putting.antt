@@ -29,7 +29,7 @@ use Rattle.run_devices.proofs.Entered.{entered-powered-by, entered-powerless-by,
 pub out-now : (c : Card) (w : RunLedger) → (with_standing c Out w).standing c ≡ Out
 out-now c w = at-card c Out w.standing (λ (z : Standing). z ≡ Out) refl
 
-module _ (f : Found) (w : RunLedger) (cards : Cards) (c : Card) (U V X Y Z : State) (found : AreFoundCards f cards) (unit_whole : IsCoherent U) (unit_after : IsCoherent V) (whole : IsCoherent X) (after : IsCoherent Y) (registration : Registration) (long : length registration.0 ≡ 15) (odometer now : ℕ) (few : now < 2 ^ 32) (answer : Result Entered NotEntered)
+module _ (f : Found) (w : RunLedger) (cards : Cards) (c : Card) (U V X Y Z : State) (found : AreFoundCards f cards) (unit_whole : IsCoherent U) (unit_after : IsCoherent V) (whole : IsCoherent X) (after : IsCoherent Y) (registration : Registration) (long : length registration.0 ≡ 15) (vehicle : registration ≡ (found_of f c).vehicle) (odometer now : ℕ) (few : now < 2 ^ 32) (answer : Result Entered NotEntered)
     (bare : session_of cards c ≡ None) (p : DevicesPowered f w cards (arranged c U X Z)) (late : w.due ≤ now / 60) (app : Application) (told : IfSome X.image (λ x. own_sizes x ≡ app)) (size : image_size_of app ≤ X.size) (enters : IsEntering app registration odometer now U V X Y answer) where
   was-out : DevicesPowered f (with_standing c Out w) cards (arranged c U X Z)
   was-out = out-powered f w cards cards c U X Z found bare refl p found unit_whole
@@ -39,11 +39,11 @@ module _ (f : Found) (w : RunLedger) (cards : Cards) (c : Card) (U V X Y Z : Sta
 
   -- turned away, or failed, or accepted: where the unit works
   pub put-powered : V.works ≡ true → DevicesPowered f (with_standing c Out w) cards (arranged c V Y Z)
-  put-powered = entered-powered-by f (with_standing c Out w) cards c U V X Y Z found unit_whole unit_after whole after registration long odometer now few answer (out-now c w) bare was-out late app measured size enters
+  put-powered = entered-powered-by f (with_standing c Out w) cards c U V X Y Z found unit_whole unit_after whole after registration long vehicle odometer now few answer (out-now c w) bare was-out late app measured size enters
 
   -- the unit failed
   pub put-powerless : DevicesUnpowered f (with_standing c Out w) (arranged c V Y Z)
-  put-powerless = entered-powerless-by f (with_standing c Out w) cards c U V X Y Z found unit_whole unit_after whole after registration long odometer now few answer (out-now c w) bare was-out late app measured size enters
+  put-powerless = entered-powerless-by f (with_standing c Out w) cards c U V X Y Z found unit_whole unit_after whole after registration long vehicle odometer now few answer (out-now c w) bare was-out late app measured size enters
 
   -- a card that is accepted was valid at the start, if none but valid cards were written
   pub put-valid : is_some X.image ≡ true → (found_of f c).began ≤ X.clock → IsUntouched (found_of f c) X ⊎ IsOwnValid (found_of f c).image → (e : Entered) → answer ≡ Ok e → IsOwnValid (found_of f c).image
@@ -59,10 +59,10 @@ module _ (f : Found) (w : RunLedger) (cards : Cards) (c : Card) (U V X Y Z : Sta
   module _ (valid : IsOwnValid (found_of f c).image) (e : Entered) (ok : answer ≡ Ok e) where
     -- all that is asked of a card that is seated
     pub put-in : IsPutIn (found_of f c) c w.book now e.session Y
-    put-in = accepted-put-by f (with_standing c Out w) cards c U V X Y Z found unit_whole unit_after whole after registration long odometer now few answer (out-now c w) bare was-out late app measured size enters valid e ok
+    put-in = accepted-put-by f (with_standing c Out w) cards c U V X Y Z found unit_whole unit_after whole after registration long vehicle odometer now few answer (out-now c w) bare was-out late app measured size enters valid e ok
 
     pub put-marked : V.works ≡ true → IsSettled Y → DevicesPowered f (with_marks (card_marks c Y.clock e.owed.items) (with_standing c Out w)) cards (arranged c V Y Z)
-    put-marked = accepted-marked-by f (with_standing c Out w) cards c U V X Y Z found unit_whole unit_after whole after registration long odometer now few answer (out-now c w) bare was-out late app measured size enters valid e ok
+    put-marked = accepted-marked-by f (with_standing c Out w) cards c U V X Y Z found unit_whole unit_after whole after registration long vehicle odometer now few answer (out-now c w) bare was-out late app measured size enters valid e ok
 
     pub put-found : HasFoundSo f c U X now e.owed.items e.replayed
-    put-found = accepted-found-by f (with_standing c Out w) cards c U V X Y Z found unit_whole unit_after whole after registration long odometer now few answer (out-now c w) bare was-out late app measured size enters valid e ok
+    put-found = accepted-found-by f (with_standing c Out w) cards c U V X Y Z found unit_whole unit_after whole after registration long vehicle odometer now few answer (out-now c w) bare was-out late app measured size enters valid e ok

@@ -93,4 +93,5 @@ held-more f c b d z X es same rise late comes h = record {
       );
   number = h.number;
   still = h.still;
+  registered = h.registered;
 }

@@ -112,4 +112,4 @@ module _ (f : Found) (c : Card) (b : Book) (z : Standing) (unit card : State) (s
     out-image x there (e ∷ rest) some = out-lacking e rest x (held u x on there) some
 
     pub held-out : CardHoldsString g c b Out card
-    held-out = record { tells = s.held.tells; now = λ x there. ((s.held.now x there).0, out-image x there (held u x on there).rest refl); since = s.held.since; number = s.held.number; still = s.held.still }
+    held-out = record { tells = s.held.tells; now = λ x there. ((s.held.now x there).0, out-image x there (held u x on there).rest refl); since = s.held.since; number = s.held.number; still = s.held.still; registered = s.held.registered }

@@ -1,3 +1,4 @@
 pub mod Presence
+pub mod Registered
 pub mod Strung
 pub mod Told

@@ -16,6 +16,7 @@ use Rattle.device_rule.specs.Rules.{Standing, since, CardDark}
 use Rattle.device_rule.specs.Marked.{of_card}
 use Rattle.run_promise.specs.Found.{CardFound, Found, found_of, unit_seen, AnyKept}
 use Rattle.run_promise.specs.Cards.{brought_by}
+use Rattle.run_devices.specs.Registered.{TellsOfTwo}
 
 -- the file Identification of a card's image
 abbrev pub identification_of : List ℕ → List ℕ
@@ -40,7 +41,7 @@ pub record HasSameHolder (start x : List ℕ) : Type 0 where
 
 -- THE STRING OF A CARD, which tells its images: each that a stop may leave now holds it, and an entry may come behind
 -- its newest minute as the card stands; and each since the start keeps it. The card has its number and its holder
--- still.
+-- still, and tells of no other vehicle than the unit's and those of the start.
 pub record CardHoldsString (f : CardFound) (c : Card) (b : Book) (z : Standing) (card : State) : Type 0 where
   pub tells : is_some card.image ≡ true
   pub now : (x : List ℕ) → card.may_leave x →
@@ -51,6 +52,7 @@ pub record CardHoldsString (f : CardFound) (c : Card) (b : Book) (z : Standing) 
       → (own_sizes x ≡ own_sizes f.image) × KeepsSince f.image (brought_by c f.start b) x
   pub number : (x : List ℕ) → card.may_leave x → own_number x ≡ f.number
   pub still : (x : List ℕ) → card.left_since f.began x → HasSameHolder f.image x
+  pub registered : (x : List ℕ) → card.left_since f.began x → TellsOfTwo (own_sizes f.image) f.vehicle f.image x
 
 -- So its string is held; each image since the start is valid; the entries rise. Nothing of a minute is half kept, and
 -- the rule that joins unit and card holds.

@@ -74,6 +74,7 @@ pub record SessionIsOnCard (f : CardFound) (has : List Entry) (z : Standing) (s 
   pub time : ℕ
   pub stands : z ≡ In time s.minute
   pub sizes : s.application ≡ own_sizes f.image
+  pub vehicle : s.registration ≡ f.vehicle
   pub session : IfSome card.image (IsSession s)
   pub ends : IfSome card.image (MayEnd s.application)
   pub goes : IfSome card.image (GoesSince s.application f.image has (suc (max f.start.word s.minute)))
@@ -105,6 +106,7 @@ pub record AllGo (f : Found) (w : RunLedger) (owes : Card → List Entry) (cards
 pub record IsPutIn (f : CardFound) (c : Card) (b : Book) (now : ℕ) (s : Session) (card : State) : Type 0 where
   pub entered : IsEntered f.start f.began now s.minute (of_card card)
   pub sizes : s.application ≡ own_sizes f.image
+  pub vehicle : s.registration ≡ f.vehicle
   pub session : IfSome card.image (IsSession s)
   pub ends : IfSome card.image (MayEnd s.application)
   pub goes : IfSome card.image (GoesSince s.application f.image (brought_by c f.start b)

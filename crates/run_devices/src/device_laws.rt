@@ -60,8 +60,8 @@ pub fn a_card_that_is_put_in_leaves_what_is_carried<
     answer: &Result<Entered, NotEntered>,
 )
     ensures powered { (f : Found) (w : RunLedger) (cards : Cards) (c : Card) (registration : Registration)
-        (odometer now : ℕ) → AreFoundCards f cards → length registration.0 ≡ 15 → now < 2 ^ 32 → w.standing c ≡ Out
-        → session_of cards c ≡ None → w.due ≤ now / 60 →
+        (odometer now : ℕ) → AreFoundCards f cards → length registration.0 ≡ 15 → registration ≡ (found_of f c).vehicle
+        → now < 2 ^ 32 → w.standing c ≡ Out → session_of cards c ≡ None → w.due ≤ now / 60 →
         image_size_of (own_sizes (found_of f c).image) ≤ (C.state mine.now).size
         → IsEntering (own_sizes (found_of f c).image) registration odometer now (M.state unit.now)
         (N.state unit_after.now) (C.state mine.now) (D.state mine_after.now) answer.now →
@@ -69,16 +69,16 @@ pub fn a_card_that_is_put_in_leaves_what_is_carried<
         → DevicesPowered f w cards (arranged c (M.state unit.now) (C.state mine.now) (E.state others.now))
         → DevicesPowered f w cards (arranged c (N.state unit_after.now) (D.state mine_after.now) (E.state others.now)) }
     ensures powerless { (f : Found) (w : RunLedger) (cards : Cards) (c : Card) (registration : Registration)
-        (odometer now : ℕ) → AreFoundCards f cards → length registration.0 ≡ 15 → now < 2 ^ 32 → w.standing c ≡ Out
-        → session_of cards c ≡ None → w.due ≤ now / 60 →
+        (odometer now : ℕ) → AreFoundCards f cards → length registration.0 ≡ 15 → registration ≡ (found_of f c).vehicle
+        → now < 2 ^ 32 → w.standing c ≡ Out → session_of cards c ≡ None → w.due ≤ now / 60 →
         image_size_of (own_sizes (found_of f c).image) ≤ (C.state mine.now).size
         → IsEntering (own_sizes (found_of f c).image) registration odometer now (M.state unit.now)
         (N.state unit_after.now) (C.state mine.now) (D.state mine_after.now) answer.now →
         DevicesPowered f w cards (arranged c (M.state unit.now) (C.state mine.now) (E.state others.now))
         → DevicesUnpowered f w (arranged c (N.state unit_after.now) (D.state mine_after.now) (E.state others.now)) }
     ensures accepted { (f : Found) (w : RunLedger) (cards : Cards) (c : Card) (registration : Registration)
-        (odometer now : ℕ) → AreFoundCards f cards → length registration.0 ≡ 15 → now < 2 ^ 32 → w.standing c ≡ Out
-        → session_of cards c ≡ None → w.due ≤ now / 60 →
+        (odometer now : ℕ) → AreFoundCards f cards → length registration.0 ≡ 15 → registration ≡ (found_of f c).vehicle
+        → now < 2 ^ 32 → w.standing c ≡ Out → session_of cards c ≡ None → w.due ≤ now / 60 →
         image_size_of (own_sizes (found_of f c).image) ≤ (C.state mine.now).size
         → IsEntering (own_sizes (found_of f c).image) registration odometer now (M.state unit.now)
         (N.state unit_after.now) (C.state mine.now) (D.state mine_after.now) answer.now →

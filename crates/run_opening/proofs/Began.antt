@@ -22,7 +22,7 @@ use Rattle.safety_model.specs.Recording.{Recording, card_image, unit_seen}
 use Rattle.safety_model.specs.Safe.{Devices, card_of}
 use Rattle.run_crew.specs.declared.cards.Known.{Known}
 use Rattle.unit_rule.specs.OtherRows.{valid_number}
-use Rattle.run_promise.specs.Found.{found_of}
+use Rattle.run_promise.specs.Found.{found_of, registration_of}
 use Rattle.run_promise.specs.Between.{LedgerStands, IsFound, devices}
 use Rattle.run_promise.specs.Opening.{BeginsAs, as_found, IsLookedAt, carried_first}
 use Rattle.run_promise.proofs.Opening.{first-carried}
@@ -160,12 +160,17 @@ module _ (r : Recording) (start : ℕ) (old new : Devices) (unit_before : IsCohe
       start = starts;
       clock = began-found;
       number = λ c valid. named-found c ∙ name-valid c (card_image r c) valid;
+      vehicle = vehicle;
       days = days;
     }
       where
         starts : (c : Card) → (found_of (found_in r old) c).start ≡ as_found c (unit_seen r r.unit) (card_image r c)
         starts A = refl
         starts B = refl
+
+        vehicle : (c : Card) → (found_of (found_in r old) c).vehicle ≡ registration_of r.unit
+        vehicle A = refl
+        vehicle B = refl
 
     looked-start : (c : Card) → IsOwnValid (card_image r c) → (found_of (found_in r old) c).start ≡ as_found c (unit_view (name_of A r.card_a) (name_of B r.card_b) r.unit) (card_image r c)
     looked-start A valid = start-first (own_number r.card_a) (own_number r.card_b) (name_of A r.card_a) (name_of B r.card_b) r.unit r.card_a (name-valid A r.card_a valid)

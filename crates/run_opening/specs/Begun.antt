@@ -17,7 +17,7 @@ use Rattle.safety_model.specs.Safe.{Devices, card_of, MayBegin, first_of}
 use Rattle.unit_rule.specs.Rule.{started}
 use Rattle.run_crew.specs.declared.cards.Known.{Known}
 use Rattle.unit_rule.specs.OtherRows.{valid_number}
-use Rattle.run_promise.specs.Found.{CardFound, Found, found_of}
+use Rattle.run_promise.specs.Found.{CardFound, Found, found_of, registration_of}
 use Rattle.run_promise.specs.Between.{LedgerStands, IsFound}
 use Rattle.run_promise.specs.Opening.{BeginsAs, as_found, IsLookedAt, carried_first}
 use Rattle.run_opening.specs.declared.fault.RunFault.{RunFault}
@@ -51,6 +51,7 @@ card_found r c clock = record {
   start = as_found c (unit_seen r r.unit) (card_image r c);
   number = name_of c (card_image r c);
   began = clock;
+  vehicle = registration_of r.unit;
 }
 
 -- WHAT THE OPENING FINDS of these devices

@@ -31,7 +31,7 @@ use Rattle.device_rule.proofs.Overwriting.{owed-entries_count}
 use Rattle.unit_rule.specs.Recording.{Recording, card_image, brought, start_of, history_of, expected_of, told_of, unit_seen}
 use Rattle.unit_rule.specs.Unit.{marks_of}
 use Rattle.unit_rule.specs.Cards.{CardShows, CardMarkHolds, acceptances, was_kept, IsRepaired, expected_to}
-use Rattle.run_promise.specs.Found.{CardFound, AnyKept}
+use Rattle.run_promise.specs.Found.{CardFound, AnyKept, registration_of}
 use Rattle.run_promise.specs.Cards.{brought_by, counted_to, StringHolds, StringGoesOn, IsCardHeld}
 use Rattle.run_promise.specs.Between.{AreBrought}
 use Rattle.run_promise.proofs.Entries.{all-by, rise-front, counted-front, counted-split, contains-counted}
@@ -40,7 +40,7 @@ use Rattle.run_promise.proofs.Present.{bound, history-later, owed-beyond}
 
 -- what the opening of a run finds of a card
 abbrev pub at_start : Recording → Card → ℕ → CardFound
-at_start r c clock = record { image = card_image r c; start = brought r c; number = own_number (card_image r c); began = clock }
+at_start r c clock = record { image = card_image r c; start = brought r c; number = own_number (card_image r c); began = clock; vehicle = registration_of r.unit }
 
 pub started : (r : Recording) (c : Card) → card_start (start_of r) c ≡ brought r c
 started r A = refl

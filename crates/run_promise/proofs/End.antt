@@ -29,7 +29,8 @@ use Rattle.unit_rule.specs.Safe.{Devices, card_of, IsSafe}
 use Rattle.unit_rule.specs.Rule.{Started}
 use Rattle.unit_rule.proofs.Marking.{holds-dark}
 use Rattle.unit_rule.proofs.Safety.{unit-safe}
-use Rattle.run_promise.specs.Found.{CardFound, Found, found_of, unit_seen, AnyKept}
+use Rattle.tacho_types.specs.declared.texts.Registration.{Registration}
+use Rattle.run_promise.specs.Found.{CardFound, Found, found_of, unit_seen, AnyKept, registration_of}
 use Rattle.run_promise.specs.Cards.{StringHolds, StringGoesOn, CardWaits, IsCardHeld, counted_to, brought_by}
 use Rattle.run_promise.specs.Between.{RunLedger, LedgerStandsPowered, LedgerStands, IsFound, IsFollowed, AreBrought, AreUntouched}
 use Rattle.run_promise.proofs.CardEnd.{at_start, shows, marked, repaired, rest-agrees, started as started-start}
@@ -37,12 +38,14 @@ use Rattle.run_promise.proofs.Beyond.{follows-later}
 use Rattle.run_promise.proofs.Present.{bound, history-later}
 use Rattle.run_promise.proofs.Behind.{said-by, counted-in, kept-within, own-marked, owed-until, rising-above, mark-above, stands-there}
 
-same-card : (g : CardFound) (image number : List ℕ) (start : CardStart) (began : ℕ) → g.image ≡ image → g.start ≡ start → g.number ≡ number → g.began ≡ began → g ≡ record { image = image; start = start; number = number; began = began }
-same-card g image number start began a b c d =
-    ap (λ (i : List ℕ). record { image = i; start = g.start; number = g.number; began = g.began }) a
-    ∙ ap (λ (s : CardStart). record { image = image; start = s; number = g.number; began = g.began }) b
-    ∙ ap (λ (n : List ℕ). record { image = image; start = start; number = n; began = g.began }) c
-    ∙ ap (λ (k : ℕ). record { image = image; start = start; number = number; began = k }) d
+same-card : (g : CardFound) (image number : List ℕ) (start : CardStart) (began : ℕ) (vehicle : Registration) → g.image ≡ image → g.start ≡ start → g.number ≡ number → g.began ≡ began → g.vehicle ≡ vehicle
+    → g ≡ record { image = image; start = start; number = number; began = began; vehicle = vehicle }
+same-card g image number start began vehicle a b c d e =
+    ap (λ (i : List ℕ). record { image = i; start = g.start; number = g.number; began = g.began; vehicle = g.vehicle }) a
+    ∙ ap (λ (s : CardStart). record { image = image; start = s; number = g.number; began = g.began; vehicle = g.vehicle }) b
+    ∙ ap (λ (n : List ℕ). record { image = image; start = start; number = n; began = g.began; vehicle = g.vehicle }) c
+    ∙ ap (λ (k : ℕ). record { image = image; start = start; number = number; began = k; vehicle = g.vehicle }) d
+    ∙ ap (λ (v : Registration). record { image = image; start = start; number = number; began = began; vehicle = v }) e
 
 told-image : (o : Option (List ℕ)) → is_some o ≡ true → (x : List ℕ) × (o ≡ Some x)
 told-image None is = absurd (cc)
@@ -104,7 +107,7 @@ module _ (r : Recording) (f : Found) (w : RunLedger) (began now : Devices) (foun
     card = card_of now c
 
     same : found_of f c ≡ at_start r c clock
-    same = same-card (found_of f c) (card_image r c) (own_number (card_image r c)) (brought r c) clock (found.image c) (found.start c) (found.number c valid) (found.clock c)
+    same = same-card (found_of f c) (card_image r c) (own_number (card_image r c)) (brought r c) clock (registration_of r.unit) (found.image c) (found.start c) (found.number c valid) (found.clock c) (found.vehicle c)
 
     waits : CardWaits f c w.book (w.standing c) (w.brought c) now.unit card
     waits = carried.cards c (subst IsOwnValid (sym (found.image c)) valid)

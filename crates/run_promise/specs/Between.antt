@@ -17,7 +17,7 @@ use Rattle.unit_rule.specs.Safe.{Devices, card_of}
 use Rattle.unit_rule.specs.Rule.{started, once_mended}
 use Rattle.unit_rule.specs.Marks.{UnitFollowsBook}
 use Rattle.unit_rule.specs.OtherRows.{valid_number}
-use Rattle.run_promise.specs.Found.{Found, found_of}
+use Rattle.run_promise.specs.Found.{Found, found_of, registration_of}
 use Rattle.run_promise.specs.Cards.{CardStands, CardWaits, CardMarksHold, IsUntouched}
 
 -- what is carried from step to step: from where on a minute may come, the book, the marks, how each card stands, and
@@ -55,6 +55,7 @@ pub record IsFound (r : Recording) (f : Found) (began : Devices) : Type 0 where
   pub start : (c : Card) → (found_of f c).start ≡ brought r c
   pub clock : (c : Card) → (found_of f c).began ≡ (card_of began c).clock
   pub number : (c : Card) → IsOwnValid (card_image r c) → (found_of f c).number ≡ own_number (card_image r c)
+  pub vehicle : (c : Card) → (found_of f c).vehicle ≡ registration_of r.unit
   -- the days of a card that is valid are days
   pub days : (c : Card) → IsOwnValid (card_image r c)
       → AreDays 0 (card_days (own_sizes (card_image r c)) (card_image r c))

@@ -3,7 +3,9 @@ use Rattle.std.specs.Prelude.{ℕ, List}
 use Rattle.activity_codec.specs.declared.entries.Entry.{Entry}
 use Rattle.trace_model.specs.declared.Card.{Card}
 use Rattle.trace_model.specs.declared.Card.TheVariants.{A, B}
-use Rattle.tach_media.specs.Medium.{State}
+use Rattle.tach_media.specs.Medium.{State, bytes_at}
+use Rattle.tacho_types.specs.declared.texts.Registration.{Registration}
+use Rattle.unit_model.specs.declared.layout.TheConstants.{REGISTRATION}
 use Rattle.history_model.specs.Presence.{CardStart}
 use Rattle.device_rule.specs.View.{Held}
 use Rattle.device_rule.specs.Views.{UnitView}
@@ -11,13 +13,18 @@ use Rattle.device_rule.specs.Device.{Seen}
 use Rattle.device_rule.specs.Marked.{of_unit}
 use Rattle.unit_rule.specs.Rule.{Started}
 
+-- the registration of the unit's vehicle, by the unit's image
+abbrev pub registration_of : List ℕ → Registration
+registration_of unit = record { 0 = bytes_at unit REGISTRATION.place REGISTRATION.size }
+
 -- of a card its image, what it brings, its number, and the clock; a card that is not valid has a number that no card
--- has
+-- has. And the vehicle of the unit into which it is put
 pub record CardFound : Type 0 where
   pub image : List ℕ
   pub start : CardStart
   pub number : List ℕ
   pub began : ℕ
+  pub vehicle : Registration
 
 -- of the unit its days and last-kept minute, and of the cards what they bring
 pub record Found : Type 0 where
