@@ -72,6 +72,7 @@ module _ (o : Origin) (done : List TraceSecond) (s : TraceSecond) (speed : ℕ) 
       (record {
         goes = record {
           origin = h.origin;
+          vehicle = h.vehicle;
           lit = h.lit;
           within = g.within;
           odometer = same-odometer g.within.b g.began;
@@ -95,6 +96,7 @@ module _ (o : Origin) (done : List TraceSecond) (s : TraceSecond) (speed : ℕ) 
       (record {
         goes = record {
           origin = h.origin;
+          vehicle = h.vehicle;
           lit = h.lit;
           within = g.within;
           odometer = same-odometer g.within.b g.began;
@@ -113,6 +115,7 @@ module _ (o : Origin) (done : List TraceSecond) (s : TraceSecond) (speed : ℕ) 
       record {
         goes = record {
           origin = h.origin;
+          vehicle = h.vehicle;
           lit = h.lit;
           within = g.within;
           odometer = same-odometer g.within.b g.began;
@@ -139,6 +142,7 @@ cut o done s begun rest run new out after d origin number left fails is told =
     (subst (λ (u : ℕ). RunCut o done s (cut_run u run) (record out { breaks = with_lines (cut_at u true begun ∷ []) out.breaks }) d) number
     (record {
       origin = origin;
+      vehicle = fails.vehicle;
       lost = refl;
       recorded = subst (λ (cabin : Cabin). RecordBetweenSeconds o (done ++ s ∷ []) IsLost
           (passed_values s (record (values_of run (record out { breaks = with_lines (cut_at s.number true begun ∷ []) out.breaks })) { cabin = cabin })) d) fails.same r;

@@ -48,7 +48,7 @@ module _ (o : Origin) (done : List TraceSecond) (s : TraceSecond) (run : Run) (o
   -- the second goes on by the log so far
   pub lit-evented : (h : RunEvented o done run out d) → (w : WithinEvented o done s (In 0) [] [] Acting (minute_over run) out d) × (w.within.within.b.run.log ≡ log_of out)
   lit-evented h =
-      let g = second-goes o h.recorded.origin done s run out d U chip_a chip_b X Y lit number given low going h.recorded in
+      let g = second-goes o h.recorded.origin done s run h.recorded.vehicle out d U chip_a chip_b X Y lit number given low going h.recorded in
       let w : RunWithin o done s (In 0) [] [] (minute_over run) out d = g.0 in
       let p : Progress = w.within.b.run in
       let is : p ≡ progress (values_of run out) h.recorded.supply g.1 = g.2 in

@@ -32,6 +32,7 @@ use Rattle.run_acts.specs.Power.{is_lit, has_power, over_by, minute_over}
 use Rattle.run_acts.specs.Going.{first_second, RunHasPowerAllSeated}
 use Rattle.run_acts.specs.Room.{finds_due, bare_seats, HasRoom}
 use Rattle.run_acts.specs.Recording.{log_of, IsOrigin, Supplies, values_of, RunRecorded, RunWithin}
+use Rattle.run_note_record.specs.Uses.{vehicle_in}
 use Rattle.run_acts.proofs.Kept.{owing-sum}
 use Rattle.minute_model.proofs.Counted.{ahead-most}
 use Rattle.recorder_with_cards.proofs.AwakeRooms.{is-due}
@@ -73,7 +74,7 @@ starts-of o origin A = origin.start A
 starts-of o origin B = origin.start B
 
 -- WITH POWER
-module _ (o : Origin) (origin : IsOrigin o) (done : List TraceSecond) (s : TraceSecond) (run : Run) (out : Outcome) (d : Devices) (U : State) (chip_a chip_b : CardState) (X Y : State) (lit : run.power ≡ Lit) (number : s.number ≡ run.next) (given : s.has_power ≡ true) (low : first_second ≤ run.next)
+module _ (o : Origin) (origin : IsOrigin o) (done : List TraceSecond) (s : TraceSecond) (run : Run) (vehicle : run.keeper.memory.registration ≡ vehicle_in o) (out : Outcome) (d : Devices) (U : State) (chip_a chip_b : CardState) (X Y : State) (lit : run.power ≡ Lit) (number : s.number ≡ run.next) (given : s.has_power ≡ true) (low : first_second ≤ run.next)
     (going : RunHasPowerAllSeated ((run.next - 1) / 60) run U chip_a chip_b X Y) where
   module _ (t : ToldSecond) (span : List ToldSecond) (r : RecordBetweenSeconds o done (IsLitBy (t ∷ span)) (values_of run out) d) (odometer : run.keeper.odometer ≡ odometer_after (odometer_at o.recording.unit) r.travel.before) (stay : AllStay o (marked out.marks.items (truths_of o (log_of out) done)) 0 (log_of out) (notes_in (log_of out) done) run.keeper.memory.registration run.keeper.cabin d) where
     abbrev from : ℕ
@@ -87,6 +88,7 @@ module _ (o : Origin) (origin : IsOrigin o) (done : List TraceSecond) (s : Trace
     on cabin first stays h = (
       record {
         origin = origin;
+        vehicle = vehicle;
         lit = lit;
         within = h.within;
         odometer = odometer ∙ ap (λ (b : Beginning). odometer_after (odometer_at o.recording.unit) b.travel.before) (sym h.began);

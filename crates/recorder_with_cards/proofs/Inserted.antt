@@ -56,6 +56,8 @@ use Rattle.recorder_with_cards.specs.Judged.{moment_in, RunNext, JudgesSo, IsInT
 use Rattle.recorder_with_cards.specs.JudgedRings.{RingsJudged, IsJudgedInRings}
 use Rattle.recorder_with_cards.specs.JudgedCards.{CardsJudged, IsJudgedOnCards}
 use Rattle.run_acts.specs.RunCards.{vehicle_in}
+use Rattle.unit_memory.specs.declared.memory.UnitFacts.{UnitFacts}
+use Rattle.recorder_with_cards.proofs.Staying.{settled-watched}
 use Rattle.recorder_with_cards.proofs.ActsRecorded.{refuses}
 use Rattle.recorder_with_cards.proofs.Resumed.{judged-as}
 
@@ -188,6 +190,7 @@ module _ (slot : Slot) (card : Card) (at : Moment) (speed : ℕ) (old : Run) (be
     abbrev pub waiting : RunWithin o done s (In (suc n)) waits decided (settled_run mid.minutes (put_run slot card old)) before d
     waiting = record {
       origin = h.origin;
+      vehicle = h.vehicle;
       lit = h.lit;
       within = put.goes.within;
       odometer = h.odometer ∙ ap (λ (b : Beginning). odometer_after (odometer_at o.recording.unit) b.travel.before) (sym put.goes.began);
@@ -202,7 +205,7 @@ module _ (slot : Slot) (card : Card) (at : Moment) (speed : ℕ) (old : Run) (be
       pub unsettled : failed ≡ true → RunFails o done s (In at.begun) mid told e
       unsettled fails =
           let cut = subst (λ (f : Bool). SettlesTo f o done s (In (suc n)) waits waiting.within.b waiting.within.from (waiting.within.from + length decided) (put_run slot card old) mid before told e) fails kept in
-          subst (λ (m : ℕ). RunFails o done s (In m) mid told e) (sym begun) (record { waits = waits; cabin = mid.keeper.cabin; same = refl; odometer = mid.keeper.odometer; counted = λ power. refl; within = cut })
+          subst (λ (m : ℕ). RunFails o done s (In m) mid told e) (sym begun) (record { waits = waits; cabin = mid.keeper.cabin; same = refl; odometer = mid.keeper.odometer; counted = λ power. refl; vehicle = ap (λ (m : UnitFacts). m.registration) (settled-watched at failed (put_run slot card old) mid before told settles).memory ∙ h.vehicle; within = cut })
 
       -- or they are kept, and the card is judged
       module _ (well : failed ≡ false) (seat : seat_in mid.keeper.cabin.slots.seats slot ≡ Some (record { card = card; newest = None })) where

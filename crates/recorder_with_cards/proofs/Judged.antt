@@ -18,6 +18,7 @@ use Rattle.run_record.specs.Within.{Beginning}
 use Rattle.run_acts.specs.declared.run.Run.{Run}
 use Rattle.run_acts.specs.declared.run.Power.TheVariants.{Lit}
 use Rattle.run_acts.specs.Recording.{log_of, IsOrigin, values_of, RunWithin}
+use Rattle.unit_memory.specs.declared.memory.UnitFacts.{UnitFacts}
 use Rattle.activity_codec.specs.declared.values.Slot.{Slot}
 use Rattle.unit_model.specs.Image.{IsUnit, odometer_at}
 use Rattle.unit_notes.specs.declared.unit_event.UnitEvent.{UnitEvent}
@@ -48,10 +49,11 @@ found-by o origin = record { first = ap (λ (u : Started). u.first) origin.unit;
 
 -- the second goes on, or power is about to be cut
 pub judged-by : (failed : Bool) (o : Origin) (done : List TraceSecond) (s : TraceSecond) (n : ℕ) (waits fewer : List Visit) (old new : Run) (before after : Outcome) (d e : Devices) (w : RunWithin o done s (In n) waits [] old before d) →
-    new.power ≡ Lit → new.keeper.odometer ≡ old.keeper.odometer → GoesOnOrIsCut failed o done s n waits fewer (values_of old before) (values_of new after) d e w.within → (failed ≡ false → AllStay o (marked after.marks.items (truths_within o w.within.b.run.log done s)) s.number (log_of after) (notes_within w.within.b done s (In n) (log_of after)) new.keeper.memory.registration new.keeper.cabin e) → JudgedTo failed o done s n waits fewer old new before after d e w
-judged-by false o done s n waits fewer old new before after d e w lit odometer h stay = record {
+    new.power ≡ Lit → new.keeper.odometer ≡ old.keeper.odometer → new.keeper.memory ≡ old.keeper.memory → GoesOnOrIsCut failed o done s n waits fewer (values_of old before) (values_of new after) d e w.within → (failed ≡ false → AllStay o (marked after.marks.items (truths_within o w.within.b.run.log done s)) s.number (log_of after) (notes_within w.within.b done s (In n) (log_of after)) new.keeper.memory.registration new.keeper.cabin e) → JudgedTo failed o done s n waits fewer old new before after d e w
+judged-by false o done s n waits fewer old new before after d e w lit odometer memory h stay = record {
   goes = record {
     origin = w.origin;
+    vehicle = ap (λ (m : UnitFacts). m.registration) memory ∙ w.vehicle;
     lit = lit;
     within = h.within;
     odometer = odometer ∙ w.odometer ∙ ap (λ (b : Beginning). odometer_after (odometer_at o.recording.unit) b.travel.before) (sym h.began);
@@ -60,7 +62,7 @@ judged-by false o done s n waits fewer old new before after d e w lit odometer h
   began = h.began;
   from = h.from;
 }
-judged-by true o done s n waits fewer old new before after d e w lit odometer h stay = record { waits = h.left; cabin = h.cabin; same = h.same; odometer = new.keeper.odometer; counted = λ power. refl; within = h.within }
+judged-by true o done s n waits fewer old new before after d e w lit odometer memory h stay = record { waits = h.left; cabin = h.cabin; same = h.same; odometer = new.keeper.odometer; counted = λ power. refl; vehicle = ap (λ (m : UnitFacts). m.registration) memory ∙ w.vehicle; within = h.within }
 
 -- ---- what is noted
 

@@ -100,7 +100,7 @@ use Rattle.recorder_with_cards.specs.Ends.{BeginAs, recorded_with, recording_of,
 use Rattle.recorder_with_cards.specs.Side.{ShowTheSide}
 use Rattle.recorder_with_cards.proofs.Again.{begins-anew}
 use Rattle.recorder_with_cards.proofs.SideShown.{insertions-inside, places-inside, side-shown}
-use Rattle.recorder_with_cards.proofs.Written.{are-written, keep-holders}
+use Rattle.recorder_with_cards.proofs.Written.{are-written, keep-holders, keep-vehicles}
 use Rattle.recorder_with_cards.specs.Placed.{ShowsPlaces}
 use Rattle.recorder_with_cards.proofs.KeptAfter.{end-kept}
 use Rattle.recorder_with_cards.specs.LastKept.{TellsLast}
@@ -145,7 +145,7 @@ begins-with x a b trace log began h = record { unit = h.of_unit; card = each }
 
 -- what was found is so whatever the run told since
 found-by : (r : Recording) (done : List TraceSecond) (log : RunLog) (f : Found) (began : Devices) → IsFound r f began → IsFound (so_far r done log) f began
-found-by r done log f began h = record { unit = h.unit; image = image; start = start; clock = h.clock; number = number; days = days }
+found-by r done log f began h = record { unit = h.unit; image = image; start = start; clock = h.clock; number = number; vehicle = h.vehicle; days = days }
   where
     image : (c : Card) → (found_of f c).image ≡ card_image (so_far r done log) c
     image A = h.image A
@@ -246,6 +246,7 @@ module _ (x a b : List ℕ) (start : ℕ) (items : List Item) (began now : Devic
       places = λ dense y left. (h.ringed.ringed.places (record { points = places-inside x may.decodes; dense = dense }) y left).carries.dense;
     };
     holders = keep-holders o (seconds_of start items) h.evented.recorded.supply (values_of run out) began now h.evented.recorded.recorded (found-by r0 (seconds_of start items) (log_of out) (found_in r0 began) began found);
+    vehicles = keep-vehicles o (seconds_of start items) h.evented.recorded.supply (values_of run out) began now h.evented.recorded.recorded (found-by r0 (seconds_of start items) (log_of out) (found_in r0 began) began found);
     places = record { spans = h.spans; are_spans = record { spans_are = h.ringed.spans_are; bases = stores.0 }; shows = shows-places };
     cards = λ c valid.
         let one = carded.cards c (subst IsOwnValid (images c) valid) in
@@ -376,7 +377,7 @@ module _ (x a b : List ℕ) (start : ℕ) (began now : Devices) (opened : Opened
         own-long image (omega (arith, fits, all, size))
 
     is-origin : IsOrigin first-o
-    is-origin = record { rule = refl; decodes = ready.decodes; unit = refl; image = ready.found.image; start = ready.found.start; number = ready.found.number; long = long; bytes = bytes }
+    is-origin = record { rule = refl; decodes = ready.decodes; unit = refl; image = ready.found.image; start = ready.found.start; number = ready.found.number; long = long; bytes = bytes; vehicle = ready.found.vehicle }
 
     told : (c : Card) → IsOwnValid (card_image (opened_with x a b) c) → is_some (known_of opened c).number ≡ true
     told c valid = ap (λ (o : Option FullCardNumber). is_some o) ((ready.told c).number ∙ ap (λ o. number_by o (card_number_of (own_number (card_image (opened_with x a b) c)))) valid)
@@ -441,6 +442,7 @@ module _ (x a b : List ℕ) (start : ℕ) (began now : Devices) (opened : Opened
         RunRecorded first-o [] run out now
     starts-recorded run out due next begun unfound slots same bare breaks refused finds marks registered = record {
       origin = is-origin;
+      vehicle = ap (λ (bs : List ℕ). record { 0 = bs }) registered;
       supply = IsDue;
       powers = subst (λ (p : Power). Supplies p IsDue) (sym due) tt;
       recorded = begun-recorded now first-o (values_of run out) (record {

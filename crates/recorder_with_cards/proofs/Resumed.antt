@@ -76,6 +76,7 @@ use Rattle.run_acts.specs.declared.run.Run.{Run}
 use Rattle.run_acts.specs.declared.run.Power.TheVariants.{Lit}
 use Rattle.run_acts.specs.Power.{IsSpanBegun, is_lit}
 use Rattle.run_acts.specs.Recording.{IsOrigin, log_of, values_of, RunWithin, ComesPower, GoesOnOrCut, GoesOnOrFails}
+use Rattle.run_note_record.specs.Uses.{vehicle_in}
 use Rattle.run_acts.proofs.NoteRecorded.{same-course}
 use Rattle.run_acts.proofs.Stored.{stored-back}
 use Rattle.recorder_with_cards.specs.Accepting.{IsBare, IsAnew}
@@ -101,6 +102,7 @@ use Rattle.run_acts.proofs.TruthsThen.{truths-begin, truths-same}
 -- power begins with a second that begins so, and these cards wait, of those in these slots nothing was found yet
 pub record RunWaking (o : Origin) (done : List TraceSecond) (s : TraceSecond) (b : Beginning) (waits : List Visit) (untold : List Slot) (run : Run) (out : Outcome) (d : Devices) : Type 0 where
   pub origin : IsOrigin o
+  pub vehicle : run.keeper.memory.registration ≡ vehicle_in o
   pub lit : run.power ≡ Lit
   pub waking : IsWaking o done s b (values_of run out) d waits untold
   pub odometer : run.keeper.odometer ≡ odometer_after (odometer_at o.recording.unit) b.travel.before
@@ -109,6 +111,7 @@ pub record RunWaking (o : Origin) (done : List TraceSecond) (s : TraceSecond) (b
 abbrev pub within-of : (o : Origin) (done : List TraceSecond) (s : TraceSecond) (b : Beginning) (waits : List Visit) (untold : List Slot) (run : Run) (out : Outcome) (d : Devices) → RunWaking o done s b waits untold run out d → RunWithin o done s (In 0) waits [] run out d
 within-of o done s b waits untold run out d w = record {
   origin = w.origin;
+  vehicle = w.vehicle;
   lit = w.lit;
   within = w.waking.within;
   odometer = w.odometer ∙ ap (λ (x : Beginning). odometer_after (odometer_at o.recording.unit) x.travel.before) (sym w.waking.began);
@@ -198,7 +201,7 @@ module _ (o : Origin) (origin : IsOrigin o) (done : List TraceSecond) (s : Trace
     (holds : (st : Started) (due : ℕ) (b : Book) (marks : List Mark) → UnitFollowsBook st due b marks U → IsHeldMended st due b marks W)
     (taken_a : (q : Both) (c : Card) (b : Book) (z : Standing) → CardRests q c b z U X → IsTakenUp q c b z failed W X)
     (taken_b : (q : Both) (c : Card) (b : Book) (z : Standing) → CardRests q c b z U Y → IsTakenUp q c b z failed W Y)
-    (old : Run) (out : Outcome) (values : values_of old out ≡ read_values j.kept v) where
+    (old : Run) (vehicle : old.keeper.memory.registration ≡ vehicle_in o) (out : Outcome) (values : values_of old out ≡ read_values j.kept v) where
   abbrev d : Devices
   d = devices U X Y
 
@@ -314,7 +317,7 @@ module _ (o : Origin) (origin : IsOrigin o) (done : List TraceSecond) (s : Trace
         (all-unit o (marked v.marks (truths_of o v.log done)) 0 v.log (notes_in v.log done) old.keeper.memory.registration v.cabin U W X Y (leaves-more U W (rings-moments U W (IsMending j) whole mends (λ x c m. behind-same x c m.outside.after))) stay)))))))
 
     pub awake : (begins : Beginning) × RunWaking o done s begins (waiting_in Driver (card_in new.keeper.cabin.slots.seats.driver) ++ waiting_in CoDriver (card_in new.keeper.cabin.slots.seats.codriver)) both_slots new out (devices W X Y)
-    awake = (b, record { origin = origin; lit = begun.power; waking = wakes; odometer = odometer; stay = stays-behind })
+    awake = (b, record { origin = origin; vehicle = ap (λ (k : Keeper). k.memory.registration) begun.keeper ∙ vehicle; lit = begun.power; waking = wakes; odometer = odometer; stay = stays-behind })
 
     -- how it began
     pub awake-is : (awake.0.run ≡ found_again j.kept (progress v supply r.book)) × (awake.0.span ≡ []) × HaveLeftMore o d e
@@ -368,6 +371,7 @@ module _ (o : Origin) (origin : IsOrigin o) (done : List TraceSecond) (s : Trace
         same = refl;
         odometer = found_;
         counted = λ lit. absurd (let bad : true ≡ false = sym (ap is_lit lit) ∙ dark in cc);
+        vehicle = vehicle;
         within = subst (λ (x : Values). RecordAtFailure o done s (In 0) (fresh true (slots_of v done)).entered None (counted_from found_ x) e) (ap (λ (k : ℕ). read_values k v) kept-is ∙ sym values) cut;
       }
 
@@ -419,6 +423,7 @@ module _ (o : Origin) (done : List TraceSecond) (s : TraceSecond) (b : Beginning
       let began : on.goes.within.b ≡ b = on.began ∙ w.waking.began in
       record {
         origin = w.origin;
+        vehicle = on.goes.vehicle;
         lit = on.goes.lit;
         waking = record { within = on.goes.within; began = began; starts = w.waking.starts; is_now = on.from ∙ w.waking.is_now; none = none };
         odometer = on.goes.odometer ∙ ap (λ (x : Beginning). odometer_after (odometer_at o.recording.unit) x.travel.before) began;
@@ -451,6 +456,7 @@ driver-judged o done s b None rest old before d w once is bare at now speed fail
       (subst (λ (q : Outcome). RunWaking o done s b rest (CoDriver ∷ []) old q d) (sym anew.1)
       (record {
         origin = w.origin;
+        vehicle = w.vehicle;
         lit = w.lit;
         waking = record { within = w.waking.within; began = w.waking.began; starts = w.waking.starts; is_now = w.waking.is_now; none = λ slot there. w.waking.none slot (one-of-both slot there) };
         odometer = w.odometer;
@@ -535,6 +541,7 @@ codriver-on o done s b None old before d w is bare at now speed failed new after
     (subst (λ (q : Outcome). RunWaking o done s b [] [] old q d) (sym anew.1)
     (record {
       origin = w.origin;
+      vehicle = w.vehicle;
       lit = w.lit;
       waking = record { within = w.waking.within; began = w.waking.began; starts = w.waking.starts; is_now = w.waking.is_now; none = λ slot there. absurd (omega (arith, there.1)) };
       odometer = w.odometer;

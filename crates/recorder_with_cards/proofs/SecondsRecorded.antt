@@ -28,6 +28,7 @@ use Rattle.run_acts.specs.Power.{is_lit, has_power, darkened, off_run, off_cut, 
 use Rattle.run_acts.specs.Going.{largest_number}
 use Rattle.run_acts.specs.Turning.{IsTurnOf}
 use Rattle.run_acts.specs.Recording.{log_of, values_of, Supplies, RunRecorded}
+use Rattle.run_note_record.specs.Uses.{vehicle_in}
 use Rattle.recorder_with_cards.specs.Acting.{AreActed}
 use Rattle.recorder_with_cards.specs.Recorded.{Inside, Between, actions_in, HasBegunBy, HasRunBy}
 use Rattle.recorder_with_cards.proofs.Waiting.{most-actions}
@@ -138,6 +139,7 @@ module _ (o : Origin) (done : List TraceSecond) (old : Run) (before : Outcome) (
       (subst (λ (p : Outcome). RunRecorded o (done ++ driven (suc n) old.next speed actions) (passed (suc n) begun old) p d) (sym told)
       (record {
         origin = h.origin;
+        vehicle = h.vehicle;
         supply = IsLost;
         powers = subst (λ (p : Power). Supplies p IsLost) (sym lost.0) tt;
         recorded = on;
@@ -165,9 +167,10 @@ module _ (o : Origin) (done : List TraceSecond) (old : Run) (before : Outcome) (
       (subst (λ (l : Listed Break). RunRecorded o (done ++ dark (suc n) old.next) (off_run (suc n) old) (record before { breaks = l }) d) (sym told)
       (by old.power refl h.supply h.powers h.recorded))
     where
-      due : (r : Run) (out : Outcome) → AllStay o (marked out.marks.items (truths_of o (log_of out) (done ++ dark (suc n) old.next))) 0 (log_of out) (notes_in (log_of out) (done ++ dark (suc n) old.next)) r.keeper.memory.registration r.keeper.cabin d → r.power ≡ Due → RecordBetweenSeconds o (done ++ dark (suc n) old.next) IsDue (values_of r out) d → RunRecorded o (done ++ dark (suc n) old.next) r out d
-      due r out stays is recorded = record {
+      due : (r : Run) (out : Outcome) → AllStay o (marked out.marks.items (truths_of o (log_of out) (done ++ dark (suc n) old.next))) 0 (log_of out) (notes_in (log_of out) (done ++ dark (suc n) old.next)) r.keeper.memory.registration r.keeper.cabin d → r.keeper.memory.registration ≡ vehicle_in o → r.power ≡ Due → RecordBetweenSeconds o (done ++ dark (suc n) old.next) IsDue (values_of r out) d → RunRecorded o (done ++ dark (suc n) old.next) r out d
+      due r out stays vehicle is recorded = record {
         origin = h.origin;
+        vehicle = vehicle;
         supply = IsDue;
         powers = subst (λ (p : Power). Supplies p IsDue) (sym is) tt;
         recorded = recorded;
@@ -231,15 +234,15 @@ module _ (o : Origin) (done : List TraceSecond) (old : Run) (before : Outcome) (
         where
           so : (p : Power) → old.power ≡ p → (s : UnitPower) → Supplies p s → RecordBetweenSeconds o done s (values_of old before) d → RunRecorded o (done ++ dark (suc n) old.next) (off_as (is_lit p) (suc n) old) (told_off (is_lit p) old before) d
           so Lit at (IsLit []) powers r = absurd powers
-          so Lit at (IsLit (t ∷ span)) powers r = due (off_as true (suc n) old) (told_off true old before) (off-lit (sits at) t span r) refl (off-cut-recorded d o done t span (values_of old before) r n)
+          so Lit at (IsLit (t ∷ span)) powers r = due (off_as true (suc n) old) (told_off true old before) (off-lit (sits at) t span r) h.vehicle refl (off-cut-recorded d o done t span (values_of old before) r n)
           so Lit at IsDue powers r = absurd powers
           so Lit at IsLost powers r = absurd powers
           so Due at (IsLit span) powers r = absurd powers
-          so Due at IsDue powers r = due (off_as false (suc n) old) (told_off false old before) off-due refl (plain (off-recorded d o done IsDue (values_of old before) r tt n))
+          so Due at IsDue powers r = due (off_as false (suc n) old) (told_off false old before) off-due h.vehicle refl (plain (off-recorded d o done IsDue (values_of old before) r tt n))
           so Due at IsLost powers r = absurd powers
           so Lost at (IsLit span) powers r = absurd powers
           so Lost at IsDue powers r = absurd powers
-          so Lost at IsLost powers r = due (off_as false (suc n) old) (told_off false old before) off-due refl (plain (off-recorded d o done IsLost (values_of old before) r tt n))
+          so Lost at IsLost powers r = due (off_as false (suc n) old) (told_off false old before) off-due h.vehicle refl (plain (off-recorded d o done IsLost (values_of old before) r tt n))
 
 -- ---- a second has begun
 

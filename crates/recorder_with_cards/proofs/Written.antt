@@ -18,18 +18,20 @@ use Rattle.history_model.proofs.Books.{history-append}
 use Rattle.run_unit_course.specs.Followed.{UnitPower, Lit, Due, Lost}
 use Rattle.safety_model.specs.Recording.{Recording, card_image, brought, history_of, expected_of}
 use Rattle.safety_model.specs.Safe.{Devices, card_of}
-use Rattle.run_promise.specs.Found.{found_of}
+use Rattle.run_promise.specs.Found.{found_of, registration_of}
+use Rattle.tacho_types.specs.declared.texts.Registration.{Registration}
 use Rattle.run_promise.specs.Cards.{brought_by}
 use Rattle.run_promise.specs.Between.{IsFound}
 use Rattle.run_promise.proofs.CardEnd.{started}
 use Rattle.run_promise.proofs.AccountsEnd.{ends-follow}
+use Rattle.run_devices.specs.Registered.{TellsOfTwo}
 use Rattle.run_devices.specs.Strung.{HasSameHolder}
 use Rattle.run_devices.specs.Told.{sure_of}
 use Rattle.run_promise.specs.Origin.{Origin, first_of}
 use Rattle.run_promise.specs.Ends.{recording_by}
 use Rattle.run_record.specs.Recorded.{Values, progress, carried, IsHeldBy, RecordBetweenSeconds}
 use Rattle.recorder_with_cards.specs.Written.{IsWritten, AreWritten}
-use Rattle.recorder_with_cards.specs.Still.{KeepTheirHolders}
+use Rattle.recorder_with_cards.specs.Still.{KeepTheirHolders, KeepTheirVehicles}
 
 module _ (r : Recording) (c : Card) (x : List ℕ) where
   -- what is expected, where a book has the front of the history
@@ -106,3 +108,20 @@ module _ (o : Origin) (done : List TraceSecond) (supply : UnitPower) (v : Values
       by (Lit span) on = (on.powered.go.held c was).still x since
       by Due off = (off.powerless.wait c was).held.still x since
       by Lost off = (off.powerless.wait c was).held.still x since
+
+  -- and tells of no third vehicle
+  pub keep-vehicles : KeepTheirVehicles r began now
+  keep-vehicles c valid x left =
+      subst (λ (i : List ℕ). TellsOfTwo (own_sizes i) (registration_of r.unit) i x) (found.image c)
+      (subst (λ (v : Registration). TellsOfTwo (own_sizes (found_of o.found c).image) v (found_of o.found c).image x) (found.vehicle c) (by supply h.held))
+    where
+      was : IsOwnValid (found_of o.found c).image
+      was = subst IsOwnValid (sym (found.image c)) valid
+
+      since : (card_of now c).left_since (found_of o.found c).began x
+      since = subst (λ (t : ℕ). (card_of now c).left_since t x) (sym (found.clock c)) left
+
+      by : (s : UnitPower) → IsHeldBy o done s v (carried v h.due h.book h.standing h.brought) now → TellsOfTwo (own_sizes (found_of o.found c).image) (found_of o.found c).vehicle (found_of o.found c).image x
+      by (Lit span) on = (on.powered.go.held c was).registered x since
+      by Due off = (off.powerless.wait c was).held.registered x since
+      by Lost off = (off.powerless.wait c was).held.registered x since

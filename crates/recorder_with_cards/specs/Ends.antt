@@ -20,7 +20,7 @@ use Rattle.run_outcome.specs.declared.outcome.Outcome.{Outcome}
 use Rattle.run_acts.specs.Recording.{log_of}
 use Rattle.recorder_with_cards.specs.Written.{AreWritten}
 use Rattle.recorder_with_cards.specs.Stays.{HasAllStays}
-use Rattle.recorder_with_cards.specs.Still.{StayDense, KeepTheirHolders}
+use Rattle.recorder_with_cards.specs.Still.{StayDense, KeepTheirHolders, KeepTheirVehicles}
 use Rattle.recorder_with_cards.specs.Side.{ShowTheSide}
 use Rattle.recorder_with_cards.specs.KeptAfter.{TellsKept}
 use Rattle.recorder_with_cards.specs.LastKept.{TellsLast}
@@ -82,11 +82,12 @@ BeginsAgain began now = (unit card_a card_b : List ℕ) → now.unit.left_since 
 -- written so (`written`), and where no call failed each of these shows exactly what its stays in the slots make of it
 -- (`stays`). What was found kept after its cuts was so (`kept`), and the last-kept minute of each image of the unit is
 -- that of the last minute which it shows (`last`). Rings that were dense stay dense (`dense`); each valid card stays
--- its holder's, with all that no call writes (`holders`), and shows the places that were entered by it (`places`) and
--- its events of the run (`cards`). The owed rows of every image of the unit since the start stand as they stood, or
--- were taken for one of the two cards, and what is owed to any other card stays (`rows`). Where the ring of detailed
--- speed was dense, every image that a stop may leave of the unit carries the blocks of the run (`speeds`). And with
--- whatever a stop might have left a run may begin again (`again`).
+-- its holder's, with all that no call writes (`holders`), has no vehicle entry but of the unit's vehicle and of those
+-- that it had (`vehicles`), and shows the places that were entered by it (`places`) and its events of the run
+-- (`cards`). The owed rows of every image of the unit since the start stand as they stood, or were taken for one of the
+-- two cards, and what is owed to any other card stays (`rows`). Where the ring of detailed speed was dense, every image
+-- that a stop may leave of the unit carries the blocks of the run (`speeds`). And with whatever a stop might have left
+-- a run may begin again (`again`).
 pub record EndsTrace (unit card_a card_b : List ℕ) (start : ℕ) (items : List Item) (out : Outcome)
     (began now : Devices) : Type 0 where
   pub may : MayRecord unit card_a card_b start
@@ -99,6 +100,7 @@ pub record EndsTrace (unit card_a card_b : List ℕ) (start : ℕ) (items : List
   pub last : TellsLast (last_kept unit) ends.safe.unit
   pub dense : StayDense (recording_of unit card_a card_b start items out) now
   pub holders : KeepTheirHolders (recording_of unit card_a card_b start items out) began now
+  pub vehicles : KeepTheirVehicles (recording_of unit card_a card_b start items out) began now
   pub places : ShowTheirPlaces (recording_of unit card_a card_b start items out) now
   pub cards : ShowTheirEvents (recording_of unit card_a card_b start items out) began now
   pub speeds : CarriesItsSpeeds (recording_of unit card_a card_b start items out) began now

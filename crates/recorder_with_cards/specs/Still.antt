@@ -1,14 +1,16 @@
--- What a run with cards leaves as it was (profile): a ring of the unit that is dense, and the holder of a card with all
--- that no call writes.
+-- What a run with cards leaves as it was (profile): a ring of the unit that is dense, the holder of a card with all that
+-- no call writes, and of which vehicles it tells.
 use Rattle.std.specs.Prelude.{List, ℕ}
 use Rattle.trace_model.specs.declared.Card.{Card}
 use Rattle.tach_media.specs.Medium.{State}
 use Rattle.gated_ring.specs.Ring.{Shape, IsDense}
 use Rattle.message_model.specs.Records.{insertion_ring, unit_place_ring}
-use Rattle.card_image.specs.Own.{IsOwnValid}
+use Rattle.card_image.specs.Own.{own_sizes, IsOwnValid}
 use Rattle.safety_model.specs.Recording.{Recording, card_image}
 use Rattle.safety_model.specs.Safe.{Devices, card_of}
+use Rattle.run_promise.specs.Found.{registration_of}
 use Rattle.run_devices.specs.Strung.{HasSameHolder}
+use Rattle.run_devices.specs.Registered.{TellsOfTwo}
 
 -- a ring that was dense at the start is dense in each image of the unit that a stop may leave
 abbrev pub StaysDense : Shape → (start : List ℕ) → (now : Devices) → Type 0
@@ -28,3 +30,14 @@ KeepsHolder r c since card = IsOwnValid (card_image r c) → (x : List ℕ) → 
 -- EACH CARD IS ITS HOLDER'S STILL.
 abbrev pub KeepTheirHolders : Recording → (began now : Devices) → Type 0
 KeepTheirHolders r began now = (c : Card) → KeepsHolder r c (card_of began c).clock (card_of now c)
+
+-- each vehicle entry of each image that a card might have left since a clock has the registration that the unit's image
+-- says, or that of an entry at the start, and its current use tells of no open session, is that of the start, or has the
+-- registration that the unit's image says, where the card's image at the start was valid
+abbrev pub KeepsVehicles : Recording → Card → (since : ℕ) → State → Type 0
+KeepsVehicles r c since card = IsOwnValid (card_image r c) → (x : List ℕ) → card.left_since since x
+    → TellsOfTwo (own_sizes (card_image r c)) (registration_of r.unit) (card_image r c) x
+
+-- NO CARD TELLS OF A THIRD VEHICLE, whatever calls failed.
+abbrev pub KeepTheirVehicles : Recording → (began now : Devices) → Type 0
+KeepTheirVehicles r began now = (c : Card) → KeepsVehicles r c (card_of began c).clock (card_of now c)

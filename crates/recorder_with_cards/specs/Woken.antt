@@ -21,6 +21,7 @@ use Rattle.run_note_record.specs.Noting.{Acting}
 use Rattle.run_acts.specs.declared.run.Run.{Run}
 use Rattle.run_acts.specs.Power.{has_power}
 use Rattle.run_acts.specs.Recording.{IsOrigin, log_of, values_of, RunRecorded, InSecond, GoesOnOrCut, IsNow}
+use Rattle.run_note_record.specs.Uses.{vehicle_in}
 use Rattle.run_acts.specs.Evented.{WithinEvented, InSecondEvented, RunEvented}
 use Rattle.run_acts.specs.RunRinged.{RunRinged, RingsWithin, InSecondRinged, with_cut}
 use Rattle.run_note_record.specs.Ringed.{Seating, notes_in}
@@ -36,6 +37,7 @@ use Rattle.run_acts.specs.Stays.{AllStay}
 abbrev pub ResumesSo : (kept : ℕ) → (failed : Bool) → (old new : Run) → (before after : Outcome) → (d e : Devices)
     → Type 0
 ResumesSo kept failed old new before after d e = (o : Origin) → IsOrigin o
+    → old.keeper.memory.registration ≡ vehicle_in o
     → (done : List TraceSecond) (s : TraceSecond) (supply : UnitPower) (v : Values)
     → RecordBetweenSeconds o done supply v d
     → AllStay o (marked v.marks (truths_of o v.log done)) 0 v.log (notes_in v.log done) old.keeper.memory.registration
@@ -56,6 +58,7 @@ EventsWoken true began o done s run out d = Evented o (done ++ s ∷ []) (and_br
 abbrev pub EventsResuming : (kept speed : ℕ) → (failed : Bool) → (old new : Run) → (before after : Outcome)
     → (d e : Devices) → Type 0
 EventsResuming kept speed failed old new before after d e = (o : Origin) → IsOrigin o
+    → old.keeper.memory.registration ≡ vehicle_in o
     → (done : List TraceSecond) (s : TraceSecond) (supply : UnitPower) (v : Values)
     → RecordBetweenSeconds o done supply v d
     → AllStay o (marked v.marks (truths_of o v.log done)) 0 v.log (notes_in v.log done) old.keeper.memory.registration
@@ -105,6 +108,7 @@ RingsWoken true began o done s spans run log d = (now : List SpanFrom) × (run.n
 abbrev pub RingsResuming : (kept : ℕ) → (failed : Bool) → (old new : Run) → (before after : Outcome) → (d e : Devices)
     → Type 0
 RingsResuming kept failed old new before after d e = (o : Origin) → IsOrigin o
+    → old.keeper.memory.registration ≡ vehicle_in o
     → (done : List TraceSecond) (s : TraceSecond) (supply : UnitPower) (v : Values)
     → RecordBetweenSeconds o done supply v d
     → AllStay o (marked v.marks (truths_of o v.log done)) 0 v.log (notes_in v.log done) old.keeper.memory.registration

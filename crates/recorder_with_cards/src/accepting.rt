@@ -2,8 +2,7 @@
 ghost use Rattle.std.specs.Prelude.{◌≡◌, ◌+◌, ◌/◌, ◌<◌, ◌≤◌, ◌^◌, None, Some, OnOk, length, is_err};
 ghost use Rattle.tach_media.specs.Medium.{HasCause};
 ghost use Rattle.card_slots.specs.Calls.{seat_in, card_in};
-ghost use Rattle.run_acts.specs.declared.run.Power.TheVariants.{Lit};
-ghost use Rattle.run_acts.specs.Going.{first_second, end_of_seconds, CanBeCut, RunHasPowerAllSeated};
+ghost use Rattle.run_acts.specs.Going.{CanBeCut, RunHasPowerAllSeated, IsActing};
 ghost use Rattle.run_acts.specs.Room.{falls_of, bare_count, Takes};
 ghost use Rattle.recorder_with_cards.specs.Accepting.{chip_a_of, chip_b_of, a_of, b_of};
 ghost use Rattle.recorder_with_cards.specs.Accepting.{IsBare};
@@ -31,15 +30,7 @@ pub(crate) fn accept_here<M: Medium, C: Chip, D: Chip>(
     others: &D,
     outcome: &mut Outcome,
 ) -> Result<(), Failed>
-    requires lit { run.old.power ≡ Lit }
-    requires low { first_second ≤ run.old.next }
-    requires small { run.old.next ≤ end_of_seconds }
-    requires held { CanBeCut (run.old.next / 60) run.old (M.state unit.old)
-        (chip_a_of entering.which (C.card card.old) (D.card others.now))
-        (chip_b_of entering.which (C.card card.old) (D.card others.now))
-        (a_of entering.which (C.state card.old) (D.state others.now))
-        (b_of entering.which (C.state card.old) (D.state others.now)) }
-    requires going { RunHasPowerAllSeated (run.old.next / 60) run.old (M.state unit.old)
+    requires acting { IsActing run.old (M.state unit.old)
         (chip_a_of entering.which (C.card card.old) (D.card others.now))
         (chip_b_of entering.which (C.card card.old) (D.card others.now))
         (a_of entering.which (C.state card.old) (D.state others.now))
@@ -103,13 +94,8 @@ pub(crate) fn accept_in<M: Medium, C: Chip, D: Chip>(
     card_b: &mut D,
     outcome: &mut Outcome,
 ) -> Result<(), Failed>
-    requires lit { run.old.power ≡ Lit }
-    requires low { first_second ≤ run.old.next }
-    requires small { run.old.next ≤ end_of_seconds }
-    requires held { CanBeCut (run.old.next / 60) run.old (M.state unit.old) (C.card card_a.old) (D.card card_b.old)
-        (C.state card_a.old) (D.state card_b.old) }
-    requires going { RunHasPowerAllSeated (run.old.next / 60) run.old (M.state unit.old) (C.card card_a.old)
-        (D.card card_b.old) (C.state card_a.old) (D.state card_b.old) }
+    requires acting { IsActing run.old (M.state unit.old) (C.card card_a.old) (D.card card_b.old) (C.state card_a.old)
+        (D.state card_b.old) }
     requires none { run.old.minutes.owing ≡ 0 }
     requires at { at.second ≡ run.old.next }
     requires seat { seat_in run.old.keeper.cabin.slots.seats slot ≡ Some (record { card = card; newest = None }) }
@@ -174,13 +160,8 @@ pub(crate) fn accept_anew<M: Medium, C: Chip, D: Chip>(
     card_b: &mut D,
     outcome: &mut Outcome,
 ) -> Result<(), Failed>
-    requires lit { run.old.power ≡ Lit }
-    requires low { first_second ≤ run.old.next }
-    requires small { run.old.next ≤ end_of_seconds }
-    requires held { CanBeCut (run.old.next / 60) run.old (M.state unit.old) (C.card card_a.old) (D.card card_b.old)
-        (C.state card_a.old) (D.state card_b.old) }
-    requires going { RunHasPowerAllSeated (run.old.next / 60) run.old (M.state unit.old) (C.card card_a.old)
-        (D.card card_b.old) (C.state card_a.old) (D.state card_b.old) }
+    requires acting { IsActing run.old (M.state unit.old) (C.card card_a.old) (D.card card_b.old) (C.state card_a.old)
+        (D.state card_b.old) }
     requires none { run.old.minutes.owing ≡ 0 }
     requires at { at.second ≡ run.old.next }
     requires bare { IsBare (seat_in run.old.keeper.cabin.slots.seats slot) }

@@ -2,8 +2,7 @@
 ghost use Rattle.std.specs.Prelude.{◌≡◌, ◌+◌, ◌*◌, ◌/◌, ◌<◌, ◌≤◌, None, OnOk, false, length, is_err};
 ghost use Rattle.log_model.specs.Slots.{other_slot};
 ghost use Rattle.card_slots.specs.Calls.{seat_in, is_card};
-ghost use Rattle.run_acts.specs.declared.run.Power.TheVariants.{Lit};
-ghost use Rattle.run_acts.specs.Going.{first_second, end_of_seconds, CanBeCut, RunHasPowerAllSeated};
+ghost use Rattle.run_acts.specs.Going.{RunHasPowerAllSeated, IsActing};
 ghost use Rattle.run_acts.specs.Room.{falls_of, Takes};
 ghost use Rattle.run_promise.specs.Between.{devices};
 ghost use Rattle.run_acts.specs.Acts.{IsHeldBehind};
@@ -33,13 +32,8 @@ pub(crate) fn insert<M: Medium, C: Chip, D: Chip>(
     card_b: &mut D,
     outcome: &mut Outcome,
 ) -> Result<(), Failed>
-    requires lit { run.old.power ≡ Lit }
-    requires low { first_second ≤ run.old.next }
-    requires small { run.old.next ≤ end_of_seconds }
-    requires held { CanBeCut (run.old.next / 60) run.old (M.state unit.old) (C.card card_a.old) (D.card card_b.old)
-        (C.state card_a.old) (D.state card_b.old) }
-    requires going { RunHasPowerAllSeated (run.old.next / 60) run.old (M.state unit.old) (C.card card_a.old)
-        (D.card card_b.old) (C.state card_a.old) (D.state card_b.old) }
+    requires acting { IsActing run.old (M.state unit.old) (C.card card_a.old) (D.card card_b.old) (C.state card_a.old)
+        (D.state card_b.old) }
     requires at { at.second ≡ run.old.next }
     requires empty { seat_in run.old.keeper.cabin.slots.seats slot ≡ None }
     requires elsewhere { is_card (seat_in run.old.keeper.cabin.slots.seats (other_slot slot)) card ≡ false }

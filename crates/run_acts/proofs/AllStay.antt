@@ -38,7 +38,8 @@ use Rattle.run_minutes.specs.declared.keeper.Keeper.{Keeper}
 use Rattle.run_minutes.specs.declared.keeper.Moment.{Moment}
 use Rattle.run_minutes.specs.Keeping.{Fate, Still, Has, Fell, has_fallen, cabin_by, breaks_by, marks_by, tear_of}
 use Rattle.minute_model.specs.declared.Minute.{Minute}
-use Rattle.run_minutes.specs.Minutes.{KeepingState, Done, Reach, Whole, Short, IsReach, told_after, told_by, unit_mark, present_at}
+use Rattle.run_minutes.specs.Minutes.{KeepingState, Done, Reach, Round, Whole, Short, IsReach, IsLast, told_after, told_by, unit_mark, present_at}
+use Rattle.run_acts.specs.Booked.{IsTurnReach}
 use Rattle.run_minutes.specs.Deeds.{KeepsOn, AllKeep}
 use Rattle.card_slots.specs.Calls.{Seats, seat_in, card_in}
 use Rattle.run_acts.specs.Closings.{Spell, spells_of, with_last_shut, last_slot}
@@ -725,6 +726,21 @@ module _ (k : Keeper) (at : Moment) where
 memory-by : (k : Keeper) (at : Moment) (xs : List Done) (t : KeepingState) → (told_by k at xs t).keeper.memory.registration ≡ t.keeper.memory.registration
 memory-by k at [] t = refl
 memory-by k at (x ∷ xs) t = memory-by k at xs (told_after (present_at k.cabin x.minute.minute) x.minute.minute at x.round t)
+
+-- wherever a keeping came to its end
+last-memory : (k : Keeper) (m : Minute) (at : Moment) (t u : KeepingState) (round : Option Round) → IsLast k m at t u round → u.keeper.memory.registration ≡ t.keeper.memory.registration
+last-memory k m at t u None is = ap (λ (x : KeepingState). x.keeper.memory.registration) is
+last-memory k m at t u (Some round) is = ap (λ (x : KeepingState). x.keeper.memory.registration) is.1
+
+pub reach-memory : (decided : List Minute) (at : Moment) (failed : Bool) (t u : KeepingState) (reach : Reach) → IsReach decided at failed t u reach → u.keeper.memory.registration ≡ t.keeper.memory.registration
+reach-memory decided at false t u (Whole xs) is = ap (λ (x : KeepingState). x.keeper.memory.registration) is.2 ∙ memory-by t.keeper at xs t
+reach-memory decided at false t u (Short xs m round) is = absurd is
+reach-memory decided at true t u (Whole xs) is = absurd is
+reach-memory decided at true t u (Short xs m round) is = last-memory t.keeper m at (told_by t.keeper at xs t) u round is.2 ∙ memory-by t.keeper at xs t
+
+pub turn-memory : (decided : List Minute) (at : Moment) (failed : Bool) (t u : KeepingState) (reach : Reach) → IsTurnReach decided at failed t u reach → u.keeper.memory.registration ≡ t.keeper.memory.registration
+turn-memory decided at failed t u (Whole xs) is = reach-memory decided at false t u (Whole xs) is
+turn-memory decided at failed t u (Short xs m round) is = reach-memory decided at failed t u (Short xs m round) is
 
 -- no mark is lost
 marks-one : (x : Done) (k : Keeper) (at : Moment) (t : KeepingState) (mark : Mark) → Contains t.marks.items mark → Contains (told_after (present_at k.cabin x.minute.minute) x.minute.minute at x.round t).marks.items mark

@@ -1,5 +1,5 @@
 -- What is told of events and rings does not hang on a block of detailed speed that is added.
-use Rattle.std.proofs.Common.{◌≡◌, ◌∙◌, inl, inr, ℕ, ◌+◌, ◌≤◌, Option, None, Some, List, [], ◌∷◌, refl, sym, subst, arith}
+use Rattle.std.proofs.Common.{◌∙◌, inl, inr, ℕ, Option, None, Some, List, [], ◌∷◌, refl, sym, subst, arith}
 use Rattle.card_layout.specs.Images.{SameOutside}
 use Rattle.card_layout.proofs.Spelled.{number_before}
 use Rattle.gated_ring.proofs.Elsewhere.{ring_outside}

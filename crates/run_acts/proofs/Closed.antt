@@ -216,7 +216,7 @@ module _ {C : Type 0} (state : C → State) (c : Card) (slot : Slot) (at : Momen
 
     -- it is closed, and the card has not broken down
     closed : (state y).breakdowns ≡ (state x).breakdowns → (NothingFailed (log_of told) → IsOwnValid (found_of o.found c).image → last_slot (spells_of c so-far) ≡ Some slot) → (NothingFailed (log_of told) → SatHere) → (failed ≡ false → TellMore [] U V) → ClosesOnCard slot run.minutes (Some a) (state x) (state y) → (b : Bool) → failed ≡ b → IsPoweredOrOff b o.found (carried_closed Closed c carries) (with_session c None run.keeper.cabin.cards) e → GoesOnOrFails b o done s (In n) [] (with_cabin (with_session_of c None run.keeper.cabin) run) told e w.within.b
-    closed calm placed sat go shut false is powered = goes-as o done s (In n) (In n) [] [] [] run (with_cabin (with_session_of c None run.keeper.cabin) run) told told d e w.within.from w refl refl (session-closed d e o done s (In n) v w.within slot c called (card-more c U V (state x) (state y) Z cause.breakdowns calm) powered)
+    closed calm placed sat go shut false is powered = goes-as o done s (In n) (In n) [] [] [] run (with_cabin (with_session_of c None run.keeper.cabin) run) told told d e w.within.from w refl refl refl (session-closed d e o done s (In n) v w.within slot c called (card-more c U V (state x) (state y) Z cause.breakdowns calm) powered)
         (all-one o (marked told.marks.items (truths_within o w.within.b.run.log done s)) s.number c (log_of told) (log_of told) so-far so-far run.keeper.memory.registration run.keeper.cabin (with_session_of c None run.keeper.cabin) U V (state x) (state y) Z (λ none. none) (others-left c run.keeper.cabin.cards) refl (λ at_ there. there)
         (λ none. refl) (λ none was. placed-bare so-far (with_session_of c None run.keeper.cabin) c (mine-left c run.keeper.cabin.cards))
         (λ none h. turns-so (marked told.marks.items (truths_within o w.within.b.run.log done s)) c s.number (found_of o.found c) (log_of told) run.keeper.memory.registration (spells_of c so-far) (sits_in run.keeper.cabin.slots.seats c) (session_of run.keeper.cabin.cards c) (session_of (with_session c None run.keeper.cabin.cards) c) U V (state x) (state y) (on_last (with_end (shut-by shut.0)))
@@ -234,6 +234,7 @@ module _ {C : Type 0} (state : C → State) (c : Card) (slot : Slot) (at : Momen
       same = refl;
       odometer = run.keeper.odometer;
       counted = λ lit. refl;
+      vehicle = w.vehicle;
       within = closing-fails d e o done s (In n) v w.within slot c called (card-more c U V (state x) (state y) Z cause.breakdowns calm) powerless (broke is) (λ keeping. cc);
     }
 
@@ -250,7 +251,7 @@ module _ {C : Type 0} (state : C → State) (c : Card) (slot : Slot) (at : Momen
 
     fell : HasBroken (state x) (state y) 1 → (b : Bool) → failed ≡ b → IsPoweredOrOff b o.found (carried_closed Fell c carries) (with_session c None (with_session c None run.keeper.cabin.cards)) e →
         GoesOnOrFails b o done s (In n) [] (with_cabin (torn_out c at.second (with_session_of c None run.keeper.cabin)) run) (record told { breaks = with_lines (tear_of slot at ∷ []) told.breaks }) e w.within.b
-    fell broken false is powered = goes-as o done s (In n) (In n) [] [] [] run (with_cabin (torn_out c at.second (with_session_of c None run.keeper.cabin)) run) told (record told { breaks = with_lines (tear_of slot at ∷ []) told.breaks }) d e w.within.from w refl refl
+    fell broken false is powered = goes-as o done s (In n) (In n) [] [] [] run (with_cabin (torn_out c at.second (with_session_of c None run.keeper.cabin)) run) told (record told { breaks = with_lines (tear_of slot at ∷ []) told.breaks }) d e w.within.from w refl refl refl
         (subst (λ (u : ℕ). SecondGoesOn o done s (In n) [] None [] (fallen_values (tear_of slot at) c u v) e w.within.b w.within.from) (sym second)
         (leaving-torn d e o done s (In n) v w.within slot c called (tear_of slot at) tear-here (card-fell c U V (state x) (state y) Z cause.breakdowns (rose-by (state x).breakdowns (state y).breakdowns broken.breakdowns)) powered))
         (λ none. no-tear (log_of told) slot at none)
@@ -260,6 +261,7 @@ module _ {C : Type 0} (state : C → State) (c : Card) (slot : Slot) (at : Momen
       same = refl;
       odometer = run.keeper.odometer;
       counted = λ lit. refl;
+      vehicle = w.vehicle;
       within = subst (λ (u : ℕ). RecordAtFailure o done s (In n) [] None (fallen_values (tear_of slot at) c u v) e) (sym second)
           (leaving-tear_fails d e o done s (In n) v w.within slot c called (tear_of slot at) tear-here (card-fell c U V (state x) (state y) Z cause.breakdowns (rose-by (state x).breakdowns (state y).breakdowns broken.breakdowns))
           powerless (broke is) (λ keeping. cc));

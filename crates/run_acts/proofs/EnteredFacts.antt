@@ -143,7 +143,7 @@ module _ (o : Origin) (done : List TraceSecond) (s : TraceSecond) (n : ℕ) (wai
 
   module _ (failed : Bool) (k' : Keeper) (noted noted' : ℕ) (out' : Outcome) (W Y : State) (way : Way) (g : HasGone e failed k k' noted noted' out out' U W X Y Z way) (sound : AreSound U W X Y) where
     pub known : IsEnteredOn (ending_of way) e failed k k' U W X Y Z o.found (with_standing e.which Out (carried (values_with k out unfound next_ begun minutes) w.due (kept_all w.new w.b.run.book) w.standing w.brought))
-    known = g.books o.found before may-enter sound.time
+    known = g.books o.found before may-enter m.vehicle sound.time
 
     pub card-run : (u : List ℕ) × LeavesOnly X Y (λ x c. (y : List ℕ) × X.may_leave y × AreComingOnCard way k.memory.registration e u y c)
     card-run = (unit-told.0, at_image (λ (u : List ℕ). LeavesOnly X Y (λ x c. (y : List ℕ) × X.may_leave y × AreComingOnCard way k.memory.registration e u y c)) unit-told.1 g.entered.moments)

@@ -197,9 +197,10 @@ module _ (o : Origin) (cards : Cards) {R S : List ℕ → List ℕ → Type 0} w
 
 -- THE RUN GOES ON, where the record does
 pub run-on : (o : Origin) (done : List TraceSecond) (s : TraceSecond) (at next : Phase) (waits fewer : List Visit) (rest more : List Minute) (run new : Run) (out after : Outcome) (d e : Devices) (first : ℕ) → (w : RunWithin o done s at waits rest run out d) →
-    new.power ≡ run.power → new.keeper.odometer ≡ run.keeper.odometer → SecondGoesOn o done s next fewer None more (values_of new after) e w.within.b first → AllStay o (marked after.marks.items (truths_within o w.within.b.run.log done s)) s.number (log_of after) (notes_within w.within.b done s next (log_of after)) new.keeper.memory.registration new.keeper.cabin e → RunWithin o done s next fewer more new after e
-run-on o done s at next waits fewer rest more run new out after d e first w power odometer g stay = record {
+    new.power ≡ run.power → new.keeper.odometer ≡ run.keeper.odometer → new.keeper.memory.registration ≡ run.keeper.memory.registration → SecondGoesOn o done s next fewer None more (values_of new after) e w.within.b first → AllStay o (marked after.marks.items (truths_within o w.within.b.run.log done s)) s.number (log_of after) (notes_within w.within.b done s next (log_of after)) new.keeper.memory.registration new.keeper.cabin e → RunWithin o done s next fewer more new after e
+run-on o done s at next waits fewer rest more run new out after d e first w power odometer vehicle g stay = record {
   origin = w.origin;
+  vehicle = vehicle ∙ w.vehicle;
   lit = power ∙ w.lit;
   within = g.within;
   odometer = odometer ∙ w.odometer ∙ ap (λ (b : Beginning). odometer_after (odometer_at o.recording.unit) b.travel.before) (sym g.began);
@@ -208,10 +209,10 @@ run-on o done s at next waits fewer rest more run new out after d e first w powe
 
 -- as it began
 pub goes-as : (o : Origin) (done : List TraceSecond) (s : TraceSecond) (at next : Phase) (waits fewer : List Visit) (rest : List Minute) (run new : Run) (out after : Outcome) (d e : Devices) (first : ℕ) → (w : RunWithin o done s at waits rest run out d) →
-    new.power ≡ run.power → new.keeper.odometer ≡ run.keeper.odometer → SecondGoesOn o done s next fewer None [] (values_of new after) e w.within.b first → AllStay o (marked after.marks.items (truths_within o w.within.b.run.log done s)) s.number (log_of after) (notes_within w.within.b done s next (log_of after)) new.keeper.memory.registration new.keeper.cabin e → RunGoesOn o done s next fewer new after e w.within.b
+    new.power ≡ run.power → new.keeper.odometer ≡ run.keeper.odometer → new.keeper.memory.registration ≡ run.keeper.memory.registration → SecondGoesOn o done s next fewer None [] (values_of new after) e w.within.b first → AllStay o (marked after.marks.items (truths_within o w.within.b.run.log done s)) s.number (log_of after) (notes_within w.within.b done s next (log_of after)) new.keeper.memory.registration new.keeper.cabin e → RunGoesOn o done s next fewer new after e w.within.b
 unfolding run-on
-goes-as o done s at next waits fewer rest run new out after d e first w power odometer g stay = record {
-  goes = run-on o done s at next waits fewer rest [] run new out after d e first w power odometer g stay;
+goes-as o done s at next waits fewer rest run new out after d e first w power odometer vehicle g stay = record {
+  goes = run-on o done s at next waits fewer rest [] run new out after d e first w power odometer vehicle g stay;
   began = g.began;
 }
 
@@ -256,7 +257,7 @@ module _ (o : Origin) (done : List TraceSecond) (s : TraceSecond) (n : ℕ) (run
   unit-began = (w.within.powered.lit.unit.unit_holds [] []).later
 
   pub unit-recorded : (failed : Bool) → HasCause U V failed → (failed ≡ false → TellMore [] U V) → GoesOnOrFails failed o done s (In n) [] run out (devices V X Y) w.within.b
-  unit-recorded false cause go = goes-as o done s (In n) (In n) [] [] [] run run out out (devices U X Y) (devices V X Y) w.within.from w refl refl
+  unit-recorded false cause go = goes-as o done s (In n) (In n) [] [] [] run run out out (devices U X Y) (devices V X Y) w.within.from w refl refl refl
       (call-recorded (devices U X Y) (devices V X Y) o done s (In n) [] None [] (values_of run out) w.within (record {
         goes = unit-goes o run.keeper.cabin.cards U V X Y unit-began unit;
         breakdowns = unit-more U V X Y cause.breakdowns;
@@ -270,6 +271,7 @@ module _ (o : Origin) (done : List TraceSecond) (s : TraceSecond) (n : ℕ) (run
     same = refl;
     odometer = run.keeper.odometer;
     counted = λ lit. refl;
+    vehicle = w.vehicle;
     within = failure-recorded (devices U X Y) (devices V X Y) o done s (In n) [] None [] (values_of run out) w.within (record {
       goes = unit-goes o run.keeper.cabin.cards U V X Y unit-began unit;
       breakdowns = unit-more U V X Y cause.breakdowns;
@@ -391,7 +393,7 @@ module _ (c : Card) (slot : Slot) (at : Moment) (run : Run) (breaks : Listed Bre
 
     -- it is there
     still : (failed ≡ false → TellMore [] U V) → HasCause X Y false → (b : Bool) → failed ≡ b → IsPoweredOrOff b o.found carries run.keeper.cabin.cards e → GoesOnOrFails b o done s (In at.begun) [] run (record out { breaks = breaks }) e w.within.b
-    still go on_card false is powered = goes-as o done s (In at.begun) (In at.begun) [] [] [] run run (record out { breaks = breaks }) (record out { breaks = breaks }) d e w.within.from w refl refl
+    still go on_card false is powered = goes-as o done s (In at.begun) (In at.begun) [] [] [] run run (record out { breaks = breaks }) (record out { breaks = breaks }) d e w.within.from w refl refl refl
         (call-recorded d e o done s (In at.begun) [] None [] v w.within (record { goes = goes; breakdowns = calm on_card; powered = powered; travels = travels }))
         (all-one o (marked out.marks.items (truths_within o w.within.b.run.log done s)) s.number c (log_of (record out { breaks = breaks })) (log_of (record out { breaks = breaks })) here-notes here-notes run.keeper.memory.registration run.keeper.cabin run.keeper.cabin U V X Y Z (λ none. none) refl refl (λ slot there. there) (λ none. refl) (λ none was. was)
         (λ none held. turns-so (marked out.marks.items (truths_within o w.within.b.run.log done s)) c s.number (found_of o.found c) (log_of (record out { breaks = breaks })) run.keeper.memory.registration (spells_of c here-notes) (sits_in run.keeper.cabin.slots.seats c) (session_of run.keeper.cabin.cards c) (session_of run.keeper.cabin.cards c) U V X Y (λ all. all) (λ all is. is) (λ all. refl) (go is) (λ all lines. refl) (λ all lines waits was. was) (λ valid some. some) (held.stays c) (held.since c)
@@ -402,6 +404,7 @@ module _ (c : Card) (slot : Slot) (at : Moment) (run : Run) (breaks : Listed Bre
       same = refl;
       odometer = run.keeper.odometer;
       counted = λ lit. refl;
+      vehicle = w.vehicle;
       within = failure-recorded d e o done s (In at.begun) [] None [] v w.within (record {
         goes = goes;
         breakdowns = calm on_card;
@@ -437,7 +440,7 @@ module _ (c : Card) (slot : Slot) (at : Moment) (run : Run) (breaks : Listed Bre
 
     fell : HasCause X Y true → HasBroken X Y 1 → (b : Bool) → failed ≡ b → IsPoweredOrOff b o.found (with_standing c (fallen w.within.from (w.within.standing c)) carries) (with_session c None run.keeper.cabin.cards) e
         → GoesOnOrFails b o done s (In at.begun) [] (with_cabin (torn_out c at.second run.keeper.cabin) run) (record out { breaks = with_lines (tear_of slot at ∷ []) breaks }) e w.within.b
-    fell on_card broken false is powered = goes-as o done s (In at.begun) (In at.begun) [] [] [] run (with_cabin (torn_out c at.second run.keeper.cabin) run) (record out { breaks = breaks }) (record out { breaks = with_lines (tear_of slot at ∷ []) breaks }) d e w.within.from w refl refl
+    fell on_card broken false is powered = goes-as o done s (In at.begun) (In at.begun) [] [] [] run (with_cabin (torn_out c at.second run.keeper.cabin) run) (record out { breaks = breaks }) (record out { breaks = with_lines (tear_of slot at ∷ []) breaks }) d e w.within.from w refl refl refl
         (subst (λ (n : ℕ). SecondGoesOn o done s (In at.begun) [] None [] (torn_values (tear_of slot at) (torn_out c n run.keeper.cabin) v) e w.within.b w.within.from) (sym here)
         (seated-torn d e o done s (In at.begun) v w.within slot c (tear_of slot at) (called on_card broken) powered))
         (λ none. no-tear (log_of (record out { breaks = breaks })) slot at none)
@@ -447,6 +450,7 @@ module _ (c : Card) (slot : Slot) (at : Moment) (run : Run) (breaks : Listed Bre
       same = refl;
       odometer = run.keeper.odometer;
       counted = λ lit. refl;
+      vehicle = w.vehicle;
       within = subst (λ (n : ℕ). RecordAtFailure o done s (In at.begun) [] None (torn_values (tear_of slot at) (torn_out c n run.keeper.cabin) v) e) (sym here)
           (seated-tear_fails d e o done s (In at.begun) v w.within slot c (tear_of slot at) (called on_card broken) powerless (broke is) (λ keeping. cc));
     }
@@ -604,7 +608,7 @@ pub place-told : (o : Origin) (done : List TraceSecond) (s : TraceSecond) (slot 
     refusal (logged run.keeper.cabin.slots.seats) speed (Place slot ending country region) ≡ None → (w : RunWithin o done s (In (length front)) [] [] run out d) → RunGoesOn o done s (In begun) [] run out d w.within.b
 place-told o done s slot ending country region begun speed run out d now front rest are n allowed w =
     subst (λ (k : ℕ). RunGoesOn o done s (In k) [] run out d w.within.b) (sym n)
-    (goes-as o done s (In (length front)) (In (suc (length front))) [] [] [] run run out out d d w.within.from w refl refl
+    (goes-as o done s (In (length front)) (In (suc (length front))) [] [] [] run run out out d d w.within.from w refl refl refl
     (place-recorded d o done s (values_of run out) front slot ending country region rest are w.within
     (allowed-in o done s (In (length front)) [] None [] (values_of run out) d w.within speed (Place slot ending country region) now.speed_is allowed))
     (all-noted o (marked out.marks.items (truths_within o w.within.b.run.log done s)) s.number (log_of out) (log_of out) (notes_within w.within.b done s (In (length front)) (log_of out)) (notes_within w.within.b done s (In (suc (length front))) (log_of out)) run.keeper.memory.registration run.keeper.cabin d (log-self (log_of out))

@@ -61,7 +61,7 @@ module _ (d : Devices) (slot : Slot) (begun speed : ℕ) (run : Run) (out : Outc
   out-of o done s front rest are n number w card is =
       subst (λ (u : ℕ). RunGoesOn o done s (In begun) [] (with_cabin (torn_out card u run.keeper.cabin) run) (record out { breaks = with_lines (Tear u slot false begun false ∷ []) out.breaks }) d w.within.b) number
       (subst (λ (k : ℕ). RunGoesOn o done s (In k) [] (with_cabin (torn_out card s.number run.keeper.cabin) run) (record out { breaks = with_lines (Tear s.number slot false k false ∷ []) out.breaks }) d w.within.b) (sym n)
-      (goes-as o done s (In (length front)) (In (suc (length front))) [] [] [] run (with_cabin (torn_out card s.number run.keeper.cabin) run) out (record out { breaks = with_lines (Tear s.number slot false (suc (length front)) false ∷ []) out.breaks }) d d w.within.from w refl refl
+      (goes-as o done s (In (length front)) (In (suc (length front))) [] [] [] run (with_cabin (torn_out card s.number run.keeper.cabin) run) out (record out { breaks = with_lines (Tear s.number slot false (suc (length front)) false ∷ []) out.breaks }) d d w.within.from w refl refl refl
       (pulled-out d o done s (values_of run out) front slot card rest are w.within is low stands)
       (all-moved o (marked out.marks.items (truths_within o w.within.b.run.log done s)) s.number (log_of out) (log_of (record out { breaks = with_lines (Tear s.number slot false (suc (length front)) false ∷ []) out.breaks }))
       (notes_within w.within.b done s (In (length front)) (log_of out)) (notes_within w.within.b done s (In (suc (length front))) (log_of (record out { breaks = with_lines (Tear s.number slot false (suc (length front)) false ∷ []) out.breaks })))

@@ -51,7 +51,7 @@ use Rattle.run_acts.specs.Comings.{TellMore}
 use Rattle.run_promise.specs.Whole.{NothingFailed}
 use Rattle.run_acts.specs.Truths.{truths_within, marked}
 use Rattle.run_acts.specs.Stays.{AllStay}
-use Rattle.run_acts.proofs.AllStay.{all-of, all-kept, all-true, lines-on, reach-told}
+use Rattle.run_acts.proofs.AllStay.{all-of, all-kept, all-true, lines-on, reach-told, reach-memory}
 use Rattle.run_acts.proofs.Truths.{grow-self, marked-grow}
 use Rattle.run_acts.proofs.WholeLegs.{kepts-now}
 use Rattle.run_acts.proofs.TruthsThen.{began-none}
@@ -177,6 +177,7 @@ module _ {U A0 B0 : State} {chip_a chip_b : CardState} (old : Run) (before : Out
         (λ (x : RecordInSecond o done s (In n) waits None [] (values_of new after) e) (began : x.b ≡ w.b) (from : x.from ≡ w.from + length decided). record {
           goes = record {
             origin = r.origin;
+            vehicle = reach-memory decided at failed (told_of old before) (told_of new after) reach is ∙ r.vehicle;
             lit = r.lit;
             within = x;
             odometer = odometer ∙ r.odometer ∙ ap (λ (b : Beginning). odometer_after (odometer_at o.recording.unit) b.travel.before) (sym began);

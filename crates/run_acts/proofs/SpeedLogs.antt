@@ -1,5 +1,5 @@
 -- What more lines of a log say of the blocks of a run: some are not sure any more.
-use Rattle.std.proofs.Common.{◌≡◌, ◌∙◌, ℕ, ◌+◌, Bool, true, false, Option, Some, None, IfSome, is_some, List, [], ◌∷◌, ◌++◌, refl, sym, ap, subst, arith}
+use Rattle.std.proofs.Common.{◌≡◌, ◌∙◌, ℕ, ◌+◌, Bool, true, false, Option, Some, None, IfSome, is_some, List, ◌++◌, refl, sym, ap, subst, arith}
 use Rattle.std.specs.Prelude.{not, option_to_list}
 use Rattle.trace_model.specs.Trace.{TraceSecond}
 use Rattle.log_model.specs.Log.{RunLog}

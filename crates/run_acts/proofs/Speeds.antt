@@ -1,5 +1,5 @@
 -- What a turn brings of detailed speed.
-use Rattle.std.proofs.Common.{◌≡◌, ℕ, ◌+◌, ◌%◌, ◌<◌, ◌≤◌, Bool, true, false, is_some, refl, sym, subst}
+use Rattle.std.proofs.Common.{◌≡◌, ℕ, ◌+◌, ◌%◌, ◌<◌, ◌≤◌, Bool, true, false, is_some, sym, subst}
 use Rattle.std.specs.Prelude.{not}
 use Rattle.tach_media.specs.Medium.{State}
 use Rattle.minute_rules.specs.Kept.{Kept as Minutes}

@@ -9,7 +9,6 @@ use Rattle.minute_model.specs.declared.Rule.{Rule}
 use Rattle.minute_model.specs.declared.Rule.TheVariants.{Original, Amended}
 use Rattle.minute_model.specs.Minute.{minutes_ahead}
 use Rattle.minute_model.specs.Span.{begin, ungiven_of}
-use Rattle.minute_rules.specs.Kept.{CountsSpan}
 use Rattle.event_rules.specs.Bare.{Bare}
 use Rattle.event_rules.specs.declared.speeding.Fast.{Fast}
 use Rattle.card_slots.specs.Calls.{present_in, ending}

@@ -51,6 +51,7 @@ use Rattle.run_acts.specs.Devices.{DevicesGoOn}
 use Rattle.run_acts.specs.Power.{cut_run, passed}
 use Rattle.run_acts.specs.Going.{end_of_seconds, RunHasPowerAllSeated as MayBeCalled}
 use Rattle.run_acts.specs.Recording.{IsOrigin, IsNow, Supplies, RunRecorded, RunWithin, RunCut, log_of, values_of}
+use Rattle.run_note_record.specs.Uses.{vehicle_in}
 use Rattle.run_acts.specs.Turning.{IsLitTurn, told_of, late_moment, cut_where, cut_breaks}
 use Rattle.run_acts.proofs.GoesOn.{goes-on, unit-rose}
 use Rattle.run_acts.proofs.SettledRecorded.{same-ungiven, two-present}
@@ -64,7 +65,7 @@ use Rattle.run_acts.specs.Truths.{truths_of, truths_within, marked}
 use Rattle.run_acts.specs.Stays.{AllStay}
 use Rattle.run_acts.proofs.RingedSecond.{goes-behind, power-here}
 use Rattle.run_acts.proofs.NotesThen.{actions-all, notes-end, notes-last, behind-goes}
-use Rattle.run_acts.proofs.AllStay.{all-of, all-kept, all-true, all-second, lines-on, no-cut, reach-told}
+use Rattle.run_acts.proofs.AllStay.{all-of, all-kept, all-true, all-second, lines-on, no-cut, reach-told, turn-memory}
 use Rattle.run_acts.proofs.SeatsThen.{stands-seated}
 use Rattle.run_acts.proofs.WholeLegs.{kepts-now}
 use Rattle.run_acts.proofs.Truths.{grow-self, marked-grow, marked-still}
@@ -168,9 +169,13 @@ module _ (old : Run) (before : Outcome) (minutes : Kept) (keeper : Keeper) (watc
     all-notes x =
         notes-end x.b.run.log (log_of told) done s (behind-now x) (power-here o done s Keeping [] (Some s.speed) [] U e x)
 
+    -- what the unit was told of its vehicle stays
+    same-vehicle : old.keeper.memory.registration ≡ vehicle_in o → keeper.memory.registration ≡ vehicle_in o
+    same-vehicle vehicle = turn-memory decided (moment_of s q) failed t u reach turn-reach ∙ vehicle
+
     -- all is kept
-    over-now : (x : RecordInSecond o done s Keeping [] (Some s.speed) [] U e) → x.b ≡ w.b → AllStay o (marked told.marks.items (truths_within o w.b.run.log done s)) 0 (log_of told) (notes_within w.b done s Keeping (log_of told)) keeper.memory.registration keeper.cabin e → RunRecorded o (done ++ s ∷ []) (passed n begun between) told e
-    over-now x same stays =
+    over-now : old.keeper.memory.registration ≡ vehicle_in o → (x : RecordInSecond o done s Keeping [] (Some s.speed) [] U e) → x.b ≡ w.b → AllStay o (marked told.marks.items (truths_within o w.b.run.log done s)) 0 (log_of told) (notes_within w.b done s Keeping (log_of told)) keeper.memory.registration keeper.cabin e → RunRecorded o (done ++ s ∷ []) (passed n begun between) told e
+    over-now vehicle x same stays =
         let p = pushed x.b.span (next_told U.log done s) in
         let V : Values = values_of (passed n begun between) told in
         let before_ : List ℕ = x.b.travel.before in
@@ -183,6 +188,7 @@ module _ (old : Run) (before : Outcome) (minutes : Kept) (keeper : Keeper) (watc
         (subst (λ (b : ℕ). RecordedFrom o (done ++ s ∷ []) (IsLit (p.first ∷ p.rest)) (record V { next = suc next; begun = b; odometer = old.keeper.odometer }) e before_) actions there)) in
         record {
           origin = origin;
+          vehicle = same-vehicle vehicle;
           supply = IsLit (p.first ∷ p.rest);
           powers = subst (λ (pw : Power). Supplies pw (IsLit (p.first ∷ p.rest))) (sym lit) tt;
           recorded = so.recorded;
@@ -194,12 +200,13 @@ module _ (old : Run) (before : Outcome) (minutes : Kept) (keeper : Keeper) (watc
         }
 
     -- or power is cut
-    cut-now : RecordAtFailure o done s Keeping [] (Some s.speed) U e → RunRecorded o (done ++ s ∷ []) (passed n begun (cut_run (old.next + n - 1) between)) (cut_breaks true (old.next + n - 1) begun told) e
-    cut-now x =
+    cut-now : old.keeper.memory.registration ≡ vehicle_in o → RecordAtFailure o done s Keeping [] (Some s.speed) U e → RunRecorded o (done ++ s ∷ []) (passed n begun (cut_run (old.next + n - 1) between)) (cut_breaks true (old.next + n - 1) begun told) e
+    cut-now vehicle x =
         let V : (second begun_ next_ : ℕ) → Values = λ second begun_ next_. record U { log = and_break U.log (cut_at second true begun_); cabin = with_power_lost second U.cabin; next = next_; begun = begun_ } in
         let R : Values → Type 0 = λ val. RecordBetweenSeconds o (done ++ s ∷ []) IsLost val e in
         record {
           origin = origin;
+          vehicle = same-vehicle vehicle;
           supply = IsLost;
           powers = tt;
           recorded = subst (λ (k : ℕ). R (record (V (old.next + n - 1) begun (old.next + n)) { odometer = k })) (sym odometer)
@@ -210,12 +217,12 @@ module _ (old : Run) (before : Outcome) (minutes : Kept) (keeper : Keeper) (watc
           stay = λ none. no-cut (log_of told) (old.next + n - 1) begun none;
         }
 
-    by : TellMore [] d.unit e.unit → AllStay o (marked before.marks.items (truths_within o w.b.run.log done s)) 0 (log_of before) (notes_within w.b done s Keeping (log_of before)) old.keeper.memory.registration old.keeper.cabin d → (f : Bool) (r : Reach) → failed ≡ f → IsTurnReach decided (moment_of s q) f t u r → IsTurnBooked o.found (odometer_at o.recording.unit) (carried_at o done s q decided t v d w) old.keeper f r (all_travelled w.ds w.b.travel) u e →
+    by : old.keeper.memory.registration ≡ vehicle_in o → TellMore [] d.unit e.unit → AllStay o (marked before.marks.items (truths_within o w.b.run.log done s)) 0 (log_of before) (notes_within w.b done s Keeping (log_of before)) old.keeper.memory.registration old.keeper.cabin d → (f : Bool) (r : Reach) → failed ≡ f → IsTurnReach decided (moment_of s q) f t u r → IsTurnBooked o.found (odometer_at o.recording.unit) (carried_at o done s q decided t v d w) old.keeper f r (all_travelled w.ds w.b.travel) u e →
         RunRecorded o (done ++ s ∷ []) (passed n begun (cut_where f (old.next + n - 1) between)) (cut_breaks f (old.next + n - 1) begun told) e
-    by go stay false (Whole xs) same is_ b = let k = keeping-recorded d e o done s q decided t u v w keeps false (Whole xs) is_ off (λ no. absurd (cc)) b in over-now k.0.within k.0.began (turned-stay go stay same (Whole xs) is_)
-    by go stay true (Whole xs) same is_ b = cut-now (note-fails d e o done s q decided t u v w keeps low xs is_ off (rose same) b.0 b.1)
-    by go stay false (Short xs m round) same is_ b = absurd is_
-    by go stay true (Short xs m round) same is_ b = cut-now (keeping-recorded d e o done s q decided t u v w keeps true (Short xs m round) is_ off (λ yes_. rose same) b)
+    by vehicle go stay false (Whole xs) same is_ b = let k = keeping-recorded d e o done s q decided t u v w keeps false (Whole xs) is_ off (λ no. absurd (cc)) b in over-now vehicle k.0.within k.0.began (turned-stay go stay same (Whole xs) is_)
+    by vehicle go stay true (Whole xs) same is_ b = cut-now vehicle (note-fails d e o done s q decided t u v w keeps low xs is_ off (rose same) b.0 b.1)
+    by vehicle go stay false (Short xs m round) same is_ b = absurd is_
+    by vehicle go stay true (Short xs m round) same is_ b = cut-now vehicle (keeping-recorded d e o done s q decided t u v w keeps true (Short xs m round) is_ off (λ yes_. rose same) b)
 
     -- where the unit failed: the record as power is about to be cut
     fails-by : (f : Bool) (r : Reach) → failed ≡ f → IsTurnReach decided (moment_of s q) f t u r → IsTurnBooked o.found (odometer_at o.recording.unit) (carried_at o done s q decided t v d w) old.keeper f r (all_travelled w.ds w.b.travel) u e →
@@ -227,8 +234,8 @@ module _ (old : Run) (before : Outcome) (minutes : Kept) (keeper : Keeper) (watc
     pub turn-fails : failed ≡ true → RecordAtFailure o done s Keeping [] (Some s.speed) U e
     turn-fails on = fails-by failed reach refl turn-reach booked.0 on
 
-    pub turn-core : TellMore [] d.unit e.unit → AllStay o (marked before.marks.items (truths_within o w.b.run.log done s)) 0 (log_of before) (notes_within w.b done s Keeping (log_of before)) old.keeper.memory.registration old.keeper.cabin d → RunRecorded o (done ++ s ∷ []) (passed n begun (cut_where failed (old.next + n - 1) between)) (cut_breaks failed (old.next + n - 1) begun told) e
-    turn-core go stay = by go stay failed reach refl turn-reach booked.0
+    pub turn-core : old.keeper.memory.registration ≡ vehicle_in o → TellMore [] d.unit e.unit → AllStay o (marked before.marks.items (truths_within o w.b.run.log done s)) 0 (log_of before) (notes_within w.b done s Keeping (log_of before)) old.keeper.memory.registration old.keeper.cabin d → RunRecorded o (done ++ s ∷ []) (passed n begun (cut_where failed (old.next + n - 1) between)) (cut_breaks failed (old.next + n - 1) begun told) e
+    turn-core vehicle go stay = by vehicle go stay failed reach refl turn-reach booked.0
 
 -- ---- the last of some seconds
 pub last-actions : (c begun : ℕ) (s : TraceSecond) → length s.actions ≡ begun → (0 < c → s.actions ≡ []) → length (last_of c s).actions ≡ begun
@@ -307,7 +314,7 @@ module _ {U A0 B0 : State} {chip_a chip_b : CardState} (n speed begun : ℕ) (ol
         (subst (λ (x : Outcome). RunRecorded o (D ++ L ∷ []) (passed n begun (cut_where T.failed (old.next + n - 1) here)) x e) after-is
         (turn-core old before T.fed.minutes T.between.keeper T.between.watch T.told.marks T.told.breaks n begun T.failed T.decided h.1 d e reach-is books-is h.4 h.5 (two-present (ungiven_of g.span) None old.keeper.cabin g.cabin)
         lit some time o r.origin D L next gone w num (omega (arith, next_is, is, some)) acts (r.odometer ∙ ap (odometer_after (odometer_at o.recording.unit)) (sym travel))
-        (omega (arith, from, first, few, same)) (omega (arith, from, first, end, same)) go stay))
+        (omega (arith, from, first, few, same)) (omega (arith, from, first, end, same)) r.vehicle go stay))
 
     -- where the unit failed in its keeping: its record as power is about to be cut
     pub fails-last : (c : ℕ) → c ≡ n - 1 → (D : List TraceSecond) (L : TraceSecond) (next gone : ℕ) → L.number ≡ s.number + c → next ≡ old.next + c → length L.actions ≡ begun →
@@ -378,6 +385,7 @@ module _ (n speed begun : ℕ) (old : Run) (before : Outcome) (d : Devices) (som
   cut-recorded_ : (next gone : ℕ) (done_ : List TraceSecond) → next ≡ old.next + n → gone ≡ begun → RecordBetweenSeconds o done_ IsLost (V next gone) d → RunRecorded o done_ (passed n begun old) before d
   cut-recorded_ next gone done_ is at rec = record {
     origin = r.origin;
+    vehicle = r.vehicle;
     supply = IsLost;
     powers = subst (λ (pw : Power). Supplies pw IsLost) (sym r.lost) tt;
     recorded = subst (λ (m : ℕ). RecordBetweenSeconds o done_ IsLost (V m begun) d) is (subst (λ (b : ℕ). RecordBetweenSeconds o done_ IsLost (V next b) d) at rec);

@@ -44,6 +44,7 @@ use Rattle.run_record.proofs.Pulling.{sitting-now}
 use Rattle.run_acts.specs.declared.run.Run.{Run}
 use Rattle.run_acts.specs.Acting.{Closing, Closed, IsClosed, closed_falls, told_of, left_run}
 use Rattle.run_acts.specs.Recording.{log_of, values_of, RunWithin, RunFails, GoesOnOrFails}
+use Rattle.unit_memory.specs.declared.memory.UnitFacts.{UnitFacts}
 use Rattle.run_acts.specs.Settling.{settled_run, IsSettledIn, RecordsSettling}
 use Rattle.run_acts.proofs.Apart.{not-both}
 use Rattle.run_acts.proofs.Asked.{allowed-in}
@@ -179,6 +180,7 @@ module _ (o : Origin) (done : List TraceSecond) (s : TraceSecond) (front rest : 
   abbrev gone : RunWithin o done s (In (suc (length front))) [] decided (settled_run between.minutes (left_run slot s.number run)) before d
   gone = record {
     origin = w.origin;
+    vehicle = w.vehicle;
     lit = w.lit;
     within = left.goes.within;
     odometer = w.odometer ∙ ap (λ (b : Beginning). odometer_after (odometer_at o.recording.unit) b.travel.before) (sym left.goes.began);
@@ -186,8 +188,8 @@ module _ (o : Origin) (done : List TraceSecond) (s : TraceSecond) (front rest : 
   }
 
   -- the unit failed in the keeping
-  pub settling-cut : (e : Devices) → RecordsSettling decided (acting_at s.number (suc (length front))) true (left_run slot s.number run) between before told d e → HaveTime e → RunFails o done s (In (suc (length front))) between told e
-  settling-cut e records time = record { waits = []; cabin = between.keeper.cabin; same = refl; odometer = between.keeper.odometer; counted = λ lit. refl; within = records o done s (suc (length front)) [] (omega arith) refl gone time }
+  pub settling-cut : (e : Devices) → RecordsSettling decided (acting_at s.number (suc (length front))) true (left_run slot s.number run) between before told d e → HaveTime e → between.keeper.memory ≡ run.keeper.memory → RunFails o done s (In (suc (length front))) between told e
+  settling-cut e records time memory = record { waits = []; cabin = between.keeper.cabin; same = refl; odometer = between.keeper.odometer; counted = λ lit. refl; vehicle = ap (λ (m : UnitFacts). m.registration) memory ∙ w.vehicle; within = records o done s (suc (length front)) [] (omega arith) refl gone time }
 
   -- or they are kept, and its session is closed
   pub closing-recorded : {C : Type 0} (state : C → State) (U V Z : State) (x y : C) → IsCoherent U → IsCoherent (state x) → LARGEST_IMAGE ≤ (state x).size →

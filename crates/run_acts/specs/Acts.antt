@@ -1,9 +1,13 @@
 -- What the actions of a second and its turn leave of a run and of its devices, each in a few records (profile).
-use Rattle.std.specs.Prelude.{ℕ, ◌++◌, ◌+◌, ◌/◌, ◌≡◌, ◌≤◌, Bool, List, Option, Some, [], false, is_some, length, not}
-use Rattle.std.specs.Prelude.{true}
+use Rattle.std.specs.Prelude.{ℕ, ◌++◌, ◌+◌, ◌/◌, ◌∷◌, ◌≡◌, ◌≤◌, Bool, IfSome, List, OnOk, Option, Result, Some, []}
+use Rattle.std.specs.Prelude.{false, is_err, is_some, length, not, true}
+use Rattle.activity_codec.specs.declared.values.Activity.{Activity}
 use Rattle.activity_codec.specs.declared.values.Slot.{Slot}
 use Rattle.card_layout.specs.declared.command.CardState.{CardState}
+use Rattle.card_session.specs.Cards.{IsCardClosing}
+use Rattle.card_session.specs.Sessions.{IsSession, IsValue}
 use Rattle.card_slots.specs.Calls.{card_in, seat_in}
+use Rattle.device_calls.specs.CardNotes.{IsNote}
 use Rattle.event_model.specs.Spans.{gap_of}
 use Rattle.log_model.specs.Log.{In}
 use Rattle.log_model.specs.declared.lines.Break.{Break}
@@ -11,36 +15,43 @@ use Rattle.minute_model.specs.Span.{Span, decided_in, settled}
 use Rattle.minute_model.specs.declared.Minute.{Minute}
 use Rattle.minute_rules.specs.Kept.{CountsSpan}
 use Rattle.run_crew.specs.Cabin.{number_of_seat}
-use Rattle.run_crew.specs.Cards.{session_of}
+use Rattle.run_crew.specs.Cards.{known_of, session_of}
+use Rattle.run_crew.specs.declared.cards.Accepted.{Accepted}
 use Rattle.run_events.specs.Entries.{card_entry}
-use Rattle.run_minutes.specs.Later.{AreAfter, AreCalm, AreLater}
-use Rattle.run_minutes.specs.Minutes.{IsReach, Reach, KeepingState}
+use Rattle.run_minutes.specs.Keeping.{CardMayBeCalled, HasItsRow, UnitMayBeCalled}
+use Rattle.run_minutes.specs.Later.{AreAfter, AreCalm, AreLater, IsCalm, IsLater}
+use Rattle.run_minutes.specs.Minutes.{IsReach, KeepingState, Reach}
 use Rattle.run_minutes.specs.declared.keeper.Moment.{Moment}
 use Rattle.run_outcome.specs.Broken.{BreaksDown}
 use Rattle.run_outcome.specs.Lines.{Listed}
 use Rattle.run_outcome.specs.declared.outcome.Outcome.{Outcome}
+use Rattle.run_promise.specs.Between.{devices}
 use Rattle.run_rings.specs.Same.{LeavesRings}
+use Rattle.run_speeds.specs.Speeds.{LeavesSpeeds}
 use Rattle.safety_model.specs.Safe.{Devices, card_of}
-use Rattle.tach_media.specs.Medium.{HasCause}
+use Rattle.tach_media.specs.Medium.{HasCause, LeavesOnly, State}
+use Rattle.tach_media.specs.declared.fault.Failed.{Failed}
 use Rattle.tacho_types.specs.declared.places.PlaceEntry.{PlaceEntry}
 use Rattle.trace_model.specs.declared.Action.TheVariants.{Withdraw}
 use Rattle.trace_model.specs.declared.Card.{Card}
+use Rattle.unit_model.specs.Image.{IsUnit}
+use Rattle.unit_notes.specs.Journal.{LeavesJournal}
 use Rattle.unit_notes.specs.declared.unit_event.UnitEvent.{UnitEvent}
-use Rattle.run_acts.specs.Acting.{Closing, IsNotedIn, IsPlaced, IsWithdrawn, left_run, now_moment, told_of}
+use Rattle.run_acts.specs.Acting.{Closing, IsNotedIn, IsNotedOn, IsPlaced, IsWithdrawn, left_run, now_moment, told_of}
 use Rattle.run_acts.specs.ActsEvented.{EventsPlace, EventsWithdrawal, NoteLeaves}
 use Rattle.run_acts.specs.Behind.{BooksWithdrawn}
 use Rattle.run_acts.specs.Booked.{IsBookedTurn}
-use Rattle.run_acts.specs.CardNotes.{LeavePlaces, NotesOnCards, gap_on, on_seat}
-use Rattle.run_acts.specs.CardWrites.{PlaceOn, WithdrawsShut}
+use Rattle.run_acts.specs.CardNotes.{LeavePlaces, LeavesPlaces, NotesOn, NotesOnCards, gap_on, on_seat}
+use Rattle.run_acts.specs.CardWrites.{MayTakePlace, PlaceOn, ShutsSo, WithdrawsShut}
 use Rattle.run_acts.specs.Evented.{EventsLitTurn}
 use Rattle.run_acts.specs.Faults.{NotesTurn}
 use Rattle.run_acts.specs.Going.{CanBeCut}
 use Rattle.run_acts.specs.NotedEvents.{NotesEvents}
-use Rattle.run_acts.specs.Noting.{AreGapEvents, GapReach, IsGapNoted, IsNoteRecorded, IsPlaceRecorded, NotesFall}
-use Rattle.run_acts.specs.Noting.{NotesPlace, NotesWithdrawing}
+use Rattle.run_acts.specs.Noting.{AreGapEvents, GapReach, IsGapNoted, IsNoteRecorded, IsPlaceRecorded, NotesClosing}
+use Rattle.run_acts.specs.Noting.{NotesFall, NotesPlace, NotesWithdrawing}
 use Rattle.run_acts.specs.Power.{is_lit, passed}
 use Rattle.run_acts.specs.Recording.{RecordsAction, RecordsTurn}
-use Rattle.run_acts.specs.Ringing.{WithdrawsSo, WritesPlace}
+use Rattle.run_acts.specs.Ringing.{ClosesSo, WithdrawsSo, WritesPlace}
 use Rattle.run_acts.specs.Room.{falls_of}
 use Rattle.run_acts.specs.RunCards.{CardsPlace, CardsTurn, CardsWithdrawal}
 use Rattle.run_acts.specs.RunRinged.{RingsGap, RingsPlace, RingsTurn, RingsWithdrawal}
@@ -211,3 +222,63 @@ pub record LeavesLit (n speed begun : ℕ) (old new : Run) (before after : Outco
   pub noted : NotesTurn n speed begun old new before after d.unit e.unit
   pub evented : EventsLitTurn n speed begun old new before after d e
   pub block : BringsBlock n speed (not (is_lit new.power)) old new d.unit e.unit
+
+-- WHAT THE NOTE OF AN INTERRUPTION LEAVES: its event on the card, and no place; on the unit the fault of a card that
+-- fell, and its rings as they were
+pub record ShowsGapOn (which : Card) (slot : Slot) (event : UnitEvent) (failed : Bool) (old new : Run)
+    (before after : Listed Break) (U V x y : State) : Type 0 where
+  pub card_events : NotesOn false (session_of old.keeper.cabin.cards which) (session_of new.keeper.cabin.cards which)
+      (card_entry event old.keeper.memory.registration ∷ []) x y
+  pub places : LeavesPlaces (session_of old.keeper.cabin.cards which) x y
+  pub events : NotesFall (λ fell. IsNotedOn which slot (now_moment old) old new before after fell) old.next failed new
+      (devices U x x) (devices V y y)
+  pub rings : LeavesRings U V
+
+-- ON THE UNIT the detailed speed stays, and what a write that is torn may leave is a journal still
+pub record UnitWrites (U V : State) : Type 0 where
+  pub speeds : LeavesSpeeds U V
+  pub journal : LeavesOnly U V LeavesJournal
+
+-- OF THE SESSION: what the note may leave of the image, and that it is the value of one
+pub record NotesInSession (session : Option Accepted) (x y : State) : Type 0 where
+  pub moments : IfSome session (λ a. LeavesOnly x y (IsNote a.session.application))
+  pub value : IfSome session (λ a. IsValue a.session)
+
+-- HOW UNIT AND CARD STAND: they may be called where the unit did not fail, with the rows of the cards, and the unit
+-- failed exactly where that was answered
+pub record StandsBehind (which : Card) (result : Result (Unit {0}) Failed) (old new : Run) (U V x y : State)
+    (chip : CardState) : Type 0 where
+  pub unit : IsUnit V
+  pub ready : OnOk result (UnitMayBeCalled new.keeper V)
+  pub rows : (c : Card) → HasItsRow old.keeper.cabin.cards U c → OnOk result (HasItsRow new.keeper.cabin.cards V c)
+  pub card : CardMayBeCalled (known_of new.keeper.cabin.cards which) chip y
+  pub size : y.size ≡ x.size
+  pub cause : HasCause U V (is_err result)
+
+-- WHAT THE NOTE OF A PLACE LEAVES: the place on the card, and no event; on the unit the fault of a card that fell, and
+-- its rings as they were
+pub record ShowsPlaceOn (which : Card) (slot : Slot) (entry : PlaceEntry) (at : Moment) (failed : Bool) (old new : Run)
+    (before after : Listed Break) (U V x y : State) : Type 0 where
+  pub card_events : NotesOn false (session_of old.keeper.cabin.cards which) (session_of new.keeper.cabin.cards which) []
+      x y
+  pub on_card : PlaceOn (session_of old.keeper.cabin.cards which) (session_of new.keeper.cabin.cards which) false entry
+      x y
+  pub places : MayTakePlace (session_of old.keeper.cabin.cards which) entry x y
+  pub events : NotesFall (λ fell. IsNotedOn which slot at old new before after fell) at.second failed new
+      (devices U x x) (devices V y y)
+  pub rings : LeavesRings U V
+
+-- WHAT THE CLOSING OF A SESSION LEAVES: the last words of the card, the entry of its insertion with its withdrawal, and
+-- the fault of a card that fell
+pub record ShowsClosing (which : Card) (slot : Slot) (at : Moment) (failed : Bool) (old new : Run)
+    (before after : Listed Break) (U V x y : State) : Type 0 where
+  pub events : NotesClosing which slot at failed old new before after (devices U x x) (devices V y y)
+  pub rings : is_some U.image ≡ true → ClosesSo which slot at failed old new before after U V
+  pub left : IfSome (session_of old.keeper.cabin.cards which)
+      (λ s. (act : Activity) × LeavesOnly x y (λ i n. IsSession s.session i → IsCardClosing s.session act i n))
+  pub shut : ShutsSo which slot at old new before after x y
+
+-- THE CARD GOES ON: its clock and its counts do not fall, and it does not break down without the line of a tear
+pub record CardGoesOn (before after : List Break) (x y : State) : Type 0 where
+  pub later : IsLater x y
+  pub calm : IsCalm before after x y

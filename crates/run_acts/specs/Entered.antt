@@ -72,6 +72,7 @@ pub record MayJudge (o : Origin) (done : List TraceSecond) (s : TraceSecond) (n 
   pub seat : seat_in k.cabin.slots.seats e.slot ≡ Some (record { card = e.which; newest = None })
   pub elsewhere : is_card (seat_in k.cabin.slots.seats (other_slot e.slot)) e.which ≡ false
   pub bare : session_of k.cabin.cards e.which ≡ None
+  pub vehicle : k.memory.registration ≡ (found_of o.found e.which).vehicle
   pub room : length out.marks.items + most_owed ≤ out.marks.room
 
 -- IT ENTERED in this way: what the call says of it

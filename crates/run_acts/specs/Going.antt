@@ -21,6 +21,7 @@ use Rattle.run_events.specs.Blocks.{KnowsNewest}
 use Rattle.run_minutes.specs.Keeping.{DevicesMayBeCalled, HasItsRow, HaveRows}
 use Rattle.run_opening.specs.declared.fault.RunFault.{RunFault}
 use Rattle.run_opening.specs.declared.fault.RunFault.TheVariants.{MediumFault, BadUnit, ClockBack, SameCard}
+use Rattle.run_acts.specs.declared.run.Power.TheVariants.{Lit}
 use Rattle.run_acts.specs.declared.run.Run.{Run}
 use Rattle.run_acts.specs.Power.{is_lit}
 
@@ -87,6 +88,14 @@ pub record RunHasPower (leaving : Option Card) (to : ℕ) (run : Run) (unit : St
 
 abbrev pub RunHasPowerAllSeated : (to : ℕ) → Run → (unit : State) → (chip_a chip_b : CardState) → (a b : State) → Type 0
 RunHasPowerAllSeated to run unit chip_a chip_b a b = RunHasPower None to run unit chip_a chip_b a b
+
+-- WITH POWER, IN A SECOND: unit and cards may be called, and whatever fails, power can be lost
+pub record IsActing (run : Run) (unit : State) (chip_a chip_b : CardState) (a b : State) : Type 0 where
+  pub lit : run.power ≡ Lit
+  pub low : first_second ≤ run.next
+  pub small : run.next ≤ end_of_seconds
+  pub held : CanBeCut (run.next / 60) run unit chip_a chip_b a b
+  pub going : RunHasPowerAllSeated (run.next / 60) run unit chip_a chip_b a b
 
 -- a run, where the minutes before this one may be over
 pub record IsAt (to : ℕ) (run : Run) (unit : State) (chip_a chip_b : CardState) (a b : State) : Type 0 where

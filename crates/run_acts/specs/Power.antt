@@ -62,6 +62,14 @@ minute_over run = over_by (run.next % 60 == 0) run
 abbrev pub passed : (n begun : ℕ) → Run → Run
 passed n begun run = record run { next = run.next + n; begun = begun }
 
+-- A RUN THAT BEGINS with a second: its power is due, and nothing is noted or broken
+pub record StartsAt (start : ℕ) (run : Run) : Type 0 where
+  pub power : run.power ≡ Due
+  pub next : run.next ≡ start
+  pub begun : run.begun ≡ 0
+  pub unfound : run.unfound ≡ 0
+  pub noted : run.noted ≡ 0
+
 -- A SPAN HAS BEGUN with the next second, of a unit with this journal, by this rule of minutes: nothing is fed or
 -- watched yet.
 pub record IsSpanBegun (rule : Rule) (old new : Run) (journal : Notes) : Type 0 where

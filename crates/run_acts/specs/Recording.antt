@@ -24,6 +24,7 @@ use Rattle.run_outcome.specs.declared.outcome.Outcome.{Outcome}
 use Rattle.run_promise.specs.Origin.{Origin}
 use Rattle.run_promise.specs.Whole.{NothingFailed}
 use Rattle.run_note_record.specs.Ringed.{notes_in}
+use Rattle.run_note_record.specs.Uses.{vehicle_in}
 use Rattle.run_minutes.specs.Books.{HaveTime}
 use Rattle.run_record.specs.Recorded.{Values, RecordBetweenSeconds}
 use Rattle.run_record.specs.Within.{Beginning, RecordInSecond, RecordAtFailure, passed_values}
@@ -66,7 +67,7 @@ Supplies Lost IsDue = ⊥
 Supplies Lost IsLost = Unit {0}
 
 -- WHAT A RUN BEGAN WITH: a unit whose image decodes, by whose rule it goes, and the cards as the opening found them by
--- their images
+-- their images, in the vehicle of that unit
 pub record IsOrigin (o : Origin) : Type 0 where
   pub rule : o.recording.rule ≡ rule_of o.recording.unit
   pub decodes : Decodes o.recording.unit
@@ -77,13 +78,15 @@ pub record IsOrigin (o : Origin) : Type 0 where
       → (found_of o.found c).number ≡ own_number (card_image o.recording c)
   pub long : (c : Card) → IsOwnValid (card_image o.recording c) → length (own_number (card_image o.recording c)) ≡ 18
   pub bytes : (c : Card) → All (λ n. n < 256) (card_image o.recording c)
+  pub vehicle : (c : Card) → (found_of o.found c).vehicle ≡ vehicle_in o
 
 -- BETWEEN TWO SECONDS, behind these: all is recorded, and the odometer that minutes are counted from is that at the
--- last power-on; and each card shows exactly what its stays make of it, where no call failed, by what is noted and true
--- so far. No second goes on: its number counts for nothing.
+-- last power-on; the unit tells the registration of its image at the start; and each card shows exactly what its stays
+-- make of it, where no call failed, by what is noted and true so far. No second goes on: its number counts for nothing.
 pub record RunRecorded (o : Origin) (done : List TraceSecond) (run : Run) (out : Outcome) (d : Devices) : Type 0 where
   pub origin : IsOrigin o
   pub supply : UnitPower
+  pub vehicle : run.keeper.memory.registration ≡ vehicle_in o
   pub powers : Supplies run.power supply
   pub recorded : RecordBetweenSeconds o done supply (values_of run out) d
   pub odometer : run.power ≡ Lit
@@ -95,6 +98,7 @@ pub record RunRecorded (o : Origin) (done : List TraceSecond) (run : Run) (out :
 pub record RunWithin (o : Origin) (done : List TraceSecond) (s : TraceSecond) (at : Phase) (waits : List Visit)
     (rest : List Minute) (run : Run) (out : Outcome) (d : Devices) : Type 0 where
   pub origin : IsOrigin o
+  pub vehicle : run.keeper.memory.registration ≡ vehicle_in o
   pub lit : run.power ≡ Lit
   pub within : RecordInSecond o done s at waits None rest (values_of run out) d
   pub odometer : run.keeper.odometer ≡ odometer_after (odometer_at o.recording.unit) within.b.travel.before
@@ -110,6 +114,7 @@ ComesPower done out = (went (log_of out) done).before.running ≡ false
 pub record RunCut (o : Origin) (done : List TraceSecond) (s : TraceSecond) (run : Run) (out : Outcome)
     (d : Devices) : Type 0 where
   pub origin : IsOrigin o
+  pub vehicle : run.keeper.memory.registration ≡ vehicle_in o
   pub lost : run.power ≡ Lost
   pub recorded : RecordBetweenSeconds o (done ++ s ∷ []) IsLost (passed_values s (values_of run out)) d
   pub failed : NothingFailed (log_of out) → ⊥
@@ -133,6 +138,7 @@ pub record RunFails (o : Origin) (done : List TraceSecond) (s : TraceSecond) (at
   pub same : with_power_lost s.number cabin ≡ with_power_lost s.number run.keeper.cabin
   pub odometer : ℕ
   pub counted : run.power ≡ Lit → odometer ≡ run.keeper.odometer
+  pub vehicle : run.keeper.memory.registration ≡ vehicle_in o
   pub within : RecordAtFailure o done s at waits None
       (record (values_of run out) { cabin = cabin; odometer = odometer }) d
 

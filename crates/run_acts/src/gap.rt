@@ -1,28 +1,21 @@
 //! The interruption of power that ends now is noted.
-ghost use Rattle.std.specs.Prelude.{◌≡◌, ◌≢◌, ℕ, ◌+◌, ◌/◌, ◌<◌, ◌≤◌, Bool, true, false, Option, IfSome, OnOk, [], ◌∷◌};
+ghost use Rattle.std.specs.Prelude.{◌≡◌, ◌≢◌, ℕ, ◌+◌, ◌/◌, ◌<◌, ◌≤◌, Bool, true, Option, OnOk};
 ghost use Rattle.std.specs.Prelude.{length, is_err, is_some};
 ghost use Rattle.trace_model.specs.declared.Card.{Card};
-ghost use Rattle.tach_media.specs.Medium.{LeavesOnly, HasCause, HasBroken};
-ghost use Rattle.card_session.specs.Sessions.{IsValue};
-ghost use Rattle.device_calls.specs.CardNotes.{IsNote};
+ghost use Rattle.tach_media.specs.Medium.{HasCause, HasBroken};
 ghost use Rattle.event_model.specs.declared.kinds.TheConstants.{POWER_INTERRUPTION};
-ghost use Rattle.unit_model.specs.Image.{IsUnit};
 ghost use Rattle.log_model.specs.Log.{In};
-ghost use Rattle.unit_notes.specs.Journal.{LeavesJournal};
-ghost use Rattle.run_speeds.specs.Speeds.{LeavesSpeeds};
 ghost use Rattle.run_promise.specs.Between.{devices};
-ghost use Rattle.run_rings.specs.Same.{LeavesRings};
 ghost use Rattle.run_crew.specs.Cards.{known_of, session_of};
 ghost use Rattle.run_crew.specs.Cabin.{CabinIsSound};
-ghost use Rattle.run_minutes.specs.Keeping.{UnitMayBeCalled, CardMayBeCalled, HasItsRow};
+ghost use Rattle.run_minutes.specs.Keeping.{UnitMayBeCalled, CardMayBeCalled};
 ghost use Rattle.run_acts.specs.declared.run.Power.TheVariants.{Lit};
-ghost use Rattle.run_acts.specs.Going.{first_second, end_of_seconds, CanBeCut, RunHasPowerAllSeated};
+ghost use Rattle.run_acts.specs.Going.{first_second, CanBeCut, RunHasPowerAllSeated, IsActing};
 ghost use Rattle.run_acts.specs.Room.{falls_of};
 ghost use Rattle.run_acts.specs.Acting.{IsNotedOn, falls_by, now_moment};
-ghost use Rattle.run_acts.specs.CardNotes.{NotesOn, LeavesPlaces};
-ghost use Rattle.run_events.specs.Entries.{card_entry};
-ghost use Rattle.run_acts.specs.Noting.{IsNoteRecorded, NotesFall};
-ghost use Rattle.run_acts.specs.Acts.{AllGoOn, IsHeldBehind, LeavesGap, LeavesIn, NotesGap, NotesIn, PromisesGap};
+ghost use Rattle.run_acts.specs.Noting.{IsNoteRecorded};
+ghost use Rattle.run_acts.specs.Acts.{AllGoOn, IsHeldBehind, LeavesGap, LeavesIn, NotesGap, NotesIn, NotesInSession};
+ghost use Rattle.run_acts.specs.Acts.{PromisesGap, ShowsGapOn, StandsBehind, UnitWrites};
 
 use crate::run::Run;
 use activity_codec::Slot;
@@ -49,13 +42,8 @@ pub fn note_gap<M: Medium, C: Chip, D: Chip>(
     card_b: &mut D,
     breaks: &mut Lines<Break>,
 ) -> Result<(), Failed>
-    requires lit { run.old.power ≡ Lit }
-    requires low { first_second ≤ run.old.next }
-    requires small { run.old.next ≤ end_of_seconds }
-    requires held { CanBeCut (run.old.next / 60) run.old (M.state unit.old) (C.card card_a.old) (D.card card_b.old)
-        (C.state card_a.old) (D.state card_b.old) }
-    requires going { RunHasPowerAllSeated (run.old.next / 60) run.old (M.state unit.old) (C.card card_a.old)
-        (D.card card_b.old) (C.state card_a.old) (D.state card_b.old) }
+    requires acting { IsActing run.old (M.state unit.old) (C.card card_a.old) (D.card card_b.old) (C.state card_a.old)
+        (D.state card_b.old) }
     requires kept { kept < run.old.next / 60 }
     requires breaks { length breaks.old.items + falls_of run.old.keeper.cabin ≤ breaks.old.room }
     ensures noted { NotesGap kept (is_err result) run.old run.new breaks.old breaks.new }
@@ -154,29 +142,18 @@ fn note_on<M: Medium, C: Chip>(
     ensures noted { (fell : Bool) × IsNotedOn which slot (now_moment run.old) run.old run.new breaks.old breaks.new fell
         × HasBroken (C.state card.old) (C.state card.new) (falls_by fell)
         × HasCause (C.state card.old) (C.state card.new) fell × (is_err result ≡ true → fell ≡ true) }
-    ensures card_events { NotesOn false (session_of run.old.keeper.cabin.cards which)
-        (session_of run.new.keeper.cabin.cards which) (card_entry event.now run.old.keeper.memory.registration ∷ [])
+    ensures shows { ShowsGapOn which slot event.now (is_err result) run.old run.new breaks.old breaks.new
+        (M.state unit.old) (M.state unit.new)
         (C.state card.old) (C.state card.new) }
-    ensures places { LeavesPlaces (session_of run.old.keeper.cabin.cards which) (C.state card.old) (C.state card.new) }
-    ensures events { NotesFall (λ fell. IsNotedOn which slot (now_moment run.old) run.old run.new breaks.old breaks.new
-        fell) run.old.next (is_err result) run.new (devices (M.state unit.old) (C.state card.old) (C.state card.old))
-        (devices (M.state unit.new) (C.state card.new) (C.state card.new)) }
-    ensures rings { LeavesRings (M.state unit.old) (M.state unit.new) }
-    ensures speeds { LeavesSpeeds (M.state unit.old) (M.state unit.new) }
-    ensures journal { LeavesOnly (M.state unit.old) (M.state unit.new) LeavesJournal }
-    ensures moments { IfSome (session_of run.old.keeper.cabin.cards which)
-        (λ a. LeavesOnly (C.state card.old) (C.state card.new) (IsNote a.session.application)) }
-    ensures value { IfSome (session_of run.old.keeper.cabin.cards which) (λ a. IsValue a.session) }
-    ensures unit { IsUnit (M.state unit.new) }
-    ensures ready { OnOk result (UnitMayBeCalled run.new.keeper (M.state unit.new)) }
-    ensures rows { (c : Card) → HasItsRow run.old.keeper.cabin.cards (M.state unit.old) c
-        → OnOk result (HasItsRow run.new.keeper.cabin.cards (M.state unit.new) c) }
+    ensures writes { UnitWrites (M.state unit.old) (M.state unit.new) }
+    ensures known { NotesInSession (session_of run.old.keeper.cabin.cards which)
+        (C.state card.old) (C.state card.new) }
+    ensures behind { StandsBehind which result run.old run.new
+        (M.state unit.old) (M.state unit.new)
+        (C.state card.old) (C.state card.new) (C.card card.new) }
     ensures stands { (from : ℕ) (leaving : Option Card) → CabinIsSound from leaving run.old.keeper.cabin
         → CabinIsSound from leaving run.new.keeper.cabin }
-    ensures card { CardMayBeCalled (known_of run.new.keeper.cabin.cards which) (C.card card.new) (C.state card.new) }
-    ensures size { (C.state card.new).size ≡ (C.state card.old).size }
     ensures clock_card { (C.state card.old).clock ≤ (C.state card.new).clock }
-    ensures cause { HasCause (M.state unit.old) (M.state unit.new) (is_err result) }
 {
     let Ok(app) = run.keeper.cabin.cards.of(which).sizes else {
         return Ok(());

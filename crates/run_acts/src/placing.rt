@@ -1,30 +1,21 @@
 //! A place is noted.
-ghost use Rattle.std.specs.Prelude.{◌≡◌, ◌≢◌, ℕ, ◌+◌, ◌/◌, ◌<◌, ◌≤◌, ◌^◌, Bool, true, false, Option, IfSome, OnOk, []};
+ghost use Rattle.std.specs.Prelude.{◌≡◌, ◌≢◌, ℕ, ◌+◌, ◌/◌, ◌<◌, ◌≤◌, ◌^◌, Bool, true, Option, OnOk};
 ghost use Rattle.std.specs.Prelude.{length, is_err, is_some, if◌then◌else◌};
 ghost use Rattle.trace_model.specs.declared.Card.{Card};
-ghost use Rattle.tach_media.specs.Medium.{LeavesOnly, HasCause, HasBroken};
+ghost use Rattle.tach_media.specs.Medium.{HasCause, HasBroken};
 ghost use Rattle.minute_model.specs.Span.{Span, travelled_of};
 ghost use Rattle.minute_rules.specs.Kept.{CountsSpan};
 ghost use Rattle.unit_model.specs.declared.layout.TheConstants.{HIGHEST_ODOMETER};
-ghost use Rattle.unit_model.specs.Image.{IsUnit};
-ghost use Rattle.unit_notes.specs.Journal.{LeavesJournal};
 ghost use Rattle.run_crew.specs.Cards.{known_of, session_of};
 ghost use Rattle.run_crew.specs.Cabin.{CabinIsSound};
-ghost use Rattle.run_speeds.specs.Speeds.{LeavesSpeeds};
-ghost use Rattle.run_minutes.specs.Keeping.{UnitMayBeCalled, CardMayBeCalled, HasItsRow};
+ghost use Rattle.run_minutes.specs.Keeping.{UnitMayBeCalled, CardMayBeCalled};
 ghost use Rattle.run_minutes.specs.Minutes.{odometer_by};
 ghost use Rattle.run_promise.specs.Between.{devices};
-ghost use Rattle.card_session.specs.Sessions.{IsValue};
-ghost use Rattle.device_calls.specs.CardNotes.{IsNote};
-ghost use Rattle.run_acts.specs.Noting.{NotesFall};
-ghost use Rattle.run_acts.specs.CardNotes.{NotesOn};
-ghost use Rattle.run_acts.specs.CardWrites.{MayTakePlace, PlaceOn};
-ghost use Rattle.run_rings.specs.Same.{LeavesRings};
-ghost use Rattle.run_acts.specs.declared.run.Power.TheVariants.{Lit};
-ghost use Rattle.run_acts.specs.Going.{first_second, end_of_seconds, CanBeCut, RunHasPowerAllSeated};
+ghost use Rattle.run_acts.specs.Going.{RunHasPowerAllSeated, IsActing};
 ghost use Rattle.run_acts.specs.Room.{falls_of};
 ghost use Rattle.run_acts.specs.Acting.{IsNotedOn, falls_by};
-ghost use Rattle.run_acts.specs.Acts.{AllGoOn, IsHeldBehind, LeavesPlaced, PlacesSo, PromisesPlace};
+ghost use Rattle.run_acts.specs.Acts.{AllGoOn, IsHeldBehind, LeavesPlaced, NotesInSession, PlacesSo, PromisesPlace};
+ghost use Rattle.run_acts.specs.Acts.{ShowsPlaceOn, StandsBehind, UnitWrites};
 
 use crate::run::Run;
 use activity_codec::Slot;
@@ -71,13 +62,8 @@ pub fn note_place<M: Medium, C: Chip, D: Chip>(
     card_b: &mut D,
     breaks: &mut Lines<Break>,
 ) -> Result<(), Failed>
-    requires lit { run.old.power ≡ Lit }
-    requires low { first_second ≤ run.old.next }
-    requires small { run.old.next ≤ end_of_seconds }
-    requires held { CanBeCut (run.old.next / 60) run.old (M.state unit.old) (C.card card_a.old) (D.card card_b.old)
-        (C.state card_a.old) (D.state card_b.old) }
-    requires going { RunHasPowerAllSeated (run.old.next / 60) run.old (M.state unit.old) (C.card card_a.old)
-        (D.card card_b.old) (C.state card_a.old) (D.state card_b.old) }
+    requires acting { IsActing run.old (M.state unit.old) (C.card card_a.old) (D.card card_b.old) (C.state card_a.old)
+        (D.state card_b.old) }
     requires at { at.second ≡ run.old.next }
     requires time { entry.now.time.0 ≢ 0 }
     requires odometer { entry.now.odometer.0 ≤ HIGHEST_ODOMETER }
@@ -135,31 +121,18 @@ fn note_place_in<M: Medium, C: Chip>(
     ensures noted { (fell : Bool) × IsNotedOn which slot at run.old run.new breaks.old breaks.new fell
         × HasBroken (C.state card.old) (C.state card.new) (falls_by fell)
         × HasCause (C.state card.old) (C.state card.new) fell }
-    ensures card_events { NotesOn false (session_of run.old.keeper.cabin.cards which)
-        (session_of run.new.keeper.cabin.cards which) [] (C.state card.old) (C.state card.new) }
-    ensures on_card { PlaceOn (session_of run.old.keeper.cabin.cards which)
-        (session_of run.new.keeper.cabin.cards which) false entry.now (C.state card.old) (C.state card.new) }
-    ensures places { MayTakePlace (session_of run.old.keeper.cabin.cards which) entry.now (C.state card.old)
-        (C.state card.new) }
-    ensures events { NotesFall (λ fell. IsNotedOn which slot at run.old run.new breaks.old breaks.new fell) at.second
-        (is_err result) run.new (devices (M.state unit.old) (C.state card.old) (C.state card.old))
-        (devices (M.state unit.new) (C.state card.new) (C.state card.new)) }
-    ensures rings { LeavesRings (M.state unit.old) (M.state unit.new) }
-    ensures speeds { LeavesSpeeds (M.state unit.old) (M.state unit.new) }
-    ensures journal { LeavesOnly (M.state unit.old) (M.state unit.new) LeavesJournal }
-    ensures moments { IfSome (session_of run.old.keeper.cabin.cards which)
-        (λ a. LeavesOnly (C.state card.old) (C.state card.new) (IsNote a.session.application)) }
-    ensures value { IfSome (session_of run.old.keeper.cabin.cards which) (λ a. IsValue a.session) }
-    ensures unit { IsUnit (M.state unit.new) }
-    ensures ready { OnOk result (UnitMayBeCalled run.new.keeper (M.state unit.new)) }
-    ensures rows { (c : Card) → HasItsRow run.old.keeper.cabin.cards (M.state unit.old) c
-        → OnOk result (HasItsRow run.new.keeper.cabin.cards (M.state unit.new) c) }
+    ensures shows { ShowsPlaceOn which slot entry.now at (is_err result) run.old run.new breaks.old breaks.new
+        (M.state unit.old) (M.state unit.new)
+        (C.state card.old) (C.state card.new) }
+    ensures writes { UnitWrites (M.state unit.old) (M.state unit.new) }
+    ensures known { NotesInSession (session_of run.old.keeper.cabin.cards which)
+        (C.state card.old) (C.state card.new) }
+    ensures behind { StandsBehind which result run.old run.new
+        (M.state unit.old) (M.state unit.new)
+        (C.state card.old) (C.state card.new) (C.card card.new) }
     ensures stands { (from : ℕ) (leaving : Option Card) → CabinIsSound from leaving run.old.keeper.cabin
         → CabinIsSound from leaving run.new.keeper.cabin }
-    ensures card { CardMayBeCalled (known_of run.new.keeper.cabin.cards which) (C.card card.new) (C.state card.new) }
-    ensures size { (C.state card.new).size ≡ (C.state card.old).size }
     ensures clock_card { (C.state card.old).clock ≤ (C.state card.new).clock }
-    ensures cause { HasCause (M.state unit.old) (M.state unit.new) (is_err result) }
 {
     let Ok(app) = run.keeper.cabin.cards.of(which).sizes else {
         return Ok(());

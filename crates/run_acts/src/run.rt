@@ -51,19 +51,14 @@ pub struct Run {
 }
 
 impl Run {
-    ghost use Rattle.run_acts.specs.Power.{is_lit, passed};
+    ghost use Rattle.run_acts.specs.Power.{StartsAt, is_lit, passed};
     ghost use Rattle.run_acts.specs.Going.{largest_number};
-    ghost use Rattle.run_acts.specs.declared.run.Power.TheVariants.{Due};
 
     /// A run that begins at this second, of devices that were opened so.
     pub fn new(start: u32, opened: Opened) -> Run
         requires card_a { opened.card_a.accepted ≡ None }
         requires card_b { opened.card_b.accepted ≡ None }
-        ensures power { result.power ≡ Due }
-        ensures next { result.next ≡ start }
-        ensures begun { result.begun ≡ 0 }
-        ensures unfound { result.unfound ≡ 0 }
-        ensures noted { result.noted ≡ 0 }
+        ensures starts { StartsAt start result }
         ensures minutes { CountsSpan result.minutes (begin (rule_by opened.unit.memory.rule_byte) start) }
         ensures keeper { result.keeper
             ≡ record {

@@ -2,30 +2,24 @@
 ghost use Rattle.std.specs.Prelude.{◌≡◌, ◌≢◌, ℕ, ◌+◌, ◌-◌, ◌*◌, ◌/◌, ◌<◌, ◌≤◌, true, Option, Some, None, IfSome, OnOk};
 ghost use Rattle.std.specs.Prelude.{length, is_some, is_err};
 ghost use Rattle.trace_model.specs.declared.Card.{Card};
-ghost use Rattle.activity_codec.specs.declared.values.Activity.{Activity};
 ghost use Rattle.tach_media.specs.Medium.{LeavesOnly, HasCause, HasBroken};
-ghost use Rattle.card_session.specs.Sessions.{IsSession};
-ghost use Rattle.card_session.specs.Cards.{IsCardClosing};
 ghost use Rattle.message_model.specs.Records.{insertion_ring};
 ghost use Rattle.unit_model.specs.declared.layout.TheConstants.{HIGHEST_ODOMETER};
-ghost use Rattle.unit_model.specs.Image.{IsUnit};
 ghost use Rattle.unit_notes.specs.Journal.{LeavesJournal};
 ghost use Rattle.card_slots.specs.Calls.{seat_in, card_in};
 ghost use Rattle.run_crew.specs.Cards.{known_of, session_of};
 ghost use Rattle.run_crew.specs.Cabin.{CabinIsSound};
 ghost use Rattle.run_speeds.specs.Speeds.{LeavesSpeeds};
-ghost use Rattle.run_minutes.specs.Keeping.{UnitMayBeCalled, CardMayBeCalled, HasItsRow, tears_of, with_lines};
-ghost use Rattle.run_acts.specs.declared.run.Power.TheVariants.{Lit};
-ghost use Rattle.run_acts.specs.Going.{first_second, end_of_seconds, CanBeCut, RunHasPowerAllSeated};
+ghost use Rattle.run_minutes.specs.Keeping.{UnitMayBeCalled, CardMayBeCalled, tears_of, with_lines};
+ghost use Rattle.run_acts.specs.Going.{RunHasPowerAllSeated, IsActing};
 ghost use Rattle.run_acts.specs.Room.{falls_of, Takes};
-ghost use Rattle.run_minutes.specs.Later.{IsLater, IsCalm};
 ghost use Rattle.run_promise.specs.Between.{devices};
 ghost use Rattle.run_acts.specs.Stays.{ClosesOnCard};
 ghost use Rattle.run_acts.specs.Acting.{Closing, Closed, IsClosed, closed_falls, pulled_run, pulled_breaks};
-ghost use Rattle.run_acts.specs.Noting.{SaysNoMore, NotesClosing};
-ghost use Rattle.run_acts.specs.Ringing.{ClosesSo, WritesWithdrawal};
-ghost use Rattle.run_acts.specs.CardWrites.{ShutsSo};
-ghost use Rattle.run_acts.specs.Acts.{AllGoOn, IsHeldBehind, LeavesWithdrawn, PromisesWithdrawal, Withdraws};
+ghost use Rattle.run_acts.specs.Noting.{SaysNoMore};
+ghost use Rattle.run_acts.specs.Ringing.{WritesWithdrawal};
+ghost use Rattle.run_acts.specs.Acts.{AllGoOn, CardGoesOn, IsHeldBehind, LeavesWithdrawn, PromisesWithdrawal};
+ghost use Rattle.run_acts.specs.Acts.{ShowsClosing, StandsBehind, UnitWrites, Withdraws};
 
 use crate::run::Run;
 use crate::settling::settle;
@@ -57,13 +51,8 @@ pub fn withdraw<M: Medium, C: Chip, D: Chip>(
     card_b: &mut D,
     outcome: &mut Outcome,
 ) -> Result<(), Failed>
-    requires lit { run.old.power ≡ Lit }
-    requires low { first_second ≤ run.old.next }
-    requires small { run.old.next ≤ end_of_seconds }
-    requires held { CanBeCut (run.old.next / 60) run.old (M.state unit.old) (C.card card_a.old) (D.card card_b.old)
-        (C.state card_a.old) (D.state card_b.old) }
-    requires going { RunHasPowerAllSeated (run.old.next / 60) run.old (M.state unit.old) (C.card card_a.old)
-        (D.card card_b.old) (C.state card_a.old) (D.state card_b.old) }
+    requires acting { IsActing run.old (M.state unit.old) (C.card card_a.old) (D.card card_b.old) (C.state card_a.old)
+        (D.state card_b.old) }
     requires at { at.second ≡ run.old.next }
     requires marks { length outcome.old.marks.items + 3 * run.old.minutes.owing ≤ outcome.old.marks.room }
     requires breaks { length outcome.old.breaks.items + falls_of run.old.keeper.cabin ≤ outcome.old.breaks.room }
@@ -120,30 +109,18 @@ fn close<M: Medium, C: Chip>(
         × HasBroken (C.state card.old) (C.state card.new) (closed_falls closing)
         × (closing ≡ Closed → ClosesOnCard slot run.old.minutes (session_of run.old.keeper.cabin.cards which)
         (C.state card.old) (C.state card.new)) }
-    ensures events { NotesClosing which slot at (is_err result) run.old run.new breaks.old breaks.new
-        (devices (M.state unit.old) (C.state card.old) (C.state card.old))
-        (devices (M.state unit.new) (C.state card.new) (C.state card.new)) }
-    ensures journal { LeavesOnly (M.state unit.old) (M.state unit.new) LeavesJournal }
-    ensures speeds { LeavesSpeeds (M.state unit.old) (M.state unit.new) }
-    ensures rings { is_some (M.state unit.old).image ≡ true
-        → ClosesSo which slot at (is_err result) run.old run.new breaks.old breaks.new (M.state unit.old)
-        (M.state unit.new) }
-    ensures left { IfSome (session_of run.old.keeper.cabin.cards which)
-        (λ s. (act : Activity) × LeavesOnly (C.state card.old) (C.state card.new)
-        (λ x c. IsSession s.session x → IsCardClosing s.session act x c)) }
-    ensures shut { ShutsSo which slot at run.old run.new breaks.old breaks.new (C.state card.old) (C.state card.new) }
+    ensures shows { ShowsClosing which slot at (is_err result) run.old run.new breaks.old breaks.new
+        (M.state unit.old) (M.state unit.new)
+        (C.state card.old) (C.state card.new) }
+    ensures writes { UnitWrites (M.state unit.old) (M.state unit.new) }
     ensures bare { session_of run.old.keeper.cabin.cards which ≡ None → card.new ≡ card.old }
-    ensures unit { IsUnit (M.state unit.new) }
-    ensures ready { OnOk result (UnitMayBeCalled run.new.keeper (M.state unit.new)) }
-    ensures rows { (c : Card) → HasItsRow run.old.keeper.cabin.cards (M.state unit.old) c
-        → OnOk result (HasItsRow run.new.keeper.cabin.cards (M.state unit.new) c) }
+    ensures behind { StandsBehind which result run.old run.new
+        (M.state unit.old) (M.state unit.new)
+        (C.state card.old) (C.state card.new) (C.card card.new) }
     ensures stands { (from : ℕ) → CabinIsSound from (Some which) run.old.keeper.cabin
         → CabinIsSound from None run.new.keeper.cabin }
-    ensures card { CardMayBeCalled (known_of run.new.keeper.cabin.cards which) (C.card card.new) (C.state card.new) }
-    ensures size { (C.state card.new).size ≡ (C.state card.old).size }
-    ensures cause { HasCause (M.state unit.old) (M.state unit.new) (is_err result) }
-    ensures later { IsLater (C.state card.old) (C.state card.new) }
-    ensures calm { IsCalm breaks.old.items breaks.new.items (C.state card.old) (C.state card.new) }
+    ensures goes { CardGoesOn breaks.old.items breaks.new.items
+        (C.state card.old) (C.state card.new) }
 {
     let selected = run.minutes.selected(slot);
     let sizes = run.keeper.cabin.cards.of(which).sizes;

@@ -108,15 +108,15 @@ written-as false entered clock (Some entry) = tt
 
 module _ (app : Application) (e : Entering) (k : Keeper) (U V X M Z : State) (unit_whole : IsCoherent U) (unit_after : IsCoherent V) (whole : IsCoherent X) (after : IsCoherent M) (bare : session_of k.cabin.cards e.which ≡ None) (told : IfSome X.image (λ x. own_sizes x ≡ app)) (size : image_size_of app ≤ X.size)
     (registration : Registration) (long : length registration.0 ≡ 15) (odometer : ℕ) (few : e.at.second < 2 ^ 32) (answer : Result Entered NotEntered) (enters : IsEntering app registration odometer e.at.second U V X M answer)
-    (f : Found) (w : RunLedger) (m : MayEnter f w k.cabin.cards e U X Z) (out : w.standing e.which ≡ Out) where
+    (f : Found) (w : RunLedger) (m : MayEnter f w k.cabin.cards e U X Z) (named : registration ≡ (found_of f e.which).vehicle) (out : w.standing e.which ≡ Out) where
   own : IsOwnValid (found_of f e.which).image → app ≡ own_sizes (found_of f e.which).image
   own = measured-own f w k.cabin.cards e.which U X Z m.powered whole app told
 
   pub judged-powered : V.works ≡ true → DevicesPowered f w k.cabin.cards (arranged e.which V M Z)
-  judged-powered = entered-powered-by f w k.cabin.cards e.which U V X M Z m.found unit_whole unit_after whole after registration long odometer e.at.second few answer out bare m.powered m.late app own size enters
+  judged-powered = entered-powered-by f w k.cabin.cards e.which U V X M Z m.found unit_whole unit_after whole after registration long named odometer e.at.second few answer out bare m.powered m.late app own size enters
 
   pub judged-powerless : DevicesUnpowered f w (arranged e.which V M Z)
-  judged-powerless = entered-powerless-by f w k.cabin.cards e.which U V X M Z m.found unit_whole unit_after whole after registration long odometer e.at.second few answer out bare m.powered m.late app own size enters
+  judged-powerless = entered-powerless-by f w k.cabin.cards e.which U V X M Z m.found unit_whole unit_after whole after registration long named odometer e.at.second few answer out bare m.powered m.late app own size enters
 
   -- a card that no call wrote is so still, or was valid
   untouched-by : IsUntouched (found_of f e.which) X → IsUntouched (found_of f e.which) M ⊎ (IsOwnValid (found_of f e.which).image × MayWrite answer)
@@ -162,17 +162,17 @@ module _ (app : Application) (e : Entering) (k : Keeper) (U V X M Z : State) (un
   -- or it is taken in
   module _ (entered : Entered) (ok : answer ≡ Ok entered) where
     valid : IsOwnValid (found_of f e.which).image
-    valid = put-valid f w k.cabin.cards e.which U V X M Z m.found unit_whole unit_after whole after registration long odometer e.at.second few answer bare m.powered m.late app told size enters m.tells m.began m.spared entered ok
+    valid = put-valid f w k.cabin.cards e.which U V X M Z m.found unit_whole unit_after whole after registration long named odometer e.at.second few answer bare m.powered m.late app told size enters m.tells m.began m.spared entered ok
 
     may-seat : V.works ≡ true → M.clock < last_count → MaySeat f (with_marks (card_marks e.which M.clock entered.owed.items) w) k e entered.look entered.session V M Z
     may-seat works low = record {
       found = m.found;
-      powered = accepted-marked-by f w k.cabin.cards e.which U V X M Z m.found unit_whole unit_after whole after registration long odometer e.at.second few answer out bare m.powered m.late app own size enters valid entered ok works (enters.settled (is-ok ok) low);
+      powered = accepted-marked-by f w k.cabin.cards e.which U V X M Z m.found unit_whole unit_after whole after registration long named odometer e.at.second few answer out bare m.powered m.late app own size enters valid entered ok works (enters.settled (is-ok ok) low);
       valid = valid;
       out = out;
-      put = accepted-put-by f w k.cabin.cards e.which U V X M Z m.found unit_whole unit_after whole after registration long odometer e.at.second few answer out bare m.powered m.late app own size enters valid entered ok;
+      put = accepted-put-by f w k.cabin.cards e.which U V X M Z m.found unit_whole unit_after whole after registration long named odometer e.at.second few answer out bare m.powered m.late app own size enters valid entered ok;
       late = m.late;
-      named = accepted-number-by f w k.cabin.cards e.which U V X M Z m.found unit_whole unit_after whole after registration long odometer e.at.second few answer out bare m.powered m.late app own size enters valid entered ok;
+      named = accepted-number-by f w k.cabin.cards e.which U V X M Z m.found unit_whole unit_after whole after registration long named odometer e.at.second few answer out bare m.powered m.late app own size enters valid entered ok;
     }
       where
         is-ok : answer ≡ Ok entered → IsOk answer
@@ -256,14 +256,14 @@ module _ (app : Application) (e : Entering) (k : Keeper) (U V X M Z : State) (un
 
     told-so : X.works ≡ true → V.works ≡ true → M.clock < last_count → length entered.owed.items ≤ most_owed → IsToldSo f w e entered U X
     told-so X_works works low most =
-        let r = accepted-found-by f w k.cabin.cards e.which U V X M Z m.found unit_whole unit_after whole after registration long odometer e.at.second few answer out bare m.powered m.late app own size enters valid entered ok in
+        let r = accepted-found-by f w k.cabin.cards e.which U V X M Z m.found unit_whole unit_after whole after registration long named odometer e.at.second few answer out bare m.powered m.late app own size enters valid entered ok in
         let bounds = (put-entered works low).answered (x works low) (x-there works low) in
         let same = newest-is works low in
         record {
           valid = valid;
-          named = accepted-number-by f w k.cabin.cards e.which U V X M Z m.found unit_whole unit_after whole after registration long odometer e.at.second few answer out bare m.powered m.late app own size enters valid entered ok;
+          named = accepted-number-by f w k.cabin.cards e.which U V X M Z m.found unit_whole unit_after whole after registration long named odometer e.at.second few answer out bare m.powered m.late app own size enters valid entered ok;
           found = record { unit_image = r.unit_image; card_image = r.card_image; on = r.on; there = r.there; valid = r.valid; sizes = r.sizes; early = r.early; owes = r.owes; number = r.number };
-          whole = accepted-whole-by f w k.cabin.cards e.which U V X M Z m.found unit_whole unit_after whole after registration long odometer e.at.second few answer out bare m.powered m.late app own size enters valid entered ok;
+          whole = accepted-whole-by f w k.cabin.cards e.which U V X M Z m.found unit_whole unit_after whole after registration long named odometer e.at.second few answer out bare m.powered m.late app own size enters valid entered ok;
           most = most;
           answers = record {
             least = let low_ = bounds.0 in omega (arith, low_, same);

@@ -19,7 +19,7 @@ use Rattle.run_promise.specs.Found.{CardFound, Found, found_of}
 use Rattle.run_devices.proofs.Woken.{MayHaveWritten}
 use Rattle.run_devices.proofs.NotedCard.{note-book}
 use Rattle.run_minutes.specs.CardDeeds.{made_by, is_open_in, opens, begun_use, DoesOn, OpensOn}
-use Rattle.run_minutes.proofs.CardUse.{note-use}
+use Rattle.run_devices.proofs.CardUse.{note-use}
 use Rattle.run_minutes.proofs.CardDeeds.{does-none}
 use Rattle.run_insertion.specs.declared.lines.Entering.{Entering}
 use Rattle.run_insertion.specs.Entering.{Ending, Unfit, Ahead, Fell, Unasked, Unnoted, Seated, Lost, taken_as}

@@ -4,3 +4,4 @@ pub mod CardEvents
 pub mod CardBrought
 pub mod Entered
 pub mod Told
+pub mod Calls

@@ -228,17 +228,19 @@ pub record IsEnteredOn (ending : Ending) (e : Entering) (failed : Bool) (k v : K
   pub opens : IsOwnValid (found_of f e.which).image
       → OpensSo ending k.memory.registration e (found_of f e.which) card card_after
 
--- A CARD WAS JUDGED, which stands as one that is not accepted: what is known behind it. No clock is at its last value.
+-- A CARD WAS JUDGED, which stands as one that is not accepted, and found in the vehicle of the keeper: what is known
+-- behind it. No clock is at its last value.
 abbrev pub BooksJudged : Ending → Entering → (failed : Bool) → (k v : Keeper)
     → (unit unit_after card card_after others : State) → Type 0
 BooksJudged ending e failed k v unit unit_after card card_after others =
-    (f : Found) (w : RunLedger) → MayEnter f w k.cabin.cards e unit card others → w.standing e.which ≡ Out
-    → card_after.clock < last_count
+    (f : Found) (w : RunLedger) → MayEnter f w k.cabin.cards e unit card others
+    → k.memory.registration ≡ (found_of f e.which).vehicle → w.standing e.which ≡ Out → card_after.clock < last_count
     → IsEnteredOn ending e failed k v unit unit_after card card_after others f w
 
 -- A CARD ENTERED, however it stood before
 abbrev pub BooksEntered : Way → Entering → (failed : Bool) → (k v : Keeper)
     → (unit unit_after card card_after others : State) → Type 0
 BooksEntered way e failed k v unit unit_after card card_after others =
-    (f : Found) (w : RunLedger) → MayEnter f w k.cabin.cards e unit card others → card_after.clock < last_count
+    (f : Found) (w : RunLedger) → MayEnter f w k.cabin.cards e unit card others
+    → k.memory.registration ≡ (found_of f e.which).vehicle → card_after.clock < last_count
     → IsEnteredOn (ending_of way) e failed k v unit unit_after card card_after others f (with_standing e.which Out w)

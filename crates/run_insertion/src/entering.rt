@@ -1,5 +1,5 @@
 //! A card that was put into a slot, or meets power there, is accepted or turned away.
-ghost use Rattle.std.specs.Prelude.{◌≡◌, ◌≢◌, ℕ, ◌+◌, ◌/◌, ◌<◌, ◌≤◌, ◌^◌, true, false, Some, None, Ok, IfSome, OnOk};
+ghost use Rattle.std.specs.Prelude.{◌≡◌, ◌≢◌, ◌+◌, ◌/◌, ◌<◌, ◌≤◌, ◌^◌, true, false, Some, None, Ok, IfSome, OnOk};
 ghost use Rattle.std.specs.Prelude.{length, is_err};
 ghost use Rattle.trace_model.specs.declared.Card.{Card};
 ghost use Rattle.tach_media.specs.Medium.{LeavesOnly, HasCause};
@@ -8,9 +8,7 @@ ghost use Rattle.card_commands.specs.Ports.{IsPort};
 ghost use Rattle.card_slots.specs.Calls.{seat_in, is_card};
 ghost use Rattle.log_model.specs.Slots.{other_slot};
 ghost use Rattle.run_crew.specs.Cards.{known_of, session_of};
-ghost use Rattle.run_crew.specs.Cabin.{CabinIsSound};
-ghost use Rattle.run_minutes.specs.Keeping.{UnitMayBeCalled, CardMayBeCalled, HasItsRow};
-ghost use Rattle.run_minutes.specs.Later.{IsLater, IsCalm};
+ghost use Rattle.run_minutes.specs.Keeping.{UnitMayBeCalled, HasItsRow};
 ghost use Rattle.card_layout.specs.declared.files.TheConstants.{LARGEST_IMAGE};
 ghost use Rattle.card_image.specs.Own.{own_sizes};
 ghost use Rattle.card_validity.specs.Judged.{TellsSizes};
@@ -19,6 +17,7 @@ ghost use Rattle.card_session.specs.declared.words.TheConstants.{LATEST_MINUTE};
 ghost use Rattle.run_insertion.specs.Entering.{Ending, Way, Unfit, Ahead, outcome_by, most_owed};
 ghost use Rattle.run_insertion.specs.Noted.{HasNoted, IsOnUnit, IsComing, notes_by};
 ghost use Rattle.run_insertion.specs.Entered.{IsJudgedSo, HasEntered};
+ghost use Rattle.run_insertion.specs.Calls.{EnteringGoes, StandsEntered};
 
 use crate::lines::{Entering, find, other_card};
 use crate::noting::{note_not_valid, note_overlap};
@@ -127,21 +126,14 @@ fn accept_by<M: Medium, C: Chip, D: Chip>(
         (M.state unit.old) (M.state unit.new) (C.state card.old) (C.state card.new) ending
         × BooksJudged ending entering (is_err result) keeper.old keeper.new (M.state unit.old) (M.state unit.new)
         (C.state card.old) (C.state card.new) (D.state others.now) }
-    ensures ready { OnOk result (UnitMayBeCalled keeper.new (M.state unit.new)) }
-    ensures rows { (card : Card) → HasItsRow keeper.old.cabin.cards (M.state unit.old) card
-        → OnOk result (HasItsRow keeper.new.cabin.cards (M.state unit.new) card) }
+    ensures behind { StandsEntered entering.which result keeper.old keeper.new (M.state unit.old) (M.state unit.new)
+        (C.state card.old) (C.state card.new) (C.card card.new) }
     ensures row { IfSome (session_of keeper.new.cabin.cards entering.which)
         (λ a. OnOk result (HasItsRow keeper.new.cabin.cards (M.state unit.new) entering.which)) }
-    ensures stands { (from : ℕ) → keeper.old.cabin.slots.minute ≤ from → CabinIsSound from None keeper.old.cabin
-        → CabinIsSound from None keeper.new.cabin }
-    ensures cause { HasCause (M.state unit.old) (M.state unit.new) (is_err result) }
-    ensures card { CardMayBeCalled (known_of keeper.new.cabin.cards entering.which) (C.card card.new)
-        (C.state card.new) }
-    ensures size { (C.state card.new).size ≡ (C.state card.old).size }
     ensures clock { (M.state unit.old).clock ≤ (M.state unit.new).clock }
     ensures in_time { IsEarly entering (C.state card.old) (C.state card.new) }
-    ensures later { IsLater (C.state card.old) (C.state card.new) }
-    ensures calm { IsCalm outcome.old.breaks.items outcome.new.breaks.items (C.state card.old) (C.state card.new) }
+    ensures goes { EnteringGoes outcome.old.breaks.items outcome.new.breaks.items
+        (C.state card.old) (C.state card.new) }
 {
     let registration = keeper.memory.identity().registration;
     let now = TimeReal(entering.at.second);
@@ -214,21 +206,14 @@ pub fn accept<M: Medium, C: Chip, D: Chip>(
         outcome.old outcome.new (M.state unit.old) (M.state unit.new) (C.state card.old) (C.state card.new) way
         × BooksEntered way entering (is_err result) keeper.old keeper.new (M.state unit.old) (M.state unit.new)
         (C.state card.old) (C.state card.new) (D.state others.now) }
-    ensures ready { OnOk result (UnitMayBeCalled keeper.new (M.state unit.new)) }
-    ensures rows { (card : Card) → HasItsRow keeper.old.cabin.cards (M.state unit.old) card
-        → OnOk result (HasItsRow keeper.new.cabin.cards (M.state unit.new) card) }
+    ensures behind { StandsEntered entering.which result keeper.old keeper.new (M.state unit.old) (M.state unit.new)
+        (C.state card.old) (C.state card.new) (C.card card.new) }
     ensures row { IfSome (session_of keeper.new.cabin.cards entering.which)
         (λ a. OnOk result (HasItsRow keeper.new.cabin.cards (M.state unit.new) entering.which)) }
-    ensures stands { (from : ℕ) → keeper.old.cabin.slots.minute ≤ from → CabinIsSound from None keeper.old.cabin
-        → CabinIsSound from None keeper.new.cabin }
-    ensures cause { HasCause (M.state unit.old) (M.state unit.new) (is_err result) }
-    ensures card { CardMayBeCalled (known_of keeper.new.cabin.cards entering.which) (C.card card.new)
-        (C.state card.new) }
-    ensures size { (C.state card.new).size ≡ (C.state card.old).size }
     ensures clock { (M.state unit.old).clock ≤ (M.state unit.new).clock }
     ensures in_time { WasInTime entering (C.state card.old) (C.state card.new) }
-    ensures later { IsLater (C.state card.old) (C.state card.new) }
-    ensures calm { IsCalm outcome.old.breaks.items outcome.new.breaks.items (C.state card.old) (C.state card.new) }
+    ensures goes { EnteringGoes outcome.old.breaks.items outcome.new.breaks.items
+        (C.state card.old) (C.state card.new) }
 {
     let Ok(sizes) = wake(card) else {
         keeper.cabin.measure(entering.which, Err(UNTOLD));

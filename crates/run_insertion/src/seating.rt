@@ -12,12 +12,12 @@ ghost use Rattle.log_model.specs.Slots.{other_slot};
 ghost use Rattle.run_crew.specs.Cards.{known_of, session_of};
 ghost use Rattle.run_crew.specs.Cabin.{CabinIsSound};
 ghost use Rattle.run_minutes.specs.Keeping.{UnitMayBeCalled, CardMayBeCalled, HasItsRow};
-ghost use Rattle.run_minutes.specs.Later.{IsLater, IsCalm};
 ghost use Rattle.run_insertion.specs.Entering.{taken_as, most_owed};
 ghost use Rattle.card_session.specs.Sessions.{IsValue};
 ghost use Rattle.run_devices.specs.Told.{arranged};
 ghost use Rattle.run_insertion.specs.Told.{BooksSeat, BooksNotes, TimesNotes, BooksTaken};
 ghost use Rattle.run_insertion.specs.Entered.{FitsInsertion, IsSeated, IsMoved, IsNotedOn, IsEntry, IsTaken};
+ghost use Rattle.run_insertion.specs.Calls.{EnteringGoes, IsWithinBounds, StandsEntered};
 
 use crate::lines::{Entering, find, insertion_of, other_card, tell_replayed};
 use crate::noting::{note_driving, note_unclosed};
@@ -124,17 +124,10 @@ fn note_moving<M: Medium, C: Chip, D: Chip>(
     ensures timed { TimesNotes app entering keeper.old
         (arranged entering.which (M.state unit.old) (C.state card.old) (D.state others.now)) (C.state card.old)
         (C.state card.new) }
-    ensures ready { OnOk result (UnitMayBeCalled keeper.new (M.state unit.new)) }
-    ensures rows { (card : Card) → HasItsRow keeper.old.cabin.cards (M.state unit.old) card
-        → OnOk result (HasItsRow keeper.new.cabin.cards (M.state unit.new) card) }
-    ensures stands { (from : ℕ) → keeper.old.cabin.slots.minute ≤ from → CabinIsSound from None keeper.old.cabin
-        → CabinIsSound from None keeper.new.cabin }
-    ensures cause { HasCause (M.state unit.old) (M.state unit.new) (is_err result) }
-    ensures card { CardMayBeCalled (known_of keeper.new.cabin.cards entering.which) (C.card card.new)
-        (C.state card.new) }
-    ensures size { (C.state card.new).size ≡ (C.state card.old).size }
-    ensures later { IsLater (C.state card.old) (C.state card.new) }
-    ensures calm { IsCalm breaks.old.items breaks.new.items (C.state card.old) (C.state card.new) }
+    ensures behind { StandsEntered entering.which result keeper.old keeper.new (M.state unit.old) (M.state unit.new)
+        (C.state card.old) (C.state card.new) (C.card card.new) }
+    ensures goes { EnteringGoes breaks.old.items breaks.new.items
+        (C.state card.old) (C.state card.new) }
 {
     let second = entering.at.second;
     note_driving(keeper, second, unit)?;
@@ -175,17 +168,10 @@ fn note_entered<M: Medium, C: Chip, D: Chip>(
     ensures timed { TimesNotes app entering keeper.old
         (arranged entering.which (M.state unit.old) (C.state card.old) (D.state others.now)) (C.state card.old)
         (C.state card.new) }
-    ensures ready { OnOk result (UnitMayBeCalled keeper.new (M.state unit.new)) }
-    ensures rows { (card : Card) → HasItsRow keeper.old.cabin.cards (M.state unit.old) card
-        → OnOk result (HasItsRow keeper.new.cabin.cards (M.state unit.new) card) }
-    ensures stands { (from : ℕ) → keeper.old.cabin.slots.minute ≤ from → CabinIsSound from None keeper.old.cabin
-        → CabinIsSound from None keeper.new.cabin }
-    ensures cause { HasCause (M.state unit.old) (M.state unit.new) (is_err result) }
-    ensures card { CardMayBeCalled (known_of keeper.new.cabin.cards entering.which) (C.card card.new)
-        (C.state card.new) }
-    ensures size { (C.state card.new).size ≡ (C.state card.old).size }
-    ensures later { IsLater (C.state card.old) (C.state card.new) }
-    ensures calm { IsCalm breaks.old.items breaks.new.items (C.state card.old) (C.state card.new) }
+    ensures behind { StandsEntered entering.which result keeper.old keeper.new (M.state unit.old) (M.state unit.new)
+        (C.state card.old) (C.state card.new) (C.card card.new) }
+    ensures goes { EnteringGoes breaks.old.items breaks.new.items
+        (C.state card.old) (C.state card.new) }
 {
     let crew = keeper.cabin.crew();
     if entering.speed > 0 {
@@ -243,22 +229,13 @@ pub(crate) fn take_in<M: Medium, C: Chip, D: Chip>(
         (taken_as fell entered (C.state card.old).clock entry)
         × BooksTaken entered (taken_as fell entered (C.state card.old).clock entry) entering (is_err result) keeper.old
         keeper.new (M.state unit.old) (M.state unit.new) (C.state card.old) (C.state card.new) (D.state others.now) }
-    ensures ready { OnOk result (UnitMayBeCalled keeper.new (M.state unit.new)) }
-    ensures rows { (card : Card) → HasItsRow keeper.old.cabin.cards (M.state unit.old) card
-        → OnOk result (HasItsRow keeper.new.cabin.cards (M.state unit.new) card) }
+    ensures behind { StandsEntered entering.which result keeper.old keeper.new (M.state unit.old) (M.state unit.new)
+        (C.state card.old) (C.state card.new) (C.card card.new) }
     ensures row { IfSome (session_of keeper.new.cabin.cards entering.which)
         (λ a. OnOk result (HasItsRow keeper.new.cabin.cards (M.state unit.new) entering.which)) }
-    ensures stands { (from : ℕ) → keeper.old.cabin.slots.minute ≤ from → CabinIsSound from None keeper.old.cabin
-        → CabinIsSound from None keeper.new.cabin }
-    ensures cause { HasCause (M.state unit.old) (M.state unit.new) (is_err result) }
-    ensures card { CardMayBeCalled (known_of keeper.new.cabin.cards entering.which) (C.card card.new)
-        (C.state card.new) }
-    ensures size { (C.state card.new).size ≡ (C.state card.old).size }
-    ensures most { length entered.owed.items ≤ most_owed }
-    ensures low { entered.look.session < 2 ^ 32 }
-    ensures sized { FitsInsertion entered.look }
-    ensures later { IsLater (C.state card.old) (C.state card.new) }
-    ensures calm { IsCalm outcome.old.breaks.items outcome.new.breaks.items (C.state card.old) (C.state card.new) }
+    ensures judged { IsWithinBounds entered }
+    ensures goes { EnteringGoes outcome.old.breaks.items outcome.new.breaks.items
+        (C.state card.old) (C.state card.new) }
 {
     let look = entered.look;
     fills_its_fields(look);

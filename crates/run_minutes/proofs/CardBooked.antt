@@ -115,7 +115,7 @@ module _ (c : Card) (said : Kept) (cards : Cards) (U X : State) where
         let before = subst (λ (o : Option Accepted). CardOwing f c w.book (w.standing c) (w.brought c) w.marks (said.entry ∷ []) o U X) some one in (
           subst (λ (o : Option Accepted). CardOwing f c w.book (standing_by (Has t n) said.entry.minute (w.standing c)) (w.brought c) (w.marks ++ marks_by (Has t n) (Some c) said.entry.minute) [] o U Y) (sym is)
               (card-has f cards found c w.due w.book (w.standing c) (w.brought c) w.marks a said.entry said.odometer.0 U X Y unit whole after tells h none valid present before fits late run
-              t works sizes at kept (settles time) n clock),
+              t works sizes vehicle at kept (settles time) n clock),
           timed-of f c w.book (w.standing c) (w.brought c) w.marks (said.entry ∷ []) a U X Y said.entry said.odometer.0 whole before run,
           subst (λ (o : Option Accepted). KeepsOn (found_of f c) (said ∷ []) o (session_of behind c) X Y) (sym some)
               (subst (λ (o : Option Accepted). KeepsOn (found_of f c) (said ∷ []) (Some a) o X Y) (sym is)

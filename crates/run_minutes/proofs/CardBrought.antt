@@ -1,5 +1,5 @@
 -- A card to which an entry is owed: it keeps it, or is torn out as it does; or nothing is asked of it, since it was torn out before.
-use Rattle.std.proofs.Common.{◌≡◌, ◌≢◌, ◌∙◌, ⊎_elim, ℕ, suc, max, ◌<◌, ◌≤◌, Bool, true, false, List, [], ◌∷◌, ◌++◌, length, Contains, Some, None, IfSome, is_some, refl, ap, sym, subst, arith}
+use Rattle.std.proofs.Common.{◌≡◌, ◌≢◌, ◌∙◌, inl, ⊎_elim, ℕ, suc, max, ◌<◌, ◌≤◌, Bool, true, false, List, [], ◌∷◌, ◌++◌, length, Contains, Some, None, IfSome, is_some, refl, ap, sym, subst, arith}
 use Rattle.std.proofs.lemmas.List.{append-nil}
 use Rattle.std.proofs.lemmas.List.Elements.{Contains-push}
 use Rattle.activity_codec.specs.declared.entries.Entry.{Entry}
@@ -45,6 +45,11 @@ use Rattle.run_crew.specs.declared.cards.Accepted.{Accepted}
 use Rattle.run_crew.specs.declared.cards.Cards.{Cards}
 use Rattle.run_promise.specs.Found.{CardFound, Found, found_of, unit_seen, AnyKept}
 use Rattle.run_promise.specs.Cards.{brought_by, CardMarksHold}
+use Rattle.run_devices.specs.Registered.{AreIn, IsUsedSo, TellsOfTwo}
+use Rattle.run_devices.proofs.Registered.{MayBe, keep-on}
+use Rattle.run_devices.proofs.Used.{keep-used}
+use Rattle.tacho_types.specs.declared.texts.Registration.{Registration}
+use Rattle.card_session.specs.Sessions.{book_of}
 use Rattle.run_devices.specs.Strung.{CardHoldsString, HasSameHolder}
 use Rattle.run_devices.specs.Told.{AreFoundCards, SessionIsOnCard}
 use Rattle.run_devices.proofs.Parts.{both_of, as-steps, of-steps, left-one, told-one}
@@ -176,6 +181,21 @@ module _ (f : Found) (cards : Cards) (found : AreFoundCards f cards) (c : Card) 
       (λ here. let there = whole.is_left here.0 here.1 in then-holder g.image here.0 y (held.still here.0 (whole.counts_now g.began here.0 rule.dark.later there)) (same-holder here.0 y there here.2))
       (keeping.since g.began y rule.dark.later left)
 
+  keep-registered : (x y : List ℕ) → TellsOfTwo (own_sizes g.image) g.vehicle g.image x → IsCardKeeping s e odometer x y → TellsOfTwo (own_sizes g.image) g.vehicle g.image y
+  keep-registered x y told k =
+      let May : Registration → Type 0 = MayBe g.vehicle (book_of (own_sizes g.image) g.image).vehicles in
+      record {
+        entries = subst (λ (p : Application). AreIn May (book_of p y).vehicles) on.sizes
+            (keep-on May s e odometer x y (inl on.vehicle) (subst (λ (p : Application). AreIn May (book_of p x).vehicles) (sym on.sizes) told.entries) k);
+        session = subst (λ (p : Application). IsUsedSo p g.vehicle g.image y) on.sizes
+            (keep-used s g.vehicle g.image e odometer x y (subst (λ (p : Application). IsUsedSo p g.vehicle g.image x) (sym on.sizes) told.session) k);
+      }
+
+  registered-since : (x : List ℕ) → Y.left_since g.began x → TellsOfTwo (own_sizes g.image) g.vehicle g.image x
+  registered-since y left = ⊎_elim (held.registered y)
+      (λ here. keep-registered here.0 y (held.registered here.0 (whole.counts_now g.began here.0 rule.dark.later (whole.is_left here.0 here.1))) here.2)
+      (keeping.since g.began y rule.dark.later left)
+
   brought-now : (k : ℕ) → Contains ks k → HasBrought f.card_a.number f.card_b.number c k U Y
   brought-now k at = keep-stays c (unit_seen f U) (of_card X) (of_card Y) g.start g.began on.time s.minute e (omega (arith, late)) rule.stands views k (one.brought k at)
 
@@ -192,7 +212,7 @@ module _ (f : Found) (cards : Cards) (found : AreFoundCards f cards) (c : Card) 
     rule = of-steps f found.two c b (Torn on.time e.minute e.minute) [] [] U Y ((at-the-end true (λ well. absurd (cc))).torn refl);
     valid = valid-now;
     brought = brought-now;
-    held = record { tells = run.tells ∙ held.tells; now = each-after.now; since = each-after.since; number = number-now; still = holder-since };
+    held = record { tells = run.tells ∙ held.tells; now = each-after.now; since = each-after.since; number = number-now; still = holder-since; registered = registered-since };
     goes = record { has = brought_by c g.start b; all = append-nil (brought_by c g.start b); goes = tt };
     hold = same-marks g c b marks Y (moment-hold g c b marks e X Y whole low views one.hold);
   }
@@ -201,7 +221,7 @@ module _ (f : Found) (cards : Cards) (found : AreFoundCards f cards) (c : Card) 
   card-fell = subst (λ (y : Standing). CardOwing f c b y ks (marks ++ []) [] None U Y) (sym (ap (standing_by Fell e.minute) on.stands)) fell
 
   -- THE CARD HAS IT
-  module _ (t : Accepted) (works : Y.works ≡ true) (sizes : t.session.application ≡ s.application) (at : t.session.minute ≡ e.minute) (kept : IfSome X.image (λ x. IfSome Y.image (λ y. IsSession s x → IsCardKept s t.session e odometer x y)))
+  module _ (t : Accepted) (works : Y.works ≡ true) (sizes : t.session.application ≡ s.application) (vehicle : t.session.registration ≡ s.registration) (at : t.session.minute ≡ e.minute) (kept : IfSome X.image (λ x. IfSome Y.image (λ y. IsSession s x → IsCardKept s t.session e odometer x y)))
       (settled : IsSettled Y) where
     ends : EndsWith (of_card X) (of_card Y) (IsNowOnCard AnyAdded e)
     ends = ends-on_card (both_of f found.two) c (once_mended f.unit) due b marks on.time s (bound_since g.image one.goes.has) (own_covered g.image) ready.0 (counted_since g.image one.goes.has) (all_since g.image one.goes.has) e odometer late unit tells whole h none steps
@@ -222,7 +242,7 @@ module _ (f : Found) (cards : Cards) (found : AreFoundCards f cards) (c : Card) 
       rule = of-steps f found.two c b (In on.time e.minute) [] [] U Y ((at-the-end false (λ well. ends)).kept refl);
       valid = valid-now;
       brought = brought-now;
-      held = record { tells = run.tells ∙ held.tells; now = each-after.now; since = each-after.since; number = number-now; still = holder-since };
+      held = record { tells = run.tells ∙ held.tells; now = each-after.now; since = each-after.since; number = number-now; still = holder-since; registered = registered-since };
       goes = record {
         has = brought_by c g.start b;
         all = append-nil (brought_by c g.start b);
@@ -230,6 +250,7 @@ module _ (f : Found) (cards : Cards) (found : AreFoundCards f cards) (c : Card) 
           time = on.time;
           stands = ap (In on.time) (sym at);
           sizes = sizes ∙ on.sizes;
+          vehicle = vehicle ∙ on.vehicle;
           session = session-on g.image one.goes.has s e odometer g.start.word late fresh X whole sound on.sizes on.session on.goes is t.session Y run.tells at kept;
           ends = ends-on g.image one.goes.has s e odometer g.start.word late fresh X whole sound on.sizes on.session on.goes is t.session Y run.tells at kept sizes (λ x told.
               let there = whole.is_left x told in

@@ -31,7 +31,7 @@ use Rattle.card_session.proofs.Stopping.{ended_same}
 use Rattle.card_string.specs.Deeds.{Deed, Keep, Close, after}
 use Rattle.card_string.proofs.SameBook.{same_book}
 use Rattle.run_minutes.specs.CardDeeds.{made_by, is_open_in, ShowsBook, DoesOn, keeps, last_odometer, owed_keeps, opens, begun_use, ended_use, OpensOn, ClosesOn}
-use Rattle.run_minutes.proofs.CardUse.{opened-use, ended-use}
+use Rattle.run_devices.proofs.CardUse.{opened-use, ended-use}
 
 -- ---- deeds
 

@@ -12,7 +12,6 @@ pub mod MinuteBegun
 pub mod MarksOn
 pub mod CardBrought
 pub mod CardEvents
-pub mod CardUse
 pub mod CardDeeds
 pub mod Deeds
 pub mod CardBooked

@@ -44,6 +44,9 @@ module _ (g : Over) (c : After-accept_in g) where
   room-here : length c.args.outcome.now.marks.items + MOST_OWED * bare_count seat ≤ c.args.outcome.now.marks.room → length c.args.outcome.now.marks.items + MOST_OWED ≤ c.args.outcome.now.marks.room
   room-here room = let same = one in omega (arith, room, same)
 
+pub accept_in-requires-clause-acting : goal.accept_in-requires-clause-acting
+accept_in-requires-clause-acting g c = c.requires.acting
+
 pub returns-clause-takes : goal.returns-clause-takes
 returns-clause-takes g c =
     subst (λ (n : ℕ). Takes n 0 0 c.args.run.now c.accept_in.new.run c.args.outcome.now c.accept_in.new.outcome) (sym (one g c)) c.accept_in.ensures.takes
@@ -99,8 +102,8 @@ returns-in_default-clause-leaves g c = record {
 
 pub returns-in_default-clause-held : goal.returns-in_default-clause-held
 returns-in_default-clause-held g c = record {
-  held = c.requires.held;
-  cause = (no_reads (g.M.Medium.state c.args.unit.now) c.requires.going.ready.unit_ready.works).cause;
+  held = c.requires.acting.held;
+  cause = (no_reads (g.M.Medium.state c.args.unit.now) c.requires.acting.going.ready.unit_ready.works).cause;
 }
 
 pub returns-in_default-clause-goes : goal.returns-in_default-clause-goes

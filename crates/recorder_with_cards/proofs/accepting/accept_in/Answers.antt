@@ -11,6 +11,12 @@ use Rattle.run_minutes.proofs.Calm.{calm-of-a, calm-of-b}
 use Rattle.trace_model.specs.declared.Card.TheVariants.{A, B}
 use Rattle.recorder_with_cards.proofs.accepting.accept_in.Goals as goal
 
+pub accept_here-requires-clause-acting : goal.accept_here-requires-clause-acting
+accept_here-requires-clause-acting g c = c.requires.acting
+
+pub accept_here-requires-in-B-clause-acting : goal.accept_here-requires-in-B-clause-acting
+accept_here-requires-in-B-clause-acting g c = c.requires.acting
+
 -- ---- where no tear of a failed call is told no card has broken down
 
 pub returns-in-A-clause-accepted : goal.returns-in-A-clause-accepted

@@ -115,13 +115,19 @@ module _ (g : Over) (c : After-pull g) where
       (subst (λ (r : Run). P (Tear c.in-Tear.slot) r c.pull.new.breaks) (sym is)
       (subst (λ (l : Listed Break). P (Tear c.in-Tear.slot) (pulled_run torn_card c.args.run.now.next c.args.run.now) l) (sym told) h))
 
+pub insert-requires-clause-acting : goal.insert-requires-clause-acting
+insert-requires-clause-acting g c = record { lit = c.requires.lit; low = c.requires.going.low; small = c.requires.going.small; held = c.requires.going.held; going = c.requires.going.lit (ap is_lit c.requires.lit) }
+
+pub withdraw-requires-clause-acting : goal.withdraw-requires-clause-acting
+withdraw-requires-clause-acting g c = record { lit = c.requires.lit; low = c.requires.going.low; small = c.requires.going.small; held = c.requires.going.held; going = c.requires.going.lit (ap is_lit c.requires.lit) }
+
+pub note_place-requires-clause-acting : goal.note_place-requires-clause-acting
+note_place-requires-clause-acting g c = record { lit = c.requires.lit; low = c.requires.going.low; small = c.requires.going.small; held = c.requires.going.held; going = c.requires.going.lit (ap is_lit c.requires.lit) }
+
 pub insert-requires-clause-elsewhere : goal.insert-requires-clause-elsewhere
 insert-requires-clause-elsewhere g c =
     let seats = c.args.run.now.keeper.cabin.slots.seats in
     insert-elsewhere seats c.in-Insert.slot c.in-Insert.card c.args.speed (subst (λ (a : Action). refusal (logged seats) c.args.speed a ≡ None) c.in-Insert.is c.requires.allowed)
-
-pub note_place-requires-clause-going : goal.note_place-requires-clause-going
-note_place-requires-clause-going g c = c.requires.going.lit (ap is_lit c.requires.lit)
 
 pub returns-in-Select-clause-going : goal.returns-in-Select-clause-going
 returns-in-Select-clause-going g c =

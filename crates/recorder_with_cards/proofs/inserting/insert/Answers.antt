@@ -71,7 +71,7 @@ module _ (g : Over) (c : After-settle g) where
 
   bare : IsBareIn (with_card_in c.args.slot c.args.card c.args.run.now.keeper.cabin) c.args.slot
   bare =
-      let h = c.requires.going in
+      let h = c.requires.acting.going in
       put-bare c.args.slot c.args.card c.args.run.now.keeper.cabin (ungiven_of h.span) (subst (λ (b : Cabin). CabinIsSound (ungiven_of h.span) None b) c.put_in.ensures.kept (c.put_in.ensures.stands (ungiven_of h.span) h.cabin))
 
   taken : Takes 0 0 0 put c.settle.new.run c.args.outcome.now c.settle.new.outcome
@@ -80,7 +80,7 @@ module _ (g : Over) (c : After-settle g) where
 -- the card sits in its slot
 seat-there : (g : Over) (c : In_ok-settle g) → seat_in c.settle.new.run.keeper.cabin.slots.seats c.args.slot ≡ Some (record { card = c.args.card; newest = None })
 seat-there g c =
-    let h = c.requires.going in
+    let h = c.requires.acting.going in
     let cabin = c.args.run.now.keeper.cabin in
     let stands = subst (λ (b : Cabin). CabinIsSound (ungiven_of h.span) None b) c.put_in.ensures.kept (c.put_in.ensures.stands (ungiven_of h.span) h.cabin) in
     let here = subst (λ (b : Cabin). IsBareIn b c.args.slot) (sym c.put_in.ensures.kept) (put-bare c.args.slot c.args.card cabin (ungiven_of h.span) stands) in
@@ -116,22 +116,22 @@ module _ (g : Over) (c : After-accept_in g) where
   room-then room =
       let marks = (taken g settling).marks in
       let rooms = (taken g settling).rooms.0 in
-      let was = ap (λ (p : Power). waiting p c.args.run.now.minutes.owing) c.requires.lit in
+      let was = ap (λ (p : Power). waiting p c.args.run.now.minutes.owing) c.requires.acting.lit in
       omega (arith, room, marks, rooms, was)
 
 pub settle-requires-clause-held : goal.settle-requires-clause-held
 settle-requires-clause-held g c =
-    let run = c.args.run.now in let h = c.requires.going in
+    let run = c.args.run.now in let h = c.requires.acting.going in
     let stands = subst (λ (b : Cabin). CabinIsSound (ungiven_of h.span) None b) c.put_in.ensures.kept (c.put_in.ensures.stands (ungiven_of h.span) h.cabin) in
     subst (λ (b : Cabin). CanBeCut (run.next / 60) (with_cabin b run) (g.M.Medium.state c.args.unit.now) (g.C.Chip.card c.args.card_a.now) (g.D.Chip.card c.args.card_b.now) (g.C.Chip.state c.args.card_a.now) (g.D.Chip.state c.args.card_b.now))
-    (sym c.put_in.ensures.kept) (put-held c.args.slot c.args.card (run.next / 60) run (ungiven_of h.span) stands c.requires.held)
+    (sym c.put_in.ensures.kept) (put-held c.args.slot c.args.card (run.next / 60) run (ungiven_of h.span) stands c.requires.acting.held)
 
 pub settle-requires-clause-going : goal.settle-requires-clause-going
 settle-requires-clause-going g c =
     let run = c.args.run.now in (
       None,
       subst (λ (b : Cabin). RunHasPowerAllSeated (run.next / 60) (with_cabin b run) (g.M.Medium.state c.args.unit.now) (g.C.Chip.card c.args.card_a.now) (g.D.Chip.card c.args.card_b.now) (g.C.Chip.state c.args.card_a.now) (g.D.Chip.state c.args.card_b.now))
-          (sym c.put_in.ensures.kept) (put-going c.args.slot c.args.card (run.next / 60) run (λ from s. subst (λ (b : Cabin). CabinIsSound from None b) c.put_in.ensures.kept (c.put_in.ensures.stands from s)) c.requires.going),
+          (sym c.put_in.ensures.kept) (put-going c.args.slot c.args.card (run.next / 60) run (λ from s. subst (λ (b : Cabin). CabinIsSound from None b) c.put_in.ensures.kept (c.put_in.ensures.stands from s)) c.requires.acting.going),
     )
 
 pub returns-in_err-settle-clause-takes : goal.returns-in_err-settle-clause-takes
@@ -146,12 +146,24 @@ returns-clause-takes g c =
     put-then c.args.slot c.args.card run c.requires.empty c.settle.new.run c.accept_in.new.run c.args.outcome.now c.settle.new.outcome c.accept_in.new.outcome
     (taken g (settling g c)) c.accept_in.ensures.takes
 
-pub accept_in-requires-clause-going : goal.accept_in-requires-clause-going
-accept_in-requires-clause-going g c =
-    let run = c.args.run.now in
-    c.in_ok-settle.ensures.going None
-    (subst (λ (b : Cabin). RunHasPowerAllSeated (run.next / 60) (with_cabin b run) (g.M.Medium.state c.args.unit.now) (g.C.Chip.card c.args.card_a.now) (g.D.Chip.card c.args.card_b.now) (g.C.Chip.state c.args.card_a.now) (g.D.Chip.state c.args.card_b.now))
-    (sym c.put_in.ensures.kept) (put-going c.args.slot c.args.card (run.next / 60) run (λ from s. subst (λ (b : Cabin). CabinIsSound from None b) c.put_in.ensures.kept (c.put_in.ensures.stands from s)) c.requires.going))
+pub accept_in-requires-clause-acting : goal.accept_in-requires-clause-acting
+accept_in-requires-clause-acting g c = record {
+  lit = ap (λ (r : Run). r.power) c.settle.ensures.settled.only ∙ c.requires.acting.lit;
+  low =
+      let next = ap (λ (r : Run). r.next) c.settle.ensures.settled.only in
+      let low = c.requires.acting.low in
+      omega (arith, next, low);
+  small =
+      let next = ap (λ (r : Run). r.next) c.settle.ensures.settled.only in
+      let small = c.requires.acting.small in
+      omega (arith, next, small);
+  held = c.settle.ensures.held;
+  going =
+      let run = c.args.run.now in
+      c.in_ok-settle.ensures.going None
+      (subst (λ (b : Cabin). RunHasPowerAllSeated (run.next / 60) (with_cabin b run) (g.M.Medium.state c.args.unit.now) (g.C.Chip.card c.args.card_a.now) (g.D.Chip.card c.args.card_b.now) (g.C.Chip.state c.args.card_a.now) (g.D.Chip.state c.args.card_b.now))
+      (sym c.put_in.ensures.kept) (put-going c.args.slot c.args.card (run.next / 60) run (λ from s. subst (λ (b : Cabin). CabinIsSound from None b) c.put_in.ensures.kept (c.put_in.ensures.stands from s)) c.requires.acting.going));
+}
 
 pub accept_in-requires-clause-seat : goal.accept_in-requires-clause-seat
 accept_in-requires-clause-seat g c = seat-there g (goal.at.accept_in-requires-clause-seat g c).In_ok-settle
@@ -181,14 +193,14 @@ returns-in_err-settle-clause-promises g c = record {
       let at = (goal.at.returns-in_err-settle-clause-promises g c).After-settle in
       let r = c.in_err-settle.ensures.keeps in
       let records = subst (λ (b : Cabin). RecordsSettling r.decided c.args.at true (with_cabin b c.args.run.now) c.settle.new.run c.args.outcome.now c.settle.new.outcome (found g at) (settled g at)) c.put_in.ensures.kept r.recorded in
-      let fails = unsettled c.args.slot c.args.card c.args.at c.args.speed c.args.run.now c.args.outcome.now (found g at) o done s now front rest actions c.requires.at begun late allowed within (ungiven_of c.requires.going.span) c.requires.going.cabin c.settle.new.run c.settle.new.outcome true (unsettles g c) r.decided r.given (settled g at) records time refl in
+      let fails = unsettled c.args.slot c.args.card c.args.at c.args.speed c.args.run.now c.args.outcome.now (found g at) o done s now front rest actions c.requires.at begun late allowed within (ungiven_of c.requires.acting.going.span) c.requires.acting.going.cabin c.settle.new.run c.settle.new.outcome true (unsettles g c) r.decided r.given (settled g at) records time refl in
       subst (λ (f : Bool). GoesOnOrFails f o done s (In c.args.at.begun) [] c.settle.new.run c.settle.new.outcome (settled g at) within.within.b) (failed g c) fails;
   evented =
       λ late room o done s now front rest actions begun allowed within events time.
       let at = (goal.at.returns-in_err-settle-clause-promises g c).After-settle in
       let r = c.in_err-settle.ensures.keeps in
       let notes = subst (λ (b : Cabin). EventsSettling r.decided c.args.at true (with_cabin b c.args.run.now) c.settle.new.run c.args.outcome.now c.settle.new.outcome (found g at) (settled g at)) c.put_in.ensures.kept r.evented in
-      let fails = unsettled-evented c.args.slot c.args.card c.args.at c.args.speed c.args.run.now c.args.outcome.now (found g at) o done s now front rest actions c.requires.at begun late allowed within (ungiven_of c.requires.going.span) c.requires.going.cabin (bare g at) c.settle.new.run c.settle.new.outcome true (unsettles g c) r.decided r.given (settled g at) notes time events refl in
+      let fails = unsettled-evented c.args.slot c.args.card c.args.at c.args.speed c.args.run.now c.args.outcome.now (found g at) o done s now front rest actions c.requires.at begun late allowed within (ungiven_of c.requires.acting.going.span) c.requires.acting.going.cabin (bare g at) c.settle.new.run c.settle.new.outcome true (unsettles g c) r.decided r.given (settled g at) notes time events refl in
       subst (λ (f : Bool). EventsGoOn f o done s within.within.b.run (In c.args.at.begun) Acting (log_of c.settle.new.outcome) (settled g at)) (failed g c) fails;
   ringed =
       λ late room o done s now front rest actions begun allowed within spans t rings time.
@@ -203,11 +215,11 @@ returns-in_err-settle-clause-promises g c = record {
       let e : Devices = devices V (g.C.Chip.state c.settle.new.card_a) (g.D.Chip.state c.settle.new.card_b) in
       let settles = unsettles g c in
       let lines = up-to-tells c.args.at settles.decided true (told_of put out) (told_of mid told) settles.kept in
-      let at = at-is c.args.slot c.args.card c.args.at c.args.speed run out d o done s now front rest actions c.requires.at begun late allowed within (ungiven_of c.requires.going.span) c.requires.going.cabin in
+      let at = at-is c.args.slot c.args.card c.args.at c.args.speed run out d o done s now front rest actions c.requires.at begun late allowed within (ungiven_of c.requires.acting.going.span) c.requires.acting.going.cabin in
       let v = c.in_err-settle.ensures.keeps in
       let stay = subst (λ (b : Cabin). PlacesSettling v.decided c.args.at (with_cabin b run) mid out d e) c.put_in.ensures.kept v.places in
       let places : PlacesStay o d e = stay o done s (length front) (entering_by (length front) (Insert c.args.slot c.args.card)) at
-      (waits-within c.args.slot c.args.card c.args.at c.args.speed run out d o done s now front rest actions c.requires.at begun late allowed within (ungiven_of c.requires.going.span) c.requires.going.cabin mid told true settles v.decided v.given) time in
+      (waits-within c.args.slot c.args.card c.args.at c.args.speed run out d o done s now front rest actions c.requires.at begun late allowed within (ungiven_of c.requires.acting.going.span) c.requires.acting.going.cabin mid told true settles v.decided v.given) time in
       let rung = unsettled-ringed o done s front rest c.args.slot c.args.card actions run out d within spans t rings (refuses o done s c.args.speed run out d now front (Insert c.args.slot c.args.card) rest actions within None allowed)
       mid told e lines.lines (ap log_of settles.outcome ∙ ap (λ (bs : List Break). record (log_of out) { breaks = bs }) lines.are) (subst (λ (m : Moment). AreTears m lines.lines) at lines.tears)
       (settling-leaves c.args.at true (with_cabin c.put_in.new.self run) mid out told U V (settled-noted c.in_err-settle.ensures.keeps))
@@ -225,11 +237,11 @@ returns-in_err-settle-clause-promises g c = record {
       let e : Devices = devices (g.M.Medium.state c.settle.new.unit) (g.C.Chip.state c.settle.new.card_a) (g.D.Chip.state c.settle.new.card_b) in
       let settles = unsettles g c in
       let lines = up-to-tells c.args.at settles.decided true (told_of put out) (told_of mid told) settles.kept in
-      let at = at-is c.args.slot c.args.card c.args.at c.args.speed run out d o done s now front rest actions c.requires.at begun late allowed within (ungiven_of c.requires.going.span) c.requires.going.cabin in
+      let at = at-is c.args.slot c.args.card c.args.at c.args.speed run out d o done s now front rest actions c.requires.at begun late allowed within (ungiven_of c.requires.acting.going.span) c.requires.acting.going.cabin in
       let v = c.in_err-settle.ensures.keeps in
       let shows = subst (λ (b : Cabin). CardsSettling v.decided c.args.at (with_cabin b run) mid out d e) c.put_in.ensures.kept v.cards in
       let still : StillShow o d e = shows o done s (length front) (entering_by (length front) (Insert c.args.slot c.args.card)) at
-      (waits-within c.args.slot c.args.card c.args.at c.args.speed run out d o done s now front rest actions c.requires.at begun late allowed within (ungiven_of c.requires.going.span) c.requires.going.cabin mid told true settles v.decided v.given) time in
+      (waits-within c.args.slot c.args.card c.args.at c.args.speed run out d o done s now front rest actions c.requires.at begun late allowed within (ungiven_of c.requires.acting.going.span) c.requires.acting.going.cabin mid told true settles v.decided v.given) time in
       let goes = unsettled-cards o done s front rest c.args.slot c.args.card actions run out d within cards (refuses o done s c.args.speed run out d now front (Insert c.args.slot c.args.card) rest actions within None allowed)
       told e lines.lines (ap log_of settles.outcome ∙ ap (λ (bs : List Break). record (log_of out) { breaks = bs }) lines.are) (subst (λ (m : Moment). AreTears m lines.lines) at lines.tears)
       (more-left o d e (within.within.powered.lit.unit.unit_holds [] []).later within.within.there.clocks (settled-left c.settle.ensures.goes)) still in
@@ -256,7 +268,7 @@ returns-in_err-settle-clause-leaves g c = record {
       let X1 : State = g.C.Chip.state c.settle.new.card_a in
       let Y1 : State = g.D.Chip.state c.settle.new.card_b in
       let settling = subst (λ (b : Cabin). NotesSettling c.args.at true (with_cabin b run) mid out told U V) c.put_in.ensures.kept (settled-noted c.in_err-settle.ensures.keeps) in
-      let these = settles-these c.args.at true put mid out told U V X Y X1 Y1 (g.met.M.Medium.coherent c.args.unit.now) c.requires.held.is_unit settling in
+      let these = settles-these c.args.at true put mid out told U V X Y X1 Y1 (g.met.M.Medium.coherent c.args.unit.now) c.requires.acting.held.is_unit settling in
       record {
         events = these.0;
         are = inl (sym (failed g c), these.1);
@@ -301,7 +313,7 @@ returns-clause-promises g c = record {
   recorded =
       λ late room o done s now front rest actions begun allowed within time.
       let r = c.in_ok-settle.ensures.keeps in
-      inserted c.args.slot c.args.card c.args.at c.args.speed c.args.run.now c.args.outcome.now (found g (settling g c)) o done s now front rest actions c.requires.at begun late allowed within (ungiven_of c.requires.going.span) c.requires.going.cabin c.settle.new.run c.settle.new.outcome false (settles g c) r.decided r.given (settled g (settling g c)) (records g c)
+      inserted c.args.slot c.args.card c.args.at c.args.speed c.args.run.now c.args.outcome.now (found g (settling g c)) o done s now front rest actions c.requires.at begun late allowed within (ungiven_of c.requires.acting.going.span) c.requires.acting.going.cabin c.settle.new.run c.settle.new.outcome false (settles g c) r.decided r.given (settled g (settling g c)) (records g c)
       (time-settled g c time) refl (seat-there g (goal.at.returns-clause-promises g c).In_ok-settle) (is_err c.accept_in.result) c.accept_in.new.run c.accept_in.new.outcome (behind g c)
       (c.accept_in.ensures.promises.recorded (room-then g c room)) time;
   evented =
@@ -309,7 +321,7 @@ returns-clause-promises g c = record {
       let r = c.in_ok-settle.ensures.keeps in
       let q = c.in_ok-settle.ensures.keeps in
       let notes = subst (λ (b : Cabin). EventsSettling r.decided c.args.at false (with_cabin b c.args.run.now) c.settle.new.run c.args.outcome.now c.settle.new.outcome (found g (settling g c)) (settled g (settling g c))) c.put_in.ensures.kept r.evented in
-      inserted-evented c.args.slot c.args.card c.args.at c.args.speed c.args.run.now c.args.outcome.now (found g (settling g c)) o done s now front rest actions c.requires.at begun late allowed within (ungiven_of c.requires.going.span) c.requires.going.cabin (bare g (settling g c)) c.settle.new.run c.settle.new.outcome false (settles g c) r.decided r.given (settled g (settling g c)) notes (time-settled g c time) events
+      inserted-evented c.args.slot c.args.card c.args.at c.args.speed c.args.run.now c.args.outcome.now (found g (settling g c)) o done s now front rest actions c.requires.at begun late allowed within (ungiven_of c.requires.acting.going.span) c.requires.acting.going.cabin (bare g (settling g c)) c.settle.new.run c.settle.new.outcome false (settles g c) r.decided r.given (settled g (settling g c)) notes (time-settled g c time) events
       q.decided q.given (records g c) refl (seat-there g (goal.at.returns-clause-promises g c).In_ok-settle) (is_err c.accept_in.result) c.accept_in.new.run c.accept_in.new.outcome (behind g c) (c.accept_in.ensures.promises.evented (room-then g c room)) time;
   ringed =
       λ late room o done s now front rest actions begun allowed within spans t rings time.
@@ -327,7 +339,7 @@ returns-clause-promises g c = record {
       let settles = settles g c in
       let before = time-settled g c time in
       let lines = up-to-tells c.args.at settles.decided false (told_of put out) (told_of mid told) settles.kept in
-      let at = at-is c.args.slot c.args.card c.args.at c.args.speed run out d o done s now front rest actions c.requires.at begun late allowed within (ungiven_of c.requires.going.span) c.requires.going.cabin in
+      let at = at-is c.args.slot c.args.card c.args.at c.args.speed run out d o done s now front rest actions c.requires.at begun late allowed within (ungiven_of c.requires.acting.going.span) c.requires.acting.going.cabin in
       let fine = refuses o done s c.args.speed run out d now front (Insert c.args.slot c.args.card) rest actions within None allowed in
       let log : log_of told ≡ record (log_of out) { breaks = (log_of out).breaks ++ lines.lines } = ap log_of settles.outcome ∙ ap (λ (bs : List Break). record (log_of out) { breaks = bs }) lines.are in
       let tears = subst (λ (m : Moment). AreTears m lines.lines) at lines.tears in
@@ -336,11 +348,11 @@ returns-clause-promises g c = record {
       let v = c.in_ok-settle.ensures.keeps in
       let stay = subst (λ (b : Cabin). PlacesSettling v.decided c.args.at (with_cabin b run) mid out d e) c.put_in.ensures.kept v.places in
       let places : PlacesStay o d e = stay o done s (length front) (entering_by (length front) (Insert c.args.slot c.args.card)) at
-      (waits-within c.args.slot c.args.card c.args.at c.args.speed run out d o done s now front rest actions c.requires.at begun late allowed within (ungiven_of c.requires.going.span) c.requires.going.cabin mid told false settles v.decided v.given) before in
+      (waits-within c.args.slot c.args.card c.args.at c.args.speed run out d o done s now front rest actions c.requires.at begun late allowed within (ungiven_of c.requires.acting.going.span) c.requires.acting.going.cabin mid told false settles v.decided v.given) before in
       let noted : mid.noted ≡ run.noted = ap (λ (r : Run). r.noted) settles.only in
       let fewer = fewer-seats put mid noted lines.sessions in
       let counted : mid.noted ≤ length (log_of told).finds = let few = rings.counted in let same = ap (λ (l : RunLog). length l.finds) log in omega (arith, few, same, noted) in
-      let j = next-judged c.args.slot c.args.card c.args.at c.args.speed run out d o done s now front rest actions c.requires.at begun late allowed within (ungiven_of c.requires.going.span) c.requires.going.cabin mid told false settles q.decided q.given e (records g c) before refl (seat-there g (goal.at.returns-clause-promises g c).In_ok-settle) (with_second spans run.keeper.odometer t)
+      let j = next-judged c.args.slot c.args.card c.args.at c.args.speed run out d o done s now front rest actions c.requires.at begun late allowed within (ungiven_of c.requires.acting.going.span) c.requires.acting.going.cabin mid told false settles q.decided q.given e (records g c) before refl (seat-there g (goal.at.returns-clause-promises g c).In_ok-settle) (with_second spans run.keeper.odometer t)
       (odometer-mid o done s front rest c.args.slot c.args.card actions run out d within spans t rings fine mid told e lines.lines log tears leaves left places fewer lines.odometer noted (entering_by (length front) (Insert c.args.slot c.args.card)))
       counted (is_err c.accept_in.result) c.accept_in.new.run c.accept_in.new.outcome last (c.accept_in.ensures.promises.ringed (room-then g c room)) time in
       inserted-ringed o done s front rest c.args.slot c.args.card actions run out d within spans t rings fine mid told e lines.lines log tears leaves left places fewer lines.odometer noted
@@ -361,15 +373,15 @@ returns-clause-promises g c = record {
       let shows = subst (λ (b : Cabin). CardsSettling v.decided c.args.at (with_cabin b run) mid out d e) c.put_in.ensures.kept v.cards in
       let before = time-settled g c time in
       let lines = up-to-tells c.args.at settles.decided false (told_of put out) (told_of mid told) settles.kept in
-      let at = at-is c.args.slot c.args.card c.args.at c.args.speed run out d o done s now front rest actions c.requires.at begun late allowed within (ungiven_of c.requires.going.span) c.requires.going.cabin in
+      let at = at-is c.args.slot c.args.card c.args.at c.args.speed run out d o done s now front rest actions c.requires.at begun late allowed within (ungiven_of c.requires.acting.going.span) c.requires.acting.going.cabin in
       let fine = refuses o done s c.args.speed run out d now front (Insert c.args.slot c.args.card) rest actions within None allowed in
       let log : log_of told ≡ record (log_of out) { breaks = (log_of out).breaks ++ lines.lines } = ap log_of settles.outcome ∙ ap (λ (bs : List Break). record (log_of out) { breaks = bs }) lines.are in
       let tears = subst (λ (m : Moment). AreTears m lines.lines) at lines.tears in
       let left = more-left o d e (within.within.powered.lit.unit.unit_holds [] []).later within.within.there.clocks (settled-left c.settle.ensures.goes) in
       let still : StillShow o d e = shows o done s (length front) (entering_by (length front) (Insert c.args.slot c.args.card)) at
-      (waits-within c.args.slot c.args.card c.args.at c.args.speed run out d o done s now front rest actions c.requires.at begun late allowed within (ungiven_of c.requires.going.span) c.requires.going.cabin mid told false settles v.decided v.given) before in
+      (waits-within c.args.slot c.args.card c.args.at c.args.speed run out d o done s now front rest actions c.requires.at begun late allowed within (ungiven_of c.requires.acting.going.span) c.requires.acting.going.cabin mid told false settles v.decided v.given) before in
       let own : mid.keeper.memory.registration ≡ vehicle_in o = ap (λ m. m.registration) (settled-watched c.args.at false put mid out told settles).memory ∙ vehicle in
-      let j = next-cards c.args.slot c.args.card c.args.at c.args.speed run out d o done s now front rest actions c.requires.at begun late allowed within (ungiven_of c.requires.going.span) c.requires.going.cabin mid told false settles q.decided q.given e (records g c) before refl (seat-there g (goal.at.returns-clause-promises g c).In_ok-settle)
+      let j = next-cards c.args.slot c.args.card c.args.at c.args.speed run out d o done s now front rest actions c.requires.at begun late allowed within (ungiven_of c.requires.acting.going.span) c.requires.acting.going.cabin mid told false settles q.decided q.given e (records g c) before refl (seat-there g (goal.at.returns-clause-promises g c).In_ok-settle)
       (is_err c.accept_in.result) c.accept_in.new.outcome last (c.accept_in.ensures.promises.cards (room-then g c room)) own time in
       inserted-cards o done s front rest c.args.slot c.args.card actions run out d within cards fine told e lines.lines log tears left still (is_err c.accept_in.result) c.accept_in.new.outcome last j;
 }
@@ -409,7 +421,7 @@ returns-clause-leaves g c = record {
       let X1 : State = g.C.Chip.state c.settle.new.card_a in
       let Y1 : State = g.D.Chip.state c.settle.new.card_b in
       let settling = subst (λ (b : Cabin). NotesSettling c.args.at false (with_cabin b run) mid out told U V) c.put_in.ensures.kept (settled-noted c.in_ok-settle.ensures.keeps) in
-      let these = settles-these c.args.at false put mid out told U V X Y X1 Y1 (g.met.M.Medium.coherent c.args.unit.now) c.requires.held.is_unit settling in
+      let these = settles-these c.args.at false put mid out told U V X Y X1 Y1 (g.met.M.Medium.coherent c.args.unit.now) c.requires.acting.held.is_unit settling in
       let new : Run = c.accept_in.new.run in
       let after : Outcome = c.accept_in.new.outcome in
       let e : Devices = devices V X1 Y1 in

@@ -23,7 +23,7 @@ use Rattle.run_acts.specs.Power.{is_lit, has_power}
 use Rattle.run_acts.specs.Room.{bare_seats}
 use Rattle.run_acts.specs.Recording.{log_of, values_of, InSecondBy, GoesOnOrCut, IsNow, RunCut, RunRecorded}
 use Rattle.run_acts.specs.RunRinged.{seats_of, with_cut, InSecondRinged, RunRinged}
-use Rattle.run_acts.specs.RunCards.{CardsBehind, CardsIn}
+use Rattle.run_acts.specs.RunCards.{vehicle_in, CardsBehind, CardsIn}
 use Rattle.recorder_with_cards.proofs.ActsRecorded.{cut-in, cut}
 use Rattle.recorder_with_cards.proofs.ActsEvented.{in-evented_cut, in-evented_lit}
 use Rattle.recorder_with_cards.specs.Woken.{EventsWoken, RingsWoken}
@@ -114,8 +114,11 @@ module _ (g : Over) (c : After-resume g) where
     stay : RunRecorded o done run out dev0 → AllStay o (marked out.marks.items (truths_of o (log_of out) done)) 0 (log_of out) (notes_in (log_of out) done) c.learn.new.self.keeper.memory.registration run.keeper.cabin dev0
     stay rec = all-of o (marked out.marks.items (truths_of o (log_of out) done)) 0 (log_of out) (notes_in (log_of out) done) run.keeper.memory.registration c.learn.new.self.keeper.memory.registration run.keeper.cabin dev0 (ap (λ (r : Run). r.keeper.memory.registration) c.learn.ensures.run) rec.stay
 
+    vehicle : RunRecorded o done run out dev0 → c.learn.new.self.keeper.memory.registration ≡ vehicle_in o
+    vehicle rec = ap (λ (r : Run). r.keeper.memory.registration) c.learn.ensures.run ∙ rec.vehicle
+
     resumed : RunRecorded o done run out dev0 → GoesOnOrCut (is_err c.resume.result) o done s (In 0) [] mid told dev1
-    resumed rec = c.resume.ensures.promises.recorded room_learnt o rec.origin done s rec.supply (values_of run out) rec.recorded (stay rec) (may rec) now.number now.given values time
+    resumed rec = c.resume.ensures.promises.recorded room_learnt o rec.origin (vehicle rec) done s rec.supply (values_of run out) rec.recorded (stay rec) (may rec) now.number now.given values time
 
     limit : RunEvented o done run out dev0 → c.learn.new.self.keeper.memory.limit ≡ limit_in o
     limit all = ap (λ (r : Run). r.keeper.memory.limit) c.learn.ensures.run ∙ all.limit
@@ -123,7 +126,7 @@ module _ (g : Over) (c : After-resume g) where
     woken : RunEvented o done run out dev0 → EventsWoken (is_err c.resume.result) began o done s mid told dev1
     woken all =
         let rec = all.recorded in
-        c.resume.ensures.promises.evented room_learnt o rec.origin done s rec.supply (values_of run out) rec.recorded (stay rec) (may rec) now.number now.given now.speed_is values all.evented (limit all) time
+        c.resume.ensures.promises.evented room_learnt o rec.origin (vehicle rec) done s rec.supply (values_of run out) rec.recorded (stay rec) (may rec) now.number now.given now.speed_is values all.evented (limit all) time
 
     rung : (all : RunRinged o done run out dev0) → RingsWoken (is_err c.resume.result) began o done s all.spans mid (log_of told) dev1
     rung all =
@@ -133,7 +136,7 @@ module _ (g : Over) (c : After-resume g) where
         let ringed : RingedBehind o done began s.number all.spans (seats_of run) dev0 = subst (λ (l : RunLog). RingedBehind o done l s.number all.spans (seats_of run) dev0) (sym log)
         (learned-ringed o done (log_of out) run.unfound c.last_kept-kept.result run.next s.number rec.recorded.recorded.followed.order now.number all.spans (seats_of run) dev0 all.ringed) in
         let off : StoresOff o (log_of out) run.unfound all.spans dev0 = subst (λ (b : Bool). Stores b o (log_of out) run.unfound run.keeper.odometer all.spans dev0) c.requires.dark all.stored in
-        c.resume.ensures.promises.ringed room_learnt o rec.origin done s rec.supply (values_of run out) rec.recorded (stay rec) (may rec) now.number now.given values all.spans (seats_of run) ringed (omega (arith, counted, noted)) off time
+        c.resume.ensures.promises.ringed room_learnt o rec.origin (vehicle rec) done s rec.supply (values_of run out) rec.recorded (stay rec) (may rec) now.number now.given values all.spans (seats_of run) ringed (omega (arith, counted, noted)) off time
 
     shown : RunCarded o done run out dev0 → CardsWoken (is_err c.resume.result) began o done s mid (log_of told) dev1
     shown all =

@@ -130,6 +130,7 @@ module _ (g : Over) (c : After-open_unit g) where
     abbrev recorded : RunRecorded o done run out dev0 → RunRecorded o done run out dev1
     recorded rec = record {
       origin = rec.origin;
+      vehicle = rec.vehicle;
       supply = rec.supply;
       powers = rec.powers;
       recorded = read rec;
@@ -187,7 +188,7 @@ module _ (g : Over) (c : After-cut g) where
     recorded_cut rec =
         let failed = reading-fails (dev0 g reading) (dev1 g reading) o done s rec.supply (values_of (run g reading) (out g reading)) rec.recorded (may g reading o done has rec) now.number now.given (unread rec) in
         subst (λ (r : Run). RunCut o done s r lost (dev1 g reading)) (sym c.cut.ensures.run)
-        (subst (λ (l : Listed Break). RunCut o done s (cut_run (run g reading).next (run g reading)) (record (out g reading) { breaks = l }) (dev1 g reading)) (sym c.cut.ensures.breaks) (cut-as (dev1 g reading) o done s 0 (run g reading) (out g reading) rec.origin now.number failed))
+        (subst (λ (l : Listed Break). RunCut o done s (cut_run (run g reading).next (run g reading)) (record (out g reading) { breaks = l }) (dev1 g reading)) (sym c.cut.ensures.breaks) (cut-as (dev1 g reading) o done s 0 (run g reading) (out g reading) rec.origin rec.vehicle now.number failed))
 
     evented_cut : RunEvented o done (run g reading) (out g reading) (dev0 g reading) → CutEvented o done s c.cut.new.self lost (dev1 g reading)
     evented_cut all =

@@ -111,6 +111,7 @@ record Behind (k : ℕ) (old : Run) (before : Outcome) (d : Devices) : Type 0 wh
   room : length before.marks.items + MOST_OWED * bare_seats old.keeper.cabin.slots.seats ≤ before.marks.room
   o : Origin
   origin : IsOrigin o
+  vehicle : old.keeper.memory.registration ≡ vehicle_in o
   done : List TraceSecond
   s : TraceSecond
   supply : UnitPower
@@ -228,9 +229,9 @@ module _ (g : Over) (c : After-moment-at g) where
   calm : AreCalm out.breaks.items out.breaks.items dev0 mended
   calm = calm-of-unit (g.M.Medium.state c.args.unit.now) (g.M.Medium.state c.mend.new.unit) (g.C.Chip.state c.args.card_a.now) (g.D.Chip.state c.args.card_b.now)
 
-  abbrev premises : length out.marks.items + MOST_OWED * bare_seats run.keeper.cabin.slots.seats ≤ out.marks.room → (o : Origin) → IsOrigin o → (done : List TraceSecond) (s : TraceSecond) (supply : UnitPower) (v : Values) → RecordBetweenSeconds o done supply v dev0 →
+  abbrev premises : length out.marks.items + MOST_OWED * bare_seats run.keeper.cabin.slots.seats ≤ out.marks.room → (o : Origin) → IsOrigin o → run.keeper.memory.registration ≡ vehicle_in o → (done : List TraceSecond) (s : TraceSecond) (supply : UnitPower) (v : Values) → RecordBetweenSeconds o done supply v dev0 →
       AllStay o (marked v.marks (truths_of o v.log done)) 0 v.log (notes_in v.log done) run.keeper.memory.registration v.cabin dev0 → MayPower supply v.next → s.number ≡ v.next → s.has_power ≡ true → values_of run out ≡ read_values c.args.journal.kept v → Premises
-  premises room o origin done s supply v r stay may number given values = record { room = room; o = o; origin = origin; done = done; s = s; supply = supply; v = v; r = r; stay = stay; may = may; number = number; given = given; values = values }
+  premises room o origin vehicle done s supply v r stay may number given values = record { room = room; o = o; origin = origin; vehicle = vehicle; done = done; s = s; supply = supply; v = v; r = r; stay = stay; may = may; number = number; given = given; values = values }
 
   module _ (p : Premises) where
     woke : (b : Beginning) × RunWaking p.o p.done p.s b (waiting_in Driver first_card ++ others) both_slots mid out mended
@@ -241,7 +242,7 @@ module _ (g : Over) (c : After-moment-at g) where
         let ok = c.in_ok-mend.ensures in
         let loaded = c.requires.loaded in
         awake p.o p.origin p.done p.s p.supply p.v U X Y p.r p.may p.number p.given (g.met.M.Medium.coherent c.args.unit.now) (wholes-of U X Y (g.met.C.Chip.coherent c.args.card_a.now) (g.met.D.Chip.coherent c.args.card_b.now)) loaded.works c.args.journal (kept-of c.args.journal U.image loaded.found)
-        (g.M.Medium.state c.mend.new.unit) false c.mend.ensures.moments c.mend.ensures.tells ok.cause c.mend.ensures.holds ok.first ok.second run out p.values refl c.mend.new.journal ok.agrees c.args.rule c.requires.rule mid c.begin_span.ensures.begun (g.met.M.Medium.coherent c.mend.new.unit) p.stay
+        (g.M.Medium.state c.mend.new.unit) false c.mend.ensures.moments c.mend.ensures.tells ok.cause c.mend.ensures.holds ok.first ok.second run p.vehicle out p.values refl c.mend.new.journal ok.agrees c.args.rule c.requires.rule mid c.begin_span.ensures.begun (g.met.M.Medium.coherent c.mend.new.unit) p.stay
 
     is : (woke.0.run ≡ found_again c.args.journal.kept (progress p.v p.supply p.r.book)) × (woke.0.span ≡ []) × HaveLeftMore p.o dev0 mended
     unfolding woke
@@ -252,7 +253,7 @@ module _ (g : Over) (c : After-moment-at g) where
         let ok = c.in_ok-mend.ensures in
         let loaded = c.requires.loaded in
         awake-is p.o p.origin p.done p.s p.supply p.v U X Y p.r p.may p.number p.given (g.met.M.Medium.coherent c.args.unit.now) (wholes-of U X Y (g.met.C.Chip.coherent c.args.card_a.now) (g.met.D.Chip.coherent c.args.card_b.now)) loaded.works c.args.journal (kept-of c.args.journal U.image loaded.found)
-        (g.M.Medium.state c.mend.new.unit) false c.mend.ensures.moments c.mend.ensures.tells ok.cause c.mend.ensures.holds ok.first ok.second run out p.values refl c.mend.new.journal ok.agrees c.args.rule c.requires.rule mid c.begin_span.ensures.begun (g.met.M.Medium.coherent c.mend.new.unit) p.stay
+        (g.M.Medium.state c.mend.new.unit) false c.mend.ensures.moments c.mend.ensures.tells ok.cause c.mend.ensures.holds ok.first ok.second run p.vehicle out p.values refl c.mend.new.journal ok.agrees c.args.rule c.requires.rule mid c.begin_span.ensures.begun (g.met.M.Medium.coherent c.mend.new.unit) p.stay
 
     next_is : run.next ≡ p.s.number
     next_is = ap (λ (x : Values). x.next) p.values ∙ sym p.number
@@ -300,7 +301,7 @@ module _ (g : Over) (c : After-moment-at g) where
           let kept_now : c.mend.new.journal.kept ≡ c.args.journal.kept = ap (λ (j : Notes). j.kept) ok.notes in
           subst (λ (n : ℕ). StandsOn p.o (log_of out) n q.spans mid.keeper.odometer) (sym c.begin_span.ensures.begun.unfound)
           (awake-stands p.o p.origin p.done p.s p.supply p.v U X Y p.r p.may p.number p.given (g.met.M.Medium.coherent c.args.unit.now) (wholes-of U X Y (g.met.C.Chip.coherent c.args.card_a.now) (g.met.D.Chip.coherent c.args.card_b.now)) loaded.works c.args.journal (kept-of c.args.journal U.image loaded.found)
-          (g.M.Medium.state c.mend.new.unit) false c.mend.ensures.moments c.mend.ensures.tells ok.cause c.mend.ensures.holds ok.first ok.second run out p.values refl c.mend.new.journal ok.agrees c.args.rule c.requires.rule mid c.begin_span.ensures.begun (g.met.M.Medium.coherent c.mend.new.unit) p.stay
+          (g.M.Medium.state c.mend.new.unit) false c.mend.ensures.moments c.mend.ensures.tells ok.cause c.mend.ensures.holds ok.first ok.second run p.vehicle out p.values refl c.mend.new.journal ok.agrees c.args.rule c.requires.rule mid c.begin_span.ensures.begun (g.met.M.Medium.coherent c.mend.new.unit) p.stay
           kept_now q.spans (spans-before p.o p.done p.supply p.v dev0 p.r c.args.journal.kept (log_of out) log_is q.spans q.ringed.spans_are) q.off)
 
       -- behind the calls that follow
@@ -643,7 +644,7 @@ module _ (g : Over) (c : After-from_residual g) where
         let bad = c.in_err-mend.ensures in
         let loaded = c.requires.loaded in
         unmended-read p.o p.origin p.done p.s p.supply p.v U X Y p.r p.may p.number p.given (g.met.M.Medium.coherent c.args.unit.now) (wholes-of U X Y (g.met.C.Chip.coherent c.args.card_a.now) (g.met.D.Chip.coherent c.args.card_b.now)) loaded.works c.args.journal (kept-of c.args.journal U.image loaded.found)
-        (g.M.Medium.state c.mend.new.unit) true c.mend.ensures.moments c.mend.ensures.tells bad.cause c.mend.ensures.holds bad.first bad.second c.args.run.now c.args.outcome.now p.values refl
+        (g.M.Medium.state c.mend.new.unit) true c.mend.ensures.moments c.mend.ensures.tells bad.cause c.mend.ensures.holds bad.first bad.second c.args.run.now p.vehicle c.args.outcome.now p.values refl
 
     log-found : log_of c.args.outcome.now ≡ (found_again c.args.journal.kept (progress p.v p.supply p.r.book)).log
     log-found = ap (λ (x : Values). x.log) p.values
@@ -670,19 +671,58 @@ none-before g c = is-none (length c.args.outcome.now.breaks.items) (sym c.is_emp
 
 -- ---- the span that begins
 
-pub accept_anew-requires-clause-held : goal.accept_anew-requires-clause-held
-accept_anew-requires-clause-held g c =
-    let at = (goal.at.accept_anew-requires-clause-held g c).After-moment-at in
-    subst (λ (m : ℕ). CanBeCut (m / 60) (mid g at) (g.M.Medium.state c.mend.new.unit) (g.C.Chip.card c.args.card_a.now) (g.D.Chip.card c.args.card_b.now) (g.C.Chip.state c.args.card_a.now) (g.D.Chip.state c.args.card_b.now)) (sym c.begin_span.ensures.begun.next)
-    (span-held c.args.rule (run g at) (mid g at) c.mend.new.journal c.requires.going c.begin_span.ensures.begun (ready g at) c.begin_span.ensures.odometer)
+pub accept_anew-requires-clause-acting : goal.accept_anew-requires-clause-acting
+accept_anew-requires-clause-acting g c = record {
+  lit = c.begin_span.ensures.begun.power;
+  low =
+      let next = c.begin_span.ensures.begun.next in
+      let low = c.requires.going.low in
+      omega (arith, next, low);
+  small =
+      let next = c.begin_span.ensures.begun.next in
+      let small = c.requires.going.small in
+      omega (arith, next, small);
+  held =
+      let at = (goal.at.accept_anew-requires-clause-acting g c).After-moment-at in
+      subst (λ (m : ℕ). CanBeCut (m / 60) (mid g at) (g.M.Medium.state c.mend.new.unit) (g.C.Chip.card c.args.card_a.now) (g.D.Chip.card c.args.card_b.now) (g.C.Chip.state c.args.card_a.now) (g.D.Chip.state c.args.card_b.now)) (sym c.begin_span.ensures.begun.next)
+      (span-held c.args.rule (run g at) (mid g at) c.mend.new.journal c.requires.going c.begin_span.ensures.begun (ready g at) c.begin_span.ensures.odometer);
+  going =
+      let at = (goal.at.accept_anew-requires-clause-acting g c).After-moment-at in
+      let kept = ap (λ (j : Notes). j.kept) c.in_ok-mend.ensures.notes in
+      let early = c.requires.later in
+      subst (λ (m : ℕ). RunHasPowerAllSeated (m / 60) (mid g at) (g.M.Medium.state c.mend.new.unit) (g.C.Chip.card c.args.card_a.now) (g.D.Chip.card c.args.card_b.now) (g.C.Chip.state c.args.card_a.now) (g.D.Chip.state c.args.card_b.now)) (sym c.begin_span.ensures.begun.next)
+      (span-lit c.args.rule (run g at) (mid g at) c.mend.new.journal c.requires.dark c.requires.going c.begin_span.ensures.begun (omega (arith, kept, early)) (ready g at) (newest g at));
+}
 
-pub accept_anew-requires-clause-going : goal.accept_anew-requires-clause-going
-accept_anew-requires-clause-going g c =
-    let at = (goal.at.accept_anew-requires-clause-going g c).After-moment-at in
-    let kept = ap (λ (j : Notes). j.kept) c.in_ok-mend.ensures.notes in
-    let early = c.requires.later in
-    subst (λ (m : ℕ). RunHasPowerAllSeated (m / 60) (mid g at) (g.M.Medium.state c.mend.new.unit) (g.C.Chip.card c.args.card_a.now) (g.D.Chip.card c.args.card_b.now) (g.C.Chip.state c.args.card_a.now) (g.D.Chip.state c.args.card_b.now)) (sym c.begin_span.ensures.begun.next)
-    (span-lit c.args.rule (run g at) (mid g at) c.mend.new.journal c.requires.dark c.requires.going c.begin_span.ensures.begun (omega (arith, kept, early)) (ready g at) (newest g at))
+pub accept_anew-requires-2-clause-acting : goal.accept_anew-requires-2-clause-acting
+accept_anew-requires-2-clause-acting g c = record {
+  lit = ap (λ (r : Run). r.power) c.accept_anew.ensures.accepted.run ∙ c.begin_span.ensures.begun.power;
+  low =
+      let next = ap (λ (r : Run). r.next) c.accept_anew.ensures.accepted.run ∙ c.begin_span.ensures.begun.next in
+      let low = c.requires.going.low in
+      omega (arith, next, low);
+  small =
+      let next = ap (λ (r : Run). r.next) c.accept_anew.ensures.accepted.run ∙ c.begin_span.ensures.begun.next in
+      let small = c.requires.going.small in
+      omega (arith, next, small);
+  held = c.accept_anew.ensures.held.held;
+  going = c.in_ok-accept_anew.ensures.going;
+}
+
+pub note_gap-requires-clause-acting : goal.note_gap-requires-clause-acting
+note_gap-requires-clause-acting g c = record {
+  lit = ap (λ (r : Run). r.power) c.accept_anew-2.ensures.accepted.run ∙ ap (λ (r : Run). r.power) c.accept_anew.ensures.accepted.run ∙ c.begin_span.ensures.begun.power;
+  low =
+      let next = ap (λ (r : Run). r.next) c.accept_anew-2.ensures.accepted.run ∙ ap (λ (r : Run). r.next) c.accept_anew.ensures.accepted.run ∙ c.begin_span.ensures.begun.next in
+      let low = c.requires.going.low in
+      omega (arith, next, low);
+  small =
+      let next = ap (λ (r : Run). r.next) c.accept_anew-2.ensures.accepted.run ∙ ap (λ (r : Run). r.next) c.accept_anew.ensures.accepted.run ∙ c.begin_span.ensures.begun.next in
+      let small = c.requires.going.small in
+      omega (arith, next, small);
+  held = c.accept_anew-2.ensures.held.held;
+  going = c.in_ok-accept_anew-2.ensures.going;
+}
 
 pub accept_anew-requires-clause-none : goal.accept_anew-requires-clause-none
 accept_anew-requires-clause-none g c = none g (goal.at.accept_anew-requires-clause-none g c).After-moment-at
@@ -837,7 +877,7 @@ returns-in_err-mend-clause-resumed g c = record {
 pub returns-in_err-mend-clause-promises : goal.returns-in_err-mend-clause-promises
 returns-in_err-mend-clause-promises g c = record {
   recorded =
-      λ room o origin done s supply v r stay may number given values time.
+      λ room o origin vehicle done s supply v r stay may number given values time.
       let U : State = g.M.Medium.state c.args.unit.now in
       let X : State = g.C.Chip.state c.args.card_a.now in
       let Y : State = g.D.Chip.state c.args.card_b.now in
@@ -846,10 +886,10 @@ returns-in_err-mend-clause-promises g c = record {
       let loaded = c.requires.loaded in
       subst (λ (f : Bool). GoesOnOrCut f o done s (In 0) [] c.args.run.now c.args.outcome.now (as_left g c)) (failed-mend g c)
       (unmended o origin done s supply v U X Y r may number given (g.met.M.Medium.coherent c.args.unit.now) (wholes-of U X Y (g.met.C.Chip.coherent c.args.card_a.now) (g.met.D.Chip.coherent c.args.card_b.now)) loaded.works c.args.journal (kept-of c.args.journal U.image loaded.found)
-      W true c.mend.ensures.moments c.mend.ensures.tells bad.cause c.mend.ensures.holds bad.first bad.second c.args.run.now c.args.outcome.now values refl c.requires.dark);
+      W true c.mend.ensures.moments c.mend.ensures.tells bad.cause c.mend.ensures.holds bad.first bad.second c.args.run.now vehicle c.args.outcome.now values refl c.requires.dark);
   evented =
-      λ room o origin done s supply v r stay may number given speed_is values evented limit time.
-      let p : Behind c.args.journal.kept c.args.run.now c.args.outcome.now (as_found g c) = record { room = room; o = o; origin = origin; done = done; s = s; supply = supply; v = v; r = r; stay = stay; may = may; number = number; given = given; values = values } in
+      λ room o origin vehicle done s supply v r stay may number given speed_is values evented limit time.
+      let p : Behind c.args.journal.kept c.args.run.now c.args.outcome.now (as_found g c) = record { room = room; o = o; origin = origin; vehicle = vehicle; done = done; s = s; supply = supply; v = v; r = r; stay = stay; may = may; number = number; given = given; values = values } in
       let again : Progress = found_again c.args.journal.kept (progress v supply r.book) in
       let silent = says c.args.journal (g.M.Medium.state c.args.unit.now) (g.M.Medium.state c.mend.new.unit) (g.C.Chip.state c.args.card_a.now) (g.D.Chip.state c.args.card_b.now) (g.met.M.Medium.coherent c.args.unit.now) c.mend.ensures.moments in
       let lost = unmended-evented o done s supply v (as_found g c) (as_left g c) r may number given c.args.journal.kept evented silent (read g c p).left (read g c p).followed (read g c p) in
@@ -858,21 +898,21 @@ returns-in_err-mend-clause-promises g c = record {
       (subst (λ (l : RunLog). Evented o (done ++ s ∷ []) (and_break l (cut_at s.number true 0)) again.unfound (suc v.next) Lost (as_left g c)) (sym (log-found g c p)) lost)
       (sym (ap (λ (x : Values). x.unfound) values)) (sym (ap (λ (x : Values). x.next) values)) limit);
   ringed =
-      λ room o origin done s supply v r stay may number given values spans seats ringed counted off time.
+      λ room o origin vehicle done s supply v r stay may number given values spans seats ringed counted off time.
       let U : State = g.M.Medium.state c.args.unit.now in
       let X : State = g.C.Chip.state c.args.card_a.now in
       let Y : State = g.D.Chip.state c.args.card_b.now in
       let W : State = g.M.Medium.state c.mend.new.unit in
       let bad = c.in_err-mend.ensures in
       let loaded = c.requires.loaded in
-      let p : Behind c.args.journal.kept c.args.run.now c.args.outcome.now (as_found g c) = record { room = room; o = o; origin = origin; done = done; s = s; supply = supply; v = v; r = r; stay = stay; may = may; number = number; given = given; values = values } in
+      let p : Behind c.args.journal.kept c.args.run.now c.args.outcome.now (as_found g c) = record { room = room; o = o; origin = origin; vehicle = vehicle; done = done; s = s; supply = supply; v = v; r = r; stay = stay; may = may; number = number; given = given; values = values } in
       let q : Progress = found_again c.args.journal.kept (progress v supply r.book) in
       let behind = behind-stays (as_found g c) (as_left g c) o done (log_of c.args.outcome.now) s.number spans seats ringed (mend-leaves c.args.journal U W (g.met.M.Medium.coherent c.args.unit.now) c.mend.ensures.moments) (read g c p).left (places-beside o U W X Y) in
       let log_now : log_of c.args.outcome.now ≡ found_log v.unfound c.args.journal.kept v.log = log-found g c p in
       let are = spans-before o done supply v (as_found g c) r c.args.journal.kept (log_of c.args.outcome.now) log_now spans ringed.spans_are in
       let stands_so =
       unmended-stands o origin done s supply v U X Y r may number given (g.met.M.Medium.coherent c.args.unit.now) (wholes-of U X Y (g.met.C.Chip.coherent c.args.card_a.now) (g.met.D.Chip.coherent c.args.card_b.now)) loaded.works c.args.journal (kept-of c.args.journal U.image loaded.found)
-      W true c.mend.ensures.moments c.mend.ensures.tells bad.cause c.mend.ensures.holds bad.first bad.second c.args.run.now c.args.outcome.now values refl spans are off in
+      W true c.mend.ensures.moments c.mend.ensures.tells bad.cause c.mend.ensures.holds bad.first bad.second c.args.run.now vehicle c.args.outcome.now values refl spans are off in
       let base = stands_so.0 in
       let cut = unpowered-ringed o done s q (read g c p).followed (read g c p).followed.power number given (as_left g c) spans seats (subst (λ (l : RunLog). RingedBehind o done l s.number spans seats (as_left g c)) (log-found g c p) behind) base in
       let kept_so = stays-stored o v.log v.unfound spans (as_found g c) (as_left g c) (mend-stays c.args.journal (as_found g c) (as_left g c) (g.met.M.Medium.coherent c.args.unit.now) c.mend.ensures.moments) off in
@@ -886,7 +926,7 @@ returns-in_err-mend-clause-promises g c = record {
       );
   cards =
       λ room o origin done s supply v r stay may number given speed_is values evented limit vehicle shown time.
-      let p : Behind c.args.journal.kept c.args.run.now c.args.outcome.now (as_found g c) = record { room = room; o = o; origin = origin; done = done; s = s; supply = supply; v = v; r = r; stay = stay; may = may; number = number; given = given; values = values } in
+      let p : Behind c.args.journal.kept c.args.run.now c.args.outcome.now (as_found g c) = record { room = room; o = o; origin = origin; vehicle = vehicle; done = done; s = s; supply = supply; v = v; r = r; stay = stay; may = may; number = number; given = given; values = values } in
       let q : Progress = found_again c.args.journal.kept (progress v supply r.book) in
       let here_is : c.args.run.now.next ≡ v.next = ap (λ (x : Values). x.next) values in
       let low = c.requires.going.low in
@@ -926,24 +966,24 @@ returns-in_err-accept_anew-clause-resumed g c = record {
 pub returns-in_err-accept_anew-clause-promises : goal.returns-in_err-accept_anew-clause-promises
 returns-in_err-accept_anew-clause-promises g c = record {
   recorded =
-      λ room o origin done s supply v r stay may number given values time.
+      λ room o origin vehicle done s supply v r stay may number given values time.
       let card = (goal.at.returns-in_err-accept_anew-clause-promises g c).After-accept_anew in
-      let p = premises g (span g card) room o origin done s supply v r stay may number given values in
+      let p = premises g (span g card) room o origin vehicle done s supply v r stay may number given values in
       subst (λ (f : Bool). GoesOnOrCut f o done s (In 0) [] (one g card) (out1 g card) (dev1 g card)) (failed-one g c) ((first g card p time).1 (fails-one g c));
   evented =
-      λ room o origin done s supply v r stay may number given speed_is values evented limit time.
+      λ room o origin vehicle done s supply v r stay may number given speed_is values evented limit time.
       let card = (goal.at.returns-in_err-accept_anew-clause-promises g c).After-accept_anew in
       let at = span g card in
-      let p = premises g at room o origin done s supply v r stay may number given values in
+      let p = premises g at room o origin vehicle done s supply v r stay may number given values in
       let e : WithEvents g at p = record { speed_is = speed_is; evented = evented; limit = limit } in
       let cut = subst (λ (f : Bool). EventsGoOn f o done s (woke g at p).0.run (In 0) Waking (log_of (out1 g card)) (dev1 g card)) (fails-one g c) (evented-one g card p time e) in
       subst (λ (f : Bool). EventsWoken f (log_of (out g at)) o done s (one g card) (out1 g card) (dev1 g card)) (failed-one g c)
       (woken-fails o done s (woke g at p).0.run Waking (one g card) (out1 g card) (dev1 g card) (log_of (out g at)) cut (began-unfound g card p time) (began-next g card p time) (limit-one g card p time e));
   ringed =
-      λ room o origin done s supply v r stay may number given values spans seats ringed counted off time.
+      λ room o origin vehicle done s supply v r stay may number given values spans seats ringed counted off time.
       let card = (goal.at.returns-in_err-accept_anew-clause-promises g c).After-accept_anew in
       let at = span g card in
-      let p = premises g at room o origin done s supply v r stay may number given values in
+      let p = premises g at room o origin vehicle done s supply v r stay may number given values in
       let q : WithRings g at p = record { spans = spans; seats = seats; ringed = ringed; counted = counted; off = off } in
       subst (λ (f : Bool). RingsWoken f (log_of (out g at)) o done s spans (one g card) (log_of (out1 g card)) (dev1 g card)) (fails-one g c ∙ failed-one g c)
       (rings-then g at p q (is_err c.accept_anew.result) (one g card) (out1 g card) (dev1 g card) (ringed-one g card p time q) (first g card p time).1 (power-one g card) (unfound-one g card) (λ well_one. ((first g card p time).0 well_one).odometer ∙ sym (woke g at p).1.odometer));
@@ -951,7 +991,7 @@ returns-in_err-accept_anew-clause-promises g c = record {
       λ room o origin done s supply v r stay may number given speed_is values evented limit vehicle shown time.
       let card = (goal.at.returns-in_err-accept_anew-clause-promises g c).After-accept_anew in
       let at = span g card in
-      let p = premises g at room o origin done s supply v r stay may number given values in
+      let p = premises g at room o origin vehicle done s supply v r stay may number given values in
       subst (λ (f : Bool). CardsWoken f (log_of (out g at)) o done s (one g card) (log_of (out1 g card)) (dev1 g card)) (failed-one g c) (
         (vehicle-one g card o vehicle).1,
         subst (λ (f : Bool). WakesOn f o done s (woke g at p).0.run.log (log_of (out1 g card)) (dev1 g card)) (fails-one g c) (cards-one g card p time speed_is vehicle shown),
@@ -986,30 +1026,30 @@ returns-in_err-accept_anew-2-clause-resumed g c = record {
 pub returns-in_err-accept_anew-2-clause-promises : goal.returns-in_err-accept_anew-2-clause-promises
 returns-in_err-accept_anew-2-clause-promises g c = record {
   recorded =
-      λ room o origin done s supply v r stay may number given values time.
+      λ room o origin vehicle done s supply v r stay may number given values time.
       let cards = (goal.at.returns-in_err-accept_anew-2-clause-promises g c).After-accept_anew-2 in
-      let p = premises g (start g cards) room o origin done s supply v r stay may number given values in
+      let p = premises g (start g cards) room o origin vehicle done s supply v r stay may number given values in
       subst (λ (f : Bool). GoesOnOrCut f o done s (In 0) [] (two g cards) (out2 g cards) (dev2 g cards)) (fails-two g c ∙ failed-two g c) (second g cards p time);
   evented =
-      λ room o origin done s supply v r stay may number given speed_is values evented limit time.
+      λ room o origin vehicle done s supply v r stay may number given speed_is values evented limit time.
       let cards = (goal.at.returns-in_err-accept_anew-2-clause-promises g c).After-accept_anew-2 in
       let at = start g cards in
-      let p = premises g at room o origin done s supply v r stay may number given values in
+      let p = premises g at room o origin vehicle done s supply v r stay may number given values in
       let e : WithEvents g at p = record { speed_is = speed_is; evented = evented; limit = limit } in
       let cut = subst (λ (f : Bool). EventsGoOn f o done s (woke g at p).0.run (In 0) Waking (log_of (out2 g cards)) (dev2 g cards)) (fails-two g c) (evented-two g cards p time e) in
       subst (λ (f : Bool). EventsWoken f (log_of (out g at)) o done s (two g cards) (out2 g cards) (dev2 g cards)) (failed-two g c)
       (woken-fails o done s (woke g at p).0.run Waking (two g cards) (out2 g cards) (dev2 g cards) (log_of (out g at)) cut (began-unfound-two g cards p time) (began-next-two g cards p time) (limit-two g cards p time e));
   ringed =
-      λ room o origin done s supply v r stay may number given values spans seats ringed counted off time.
+      λ room o origin vehicle done s supply v r stay may number given values spans seats ringed counted off time.
       let cards = (goal.at.returns-in_err-accept_anew-2-clause-promises g c).After-accept_anew-2 in
-      let p = premises g (start g cards) room o origin done s supply v r stay may number given values in
+      let p = premises g (start g cards) room o origin vehicle done s supply v r stay may number given values in
       let q : WithRings g (start g cards) p = record { spans = spans; seats = seats; ringed = ringed; counted = counted; off = off } in
       subst (λ (f : Bool). RingsWoken f (log_of (out g (start g cards))) o done s spans (two g cards) (log_of (out2 g cards)) (dev2 g cards)) (fails-two g c ∙ failed-two g c) (rings-two g cards p time q);
   cards =
       λ room o origin done s supply v r stay may number given speed_is values evented limit vehicle shown time.
       let cards = (goal.at.returns-in_err-accept_anew-2-clause-promises g c).After-accept_anew-2 in
       let at = start g cards in
-      let p = premises g at room o origin done s supply v r stay may number given values in
+      let p = premises g at room o origin vehicle done s supply v r stay may number given values in
       subst (λ (f : Bool). CardsWoken f (log_of (out g at)) o done s (two g cards) (log_of (out2 g cards)) (dev2 g cards)) (failed-two g c) (
         vehicle-two g cards o vehicle,
         subst (λ (f : Bool). WakesOn f o done s (woke g at p).0.run.log (log_of (out2 g cards)) (dev2 g cards)) (fails-two g c) (cards-two g cards p time speed_is vehicle shown),
@@ -1042,16 +1082,16 @@ returns-then-is_first-clause-resumed g c = record {
 pub returns-then-is_first-clause-promises : goal.returns-then-is_first-clause-promises
 returns-then-is_first-clause-promises g c = record {
   recorded =
-      λ room o origin done s supply v r stay may number given values time.
+      λ room o origin vehicle done s supply v r stay may number given values time.
       let cards = (goal.at.returns-then-is_first-clause-promises g c).After-accept_anew-2 in
-      let p = premises g (start g cards) room o origin done s supply v r stay may number given values in
+      let p = premises g (start g cards) room o origin vehicle done s supply v r stay may number given values in
       subst (λ (f : Bool). GoesOnOrCut f o done s (In 0) [] (two g cards) (out2 g cards) (dev2 g cards)) (fine-first g c) (second g cards p time);
   evented =
-      λ room o origin done s supply v r stay may number given speed_is values evented limit time.
+      λ room o origin vehicle done s supply v r stay may number given speed_is values evented limit time.
       let cards = (goal.at.returns-then-is_first-clause-promises g c).After-accept_anew-2 in
       let at = start g cards in
       let well_two = fine-first g c in
-      let p = premises g at room o origin done s supply v r stay may number given values in
+      let p = premises g at room o origin vehicle done s supply v r stay may number given values in
       let e : WithEvents g at p = record { speed_is = speed_is; evented = evented; limit = limit } in
       let untold = none-told v.unfound c.args.journal.kept v.log.breaks (out g at).breaks.items (ap (λ (x : Values). x.log.breaks) values) (none-before g c) in
       let stands_so = lit g cards p time well_two in
@@ -1061,9 +1101,9 @@ returns-then-is_first-clause-promises g c = record {
       woken-on o done s (within g cards p time well_two).within.b (two g cards) (out2 g cards) (dev2 g cards) (empty g cards p time well_two e) (within g cards p time well_two) refl noted_so (limit-two g cards p time e)
       (begun-watched o c.args.rule (run g at) (mid g at) (two g cards) c.mend.new.journal c.begin_span.ensures.begun limit ((same-two g cards).1 ∙ (same-one g (driver g cards)).1)) (log_of (out g at)) (began-here g cards p time well_two);
   ringed =
-      λ room o origin done s supply v r stay may number given values spans seats ringed counted off time.
+      λ room o origin vehicle done s supply v r stay may number given values spans seats ringed counted off time.
       let cards = (goal.at.returns-then-is_first-clause-promises g c).After-accept_anew-2 in
-      let p = premises g (start g cards) room o origin done s supply v r stay may number given values in
+      let p = premises g (start g cards) room o origin vehicle done s supply v r stay may number given values in
       let q : WithRings g (start g cards) p = record { spans = spans; seats = seats; ringed = ringed; counted = counted; off = off } in
       subst (λ (f : Bool). RingsWoken f (log_of (out g (start g cards))) o done s spans (two g cards) (log_of (out2 g cards)) (dev2 g cards)) (fine-first g c) (rings-two g cards p time q);
   cards =
@@ -1071,7 +1111,7 @@ returns-then-is_first-clause-promises g c = record {
       let cards = (goal.at.returns-then-is_first-clause-promises g c).After-accept_anew-2 in
       let at = start g cards in
       let well_two = fine-first g c in
-      let p = premises g at room o origin done s supply v r stay may number given values in
+      let p = premises g at room o origin vehicle done s supply v r stay may number given values in
       let e : WithEvents g at p = record { speed_is = speed_is; evented = evented; limit = limit } in
       let untold = none-told v.unfound c.args.journal.kept v.log.breaks (out g at).breaks.items (ap (λ (x : Values). x.log.breaks) values) (none-before g c) in
       let stands_so = lit g cards p time well_two in
@@ -1110,14 +1150,14 @@ returns-clause-resumed g c = record {
 pub returns-clause-promises : goal.returns-clause-promises
 returns-clause-promises g c = record {
   recorded =
-      λ room o origin done s supply v r stay may number given values time.
-      let p = premises g (begin g c) room o origin done s supply v r stay may number given values in
+      λ room o origin vehicle done s supply v r stay may number given values time.
+      let p = premises g (begin g c) room o origin vehicle done s supply v r stay may number given values in
       goes-plain (is_err c.note_gap.result) o done s (In 0) [] (new g c) (out3 g c) (dev3 g c) (here g c p time).within.b (goes g c p time);
   evented =
-      λ room o origin done s supply v r stay may number given speed_is values evented limit time.
+      λ room o origin vehicle done s supply v r stay may number given speed_is values evented limit time.
       let cards = both g c in
       let at = begin g c in
-      let p = premises g at room o origin done s supply v r stay may number given values in
+      let p = premises g at room o origin vehicle done s supply v r stay may number given values in
       let e : WithEvents g at p = record { speed_is = speed_is; evented = evented; limit = limit } in
       let past = time-two g c p time in
       let stands_so = lit g cards p past (fine g c) in
@@ -1133,10 +1173,10 @@ returns-clause-promises g c = record {
       (ap (λ (m : UnitFacts). m.limit) (stays g c) ∙ limit-two g cards p past e)
       (begun-watched o c.args.rule (run g at) (mid g at) (new g c) c.mend.new.journal c.begin_span.ensures.begun limit (ap (λ (r : Run). r.watch) c.note_gap.ensures.noted.run ∙ (same-two g cards).1 ∙ (same-one g (driver g cards)).1)) (log_of (out g at)) (began-here g cards p past (fine g c));
   ringed =
-      λ room o origin done s supply v r stay may number given values spans seats ringed counted off time.
+      λ room o origin vehicle done s supply v r stay may number given values spans seats ringed counted off time.
       let cards = both g c in
       let at = begin g c in
-      let p = premises g at room o origin done s supply v r stay may number given values in
+      let p = premises g at room o origin vehicle done s supply v r stay may number given values in
       let q : WithRings g at p = record { spans = spans; seats = seats; ringed = ringed; counted = counted; off = off } in
       let past = time-two g c p time in
       let began_so = began g cards p past (fine g c) in
@@ -1152,7 +1192,7 @@ returns-clause-promises g c = record {
       λ room o origin done s supply v r stay may number given speed_is values evented limit vehicle shown time.
       let cards = both g c in
       let at = begin g c in
-      let p = premises g at room o origin done s supply v r stay may number given values in
+      let p = premises g at room o origin vehicle done s supply v r stay may number given values in
       let e : WithEvents g at p = record { speed_is = speed_is; evented = evented; limit = limit } in
       let past = time-two g c p time in
       let stands_so = lit g cards p past (fine g c) in

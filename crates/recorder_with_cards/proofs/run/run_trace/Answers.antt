@@ -57,8 +57,8 @@ loop-i-init g c =
     let e = c.in_ok-opened.ensures in
     let run = c.new-run.result in
     let keeper = c.new-run.ensures.keeper in
-    let next = c.new-run.ensures.next in
-    let dark : is_lit run.power ≡ false = ap is_lit c.new-run.ensures.power in
+    let next = c.new-run.ensures.starts.next in
+    let dark : is_lit run.power ≡ false = ap is_lit c.new-run.ensures.starts.power in
     let a_none : run.keeper.cabin.cards.a.accepted ≡ None = ap (λ (k : Keeper). k.cabin.cards.a.accepted) keeper ∙ e.found_a.none in
     let b_none : run.keeper.cabin.cards.b.accepted ≡ None = ap (λ (k : Keeper). k.cabin.cards.b.accepted) keeper ∙ e.found_b.none in
     let slots = ap (λ (k : Keeper). k.cabin.slots) keeper in
@@ -82,8 +82,8 @@ loop-i-init g c =
       };
       next = ap (λ (n : ℕ). n + total_seconds c.args.trace.now.items) next;
       room = subst (λ (n : ℕ). HasRoom run c.args.outcome.now (total_seconds c.args.trace.now.items) (offs c.args.trace.now.items) (insertions c.args.trace.now.items) n) (let whole : length c.args.trace.now.items ≡ length c.args.trace.now.items - 0 = omega arith in whole)
-          (room-start run c.args.outcome.now c.args.trace.now.items c.new-run.ensures.power (no-falls run.keeper.cabin slots a_none b_none) (no-seats run.keeper.cabin slots) q.reserved);
-      unfound = let none = c.new-run.ensures.unfound in omega (arith, none);
+          (room-start run c.args.outcome.now c.args.trace.now.items c.new-run.ensures.starts.power (no-falls run.keeper.cabin slots a_none b_none) (no-seats run.keeper.cabin slots) q.reserved);
+      unfound = let none = c.new-run.ensures.starts.unfound in omega (arith, none);
       waits = waits-none c.args.trace.now.items;
       later = record { unit = state-as-it-was (g.U.Medium.state c.args.unit.now) (g.U.Medium.state c.judge.new.unit) c.judge.ensures.unit; card_a = state-as-it-was (g.C.Chip.state c.args.card_a.now) (g.C.Chip.state c.judge.new.card_a) c.judge.ensures.card_a; card_b = state-as-it-was (g.C.Chip.state c.args.card_b.now) (g.C.Chip.state c.judge.new.card_b) c.judge.ensures.card_b };
       calm = record { card_a = card-rests refl (e.card_a_works.unbroken refl); card_b = card-rests refl (e.card_b_works.unbroken refl) };
@@ -118,10 +118,10 @@ loop-i-init g c =
           (more-devices (g.U.Medium.state c.args.unit.now) (g.U.Medium.state c.judge.new.unit) (g.C.Chip.state c.args.card_a.now) (g.C.Chip.state c.judge.new.card_a) (g.C.Chip.state c.args.card_b.now) (g.C.Chip.state c.judge.new.card_b)
           c.judge.ensures.unit.breakdowns (e.card_a_works.unbroken refl) (e.card_b_works.unbroken refl))
           (omega (arith, low, same_odometer))
-          run c.args.outcome.now c.new-run.ensures.power next c.new-run.ensures.begun c.new-run.ensures.unfound (ap (λ (k : Keeper). k.memory) keeper) slots
+          run c.args.outcome.now c.new-run.ensures.starts.power next c.new-run.ensures.starts.begun c.new-run.ensures.starts.unfound (ap (λ (k : Keeper). k.memory) keeper) slots
           (both (λ k. known_in run.keeper.cabin.cards k ≡ known_of opened k) (ap (λ (k : Keeper). k.cabin.cards.a) keeper) (ap (λ (k : Keeper). k.cabin.cards.b) keeper))
           (none-yet run.keeper.cabin.cards a_none b_none)
-          (ap (λ (l : Listed Break). l.items) q.reserved.breaks) (ap (λ (l : Listed Refused). l.items) q.reserved.refused) (ap (λ (l : Listed Find). l.items) q.reserved.finds) (ap (λ (l : Listed Mark). l.items) q.reserved.marks) c.new-run.ensures.noted c.judge.ensures.unit.clock);
+          (ap (λ (l : Listed Break). l.items) q.reserved.breaks) (ap (λ (l : Listed Refused). l.items) q.reserved.refused) (ap (λ (l : Listed Find). l.items) q.reserved.finds) (ap (λ (l : Listed Mark). l.items) q.reserved.marks) c.new-run.ensures.starts.noted c.judge.ensures.unit.clock);
     }
 
 -- ---- an item

@@ -56,7 +56,7 @@ use Rattle.run_acts.proofs.gap.note_gap.Goals as goal
 pub note_in-requires-clause-going : goal.note_in-requires-clause-going
 note_in-requires-clause-going g c =
     let run = c.args.run.now in
-    let h = c.requires.going in
+    let h = c.requires.acting.going in
     let before = g.met.M.Medium.coherent c.args.unit.now in
     let after = g.met.M.Medium.coherent c.note_event.new.unit in
     let ready = noted-ready before after c.note_event.ensures.journal run.keeper h.ready.unit_ready c.in_ok-note_event.ensures.cause.works in
@@ -166,8 +166,8 @@ returns-in_default-clause-promises g c = record {
 
 pub returns-in_default-clause-held : goal.returns-in_default-clause-held
 returns-in_default-clause-held g c = record {
-  held = c.requires.held;
-  cause = (no_reads (g.M.Medium.state c.args.unit.now) c.requires.going.ready.unit_ready.works).cause;
+  held = c.requires.acting.held;
+  cause = (no_reads (g.M.Medium.state c.args.unit.now) c.requires.acting.going.ready.unit_ready.works).cause;
 }
 
 pub returns-in_default-clause-goes : goal.returns-in_default-clause-goes
@@ -218,13 +218,13 @@ returns-in_err-note_event-clause-leaves g c = record {
         gap_event span run ∷ [],
         subst (λ (o : Option Span). AreGapEvents o (now_moment run) (is_err c.from_residual.result) run run c.args.breaks.now c.args.breaks.now UnitFailed (gap_event span run ∷ [])) (sym there) ((sym failed, refl, refl), refl),
         subst (λ (q : Bool). NotesEvents (gap_event span run ∷ []) q (devices U X Y) (devices V X Y)) failed
-            (gap-noted run span c.card_gap-event.result same U V X Y X Y (g.met.M.Medium.coherent c.args.unit.now) (g.met.M.Medium.coherent c.note_event.new.unit) c.requires.going.ready.unit_ready.is_unit true (λ well. absurd (never well)) e.moments e.cause.works),
+            (gap-noted run span c.card_gap-event.result same U V X Y X Y (g.met.M.Medium.coherent c.args.unit.now) (g.met.M.Medium.coherent c.note_event.new.unit) c.requires.acting.going.ready.unit_ready.is_unit true (λ well. absurd (never well)) e.moments e.cause.works),
       );
   rings = event-leaves c.card_gap-event.result.kind (fault_bytes c.card_gap-event.result) (g.M.Medium.state c.args.unit.now) (g.M.Medium.state c.note_event.new.unit) (g.met.M.Medium.coherent c.args.unit.now) c.note_event.ensures.moments;
   beside =
       λ o done s out w power.
       let run = c.args.run.now in
-      let lit = c.requires.going in
+      let lit = c.requires.acting.going in
       let V = g.M.Medium.state c.note_event.new.unit in
       let X = g.C.Chip.state c.args.card_a.now in
       let Y = g.D.Chip.state c.args.card_b.now in
@@ -237,7 +237,7 @@ returns-in_err-note_event-clause-promises g c = record {
   recorded =
       λ o done s out w power.
       let run = c.args.run.now in
-      let lit = c.requires.going in
+      let lit = c.requires.acting.going in
       let V = g.M.Medium.state c.note_event.new.unit in
       let X = g.C.Chip.state c.args.card_a.now in
       let Y = g.D.Chip.state c.args.card_b.now in
@@ -254,7 +254,7 @@ returns-in_err-note_event-clause-promises g c = record {
 
 pub returns-in_err-note_event-clause-held : goal.returns-in_err-note_event-clause-held
 returns-in_err-note_event-clause-held g c = record {
-  held = record { is_unit = unit-stays c.note_event.ensures.journal c.requires.held.is_unit; odometer = c.requires.held.odometer; minute = c.requires.held.minute; card_a = c.requires.held.card_a; card_b = c.requires.held.card_b; stand = c.requires.held.stand };
+  held = record { is_unit = unit-stays c.note_event.ensures.journal c.requires.acting.held.is_unit; odometer = c.requires.acting.held.odometer; minute = c.requires.acting.held.minute; card_a = c.requires.acting.held.card_a; card_b = c.requires.acting.held.card_b; stand = c.requires.acting.held.stand };
   cause =
       let failed : true ≡ is_err c.from_residual.result = search rules in
       subst (λ (f : Bool). HasCause (g.M.Medium.state c.args.unit.now) (g.M.Medium.state c.note_event.new.unit) f) failed c.in_err-note_event.ensures.cause;
@@ -289,7 +289,7 @@ returns-in_err-note_in-clause-leaves g c = record {
   card_events =
       let run = c.args.run.now in
       let between : Run = c.note_in.new.run in
-      let h = c.requires.going in
+      let h = c.requires.acting.going in
       let V = g.M.Medium.state c.note_event.new.unit in
       let d = devices V (g.C.Chip.state c.args.card_a.now) (g.D.Chip.state c.args.card_b.now) in
       let e = devices (g.M.Medium.state c.note_in.new.unit) (g.C.Chip.state c.note_in.new.card_a) (g.D.Chip.state c.note_in.new.card_b) in
@@ -322,7 +322,7 @@ returns-in_err-note_in-clause-leaves g c = record {
       let e = c.in_ok-note_event.ensures in
       let n = c.in_err-note_in.ensures.leaves.events in
       let fell : n.fell ≡ true = n.failing refl in
-      let first = gap-noted run span c.card_gap-event.result same U V X Y X Y (g.met.M.Medium.coherent c.args.unit.now) (g.met.M.Medium.coherent c.note_event.new.unit) c.requires.going.ready.unit_ready.is_unit false (λ well. e.noted) e.moments e.cause.works in
+      let first = gap-noted run span c.card_gap-event.result same U V X Y X Y (g.met.M.Medium.coherent c.args.unit.now) (g.met.M.Medium.coherent c.note_event.new.unit) c.requires.acting.going.ready.unit_ready.is_unit false (λ well. e.noted) e.moments e.cause.works in
       let notes : NotesEvents (fall_events true run.next c.note_in.new.run) true (devices V X Y) E = subst (λ (b : Bool). NotesEvents (fall_events b run.next c.note_in.new.run) true (devices V X Y) E) fell n.notes in
       let vs = gap_event span run ∷ fall_events true run.next c.note_in.new.run in (
         DriverFell,
@@ -340,7 +340,7 @@ returns-in_err-note_in-clause-leaves g c = record {
   beside =
       λ o done s out w power.
       let run = c.args.run.now in
-      let lit = c.requires.going in
+      let lit = c.requires.acting.going in
       let U = g.M.Medium.state c.args.unit.now in
       let V = g.M.Medium.state c.note_event.new.unit in
       let X = g.C.Chip.state c.args.card_a.now in
@@ -361,7 +361,7 @@ returns-in_err-note_in-clause-promises g c = record {
   recorded =
       λ o done s out w power.
       let run = c.args.run.now in
-      let lit = c.requires.going in
+      let lit = c.requires.acting.going in
       let V = g.M.Medium.state c.note_event.new.unit in
       let X = g.C.Chip.state c.args.card_a.now in
       let Y = g.D.Chip.state c.args.card_b.now in
@@ -425,7 +425,7 @@ returns-clause-leaves g c = record {
       let run = c.args.run.now in
       let between : Run = c.note_in.new.run in
       let new : Run = c.note_in-2.new.run in
-      let h = c.requires.going in
+      let h = c.requires.acting.going in
       let V = g.M.Medium.state c.note_event.new.unit in
       let d = devices V (g.C.Chip.state c.args.card_a.now) (g.D.Chip.state c.args.card_b.now) in
       let m = devices (g.M.Medium.state c.note_in.new.unit) (g.C.Chip.state c.note_in.new.card_a) (g.D.Chip.state c.note_in.new.card_b) in
@@ -474,7 +474,7 @@ returns-clause-leaves g c = record {
       let two = c.note_in-2.ensures.leaves.events in
       let next : between.next ≡ run.next = ap (λ (r : Run). r.next) c.in_ok-note_in.ensures.noted.run in
       let at : now_moment between ≡ now_moment run = ap (λ (n : ℕ). record { second = n; begun = 0; late = false }) next in
-      let first = gap-noted run span c.card_gap-event.result same U V X Y X Y (g.met.M.Medium.coherent c.args.unit.now) (g.met.M.Medium.coherent c.note_event.new.unit) c.requires.going.ready.unit_ready.is_unit false (λ well. e.noted) e.moments e.cause.works in
+      let first = gap-noted run span c.card_gap-event.result same U V X Y X Y (g.met.M.Medium.coherent c.args.unit.now) (g.met.M.Medium.coherent c.note_event.new.unit) c.requires.acting.going.ready.unit_ready.is_unit false (λ well. e.noted) e.moments e.cause.works in
       let later : NotesEvents (fall_events two.fell run.next new) failed E F = subst (λ (n : ℕ). NotesEvents (fall_events two.fell n new) failed E F) next two.notes in
       let falls = then-noted (fall_events one.fell run.next between) (fall_events two.fell run.next new) failed (devices V X Y) E F one.notes later in
       let vs = gap_event span run ∷ (fall_events one.fell run.next between ++ fall_events two.fell run.next new) in (
@@ -501,7 +501,7 @@ returns-clause-leaves g c = record {
   beside =
       λ o done s out w power.
       let run = c.args.run.now in
-      let lit = c.requires.going in
+      let lit = c.requires.acting.going in
       let U = g.M.Medium.state c.args.unit.now in
       let V = g.M.Medium.state c.note_event.new.unit in
       let X = g.C.Chip.state c.args.card_a.now in
@@ -527,7 +527,7 @@ returns-clause-promises g c = record {
   recorded =
       λ o done s out w power.
       let run = c.args.run.now in
-      let lit = c.requires.going in
+      let lit = c.requires.acting.going in
       let V = g.M.Medium.state c.note_event.new.unit in
       let X = g.C.Chip.state c.args.card_a.now in
       let Y = g.D.Chip.state c.args.card_b.now in

@@ -1,4 +1,4 @@
-use Rattle.std.proofs.Common.{arith, rules, ◌≡◌, ◌∙◌, ℕ, Bool, true, false, Option, Some, None, [], ◌∷◌, refl, ap, sym, subst, IfSome, is_some, ◌≤◌}
+use Rattle.std.proofs.Common.{arith, ◌≡◌, ◌∙◌, ℕ, Bool, true, false, Option, Some, None, [], ◌∷◌, refl, ap, sym, subst, is_some, ◌≤◌}
 use Rattle.activity_codec.specs.declared.values.Slot.{Slot}
 use Rattle.trace_model.specs.declared.Card.{Card}
 use Rattle.trace_model.specs.declared.Card.TheVariants.{A, B}
@@ -14,14 +14,13 @@ use Rattle.run_minutes.specs.declared.keeper.Moment.{Moment}
 use Rattle.run_minutes.proofs.Fates.{no-lines}
 use Rattle.run_acts.specs.Acting.{now_moment, IsNotedIn, IsNotedOn, falls_by}
 use Rattle.run_acts.proofs.Cabins.{numbered-session}
-use Rattle.std.specs.Prelude.{is_err, OnOk, Result}
+use Rattle.std.specs.Prelude.{is_err, Result}
 use Rattle.run_acts.proofs.Comings.{leaves-more}
 use Rattle.run_acts.proofs.NoteRecorded.{noted-some, some-leaves}
 use Rattle.run_promise.specs.Between.{devices}
 use Rattle.run_acts.specs.Noting.{fall_events, IsNoteRecorded, NotesFall}
 use Rattle.run_acts.proofs.NotedEvents.{same-noted, noted-any}
 use Rattle.run_rings.proofs.Same.{rings-left}
-use Rattle.run_speeds.specs.Speeds.{LeavesSpeeds}
 use Rattle.run_events.proofs.Newest.{knows-left}
 use Rattle.run_minutes.proofs.Later.{state-by, later-same}
 use Rattle.card_files.specs.declared.card_event.CardEvent.{CardEvent}
@@ -33,47 +32,33 @@ use Rattle.run_acts.proofs.CardPlaces.{places-self}
 use Rattle.run_minutes.proofs.Calm.{calm-same}
 use Rattle.run_acts.proofs.OneCard.{OneCard, unit-is, later-by, calm-by, known-noted, only-noted, more-noted, room-noted, calm-noted, held-noted, going-noted, none-there, on_a, on_b}
 use Rattle.run_minutes.specs.Later.{AreCalm, AreLater}
-use Rattle.run_minutes.specs.Keeping.{CardMayBeCalled, HasItsRow, UnitMayBeCalled}
 use Rattle.card_layout.specs.declared.command.CardState.{CardState}
 use Rattle.run_crew.specs.declared.cards.Cards.{Cards}
 use Rattle.tach_media.specs.declared.fault.Failed.{Failed}
-use Rattle.tach_media.specs.Medium.{HasBroken, HasCause, LeavesOnly, State}
+use Rattle.tach_media.specs.Medium.{HasBroken, HasCause, State}
 use Rattle.log_model.specs.Log.{In}
-use Rattle.device_calls.specs.CardNotes.{IsNote}
-use Rattle.unit_model.specs.Image.{IsUnit}
-use Rattle.card_session.specs.Sessions.{IsValue}
-use Rattle.unit_notes.specs.Journal.{LeavesJournal}
 use Rattle.run_acts.specs.ActsEvented.{NoteLeaves}
 use Rattle.run_acts.specs.NotedEvents.{NotesEvents}
 use Rattle.card_slots.specs.declared.seats.Seat.{Seat}
 use Rattle.run_devices.specs.Told.{arranged}
 use Rattle.device_rule.specs.Views.{other}
-use Rattle.run_rings.specs.Same.{LeavesRings}
+use Rattle.run_acts.specs.Acts.{ShowsGapOn, UnitWrites, NotesInSession, StandsBehind}
+use Rattle.unit_notes.specs.declared.unit_event.UnitEvent.{UnitEvent}
 use Rattle.run_acts.proofs.gap.note_in.Given.{Over}
 use Rattle.run_acts.proofs.gap.note_in.Goals.{In-Some-number_in, After-note_on, After-note_on-in-B}
 use Rattle.run_acts.proofs.gap.note_in.Goals as goal
 
 -- ---- what is known of the note on a card
 
-abbrev NotesThere : {S : Type 0} (state : S → State) (chip : S → CardState) (which : Card) (slot : Slot) (event : CardEvent) (result : Result (Unit {0}) Failed) (old new : Run) (breaks after : Listed Break) (U V : State) (x y : S) → Type 0
+abbrev NotesThere : {S : Type 0} (state : S → State) (chip : S → CardState) (which : Card) (slot : Slot) (event : UnitEvent) (result : Result (Unit {0}) Failed) (old new : Run) (breaks after : Listed Break) (U V : State) (x y : S) → Type 0
 NotesThere state chip which slot event result old new breaks after U V x y = record {
   noted : (fell : Bool) × IsNotedOn which slot (now_moment old) old new breaks after fell × HasBroken (state x) (state y) (falls_by fell) × HasCause (state x) (state y) fell × (is_err result ≡ true → fell ≡ true);
-  card_events : NotesOn false (session_of old.keeper.cabin.cards which) (session_of new.keeper.cabin.cards which) (event ∷ []) (state x) (state y);
-  places : LeavesPlaces (session_of old.keeper.cabin.cards which) (state x) (state y);
-  events : NotesFall (λ fell. IsNotedOn which slot (now_moment old) old new breaks after fell) old.next (is_err result) new (devices U (state x) (state x)) (devices V (state y) (state y));
-  rings : LeavesRings U V;
-  speeds : LeavesSpeeds U V;
-  journal : LeavesOnly U V LeavesJournal;
-  moments : IfSome (session_of old.keeper.cabin.cards which) (λ a. LeavesOnly (state x) (state y) (IsNote a.session.application));
-  value : IfSome (session_of old.keeper.cabin.cards which) (λ a. IsValue a.session);
-  unit : IsUnit V;
-  ready : OnOk result (UnitMayBeCalled new.keeper V);
-  rows : (card : Card) → HasItsRow old.keeper.cabin.cards U card → OnOk result (HasItsRow new.keeper.cabin.cards V card);
+  shows : ShowsGapOn which slot event (is_err result) old new breaks after U V (state x) (state y);
+  writes : UnitWrites U V;
+  known : NotesInSession (session_of old.keeper.cabin.cards which) (state x) (state y);
+  behind : StandsBehind which result old new U V (state x) (state y) (chip y);
   stands : (from : ℕ) (leaving : Option Card) → CabinIsSound from leaving old.keeper.cabin → CabinIsSound from leaving new.keeper.cabin;
-  card : CardMayBeCalled (known_of new.keeper.cabin.cards which) (chip y) (state y);
-  size : (state y).size ≡ (state x).size;
   clock_card : (state x).clock ≤ (state y).clock;
-  cause : HasCause U V (is_err result);
 }
 
 -- one event is noted on it, and none on the other
@@ -93,7 +78,7 @@ places-by : (card : Card) (cards : Cards) (U V X Y Z : State) → LeavesPlaces (
 places-by A cards U V X Y Z mine = both-cards (λ k. LeavesPlaces (session_of cards k) (card_of (devices U X Z) k) (card_of (devices V Y Z) k)) mine (places-self (session_of cards B) Z)
 places-by B cards U V X Y Z mine = both-cards (λ k. LeavesPlaces (session_of cards k) (card_of (devices U Z X) k) (card_of (devices V Z Y) k)) (places-self (session_of cards A) Z) mine
 
-module _ (g : Over) (c : In-Some-number_in g) (k : OneCard c.in-Some.card (g.C.Chip.state c.args.card_a.now) (g.D.Chip.state c.args.card_b.now)) (e : NotesThere k.state k.chip k.which c.args.slot (card_entry c.args.event.now c.args.run.now.keeper.memory.registration) k.result c.args.run.now k.new c.args.breaks.now k.breaks (g.M.Medium.state c.args.unit.now) k.unit k.before k.after) where
+module _ (g : Over) (c : In-Some-number_in g) (k : OneCard c.in-Some.card (g.C.Chip.state c.args.card_a.now) (g.D.Chip.state c.args.card_b.now)) (e : NotesThere k.state k.chip k.which c.args.slot c.args.event.now k.result c.args.run.now k.new c.args.breaks.now k.breaks (g.M.Medium.state c.args.unit.now) k.unit k.before k.after) where
   abbrev first : Devices
   first = devices (g.M.Medium.state c.args.unit.now) (g.C.Chip.state c.args.card_a.now) (g.D.Chip.state c.args.card_b.now)
 
@@ -113,33 +98,33 @@ module _ (g : Over) (c : In-Some-number_in g) (k : OneCard c.in-Some.card (g.C.C
       let lit = c.requires.going in
       subst (λ (m : Devices). IsNoteRecorded (In 0) (is_err k.result) c.args.run.now k.new c.args.breaks.now k.breaks m last) (sym (k.beside_it (g.M.Medium.state c.args.unit.now)))
       (noted-some k.which c.args.slot (now_moment c.args.run.now) c.args.run.now c.args.breaks.now (g.M.Medium.state c.args.unit.now) k.unit (k.state k.before) (k.state k.after) k.beside
-      (g.met.M.Medium.coherent c.args.unit.now) k.whole k.whole_after k.size some e.value seat refl refl lit.span lit.stands lit.next lit.cabin e.moments e.journal
-      (is_err k.result) e.cause (λ fine. leaves-more (g.M.Medium.state c.args.unit.now) k.unit e.rings) k.new k.breaks e.noted.0 e.noted.1 e.noted.2 e.noted.3)
+      (g.met.M.Medium.coherent c.args.unit.now) k.whole k.whole_after k.size some e.known.value seat refl refl lit.span lit.stands lit.next lit.cabin e.known.moments e.writes.journal
+      (is_err k.result) e.behind.cause (λ fine. leaves-more (g.M.Medium.state c.args.unit.now) k.unit e.shows.rings) k.new k.breaks e.noted.0 e.noted.1 e.noted.2 e.noted.3)
 
   leaves : NoteLeaves (is_err k.result) c.args.run.now c.args.breaks.now k.breaks first last
   leaves =
       let lit = c.requires.going in
       subst (λ (m : Devices). NoteLeaves (is_err k.result) c.args.run.now c.args.breaks.now k.breaks m last) (sym (k.beside_it (g.M.Medium.state c.args.unit.now)))
       (λ o done s out w power. some-leaves k.which c.args.slot (now_moment c.args.run.now) c.args.run.now c.args.breaks.now (g.M.Medium.state c.args.unit.now) k.unit (k.state k.before) (k.state k.after) k.beside
-      (g.met.M.Medium.coherent c.args.unit.now) k.whole k.whole_after k.size some e.value seat refl refl lit.span lit.stands lit.next lit.cabin e.moments e.journal
-      (is_err k.result) e.cause o done s out w (λ begins. power) s.actions ([], refl, refl) e.noted.0 k.new k.breaks e.noted.1 e.noted.2 e.noted.3)
+      (g.met.M.Medium.coherent c.args.unit.now) k.whole k.whole_after k.size some e.known.value seat refl refl lit.span lit.stands lit.next lit.cabin e.known.moments e.writes.journal
+      (is_err k.result) e.behind.cause o done s out w (λ begins. power) s.actions ([], refl, refl) e.noted.0 k.new k.breaks e.noted.1 e.noted.2 e.noted.3)
 
-  noted-then : IsNotedIn (card_in (seat_in c.args.run.now.keeper.cabin.slots.seats c.args.slot)) c.args.slot (now_moment c.args.run.now) c.args.run.now k.new c.args.breaks.now k.breaks e.events.fell
-  noted-then = subst (λ (o : Option Card). IsNotedIn o c.args.slot (now_moment c.args.run.now) c.args.run.now k.new c.args.breaks.now k.breaks e.events.fell) (sym seat) (e.events.noted, λ fell. some)
+  noted-then : IsNotedIn (card_in (seat_in c.args.run.now.keeper.cabin.slots.seats c.args.slot)) c.args.slot (now_moment c.args.run.now) c.args.run.now k.new c.args.breaks.now k.breaks e.shows.events.fell
+  noted-then = subst (λ (o : Option Card). IsNotedIn o c.args.slot (now_moment c.args.run.now) c.args.run.now k.new c.args.breaks.now k.breaks e.shows.events.fell) (sym seat) (e.shows.events.noted, λ fell. some)
 
   notes : NotesFall (λ fell. IsNotedIn (card_in (seat_in c.args.run.now.keeper.cabin.slots.seats c.args.slot)) c.args.slot (now_moment c.args.run.now) c.args.run.now k.new c.args.breaks.now k.breaks fell) c.args.run.now.next (is_err k.result) k.new first last
   notes = record {
-    fell = e.events.fell;
+    fell = e.shows.events.fell;
     noted = noted-then;
-    failing = e.events.failing;
-    notes = subst (λ (m : Devices). NotesEvents (fall_events e.events.fell c.args.run.now.next k.new) (is_err k.result) m last) (sym (k.beside_it (g.M.Medium.state c.args.unit.now)))
-        (noted-any (fall_events e.events.fell c.args.run.now.next k.new) (is_err k.result) (devices (g.M.Medium.state c.args.unit.now) (k.state k.before) (k.state k.before)) (devices k.unit (k.state k.after) (k.state k.after)) (arranged k.which (g.M.Medium.state c.args.unit.now) (k.state k.before) k.beside) last (unit-is k.which (g.M.Medium.state c.args.unit.now) (k.state k.before) k.beside) (unit-is k.which k.unit (k.state k.after) k.beside) e.events.notes);
+    failing = e.shows.events.failing;
+    notes = subst (λ (m : Devices). NotesEvents (fall_events e.shows.events.fell c.args.run.now.next k.new) (is_err k.result) m last) (sym (k.beside_it (g.M.Medium.state c.args.unit.now)))
+        (noted-any (fall_events e.shows.events.fell c.args.run.now.next k.new) (is_err k.result) (devices (g.M.Medium.state c.args.unit.now) (k.state k.before) (k.state k.before)) (devices k.unit (k.state k.after) (k.state k.after)) (arranged k.which (g.M.Medium.state c.args.unit.now) (k.state k.before) k.beside) last (unit-is k.which (g.M.Medium.state c.args.unit.now) (k.state k.before) k.beside) (unit-is k.which k.unit (k.state k.after) k.beside) e.shows.events.notes);
   }
 
   later : AreLater first last
   later =
       subst (λ (m : Devices). AreLater m last) (sym (k.beside_it (g.M.Medium.state c.args.unit.now)))
-      (later-by k.which (g.M.Medium.state c.args.unit.now) k.unit (k.state k.before) (k.state k.after) k.beside (state-by (g.M.Medium.state c.args.unit.now) k.unit _ e.journal.later e.cause) (state-by (k.state k.before) (k.state k.after) e.noted.0 e.clock_card e.noted.3) e.speeds)
+      (later-by k.which (g.M.Medium.state c.args.unit.now) k.unit (k.state k.before) (k.state k.after) k.beside (state-by (g.M.Medium.state c.args.unit.now) k.unit _ e.writes.journal.later e.behind.cause) (state-by (k.state k.before) (k.state k.after) e.noted.0 e.clock_card e.noted.3) e.writes.speeds)
 
   calm : AreCalm c.args.breaks.now.items k.breaks.items first last
   calm =
@@ -149,10 +134,10 @@ module _ (g : Over) (c : In-Some-number_in g) (k : OneCard c.in-Some.card (g.C.C
   card-events : NotesOnCards false c.args.run.now.keeper.cabin.cards k.new.keeper.cabin.cards (on_seat (seat_in c.args.run.now.keeper.cabin.slots.seats c.args.slot) (card_entry c.args.event.now c.args.run.now.keeper.memory.registration)) first last
   card-events =
       subst (λ (m : Devices). NotesOnCards false c.args.run.now.keeper.cabin.cards k.new.keeper.cabin.cards (on_seat (seat_in c.args.run.now.keeper.cabin.slots.seats c.args.slot) (card_entry c.args.event.now c.args.run.now.keeper.memory.registration)) m last) (sym (k.beside_it (g.M.Medium.state c.args.unit.now)))
-      (event-by k.which (seat_in c.args.run.now.keeper.cabin.slots.seats c.args.slot) (card_entry c.args.event.now c.args.run.now.keeper.memory.registration) c.args.run.now.keeper.cabin.cards k.new.keeper.cabin.cards (g.M.Medium.state c.args.unit.now) k.unit (k.state k.before) (k.state k.after) k.beside seat e.card_events (known-noted k.which c.args.slot (now_moment c.args.run.now) c.args.run.now k.new c.args.breaks.now k.breaks e.noted.0 e.noted.1))
+      (event-by k.which (seat_in c.args.run.now.keeper.cabin.slots.seats c.args.slot) (card_entry c.args.event.now c.args.run.now.keeper.memory.registration) c.args.run.now.keeper.cabin.cards k.new.keeper.cabin.cards (g.M.Medium.state c.args.unit.now) k.unit (k.state k.before) (k.state k.after) k.beside seat e.shows.card_events (known-noted k.which c.args.slot (now_moment c.args.run.now) c.args.run.now k.new c.args.breaks.now k.breaks e.noted.0 e.noted.1))
 
   places : LeavePlaces c.args.run.now.keeper.cabin.cards first last
-  places = subst (λ (m : Devices). LeavePlaces c.args.run.now.keeper.cabin.cards m last) (sym (k.beside_it (g.M.Medium.state c.args.unit.now))) (places-by k.which c.args.run.now.keeper.cabin.cards (g.M.Medium.state c.args.unit.now) k.unit (k.state k.before) (k.state k.after) k.beside e.places)
+  places = subst (λ (m : Devices). LeavePlaces c.args.run.now.keeper.cabin.cards m last) (sym (k.beside_it (g.M.Medium.state c.args.unit.now))) (places-by k.which c.args.run.now.keeper.cabin.cards (g.M.Medium.state c.args.unit.now) k.unit (k.state k.before) (k.state k.after) k.beside e.shows.places)
 
 module _ (g : Over) (c : After-note_on g) where
   abbrev there-a : In-Some-number_in g
@@ -177,15 +162,15 @@ module _ (g : Over) (c : After-note_on-in-B g) where
 pub returns-in-A-clause-going : goal.returns-in-A-clause-going
 returns-in-A-clause-going g c =
     let e = c.note_on.ensures in
-    on_ok c.note_on.result (λ well. going-noted A c.args.slot (now_moment c.args.run.now) c.args.run.now c.note_on.new.run c.args.breaks.now c.note_on.new.breaks c.note_on.ensures.noted.0 c.note_on.ensures.noted.1 (g.M.Medium.state c.args.unit.now) (g.M.Medium.state c.note_on.new.unit) (g.C.Chip.state c.args.card_a.now) (g.C.Chip.state c.note_on.new.card) (g.D.Chip.state c.args.card_b.now) (g.C.Chip.card c.args.card_a.now) (g.C.Chip.card c.note_on.new.card) (g.D.Chip.card c.args.card_b.now) c.requires.going (ok_gives c.note_on.result e.ready well) e.card (λ card h. ok_gives c.note_on.result (e.rows card h) well) e.stands
-    (knows-left c.args.run.now.watch.newest (g.M.Medium.state c.args.unit.now) (g.M.Medium.state c.note_on.new.unit) (g.met.M.Medium.coherent c.args.unit.now) (g.met.M.Medium.coherent c.note_on.new.unit) c.requires.going.ready.unit_ready.works e.speeds))
+    on_ok c.note_on.result (λ well. going-noted A c.args.slot (now_moment c.args.run.now) c.args.run.now c.note_on.new.run c.args.breaks.now c.note_on.new.breaks c.note_on.ensures.noted.0 c.note_on.ensures.noted.1 (g.M.Medium.state c.args.unit.now) (g.M.Medium.state c.note_on.new.unit) (g.C.Chip.state c.args.card_a.now) (g.C.Chip.state c.note_on.new.card) (g.D.Chip.state c.args.card_b.now) (g.C.Chip.card c.args.card_a.now) (g.C.Chip.card c.note_on.new.card) (g.D.Chip.card c.args.card_b.now) c.requires.going (ok_gives c.note_on.result e.behind.ready well) e.behind.card (λ card h. ok_gives c.note_on.result (e.behind.rows card h) well) e.stands
+    (knows-left c.args.run.now.watch.newest (g.M.Medium.state c.args.unit.now) (g.M.Medium.state c.note_on.new.unit) (g.met.M.Medium.coherent c.args.unit.now) (g.met.M.Medium.coherent c.note_on.new.unit) c.requires.going.ready.unit_ready.works e.writes.speeds))
 
 pub returns-in-A-clause-recorded : goal.returns-in-A-clause-recorded
 returns-in-A-clause-recorded g c = recorded g (there-a g c) (side-a g c) c.note_on.ensures
 
 pub returns-in-A-clause-noted : goal.returns-in-A-clause-noted
 returns-in-A-clause-noted g c = record {
-  fell = (c.note_on.ensures.events.fell, noted-then g (there-a g c) (side-a g c) c.note_on.ensures, c.note_on.ensures.events.failing);
+  fell = (c.note_on.ensures.shows.events.fell, noted-then g (there-a g c) (side-a g c) c.note_on.ensures, c.note_on.ensures.shows.events.failing);
   run = only-noted A c.args.slot (now_moment c.args.run.now) c.args.run.now c.note_on.new.run c.args.breaks.now c.note_on.new.breaks c.note_on.ensures.noted.0 c.note_on.ensures.noted.1;
   room = room-noted A c.args.slot (now_moment c.args.run.now) c.args.run.now c.note_on.new.run c.args.breaks.now c.note_on.new.breaks c.note_on.ensures.noted.0 c.note_on.ensures.noted.1 (some g (there-a g c) (side-a g c) c.note_on.ensures);
 }
@@ -195,7 +180,7 @@ returns-in-A-clause-leaves g c = record {
   card_events = card-events g (there-a g c) (side-a g c) c.note_on.ensures;
   places = places g (there-a g c) (side-a g c) c.note_on.ensures;
   events = notes g (there-a g c) (side-a g c) c.note_on.ensures;
-  rings = c.note_on.ensures.rings;
+  rings = c.note_on.ensures.shows.rings;
   beside = leaves g (there-a g c) (side-a g c) c.note_on.ensures;
 }
 
@@ -203,8 +188,8 @@ pub returns-in-A-clause-held : goal.returns-in-A-clause-held
 returns-in-A-clause-held g c = record {
   held =
       let e = c.note_on.ensures in
-      held-noted A c.args.slot (now_moment c.args.run.now) c.args.run.now c.note_on.new.run c.args.breaks.now c.note_on.new.breaks c.note_on.ensures.noted.0 c.note_on.ensures.noted.1 (g.M.Medium.state c.args.unit.now) (g.M.Medium.state c.note_on.new.unit) (g.C.Chip.state c.args.card_a.now) (g.C.Chip.state c.note_on.new.card) (g.D.Chip.state c.args.card_b.now) (g.C.Chip.card c.args.card_a.now) (g.C.Chip.card c.note_on.new.card) (g.D.Chip.card c.args.card_b.now) refl c.requires.held e.unit e.card e.size e.stands;
-  cause = c.note_on.ensures.cause;
+      held-noted A c.args.slot (now_moment c.args.run.now) c.args.run.now c.note_on.new.run c.args.breaks.now c.note_on.new.breaks c.note_on.ensures.noted.0 c.note_on.ensures.noted.1 (g.M.Medium.state c.args.unit.now) (g.M.Medium.state c.note_on.new.unit) (g.C.Chip.state c.args.card_a.now) (g.C.Chip.state c.note_on.new.card) (g.D.Chip.state c.args.card_b.now) (g.C.Chip.card c.args.card_a.now) (g.C.Chip.card c.note_on.new.card) (g.D.Chip.card c.args.card_b.now) refl c.requires.held e.behind.unit e.behind.card e.behind.size e.stands;
+  cause = c.note_on.ensures.behind.cause;
 }
 
 pub returns-in-A-clause-goes : goal.returns-in-A-clause-goes
@@ -217,15 +202,15 @@ returns-in-A-clause-goes g c = record {
 pub returns-in-B-clause-going : goal.returns-in-B-clause-going
 returns-in-B-clause-going g c =
     let e = c.note_on-in-B.ensures in
-    on_ok c.note_on-in-B.result (λ well. going-noted B c.args.slot (now_moment c.args.run.now) c.args.run.now c.note_on-in-B.new.run c.args.breaks.now c.note_on-in-B.new.breaks c.note_on-in-B.ensures.noted.0 c.note_on-in-B.ensures.noted.1 (g.M.Medium.state c.args.unit.now) (g.M.Medium.state c.note_on-in-B.new.unit) (g.D.Chip.state c.args.card_b.now) (g.D.Chip.state c.note_on-in-B.new.card) (g.C.Chip.state c.args.card_a.now) (g.D.Chip.card c.args.card_b.now) (g.D.Chip.card c.note_on-in-B.new.card) (g.C.Chip.card c.args.card_a.now) c.requires.going (ok_gives c.note_on-in-B.result e.ready well) e.card (λ card h. ok_gives c.note_on-in-B.result (e.rows card h) well) e.stands
-    (knows-left c.args.run.now.watch.newest (g.M.Medium.state c.args.unit.now) (g.M.Medium.state c.note_on-in-B.new.unit) (g.met.M.Medium.coherent c.args.unit.now) (g.met.M.Medium.coherent c.note_on-in-B.new.unit) c.requires.going.ready.unit_ready.works e.speeds))
+    on_ok c.note_on-in-B.result (λ well. going-noted B c.args.slot (now_moment c.args.run.now) c.args.run.now c.note_on-in-B.new.run c.args.breaks.now c.note_on-in-B.new.breaks c.note_on-in-B.ensures.noted.0 c.note_on-in-B.ensures.noted.1 (g.M.Medium.state c.args.unit.now) (g.M.Medium.state c.note_on-in-B.new.unit) (g.D.Chip.state c.args.card_b.now) (g.D.Chip.state c.note_on-in-B.new.card) (g.C.Chip.state c.args.card_a.now) (g.D.Chip.card c.args.card_b.now) (g.D.Chip.card c.note_on-in-B.new.card) (g.C.Chip.card c.args.card_a.now) c.requires.going (ok_gives c.note_on-in-B.result e.behind.ready well) e.behind.card (λ card h. ok_gives c.note_on-in-B.result (e.behind.rows card h) well) e.stands
+    (knows-left c.args.run.now.watch.newest (g.M.Medium.state c.args.unit.now) (g.M.Medium.state c.note_on-in-B.new.unit) (g.met.M.Medium.coherent c.args.unit.now) (g.met.M.Medium.coherent c.note_on-in-B.new.unit) c.requires.going.ready.unit_ready.works e.writes.speeds))
 
 pub returns-in-B-clause-recorded : goal.returns-in-B-clause-recorded
 returns-in-B-clause-recorded g c = recorded g (there-b g c) (side-b g c) c.note_on-in-B.ensures
 
 pub returns-in-B-clause-noted : goal.returns-in-B-clause-noted
 returns-in-B-clause-noted g c = record {
-  fell = (c.note_on-in-B.ensures.events.fell, noted-then g (there-b g c) (side-b g c) c.note_on-in-B.ensures, c.note_on-in-B.ensures.events.failing);
+  fell = (c.note_on-in-B.ensures.shows.events.fell, noted-then g (there-b g c) (side-b g c) c.note_on-in-B.ensures, c.note_on-in-B.ensures.shows.events.failing);
   run = only-noted B c.args.slot (now_moment c.args.run.now) c.args.run.now c.note_on-in-B.new.run c.args.breaks.now c.note_on-in-B.new.breaks c.note_on-in-B.ensures.noted.0 c.note_on-in-B.ensures.noted.1;
   room = room-noted B c.args.slot (now_moment c.args.run.now) c.args.run.now c.note_on-in-B.new.run c.args.breaks.now c.note_on-in-B.new.breaks c.note_on-in-B.ensures.noted.0 c.note_on-in-B.ensures.noted.1 (some g (there-b g c) (side-b g c) c.note_on-in-B.ensures);
 }
@@ -235,7 +220,7 @@ returns-in-B-clause-leaves g c = record {
   card_events = card-events g (there-b g c) (side-b g c) c.note_on-in-B.ensures;
   places = places g (there-b g c) (side-b g c) c.note_on-in-B.ensures;
   events = notes g (there-b g c) (side-b g c) c.note_on-in-B.ensures;
-  rings = c.note_on-in-B.ensures.rings;
+  rings = c.note_on-in-B.ensures.shows.rings;
   beside = leaves g (there-b g c) (side-b g c) c.note_on-in-B.ensures;
 }
 
@@ -243,8 +228,8 @@ pub returns-in-B-clause-held : goal.returns-in-B-clause-held
 returns-in-B-clause-held g c = record {
   held =
       let e = c.note_on-in-B.ensures in
-      held-noted B c.args.slot (now_moment c.args.run.now) c.args.run.now c.note_on-in-B.new.run c.args.breaks.now c.note_on-in-B.new.breaks c.note_on-in-B.ensures.noted.0 c.note_on-in-B.ensures.noted.1 (g.M.Medium.state c.args.unit.now) (g.M.Medium.state c.note_on-in-B.new.unit) (g.D.Chip.state c.args.card_b.now) (g.D.Chip.state c.note_on-in-B.new.card) (g.C.Chip.state c.args.card_a.now) (g.D.Chip.card c.args.card_b.now) (g.D.Chip.card c.note_on-in-B.new.card) (g.C.Chip.card c.args.card_a.now) refl c.requires.held e.unit e.card e.size e.stands;
-  cause = c.note_on-in-B.ensures.cause;
+      held-noted B c.args.slot (now_moment c.args.run.now) c.args.run.now c.note_on-in-B.new.run c.args.breaks.now c.note_on-in-B.new.breaks c.note_on-in-B.ensures.noted.0 c.note_on-in-B.ensures.noted.1 (g.M.Medium.state c.args.unit.now) (g.M.Medium.state c.note_on-in-B.new.unit) (g.D.Chip.state c.args.card_b.now) (g.D.Chip.state c.note_on-in-B.new.card) (g.C.Chip.state c.args.card_a.now) (g.D.Chip.card c.args.card_b.now) (g.D.Chip.card c.note_on-in-B.new.card) (g.C.Chip.card c.args.card_a.now) refl c.requires.held e.behind.unit e.behind.card e.behind.size e.stands;
+  cause = c.note_on-in-B.ensures.behind.cause;
 }
 
 pub returns-in-B-clause-goes : goal.returns-in-B-clause-goes

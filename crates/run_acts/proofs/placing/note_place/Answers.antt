@@ -3,16 +3,16 @@ use Rattle.trace_model.specs.declared.Card.TheVariants.{A, B}
 use Rattle.tach_media.proofs.Runs.{on_ok, ok_gives, cause_after, no_reads}
 use Rattle.minute_model.specs.Span.{ungiven_of}
 use Rattle.card_slots.specs.Calls.{seat_in, card_in, logged}
-use Rattle.run_crew.specs.Cards.{session_of, known_of}
+use Rattle.run_crew.specs.Cards.{session_of}
 use Rattle.run_crew.specs.Cabin.{number_of_seat, CabinIsSound}
 use Rattle.log_model.specs.declared.lines.Break.{Break}
 use Rattle.run_outcome.specs.Lines.{Listed}
-use Rattle.run_minutes.specs.Keeping.{HasLeftMore, with_lines, CardMayBeCalled, HasItsRow, UnitMayBeCalled}
+use Rattle.run_minutes.specs.Keeping.{HasLeftMore, with_lines, HasItsRow, UnitMayBeCalled}
 use Rattle.run_acts.specs.declared.run.Run.{Run}
 use Rattle.run_insertion.proofs.Noted.{noted-ready, noted-row}
 use Rattle.run_acts.specs.Acting.{noted_run, IsNotedOn, IsPlaced, falls_by}
 use Rattle.run_acts.proofs.Cabins.{numbered-session}
-use Rattle.std.specs.Prelude.{is_err, suc, IfSome, List, [], ◌∷◌, ◌++◌, OnOk, Result}
+use Rattle.std.specs.Prelude.{is_err, suc, IfSome, List, [], ◌∷◌, ◌++◌, Result}
 use Rattle.std.proofs.lemmas.List.{append-nil}
 use Rattle.activity_codec.specs.declared.values.Slot.{Slot}
 use Rattle.trace_model.specs.declared.Action.{Action}
@@ -32,7 +32,7 @@ use Rattle.trace_model.specs.declared.Card.{Card}
 use Rattle.gated_ring.specs.Change.{IsAdding}
 use Rattle.message_model.specs.Records.{unit_place_ring}
 use Rattle.run_acts.specs.NotedEvents.{NotesEvents}
-use Rattle.run_acts.specs.Noting.{NotesPlace, fall_events, IsNoteRecorded, NotesFall}
+use Rattle.run_acts.specs.Noting.{NotesPlace, fall_events, IsNoteRecorded}
 use Rattle.run_acts.proofs.NotedEvents.{same-noted, noted-any, then-noted}
 use Rattle.run_acts.proofs.ActsNoted.{says-of, quiet-any, adding-nothing, none-placed, no-place, same-fell}
 use Rattle.run_minutes.proofs.Units.{unit-stays}
@@ -44,7 +44,6 @@ use Rattle.run_crew.specs.declared.cards.Cards.{Cards}
 use Rattle.run_rings.proofs.Same.{rings-left}
 use Rattle.run_acts.specs.Ringing.{WritesPlace}
 use Rattle.run_acts.proofs.Ringing.{place-broken, place-then}
-use Rattle.run_speeds.specs.Speeds.{LeavesSpeeds}
 use Rattle.run_events.proofs.Newest.{knows-left}
 use Rattle.run_events.proofs.NoteSpeeds.{place-leaves}
 use Rattle.run_minutes.proofs.Later.{state-by, later-same, later-then, later-of-unit}
@@ -71,12 +70,9 @@ use Rattle.run_acts.specs.Devices.{AreLeftMore}
 use Rattle.card_layout.specs.declared.command.CardState.{CardState}
 use Rattle.run_acts.specs.RunCards.{CardsPlace}
 use Rattle.tach_media.specs.declared.fault.Failed.{Failed}
-use Rattle.unit_model.specs.Image.{IsUnit}
-use Rattle.card_session.specs.Sessions.{IsValue}
-use Rattle.unit_notes.specs.Journal.{LeavesJournal}
 use Rattle.run_acts.specs.RunRinged.{RingsPlace}
 use Rattle.run_devices.specs.Told.{arranged}
-use Rattle.run_rings.specs.Same.{LeavesRings}
+use Rattle.run_acts.specs.Acts.{ShowsPlaceOn, UnitWrites, NotesInSession, StandsBehind}
 use Rattle.run_acts.proofs.placing.note_place.Given.{Over}
 use Rattle.run_acts.proofs.placing.note_place.Goals.{In_ok-note_place, After-note_place_in, After-note_place_in-in-B}
 use Rattle.run_acts.proofs.placing.note_place.Goals as goal
@@ -100,7 +96,7 @@ module _ (g : Over) (c : In_ok-note_place g) where
   some-of card is = numbered-session c.args.run.now.keeper.cabin.cards (seat_in c.args.run.now.keeper.cabin.slots.seats c.args.slot) card c.in-Some-number_in.number (seat-of card is) numbered
 
   ready-then : UnitMayBeCalled c.args.run.now.keeper (g.M.Medium.state c.note_place.new.unit)
-  ready-then = noted-ready (g.met.M.Medium.coherent c.args.unit.now) (g.met.M.Medium.coherent c.note_place.new.unit) c.note_place.ensures.journal c.args.run.now.keeper c.requires.going.ready.unit_ready c.in_ok-note_place.ensures.cause.works
+  ready-then = noted-ready (g.met.M.Medium.coherent c.args.unit.now) (g.met.M.Medium.coherent c.note_place.new.unit) c.note_place.ensures.journal c.args.run.now.keeper c.requires.acting.going.ready.unit_ready c.in_ok-note_place.ensures.cause.works
 
   quiet : NotesEvents [] false first middle
   quiet = quiet-any (g.M.Medium.state c.args.unit.now) (g.M.Medium.state c.note_place.new.unit) (g.C.Chip.state c.args.card_a.now) (g.D.Chip.state c.args.card_b.now) (g.C.Chip.state c.args.card_a.now) (g.D.Chip.state c.args.card_b.now) false (says-of (g.M.Medium.state c.args.unit.now) (g.M.Medium.state c.note_place.new.unit) (g.met.M.Medium.coherent c.args.unit.now) (IsAdding unit_place_ring (unit_place_bytes c.in-Some-number_in.number c.args.entry.now)) (adding-nothing (unit_place_bytes c.in-Some-number_in.number c.args.entry.now)) c.in_ok-note_place.ensures.moments)
@@ -121,23 +117,12 @@ note_place_in-requires-in-B-clause-ready g c = ready-then g (goal.at.note_place_
 abbrev NotesThere : {S : Type 0} (state : S → State) (chip : S → CardState) (which : Card) (slot : Slot) (entry : PlaceEntry) (at : Moment) (result : Result (Unit {0}) Failed) (old new : Run) (breaks after : Listed Break) (U V : State) (x y : S) → Type 0
 NotesThere state chip which slot entry at result old new breaks after U V x y = record {
   noted : (fell : Bool) × IsNotedOn which slot at old new breaks after fell × HasBroken (state x) (state y) (falls_by fell) × HasCause (state x) (state y) fell;
-  card_events : NotesOn false (session_of old.keeper.cabin.cards which) (session_of new.keeper.cabin.cards which) [] (state x) (state y);
-  on_card : PlaceOn (session_of old.keeper.cabin.cards which) (session_of new.keeper.cabin.cards which) false entry (state x) (state y);
-  places : MayTakePlace (session_of old.keeper.cabin.cards which) entry (state x) (state y);
-  events : NotesFall (λ fell. IsNotedOn which slot at old new breaks after fell) at.second (is_err result) new (devices U (state x) (state x)) (devices V (state y) (state y));
-  rings : LeavesRings U V;
-  speeds : LeavesSpeeds U V;
-  journal : LeavesOnly U V LeavesJournal;
-  moments : IfSome (session_of old.keeper.cabin.cards which) (λ a. LeavesOnly (state x) (state y) (IsNote a.session.application));
-  value : IfSome (session_of old.keeper.cabin.cards which) (λ a. IsValue a.session);
-  unit : IsUnit V;
-  ready : OnOk result (UnitMayBeCalled new.keeper V);
-  rows : (card : Card) → HasItsRow old.keeper.cabin.cards U card → OnOk result (HasItsRow new.keeper.cabin.cards V card);
+  shows : ShowsPlaceOn which slot entry at (is_err result) old new breaks after U V (state x) (state y);
+  writes : UnitWrites U V;
+  known : NotesInSession (session_of old.keeper.cabin.cards which) (state x) (state y);
+  behind : StandsBehind which result old new U V (state x) (state y) (chip y);
   stands : (from : ℕ) (leaving : Option Card) → CabinIsSound from leaving old.keeper.cabin → CabinIsSound from leaving new.keeper.cabin;
-  card : CardMayBeCalled (known_of new.keeper.cabin.cards which) (chip y) (state y);
-  size : (state y).size ≡ (state x).size;
   clock_card : (state x).clock ≤ (state y).clock;
-  cause : HasCause U V (is_err result);
 }
 
 -- a card with a session was called alone
@@ -174,7 +159,7 @@ module _ (g : Over) (c : In_ok-note_place g) (k : OneCard c.in-Some.card (g.C.Ch
   some = some-of g c k.which k.is
 
   rows-then : is_err k.result ≡ false → (card : Card) → HasItsRow c.args.run.now.keeper.cabin.cards (g.M.Medium.state c.args.unit.now) card → HasItsRow k.new.keeper.cabin.cards k.unit card
-  rows-then well card h = ok_gives k.result (e.rows card (noted-row (g.met.M.Medium.coherent c.args.unit.now) (g.met.M.Medium.coherent c.note_place.new.unit) c.note_place.ensures.journal c.args.run.now.keeper c.requires.going.ready.unit_ready c.args.run.now.keeper.cabin.cards card h)) well
+  rows-then well card h = ok_gives k.result (e.behind.rows card (noted-row (g.met.M.Medium.coherent c.args.unit.now) (g.met.M.Medium.coherent c.note_place.new.unit) c.note_place.ensures.journal c.args.run.now.keeper c.requires.acting.going.ready.unit_ready c.args.run.now.keeper.cabin.cards card h)) well
 
   -- what is noted on the unit
   notes-fall : (fell : Bool) → NotesEvents (fall_events fell c.args.at.second k.new) (is_err k.result) (devices (g.M.Medium.state c.note_place.new.unit) (k.state k.before) (k.state k.before)) (devices k.unit (k.state k.after) (k.state k.after)) → NotesEvents (fall_events fell c.args.at.second k.new) (is_err k.result) (middle g c) last
@@ -187,7 +172,7 @@ module _ (g : Over) (c : In_ok-note_place g) (k : OneCard c.in-Some.card (g.C.Ch
 
   events : NotesPlace (card_in (seat_in c.args.run.now.keeper.cabin.slots.seats c.args.slot)) c.args.slot c.args.at (is_err k.result) c.args.run.now k.new c.args.breaks.now k.breaks (first g c) last
   events =
-      let n = e.events in
+      let n = e.shows.events in
       subst (λ (q : Option Card). NotesPlace q c.args.slot c.args.at (is_err k.result) c.args.run.now k.new c.args.breaks.now k.breaks (first g c) last) (sym seat)
       (inr (record { fell = n.fell; noted = n.noted; failing = n.failing; notes = then-noted [] (fall_events n.fell c.args.at.second k.new) (is_err k.result) (first g c) (middle g c) last (quiet g c) (notes-fall n.fell n.notes) }))
 
@@ -195,13 +180,13 @@ module _ (g : Over) (c : In_ok-note_place g) (k : OneCard c.in-Some.card (g.C.Ch
   writes tells =
       let n = c.in_ok-note_place.ensures in
       subst (λ (o : Option FullCardNumber). WritesPlace o c.args.entry.now (is_err k.result) (g.M.Medium.state c.args.unit.now) k.unit) (sym (numbered g c))
-      (place-then (unit_place_bytes c.in-Some-number_in.number c.args.entry.now) (g.M.Medium.state c.args.unit.now) (g.M.Medium.state c.note_place.new.unit) k.unit (g.met.M.Medium.coherent c.args.unit.now) (g.met.M.Medium.coherent c.note_place.new.unit) tells c.note_place.ensures.moments (is_err k.result) n.noted n.cause.works e.rings)
+      (place-then (unit_place_bytes c.in-Some-number_in.number c.args.entry.now) (g.M.Medium.state c.args.unit.now) (g.M.Medium.state c.note_place.new.unit) k.unit (g.met.M.Medium.coherent c.args.unit.now) (g.met.M.Medium.coherent c.note_place.new.unit) tells c.note_place.ensures.moments (is_err k.result) n.noted n.cause.works e.shows.rings)
 
   later : AreLater (first g c) last
   later =
       later-then (first g c) (middle g c) last (later-noted g c)
       (subst (λ (m : Devices). AreLater m last) (sym (k.beside_it (g.M.Medium.state c.note_place.new.unit)))
-      (later-by k.which (g.M.Medium.state c.note_place.new.unit) k.unit (k.state k.before) (k.state k.after) k.beside (state-by (g.M.Medium.state c.note_place.new.unit) k.unit _ e.journal.later e.cause) (state-by (k.state k.before) (k.state k.after) e.noted.0 e.clock_card e.noted.3) e.speeds))
+      (later-by k.which (g.M.Medium.state c.note_place.new.unit) k.unit (k.state k.before) (k.state k.after) k.beside (state-by (g.M.Medium.state c.note_place.new.unit) k.unit _ e.writes.journal.later e.behind.cause) (state-by (k.state k.before) (k.state k.after) e.noted.0 e.clock_card e.noted.3) e.writes.speeds))
 
   calm : AreCalm c.args.breaks.now.items k.breaks.items (first g c) last
   calm =
@@ -213,30 +198,30 @@ module _ (g : Over) (c : In_ok-note_place g) (k : OneCard c.in-Some.card (g.C.Ch
   card-events : NotesOnCards false c.args.run.now.keeper.cabin.cards k.new.keeper.cabin.cards (λ card. []) (first g c) last
   card-events =
       subst (λ (m : Devices). NotesOnCards false c.args.run.now.keeper.cabin.cards k.new.keeper.cabin.cards (λ card. []) m last) (sym (k.beside_it (g.M.Medium.state c.args.unit.now)))
-      (notes-by k.which c.args.run.now.keeper.cabin.cards k.new.keeper.cabin.cards (g.M.Medium.state c.args.unit.now) k.unit (k.state k.before) (k.state k.after) k.beside e.card_events (known-noted k.which c.args.slot c.args.at c.args.run.now k.new c.args.breaks.now k.breaks e.noted.0 e.noted.1))
+      (notes-by k.which c.args.run.now.keeper.cabin.cards k.new.keeper.cabin.cards (g.M.Medium.state c.args.unit.now) k.unit (k.state k.before) (k.state k.after) k.beside e.shows.card_events (known-noted k.which c.args.slot c.args.at c.args.run.now k.new c.args.breaks.now k.breaks e.noted.0 e.noted.1))
 
   keeps : AreLeftMore (first g c) last
   keeps =
       keeps-by k.which (first g c) (g.M.Medium.state c.note_place.new.unit) k.unit (k.state k.before) (k.state k.after) k.beside (subst (λ (m : Devices). AreLeftMore (first g c) m) (k.beside_it (g.M.Medium.state c.note_place.new.unit)) (record { unit = c.note_place.ensures.journal.keeps; card_a = λ t x le at. at; card_b = λ t x le at. at }))
-      (subst (λ (m : Devices). AreLater (first g c) m) (k.beside_it (g.M.Medium.state c.note_place.new.unit)) (later-noted g c)) e.journal.keeps
-      (some-left (session_of c.args.run.now.keeper.cabin.cards k.which) (λ a. IsNote a.session.application) (k.state k.before) (k.state k.after) some e.moments)
+      (subst (λ (m : Devices). AreLater (first g c) m) (k.beside_it (g.M.Medium.state c.note_place.new.unit)) (later-noted g c)) e.writes.journal.keeps
+      (some-left (session_of c.args.run.now.keeper.cabin.cards k.which) (λ a. IsNote a.session.application) (k.state k.before) (k.state k.after) some e.known.moments)
 
   shown : CardsPlace c.args.slot c.args.at (is_err k.result) c.args.run.now c.args.breaks.now k.breaks (first g c) last
   shown = place-cards c.args.slot c.args.at (is_err k.result) e.noted.0 c.args.run.now k.new c.args.breaks.now k.breaks (first g c) last c.requires.at e.noted.1.told card-events keeps
 
   ringed : RingsPlace c.args.slot c.args.entry.now c.args.at (is_err k.result) c.args.run.now k.new c.args.breaks.now k.breaks (first g c) last
   ringed =
-      let lit = c.requires.going in
+      let lit = c.requires.acting.going in
       subst (λ (m : Devices). RingsPlace c.args.slot c.args.entry.now c.args.at (is_err k.result) c.args.run.now k.new c.args.breaks.now k.breaks m last) (sym (k.beside_it (g.M.Medium.state c.args.unit.now)))
       (place-goes c.args.slot c.args.entry.now c.args.at (is_err k.result) c.args.run.now k.new c.args.breaks.now k.breaks start last k.which c.in-Some-number_in.number e.noted.0 seat (numbered g c)
-      some (ungiven_of lit.span) lit.cabin c.requires.at c.requires.small e.noted.1
+      some (ungiven_of lit.span) lit.cabin c.requires.at c.requires.acting.small e.noted.1
       (λ tells. subst (λ (x : State). WritesPlace (Some c.in-Some-number_in.number) c.args.entry.now (is_err k.result) start.unit x) (unit-is k.which k.unit (k.state k.after) k.beside)
       (subst (λ (x : State). WritesPlace (Some c.in-Some-number_in.number) c.args.entry.now (is_err k.result) x k.unit) (unit-is k.which (g.M.Medium.state c.args.unit.now) (k.state k.before) k.beside)
       (subst (λ (o : Option FullCardNumber). WritesPlace o c.args.entry.now (is_err k.result) (g.M.Medium.state c.args.unit.now) k.unit) (numbered g c) (writes (subst (λ (x : State). is_some x.image ≡ true) (sym (unit-is k.which (g.M.Medium.state c.args.unit.now) (k.state k.before) k.beside)) tells)))))
       (subst (λ (m : Devices). AreLeftMore m last) (k.beside_it (g.M.Medium.state c.args.unit.now)) keeps)
       (λ a at_. subst (λ (x : State). PlaceCall e.noted.0 (is_err k.result) a.session.application c.args.entry.now (card_of start k.which) x) (card-is k.which k.unit (k.state k.after) k.beside)
       (subst (λ (x : State). PlaceCall e.noted.0 (is_err k.result) a.session.application c.args.entry.now x (k.state k.after)) (card-is k.which (g.M.Medium.state c.args.unit.now) (k.state k.before) k.beside)
-      (call-of e.noted.0 (is_err k.result) k.which c.args.run.now k.new c.args.slot c.args.at c.args.breaks.now k.breaks a c.args.entry.now (k.state k.before) (k.state k.after) e.noted.1 at_ e.on_card e.places)))
+      (call-of e.noted.0 (is_err k.result) k.which c.args.run.now k.new c.args.slot c.args.at c.args.breaks.now k.breaks a c.args.entry.now (k.state k.before) (k.state k.after) e.noted.1 at_ e.shows.on_card e.shows.places)))
       (λ j apart. apart-by k.which (g.M.Medium.state c.args.unit.now) k.unit (k.state k.before) (k.state k.after) k.beside j apart))
 
   on-card : (card : Card) → card_in (seat_in c.args.run.now.keeper.cabin.slots.seats c.args.slot) ≡ Some card → PlaceOn (session_of c.args.run.now.keeper.cabin.cards card) (session_of k.new.keeper.cabin.cards card) (is_err k.result) c.args.entry.now (card_of (first g c) card) (card_of last card)
@@ -246,7 +231,7 @@ module _ (g : Over) (c : In_ok-note_place g) (k : OneCard c.in-Some.card (g.C.Ch
       (subst (λ (m : Devices). PlaceOn (session_of c.args.run.now.keeper.cabin.cards k.which) (session_of k.new.keeper.cabin.cards k.which) (is_err k.result) c.args.entry.now (card_of m k.which) (card_of last k.which)) (sym (k.beside_it (g.M.Medium.state c.args.unit.now)))
       (subst (λ (x : State). PlaceOn (session_of c.args.run.now.keeper.cabin.cards k.which) (session_of k.new.keeper.cabin.cards k.which) (is_err k.result) c.args.entry.now (card_of start k.which) x) (card-is k.which k.unit (k.state k.after) k.beside)
       (subst (λ (x : State). PlaceOn (session_of c.args.run.now.keeper.cabin.cards k.which) (session_of k.new.keeper.cabin.cards k.which) (is_err k.result) c.args.entry.now x (k.state k.after)) (card-is k.which (g.M.Medium.state c.args.unit.now) (k.state k.before) k.beside)
-      (place-any c.args.entry.now (k.state k.before) (k.state k.after) (session_of c.args.run.now.keeper.cabin.cards k.which) (session_of k.new.keeper.cabin.cards k.which) (is_err k.result) e.on_card))))
+      (place-any c.args.entry.now (k.state k.before) (k.state k.after) (session_of c.args.run.now.keeper.cabin.cards k.which) (session_of k.new.keeper.cabin.cards k.which) (is_err k.result) e.shows.on_card))))
 
   -- in a second of a trace, behind the actions before it
   module _ (late : c.args.at.late ≡ false) (ending : Bool) (country region speed : ℕ) (before : Outcome) (is : before.breaks ≡ c.args.breaks.now) (o : Origin) (done : List TraceSecond) (s : TraceSecond) (now : IsNow s speed c.args.run.now) (front rest : List Action)
@@ -257,7 +242,7 @@ module _ (g : Over) (c : In_ok-note_place g) (k : OneCard c.in-Some.card (g.C.Ch
 
     behind-unit : RunGoesOn o done s (In c.args.at.begun) [] c.args.run.now (record before { breaks = c.args.breaks.now }) (middle g c) on-unit.goes.within.b
     behind-unit =
-        let lit = c.requires.going in
+        let lit = c.requires.acting.going in
         unit-recorded o done s c.args.at.begun c.args.run.now (record before { breaks = c.args.breaks.now }) (g.M.Medium.state c.args.unit.now) (g.M.Medium.state c.note_place.new.unit) (g.C.Chip.state c.args.card_a.now) (g.D.Chip.state c.args.card_b.now) (g.met.M.Medium.coherent c.args.unit.now) c.note_place.ensures.journal lit.span lit.stands lit.next on-unit.goes false c.in_ok-note_place.ensures.cause
         (λ fine. place-more (unit_place_bytes c.in-Some-number_in.number c.args.entry.now) (g.M.Medium.state c.args.unit.now) (g.M.Medium.state c.note_place.new.unit) (g.met.M.Medium.coherent c.args.unit.now) c.note_place.ensures.moments)
 
@@ -266,16 +251,16 @@ module _ (g : Over) (c : In_ok-note_place g) (k : OneCard c.in-Some.card (g.C.Ch
 
     recorded : GoesOnOrFails (is_err k.result) o done s (In c.args.at.begun) [] k.new (record before { breaks = k.breaks }) last w.within.b
     recorded =
-        let lit = c.requires.going in
+        let lit = c.requires.acting.going in
         subst (λ (b : Beginning). GoesOnOrFails (is_err k.result) o done s (In c.args.at.begun) [] k.new (record before { breaks = k.breaks }) last b) (behind-unit.began ∙ on-unit.began)
         (subst (λ (m : Devices). IsNoteRecorded (In c.args.at.begun) (is_err k.result) c.args.run.now k.new c.args.breaks.now k.breaks m last) (sym (k.beside_it (g.M.Medium.state c.note_place.new.unit)))
         (noted-some k.which c.args.slot c.args.at c.args.run.now c.args.breaks.now (g.M.Medium.state c.note_place.new.unit) k.unit (k.state k.before) (k.state k.after) k.beside
-        (g.met.M.Medium.coherent c.note_place.new.unit) k.whole k.whole_after k.size some e.value seat c.requires.at late lit.span lit.stands lit.next lit.cabin e.moments e.journal
-        (is_err k.result) e.cause (λ fine. leaves-more (g.M.Medium.state c.note_place.new.unit) k.unit e.rings) k.new k.breaks e.noted.0 e.noted.1 e.noted.2 e.noted.3)
+        (g.met.M.Medium.coherent c.note_place.new.unit) k.whole k.whole_after k.size some e.known.value seat c.requires.at late lit.span lit.stands lit.next lit.cabin e.known.moments e.writes.journal
+        (is_err k.result) e.behind.cause (λ fine. leaves-more (g.M.Medium.state c.note_place.new.unit) k.unit e.shows.rings) k.new k.breaks e.noted.0 e.noted.1 e.noted.2 e.noted.3)
         o done s before behind-unit.goes not-first)
 
     small : s.number < 2 ^ 32
-    small = let low = c.requires.small in let same = now.number in omega (arith, low, same)
+    small = let low = c.requires.acting.small in let same = now.number in omega (arith, low, same)
 
     -- where its second noted what is told so far
     abbrev Goes : Devices → Type 0
@@ -284,8 +269,8 @@ module _ (g : Over) (c : In_ok-note_place g) (k : OneCard c.in-Some.card (g.C.Ch
 
     evented : EventedNow o done s w.within.b.run Acting (log_of before) (first g c) → EventsGoOn (is_err k.result) o done s w.within.b.run (In c.args.at.begun) Acting (log_of (record before { breaks = k.breaks })) last
     evented events_ =
-        let lit = c.requires.going in
-        let f = e.events in
+        let lit = c.requires.acting.going in
+        let f = e.shows.events in
         let begun : ℕ = c.args.at.begun in
         let left = left-over front rest (Place c.args.slot ending country region) s begun n are in
         let yet = subst (λ (l : Listed Break). NotFound (In begun) (other_slot c.args.slot) (log_of (record before { breaks = l })) s.number) is (none-yet o done s (length front) begun (values_of c.args.run.now before) (first g c) w.within n (other_slot c.args.slot)).0 in
@@ -298,8 +283,8 @@ module _ (g : Over) (c : In_ok-note_place g) (k : OneCard c.in-Some.card (g.C.Ch
         let notes : NotesEvents (fall_events e.noted.0 c.args.at.second k.new) (is_err k.result) (middle g c) last = subst (λ (b : Bool). NotesEvents (fall_events b c.args.at.second k.new) (is_err k.result) (middle g c) last) fell (notes-fall f.fell f.notes) in
         let goes : Goes (middle g c) = subst Goes (sym (k.beside_it (g.M.Medium.state c.note_place.new.unit)))
         (λ v notes_ now_. some-evented k.which c.args.slot c.args.at c.args.run.now c.args.breaks.now (g.M.Medium.state c.note_place.new.unit) k.unit (k.state k.before) (k.state k.after) k.beside
-        (g.met.M.Medium.coherent c.note_place.new.unit) k.whole k.whole_after k.size some e.value seat c.requires.at late lit.span lit.stands lit.next lit.cabin e.moments e.journal
-        (is_err k.result) e.cause o done s before v not-first small yet follows rest left e.noted.0 k.new k.breaks e.noted.1 e.noted.2 e.noted.3 notes_ now_) in
+        (g.met.M.Medium.coherent c.note_place.new.unit) k.whole k.whole_after k.size some e.known.value seat c.requires.at late lit.span lit.stands lit.next lit.cabin e.known.moments e.writes.journal
+        (is_err k.result) e.behind.cause o done s before v not-first small yet follows rest left e.noted.0 k.new k.breaks e.noted.1 e.noted.2 e.noted.3 notes_ now_) in
         subst (λ (b : Beginning). EventsGoOn (is_err k.result) o done s b.run (In begun) Acting (log_of (record before { breaks = k.breaks })) last) (behind-unit.began ∙ on-unit.began) (goes behind-unit.goes notes now_second)
 
 module _ (g : Over) (c : After-note_place_in g) where
@@ -308,7 +293,7 @@ module _ (g : Over) (c : After-note_place_in g) where
 
   abbrev side-a : OneCard noted-first-a.in-Some.card (g.C.Chip.state c.args.card_a.now) (g.D.Chip.state c.args.card_b.now)
   side-a =
-      on_a g.C.Chip.state g.C.Chip.card g.met.C.Chip.coherent c.args.card_a.now c.note_place_in.new.card c.requires.held.card_a.size (g.D.Chip.state c.args.card_b.now) (g.M.Medium.state c.note_place_in.new.unit) (g.met.M.Medium.coherent c.note_place_in.new.unit) c.note_place_in.new.run c.note_place_in.new.breaks c.note_place_in.result
+      on_a g.C.Chip.state g.C.Chip.card g.met.C.Chip.coherent c.args.card_a.now c.note_place_in.new.card c.requires.acting.held.card_a.size (g.D.Chip.state c.args.card_b.now) (g.M.Medium.state c.note_place_in.new.unit) (g.met.M.Medium.coherent c.note_place_in.new.unit) c.note_place_in.new.run c.note_place_in.new.breaks c.note_place_in.result
       noted-first-a.in-Some.card c.in-A.is
 
 module _ (g : Over) (c : After-note_place_in-in-B g) where
@@ -317,7 +302,7 @@ module _ (g : Over) (c : After-note_place_in-in-B g) where
 
   abbrev side-b : OneCard noted-first-b.in-Some.card (g.C.Chip.state c.args.card_a.now) (g.D.Chip.state c.args.card_b.now)
   side-b =
-      on_b g.D.Chip.state g.D.Chip.card g.met.D.Chip.coherent c.args.card_b.now c.note_place_in-in-B.new.card c.requires.held.card_b.size (g.C.Chip.state c.args.card_a.now) (g.M.Medium.state c.note_place_in-in-B.new.unit) (g.met.M.Medium.coherent c.note_place_in-in-B.new.unit) c.note_place_in-in-B.new.run c.note_place_in-in-B.new.breaks c.note_place_in-in-B.result
+      on_b g.D.Chip.state g.D.Chip.card g.met.D.Chip.coherent c.args.card_b.now c.note_place_in-in-B.new.card c.requires.acting.held.card_b.size (g.C.Chip.state c.args.card_a.now) (g.M.Medium.state c.note_place_in-in-B.new.unit) (g.met.M.Medium.coherent c.note_place_in-in-B.new.unit) c.note_place_in-in-B.new.run c.note_place_in-in-B.new.breaks c.note_place_in-in-B.result
       noted-first-b.in-Some.card c.in-B.is
 
 -- ---- nobody is there to enter it for
@@ -372,21 +357,21 @@ returns-in_default-clause-promises g c = record {
   ringed =
       λ ending country region now late speed before is o done s here front rest are n allowed w spans t rings time.
       let cabin = c.args.run.now.keeper.cabin in
-      let lit = c.requires.going in
+      let lit = c.requires.acting.going in
       no-entering cabin.cards (seat_in cabin.slots.seats c.args.slot) (who-enters (ungiven_of lit.span) cabin lit.cabin c.args.slot speed ending country region allowed)
       (no-number cabin.cards (seat_in cabin.slots.seats c.args.slot) c.card.result c.card.ensures c.in_default.not-Some);
   cards =
       λ late ending country region speed before is o done s here front rest are n allowed vehicle w cards time.
       let cabin = c.args.run.now.keeper.cabin in
-      let lit = c.requires.going in
+      let lit = c.requires.acting.going in
       no-entering cabin.cards (seat_in cabin.slots.seats c.args.slot) (who-enters (ungiven_of lit.span) cabin lit.cabin c.args.slot speed ending country region allowed)
       (no-number cabin.cards (seat_in cabin.slots.seats c.args.slot) c.card.result c.card.ensures c.in_default.not-Some);
 }
 
 pub returns-in_default-clause-held : goal.returns-in_default-clause-held
 returns-in_default-clause-held g c = record {
-  held = c.requires.held;
-  cause = (no_reads (g.M.Medium.state c.args.unit.now) c.requires.going.ready.unit_ready.works).cause;
+  held = c.requires.acting.held;
+  cause = (no_reads (g.M.Medium.state c.args.unit.now) c.requires.acting.going.ready.unit_ready.works).cause;
 }
 
 pub returns-in_default-clause-goes : goal.returns-in_default-clause-goes
@@ -415,7 +400,7 @@ returns-in_default-number_in-clause-leaves g c = record {
       let d = devices (g.M.Medium.state c.args.unit.now) (g.C.Chip.state c.args.card_a.now) (g.D.Chip.state c.args.card_b.now) in
       let unnamed : number_of_seat cards (seat_in run.keeper.cabin.slots.seats c.args.slot) ≡ None = sym c.number_in.ensures ∙ none-there c.number_in.result c.in_default-number_in.not-Some in
       place-bare c.args.entry.now (card_of d card) (card_of d card) (session_of cards card) (session_of cards card) false
-      (seat-bare cards (seat_in run.keeper.cabin.slots.seats c.args.slot) card c.requires.going.ready.card_a.is_known c.requires.going.ready.card_b.is_known unnamed there);
+      (seat-bare cards (seat_in run.keeper.cabin.slots.seats c.args.slot) card c.requires.acting.going.ready.card_a.is_known c.requires.acting.going.ready.card_b.is_known unnamed there);
   events =
       let run = c.args.run.now in
       let U = g.M.Medium.state c.args.unit.now in
@@ -442,21 +427,21 @@ returns-in_default-number_in-clause-promises g c = record {
   ringed =
       λ ending country region now late speed before is o done s here front rest are n allowed w spans t rings time.
       let cabin = c.args.run.now.keeper.cabin in
-      let lit = c.requires.going in
+      let lit = c.requires.acting.going in
       no-entering cabin.cards (seat_in cabin.slots.seats c.args.slot) (who-enters (ungiven_of lit.span) cabin lit.cabin c.args.slot speed ending country region allowed)
       (sym c.number_in.ensures ∙ none-there c.number_in.result c.in_default-number_in.not-Some);
   cards =
       λ late ending country region speed before is o done s here front rest are n allowed vehicle w cards time.
       let cabin = c.args.run.now.keeper.cabin in
-      let lit = c.requires.going in
+      let lit = c.requires.acting.going in
       no-entering cabin.cards (seat_in cabin.slots.seats c.args.slot) (who-enters (ungiven_of lit.span) cabin lit.cabin c.args.slot speed ending country region allowed)
       (sym c.number_in.ensures ∙ none-there c.number_in.result c.in_default-number_in.not-Some);
 }
 
 pub returns-in_default-number_in-clause-held : goal.returns-in_default-number_in-clause-held
 returns-in_default-number_in-clause-held g c = record {
-  held = c.requires.held;
-  cause = (no_reads (g.M.Medium.state c.args.unit.now) c.requires.going.ready.unit_ready.works).cause;
+  held = c.requires.acting.held;
+  cause = (no_reads (g.M.Medium.state c.args.unit.now) c.requires.acting.going.ready.unit_ready.works).cause;
 }
 
 pub returns-in_default-number_in-clause-goes : goal.returns-in_default-number_in-clause-goes
@@ -519,7 +504,7 @@ returns-in_err-note_place-clause-promises g c = record {
   recorded =
       λ late ending country region speed before is o done s now front rest are n allowed w time.
       let run = c.args.run.now in
-      let lit = c.requires.going in
+      let lit = c.requires.acting.going in
       let U = g.M.Medium.state c.args.unit.now in
       let V = g.M.Medium.state c.note_place.new.unit in
       let A0 = g.C.Chip.state c.args.card_a.now in
@@ -532,7 +517,7 @@ returns-in_err-note_place-clause-promises g c = record {
   evented =
       λ late ending country region speed before is o done s now front rest are n allowed w events time.
       let run = c.args.run.now in
-      let lit = c.requires.going in
+      let lit = c.requires.acting.going in
       let U = g.M.Medium.state c.args.unit.now in
       let V = g.M.Medium.state c.note_place.new.unit in
       let A0 = g.C.Chip.state c.args.card_a.now in
@@ -550,7 +535,7 @@ returns-in_err-note_place-clause-promises g c = record {
       (unit-evented o done s begun run out U V A0 B0 (g.met.M.Medium.coherent c.args.unit.now) c.note_place.ensures.journal lit.span lit.stands lit.next w1.goes rest left true c.in_err-note_place.ensures.cause (quiet-any U V A0 B0 A0 B0 true ring) first));
   ringed =
       let run = c.args.run.now in
-      let lit = c.requires.going in
+      let lit = c.requires.acting.going in
       let number = c.in-Some-number_in.number in
       let card : Card = c.in-Some.card in
       let breaks : Listed Break = c.args.breaks.now in
@@ -563,7 +548,7 @@ returns-in_err-note_place-clause-promises g c = record {
       let failed : true ≡ is_err c.from_residual.result = search rules in
       let none : breaks ≡ with_lines [] breaks = ap (λ (bs : List Break). record breaks { items = bs }) (sym (append-nil breaks.items)) in
       place-goes c.args.slot c.args.entry.now c.args.at (is_err c.from_residual.result) run run breaks breaks (devices U A0 B0) (devices V A0 B0) card number false there told
-      (numbered-session run.keeper.cabin.cards (seat_in run.keeper.cabin.slots.seats c.args.slot) card number there told) (ungiven_of lit.span) lit.cabin c.requires.at c.requires.small (record { run = refl; told = none })
+      (numbered-session run.keeper.cabin.cards (seat_in run.keeper.cabin.slots.seats c.args.slot) card number there told) (ungiven_of lit.span) lit.cabin c.requires.at c.requires.acting.small (record { run = refl; told = none })
       (λ tells. subst (λ (o : Option FullCardNumber). WritesPlace o c.args.entry.now (is_err c.from_residual.result) U V) told ((returns-in_err-note_place-clause-leaves g c).rings tells))
       (record { unit = c.note_place.ensures.journal.keeps; card_a = λ t x le at. at; card_b = λ t x le at. at })
       (λ a at_. both-cards (λ k. PlaceCall false (is_err c.from_residual.result) a.session.application c.args.entry.now (card_of (devices U A0 B0) k) (card_of (devices V A0 B0) k))
@@ -584,7 +569,7 @@ returns-in_err-note_place-clause-promises g c = record {
 
 pub returns-in_err-note_place-clause-held : goal.returns-in_err-note_place-clause-held
 returns-in_err-note_place-clause-held g c = record {
-  held = record { is_unit = unit-stays c.note_place.ensures.journal c.requires.held.is_unit; odometer = c.requires.held.odometer; minute = c.requires.held.minute; card_a = c.requires.held.card_a; card_b = c.requires.held.card_b; stand = c.requires.held.stand };
+  held = record { is_unit = unit-stays c.note_place.ensures.journal c.requires.acting.held.is_unit; odometer = c.requires.acting.held.odometer; minute = c.requires.acting.held.minute; card_a = c.requires.acting.held.card_a; card_b = c.requires.acting.held.card_b; stand = c.requires.acting.held.stand };
   cause =
       let failed : true ≡ is_err c.from_residual.result = search rules in
       subst (λ (f : Bool). HasCause (g.M.Medium.state c.args.unit.now) (g.M.Medium.state c.note_place.new.unit) f) failed c.in_err-note_place.ensures.cause;
@@ -604,8 +589,8 @@ returns-in_err-note_place-clause-goes g c = record {
 pub returns-in-A-clause-going : goal.returns-in-A-clause-going
 returns-in-A-clause-going g c =
     let e = c.note_place_in.ensures in
-    on_ok c.note_place_in.result (λ well. going-noted A c.args.slot c.args.at c.args.run.now c.note_place_in.new.run c.args.breaks.now c.note_place_in.new.breaks c.note_place_in.ensures.noted.0 c.note_place_in.ensures.noted.1 (g.M.Medium.state c.args.unit.now) (g.M.Medium.state c.note_place_in.new.unit) (g.C.Chip.state c.args.card_a.now) (g.C.Chip.state c.note_place_in.new.card) (g.D.Chip.state c.args.card_b.now) (g.C.Chip.card c.args.card_a.now) (g.C.Chip.card c.note_place_in.new.card) (g.D.Chip.card c.args.card_b.now) c.requires.going (ok_gives c.note_place_in.result e.ready well) e.card (rows-then g (noted-first-a g c) (side-a g c) c.note_place_in.ensures well) e.stands
-    (knows-left c.args.run.now.watch.newest (g.M.Medium.state c.args.unit.now) (g.M.Medium.state c.note_place_in.new.unit) (g.met.M.Medium.coherent c.args.unit.now) (g.met.M.Medium.coherent c.note_place_in.new.unit) c.requires.going.ready.unit_ready.works (later g (noted-first-a g c) (side-a g c) c.note_place_in.ensures).speeds))
+    on_ok c.note_place_in.result (λ well. going-noted A c.args.slot c.args.at c.args.run.now c.note_place_in.new.run c.args.breaks.now c.note_place_in.new.breaks c.note_place_in.ensures.noted.0 c.note_place_in.ensures.noted.1 (g.M.Medium.state c.args.unit.now) (g.M.Medium.state c.note_place_in.new.unit) (g.C.Chip.state c.args.card_a.now) (g.C.Chip.state c.note_place_in.new.card) (g.D.Chip.state c.args.card_b.now) (g.C.Chip.card c.args.card_a.now) (g.C.Chip.card c.note_place_in.new.card) (g.D.Chip.card c.args.card_b.now) c.requires.acting.going (ok_gives c.note_place_in.result e.behind.ready well) e.behind.card (rows-then g (noted-first-a g c) (side-a g c) c.note_place_in.ensures well) e.stands
+    (knows-left c.args.run.now.watch.newest (g.M.Medium.state c.args.unit.now) (g.M.Medium.state c.note_place_in.new.unit) (g.met.M.Medium.coherent c.args.unit.now) (g.met.M.Medium.coherent c.note_place_in.new.unit) c.requires.acting.going.ready.unit_ready.works (later g (noted-first-a g c) (side-a g c) c.note_place_in.ensures).speeds))
 
 pub returns-in-A-clause-placed : goal.returns-in-A-clause-placed
 returns-in-A-clause-placed g c = record {
@@ -634,8 +619,8 @@ pub returns-in-A-clause-held : goal.returns-in-A-clause-held
 returns-in-A-clause-held g c = record {
   held =
       let e = c.note_place_in.ensures in
-      held-noted A c.args.slot c.args.at c.args.run.now c.note_place_in.new.run c.args.breaks.now c.note_place_in.new.breaks c.note_place_in.ensures.noted.0 c.note_place_in.ensures.noted.1 (g.M.Medium.state c.args.unit.now) (g.M.Medium.state c.note_place_in.new.unit) (g.C.Chip.state c.args.card_a.now) (g.C.Chip.state c.note_place_in.new.card) (g.D.Chip.state c.args.card_b.now) (g.C.Chip.card c.args.card_a.now) (g.C.Chip.card c.note_place_in.new.card) (g.D.Chip.card c.args.card_b.now) c.requires.at c.requires.held e.unit e.card e.size e.stands;
-  cause = cause_after c.in_ok-note_place.ensures.cause c.note_place_in.ensures.cause;
+      held-noted A c.args.slot c.args.at c.args.run.now c.note_place_in.new.run c.args.breaks.now c.note_place_in.new.breaks c.note_place_in.ensures.noted.0 c.note_place_in.ensures.noted.1 (g.M.Medium.state c.args.unit.now) (g.M.Medium.state c.note_place_in.new.unit) (g.C.Chip.state c.args.card_a.now) (g.C.Chip.state c.note_place_in.new.card) (g.D.Chip.state c.args.card_b.now) (g.C.Chip.card c.args.card_a.now) (g.C.Chip.card c.note_place_in.new.card) (g.D.Chip.card c.args.card_b.now) c.requires.at c.requires.acting.held e.behind.unit e.behind.card e.behind.size e.stands;
+  cause = cause_after c.in_ok-note_place.ensures.cause c.note_place_in.ensures.behind.cause;
 }
 
 pub returns-in-A-clause-goes : goal.returns-in-A-clause-goes
@@ -648,8 +633,8 @@ returns-in-A-clause-goes g c = record {
 pub returns-in-B-clause-going : goal.returns-in-B-clause-going
 returns-in-B-clause-going g c =
     let e = c.note_place_in-in-B.ensures in
-    on_ok c.note_place_in-in-B.result (λ well. going-noted B c.args.slot c.args.at c.args.run.now c.note_place_in-in-B.new.run c.args.breaks.now c.note_place_in-in-B.new.breaks c.note_place_in-in-B.ensures.noted.0 c.note_place_in-in-B.ensures.noted.1 (g.M.Medium.state c.args.unit.now) (g.M.Medium.state c.note_place_in-in-B.new.unit) (g.D.Chip.state c.args.card_b.now) (g.D.Chip.state c.note_place_in-in-B.new.card) (g.C.Chip.state c.args.card_a.now) (g.D.Chip.card c.args.card_b.now) (g.D.Chip.card c.note_place_in-in-B.new.card) (g.C.Chip.card c.args.card_a.now) c.requires.going (ok_gives c.note_place_in-in-B.result e.ready well) e.card (rows-then g (noted-first-b g c) (side-b g c) c.note_place_in-in-B.ensures well) e.stands
-    (knows-left c.args.run.now.watch.newest (g.M.Medium.state c.args.unit.now) (g.M.Medium.state c.note_place_in-in-B.new.unit) (g.met.M.Medium.coherent c.args.unit.now) (g.met.M.Medium.coherent c.note_place_in-in-B.new.unit) c.requires.going.ready.unit_ready.works (later g (noted-first-b g c) (side-b g c) c.note_place_in-in-B.ensures).speeds))
+    on_ok c.note_place_in-in-B.result (λ well. going-noted B c.args.slot c.args.at c.args.run.now c.note_place_in-in-B.new.run c.args.breaks.now c.note_place_in-in-B.new.breaks c.note_place_in-in-B.ensures.noted.0 c.note_place_in-in-B.ensures.noted.1 (g.M.Medium.state c.args.unit.now) (g.M.Medium.state c.note_place_in-in-B.new.unit) (g.D.Chip.state c.args.card_b.now) (g.D.Chip.state c.note_place_in-in-B.new.card) (g.C.Chip.state c.args.card_a.now) (g.D.Chip.card c.args.card_b.now) (g.D.Chip.card c.note_place_in-in-B.new.card) (g.C.Chip.card c.args.card_a.now) c.requires.acting.going (ok_gives c.note_place_in-in-B.result e.behind.ready well) e.behind.card (rows-then g (noted-first-b g c) (side-b g c) c.note_place_in-in-B.ensures well) e.stands
+    (knows-left c.args.run.now.watch.newest (g.M.Medium.state c.args.unit.now) (g.M.Medium.state c.note_place_in-in-B.new.unit) (g.met.M.Medium.coherent c.args.unit.now) (g.met.M.Medium.coherent c.note_place_in-in-B.new.unit) c.requires.acting.going.ready.unit_ready.works (later g (noted-first-b g c) (side-b g c) c.note_place_in-in-B.ensures).speeds))
 
 pub returns-in-B-clause-placed : goal.returns-in-B-clause-placed
 returns-in-B-clause-placed g c = record {
@@ -678,8 +663,8 @@ pub returns-in-B-clause-held : goal.returns-in-B-clause-held
 returns-in-B-clause-held g c = record {
   held =
       let e = c.note_place_in-in-B.ensures in
-      held-noted B c.args.slot c.args.at c.args.run.now c.note_place_in-in-B.new.run c.args.breaks.now c.note_place_in-in-B.new.breaks c.note_place_in-in-B.ensures.noted.0 c.note_place_in-in-B.ensures.noted.1 (g.M.Medium.state c.args.unit.now) (g.M.Medium.state c.note_place_in-in-B.new.unit) (g.D.Chip.state c.args.card_b.now) (g.D.Chip.state c.note_place_in-in-B.new.card) (g.C.Chip.state c.args.card_a.now) (g.D.Chip.card c.args.card_b.now) (g.D.Chip.card c.note_place_in-in-B.new.card) (g.C.Chip.card c.args.card_a.now) c.requires.at c.requires.held e.unit e.card e.size e.stands;
-  cause = cause_after c.in_ok-note_place.ensures.cause c.note_place_in-in-B.ensures.cause;
+      held-noted B c.args.slot c.args.at c.args.run.now c.note_place_in-in-B.new.run c.args.breaks.now c.note_place_in-in-B.new.breaks c.note_place_in-in-B.ensures.noted.0 c.note_place_in-in-B.ensures.noted.1 (g.M.Medium.state c.args.unit.now) (g.M.Medium.state c.note_place_in-in-B.new.unit) (g.D.Chip.state c.args.card_b.now) (g.D.Chip.state c.note_place_in-in-B.new.card) (g.C.Chip.state c.args.card_a.now) (g.D.Chip.card c.args.card_b.now) (g.D.Chip.card c.note_place_in-in-B.new.card) (g.C.Chip.card c.args.card_a.now) c.requires.at c.requires.acting.held e.behind.unit e.behind.card e.behind.size e.stands;
+  cause = cause_after c.in_ok-note_place.ensures.cause c.note_place_in-in-B.ensures.behind.cause;
 }
 
 pub returns-in-B-clause-goes : goal.returns-in-B-clause-goes

@@ -1,4 +1,5 @@
-use Rattle.std.proofs.Common.{◌≡◌, ◌∙◌, ◌+◌, ◌≤◌, true, false, Option, Some, None, Ok, refl, ap, sym, subst, arith}
+use Rattle.std.proofs.lemmas.Grind.{common_steps}
+use Rattle.std.proofs.Common.{rules, ◌≡◌, ◌∙◌, ◌+◌, ◌≤◌, true, false, Option, Some, None, Ok, refl, ap, sym, subst, arith}
 use Rattle.std.specs.Prelude.{not, is_err, IfSome}
 use Rattle.card_layout.specs.declared.files.Application.{Application}
 use Rattle.card_commands.specs.Ports.{IsPort}
@@ -45,38 +46,6 @@ use Rattle.run_events.proofs.NoteSpeeds.{event-leaves-speeds}
 use Rattle.run_acts.proofs.withdrawing.close.Given.{Over}
 use Rattle.run_acts.proofs.withdrawing.close.Goals.{In_default, In_default-sizes, After-note_withdrawal, After-tear}
 use Rattle.run_acts.proofs.withdrawing.close.Goals as goal
-
-pub returns-in-Ok-leave-clause-ready : goal.returns-in-Ok-leave-clause-ready
-returns-in-Ok-leave-clause-ready g c =
-    on_ok c.note_withdrawal.result (λ well.
-    let k : Keeper = record c.args.run.now.keeper { cabin = c.close.new.self } in
-    let r = c.requires.ready in
-    noted-ready (g.met.M.Medium.coherent c.args.unit.now) (g.met.M.Medium.coherent c.note_withdrawal.new.unit) c.note_withdrawal.ensures.journal k (record { is_unit = r.is_unit; works = r.works; agrees = r.agrees })
-    (c.note_withdrawal.ensures.cause.works ∙ ap not well))
-
-pub returns-in-Ok-leave-clause-rows : goal.returns-in-Ok-leave-clause-rows
-returns-in-Ok-leave-clause-rows g c = λ card h.
-    on_ok c.note_withdrawal.result (λ well.
-    let cards = c.args.run.now.keeper.cabin.cards in
-    noted-row (g.met.M.Medium.coherent c.args.unit.now) (g.met.M.Medium.coherent c.note_withdrawal.new.unit) c.note_withdrawal.ensures.journal c.args.run.now.keeper c.requires.ready c.close.new.self.cards card
-    (has-row cards c.close.new.self.cards (g.M.Medium.state c.args.unit.now) (g.M.Medium.state c.args.unit.now) card
-    (ap (λ (b : Cabin). (known_of b.cards card).number) c.close.ensures.kept ∙ number-set c.args.which card None cards)
-    (ap (λ (b : Cabin). (known_of b.cards card).row) c.close.ensures.kept ∙ row-set c.args.which card None cards) (λ r n at. at) h))
-
-pub returns-in_default-clause-rows : goal.returns-in_default-clause-rows
-returns-in_default-clause-rows g c = λ card h.
-    let U = g.M.Medium.state c.args.unit.now in
-    subst (λ (b : Cabin). HasItsRow b.cards U card) (sym c.close.ensures.kept) (row-beside c.args.which None c.args.run.now.keeper.cabin.cards U card h)
-
-pub returns-in_default-sizes-clause-rows : goal.returns-in_default-sizes-clause-rows
-returns-in_default-sizes-clause-rows g c = λ card h.
-    let U = g.M.Medium.state c.args.unit.now in
-    subst (λ (b : Cabin). HasItsRow b.cards U card) (sym c.close.ensures.kept) (row-beside c.args.which None c.args.run.now.keeper.cabin.cards U card h)
-
-pub returns-in-Err-clause-rows : goal.returns-in-Err-clause-rows
-returns-in-Err-clause-rows g c = λ card h.
-    let U = g.M.Medium.state c.args.unit.now in
-    c.tear.ensures.rows card (subst (λ (b : Cabin). HasItsRow b.cards U card) (sym c.close.ensures.kept) (row-beside c.args.which None c.args.run.now.keeper.cabin.cards U card h))
 
 -- ---- how its session was closed
 
@@ -165,188 +134,240 @@ returns-in-Err-clause-closed g c =
 pub returns-in-Err-clause-stands : goal.returns-in-Err-clause-stands
 returns-in-Err-clause-stands g c = λ from h. c.tear.ensures.stands from None (c.close.ensures.stands from h)
 
-pub returns-in-Err-clause-card : goal.returns-in-Err-clause-card
-returns-in-Err-clause-card g c =
-    let cards = c.args.run.now.keeper.cabin.cards in
-    let which = c.args.which in
-    let chip = g.C.Chip.card c.leave.new.card in
-    let X = g.C.Chip.state c.leave.new.card in
-    let told : (known_of cards which).sizes ≡ Ok c.in-Ok.app = cc in
-    let after : c.tear.new.self.cabin.cards ≡ with_session which None (with_session which None cards) =
-    ap (λ (k : Keeper). k.cabin.cards) c.tear.ensures.keeper ∙ ap (λ (b : Cabin). with_session which None b.cards) c.close.ensures.kept in
-    subst (λ (q : Cards). CardMayBeCalled (known_of q which) chip X) (sym after)
-    (twice-ready which cards (λ app is. let same : c.in-Ok.app ≡ app = cc in subst (λ (a : Application). IsPort a None chip X) same c.leave.ensures.port))
-
--- ---- what the call on the card leaves of it
-
-pub returns-in-Ok-leave-clause-left : goal.returns-in-Ok-leave-clause-left
-returns-in-Ok-leave-clause-left g c =
-    subst (λ (o : Option Accepted). IfSome o (λ s. (act : Activity) × LeavesOnly (g.C.Chip.state c.args.card.now) (g.C.Chip.state c.leave.new.card) (λ x n. IsSession s.session x → IsCardClosing s.session act x n))) c.in-Some.ensures.session
-    (activity_of c.selected-selected.result, c.leave.ensures.moments)
-
-pub returns-in-Err-clause-left : goal.returns-in-Err-clause-left
-returns-in-Err-clause-left g c =
-    subst (λ (o : Option Accepted). IfSome o (λ s. (act : Activity) × LeavesOnly (g.C.Chip.state c.args.card.now) (g.C.Chip.state c.leave.new.card) (λ x n. IsSession s.session x → IsCardClosing s.session act x n))) c.in-Some.ensures.session
-    (activity_of c.selected-selected.result, c.leave.ensures.moments)
-
--- ---- what is noted on the unit
-
-pub returns-in_default-clause-events : goal.returns-in_default-clause-events
-returns-in_default-clause-events g c =
-    let U = g.M.Medium.state c.args.unit.now in
-    let X = g.C.Chip.state c.args.card.now in
-    record {
-      closing = Bare;
-      closed = closed-bare g c;
-      notes = same-noted U X X;
-    }
-
-pub returns-in_default-sizes-clause-events : goal.returns-in_default-sizes-clause-events
-returns-in_default-sizes-clause-events g c = absurd (unsized g c)
-
-pub returns-in-Ok-leave-clause-events : goal.returns-in-Ok-leave-clause-events
-returns-in-Ok-leave-clause-events g c =
-    let U = g.M.Medium.state c.args.unit.now in
-    let V = g.M.Medium.state c.note_withdrawal.new.unit in
-    let X = g.C.Chip.state c.args.card.now in
-    let Y = g.C.Chip.state c.leave.new.card in
-    record {
-      closing = Closed;
-      closed = closed-well g c;
-      notes = quiet-any U V X X Y Y (is_err c.note_withdrawal.result) c.note_withdrawal.ensures.quiet;
-    }
-
-pub returns-in-Err-clause-events : goal.returns-in-Err-clause-events
-returns-in-Err-clause-events g c =
-    let U = g.M.Medium.state c.args.unit.now in
-    let V = g.M.Medium.state c.tear.new.unit in
-    let X = g.C.Chip.state c.args.card.now in
-    let Y = g.C.Chip.state c.leave.new.card in
-    let crew = crew_of c.tear.new.self.cabin in
-    record {
-      closing = Fell;
-      closed = closed-fell g c;
-      notes = one-noted U V X X Y Y (g.met.M.Medium.coherent c.args.unit.now) (g.met.M.Medium.coherent c.tear.new.unit) c.requires.ready.is_unit (entry_of CARD_FAULT c.args.at.second c.args.at.second crew crew) (is_err c.tear.result)
-          (λ well. ok_gives c.tear.result c.tear.ensures.noted well) c.tear.ensures.moments c.tear.ensures.cause.works;
-    }
-
--- ---- the detailed speed
-
-pub returns-in_default-clause-speeds : goal.returns-in_default-clause-speeds
-returns-in_default-clause-speeds g c = leaves-none (g.M.Medium.state c.args.unit.now)
-
-pub returns-in_default-sizes-clause-speeds : goal.returns-in_default-sizes-clause-speeds
-returns-in_default-sizes-clause-speeds g c = leaves-none (g.M.Medium.state c.args.unit.now)
-
-pub returns-in-Ok-leave-clause-speeds : goal.returns-in-Ok-leave-clause-speeds
-returns-in-Ok-leave-clause-speeds g c = c.note_withdrawal.ensures.speeds
-
-pub returns-in-Err-clause-speeds : goal.returns-in-Err-clause-speeds
-returns-in-Err-clause-speeds g c =
-    event-leaves-speeds CARD_FAULT (fault_of c.args.at.second (crew_of c.tear.new.self.cabin)) (g.M.Medium.state c.args.unit.now) (g.M.Medium.state c.tear.new.unit) (g.met.M.Medium.coherent c.args.unit.now) c.tear.ensures.moments
-
 -- ---- the rings
 
-pub returns-in_default-clause-rings : goal.returns-in_default-clause-rings
-returns-in_default-clause-rings g c = λ tells.
-    record {
-      closing = Bare;
-      closed = closed-bare g c;
-      rings = rings-left (g.M.Medium.state c.args.unit.now);
-    }
-
 -- a card with a session has told its sizes
-pub returns-in_default-sizes-clause-rings : goal.returns-in_default-sizes-clause-rings
-returns-in_default-sizes-clause-rings g c = λ tells. absurd (unsized g c)
-
-pub returns-in-Ok-leave-clause-rings : goal.returns-in-Ok-leave-clause-rings
-returns-in-Ok-leave-clause-rings g c = λ tells.
-    let run = c.args.run.now in
-    let which = c.args.which in
-    let U = g.M.Medium.state c.args.unit.now in
-    let V = g.M.Medium.state c.note_withdrawal.new.unit in
-    let some : session_of run.keeper.cabin.cards which ≡ Some c.in-Some.accepted = sym c.in-Some.ensures.session in
-    record {
-      closing = Closed;
-      closed = closed-well g c;
-      rings = subst (λ (o : Option Accepted). ClosesRings Closed o c.args.at (is_err c.note_withdrawal.result) run U V) (sym some) (c.note_withdrawal.ensures.rings tells);
-    }
-
-pub returns-in-Err-clause-rings : goal.returns-in-Err-clause-rings
-returns-in-Err-clause-rings g c = λ tells.
-    record {
-      closing = Fell;
-      closed = closed-fell g c;
-      rings = rings-moments (g.M.Medium.state c.args.unit.now) (g.M.Medium.state c.tear.new.unit) (IsNotingEvent CARD_FAULT (fault_of c.args.at.second (crew_of c.tear.new.self.cabin))) (g.met.M.Medium.coherent c.args.unit.now) c.tear.ensures.moments
-          (λ x n moment. table-outside CARD_FAULT x n moment.outside);
-    }
-
--- ---- what holds of the devices after any calls
-
-pub returns-in_default-clause-later : goal.returns-in_default-clause-later
-returns-in_default-clause-later g c = state-same (g.C.Chip.state c.args.card.now)
-
-pub returns-in_default-sizes-clause-later : goal.returns-in_default-sizes-clause-later
-returns-in_default-sizes-clause-later g c = state-same (g.C.Chip.state c.args.card.now)
-
-pub returns-in-Ok-leave-clause-later : goal.returns-in-Ok-leave-clause-later
-returns-in-Ok-leave-clause-later g c = state-by (g.C.Chip.state c.args.card.now) (g.C.Chip.state c.leave.new.card) (is_err c.leave.result) c.leave.ensures.moments.later c.leave.ensures.cause
-
-pub returns-in-Err-clause-later : goal.returns-in-Err-clause-later
-returns-in-Err-clause-later g c = state-by (g.C.Chip.state c.args.card.now) (g.C.Chip.state c.leave.new.card) (is_err c.leave.result) c.leave.ensures.moments.later c.leave.ensures.cause
-
--- ---- the card is closed
-
-pub returns-in_default-clause-shut : goal.returns-in_default-clause-shut
-returns-in_default-clause-shut g c =
-    record {
-      closing = Bare;
-      closed = closed-bare g c;
-      act = activity_of c.selected-selected.result;
-      selected = c.selected-selected.ensures;
-      closes = tt;
-    }
-
-pub returns-in_default-sizes-clause-shut : goal.returns-in_default-sizes-clause-shut
-returns-in_default-sizes-clause-shut g c = absurd (unsized g c)
-
-pub returns-in-Ok-leave-clause-shut : goal.returns-in-Ok-leave-clause-shut
-returns-in-Ok-leave-clause-shut g c =
-    let run = c.args.run.now in
-    let X = g.C.Chip.state c.args.card.now in
-    let Y = g.C.Chip.state c.leave.new.card in
-    let some : session_of run.keeper.cabin.cards c.args.which ≡ Some c.in-Some.accepted = sym c.in-Some.ensures.session in
-    let works : X.works ≡ true = subst (λ (o : Option Accepted). IfSome o (λ a. X.works ≡ true)) (sym (session-known run.keeper.cabin.cards c.args.which) ∙ some) c.requires.card.works in
-    let act : Activity = activity_of c.selected-selected.result in
-    record {
-      closing = Closed;
-      closed = closed-well g c;
-      act = act;
-      selected = c.selected-selected.ensures;
-      closes = subst (λ (o : Option Accepted). ClosesCard Closed o act X Y) (sym some)
-          (closes-well c.in-Some.accepted act X Y (λ x n. IsSession c.in-Some.accepted.session x → IsCardClosing c.in-Some.accepted.session act x n) (g.met.C.Chip.coherent c.args.card.now) (g.met.C.Chip.coherent c.leave.new.card) works c.in-Ok-leave.ensures.cause.works c.leave.ensures.moments c.in-Ok-leave.ensures.closed);
-    }
-
-pub returns-in-Err-clause-shut : goal.returns-in-Err-clause-shut
-returns-in-Err-clause-shut g c =
-    record {
-      closing = Fell;
-      closed = closed-fell g c;
-      act = activity_of c.selected-selected.result;
-      selected = c.selected-selected.ensures;
-      closes = tt;
-    }
-
 -- ---- where no tear of a failed call is told no card has broken down
 
-pub returns-in_default-clause-calm : goal.returns-in_default-clause-calm
-returns-in_default-clause-calm g c = card-beside (g.C.Chip.state c.args.card.now) (omega arith)
+pub returns-in_default-clause-shows : goal.returns-in_default-clause-shows
+returns-in_default-clause-shows g c = record {
+  events =
+      let U = g.M.Medium.state c.args.unit.now in
+      let X = g.C.Chip.state c.args.card.now in
+      record {
+        closing = Bare;
+        closed = closed-bare g c;
+        notes = same-noted U X X;
+      };
+  rings =
+      λ tells.
+      record {
+        closing = Bare;
+        closed = closed-bare g c;
+        rings = rings-left (g.M.Medium.state c.args.unit.now);
+      };
+  left = first_of (search rules, grind (arith, common_steps));
+  shut =
+      record {
+        closing = Bare;
+        closed = closed-bare g c;
+        act = activity_of c.selected-selected.result;
+        selected = c.selected-selected.ensures;
+        closes = tt;
+      };
+}
 
-pub returns-in_default-sizes-clause-calm : goal.returns-in_default-sizes-clause-calm
-returns-in_default-sizes-clause-calm g c = card-beside (g.C.Chip.state c.args.card.now) (omega arith)
+pub returns-in_default-clause-writes : goal.returns-in_default-clause-writes
+returns-in_default-clause-writes g c = record {
+  speeds = leaves-none (g.M.Medium.state c.args.unit.now);
+  journal = first_of (search rules, grind (arith, common_steps));
+}
 
-pub returns-in-Ok-leave-clause-calm : goal.returns-in-Ok-leave-clause-calm
-returns-in-Ok-leave-clause-calm g c = card-rests refl (c.in-Ok-leave.ensures.cause.unbroken refl)
+pub returns-in_default-clause-behind : goal.returns-in_default-clause-behind
+returns-in_default-clause-behind g c = record {
+  unit = first_of (search rules, grind (arith, common_steps));
+  ready = first_of (search rules, grind (arith, common_steps));
+  rows =
+      λ card h.
+      let U = g.M.Medium.state c.args.unit.now in
+      subst (λ (b : Cabin). HasItsRow b.cards U card) (sym c.close.ensures.kept) (row-beside c.args.which None c.args.run.now.keeper.cabin.cards U card h);
+  card = first_of (search rules, grind (arith, common_steps));
+  size = first_of (search rules, grind (arith, common_steps));
+  cause = first_of (search rules, grind (arith, common_steps));
+}
 
-pub returns-in-Err-clause-calm : goal.returns-in-Err-clause-calm
-returns-in-Err-clause-calm g c = card-fell c.args.slot c.args.at (ap (λ (l : Listed Break). l.items) c.tear.ensures.told)
+pub returns-in_default-clause-goes : goal.returns-in_default-clause-goes
+returns-in_default-clause-goes g c = record {
+  later = state-same (g.C.Chip.state c.args.card.now);
+  calm = card-beside (g.C.Chip.state c.args.card.now) (omega arith);
+}
+
+pub returns-in_default-sizes-clause-shows : goal.returns-in_default-sizes-clause-shows
+returns-in_default-sizes-clause-shows g c = record {
+  events = absurd (unsized g c);
+  rings = λ tells. absurd (unsized g c);
+  left = first_of (search rules, grind (arith, common_steps));
+  shut = absurd (unsized g c);
+}
+
+pub returns-in_default-sizes-clause-writes : goal.returns-in_default-sizes-clause-writes
+returns-in_default-sizes-clause-writes g c = record {
+  speeds = leaves-none (g.M.Medium.state c.args.unit.now);
+  journal = first_of (search rules, grind (arith, common_steps));
+}
+
+pub returns-in_default-sizes-clause-behind : goal.returns-in_default-sizes-clause-behind
+returns-in_default-sizes-clause-behind g c = record {
+  unit = first_of (search rules, grind (arith, common_steps));
+  ready = first_of (search rules, grind (arith, common_steps));
+  rows =
+      λ card h.
+      let U = g.M.Medium.state c.args.unit.now in
+      subst (λ (b : Cabin). HasItsRow b.cards U card) (sym c.close.ensures.kept) (row-beside c.args.which None c.args.run.now.keeper.cabin.cards U card h);
+  card = first_of (search rules, grind (arith, common_steps));
+  size = first_of (search rules, grind (arith, common_steps));
+  cause = first_of (search rules, grind (arith, common_steps));
+}
+
+pub returns-in_default-sizes-clause-goes : goal.returns-in_default-sizes-clause-goes
+returns-in_default-sizes-clause-goes g c = record {
+  later = state-same (g.C.Chip.state c.args.card.now);
+  calm = card-beside (g.C.Chip.state c.args.card.now) (omega arith);
+}
+
+pub returns-in-Ok-leave-clause-shows : goal.returns-in-Ok-leave-clause-shows
+returns-in-Ok-leave-clause-shows g c = record {
+  events =
+      let U = g.M.Medium.state c.args.unit.now in
+      let V = g.M.Medium.state c.note_withdrawal.new.unit in
+      let X = g.C.Chip.state c.args.card.now in
+      let Y = g.C.Chip.state c.leave.new.card in
+      record {
+        closing = Closed;
+        closed = closed-well g c;
+        notes = quiet-any U V X X Y Y (is_err c.note_withdrawal.result) c.note_withdrawal.ensures.quiet;
+      };
+  rings =
+      λ tells.
+      let run = c.args.run.now in
+      let which = c.args.which in
+      let U = g.M.Medium.state c.args.unit.now in
+      let V = g.M.Medium.state c.note_withdrawal.new.unit in
+      let some : session_of run.keeper.cabin.cards which ≡ Some c.in-Some.accepted = sym c.in-Some.ensures.session in
+      record {
+        closing = Closed;
+        closed = closed-well g c;
+        rings = subst (λ (o : Option Accepted). ClosesRings Closed o c.args.at (is_err c.note_withdrawal.result) run U V) (sym some) (c.note_withdrawal.ensures.rings tells);
+      };
+  left =
+      subst (λ (o : Option Accepted). IfSome o (λ s. (act : Activity) × LeavesOnly (g.C.Chip.state c.args.card.now) (g.C.Chip.state c.leave.new.card) (λ x n. IsSession s.session x → IsCardClosing s.session act x n))) c.in-Some.ensures.session
+      (activity_of c.selected-selected.result, c.leave.ensures.moments);
+  shut =
+      let run = c.args.run.now in
+      let X = g.C.Chip.state c.args.card.now in
+      let Y = g.C.Chip.state c.leave.new.card in
+      let some : session_of run.keeper.cabin.cards c.args.which ≡ Some c.in-Some.accepted = sym c.in-Some.ensures.session in
+      let works : X.works ≡ true = subst (λ (o : Option Accepted). IfSome o (λ a. X.works ≡ true)) (sym (session-known run.keeper.cabin.cards c.args.which) ∙ some) c.requires.card.works in
+      let act : Activity = activity_of c.selected-selected.result in
+      record {
+        closing = Closed;
+        closed = closed-well g c;
+        act = act;
+        selected = c.selected-selected.ensures;
+        closes = subst (λ (o : Option Accepted). ClosesCard Closed o act X Y) (sym some)
+            (closes-well c.in-Some.accepted act X Y (λ x n. IsSession c.in-Some.accepted.session x → IsCardClosing c.in-Some.accepted.session act x n) (g.met.C.Chip.coherent c.args.card.now) (g.met.C.Chip.coherent c.leave.new.card) works c.in-Ok-leave.ensures.cause.works c.leave.ensures.moments c.in-Ok-leave.ensures.closed);
+      };
+}
+
+pub returns-in-Ok-leave-clause-writes : goal.returns-in-Ok-leave-clause-writes
+returns-in-Ok-leave-clause-writes g c = record {
+  speeds = c.note_withdrawal.ensures.speeds;
+  journal = first_of (search rules, grind (arith, common_steps));
+}
+
+pub returns-in-Ok-leave-clause-behind : goal.returns-in-Ok-leave-clause-behind
+returns-in-Ok-leave-clause-behind g c = record {
+  unit = first_of (search rules, grind (arith, common_steps));
+  ready =
+      on_ok c.note_withdrawal.result (λ well.
+      let k : Keeper = record c.args.run.now.keeper { cabin = c.close.new.self } in
+      let r = c.requires.ready in
+      noted-ready (g.met.M.Medium.coherent c.args.unit.now) (g.met.M.Medium.coherent c.note_withdrawal.new.unit) c.note_withdrawal.ensures.journal k (record { is_unit = r.is_unit; works = r.works; agrees = r.agrees })
+      (c.note_withdrawal.ensures.cause.works ∙ ap not well));
+  rows =
+      λ card h.
+      on_ok c.note_withdrawal.result (λ well.
+      let cards = c.args.run.now.keeper.cabin.cards in
+      noted-row (g.met.M.Medium.coherent c.args.unit.now) (g.met.M.Medium.coherent c.note_withdrawal.new.unit) c.note_withdrawal.ensures.journal c.args.run.now.keeper c.requires.ready c.close.new.self.cards card
+      (has-row cards c.close.new.self.cards (g.M.Medium.state c.args.unit.now) (g.M.Medium.state c.args.unit.now) card
+      (ap (λ (b : Cabin). (known_of b.cards card).number) c.close.ensures.kept ∙ number-set c.args.which card None cards)
+      (ap (λ (b : Cabin). (known_of b.cards card).row) c.close.ensures.kept ∙ row-set c.args.which card None cards) (λ r n at. at) h));
+  card = first_of (search rules, grind (arith, common_steps));
+  size = first_of (search rules, grind (arith, common_steps));
+  cause = first_of (search rules, grind (arith, common_steps));
+}
+
+pub returns-in-Ok-leave-clause-goes : goal.returns-in-Ok-leave-clause-goes
+returns-in-Ok-leave-clause-goes g c = record {
+  later = state-by (g.C.Chip.state c.args.card.now) (g.C.Chip.state c.leave.new.card) (is_err c.leave.result) c.leave.ensures.moments.later c.leave.ensures.cause;
+  calm = card-rests refl (c.in-Ok-leave.ensures.cause.unbroken refl);
+}
+
+pub returns-in-Err-clause-shows : goal.returns-in-Err-clause-shows
+returns-in-Err-clause-shows g c = record {
+  events =
+      let U = g.M.Medium.state c.args.unit.now in
+      let V = g.M.Medium.state c.tear.new.unit in
+      let X = g.C.Chip.state c.args.card.now in
+      let Y = g.C.Chip.state c.leave.new.card in
+      let crew = crew_of c.tear.new.self.cabin in
+      record {
+        closing = Fell;
+        closed = closed-fell g c;
+        notes = one-noted U V X X Y Y (g.met.M.Medium.coherent c.args.unit.now) (g.met.M.Medium.coherent c.tear.new.unit) c.requires.ready.is_unit (entry_of CARD_FAULT c.args.at.second c.args.at.second crew crew) (is_err c.tear.result)
+            (λ well. ok_gives c.tear.result c.tear.ensures.noted well) c.tear.ensures.moments c.tear.ensures.cause.works;
+      };
+  rings =
+      λ tells.
+      record {
+        closing = Fell;
+        closed = closed-fell g c;
+        rings = rings-moments (g.M.Medium.state c.args.unit.now) (g.M.Medium.state c.tear.new.unit) (IsNotingEvent CARD_FAULT (fault_of c.args.at.second (crew_of c.tear.new.self.cabin))) (g.met.M.Medium.coherent c.args.unit.now) c.tear.ensures.moments
+            (λ x n moment. table-outside CARD_FAULT x n moment.outside);
+      };
+  left =
+      subst (λ (o : Option Accepted). IfSome o (λ s. (act : Activity) × LeavesOnly (g.C.Chip.state c.args.card.now) (g.C.Chip.state c.leave.new.card) (λ x n. IsSession s.session x → IsCardClosing s.session act x n))) c.in-Some.ensures.session
+      (activity_of c.selected-selected.result, c.leave.ensures.moments);
+  shut =
+      record {
+        closing = Fell;
+        closed = closed-fell g c;
+        act = activity_of c.selected-selected.result;
+        selected = c.selected-selected.ensures;
+        closes = tt;
+      };
+}
+
+pub returns-in-Err-clause-writes : goal.returns-in-Err-clause-writes
+returns-in-Err-clause-writes g c = record {
+  speeds = event-leaves-speeds CARD_FAULT (fault_of c.args.at.second (crew_of c.tear.new.self.cabin)) (g.M.Medium.state c.args.unit.now) (g.M.Medium.state c.tear.new.unit) (g.met.M.Medium.coherent c.args.unit.now) c.tear.ensures.moments;
+  journal = first_of (search rules, grind (arith, common_steps));
+}
+
+pub returns-in-Err-clause-behind : goal.returns-in-Err-clause-behind
+returns-in-Err-clause-behind g c = record {
+  unit = first_of (search rules, grind (arith, common_steps));
+  ready = first_of (search rules, grind (arith, common_steps));
+  rows =
+      λ card h.
+      let U = g.M.Medium.state c.args.unit.now in
+      c.tear.ensures.rows card (subst (λ (b : Cabin). HasItsRow b.cards U card) (sym c.close.ensures.kept) (row-beside c.args.which None c.args.run.now.keeper.cabin.cards U card h));
+  card =
+      let cards = c.args.run.now.keeper.cabin.cards in
+      let which = c.args.which in
+      let chip = g.C.Chip.card c.leave.new.card in
+      let X = g.C.Chip.state c.leave.new.card in
+      let told : (known_of cards which).sizes ≡ Ok c.in-Ok.app = cc in
+      let after : c.tear.new.self.cabin.cards ≡ with_session which None (with_session which None cards) =
+      ap (λ (k : Keeper). k.cabin.cards) c.tear.ensures.keeper ∙ ap (λ (b : Cabin). with_session which None b.cards) c.close.ensures.kept in
+      subst (λ (q : Cards). CardMayBeCalled (known_of q which) chip X) (sym after)
+      (twice-ready which cards (λ app is. let same : c.in-Ok.app ≡ app = cc in subst (λ (a : Application). IsPort a None chip X) same c.leave.ensures.port));
+  size = first_of (search rules, grind (arith, common_steps));
+  cause = first_of (search rules, grind (arith, common_steps));
+}
+
+pub returns-in-Err-clause-goes : goal.returns-in-Err-clause-goes
+returns-in-Err-clause-goes g c = record {
+  later = state-by (g.C.Chip.state c.args.card.now) (g.C.Chip.state c.leave.new.card) (is_err c.leave.result) c.leave.ensures.moments.later c.leave.ensures.cause;
+  calm = card-fell c.args.slot c.args.at (ap (λ (l : Listed Break). l.items) c.tear.ensures.told);
+}

@@ -1,5 +1,5 @@
 use Rattle.std.proofs.Common.{rules, ◌≡◌, ◌∙◌, inl, inr, ℕ, ◌+◌, ◌/◌, ◌≤◌, Bool, true, false, not, Option, Some, None, is_some, List, ◌++◌, All, length, refl, ap, sym, subst, arith, ◌^◌, ◌<◌}
-use Rattle.std.specs.Prelude.{is_err, suc, [], ◌∷◌, IfSome, OnOk, Result}
+use Rattle.std.specs.Prelude.{is_err, suc, [], ◌∷◌, IfSome, Result}
 use Rattle.trace_model.specs.declared.Card.{Card}
 use Rattle.trace_model.specs.declared.Card.TheVariants.{A, B}
 use Rattle.tach_media.proofs.Runs.{on_ok, ok_gives, cause_after, no_reads}
@@ -12,12 +12,12 @@ use Rattle.run_promise.specs.Between.{devices}
 use Rattle.log_model.specs.declared.lines.Break.{Break}
 use Rattle.card_slots.specs.Calls.{seat_in, card_in, logged}
 use Rattle.run_crew.specs.declared.cabin.Cabin.{Cabin}
-use Rattle.run_crew.specs.Cards.{session_of, known_of}
+use Rattle.run_crew.specs.Cards.{session_of}
 use Rattle.run_crew.specs.Cabin.{CabinIsSound, with_slot_left}
 use Rattle.run_outcome.specs.Lines.{Listed}
 use Rattle.run_outcome.specs.declared.outcome.Outcome.{Outcome}
 use Rattle.run_minutes.specs.declared.keeper.Moment.{Moment}
-use Rattle.run_minutes.specs.Keeping.{HasLeftMore, CardMayBeCalled, HasItsRow, UnitMayBeCalled, tears_of}
+use Rattle.run_minutes.specs.Keeping.{HasLeftMore, tears_of}
 use Rattle.run_minutes.specs.Minutes.{KeepingState, Reach, IsReach}
 use Rattle.run_minutes.proofs.Counts.{lines-length}
 use Rattle.run_acts.specs.declared.run.Run.{Run}
@@ -39,14 +39,13 @@ use Rattle.run_acts.proofs.WithdrawnRecorded.{acting_at, moment-is, settling-cut
 use Rattle.run_note_record.specs.OnCards.{PlacesStay}
 use Rattle.run_acts.proofs.CardPlaces.{stay-then}
 use Rattle.run_acts.specs.Faults.{NotesSettling}
-use Rattle.run_acts.specs.Noting.{NotesWithdrawing, closed_events, NotesClosing}
+use Rattle.run_acts.specs.Noting.{NotesWithdrawing, closed_events}
 use Rattle.run_acts.proofs.NotedEvents.{same-noted, noted-any}
 use Rattle.run_acts.proofs.ActsNoted.{settles-these, withdrawal-cut, withdrawal-noted, closing-any, same-closing}
 use Rattle.run_rings.proofs.Same.{rings-left}
-use Rattle.run_acts.specs.Ringing.{WithdrawsSo, ClosesRings, ClosesSo}
+use Rattle.run_acts.specs.Ringing.{WithdrawsSo, ClosesRings}
 use Rattle.run_acts.proofs.Comings.{closes-more}
 use Rattle.run_acts.proofs.Ringing.{settling-leaves, closes-behind}
-use Rattle.run_speeds.specs.Speeds.{LeavesSpeeds}
 use Rattle.run_events.proofs.Newest.{knows-left}
 use Rattle.run_minutes.proofs.Later.{state-by, later-same, later-then}
 use Rattle.tach_media.specs.Medium.{State, LeavesOnly, HasBroken, HasCause}
@@ -67,11 +66,11 @@ use Rattle.run_acts.proofs.RingedClosed.{settling-ringed, closing-ringed, gone-t
 use Rattle.run_acts.specs.RunCards.{CardsSettling, PlacesSettling, StillShow, CardsGoOn, CardsIn}
 use Rattle.run_acts.proofs.CardStays.{shows-then}
 use Rattle.run_acts.proofs.CardActs.{TellsLines, settled-lines, closed-lines, quiet-goes}
-use Rattle.run_acts.specs.CardWrites.{ShutsBehind, WithdrawsShut, IsShut, ShutsSo}
+use Rattle.run_acts.specs.CardWrites.{ShutsBehind, WithdrawsShut, IsShut}
 use Rattle.run_acts.proofs.CardWrites.{withdrawn-shut}
 use Rattle.run_minutes.proofs.Calm.{calm-same, calm-then}
 use Rattle.trace_model.specs.declared.Action.{Action}
-use Rattle.run_minutes.specs.Later.{AreCalm, AreLater, IsCalm, IsLater}
+use Rattle.run_minutes.specs.Later.{AreCalm, AreLater}
 use Rattle.run_acts.specs.Devices.{AreLeftMore}
 use Rattle.run_minutes.specs.Decided.{BooksAll}
 use Rattle.card_layout.specs.declared.command.CardState.{CardState}
@@ -80,8 +79,6 @@ use Rattle.run_note_record.specs.EventsSoFar.{EventedNow}
 use Rattle.tach_media.specs.declared.fault.Failed.{Failed}
 use Rattle.run_promise.specs.Beside.{HaveLeftMore}
 use Rattle.run_minutes.specs.Books.{HaveTime}
-use Rattle.unit_model.specs.Image.{IsUnit}
-use Rattle.unit_notes.specs.Journal.{LeavesJournal}
 use Rattle.run_acts.proofs.OneCard.{OneCard, calm-by, keeps-by, later-by, unit-is, card-is, none-there, on_a, on_b, held-closed, going-closed}
 use Rattle.run_promise.specs.Origin.{Origin}
 use Rattle.note_model.specs.Odometer.{SpanFrom}
@@ -89,6 +86,7 @@ use Rattle.trace_model.specs.Trace.{TraceSecond}
 use Rattle.run_devices.specs.Told.{arranged}
 use Rattle.log_model.specs.Slots.{refusal}
 use Rattle.run_rings.specs.Same.{LeavesRings}
+use Rattle.run_acts.specs.Acts.{ShowsClosing, UnitWrites, StandsBehind, CardGoesOn}
 use Rattle.run_acts.proofs.withdrawing.withdraw.Given.{Over}
 use Rattle.run_acts.proofs.withdrawing.withdraw.Goals.{In_ok-settle, In_default, After-from_residual, After-close, After-close-in-B}
 use Rattle.run_acts.proofs.withdrawing.withdraw.Goals as goal
@@ -113,15 +111,15 @@ settle-requires-clause-held g c =
     let second : ℕ = c.args.at.second in
     let here = c.requires.at in
     let there : card_in (seat_in run.keeper.cabin.slots.seats c.args.slot) ≡ Some card = cc in
-    let u = ungiven_of c.requires.going.span in
-    let stands = subst (λ (b : Cabin). CabinIsSound u (Some card) b) c.leave.ensures.kept (c.leave.ensures.stands u card there c.requires.going.cabin) in
+    let u = ungiven_of c.requires.acting.going.span in
+    let stands = subst (λ (b : Cabin). CabinIsSound u (Some card) b) c.leave.ensures.kept (c.leave.ensures.stands u card there c.requires.acting.going.cabin) in
     subst (λ (b : Cabin). CanBeCut (run.next / 60) (with_cabin b run) (g.M.Medium.state c.args.unit.now) (g.C.Chip.card c.args.card_a.now) (g.D.Chip.card c.args.card_b.now) (g.C.Chip.state c.args.card_a.now) (g.D.Chip.state c.args.card_b.now)) (sym c.leave.ensures.kept)
-    (left-held c.args.slot card second run (run.next / 60) c.requires.held (omega (arith, here)) u stands)
+    (left-held c.args.slot card second run (run.next / 60) c.requires.acting.held (omega (arith, here)) u stands)
 
 pub settle-requires-clause-going : goal.settle-requires-clause-going
 settle-requires-clause-going g c =
     let there : card_in (seat_in c.args.run.now.keeper.cabin.slots.seats c.args.slot) ≡ Some c.in-Some.card = cc in
-    (Some c.in-Some.card, left-lit c.args.slot c.in-Some.card c.args.at.second c.args.run.now c.leave.new.self c.requires.going c.leave.ensures.kept (λ from h. c.leave.ensures.stands from c.in-Some.card there h))
+    (Some c.in-Some.card, left-lit c.args.slot c.in-Some.card c.args.at.second c.args.run.now c.leave.new.self c.requires.acting.going c.leave.ensures.kept (λ from h. c.leave.ensures.stands from c.in-Some.card there h))
 
 -- ---- the minutes before are kept
 
@@ -135,7 +133,7 @@ module _ (g : Over) (c : In_ok-settle g) where
   going-with : (card : Card) → c.in-Some.card ≡ card → RunHasPower (Some card) (c.settle.new.run.next / 60) c.settle.new.run (g.M.Medium.state c.settle.new.unit) (g.C.Chip.card c.settle.new.card_a) (g.D.Chip.card c.settle.new.card_b) (g.C.Chip.state c.settle.new.card_a) (g.D.Chip.state c.settle.new.card_b)
   going-with card is =
       c.in_ok-settle.ensures.going (Some card)
-      (left-lit c.args.slot card c.args.at.second c.args.run.now c.leave.new.self c.requires.going c.leave.ensures.kept (λ from h. c.leave.ensures.stands from card (seat-of card is) h))
+      (left-lit c.args.slot card c.args.at.second c.args.run.now c.leave.new.self c.requires.acting.going c.leave.ensures.kept (λ from h. c.leave.ensures.stands from card (seat-of card is) h))
 
   at-then : c.args.at.second ≡ c.settle.new.run.next
   at-then = c.requires.at ∙ sym (ap (λ (r : Run). r.next) c.settle.ensures.settled.only)
@@ -198,22 +196,12 @@ close-requires-in-B-clause-room g c = room-left g (goal.at.close-requires-in-B-c
 abbrev Closes : {S : Type 0} (state : S → State) (chip : S → CardState) (which : Card) (slot : Slot) (at : Moment) (result : Result (Unit {0}) Failed) (old new : Run) (breaks after : Listed Break) (U V : State) (x y : S) → Type 0
 Closes state chip which slot at result old new breaks after U V x y = record {
   closed : (closing : Closing) × IsClosed which slot at old new breaks after closing × HasBroken (state x) (state y) (closed_falls closing) × (closing ≡ Closed → ClosesOnCard slot old.minutes (session_of old.keeper.cabin.cards which) (state x) (state y));
-  events : NotesClosing which slot at (is_err result) old new breaks after (devices U (state x) (state x)) (devices V (state y) (state y));
-  journal : LeavesOnly U V LeavesJournal;
-  speeds : LeavesSpeeds U V;
-  rings : is_some U.image ≡ true → ClosesSo which slot at (is_err result) old new breaks after U V;
-  left : IfSome (session_of old.keeper.cabin.cards which) (λ s. (act : Activity) × LeavesOnly (state x) (state y) (λ i n. IsSession s.session i → IsCardClosing s.session act i n));
-  shut : ShutsSo which slot at old new breaks after (state x) (state y);
+  shows : ShowsClosing which slot at (is_err result) old new breaks after U V (state x) (state y);
+  writes : UnitWrites U V;
   bare : session_of old.keeper.cabin.cards which ≡ None → y ≡ x;
-  unit : IsUnit V;
-  ready : OnOk result (UnitMayBeCalled new.keeper V);
-  rows : (card : Card) → HasItsRow old.keeper.cabin.cards U card → OnOk result (HasItsRow new.keeper.cabin.cards V card);
+  behind : StandsBehind which result old new U V (state x) (state y) (chip y);
   stands : (from : ℕ) → CabinIsSound from (Some which) old.keeper.cabin → CabinIsSound from None new.keeper.cabin;
-  card : CardMayBeCalled (known_of new.keeper.cabin.cards which) (chip y) (state y);
-  size : (state y).size ≡ (state x).size;
-  cause : HasCause U V (is_err result);
-  later : IsLater (state x) (state y);
-  calm : IsCalm breaks.items after.items (state x) (state y);
+  goes : CardGoesOn breaks.items after.items (state x) (state y);
 }
 
 -- an entry is one of the ring
@@ -288,12 +276,12 @@ module _ (g : Over) (c : In_ok-settle g) (k : OneCard c.in-Some.card (g.C.Chip.s
   later : AreLater first_ last
   later =
       later-then first_ between last (subst (λ (m : Devices). AreLater first_ m) (k.beside_it (g.M.Medium.state c.settle.new.unit)) (settled-later c.settle.ensures.goes c.settle.ensures.speeds))
-      (later-by k.which (g.M.Medium.state c.settle.new.unit) k.unit (k.state k.before) (k.state k.after) k.beside (state-by (g.M.Medium.state c.settle.new.unit) k.unit _ closes.journal.later closes.cause) closes.later closes.speeds)
+      (later-by k.which (g.M.Medium.state c.settle.new.unit) k.unit (k.state k.before) (k.state k.after) k.beside (state-by (g.M.Medium.state c.settle.new.unit) k.unit _ closes.writes.journal.later closes.behind.cause) closes.goes.later closes.writes.speeds)
 
   calm : AreCalm c.args.outcome.now.breaks.items k.breaks.items first_ last
   calm =
       calm-then first_ between last (subst (λ (m : Devices). AreCalm c.args.outcome.now.breaks.items c.settle.new.outcome.breaks.items first_ m) (k.beside_it (g.M.Medium.state c.settle.new.unit)) c.settle.ensures.goes.all.calm)
-      (calm-by k.which (g.M.Medium.state c.settle.new.unit) k.unit (k.state k.before) (k.state k.after) k.beside closes.calm)
+      (calm-by k.which (g.M.Medium.state c.settle.new.unit) k.unit (k.state k.before) (k.state k.after) k.beside closes.goes.calm)
 
   -- which card it is that was there
   same-card : (card : Card) → card_in (seat_in c.args.run.now.keeper.cabin.slots.seats c.args.slot) ≡ Some card → k.which ≡ card
@@ -317,13 +305,13 @@ module _ (g : Over) (c : In_ok-settle g) (k : OneCard c.in-Some.card (g.C.Chip.s
         v,
         b.given,
         b.is,
-        withdrawn-closed k.state k.which c.args.at.second (g.M.Medium.state c.settle.new.unit) k.unit k.beside k.before k.after (g.met.M.Medium.coherent c.settle.new.unit) k.whole k.size closes.journal (is_err k.result) closes.cause.works n.0 b.decided c.args.at
-            (told_of (with_cabin c.leave.new.self c.args.run.now) c.args.outcome.now) v (told_of k.new told) first_ closes.left closes.bare n.1.is (ap (λ (r : Run). r.keeper.cabin.cards) n.1.run) refl b.reach b.is books,
+        withdrawn-closed k.state k.which c.args.at.second (g.M.Medium.state c.settle.new.unit) k.unit k.beside k.before k.after (g.met.M.Medium.coherent c.settle.new.unit) k.whole k.size closes.writes.journal (is_err k.result) closes.behind.cause.works n.0 b.decided c.args.at
+            (told_of (with_cabin c.leave.new.self c.args.run.now) c.args.outcome.now) v (told_of k.new told) first_ closes.shows.left closes.bare n.1.is (ap (λ (r : Run). r.keeper.cabin.cards) n.1.run) refl b.reach b.is books,
       ))
 
   shut : (card : Card) → card_in (seat_in c.args.run.now.keeper.cabin.slots.seats c.args.slot) ≡ Some card → WithdrawsShut card c.args.slot c.args.at (is_err k.result) c.args.run.now k.new c.args.outcome.now told first_ last
   shut card there =
-      let n = closes.shut in
+      let n = closes.shows.shut in
       let b = c.in_ok-settle.ensures.keeps in
       subst (λ (q : Card). WithdrawsShut q c.args.slot c.args.at (is_err k.result) c.args.run.now k.new c.args.outcome.now told first_ last) (same-card card there)
       (inr (subst (λ (left : Cabin). ShutsBehind k.which c.args.slot c.args.at (told_of (with_cabin left c.args.run.now) c.args.outcome.now) c.args.run.now k.new told first_ last) c.leave.ensures.kept (record {
@@ -337,24 +325,24 @@ module _ (g : Over) (c : In_ok-settle g) (k : OneCard c.in-Some.card (g.C.Chip.s
         selected = n.selected;
         shut = λ how f w start t may gone stored time valid.
             subst (λ (x : State). IsShut (session_of c.settle.new.run.keeper.cabin.cards k.which) n.act x) (card-is k.which k.unit (k.state k.after) k.beside)
-            (withdrawn-shut k.which (g.M.Medium.state c.settle.new.unit) k.unit (k.state k.before) (k.state k.after) k.beside closes.journal closes.later.clock n.closing b.decided c.args.at (told_of (with_cabin c.leave.new.self c.args.run.now) c.args.outcome.now) (told_of c.settle.new.run c.settle.new.outcome) first_ n.act n.closes b.reach b.is books
+            (withdrawn-shut k.which (g.M.Medium.state c.settle.new.unit) k.unit (k.state k.before) (k.state k.after) k.beside closes.writes.journal closes.goes.later.clock n.closing b.decided c.args.at (told_of (with_cabin c.leave.new.self c.args.run.now) c.args.outcome.now) (told_of c.settle.new.run c.settle.new.outcome) first_ n.act n.closes b.reach b.is books
             how f w start t may gone stored time valid);
       })))
 
   events : NotesWithdrawing (card_in (seat_in c.args.run.now.keeper.cabin.slots.seats c.args.slot)) c.args.slot c.args.at (is_err k.result) c.args.run.now k.new c.args.outcome.now told first_ last
   events =
       let settling = left-there (λ m run. NotesSettling m false run c.settle.new.run c.args.outcome.now c.settle.new.outcome (g.M.Medium.state c.args.unit.now) (g.M.Medium.state c.settle.new.unit)) c.args.slot c.args.at c.args.at c.args.run.now c.leave.new.self c.leave.ensures.kept refl (settled-noted c.in_ok-settle.ensures.keeps) in
-      let these = settles-these c.args.at false (left_run c.args.slot c.args.at.second c.args.run.now) c.settle.new.run c.args.outcome.now c.settle.new.outcome (g.M.Medium.state c.args.unit.now) (g.M.Medium.state c.settle.new.unit) (g.C.Chip.state c.args.card_a.now) (g.D.Chip.state c.args.card_b.now) (g.C.Chip.state c.settle.new.card_a) (g.D.Chip.state c.settle.new.card_b) (g.met.M.Medium.coherent c.args.unit.now) c.requires.held.is_unit settling in
+      let these = settles-these c.args.at false (left_run c.args.slot c.args.at.second c.args.run.now) c.settle.new.run c.args.outcome.now c.settle.new.outcome (g.M.Medium.state c.args.unit.now) (g.M.Medium.state c.settle.new.unit) (g.C.Chip.state c.args.card_a.now) (g.D.Chip.state c.args.card_b.now) (g.C.Chip.state c.settle.new.card_a) (g.D.Chip.state c.settle.new.card_b) (g.met.M.Medium.coherent c.args.unit.now) c.requires.acting.held.is_unit settling in
       withdrawal-noted (card_in (seat_in c.args.run.now.keeper.cabin.slots.seats c.args.slot)) k.which seat c.args.slot c.args.at (is_err k.result) c.args.run.now c.settle.new.run k.new c.args.outcome.now c.settle.new.outcome k.breaks first_ between last these.0 these.1 (subst (λ (m : Devices). NotesEvents these.0 false first_ m) (k.beside_it (g.M.Medium.state c.settle.new.unit)) these.2)
       (closing-any k.which c.args.slot c.args.at (is_err k.result) c.settle.new.run k.new c.settle.new.outcome.breaks k.breaks (devices (g.M.Medium.state c.settle.new.unit) (k.state k.before) (k.state k.before)) (devices k.unit (k.state k.after) (k.state k.after)) between last
-      (unit-is k.which (g.M.Medium.state c.settle.new.unit) (k.state k.before) k.beside) (unit-is k.which k.unit (k.state k.after) k.beside) closes.events)
+      (unit-is k.which (g.M.Medium.state c.settle.new.unit) (k.state k.before) k.beside) (unit-is k.which k.unit (k.state k.after) k.beside) closes.shows.events)
 
   leaves : LeavesRings (g.M.Medium.state c.args.unit.now) (g.M.Medium.state c.settle.new.unit)
   leaves = settling-leaves c.args.at false (with_cabin c.leave.new.self c.args.run.now) c.settle.new.run c.args.outcome.now c.settle.new.outcome (g.M.Medium.state c.args.unit.now) (g.M.Medium.state c.settle.new.unit) (settled-noted c.in_ok-settle.ensures.keeps)
 
   rings_ : is_some (g.M.Medium.state c.args.unit.now).image ≡ true → WithdrawsSo (card_in (seat_in c.args.run.now.keeper.cabin.slots.seats c.args.slot)) c.args.slot c.args.at (is_err k.result) c.args.run.now k.new c.args.outcome.now told (g.M.Medium.state c.args.unit.now) k.unit
   rings_ tells =
-      let n = closes.rings (c.in_ok-settle.ensures.goes.unit_tells ∙ tells) in
+      let n = closes.shows.rings (c.in_ok-settle.ensures.goes.unit_tells ∙ tells) in
       subst (λ (q : Option Card). WithdrawsSo q c.args.slot c.args.at (is_err k.result) c.args.run.now k.new c.args.outcome.now told (g.M.Medium.state c.args.unit.now) k.unit) (sym seat)
       (inr (record {
         closed = record { between = c.settle.new.run; told = c.settle.new.outcome; settled_first = settled-first g c; closing = n.closing; closed = n.closed; outcome = refl };
@@ -368,13 +356,13 @@ module _ (g : Over) (c : In_ok-settle g) (k : OneCard c.in-Some.card (g.C.Chip.s
     moment = moment-is c.args.at s.number (suc (length front)) (c.requires.at ∙ sym now.number) n late
 
     small : s.number < 2 ^ 32
-    small = let low = c.requires.small in let same = now.number in omega (arith, low, same)
+    small = let low = c.requires.acting.small in let same = now.number in omega (arith, low, same)
 
     minutes : CountsSpan c.settle.new.run.minutes (settled w.within.sp)
     minutes = c.in_ok-settle.ensures.settled.minutes w.within.sp w.within.minutes
 
     time-then : HaveTime between
-    time-then = time-before k.which (g.M.Medium.state c.settle.new.unit) k.unit (k.state k.before) (k.state k.after) k.beside closes.journal.later closes.later.clock time
+    time-then = time-before k.which (g.M.Medium.state c.settle.new.unit) k.unit (k.state k.before) (k.state k.after) k.beside closes.writes.journal.later closes.goes.later.clock time
 
     records : RecordsSettling c.in_ok-settle.ensures.keeps.decided (acting_at s.number (suc (length front))) false (left_run c.args.slot s.number c.args.run.now) c.settle.new.run c.args.outcome.now c.settle.new.outcome first_ between
     records = left-there (λ m run. RecordsSettling c.in_ok-settle.ensures.keeps.decided m false run c.settle.new.run c.args.outcome.now c.settle.new.outcome first_ between) c.args.slot c.args.at (acting_at s.number (suc (length front))) c.args.run.now c.leave.new.self c.leave.ensures.kept moment
@@ -391,13 +379,13 @@ module _ (g : Over) (c : In_ok-settle g) (k : OneCard c.in-Some.card (g.C.Chip.s
         let going = going-with g c k.which k.is in
         let r = c.in_ok-settle.ensures.keeps in
         let n_ = closes.closed in
-        let rung = closes.rings (c.settle.ensures.goes.unit_tells ∙ w.within.there.unit) in
+        let rung = closes.shows.rings (c.settle.ensures.goes.unit_tells ∙ w.within.there.unit) in
         subst (λ (q : ℕ). GoesOnOrFails (is_err k.result) o done s (In q) [] k.new told last w.within.b) (sym n)
-        (closing-recorded o done s front rest c.args.slot are speed now.speed_is k.which c.args.run.now c.settle.new.run c.args.outcome.now c.settle.new.outcome first_ w seat allowed (ungiven_of c.requires.going.span) c.requires.going.cabin minutes r.decided (r.given w.within.sp w.within.minutes)
-        k.state (g.M.Medium.state c.settle.new.unit) k.unit k.beside k.before k.after (g.met.M.Medium.coherent c.settle.new.unit) k.whole k.size closes.left closes.bare closes.journal (is_err k.result) closes.cause going.span going.stands going.next
+        (closing-recorded o done s front rest c.args.slot are speed now.speed_is k.which c.args.run.now c.settle.new.run c.args.outcome.now c.settle.new.outcome first_ w seat allowed (ungiven_of c.requires.acting.going.span) c.requires.acting.going.cabin minutes r.decided (r.given w.within.sp w.within.minutes)
+        k.state (g.M.Medium.state c.settle.new.unit) k.unit k.beside k.before k.after (g.met.M.Medium.coherent c.settle.new.unit) k.whole k.size closes.shows.left closes.bare closes.writes.journal (is_err k.result) closes.behind.cause going.span going.stands going.next
         records time-then c.args.at c.in_ok-settle.ensures.settled.decided (told_of (with_cabin c.leave.new.self c.args.run.now) c.args.outcome.now) c.in_ok-settle.ensures.settled.kept session-then
-        (λ fine. closes-more rung.closing (session_of c.settle.new.run.keeper.cabin.cards k.which) c.args.at (is_err k.result) c.settle.new.run (g.M.Medium.state c.settle.new.unit) k.unit k.unit_whole closes.unit going.span going.stands rung.rings fine)
-        k.new k.breaks n_.0 n_.3 (subst (λ (m : Moment). IsClosed k.which c.args.slot m c.settle.new.run k.new c.settle.new.outcome.breaks k.breaks n_.0) moment n_.1) closes.calm n_.2)
+        (λ fine. closes-more rung.closing (session_of c.settle.new.run.keeper.cabin.cards k.which) c.args.at (is_err k.result) c.settle.new.run (g.M.Medium.state c.settle.new.unit) k.unit k.unit_whole closes.behind.unit going.span going.stands rung.rings fine)
+        k.new k.breaks n_.0 n_.3 (subst (λ (m : Moment). IsClosed k.which c.args.slot m c.settle.new.run k.new c.settle.new.outcome.breaks k.breaks n_.0) moment n_.1) closes.goes.calm n_.2)
 
     evented : EventedNow o done s w.within.b.run Acting (log_of c.args.outcome.now) first_ → EventsGoOn (is_err k.result) o done s w.within.b.run (In c.args.at.begun) Acting (log_of told) last
     evented before =
@@ -405,28 +393,28 @@ module _ (g : Over) (c : In_ok-settle g) (k : OneCard c.in-Some.card (g.C.Chip.s
         let second : c.args.at.second ≡ s.number = c.requires.at ∙ sym now.number in
         let r = c.in_ok-settle.ensures.keeps in
         let v = c.in_ok-settle.ensures.keeps in
-        let n_ = closes.events in
+        let n_ = closes.shows.events in
         let fell = closes.closed in
         let settles =
         left-there (λ m run. EventsSettling v.decided m false run c.settle.new.run c.args.outcome.now c.settle.new.outcome first_ between) c.args.slot c.args.at (acting_at s.number (suc (length front))) c.args.run.now c.leave.new.self c.leave.ensures.kept moment
         (subst (λ (m : Devices). EventsSettling v.decided c.args.at false (with_cabin c.leave.new.self c.args.run.now) c.settle.new.run c.args.outcome.now c.settle.new.outcome first_ m) (k.beside_it (g.M.Medium.state c.settle.new.unit)) v.evented) in
-        let told_then = settled-evented o done s front rest c.args.slot are speed now.speed_is k.which c.args.run.now c.settle.new.run c.args.outcome.now c.settle.new.outcome first_ w seat allowed (ungiven_of c.requires.going.span) c.requires.going.cabin minutes v.decided (v.given w.within.sp w.within.minutes) false between settles before time-then in
+        let told_then = settled-evented o done s front rest c.args.slot are speed now.speed_is k.which c.args.run.now c.settle.new.run c.args.outcome.now c.settle.new.outcome first_ w seat allowed (ungiven_of c.requires.acting.going.span) c.requires.acting.going.cabin minutes v.decided (v.given w.within.sp w.within.minutes) false between settles before time-then in
         let same = same-closing k.which c.args.slot c.args.at c.settle.new.run k.new c.settle.new.outcome.breaks k.breaks n_.closing fell.0 n_.closed fell.1 in
         let notes =
         noted-any (closed_events n_.closing c.args.at.second k.new) (is_err k.result) (devices (g.M.Medium.state c.settle.new.unit) (k.state k.before) (k.state k.before)) (devices k.unit (k.state k.after) (k.state k.after)) between last (unit-is k.which (g.M.Medium.state c.settle.new.unit) (k.state k.before) k.beside) (unit-is k.which k.unit (k.state k.after) k.beside) n_.notes in
         subst (λ (q : ℕ). EventsGoOn (is_err k.result) o done s w.within.b.run (In q) Acting (log_of told) last) (sym n)
-        (closing-evented o done s front rest c.args.slot are speed now.speed_is k.which c.args.run.now c.settle.new.run c.args.outcome.now c.settle.new.outcome first_ w seat allowed (ungiven_of c.requires.going.span) c.requires.going.cabin minutes r.decided (r.given w.within.sp w.within.minutes)
-        k.state (g.M.Medium.state c.settle.new.unit) k.unit k.beside k.before k.after (g.met.M.Medium.coherent c.settle.new.unit) k.whole k.size closes.left closes.bare closes.journal (is_err k.result) closes.cause going.span going.stands going.next
+        (closing-evented o done s front rest c.args.slot are speed now.speed_is k.which c.args.run.now c.settle.new.run c.args.outcome.now c.settle.new.outcome first_ w seat allowed (ungiven_of c.requires.acting.going.span) c.requires.acting.going.cabin minutes r.decided (r.given w.within.sp w.within.minutes)
+        k.state (g.M.Medium.state c.settle.new.unit) k.unit k.beside k.before k.after (g.met.M.Medium.coherent c.settle.new.unit) k.whole k.size closes.shows.left closes.bare closes.writes.journal (is_err k.result) closes.behind.cause going.span going.stands going.next
         records time-then c.args.at c.in_ok-settle.ensures.settled.decided (told_of (with_cabin c.leave.new.self c.args.run.now) c.args.outcome.now) c.in_ok-settle.ensures.settled.kept session-then
         small (ap (λ (x : Outcome). x.finds) c.in_ok-settle.ensures.settled.outcome) (ungiven_of going.span) going.cabin told_then
-        k.new k.breaks n_.closing (subst (λ (m : Moment). IsClosed k.which c.args.slot m c.settle.new.run k.new c.settle.new.outcome.breaks k.breaks n_.closing) moment n_.closed) closes.calm
+        k.new k.breaks n_.closing (subst (λ (m : Moment). IsClosed k.which c.args.slot m c.settle.new.run k.new c.settle.new.outcome.breaks k.breaks n_.closing) moment n_.closed) closes.goes.calm
         (subst (λ (x : ℕ). HasBroken (k.state k.before) (k.state k.after) x) (sym same) fell.2) (subst (λ (u : ℕ). NotesEvents (closed_events n_.closing u k.new) (is_err k.result) between last) second notes))
 
     left : HaveLeftMore o first_ last
     left =
         more-left o first_ last (w.within.powered.lit.unit.unit_holds [] []).later w.within.there.clocks
-        (keeps-by k.which first_ (g.M.Medium.state c.settle.new.unit) k.unit (k.state k.before) (k.state k.after) k.beside (subst (λ (m : Devices). AreLeftMore first_ m) (k.beside_it (g.M.Medium.state c.settle.new.unit)) (settled-left c.settle.ensures.goes)) (subst (λ (m : Devices). AreLater first_ m) (k.beside_it (g.M.Medium.state c.settle.new.unit)) (settled-later c.settle.ensures.goes c.settle.ensures.speeds)) closes.journal.keeps
-        (closing-left k.state k.before k.after (session_of c.settle.new.run.keeper.cabin.cards k.which) closes.left closes.bare))
+        (keeps-by k.which first_ (g.M.Medium.state c.settle.new.unit) k.unit (k.state k.before) (k.state k.after) k.beside (subst (λ (m : Devices). AreLeftMore first_ m) (k.beside_it (g.M.Medium.state c.settle.new.unit)) (settled-left c.settle.ensures.goes)) (subst (λ (m : Devices). AreLater first_ m) (k.beside_it (g.M.Medium.state c.settle.new.unit)) (settled-later c.settle.ensures.goes c.settle.ensures.speeds)) closes.writes.journal.keeps
+        (closing-left k.state k.before k.after (session_of c.settle.new.run.keeper.cabin.cards k.which) closes.shows.left closes.bare))
 
     places : PlacesStay o first_ last
     places =
@@ -435,8 +423,8 @@ module _ (g : Over) (c : In_ok-settle g) (k : OneCard c.in-Some.card (g.C.Chip.s
         let settles =
         left-there (λ m run. PlacesSettling v.decided m run c.settle.new.run c.args.outcome.now first_ between) c.args.slot c.args.at (acting_at s.number (suc (length front))) c.args.run.now c.leave.new.self c.leave.ensures.kept moment
         (subst (λ (m : Devices). PlacesSettling v.decided c.args.at (with_cabin c.leave.new.self c.args.run.now) c.settle.new.run c.args.outcome.now first_ m) (k.beside_it (g.M.Medium.state c.settle.new.unit)) v.places) in
-        stay-then o first_ between last (settled-places o done s front rest c.args.slot are speed now.speed_is k.which c.args.run.now c.settle.new.run c.args.outcome.now c.settle.new.outcome first_ w seat allowed (ungiven_of c.requires.going.span) c.requires.going.cabin minutes v.decided (v.given w.within.sp w.within.minutes) between settles time-then)
-        (closed-places o done s front rest c.args.slot are speed now.speed_is k.which c.args.run.now c.settle.new.run c.args.outcome.now c.settle.new.outcome first_ w seat allowed (ungiven_of c.requires.going.span) c.requires.going.cabin minutes r.decided (r.given w.within.sp w.within.minutes) k.state (g.M.Medium.state c.settle.new.unit) k.unit k.beside k.before k.after k.whole k.size closes.left closes.bare records time-then)
+        stay-then o first_ between last (settled-places o done s front rest c.args.slot are speed now.speed_is k.which c.args.run.now c.settle.new.run c.args.outcome.now c.settle.new.outcome first_ w seat allowed (ungiven_of c.requires.acting.going.span) c.requires.acting.going.cabin minutes v.decided (v.given w.within.sp w.within.minutes) between settles time-then)
+        (closed-places o done s front rest c.args.slot are speed now.speed_is k.which c.args.run.now c.settle.new.run c.args.outcome.now c.settle.new.outcome first_ w seat allowed (ungiven_of c.requires.acting.going.span) c.requires.acting.going.cabin minutes r.decided (r.given w.within.sp w.within.minutes) k.state (g.M.Medium.state c.settle.new.unit) k.unit k.beside k.before k.after k.whole k.size closes.shows.left closes.bare records time-then)
 
     shows : StillShow o first_ last
     shows =
@@ -445,8 +433,8 @@ module _ (g : Over) (c : In_ok-settle g) (k : OneCard c.in-Some.card (g.C.Chip.s
         let settles =
         left-there (λ m run. CardsSettling v.decided m run c.settle.new.run c.args.outcome.now first_ between) c.args.slot c.args.at (acting_at s.number (suc (length front))) c.args.run.now c.leave.new.self c.leave.ensures.kept moment
         (subst (λ (m : Devices). CardsSettling v.decided c.args.at (with_cabin c.leave.new.self c.args.run.now) c.settle.new.run c.args.outcome.now first_ m) (k.beside_it (g.M.Medium.state c.settle.new.unit)) v.cards) in
-        shows-then o first_ between last (settled-still o done s front rest c.args.slot are speed now.speed_is k.which c.args.run.now c.settle.new.run c.args.outcome.now c.settle.new.outcome first_ w seat allowed (ungiven_of c.requires.going.span) c.requires.going.cabin minutes v.decided (v.given w.within.sp w.within.minutes) between settles time-then)
-        (closed-still o done s front rest c.args.slot are speed now.speed_is k.which c.args.run.now c.settle.new.run c.args.outcome.now c.settle.new.outcome first_ w seat allowed (ungiven_of c.requires.going.span) c.requires.going.cabin minutes r.decided (r.given w.within.sp w.within.minutes) k.state (g.M.Medium.state c.settle.new.unit) k.unit k.beside k.before k.after k.whole k.size closes.left closes.bare records time-then)
+        shows-then o first_ between last (settled-still o done s front rest c.args.slot are speed now.speed_is k.which c.args.run.now c.settle.new.run c.args.outcome.now c.settle.new.outcome first_ w seat allowed (ungiven_of c.requires.acting.going.span) c.requires.acting.going.cabin minutes v.decided (v.given w.within.sp w.within.minutes) between settles time-then)
+        (closed-still o done s front rest c.args.slot are speed now.speed_is k.which c.args.run.now c.settle.new.run c.args.outcome.now c.settle.new.outcome first_ w seat allowed (ungiven_of c.requires.acting.going.span) c.requires.acting.going.cabin minutes r.decided (r.given w.within.sp w.within.minutes) k.state (g.M.Medium.state c.settle.new.unit) k.unit k.beside k.before k.after k.whole k.size closes.shows.left closes.bare records time-then)
 
     cards_ : CardsIn o done s w.within.b.run.log front (log_of c.args.outcome.now) first_ → CardsGoOn (is_err k.result) o done s w.within.b.run.log (front ++ Withdraw c.args.slot ∷ []) (log_of told) last
     cards_ before =
@@ -457,9 +445,9 @@ module _ (g : Over) (c : In_ok-settle g) (k : OneCard c.in-Some.card (g.C.Chip.s
 
     ringed : (spans : List SpanFrom) (t : Rattle.log_model.specs.Course.ToldSecond) → RingsWithin o done s w.within.b.run.log front c.args.run.now (log_of c.args.outcome.now) spans t first_ → RingsGoOn (is_err k.result) o done s w.within.b (front ++ Withdraw c.args.slot ∷ []) k.new (log_of told) spans t last
     ringed spans t rings =
-        let lit = c.requires.going in
+        let lit = c.requires.acting.going in
         let r = c.in_ok-settle.ensures.keeps in
-        let n_ = closes.rings (c.settle.ensures.goes.unit_tells ∙ w.within.there.unit) in
+        let n_ = closes.shows.rings (c.settle.ensures.goes.unit_tells ∙ w.within.there.unit) in
         let entries = entry-of c.args.run.now.noted (session_of c.args.run.now.keeper.cabin.cards k.which) (lit.entries k.which) in
         let closed = subst (λ (m : Moment). IsClosed k.which c.args.slot m c.settle.new.run k.new c.settle.new.outcome.breaks k.breaks n_.closing) moment n_.closed in
         let writes : ClosesRings n_.closing (session_of c.settle.new.run.keeper.cabin.cards k.which) (acting_at s.number (suc (length front))) (is_err k.result) c.settle.new.run (g.M.Medium.state c.args.unit.now) last.unit =
@@ -467,12 +455,12 @@ module _ (g : Over) (c : In_ok-settle g) (k : OneCard c.in-Some.card (g.C.Chip.s
         (subst (λ (x : State). ClosesRings n_.closing (session_of c.settle.new.run.keeper.cabin.cards k.which) c.args.at (is_err k.result) c.settle.new.run (g.M.Medium.state c.args.unit.now) x) (unit-is k.which k.unit (k.state k.after) k.beside)
         (closes-behind n_.closing (session_of c.settle.new.run.keeper.cabin.cards k.which) c.args.at (is_err k.result) c.settle.new.run (g.M.Medium.state c.args.unit.now) (g.M.Medium.state c.settle.new.unit) k.unit leaves n_.rings)) in
         let from_is : w.within.from ≡ ungiven_of lit.span = let to = w.within.until in let same = same-ungiven c.args.run.now.minutes w.within.sp lit.span w.within.minutes lit.stands in omega (arith, to, same) in
-        let later_ = (settled-decides None (c.args.run.now.next / 60) c.args.run.now lit kept.decided c.requires.small (kept.given lit.span lit.stands)).from in
-        closing-ringed o done s front rest c.args.slot are speed now.speed_is k.which c.args.run.now c.settle.new.run c.args.outcome.now c.settle.new.outcome first_ last w seat allowed false kept left places spans t rings (ungiven_of c.requires.going.span) c.requires.going.cabin small entries
+        let later_ = (settled-decides None (c.args.run.now.next / 60) c.args.run.now lit kept.decided c.requires.acting.small (kept.given lit.span lit.stands)).from in
+        closing-ringed o done s front rest c.args.slot are speed now.speed_is k.which c.args.run.now c.settle.new.run c.args.outcome.now c.settle.new.outcome first_ last w seat allowed false kept left places spans t rings (ungiven_of c.requires.acting.going.span) c.requires.acting.going.cabin small entries
         k.new k.breaks n_.closing closed minutes
-        (λ had has. untorn-then o done s front rest c.args.slot are speed now.speed_is k.which c.args.run.now c.settle.new.run c.args.outcome.now c.settle.new.outcome first_ w seat allowed (ungiven_of c.requires.going.span) c.requires.going.cabin minutes r.decided (r.given w.within.sp w.within.minutes) between records time-then had has)
-        (λ had none. gone-told o done s front rest c.args.slot are speed now.speed_is k.which c.args.run.now c.settle.new.run c.args.outcome.now c.settle.new.outcome first_ last w seat allowed false kept left places spans t rings (ungiven_of c.requires.going.span) c.requires.going.cabin small entries kept.kept w.within.from
-        (sat-there o done s front rest c.args.slot are speed now.speed_is k.which c.args.run.now c.settle.new.run c.args.outcome.now c.settle.new.outcome first_ w seat allowed (ungiven_of c.requires.going.span) c.requires.going.cabin minutes r.decided (r.given w.within.sp w.within.minutes) had)
+        (λ had has. untorn-then o done s front rest c.args.slot are speed now.speed_is k.which c.args.run.now c.settle.new.run c.args.outcome.now c.settle.new.outcome first_ w seat allowed (ungiven_of c.requires.acting.going.span) c.requires.acting.going.cabin minutes r.decided (r.given w.within.sp w.within.minutes) between records time-then had has)
+        (λ had none. gone-told o done s front rest c.args.slot are speed now.speed_is k.which c.args.run.now c.settle.new.run c.args.outcome.now c.settle.new.outcome first_ last w seat allowed false kept left places spans t rings (ungiven_of c.requires.acting.going.span) c.requires.acting.going.cabin small entries kept.kept w.within.from
+        (sat-there o done s front rest c.args.slot are speed now.speed_is k.which c.args.run.now c.settle.new.run c.args.outcome.now c.settle.new.outcome first_ w seat allowed (ungiven_of c.requires.acting.going.span) c.requires.acting.going.cabin minutes r.decided (r.given w.within.sp w.within.minutes) had)
         (subst (λ (low : ℕ). All (λ (m : Minute). low ≤ m.minute) kept.decided) (sym from_is) later_) had none)
         (is_err k.result) writes
 
@@ -541,8 +529,8 @@ returns-in_default-clause-promises g c = record {
 
 pub returns-in_default-clause-held : goal.returns-in_default-clause-held
 returns-in_default-clause-held g c = record {
-  held = c.requires.held;
-  cause = (no_reads (g.M.Medium.state c.args.unit.now) c.requires.going.ready.unit_ready.works).cause;
+  held = c.requires.acting.held;
+  cause = (no_reads (g.M.Medium.state c.args.unit.now) c.requires.acting.going.ready.unit_ready.works).cause;
 }
 
 pub returns-in_default-clause-goes : goal.returns-in_default-clause-goes
@@ -581,15 +569,15 @@ module _ (g : Over) (c : After-from_residual g) where
         let r = c.in_err-settle.ensures.keeps in
         subst (λ (q : Bool). GoesOnOrFails q o done s (In c.args.at.begun) [] c.settle.new.run c.settle.new.outcome end w.within.b) failed
         (subst (λ (q : ℕ). RunFails o done s (In q) c.settle.new.run c.settle.new.outcome end) (sym n)
-        (settling-cut o done s front rest c.args.slot are speed now.speed_is c.in-Some.card c.args.run.now c.settle.new.run c.args.outcome.now c.settle.new.outcome start w seat-left allowed (ungiven_of c.requires.going.span) c.requires.going.cabin (c.in_err-settle.ensures.settled.minutes w.within.sp w.within.minutes) r.decided (r.given w.within.sp w.within.minutes) end
-        (left-there (λ m run. RecordsSettling r.decided m true run c.settle.new.run c.args.outcome.now c.settle.new.outcome start end) c.args.slot c.args.at (acting_at s.number (suc (length front))) c.args.run.now c.leave.new.self c.leave.ensures.kept at-moment r.recorded) time))
+        (settling-cut o done s front rest c.args.slot are speed now.speed_is c.in-Some.card c.args.run.now c.settle.new.run c.args.outcome.now c.settle.new.outcome start w seat-left allowed (ungiven_of c.requires.acting.going.span) c.requires.acting.going.cabin (c.in_err-settle.ensures.settled.minutes w.within.sp w.within.minutes) r.decided (r.given w.within.sp w.within.minutes) end
+        (left-there (λ m run. RecordsSettling r.decided m true run c.settle.new.run c.args.outcome.now c.settle.new.outcome start end) c.args.slot c.args.at (acting_at s.number (suc (length front))) c.args.run.now c.leave.new.self c.leave.ensures.kept at-moment r.recorded) time c.settle.ensures.goes.memory))
 
     cut-evented : EventedNow o done s w.within.b.run Acting (log_of c.args.outcome.now) start → EventsGoOn (is_err c.from_residual.result) o done s w.within.b.run (In c.args.at.begun) Acting (log_of c.settle.new.outcome) end
     cut-evented events_ =
         let v = c.in_err-settle.ensures.keeps in
         subst (λ (q : Bool). EventsGoOn q o done s w.within.b.run (In c.args.at.begun) Acting (log_of c.settle.new.outcome) end) failed
         (subst (λ (q : ℕ). EventsGoOn true o done s w.within.b.run (In q) Acting (log_of c.settle.new.outcome) end) (sym n)
-        (settled-evented o done s front rest c.args.slot are speed now.speed_is c.in-Some.card c.args.run.now c.settle.new.run c.args.outcome.now c.settle.new.outcome start w seat-left allowed (ungiven_of c.requires.going.span) c.requires.going.cabin (c.in_err-settle.ensures.settled.minutes w.within.sp w.within.minutes) v.decided (v.given w.within.sp w.within.minutes) true end
+        (settled-evented o done s front rest c.args.slot are speed now.speed_is c.in-Some.card c.args.run.now c.settle.new.run c.args.outcome.now c.settle.new.outcome start w seat-left allowed (ungiven_of c.requires.acting.going.span) c.requires.acting.going.cabin (c.in_err-settle.ensures.settled.minutes w.within.sp w.within.minutes) v.decided (v.given w.within.sp w.within.minutes) true end
         (left-there (λ m run. EventsSettling v.decided m true run c.settle.new.run c.args.outcome.now c.settle.new.outcome start end) c.args.slot c.args.at (acting_at s.number (suc (length front))) c.args.run.now c.leave.new.self c.leave.ensures.kept at-moment v.evented) events_ time))
 
     cut-left : HaveLeftMore o start end
@@ -599,10 +587,10 @@ module _ (g : Over) (c : After-from_residual g) where
         → RingsGoOn (is_err c.from_residual.result) o done s w.within.b (front ++ Withdraw c.args.slot ∷ []) c.settle.new.run (log_of c.settle.new.outcome) spans t end
     cut-ringed spans t rings =
         let card : Card = c.in-Some.card in
-        let lit = c.requires.going in
-        let low : s.number < 2 ^ 32 = let most = c.requires.small in let same = now.number in omega (arith, most, same) in
+        let lit = c.requires.acting.going in
+        let low : s.number < 2 ^ 32 = let most = c.requires.acting.small in let same = now.number in omega (arith, most, same) in
         let v = c.in_err-settle.ensures.keeps in
-        let stay = settled-places o done s front rest c.args.slot are speed now.speed_is c.in-Some.card c.args.run.now c.settle.new.run c.args.outcome.now c.settle.new.outcome start w seat-left allowed (ungiven_of c.requires.going.span) c.requires.going.cabin (c.in_err-settle.ensures.settled.minutes w.within.sp w.within.minutes) v.decided (v.given w.within.sp w.within.minutes) end (left-there (λ m run. PlacesSettling v.decided m run c.settle.new.run c.args.outcome.now start end) c.args.slot c.args.at (acting_at s.number (suc (length front))) c.args.run.now c.leave.new.self c.leave.ensures.kept at-moment v.places) time in
+        let stay = settled-places o done s front rest c.args.slot are speed now.speed_is c.in-Some.card c.args.run.now c.settle.new.run c.args.outcome.now c.settle.new.outcome start w seat-left allowed (ungiven_of c.requires.acting.going.span) c.requires.acting.going.cabin (c.in_err-settle.ensures.settled.minutes w.within.sp w.within.minutes) v.decided (v.given w.within.sp w.within.minutes) end (left-there (λ m run. PlacesSettling v.decided m run c.settle.new.run c.args.outcome.now start end) c.args.slot c.args.at (acting_at s.number (suc (length front))) c.args.run.now c.leave.new.self c.leave.ensures.kept at-moment v.places) time in
         subst (λ (q : Bool). RingsGoOn q o done s w.within.b (front ++ Withdraw c.args.slot ∷ []) c.settle.new.run (log_of c.settle.new.outcome) spans t end) failed
         (settling-ringed o done s front rest c.args.slot are speed now.speed_is card c.args.run.now c.settle.new.run c.args.outcome.now c.settle.new.outcome start end w seat-left allowed true
         (left-there (λ m run. IsSettled m true run c.settle.new.run c.args.outcome.now c.settle.new.outcome) c.args.slot c.args.at (acting_at s.number (suc (length front))) c.args.run.now c.leave.new.self c.leave.ensures.kept at-moment c.in_err-settle.ensures.settled)
@@ -612,7 +600,7 @@ module _ (g : Over) (c : After-from_residual g) where
     cut-cards : CardsIn o done s w.within.b.run.log front (log_of c.args.outcome.now) start → CardsGoOn (is_err c.from_residual.result) o done s w.within.b.run.log (front ++ Withdraw c.args.slot ∷ []) (log_of c.settle.new.outcome) end
     cut-cards cards =
         let v = c.in_err-settle.ensures.keeps in
-        let still = settled-still o done s front rest c.args.slot are speed now.speed_is c.in-Some.card c.args.run.now c.settle.new.run c.args.outcome.now c.settle.new.outcome start w seat-left allowed (ungiven_of c.requires.going.span) c.requires.going.cabin (c.in_err-settle.ensures.settled.minutes w.within.sp w.within.minutes) v.decided (v.given w.within.sp w.within.minutes) end (left-there (λ m run. CardsSettling v.decided m run c.settle.new.run c.args.outcome.now start end) c.args.slot c.args.at (acting_at s.number (suc (length front))) c.args.run.now c.leave.new.self c.leave.ensures.kept at-moment v.cards) time in
+        let still = settled-still o done s front rest c.args.slot are speed now.speed_is c.in-Some.card c.args.run.now c.settle.new.run c.args.outcome.now c.settle.new.outcome start w seat-left allowed (ungiven_of c.requires.acting.going.span) c.requires.acting.going.cabin (c.in_err-settle.ensures.settled.minutes w.within.sp w.within.minutes) v.decided (v.given w.within.sp w.within.minutes) end (left-there (λ m run. CardsSettling v.decided m run c.settle.new.run c.args.outcome.now start end) c.args.slot c.args.at (acting_at s.number (suc (length front))) c.args.run.now c.leave.new.self c.leave.ensures.kept at-moment v.cards) time in
         let t : TellsLines (acting_at s.number (suc (length front))) c.args.outcome.now c.settle.new.outcome = subst (λ (m : Moment). TellsLines m c.args.outcome.now c.settle.new.outcome) at-moment
         (settled-lines c.args.at true (with_cabin c.leave.new.self c.args.run.now) c.settle.new.run c.args.outcome.now c.settle.new.outcome c.in_err-settle.ensures.settled) in
         quiet-goes o done s front rest (Withdraw c.args.slot) are c.args.run.now c.args.outcome.now start end w tt t.lines (log_of c.settle.new.outcome) t.are t.tears cut-left still cards (is_err c.from_residual.result)
@@ -646,7 +634,7 @@ returns-in_err-settle-clause-leaves g c = record {
       ));
   events =
       let settling = left-there (λ m run. NotesSettling m true run c.settle.new.run c.args.outcome.now c.settle.new.outcome (g.M.Medium.state c.args.unit.now) (g.M.Medium.state c.settle.new.unit)) c.args.slot c.args.at c.args.at c.args.run.now c.leave.new.self c.leave.ensures.kept refl (settled-noted c.in_err-settle.ensures.keeps) in
-      let these = settles-these c.args.at true (left_run c.args.slot c.args.at.second c.args.run.now) c.settle.new.run c.args.outcome.now c.settle.new.outcome (g.M.Medium.state c.args.unit.now) (g.M.Medium.state c.settle.new.unit) (g.C.Chip.state c.args.card_a.now) (g.D.Chip.state c.args.card_b.now) (g.C.Chip.state c.settle.new.card_a) (g.D.Chip.state c.settle.new.card_b) (g.met.M.Medium.coherent c.args.unit.now) c.requires.held.is_unit settling in
+      let these = settles-these c.args.at true (left_run c.args.slot c.args.at.second c.args.run.now) c.settle.new.run c.args.outcome.now c.settle.new.outcome (g.M.Medium.state c.args.unit.now) (g.M.Medium.state c.settle.new.unit) (g.C.Chip.state c.args.card_a.now) (g.D.Chip.state c.args.card_b.now) (g.C.Chip.state c.settle.new.card_a) (g.D.Chip.state c.settle.new.card_b) (g.met.M.Medium.coherent c.args.unit.now) c.requires.acting.held.is_unit settling in
       subst (λ (b : Bool). NotesWithdrawing (card_in (seat_in c.args.run.now.keeper.cabin.slots.seats c.args.slot)) c.args.slot c.args.at b c.args.run.now c.settle.new.run c.args.outcome.now c.settle.new.outcome (start g c) (end g c)) (failed g c)
       (withdrawal-cut (card_in (seat_in c.args.run.now.keeper.cabin.slots.seats c.args.slot)) c.in-Some.card (seat-left g c) c.args.slot c.args.at c.args.run.now c.settle.new.run c.args.outcome.now c.settle.new.outcome (start g c) (end g c) these.0 these.1 these.2);
   rings =
@@ -686,8 +674,8 @@ returns-in-A-clause-going g c =
     on_ok c.close.result (λ well.
     going-closed A c.args.slot c.args.at c.settle.new.run c.close.new.run c.settle.new.outcome.breaks c.close.new.breaks e.closed.0 e.closed.1 (g.M.Medium.state c.settle.new.unit) (g.M.Medium.state c.close.new.unit) (g.C.Chip.state c.settle.new.card_a) (g.C.Chip.state c.close.new.card) (g.D.Chip.state c.settle.new.card_b)
     (g.C.Chip.card c.settle.new.card_a) (g.C.Chip.card c.close.new.card) (g.D.Chip.card c.settle.new.card_b)
-    going (ok_gives c.close.result e.ready well) e.card (λ card h. ok_gives c.close.result (e.rows card h) well) (e.stands (ungiven_of going.span) going.cabin)
-    (knows-left c.settle.new.run.watch.newest (g.M.Medium.state c.settle.new.unit) (g.M.Medium.state c.close.new.unit) (g.met.M.Medium.coherent c.settle.new.unit) (g.met.M.Medium.coherent c.close.new.unit) going.ready.unit_ready.works e.speeds))
+    going (ok_gives c.close.result e.behind.ready well) e.behind.card (λ card h. ok_gives c.close.result (e.behind.rows card h) well) (e.stands (ungiven_of going.span) going.cabin)
+    (knows-left c.settle.new.run.watch.newest (g.M.Medium.state c.settle.new.unit) (g.M.Medium.state c.close.new.unit) (g.met.M.Medium.coherent c.settle.new.unit) (g.met.M.Medium.coherent c.close.new.unit) going.ready.unit_ready.works e.writes.speeds))
 
 pub returns-in-A-clause-takes : goal.returns-in-A-clause-takes
 returns-in-A-clause-takes g c = takes g (kept-a g c) (side-a g c) c.close.ensures
@@ -722,8 +710,8 @@ returns-in-A-clause-held g c = record {
       let going = going-with g (kept-a g c) A c.in-A.is in
       held-closed A c.args.slot c.args.at c.settle.new.run c.close.new.run c.settle.new.outcome.breaks c.close.new.breaks e.closed.0 e.closed.1 (g.M.Medium.state c.settle.new.unit) (g.M.Medium.state c.close.new.unit) (g.C.Chip.state c.settle.new.card_a) (g.C.Chip.state c.close.new.card) (g.D.Chip.state c.settle.new.card_b)
       (g.C.Chip.card c.settle.new.card_a) (g.C.Chip.card c.close.new.card) (g.D.Chip.card c.settle.new.card_b)
-      (at-then g (kept-a g c)) c.settle.ensures.held e.unit e.card e.size (ungiven_of going.span, None, e.stands (ungiven_of going.span) going.cabin);
-  cause = cause_after c.in_ok-settle.ensures.behind.cause c.close.ensures.cause;
+      (at-then g (kept-a g c)) c.settle.ensures.held e.behind.unit e.behind.card e.behind.size (ungiven_of going.span, None, e.stands (ungiven_of going.span) going.cabin);
+  cause = cause_after c.in_ok-settle.ensures.behind.cause c.close.ensures.behind.cause;
 }
 
 pub returns-in-A-clause-goes : goal.returns-in-A-clause-goes
@@ -740,8 +728,8 @@ returns-in-B-clause-going g c =
     on_ok c.close-in-B.result (λ well.
     going-closed B c.args.slot c.args.at c.settle.new.run c.close-in-B.new.run c.settle.new.outcome.breaks c.close-in-B.new.breaks e.closed.0 e.closed.1 (g.M.Medium.state c.settle.new.unit) (g.M.Medium.state c.close-in-B.new.unit) (g.D.Chip.state c.settle.new.card_b) (g.D.Chip.state c.close-in-B.new.card) (g.C.Chip.state c.settle.new.card_a)
     (g.D.Chip.card c.settle.new.card_b) (g.D.Chip.card c.close-in-B.new.card) (g.C.Chip.card c.settle.new.card_a)
-    going (ok_gives c.close-in-B.result e.ready well) e.card (λ card h. ok_gives c.close-in-B.result (e.rows card h) well) (e.stands (ungiven_of going.span) going.cabin)
-    (knows-left c.settle.new.run.watch.newest (g.M.Medium.state c.settle.new.unit) (g.M.Medium.state c.close-in-B.new.unit) (g.met.M.Medium.coherent c.settle.new.unit) (g.met.M.Medium.coherent c.close-in-B.new.unit) going.ready.unit_ready.works e.speeds))
+    going (ok_gives c.close-in-B.result e.behind.ready well) e.behind.card (λ card h. ok_gives c.close-in-B.result (e.behind.rows card h) well) (e.stands (ungiven_of going.span) going.cabin)
+    (knows-left c.settle.new.run.watch.newest (g.M.Medium.state c.settle.new.unit) (g.M.Medium.state c.close-in-B.new.unit) (g.met.M.Medium.coherent c.settle.new.unit) (g.met.M.Medium.coherent c.close-in-B.new.unit) going.ready.unit_ready.works e.writes.speeds))
 
 pub returns-in-B-clause-takes : goal.returns-in-B-clause-takes
 returns-in-B-clause-takes g c = takes g (kept-b g c) (side-b g c) c.close-in-B.ensures
@@ -776,8 +764,8 @@ returns-in-B-clause-held g c = record {
       let going = going-with g (kept-b g c) B c.in-B.is in
       held-closed B c.args.slot c.args.at c.settle.new.run c.close-in-B.new.run c.settle.new.outcome.breaks c.close-in-B.new.breaks e.closed.0 e.closed.1 (g.M.Medium.state c.settle.new.unit) (g.M.Medium.state c.close-in-B.new.unit) (g.D.Chip.state c.settle.new.card_b) (g.D.Chip.state c.close-in-B.new.card) (g.C.Chip.state c.settle.new.card_a)
       (g.D.Chip.card c.settle.new.card_b) (g.D.Chip.card c.close-in-B.new.card) (g.C.Chip.card c.settle.new.card_a)
-      (at-then g (kept-b g c)) c.settle.ensures.held e.unit e.card e.size (ungiven_of going.span, None, e.stands (ungiven_of going.span) going.cabin);
-  cause = cause_after c.in_ok-settle.ensures.behind.cause c.close-in-B.ensures.cause;
+      (at-then g (kept-b g c)) c.settle.ensures.held e.behind.unit e.behind.card e.behind.size (ungiven_of going.span, None, e.stands (ungiven_of going.span) going.cabin);
+  cause = cause_after c.in_ok-settle.ensures.behind.cause c.close-in-B.ensures.behind.cause;
 }
 
 pub returns-in-B-clause-goes : goal.returns-in-B-clause-goes

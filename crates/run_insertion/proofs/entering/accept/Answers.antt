@@ -1,4 +1,5 @@
-use Rattle.std.proofs.Common.{arith, inl, ◌≡◌, ◌∙◌, ◌≤◌, ℕ, true, None, Ok, refl, ap, sym, subst, [], ◌∷◌}
+use Rattle.std.proofs.lemmas.Grind.{common_steps}
+use Rattle.std.proofs.Common.{rules, arith, inl, ◌≡◌, ◌∙◌, ◌≤◌, ℕ, true, None, Ok, refl, ap, sym, subst, [], ◌∷◌}
 use Rattle.std.specs.Prelude.{is_err, Result, Err}
 use Rattle.card_layout.specs.declared.files.Application.{Application}
 use Rattle.card_layout.specs.Application.{place_of_field}
@@ -50,7 +51,7 @@ returns-in_default-clause-entered g c =
       Unread,
       entered-unread e k c.args.noted.now c.args.outcome.now U X M (g.met.C.Chip.coherent c.wake.new.card) c.wake.ensures.leaves (g.met.C.Chip.coherent c.args.card.now) c.in_default.ensures.cause
           (is_err c.tear.result) c.tear.new.self c.tear.new.breaks W keeper c.tear.ensures.told notes,
-      λ f w m low. let may = woken-may e k (Err UNTOLD) U X M Z (g.met.M.Medium.coherent c.args.unit.now) (g.met.C.Chip.coherent c.args.card.now) c.wake.ensures.leaves c.wake.ensures.clock c.requires.bare f w m in record {
+      λ f w m named low. let may = woken-may e k (Err UNTOLD) U X M Z (g.met.M.Medium.coherent c.args.unit.now) (g.met.C.Chip.coherent c.args.card.now) c.wake.ensures.leaves c.wake.ensures.clock c.requires.bare f w m in record {
         taken = torn-carried f (with_standing e.which Out w) e (record k { cabin = with_sizes_of e.which (Err UNTOLD) k.cabin }) c.tear.new.self U W M Z (is_err c.tear.result) (still-bare e k (Err UNTOLD) U X M Z (g.met.M.Medium.coherent c.args.unit.now) (g.met.C.Chip.coherent c.args.card.now) c.wake.ensures.leaves c.wake.ensures.clock c.requires.bare) may.found (g.met.M.Medium.coherent c.args.unit.now) may.powered keeper c.tear.ensures.journal c.tear.ensures.cause;
         found = found-fallen true f e (record k { cabin = with_sizes_of e.which (Err UNTOLD) k.cabin }) c.tear.new.self keeper may.found;
         told = tt;
@@ -59,9 +60,6 @@ returns-in_default-clause-entered g c =
         opens = λ valid. tt;
       },
     )
-
-pub returns-in_default-clause-stands : goal.returns-in_default-clause-stands
-returns-in_default-clause-stands g c = λ from le s. c.tear.ensures.stands from None (c.measure.ensures.stands from None s)
 
 -- ---- it goes by its sizes
 
@@ -84,13 +82,9 @@ returns-in-Ok-sizes-clause-entered g c =
       Judged app ended.0,
       entered-judged e k c.args.noted.now c.args.outcome.now U X M (g.met.C.Chip.coherent c.wake.new.card) c.wake.ensures.leaves c.wake.ensures.clock c.in-Ok.ensures.cause app failed c.accept_by.new.keeper
           c.accept_by.new.noted c.accept_by.new.outcome W Y measured_.2 (let most = largest_image app measured_.0.good in let size = measured_.0.size in omega (arith, most, size)) (g.met.C.Chip.coherent c.accept_by.new.card) ended.0
-          (sits-works e (record k { cabin = with_sizes_of e.which (Ok app) k.cabin }) c.accept_by.new.keeper c.args.noted.now ended.0 (g.C.Chip.card c.accept_by.new.card) Y j.left.keeper c.accept_by.ensures.card) j,
-      λ f w m low. woken-known e k (Ok app) U X M Z (g.met.M.Medium.coherent c.args.unit.now) (g.met.C.Chip.coherent c.args.card.now) c.wake.ensures.leaves c.wake.ensures.clock c.requires.bare ended.0 failed c.accept_by.new.keeper W Y f w m ((subst (λ (b : Cabin). BooksJudged ended.0 e failed (record k { cabin = b }) c.accept_by.new.keeper U W M Y Z) kept ended.2) f (with_standing e.which Out w) (woken-may e k (Ok app) U X M Z (g.met.M.Medium.coherent c.args.unit.now) (g.met.C.Chip.coherent c.args.card.now) c.wake.ensures.leaves c.wake.ensures.clock c.requires.bare f w m) (out-now e.which w) low),
+          (sits-works e (record k { cabin = with_sizes_of e.which (Ok app) k.cabin }) c.accept_by.new.keeper c.args.noted.now ended.0 (g.C.Chip.card c.accept_by.new.card) Y j.left.keeper c.accept_by.ensures.behind.card) j,
+      λ f w m named low. woken-known e k (Ok app) U X M Z (g.met.M.Medium.coherent c.args.unit.now) (g.met.C.Chip.coherent c.args.card.now) c.wake.ensures.leaves c.wake.ensures.clock c.requires.bare ended.0 failed c.accept_by.new.keeper W Y f w m ((subst (λ (b : Cabin). BooksJudged ended.0 e failed (record k { cabin = b }) c.accept_by.new.keeper U W M Y Z) kept ended.2) f (with_standing e.which Out w) (woken-may e k (Ok app) U X M Z (g.met.M.Medium.coherent c.args.unit.now) (g.met.C.Chip.coherent c.args.card.now) c.wake.ensures.leaves c.wake.ensures.clock c.requires.bare f w m) named (out-now e.which w) low),
     )
-
-pub returns-in-Ok-sizes-clause-stands : goal.returns-in-Ok-sizes-clause-stands
-returns-in-Ok-sizes-clause-stands g c = λ from le s.
-    c.accept_by.ensures.stands from (subst (λ (b : Cabin). b.slots.minute ≤ from) (sym c.measure-2.ensures.kept) le) (c.measure-2.ensures.stands from None s)
 
 -- ---- a field of them is bad
 
@@ -112,7 +106,7 @@ returns-in-Err-clause-entered g c =
     let notes = subst (λ (b : Cabin). HasNoted IsOnUnit IsComing (notes_by (Unfit APPLICATION_FILE (place_of_field field)) e c.args.noted.now b) failed U W) kept c.refuse.ensures.notes in
     let r = subst (λ (b : Cabin). HasEntered e failed k (record k { cabin = b }) c.args.noted.now c.args.noted.now o c.refuse.new.outcome U W X M (Unsized field) × BooksEntered (Unsized field) e failed k (record k { cabin = b }) U W X M Z) (sym kept) (
       entered-unsized e k c.args.noted.now o U X M (g.met.C.Chip.coherent c.wake.new.card) c.wake.ensures.leaves c.in-Ok.ensures.cause field failed c.refuse.new.outcome W bad told notes,
-      λ f w m low. let may = woken-may e k (Err field) U X M Z (g.met.M.Medium.coherent c.args.unit.now) (g.met.C.Chip.coherent c.args.card.now) c.wake.ensures.leaves c.wake.ensures.clock c.requires.bare f w m in record {
+      λ f w m named low. let may = woken-may e k (Err field) U X M Z (g.met.M.Medium.coherent c.args.unit.now) (g.met.C.Chip.coherent c.args.card.now) c.wake.ensures.leaves c.wake.ensures.clock c.requires.bare f w m in record {
         taken = noted-carried e.which f (with_standing e.which Out w) (with_sizes_of e.which (Err field) k.cabin).cards U W M Z failed may.found (g.met.M.Medium.coherent c.args.unit.now) may.powered c.refuse.ensures.journal c.refuse.ensures.cause;
         found = may.found;
         told = tt;
@@ -122,15 +116,6 @@ returns-in-Err-clause-entered g c =
       },
     ) in
     (Unsized field, r.0, r.1)
-
-pub returns-in-Err-clause-stands : goal.returns-in-Err-clause-stands
-returns-in-Err-clause-stands g c = λ from le s. c.measure-2.ensures.stands from None s
-
-pub returns-in-Err-clause-card : goal.returns-in-Err-clause-card
-returns-in-Err-clause-card g c =
-    let kept = c.measure-2.ensures.kept ∙ ap (λ (s : Result Application ℕ). with_sizes_of c.args.entering.which s c.args.keeper.now.cabin) c.in-Err.is in
-    subst (λ (b : Cabin). CardMayBeCalled (known_of b.cards c.args.entering.which) (g.C.Chip.card c.wake.new.card) (g.C.Chip.state c.wake.new.card)) (sym kept)
-    (unsized-ready c.args.entering.which c.args.keeper.now.cabin c.in-Err.field (g.C.Chip.card c.wake.new.card) (g.C.Chip.state c.wake.new.card) c.requires.bare)
 
 -- ---- the clocks
 
@@ -151,41 +136,66 @@ returns-in-Ok-sizes-clause-in_time g c = woken-early c.args.entering (g.C.Chip.s
 pub returns-in-Err-clause-in_time : goal.returns-in-Err-clause-in_time
 returns-in-Err-clause-in_time g c = inl c.wake.ensures.leaves
 
--- ---- what holds of the devices after any calls
-
-pub returns-in_default-clause-later : goal.returns-in_default-clause-later
-returns-in_default-clause-later g c = let same = c.wake.ensures.clock in state-revived (g.C.Chip.state c.args.card.now) (g.C.Chip.state c.wake.new.card) _ (omega (arith, same)) c.in_default.ensures.cause
-
-pub returns-in-Ok-sizes-clause-later : goal.returns-in-Ok-sizes-clause-later
-returns-in-Ok-sizes-clause-later g c = let same = c.wake.ensures.clock in state-then (g.C.Chip.state c.args.card.now) (g.C.Chip.state c.wake.new.card) (g.C.Chip.state c.accept_by.new.card) (state-revived (g.C.Chip.state c.args.card.now) (g.C.Chip.state c.wake.new.card) _ (omega (arith, same)) c.in-Ok.ensures.cause) c.accept_by.ensures.later
-
-pub returns-in-Err-clause-later : goal.returns-in-Err-clause-later
-returns-in-Err-clause-later g c = let same = c.wake.ensures.clock in state-revived (g.C.Chip.state c.args.card.now) (g.C.Chip.state c.wake.new.card) _ (omega (arith, same)) c.in-Ok.ensures.cause
-
--- ---- each card that has its row has it still
-
-pub returns-in_default-clause-rows : goal.returns-in_default-clause-rows
-returns-in_default-clause-rows g c = λ card h.
-    let U = g.M.Medium.state c.args.unit.now in
-    c.tear.ensures.rows card (subst (λ (b : Cabin). HasItsRow b.cards U card) (sym c.measure.ensures.kept) (row-measured c.args.entering.which (Err UNTOLD) c.args.keeper.now.cabin.cards U card h))
-
-pub returns-in-Ok-sizes-clause-rows : goal.returns-in-Ok-sizes-clause-rows
-returns-in-Ok-sizes-clause-rows g c = λ card h.
-    let U = g.M.Medium.state c.args.unit.now in
-    c.accept_by.ensures.rows card (subst (λ (b : Cabin). HasItsRow b.cards U card) (sym c.measure-2.ensures.kept) (row-measured c.args.entering.which c.in-Ok.sizes c.args.keeper.now.cabin.cards U card h))
-
-pub returns-in-Err-clause-rows : goal.returns-in-Err-clause-rows
-returns-in-Err-clause-rows g c = λ card h.
-    let U = g.M.Medium.state c.args.unit.now in
-    c.refuse.ensures.rows card (subst (λ (b : Cabin). HasItsRow b.cards U card) (sym c.measure-2.ensures.kept) (row-measured c.args.entering.which c.in-Ok.sizes c.args.keeper.now.cabin.cards U card h))
-
 -- ---- where no tear of a failed call is told no card has broken down
 
-pub returns-in_default-clause-calm : goal.returns-in_default-clause-calm
-returns-in_default-clause-calm g c = card-fell c.args.entering.slot c.args.entering.at (ap (λ (l : Listed Break). l.items) c.tear.ensures.told)
+pub returns-in_default-clause-behind : goal.returns-in_default-clause-behind
+returns-in_default-clause-behind g c = record {
+  ready = first_of (search rules, grind (arith, common_steps));
+  rows =
+      λ card h.
+      let U = g.M.Medium.state c.args.unit.now in
+      c.tear.ensures.rows card (subst (λ (b : Cabin). HasItsRow b.cards U card) (sym c.measure.ensures.kept) (row-measured c.args.entering.which (Err UNTOLD) c.args.keeper.now.cabin.cards U card h));
+  stands = λ from le s. c.tear.ensures.stands from None (c.measure.ensures.stands from None s);
+  cause = first_of (search rules, grind (arith, common_steps));
+  card = first_of (search rules, grind (arith, common_steps));
+  size = first_of (search rules, grind (arith, common_steps));
+}
 
-pub returns-in-Ok-sizes-clause-calm : goal.returns-in-Ok-sizes-clause-calm
-returns-in-Ok-sizes-clause-calm g c = card-first (g.C.Chip.state c.args.card.now) (g.C.Chip.state c.wake.new.card) (g.C.Chip.state c.accept_by.new.card) (c.in-Ok.ensures.cause.unbroken refl) c.accept_by.ensures.calm
+pub returns-in_default-clause-goes : goal.returns-in_default-clause-goes
+returns-in_default-clause-goes g c = record {
+  later = let same = c.wake.ensures.clock in state-revived (g.C.Chip.state c.args.card.now) (g.C.Chip.state c.wake.new.card) _ (omega (arith, same)) c.in_default.ensures.cause;
+  calm = card-fell c.args.entering.slot c.args.entering.at (ap (λ (l : Listed Break). l.items) c.tear.ensures.told);
+}
 
-pub returns-in-Err-clause-calm : goal.returns-in-Err-clause-calm
-returns-in-Err-clause-calm g c = card-told [] (ap (λ (o : Outcome). o.breaks.items) c.refuse.ensures.told) refl (c.in-Ok.ensures.cause.unbroken refl)
+pub returns-in-Ok-sizes-clause-behind : goal.returns-in-Ok-sizes-clause-behind
+returns-in-Ok-sizes-clause-behind g c = record {
+  ready = first_of (search rules, grind (arith, common_steps));
+  rows =
+      λ card h.
+      let U = g.M.Medium.state c.args.unit.now in
+      c.accept_by.ensures.behind.rows card (subst (λ (b : Cabin). HasItsRow b.cards U card) (sym c.measure-2.ensures.kept) (row-measured c.args.entering.which c.in-Ok.sizes c.args.keeper.now.cabin.cards U card h));
+  stands =
+      λ from le s.
+      c.accept_by.ensures.behind.stands from (subst (λ (b : Cabin). b.slots.minute ≤ from) (sym c.measure-2.ensures.kept) le) (c.measure-2.ensures.stands from None s);
+  cause = first_of (search rules, grind (arith, common_steps));
+  card = first_of (search rules, grind (arith, common_steps));
+  size = first_of (search rules, grind (arith, common_steps));
+}
+
+pub returns-in-Ok-sizes-clause-goes : goal.returns-in-Ok-sizes-clause-goes
+returns-in-Ok-sizes-clause-goes g c = record {
+  later = let same = c.wake.ensures.clock in state-then (g.C.Chip.state c.args.card.now) (g.C.Chip.state c.wake.new.card) (g.C.Chip.state c.accept_by.new.card) (state-revived (g.C.Chip.state c.args.card.now) (g.C.Chip.state c.wake.new.card) _ (omega (arith, same)) c.in-Ok.ensures.cause) c.accept_by.ensures.goes.later;
+  calm = card-first (g.C.Chip.state c.args.card.now) (g.C.Chip.state c.wake.new.card) (g.C.Chip.state c.accept_by.new.card) (c.in-Ok.ensures.cause.unbroken refl) c.accept_by.ensures.goes.calm;
+}
+
+pub returns-in-Err-clause-behind : goal.returns-in-Err-clause-behind
+returns-in-Err-clause-behind g c = record {
+  ready = first_of (search rules, grind (arith, common_steps));
+  rows =
+      λ card h.
+      let U = g.M.Medium.state c.args.unit.now in
+      c.refuse.ensures.rows card (subst (λ (b : Cabin). HasItsRow b.cards U card) (sym c.measure-2.ensures.kept) (row-measured c.args.entering.which c.in-Ok.sizes c.args.keeper.now.cabin.cards U card h));
+  stands = λ from le s. c.measure-2.ensures.stands from None s;
+  cause = first_of (search rules, grind (arith, common_steps));
+  card =
+      let kept = c.measure-2.ensures.kept ∙ ap (λ (s : Result Application ℕ). with_sizes_of c.args.entering.which s c.args.keeper.now.cabin) c.in-Err.is in
+      subst (λ (b : Cabin). CardMayBeCalled (known_of b.cards c.args.entering.which) (g.C.Chip.card c.wake.new.card) (g.C.Chip.state c.wake.new.card)) (sym kept)
+      (unsized-ready c.args.entering.which c.args.keeper.now.cabin c.in-Err.field (g.C.Chip.card c.wake.new.card) (g.C.Chip.state c.wake.new.card) c.requires.bare);
+  size = first_of (search rules, grind (arith, common_steps));
+}
+
+pub returns-in-Err-clause-goes : goal.returns-in-Err-clause-goes
+returns-in-Err-clause-goes g c = record {
+  later = let same = c.wake.ensures.clock in state-revived (g.C.Chip.state c.args.card.now) (g.C.Chip.state c.wake.new.card) _ (omega (arith, same)) c.in-Ok.ensures.cause;
+  calm = card-told [] (ap (λ (o : Outcome). o.breaks.items) c.refuse.ensures.told) refl (c.in-Ok.ensures.cause.unbroken refl);
+}

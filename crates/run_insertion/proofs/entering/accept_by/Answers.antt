@@ -1,3 +1,4 @@
+use Rattle.std.proofs.lemmas.Grind.{common_steps}
 use Rattle.std.proofs.Common.{◌≡◌, ◌<◌, ◌^◌, ℕ, rules, arith, length, Option, None, Ok, List, IfSome, option_map, refl, sym, subst, ap, [], ◌≤◌}
 use Rattle.tacho_types.specs.CardNumber.{card_number_bytes}
 use Rattle.tacho_types.specs.declared.card_number.FullCardNumber.{FullCardNumber}
@@ -48,8 +49,8 @@ returns-in-Ok-clause-ended g c =
     let t = c.take_in.ensures.ended in (
       taken_as t.0 c.in-Ok.entered (g.C.Chip.state c.enter.new.card).clock t.1,
       judged-taken c.args.app c.args.entering c.args.keeper.now c.args.noted.now c.args.outcome.now (g.M.Medium.state c.args.unit.now) (g.M.Medium.state c.enter.new.unit) (g.C.Chip.state c.args.card.now) (g.C.Chip.state c.enter.new.card) c.in-Ok.entered enters c.enter.ensures.leaves.later (is_err c.take_in.result) c.take_in.new.keeper c.take_in.new.noted c.take_in.new.outcome
-          (g.M.Medium.state c.take_in.new.unit) (g.C.Chip.state c.take_in.new.card) c.take_in.ensures.low c.take_in.ensures.sized t.0 t.1 t.2 t.3,
-      λ f w m out low. taken-known c.args.app c.args.entering c.args.keeper.now (g.M.Medium.state c.args.unit.now) (g.M.Medium.state c.enter.new.unit) (g.C.Chip.state c.args.card.now) (g.C.Chip.state c.enter.new.card) (g.D.Chip.state c.args.others.now) (g.met.M.Medium.coherent c.args.unit.now) (g.met.M.Medium.coherent c.enter.new.unit) (g.met.C.Chip.coherent c.args.card.now) (g.met.C.Chip.coherent c.enter.new.card) c.requires.bare c.requires.sized (roomy g p) c.args.keeper.now.memory.registration (long g p) c.args.entering.odometer.0 (omega (arith, c.requires.last)) (Ok c.in-Ok.entered) enters f w m out c.in-Ok.entered refl t.0 t.1 (is_err c.take_in.result) c.take_in.new.keeper (g.M.Medium.state c.take_in.new.unit) (g.C.Chip.state c.take_in.new.card) refl refl c.requires.second c.requires.works (enters.unit.cause refl).works (let later = t.3.later in omega (arith, later, low)) c.take_in.ensures.most t.4,
+          (g.M.Medium.state c.take_in.new.unit) (g.C.Chip.state c.take_in.new.card) c.take_in.ensures.judged.low c.take_in.ensures.judged.sized t.0 t.1 t.2 t.3,
+      λ f w m named out low. taken-known c.args.app c.args.entering c.args.keeper.now (g.M.Medium.state c.args.unit.now) (g.M.Medium.state c.enter.new.unit) (g.C.Chip.state c.args.card.now) (g.C.Chip.state c.enter.new.card) (g.D.Chip.state c.args.others.now) (g.met.M.Medium.coherent c.args.unit.now) (g.met.M.Medium.coherent c.enter.new.unit) (g.met.C.Chip.coherent c.args.card.now) (g.met.C.Chip.coherent c.enter.new.card) c.requires.bare c.requires.sized (roomy g p) c.args.keeper.now.memory.registration (long g p) c.args.entering.odometer.0 (omega (arith, c.requires.last)) (Ok c.in-Ok.entered) enters f w m named out c.in-Ok.entered refl t.0 t.1 (is_err c.take_in.result) c.take_in.new.keeper (g.M.Medium.state c.take_in.new.unit) (g.C.Chip.state c.take_in.new.card) refl refl c.requires.second c.requires.works (enters.unit.cause refl).works (let later = t.3.later in omega (arith, later, low)) c.take_in.ensures.judged.most t.4,
     )
 
 pub returns-in-Err-UnitFailed-clause-ended : goal.returns-in-Err-UnitFailed-clause-ended
@@ -59,7 +60,7 @@ returns-in-Err-UnitFailed-clause-ended g c =
     let enters : EntersNow g p (Err UnitFailed) = subst (λ (i : Identity). EntersBy g p i (Err UnitFailed)) c.identity.ensures (subst (λ (f : NotEntered). EntersBy g p c.identity.result (Err f)) is c.in-Err-UnitFailed.ensures.enters) in (
       Unasked,
       judged-unasked c.args.app c.args.entering c.args.keeper.now c.args.noted.now c.args.outcome.now (g.M.Medium.state c.args.unit.now) (g.M.Medium.state c.enter.new.unit) (g.C.Chip.state c.args.card.now) (g.C.Chip.state c.enter.new.card) enters,
-      λ f w m out low. unasked-known c.args.app c.args.entering c.args.keeper.now (g.M.Medium.state c.args.unit.now) (g.M.Medium.state c.enter.new.unit) (g.C.Chip.state c.args.card.now) (g.C.Chip.state c.enter.new.card) (g.D.Chip.state c.args.others.now) (g.met.M.Medium.coherent c.args.unit.now) (g.met.M.Medium.coherent c.enter.new.unit) (g.met.C.Chip.coherent c.args.card.now) (g.met.C.Chip.coherent c.enter.new.card) c.requires.bare c.requires.sized (roomy g p) c.args.keeper.now.memory.registration (long g p) c.args.entering.odometer.0 (omega (arith, c.requires.last)) (Err UnitFailed) enters f w m out (λ never. never),
+      λ f w m named out low. unasked-known c.args.app c.args.entering c.args.keeper.now (g.M.Medium.state c.args.unit.now) (g.M.Medium.state c.enter.new.unit) (g.C.Chip.state c.args.card.now) (g.C.Chip.state c.enter.new.card) (g.D.Chip.state c.args.others.now) (g.met.M.Medium.coherent c.args.unit.now) (g.met.M.Medium.coherent c.enter.new.unit) (g.met.C.Chip.coherent c.args.card.now) (g.met.C.Chip.coherent c.enter.new.card) c.requires.bare c.requires.sized (roomy g p) c.args.keeper.now.memory.registration (long g p) c.args.entering.odometer.0 (omega (arith, c.requires.last)) (Err UnitFailed) enters f w m named out (λ never. never),
     )
 
 pub returns-in-Err-CardFailed-clause-ended : goal.returns-in-Err-CardFailed-clause-ended
@@ -70,11 +71,8 @@ returns-in-Err-CardFailed-clause-ended g c =
       Fell,
       judged-fell c.args.app c.args.entering c.args.keeper.now c.args.noted.now c.args.outcome.now (g.M.Medium.state c.args.unit.now) (g.M.Medium.state c.enter.new.unit) (g.C.Chip.state c.args.card.now) (g.C.Chip.state c.enter.new.card) (is_err c.tear.result) c.tear.new.self c.tear.new.breaks (g.M.Medium.state c.tear.new.unit) c.requires.works enters c.tear.ensures.keeper c.tear.ensures.told
           (fault-noted c.args.entering c.args.keeper.now c.tear.new.self c.tear.result c.tear.ensures.keeper c.tear.ensures.noted c.tear.ensures.moments),
-      λ f w m out low. fell-known c.args.app c.args.entering c.args.keeper.now (g.M.Medium.state c.args.unit.now) (g.M.Medium.state c.enter.new.unit) (g.C.Chip.state c.args.card.now) (g.C.Chip.state c.enter.new.card) (g.D.Chip.state c.args.others.now) (g.met.M.Medium.coherent c.args.unit.now) (g.met.M.Medium.coherent c.enter.new.unit) (g.met.C.Chip.coherent c.args.card.now) (g.met.C.Chip.coherent c.enter.new.card) c.requires.bare c.requires.sized (roomy g p) c.args.keeper.now.memory.registration (long g p) c.args.entering.odometer.0 (omega (arith, c.requires.last)) (Err CardFailed) enters f w m out (is_err c.tear.result) (g.M.Medium.state c.tear.new.unit) (enters.unit.rests refl c.requires.ready.works).works c.tear.ensures.journal c.tear.ensures.cause c.tear.new.self c.tear.ensures.keeper,
+      λ f w m named out low. fell-known c.args.app c.args.entering c.args.keeper.now (g.M.Medium.state c.args.unit.now) (g.M.Medium.state c.enter.new.unit) (g.C.Chip.state c.args.card.now) (g.C.Chip.state c.enter.new.card) (g.D.Chip.state c.args.others.now) (g.met.M.Medium.coherent c.args.unit.now) (g.met.M.Medium.coherent c.enter.new.unit) (g.met.C.Chip.coherent c.args.card.now) (g.met.C.Chip.coherent c.enter.new.card) c.requires.bare c.requires.sized (roomy g p) c.args.keeper.now.memory.registration (long g p) c.args.entering.odometer.0 (omega (arith, c.requires.last)) (Err CardFailed) enters f w m named out (is_err c.tear.result) (g.M.Medium.state c.tear.new.unit) (enters.unit.rests refl c.requires.ready.works).works c.tear.ensures.journal c.tear.ensures.cause c.tear.new.self c.tear.ensures.keeper,
     )
-
-pub returns-in-Err-CardFailed-clause-stands : goal.returns-in-Err-CardFailed-clause-stands
-returns-in-Err-CardFailed-clause-stands g c = λ from le s. c.tear.ensures.stands from None s
 
 pub returns-in-Err-NotValid-clause-ended : goal.returns-in-Err-NotValid-clause-ended
 returns-in-Err-NotValid-clause-ended g c =
@@ -86,7 +84,7 @@ returns-in-Err-NotValid-clause-ended g c =
     let told = unfit-told c.args.entering c.args.outcome.now c.refuse.new.outcome _ fid _ place c.refuse.ensures.told (cc (c.in-Err-NotValid.fid-is)) (cc (c.in-Err-NotValid.place-is)) in (
       Unfit fid place,
       judged-unfit c.args.app c.args.entering c.args.keeper.now c.args.noted.now c.args.outcome.now (g.M.Medium.state c.args.unit.now) (g.M.Medium.state c.enter.new.unit) (g.C.Chip.state c.args.card.now) (g.C.Chip.state c.enter.new.card) (is_err c.refuse.result) fid place c.refuse.new.outcome (g.M.Medium.state c.refuse.new.unit) enters told c.refuse.ensures.notes,
-      λ f w m out low. unfit-known c.args.app c.args.entering c.args.keeper.now (g.M.Medium.state c.args.unit.now) (g.M.Medium.state c.enter.new.unit) (g.C.Chip.state c.args.card.now) (g.C.Chip.state c.enter.new.card) (g.D.Chip.state c.args.others.now) (g.met.M.Medium.coherent c.args.unit.now) (g.met.M.Medium.coherent c.enter.new.unit) (g.met.C.Chip.coherent c.args.card.now) (g.met.C.Chip.coherent c.enter.new.card) c.requires.bare c.requires.sized (roomy g p) c.args.keeper.now.memory.registration (long g p) c.args.entering.odometer.0 (omega (arith, c.requires.last)) (Err (NotValid fid place)) enters f w m out (is_err c.refuse.result) (g.M.Medium.state c.refuse.new.unit) (enters.unit.rests refl c.requires.ready.works).works c.refuse.ensures.journal c.refuse.ensures.cause fid place (λ never. never),
+      λ f w m named out low. unfit-known c.args.app c.args.entering c.args.keeper.now (g.M.Medium.state c.args.unit.now) (g.M.Medium.state c.enter.new.unit) (g.C.Chip.state c.args.card.now) (g.C.Chip.state c.enter.new.card) (g.D.Chip.state c.args.others.now) (g.met.M.Medium.coherent c.args.unit.now) (g.met.M.Medium.coherent c.enter.new.unit) (g.met.C.Chip.coherent c.args.card.now) (g.met.C.Chip.coherent c.enter.new.card) c.requires.bare c.requires.sized (roomy g p) c.args.keeper.now.memory.registration (long g p) c.args.entering.odometer.0 (omega (arith, c.requires.last)) (Err (NotValid fid place)) enters f w m named out (is_err c.refuse.result) (g.M.Medium.state c.refuse.new.unit) (enters.unit.rests refl c.requires.ready.works).works c.refuse.ensures.journal c.refuse.ensures.cause fid place (λ never. never),
     )
 
 pub returns-in-Err-TimeOverlap-clause-ended : goal.returns-in-Err-TimeOverlap-clause-ended
@@ -100,7 +98,7 @@ returns-in-Err-TimeOverlap-clause-ended g c =
     let notes = ahead-noted c.args.entering c.args.keeper.now.cabin _ stored c.defer.ensures.notes (cc (c.in-Err-TimeOverlap.stored-is)) in (
       Ahead stored,
       judged-ahead c.args.app c.args.entering c.args.keeper.now c.args.noted.now c.args.outcome.now (g.M.Medium.state c.args.unit.now) (g.M.Medium.state c.enter.new.unit) (g.C.Chip.state c.args.card.now) (g.C.Chip.state c.enter.new.card) (is_err c.defer.result) stored now (subst (λ (n : ℕ). n < 2 ^ 32) (cc (c.in-Err-TimeOverlap.stored-is)) c.defer.ensures.low) c.defer.new.outcome (g.M.Medium.state c.defer.new.unit) enters told notes,
-      λ f w m out low. ahead-known c.args.app c.args.entering c.args.keeper.now (g.M.Medium.state c.args.unit.now) (g.M.Medium.state c.enter.new.unit) (g.C.Chip.state c.args.card.now) (g.C.Chip.state c.enter.new.card) (g.D.Chip.state c.args.others.now) (g.met.M.Medium.coherent c.args.unit.now) (g.met.M.Medium.coherent c.enter.new.unit) (g.met.C.Chip.coherent c.args.card.now) (g.met.C.Chip.coherent c.enter.new.card) c.requires.bare c.requires.sized (roomy g p) c.args.keeper.now.memory.registration (long g p) c.args.entering.odometer.0 (omega (arith, c.requires.last)) (Err (TimeOverlap stored now)) enters f w m out (is_err c.defer.result) (g.M.Medium.state c.defer.new.unit) (enters.unit.rests refl c.requires.ready.works).works c.defer.ensures.journal c.defer.ensures.cause stored (λ never. never),
+      λ f w m named out low. ahead-known c.args.app c.args.entering c.args.keeper.now (g.M.Medium.state c.args.unit.now) (g.M.Medium.state c.enter.new.unit) (g.C.Chip.state c.args.card.now) (g.C.Chip.state c.enter.new.card) (g.D.Chip.state c.args.others.now) (g.met.M.Medium.coherent c.args.unit.now) (g.met.M.Medium.coherent c.enter.new.unit) (g.met.C.Chip.coherent c.args.card.now) (g.met.C.Chip.coherent c.enter.new.card) c.requires.bare c.requires.sized (roomy g p) c.args.keeper.now.memory.registration (long g p) c.args.entering.odometer.0 (omega (arith, c.requires.last)) (Err (TimeOverlap stored now)) enters f w m named out (is_err c.defer.result) (g.M.Medium.state c.defer.new.unit) (enters.unit.rests refl c.requires.ready.works).works c.defer.ensures.journal c.defer.ensures.cause stored (λ never. never),
     )
 
 -- ---- the clocks
@@ -137,23 +135,6 @@ returns-in-Err-NotValid-clause-in_time g c = judged-early c.args.app c.args.ente
 pub returns-in-Err-TimeOverlap-clause-in_time : goal.returns-in-Err-TimeOverlap-clause-in_time
 returns-in-Err-TimeOverlap-clause-in_time g c = judged-early c.args.app c.args.entering (g.C.Chip.state c.args.card.now) (g.C.Chip.state c.enter.new.card) c.requires.sized c.enter.ensures.in_time
 
--- ---- what holds of the devices after any calls
-
-pub returns-in-Ok-clause-later : goal.returns-in-Ok-clause-later
-returns-in-Ok-clause-later g c = state-then (g.C.Chip.state c.args.card.now) (g.C.Chip.state c.enter.new.card) (g.C.Chip.state c.take_in.new.card) (state-by (g.C.Chip.state c.args.card.now) (g.C.Chip.state c.enter.new.card) _ c.enter.ensures.leaves.later c.in-Ok.ensures.enters.cause) c.take_in.ensures.later
-
-pub returns-in-Err-UnitFailed-clause-later : goal.returns-in-Err-UnitFailed-clause-later
-returns-in-Err-UnitFailed-clause-later g c = state-by (g.C.Chip.state c.args.card.now) (g.C.Chip.state c.enter.new.card) _ c.enter.ensures.leaves.later c.in-Err-UnitFailed.ensures.enters.cause
-
-pub returns-in-Err-CardFailed-clause-later : goal.returns-in-Err-CardFailed-clause-later
-returns-in-Err-CardFailed-clause-later g c = state-by (g.C.Chip.state c.args.card.now) (g.C.Chip.state c.enter.new.card) _ c.enter.ensures.leaves.later c.in-Err-CardFailed.ensures.enters.cause
-
-pub returns-in-Err-NotValid-clause-later : goal.returns-in-Err-NotValid-clause-later
-returns-in-Err-NotValid-clause-later g c = state-by (g.C.Chip.state c.args.card.now) (g.C.Chip.state c.enter.new.card) _ c.enter.ensures.leaves.later c.in-Err-NotValid.ensures.enters.cause
-
-pub returns-in-Err-TimeOverlap-clause-later : goal.returns-in-Err-TimeOverlap-clause-later
-returns-in-Err-TimeOverlap-clause-later g c = state-by (g.C.Chip.state c.args.card.now) (g.C.Chip.state c.enter.new.card) _ c.enter.ensures.leaves.later c.in-Err-TimeOverlap.ensures.enters.cause
-
 -- ---- the row that is told
 
 pub take_in-requires-clause-row : goal.take_in-requires-clause-row
@@ -170,27 +151,92 @@ take_in-requires-clause-low g c = c.in-Ok.ensures.low
 
 -- ---- where no tear of a failed call is told no card has broken down
 
-pub returns-in-Ok-clause-calm : goal.returns-in-Ok-clause-calm
-returns-in-Ok-clause-calm g c = card-first (g.C.Chip.state c.args.card.now) (g.C.Chip.state c.enter.new.card) (g.C.Chip.state c.take_in.new.card) (c.in-Ok.ensures.enters.cause.unbroken refl) c.take_in.ensures.calm
+pub returns-in-Ok-clause-behind : goal.returns-in-Ok-clause-behind
+returns-in-Ok-clause-behind g c = record {
+  ready = first_of (search rules, grind (arith, common_steps));
+  rows = first_of (search rules, grind (arith, common_steps));
+  stands = first_of (search rules, grind (arith, common_steps));
+  cause = first_of (search rules, grind (arith, common_steps));
+  card = first_of (search rules, grind (arith, common_steps));
+  size = first_of (search rules, grind (arith, common_steps));
+}
 
-pub returns-in-Err-UnitFailed-clause-calm : goal.returns-in-Err-UnitFailed-clause-calm
-returns-in-Err-UnitFailed-clause-calm g c =
-    let is : c.in-Err-UnitFailed.field-0 ≡ UnitFailed = cc (c.in-Err-UnitFailed.field-0-is) in
-    card-rests refl (c.in-Err-UnitFailed.ensures.enters.cause.unbroken (ap (λ (f : NotEntered). card_failed {T = Entered} (Err f)) is))
+pub returns-in-Ok-clause-goes : goal.returns-in-Ok-clause-goes
+returns-in-Ok-clause-goes g c = record {
+  later = state-then (g.C.Chip.state c.args.card.now) (g.C.Chip.state c.enter.new.card) (g.C.Chip.state c.take_in.new.card) (state-by (g.C.Chip.state c.args.card.now) (g.C.Chip.state c.enter.new.card) _ c.enter.ensures.leaves.later c.in-Ok.ensures.enters.cause) c.take_in.ensures.goes.later;
+  calm = card-first (g.C.Chip.state c.args.card.now) (g.C.Chip.state c.enter.new.card) (g.C.Chip.state c.take_in.new.card) (c.in-Ok.ensures.enters.cause.unbroken refl) c.take_in.ensures.goes.calm;
+}
 
-pub returns-in-Err-CardFailed-clause-calm : goal.returns-in-Err-CardFailed-clause-calm
-returns-in-Err-CardFailed-clause-calm g c = card-fell c.args.entering.slot c.args.entering.at (ap (λ (l : Listed Break). l.items) c.tear.ensures.told)
+pub returns-in-Err-UnitFailed-clause-behind : goal.returns-in-Err-UnitFailed-clause-behind
+returns-in-Err-UnitFailed-clause-behind g c = record {
+  ready = first_of (search rules, grind (arith, common_steps));
+  rows = first_of (search rules, grind (arith, common_steps));
+  stands = first_of (search rules, grind (arith, common_steps));
+  cause = first_of (search rules, grind (arith, common_steps));
+  card = first_of (search rules, grind (arith, common_steps));
+  size = first_of (search rules, grind (arith, common_steps));
+}
 
-pub returns-in-Err-NotValid-clause-calm : goal.returns-in-Err-NotValid-clause-calm
-returns-in-Err-NotValid-clause-calm g c =
-    let fid = c.in-Err-NotValid.fid in
-    let place = c.in-Err-NotValid.place in
-    let is : c.in-Err-NotValid.field-0 ≡ NotValid fid place = cc (c.in-Err-NotValid.field-0-is) in
-    card-told [] (ap (λ (o : Outcome). o.breaks.items) c.refuse.ensures.told) refl (c.in-Err-NotValid.ensures.enters.cause.unbroken (ap (λ (f : NotEntered). card_failed {T = Entered} (Err f)) is))
+pub returns-in-Err-UnitFailed-clause-goes : goal.returns-in-Err-UnitFailed-clause-goes
+returns-in-Err-UnitFailed-clause-goes g c = record {
+  later = state-by (g.C.Chip.state c.args.card.now) (g.C.Chip.state c.enter.new.card) _ c.enter.ensures.leaves.later c.in-Err-UnitFailed.ensures.enters.cause;
+  calm =
+      let is : c.in-Err-UnitFailed.field-0 ≡ UnitFailed = cc (c.in-Err-UnitFailed.field-0-is) in
+      card-rests refl (c.in-Err-UnitFailed.ensures.enters.cause.unbroken (ap (λ (f : NotEntered). card_failed {T = Entered} (Err f)) is));
+}
 
-pub returns-in-Err-TimeOverlap-clause-calm : goal.returns-in-Err-TimeOverlap-clause-calm
-returns-in-Err-TimeOverlap-clause-calm g c =
-    let stored = c.in-Err-TimeOverlap.stored in
-    let now = c.in-Err-TimeOverlap.field-0-1 in
-    let is : c.in-Err-TimeOverlap.field-0 ≡ TimeOverlap stored now = cc (c.in-Err-TimeOverlap.field-0-is) in
-    card-told [] (ap (λ (o : Outcome). o.breaks.items) c.defer.ensures.told) refl (c.in-Err-TimeOverlap.ensures.enters.cause.unbroken (ap (λ (f : NotEntered). card_failed {T = Entered} (Err f)) is))
+pub returns-in-Err-CardFailed-clause-behind : goal.returns-in-Err-CardFailed-clause-behind
+returns-in-Err-CardFailed-clause-behind g c = record {
+  ready = first_of (search rules, grind (arith, common_steps));
+  rows = first_of (search rules, grind (arith, common_steps));
+  stands = λ from le s. c.tear.ensures.stands from None s;
+  cause = first_of (search rules, grind (arith, common_steps));
+  card = first_of (search rules, grind (arith, common_steps));
+  size = first_of (search rules, grind (arith, common_steps));
+}
+
+pub returns-in-Err-CardFailed-clause-goes : goal.returns-in-Err-CardFailed-clause-goes
+returns-in-Err-CardFailed-clause-goes g c = record {
+  later = state-by (g.C.Chip.state c.args.card.now) (g.C.Chip.state c.enter.new.card) _ c.enter.ensures.leaves.later c.in-Err-CardFailed.ensures.enters.cause;
+  calm = card-fell c.args.entering.slot c.args.entering.at (ap (λ (l : Listed Break). l.items) c.tear.ensures.told);
+}
+
+pub returns-in-Err-NotValid-clause-behind : goal.returns-in-Err-NotValid-clause-behind
+returns-in-Err-NotValid-clause-behind g c = record {
+  ready = first_of (search rules, grind (arith, common_steps));
+  rows = first_of (search rules, grind (arith, common_steps));
+  stands = first_of (search rules, grind (arith, common_steps));
+  cause = first_of (search rules, grind (arith, common_steps));
+  card = first_of (search rules, grind (arith, common_steps));
+  size = first_of (search rules, grind (arith, common_steps));
+}
+
+pub returns-in-Err-NotValid-clause-goes : goal.returns-in-Err-NotValid-clause-goes
+returns-in-Err-NotValid-clause-goes g c = record {
+  later = state-by (g.C.Chip.state c.args.card.now) (g.C.Chip.state c.enter.new.card) _ c.enter.ensures.leaves.later c.in-Err-NotValid.ensures.enters.cause;
+  calm =
+      let fid = c.in-Err-NotValid.fid in
+      let place = c.in-Err-NotValid.place in
+      let is : c.in-Err-NotValid.field-0 ≡ NotValid fid place = cc (c.in-Err-NotValid.field-0-is) in
+      card-told [] (ap (λ (o : Outcome). o.breaks.items) c.refuse.ensures.told) refl (c.in-Err-NotValid.ensures.enters.cause.unbroken (ap (λ (f : NotEntered). card_failed {T = Entered} (Err f)) is));
+}
+
+pub returns-in-Err-TimeOverlap-clause-behind : goal.returns-in-Err-TimeOverlap-clause-behind
+returns-in-Err-TimeOverlap-clause-behind g c = record {
+  ready = first_of (search rules, grind (arith, common_steps));
+  rows = first_of (search rules, grind (arith, common_steps));
+  stands = first_of (search rules, grind (arith, common_steps));
+  cause = first_of (search rules, grind (arith, common_steps));
+  card = first_of (search rules, grind (arith, common_steps));
+  size = first_of (search rules, grind (arith, common_steps));
+}
+
+pub returns-in-Err-TimeOverlap-clause-goes : goal.returns-in-Err-TimeOverlap-clause-goes
+returns-in-Err-TimeOverlap-clause-goes g c = record {
+  later = state-by (g.C.Chip.state c.args.card.now) (g.C.Chip.state c.enter.new.card) _ c.enter.ensures.leaves.later c.in-Err-TimeOverlap.ensures.enters.cause;
+  calm =
+      let stored = c.in-Err-TimeOverlap.stored in
+      let now = c.in-Err-TimeOverlap.field-0-1 in
+      let is : c.in-Err-TimeOverlap.field-0 ≡ TimeOverlap stored now = cc (c.in-Err-TimeOverlap.field-0-is) in
+      card-told [] (ap (λ (o : Outcome). o.breaks.items) c.defer.ensures.told) refl (c.in-Err-TimeOverlap.ensures.enters.cause.unbroken (ap (λ (f : NotEntered). card_failed {T = Entered} (Err f)) is));
+}

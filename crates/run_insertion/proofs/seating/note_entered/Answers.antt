@@ -1,4 +1,5 @@
-use Rattle.std.proofs.Common.{◌≡◌, arith, Bool, true, false, rules, subst}
+use Rattle.std.proofs.lemmas.Grind.{common_steps}
+use Rattle.std.proofs.Common.{◌≡◌, arith, Bool, true, false, refl, rules, subst}
 use Rattle.std.specs.Prelude.{is_err}
 use Rattle.run_devices.specs.Told.{arranged}
 use Rattle.run_insertion.specs.Told.{BooksNotes}
@@ -11,18 +12,6 @@ use Rattle.run_minutes.proofs.Later.{state-same}
 use Rattle.run_insertion.proofs.seating.note_entered.Goals as goal
 use Rattle.run_insertion.proofs.seating.note_entered.Goals.{then-entering-gt0+in_ok-note_moving, else-entering-gt0}
 use Rattle.run_minutes.proofs.Calm.{card-beside}
-
-pub returns-then-session-eq0-clause-stands : goal.returns-then-session-eq0-clause-stands
-returns-then-session-eq0-clause-stands g c = elim c.if-entering-gt0.branch [
-  | then-entering-gt0+in_ok-note_moving w ↦ λ from le s. rw w.keeper-is (w.in_ok-note_moving.ensures.stands from le s)
-  | else-entering-gt0 w ↦ λ from le s. rw w.keeper-is s
-]
-
-pub returns-clause-stands : goal.returns-clause-stands
-returns-clause-stands g c = elim c.if-entering-gt0.branch [
-  | then-entering-gt0+in_ok-note_moving w ↦ λ from le s. rw w.keeper-is (w.in_ok-note_moving.ensures.stands from le s)
-  | else-entering-gt0 w ↦ λ from le s. rw w.keeper-is s
-]
 
 pub returns-in_err-note_moving-clause-noted : goal.returns-in_err-note_moving-clause-noted
 returns-in_err-note_moving-clause-noted g c =
@@ -81,12 +70,6 @@ returns-clause-noted g c =
       )
     ]
 
-pub returns-clause-card : goal.returns-clause-card
-returns-clause-card g c = elim c.if-entering-gt0.branch [
-  | then-entering-gt0+in_ok-note_moving w ↦ rw (w.keeper-is, w.card-is) w.in_ok-note_moving.ensures.card
-  | else-entering-gt0 w ↦ rw (w.keeper-is, w.card-is) c.requires.card
-]
-
 pub returns-then-session-eq0-clause-timed : goal.returns-then-session-eq0-clause-timed
 returns-then-session-eq0-clause-timed g c = elim c.if-entering-gt0.branch [
   | then-entering-gt0+in_ok-note_moving w ↦ rw w.card-is w.in_ok-note_moving.ensures.timed
@@ -99,36 +82,88 @@ returns-clause-timed g c = elim c.if-entering-gt0.branch [
   | else-entering-gt0 w ↦ rw w.card-is (λ f wc a may. beside-none f c.args.entering.which (g.C.Chip.state c.args.card.now))
 ]
 
--- ---- what holds of the devices after any calls
-
-pub returns-in_err-note_moving-clause-later : goal.returns-in_err-note_moving-clause-later
-returns-in_err-note_moving-clause-later g c = c.in_err-note_moving.ensures.later
-
-pub returns-then-session-eq0-clause-later : goal.returns-then-session-eq0-clause-later
-returns-then-session-eq0-clause-later g c = elim c.if-entering-gt0.branch [
-  | then-entering-gt0+in_ok-note_moving w ↦ rw w.card-is w.in_ok-note_moving.ensures.later
-  | else-entering-gt0 w ↦ rw w.card-is (state-same (g.C.Chip.state c.args.card.now))
-]
-
-pub returns-clause-later : goal.returns-clause-later
-returns-clause-later g c = elim c.if-entering-gt0.branch [
-  | then-entering-gt0+in_ok-note_moving w ↦ rw w.card-is w.in_ok-note_moving.ensures.later
-  | else-entering-gt0 w ↦ rw w.card-is (state-same (g.C.Chip.state c.args.card.now))
-]
-
 -- ---- where no tear of a failed call is told no card has broken down
 
-pub returns-in_err-note_moving-clause-calm : goal.returns-in_err-note_moving-clause-calm
-returns-in_err-note_moving-clause-calm g c = c.in_err-note_moving.ensures.calm
+pub returns-in_err-note_moving-clause-behind : goal.returns-in_err-note_moving-clause-behind
+returns-in_err-note_moving-clause-behind g c = record {
+  ready = first_of (search rules, grind (arith, common_steps));
+  rows = first_of (search rules, grind (arith, common_steps));
+  stands = first_of (search rules, grind (arith, common_steps));
+  cause = first_of (search rules, grind (arith, common_steps));
+  card = first_of (search rules, grind (arith, common_steps));
+  size = first_of (search rules, grind (arith, common_steps));
+}
 
-pub returns-then-session-eq0-clause-calm : goal.returns-then-session-eq0-clause-calm
-returns-then-session-eq0-clause-calm g c = elim c.if-entering-gt0.branch [
-  | then-entering-gt0+in_ok-note_moving w ↦ rw (w.breaks-is, w.card-is) w.in_ok-note_moving.ensures.calm
-  | else-entering-gt0 w ↦ rw (w.breaks-is, w.card-is) (card-beside (g.C.Chip.state c.args.card.now) (omega arith))
-]
+pub returns-in_err-note_moving-clause-goes : goal.returns-in_err-note_moving-clause-goes
+returns-in_err-note_moving-clause-goes g c = record {
+  later = c.in_err-note_moving.ensures.goes.later;
+  calm = c.in_err-note_moving.ensures.goes.calm;
+}
 
-pub returns-clause-calm : goal.returns-clause-calm
-returns-clause-calm g c = elim c.if-entering-gt0.branch [
-  | then-entering-gt0+in_ok-note_moving w ↦ rw (w.breaks-is, w.card-is) w.in_ok-note_moving.ensures.calm
-  | else-entering-gt0 w ↦ rw (w.breaks-is, w.card-is) (card-beside (g.C.Chip.state c.args.card.now) (omega arith))
-]
+pub returns-then-session-eq0-clause-behind : goal.returns-then-session-eq0-clause-behind
+returns-then-session-eq0-clause-behind g c = record {
+  ready = first_of (search rules, grind (arith, common_steps));
+  rows = first_of (search rules, grind (arith, common_steps));
+  stands =
+      elim c.if-entering-gt0.branch [
+        | then-entering-gt0+in_ok-note_moving w ↦ λ from le s. rw w.keeper-is (w.in_ok-note_moving.ensures.behind.stands from le s)
+        | else-entering-gt0 w ↦ λ from le s. rw w.keeper-is s
+      ];
+  cause = first_of (search rules, grind (arith, common_steps));
+  card =
+      elim c.if-entering-gt0.branch [
+        | then-entering-gt0+in_ok-note_moving w ↦ rw (w.keeper-is, w.card-is) w.in_ok-note_moving.ensures.behind.card
+        | else-entering-gt0 w ↦ rw (w.keeper-is, w.card-is) c.requires.card
+      ];
+  size =
+      elim c.if-entering-gt0.branch [
+        | then-entering-gt0+in_ok-note_moving w ↦ rw w.card-is w.in_ok-note_moving.ensures.behind.size
+        | else-entering-gt0 w ↦ rw w.card-is refl
+      ];
+}
+
+pub returns-then-session-eq0-clause-goes : goal.returns-then-session-eq0-clause-goes
+returns-then-session-eq0-clause-goes g c = record {
+  later =
+      elim c.if-entering-gt0.branch [
+        | then-entering-gt0+in_ok-note_moving w ↦ rw w.card-is w.in_ok-note_moving.ensures.goes.later
+        | else-entering-gt0 w ↦ rw w.card-is (state-same (g.C.Chip.state c.args.card.now))
+      ];
+  calm =
+      elim c.if-entering-gt0.branch [
+        | then-entering-gt0+in_ok-note_moving w ↦ rw (w.breaks-is, w.card-is) w.in_ok-note_moving.ensures.goes.calm
+        | else-entering-gt0 w ↦ rw (w.breaks-is, w.card-is) (card-beside (g.C.Chip.state c.args.card.now) (omega arith))
+      ];
+}
+
+pub returns-clause-behind : goal.returns-clause-behind
+returns-clause-behind g c = record {
+  ready = first_of (search rules, grind (arith, common_steps));
+  rows = first_of (search rules, grind (arith, common_steps));
+  stands =
+      elim c.if-entering-gt0.branch [
+        | then-entering-gt0+in_ok-note_moving w ↦ λ from le s. rw w.keeper-is (w.in_ok-note_moving.ensures.behind.stands from le s)
+        | else-entering-gt0 w ↦ λ from le s. rw w.keeper-is s
+      ];
+  cause = first_of (search rules, grind (arith, common_steps));
+  card =
+      elim c.if-entering-gt0.branch [
+        | then-entering-gt0+in_ok-note_moving w ↦ rw (w.keeper-is, w.card-is) w.in_ok-note_moving.ensures.behind.card
+        | else-entering-gt0 w ↦ rw (w.keeper-is, w.card-is) c.requires.card
+      ];
+  size = first_of (search rules, grind (arith, common_steps));
+}
+
+pub returns-clause-goes : goal.returns-clause-goes
+returns-clause-goes g c = record {
+  later =
+      elim c.if-entering-gt0.branch [
+        | then-entering-gt0+in_ok-note_moving w ↦ rw w.card-is w.in_ok-note_moving.ensures.goes.later
+        | else-entering-gt0 w ↦ rw w.card-is (state-same (g.C.Chip.state c.args.card.now))
+      ];
+  calm =
+      elim c.if-entering-gt0.branch [
+        | then-entering-gt0+in_ok-note_moving w ↦ rw (w.breaks-is, w.card-is) w.in_ok-note_moving.ensures.goes.calm
+        | else-entering-gt0 w ↦ rw (w.breaks-is, w.card-is) (card-beside (g.C.Chip.state c.args.card.now) (omega arith))
+      ];
+}

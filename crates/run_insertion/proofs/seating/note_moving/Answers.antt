@@ -1,3 +1,4 @@
+use Rattle.std.proofs.lemmas.Grind.{common_steps}
 use Rattle.std.proofs.Common.{◌≡◌, Bool, true, false, rules, refl, subst, arith, ap}
 use Rattle.std.specs.Prelude.{None, is_err}
 use Rattle.event_model.specs.declared.kinds.TheConstants.{INSERTION_WHILE_DRIVING}
@@ -18,9 +19,6 @@ use Rattle.run_insertion.proofs.seating.note_moving.Goals as goal
 
 pub note_event_on-requires-clause-port : goal.note_event_on-requires-clause-port
 note_event_on-requires-clause-port g c = c.requires.card.port c.args.app c.requires.sizes
-
-pub returns-in-Err-clause-stands : goal.returns-in-Err-clause-stands
-returns-in-Err-clause-stands g c = λ from le s. c.tear.ensures.stands from None s
 
 pub returns-in_err-note_driving-clause-noted : goal.returns-in_err-note_driving-clause-noted
 returns-in_err-note_driving-clause-noted g c =
@@ -72,24 +70,52 @@ returns-in-Ok-clause-timed g c = λ f w a m. booked.moved-timed f w c.args.app a
 pub returns-in-Err-clause-timed : goal.returns-in-Err-clause-timed
 returns-in-Err-clause-timed g c = λ f w a m. booked.moved-timed f w c.args.app a c.args.entering c.args.keeper.now (g.M.Medium.state c.args.unit.now) (g.M.Medium.state c.note_driving.new.unit) (g.C.Chip.state c.args.card.now) (g.D.Chip.state c.args.others.now) m (g.met.M.Medium.coherent c.args.unit.now) c.note_driving.ensures.journal c.in_ok-note_driving.ensures.cause (g.met.M.Medium.coherent c.note_driving.new.unit) (g.met.C.Chip.coherent c.args.card.now) (g.C.Chip.state c.note_event_on.new.card) (g.met.C.Chip.coherent c.note_event_on.new.card) c.on_card-event.result c.note_event_on.ensures.moments
 
--- ---- what holds of the devices after any calls
-
-pub returns-in_err-note_driving-clause-later : goal.returns-in_err-note_driving-clause-later
-returns-in_err-note_driving-clause-later g c = state-same (g.C.Chip.state c.args.card.now)
-
-pub returns-in-Ok-clause-later : goal.returns-in-Ok-clause-later
-returns-in-Ok-clause-later g c = state-by (g.C.Chip.state c.args.card.now) (g.C.Chip.state c.note_event_on.new.card) _ c.note_event_on.ensures.moments.later c.in-Ok.ensures.cause
-
-pub returns-in-Err-clause-later : goal.returns-in-Err-clause-later
-returns-in-Err-clause-later g c = state-by (g.C.Chip.state c.args.card.now) (g.C.Chip.state c.note_event_on.new.card) _ c.note_event_on.ensures.moments.later c.in-Err.ensures.cause
-
 -- ---- where no tear of a failed call is told no card has broken down
 
-pub returns-in_err-note_driving-clause-calm : goal.returns-in_err-note_driving-clause-calm
-returns-in_err-note_driving-clause-calm g c = card-beside (g.C.Chip.state c.args.card.now) (omega arith)
+pub returns-in_err-note_driving-clause-behind : goal.returns-in_err-note_driving-clause-behind
+returns-in_err-note_driving-clause-behind g c = record {
+  ready = first_of (search rules, grind (arith, common_steps));
+  rows = first_of (search rules, grind (arith, common_steps));
+  stands = first_of (search rules, grind (arith, common_steps));
+  cause = first_of (search rules, grind (arith, common_steps));
+  card = first_of (search rules, grind (arith, common_steps));
+  size = first_of (search rules, grind (arith, common_steps));
+}
 
-pub returns-in-Ok-clause-calm : goal.returns-in-Ok-clause-calm
-returns-in-Ok-clause-calm g c = card-rests refl (c.in-Ok.ensures.cause.unbroken refl)
+pub returns-in_err-note_driving-clause-goes : goal.returns-in_err-note_driving-clause-goes
+returns-in_err-note_driving-clause-goes g c = record {
+  later = state-same (g.C.Chip.state c.args.card.now);
+  calm = card-beside (g.C.Chip.state c.args.card.now) (omega arith);
+}
 
-pub returns-in-Err-clause-calm : goal.returns-in-Err-clause-calm
-returns-in-Err-clause-calm g c = card-fell c.args.entering.slot c.args.entering.at (ap (λ (l : Listed Break). l.items) c.tear.ensures.told)
+pub returns-in-Ok-clause-behind : goal.returns-in-Ok-clause-behind
+returns-in-Ok-clause-behind g c = record {
+  ready = first_of (search rules, grind (arith, common_steps));
+  rows = first_of (search rules, grind (arith, common_steps));
+  stands = first_of (search rules, grind (arith, common_steps));
+  cause = first_of (search rules, grind (arith, common_steps));
+  card = first_of (search rules, grind (arith, common_steps));
+  size = first_of (search rules, grind (arith, common_steps));
+}
+
+pub returns-in-Ok-clause-goes : goal.returns-in-Ok-clause-goes
+returns-in-Ok-clause-goes g c = record {
+  later = state-by (g.C.Chip.state c.args.card.now) (g.C.Chip.state c.note_event_on.new.card) _ c.note_event_on.ensures.moments.later c.in-Ok.ensures.cause;
+  calm = card-rests refl (c.in-Ok.ensures.cause.unbroken refl);
+}
+
+pub returns-in-Err-clause-behind : goal.returns-in-Err-clause-behind
+returns-in-Err-clause-behind g c = record {
+  ready = first_of (search rules, grind (arith, common_steps));
+  rows = first_of (search rules, grind (arith, common_steps));
+  stands = λ from le s. c.tear.ensures.stands from None s;
+  cause = first_of (search rules, grind (arith, common_steps));
+  card = first_of (search rules, grind (arith, common_steps));
+  size = first_of (search rules, grind (arith, common_steps));
+}
+
+pub returns-in-Err-clause-goes : goal.returns-in-Err-clause-goes
+returns-in-Err-clause-goes g c = record {
+  later = state-by (g.C.Chip.state c.args.card.now) (g.C.Chip.state c.note_event_on.new.card) _ c.note_event_on.ensures.moments.later c.in-Err.ensures.cause;
+  calm = card-fell c.args.entering.slot c.args.entering.at (ap (λ (l : Listed Break). l.items) c.tear.ensures.told);
+}

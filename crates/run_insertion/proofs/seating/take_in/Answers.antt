@@ -1,3 +1,4 @@
+use Rattle.std.proofs.lemmas.Grind.{common_steps}
 use Rattle.std.proofs.Common.{◌≡◌, arith, ◌≤◌, ℕ, Bool, true, false, rules, Option, sym, subst}
 use Rattle.std.specs.Prelude.{is_err}
 use Rattle.log_model.specs.Causes.{device_of}
@@ -64,43 +65,64 @@ returns-clause-ended g c =
 
 -- ---- what is ready behind it
 
-pub returns-in_err-seat-clause-card : goal.returns-in_err-seat-clause-card
-returns-in_err-seat-clause-card g c =
-    let s = c.in_err-seat.ensures.seated in
-    seated-ready c.args.entered.look c.args.entered.session c.args.entered.row c.args.entering true c.args.keeper.now c.seat.new.keeper c.args.noted.now c.seat.new.noted (g.M.Medium.state c.args.unit.now).image s.0 c.args.app (g.C.Chip.card c.args.card.now) (g.C.Chip.state c.args.card.now) s.1.by c.requires.bare c.requires.sizes c.requires.session c.requires.port c.requires.works
-
 pub note_entered-requires-clause-card : goal.note_entered-requires-clause-card
 note_entered-requires-clause-card g c =
     let s = c.in_ok-seat.ensures.seated in
     seated-ready c.args.entered.look c.args.entered.session c.args.entered.row c.args.entering false c.args.keeper.now c.seat.new.keeper c.args.noted.now c.seat.new.noted (g.M.Medium.state c.args.unit.now).image s.0 c.args.app (g.C.Chip.card c.args.card.now) (g.C.Chip.state c.args.card.now) s.1.by c.requires.bare c.requires.sizes c.requires.session c.requires.port c.requires.works
 
 pub returns-clause-row : goal.returns-clause-row
-returns-clause-row g c = if-any _ (c.note_entered.ensures.rows c.args.entering.which c.in_ok-seat.ensures.row)
-
-pub returns-clause-stands : goal.returns-clause-stands
-returns-clause-stands g c = λ from le s.
-    let t = c.in_ok-seat.ensures.seated in
-    let same = seated-minute c.args.entered.look c.args.entered.session c.args.entered.row c.args.entering false c.args.keeper.now c.seat.new.keeper c.args.noted.now c.seat.new.noted (g.M.Medium.state c.args.unit.now).image t.0 t.1.by in
-    c.note_entered.ensures.stands from (subst (λ (m : ℕ). m ≤ from) (sym same) le) (c.in_ok-seat.ensures.stands from le s)
-
-pub returns-in_err-seat-clause-most : goal.returns-in_err-seat-clause-most
-returns-in_err-seat-clause-most g c = c.tell_replayed.ensures.most
-
-pub returns-clause-most : goal.returns-clause-most
-returns-clause-most g c = c.tell_replayed.ensures.most
-
--- ---- what holds of the devices after any calls
-
-pub returns-in_err-seat-clause-later : goal.returns-in_err-seat-clause-later
-returns-in_err-seat-clause-later g c = state-same (g.C.Chip.state c.args.card.now)
-
-pub returns-clause-later : goal.returns-clause-later
-returns-clause-later g c = c.note_entered.ensures.later
+returns-clause-row g c = if-any _ (c.note_entered.ensures.behind.rows c.args.entering.which c.in_ok-seat.ensures.row)
 
 -- ---- where no tear of a failed call is told no card has broken down
 
-pub returns-in_err-seat-clause-calm : goal.returns-in_err-seat-clause-calm
-returns-in_err-seat-clause-calm g c = card-beside (g.C.Chip.state c.args.card.now) (omega arith)
+pub returns-in_err-seat-clause-behind : goal.returns-in_err-seat-clause-behind
+returns-in_err-seat-clause-behind g c = record {
+  ready = first_of (search rules, grind (arith, common_steps));
+  rows = first_of (search rules, grind (arith, common_steps));
+  stands = first_of (search rules, grind (arith, common_steps));
+  cause = first_of (search rules, grind (arith, common_steps));
+  card =
+      let s = c.in_err-seat.ensures.seated in
+      seated-ready c.args.entered.look c.args.entered.session c.args.entered.row c.args.entering true c.args.keeper.now c.seat.new.keeper c.args.noted.now c.seat.new.noted (g.M.Medium.state c.args.unit.now).image s.0 c.args.app (g.C.Chip.card c.args.card.now) (g.C.Chip.state c.args.card.now) s.1.by c.requires.bare c.requires.sizes c.requires.session c.requires.port c.requires.works;
+  size = first_of (search rules, grind (arith, common_steps));
+}
 
-pub returns-clause-calm : goal.returns-clause-calm
-returns-clause-calm g c = c.note_entered.ensures.calm
+pub returns-in_err-seat-clause-judged : goal.returns-in_err-seat-clause-judged
+returns-in_err-seat-clause-judged g c = record {
+  most = c.tell_replayed.ensures.most;
+  low = first_of (search rules, grind (arith, common_steps));
+  sized = first_of (search rules, grind (arith, common_steps));
+}
+
+pub returns-in_err-seat-clause-goes : goal.returns-in_err-seat-clause-goes
+returns-in_err-seat-clause-goes g c = record {
+  later = state-same (g.C.Chip.state c.args.card.now);
+  calm = card-beside (g.C.Chip.state c.args.card.now) (omega arith);
+}
+
+pub returns-clause-behind : goal.returns-clause-behind
+returns-clause-behind g c = record {
+  ready = c.note_entered.ensures.behind.ready;
+  rows = first_of (search rules, grind (arith, common_steps));
+  stands =
+      λ from le s.
+      let t = c.in_ok-seat.ensures.seated in
+      let same = seated-minute c.args.entered.look c.args.entered.session c.args.entered.row c.args.entering false c.args.keeper.now c.seat.new.keeper c.args.noted.now c.seat.new.noted (g.M.Medium.state c.args.unit.now).image t.0 t.1.by in
+      c.note_entered.ensures.behind.stands from (subst (λ (m : ℕ). m ≤ from) (sym same) le) (c.in_ok-seat.ensures.stands from le s);
+  cause = first_of (search rules, grind (arith, common_steps));
+  card = c.note_entered.ensures.behind.card;
+  size = c.note_entered.ensures.behind.size;
+}
+
+pub returns-clause-judged : goal.returns-clause-judged
+returns-clause-judged g c = record {
+  most = c.tell_replayed.ensures.most;
+  low = first_of (search rules, grind (arith, common_steps));
+  sized = first_of (search rules, grind (arith, common_steps));
+}
+
+pub returns-clause-goes : goal.returns-clause-goes
+returns-clause-goes g c = record {
+  later = c.note_entered.ensures.goes.later;
+  calm = c.note_entered.ensures.goes.calm;
+}
