@@ -19,7 +19,7 @@ use Rattle.run_outcome.specs.declared.outcome.Outcome.{Outcome}
 use Rattle.recorder_with_cards.specs.Ends.{recording_of, EndsTrace}
 use Rattle.run_speeds.specs.Speeds.{HasSpeeds}
 use Rattle.run_speeds.specs.Spans.{blocks_by, is_sure_block}
-use Rattle.recorder_with_cards.specs.Still.{KeepsHolder}
+use Rattle.recorder_with_cards.specs.Still.{KeepsHolder, KeepsVehicles}
 use Rattle.recorder_with_cards.specs.Side.{ShowsSide, HasComeBefore, TellsAtStart}
 use Rattle.recorder_with_cards.specs.KeptAfter.{TellsKept}
 use Rattle.recorder_with_cards.specs.LastKept.{TellsLast}
@@ -92,6 +92,7 @@ module _ (x a b : List ℕ) (start : ℕ) (items : List Item) (out : Outcome) (p
     last = (safe-by h.ends.safe.unit h.last).1;
     dense = h.dense;
     holders = λ c. subst (λ (n : ℕ). KeepsHolder r c n (card_of now c)) (cards c) (h.holders c);
+    vehicles = λ c. subst (λ (n : ℕ). KeepsVehicles r c n (card_of now c)) (cards c) (h.vehicles c);
     places = h.places;
     cards = λ c. subst (λ (n : ℕ). ShowsItsEvents r c n (card_of now c)) (cards c) (h.cards c);
     rows = subst (λ (n : ℕ). (y : List ℕ) → now.unit.left_since n y → KeepsRows r.unit r.card_a r.card_b y) unit h.rows;

@@ -233,6 +233,7 @@ module _ (U V : State) (is : IsRead U V) where
           last = last-read (recorded r.unit) (history_of r) (lost_of r) out.marks.items p.unit.clock (last_kept r.unit) before h.ends.safe.unit h.last;
           dense = record { insertions = λ dense y left. h.dense.insertions dense y (now-back y left); places = λ dense y left. h.dense.places dense y (now-back y left) };
           holders = λ c valid y left. h.holders c valid y (told-back c y left);
+          vehicles = λ c valid y left. h.vehicles c valid y (told-back c y left);
           places = record { spans = h.places.spans; are_spans = h.places.are_spans; shows = λ c valid dense y left. h.places.shows c valid dense y (card-back c y left) };
           cards = λ c. subst (λ (s : State). ShowsItsEvents r c (card_of p c).clock s) (same-card c) (h.cards c);
         }
