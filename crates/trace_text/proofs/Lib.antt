@@ -7,6 +7,7 @@ pub mod Few
 pub mod Passed
 pub mod Once
 pub mod LinesRead
+pub mod Runs
 pub mod Answered
 mod Worked
 pub mod Groups

@@ -8,6 +8,7 @@ mod line;
 mod lines_trace;
 mod read;
 mod reading;
+mod run_line;
 
 // the trace of a demonstration
 mod drawing;

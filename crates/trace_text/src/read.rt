@@ -1,22 +1,24 @@
 //! Reading a trace from a source.
-ghost use Rattle.std.specs.Prelude.{◌≡◌, ℕ, ◌<◌, ◌≤◌, ◌^◌, ◌∷◌, List, length, IfOk, OnOk, IsErrOf, IsErrAnd, ◌⊎◌, Some};
-ghost use Rattle.std.specs.Prelude.{Err, MatchResult};
+ghost use Rattle.std.specs.Prelude.{◌≡◌, ℕ, ◌<◌, ◌≤◌, ◌^◌, ◌∷◌, ◌++◌, ◌+◌, ◌-◌, [], List, length, ◌⊎◌, Some};
+ghost use Rattle.std.specs.Prelude.{Err, IfOk, IfErr, OnOk, IsErrOf, IsErrAnd, MatchResult};
 ghost use Rattle.trace_text.specs.declared.read.TheConstants.{MOST_BYTES};
 ghost use Rattle.std.specs.Io.KnownBytes.{IsAtEnd};
 ghost use Rattle.tach_media.specs.Medium.{Rose};
 ghost use Rattle.std.specs.List.{AllByRecursion};
-ghost use Rattle.trace_model.specs.declared.Item.{Item};
+ghost use Rattle.trace_model.specs.declared.Item.{Item as EachItem};
 ghost use Rattle.trace_text.specs.Line.{IsKnown};
 ghost use Rattle.trace_text.specs.Text.{text_lines};
 ghost use Rattle.trace_text.specs.Trace.{IsTraceOf, IsWellFormed};
 ghost use Rattle.trace_text.specs.Judged.{IsTraceText, IsBadText, IsLongText, IsFailure};
-ghost use Rattle.trace_text.specs.Reading.{IsFaultOf};
+ghost use Rattle.trace_text.specs.Reading.{HasRead, IsFaultOf};
 
 use crate::lines_trace::{Form, Trace, TraceFault};
 use crate::reading::Reading;
+use crate::run_line::first_run;
 use std::alloc::Global;
 use tach_media::{Source, TakeFault, take_all};
 use text_fields::first_piece;
+use trace_model::Item;
 
 /// The most bytes of a source.
 const MOST_BYTES: u32 = 16777216;
@@ -42,7 +44,7 @@ pub fn read_trace<S: Source>(alloc: Global, source: &mut S, form: Form) -> Resul
     ensures later { S.faults source.old ≤ S.faults source.new }
 
     // And each cause its refusal, unless the source fails or memory runs out.
-    ensures reads { (text : List ℕ) (start : ℕ) (items : List Item) → S.left source.old ≡ Some text
+    ensures reads { (text : List ℕ) (start : ℕ) (items : List EachItem) → S.left source.old ≡ Some text
         → IsTraceText form text start items
         → MatchResult result (λ t. (t.start ≡ start) × (t.items ≡ items)) IsFailure }
     ensures finds_bad_line { (text : List ℕ) (n : ℕ) → S.left source.old ≡ Some text → IsBadText form text n
@@ -68,11 +70,32 @@ fn trace_of(alloc: Global, text: &[u8], form: Form) -> Result<Trace, TraceFault>
     let mut reading = Reading::new(alloc, form);
     let mut rest = text;
     while !rest.is_empty() {
-        let (line, behind) = next_line(rest);
-        reading.take(line)?;
-        rest = behind;
+        rest = take_line(&mut reading, rest)?;
     }
     reading.finish()
+}
+
+/// Takes the first line of a text: what is behind it.
+fn take_line<'a>(reading: &mut Reading, text: &'a [u8]) -> Result<&'a [u8], TraceFault>
+    requires some { 0 < length text.now }
+    requires few { reading.old.lines < 2 ^ 32 - 1 }
+    ensures ok { IfOk result (λ rest. (line : List ℕ) × (text_lines text.now ≡ line ∷ text_lines rest.now)
+        × ((lines : List (List ℕ)) → HasRead lines reading.old → HasRead (lines ++ line ∷ []) reading.new)) }
+    ensures fault { (lines : List (List ℕ)) → HasRead lines reading.old
+        → IfErr result (IsFaultOf reading.old.form (lines ++ text_lines text.now)) }
+    ensures shorter { IfOk result (λ rest. length rest.now < length text.now) }
+    ensures form { reading.new.form ≡ reading.old.form }
+    ensures lines { OnOk result (reading.new.lines ≡ reading.old.lines + 1) }
+{
+    if let Some(start) = reading.start {
+        if let Some((seconds, speed, rest)) = first_run(text) {
+            reading.take_read(start, Item::Run { seconds, speed })?;
+            return Ok(rest);
+        }
+    }
+    let (line, rest) = next_line(text);
+    reading.take(line)?;
+    Ok(rest)
 }
 
 /// The first line, and the lines behind it.

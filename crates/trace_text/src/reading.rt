@@ -32,7 +32,8 @@ impl Reading {
     ghost use Rattle.std.specs.Prelude.{◌^◌, ◌-◌, ◌≡◌, ◌+◌, ◌<◌, ℕ, List, [], ◌∷◌, ◌++◌, OnOk, IfErr, MatchResult};
     ghost use Rattle.std.specs.Prelude.{None as NoSecond, Some as Second, true};
     ghost use Rattle.trace_model.specs.declared.Item.{Item as Each};
-    ghost use Rattle.trace_text.specs.Text.{counts};
+    ghost use Rattle.trace_text.specs.Line.{IsItem};
+    ghost use Rattle.trace_text.specs.Text.{counts, fields};
     ghost use Rattle.trace_text.specs.Trace.{IsTraceOf, put_in, added, waits};
     ghost use Rattle.trace_text.specs.Reading.{HasRead, HasTaken, IsFaultOf, IsFaultAt};
 
@@ -104,10 +105,26 @@ impl Reading {
         ensures form { self.new.form ≡ self.old.form }
         ensures lines { OnOk result (self.new.lines ≡ self.old.lines + 1) }
     {
-        let number = self.lines + 1;
         let Some(item) = read_item(self.form, line) else {
-            return Err(TraceFault::BadLine(number));
+            return Err(TraceFault::BadLine(self.lines + 1));
         };
+        self.take_read(start, item)
+    }
+
+    /// Takes a line that was read as this item.
+    pub fn take_read(&mut self, start: u32, item: Item) -> Result<(), TraceFault>
+        requires lines { self.old.lines < 2 ^ 32 - 1 }
+        requires later { self.old.start ≡ Second start }
+        ensures ok { (lines : List (List ℕ)) (line : List ℕ) → counts line ≡ true
+            → IsItem self.old.form (fields line) item → HasRead lines self.old
+            → OnOk result (HasRead (lines ++ line ∷ []) self.new) }
+        ensures fault { (lines behind : List (List ℕ)) (line : List ℕ) → counts line ≡ true
+            → IsItem self.old.form (fields line) item → HasRead lines self.old
+            → IfErr result (IsFaultOf self.old.form (lines ++ line ∷ behind)) }
+        ensures form { self.new.form ≡ self.old.form }
+        ensures lines { OnOk result (self.new.lines ≡ self.old.lines + 1) }
+    {
+        let number = self.lines + 1;
         if let Err(fault) = self.append(start, number, item) {
             return Err(fault);
         }

@@ -1,0 +1,18 @@
+use Rattle.std.proofs.Common.{arith}
+use Rattle.trace_model.specs.declared.Item.TheVariants.{Run}
+use Rattle.trace_text.specs.Line.{InRange}
+use Rattle.trace_text.proofs.Runs.{run-lines, run-shorter}
+use Rattle.trace_text.proofs.run_line.first_run.Goals as goal
+
+pub returns-clause-range : goal.returns-clause-range
+returns-clause-range c = (omega arith, omega arith, omega arith)
+
+pub returns-clause-lines : goal.returns-clause-lines
+returns-clause-lines c =
+    let range : InRange (Run c.in-Some-first_number.seconds c.in-Some-first_number-2.speed) = (omega arith, omega arith, omega arith) in
+    run-lines c.in-Some-first_number.seconds c.in-Some-first_number-2.speed range c.args.text.now c.in-Some.digits.now c.in-Some-first_number.behind.now c.in-Some-first_number-2.rest.now c.in-Some.ensures c.in-Some-first_number.ensures c.in-Some-first_number-2.ensures
+
+pub returns-clause-shorter : goal.returns-clause-shorter
+returns-clause-shorter c =
+    let range : InRange (Run c.in-Some-first_number.seconds c.in-Some-first_number-2.speed) = (omega arith, omega arith, omega arith) in
+    run-shorter c.in-Some-first_number.seconds c.in-Some-first_number-2.speed range c.args.text.now c.in-Some.digits.now c.in-Some-first_number.behind.now c.in-Some-first_number-2.rest.now c.in-Some.ensures c.in-Some-first_number.ensures c.in-Some-first_number-2.ensures
