@@ -4,7 +4,7 @@ use Rattle.std.specs.Prelude.{length, filter, if◌then◌else◌}
 use Rattle.card_layout.specs.Fields.{field_at, number_in}
 use Rattle.activity_codec.specs.Words.{slot_number}
 use Rattle.trace_model.specs.declared.Card.{Card}
-use Rattle.unit_model.specs.Ring.{Shape, ring_list}
+use Rattle.unit_model.specs.Ring.{Shape, ring_list, IsDense}
 use Rattle.log_model.specs.Log.{RunLog}
 use Rattle.message_model.specs.Records.{insertion_widths, place_widths}
 use Rattle.note_model.specs.Done.{has_failed_in}
@@ -33,15 +33,16 @@ unsure_count is_sure notes = length (filter (λ n. not (is_sure n)) notes)
 abbrev pub AreNoFewer : {N : Type 0} → Shape → (N → Bool) → List N → (start x : List ℕ) → Type 0
 AreNoFewer r is_sure notes start x = length (ring_list r start) ≤ length (ring_list r x) + unsure_count is_sure notes
 
--- A ring that was dense at the start shows what it showed then and entries that stand for the notes; only where it is
--- full, or lacks one entry, are some gone at its old end, and no more than entries came, or notes are not sure.
+-- A RING SHOWS what it showed at the start and entries that stand for the notes. Some are gone at its old end, but no
+-- more than entries came, or notes are not sure; and of a ring that was dense at the start only where it is full, or
+-- lacks one entry.
 pub record RingShows {N : Type 0} (r : Shape) (is_sure : N → Bool) (Is : N → List ℕ → Type 0) (notes : List N)
     (start x : List ℕ) : Type 0 where
   pub more : List (List ℕ)
   pub stand : Stand is_sure Is notes more
   pub gone : List (List ℕ)
   pub shown : ring_list r start ++ more ≡ gone ++ ring_list r x
-  pub full : (gone ≡ []) ⊎ (r.count ≤ length (ring_list r x) + 1)
+  pub full : IsDense r start → (gone ≡ []) ⊎ (r.count ≤ length (ring_list r x) + 1)
   pub few : AreNoFewer r is_sure notes start x
 
 -- the type of a place entry (Appendix 1, EntryTypeDailyWorkPeriod): 0 where the day begins, 1 where it ends

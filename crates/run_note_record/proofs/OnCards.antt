@@ -40,7 +40,7 @@ maybe r start x y head sure Is notes n was full is unsure (inl same) = record {
   more = was.more;
   carries = subst (λ (z : List ℕ). RingKeeps r start z was.more) (sym same) was.carries;
   stand = stand-unsure sure Is notes was.more n was.stand unsure;
-  few = few-unsure r sure notes n start x y unsure (adding-long r head x y was.carries.points was.carries.dense (inl same)) was.few;
+  few = few-unsure r sure notes n start x y unsure (adding-long r head x y was.carries.points (inl same)) was.few;
 }
 maybe r start x y head sure Is notes n was full is unsure (inr moment) = ⊎_elim
     (λ carries. record { more = was.more; carries = carries; stand = stand-unsure sure Is notes was.more n was.stand unsure; few = few })
@@ -53,7 +53,7 @@ maybe r start x y head sure Is notes n was full is unsure (inr moment) = ⊎_eli
     (carries-maybe r start x was.more was.carries head y moment)
   where
     few : AreNoFewer r sure (notes ++ n ∷ []) start y
-    few = few-unsure r sure notes n start x y unsure (adding-long r head x y was.carries.points was.carries.dense (inr moment)) was.few
+    few = few-unsure r sure notes n start x y unsure (adding-long r head x y was.carries.points (inr moment)) was.few
 
 all-filter : {X : Type 0} (P : X → Type 0) (f : X → Bool) (xs : List X) → AllByRecursion P xs → AllByRecursion P (filter f xs)
 all-filter P f [] all = tt
@@ -120,7 +120,7 @@ place-on-as log later spans now fell p same = (
 pub places-none : (o : Origin) (log : RunLog) (spans : List SpanFrom) (d : Devices) → ((c : Card) (x : List ℕ) → (card_of d c).may_leave x → x ≡ card_image o.recording c) → PlacesOnCards o log spans [] d
 places-none o log spans d start c has x left = record {
   more = [];
-  carries = subst (λ (y : List ℕ). RingKeeps (places_in (card_image o.recording c)) (card_image o.recording c) y []) (sym (start c x left)) (carries-none (places_in (card_image o.recording c)) (card_image o.recording c) has.ring.points has.ring.dense);
+  carries = subst (λ (y : List ℕ). RingKeeps (places_in (card_image o.recording c)) (card_image o.recording c) y []) (sym (start c x left)) (carries-none (places_in (card_image o.recording c)) (card_image o.recording c) has.ring);
   stand = refl;
   few = few-start (places_in (card_image o.recording c)) (is_sure_on log) (card_image o.recording c) x (start c x left);
 }
@@ -190,7 +190,7 @@ module _ (o : Origin) (log : RunLog) (spans : List SpanFrom) (notes : List Note)
     more = was.more ++ own ∷ [];
     carries = subst (λ (l : List ℕ). RingKeeps (places_in (image c)) (image c) y (was.more ++ l ∷ [])) (whole-head (places_in (image c)) x (taken (places_in (image c)) x) own full) (carries-more (places_in (image c)) (image c) x was.more was.carries own y added);
     stand = stand-one (is_sure_on log) (IsPlaceOn spans) (front c) was.more p own was.stand is;
-    few = few-more (places_in (image c)) (is_sure_on log) (front c) p (image c) x y (added-long (places_in (image c)) own x y was.carries.points was.carries.dense added) was.few;
+    few = few-more (places_in (image c)) (is_sure_on log) (front c) p (image c) x y (added-long (places_in (image c)) own x y was.carries.points added) was.few;
   }
   by-image c x y was (inr (unsure, moment)) = maybe (places_in (image c)) (image c) x y own (is_sure_on log) (IsPlaceOn spans) (front c) p was full is (ap not unsure) moment
 

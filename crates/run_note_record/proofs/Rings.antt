@@ -1,12 +1,14 @@
 -- What is carried of the rings, over each step.
-use Rattle.std.proofs.Common.{◌≡◌, ◌⊎◌, inl, inr, ⊎_elim, ℕ, suc, ◌+◌, ◌-◌, ◌≤◌, Bool, true, false, not, ◌||◌, Option, Some, None, IfSome, option_map, List, [], ◌∷◌, ◌++◌, length, refl, ap, sym, subst, ◌∙◌, arith, append_assoc, append-nil}
+use Rattle.std.proofs.Common.{◌≡◌, ◌⊎◌, inl, inr, ⊎_elim, ℕ, suc, ◌+◌, ◌<◌, ◌≤◌, Bool, true, false, not, ◌||◌, Option, Some, None, IfSome, option_map, List, [], ◌∷◌, ◌++◌, length, refl, ap, sym, subst, ◌∙◌, arith, append_assoc, append-nil, nat_lt}
 use Rattle.std.specs.List.{AllByRecursion, list_any}
-use Rattle.std.proofs.lemmas.List.{length-drop, length-map, length-append}
+use Rattle.std.proofs.lemmas.Bool.{ltb-true, ltb-false}
+use Rattle.std.proofs.lemmas.List.{length-append}
 use Rattle.card_layout.specs.Images.{bytes_at}
 use Rattle.trace_model.specs.declared.Card.{Card}
-use Rattle.gated_ring.specs.Ring.{Shape, IsShape, PointsInside, size_of, indices, ring_list, entry_at, taken, staying, with_head, newest_of, IsDense}
+use Rattle.gated_ring.specs.Ring.{Shape, IsShape, PointsInside, size_of, next, indices, taken, staying}
 use Rattle.gated_ring.specs.Change.{IsAdded, IsAdding}
-use Rattle.gated_ring.proofs.Elsewhere.{ring_outside, ring_elsewhere}
+use Rattle.gated_ring.proofs.Elsewhere.{ring_outside, ring_elsewhere, taken_elsewhere}
+use Rattle.gated_ring.proofs.Listing.{taken_below}
 use Rattle.message_model.specs.Records.{insertion_ring, unit_place_ring}
 use Rattle.log_model.specs.Log.{RunLog}
 use Rattle.log_model.specs.Slots.{same_card}
@@ -20,15 +22,19 @@ use Rattle.trace_model.specs.Trace.{TraceSecond}
 use Rattle.log_model.specs.Course.{ToldSecond}
 use Rattle.run_rings.specs.Carried.{RingKeeps}
 use Rattle.run_rings.proofs.Carried.{carries-none, carries-same, carries-more}
-use Rattle.run_rings.proofs.Indices.{index-stays}
+use Rattle.run_rings.proofs.Indices.{index-stays, lies-next, lies-first}
 use Rattle.run_rings.proofs.Standing.{stand-one}
 use Rattle.run_rings.proofs.Few.{as-many, added-long, few-start, few-go, few-as, few-more}
 use Rattle.run_note_record.specs.Origin.{Origin}
 use Rattle.run_note_record.specs.Beside.{HaveLeftMore}
-use Rattle.run_note_record.specs.Ringed.{holder_in, TellsIn, IsInsertionIn, IsPlaceIn, sure_insertion, sure_place, ShowsNotes, Seating, one_behind, IsSeated, ShowsInsertions, Ringed, GoOn, NoRingIsWritten, RingsStay, FewerSit, IsAddedAt, MayBeAdded, Since}
+use Rattle.run_note_record.specs.Ringed.{holder_in, TellsIn, IsInsertionIn, IsPlaceIn, sure_insertion, sure_place, ShowsNotes, Seating, one_behind, LiesBehind, StandsAt, IsSeated, ShowsInsertions, Ringed, GoOn, NoRingIsWritten, RingsStay, FewerSit, IsAddedAt, MayBeAdded, Since}
 use Rattle.run_note_record.specs.OnCards.{place_width, IsPlaceOn, PlacesStay, PlaceIsTaken}
 use Rattle.run_note_record.proofs.OnCards.{whole-head, maybe, places-none, places-go, places-beside, places-taken}
 use Rattle.run_note_record.proofs.Stands.{Weaker, stand-as, unsure-as, each-as, each-append, all-parts, all-of, all-each, insertions-more, places-more, insertion-as, place-as}
+
+-- two images have their insertions at the same indices, and the next one comes to the same
+abbrev pub HasSameTurn : (x y : List ℕ) → Type 0
+HasSameTurn x y = (indices insertion_ring y ≡ indices insertion_ring x) × (taken insertion_ring y ≡ taken insertion_ring x)
 
 pub insertion_shape : IsShape insertion_ring
 insertion_shape = record { some = omega arith; gate = omega arith; pointer = omega arith; holds = λ _. omega arith; short = omega arith }
@@ -44,10 +50,10 @@ Writes R d e = (y : List ℕ) → e.unit.may_leave y → (x : List ℕ) × d.uni
 pub none-noted : (d : Devices) → NoRingIsWritten d
 none-noted d o log spans start cards = record {
   insertions = λ ring x left. record {
-    shows = record { more = []; carries = subst (λ (y : List ℕ). RingKeeps insertion_ring o.origin.recording.unit y []) (sym (start x left)) (carries-none insertion_ring o.origin.recording.unit ring.points ring.dense); stand = refl; few = few-start insertion_ring (sure_insertion o.origin log spans) o.origin.recording.unit x (start x left) };
+    shows = record { more = []; carries = subst (λ (y : List ℕ). RingKeeps insertion_ring o.origin.recording.unit y []) (sym (start x left)) (carries-none insertion_ring o.origin.recording.unit ring); stand = refl; few = few-start insertion_ring (sure_insertion o.origin log spans) o.origin.recording.unit x (start x left) };
     seated = λ c. tt;
   };
-  places = λ ring x left. record { more = []; carries = subst (λ (y : List ℕ). RingKeeps unit_place_ring o.origin.recording.unit y []) (sym (start x left)) (carries-none unit_place_ring o.origin.recording.unit ring.points ring.dense); stand = refl; few = few-start unit_place_ring (sure_place o.origin log spans) o.origin.recording.unit x (start x left) };
+  places = λ ring x left. record { more = []; carries = subst (λ (y : List ℕ). RingKeeps unit_place_ring o.origin.recording.unit y []) (sym (start x left)) (carries-none unit_place_ring o.origin.recording.unit ring); stand = refl; few = few-start unit_place_ring (sure_place o.origin log spans) o.origin.recording.unit x (start x left) };
   on_cards = places-none o.origin log spans d cards;
 }
 
@@ -92,7 +98,7 @@ module _ (origin : Origin) (told told_now : List ToldSecond) (trace trace_now : 
       (places_of notes) on.places
 
   -- an accepted card stays, where the ring shows the same
-  pub seated-since : (c : Card) (q : Option Seating) (ms : List (List ℕ)) (x y : List ℕ) → indices insertion_ring y ≡ indices insertion_ring x →
+  pub seated-since : (c : Card) (q : Option Seating) (ms : List (List ℕ)) (x y : List ℕ) → HasSameTurn x y →
       IfSome q (λ s. IsSeated (sure_insertion origin log spans) (IsInsertionIn since_was log spans d) c s (insertions_of notes) ms x) → IfSome q (λ s. IsSeated (sure_insertion origin later now) (IsInsertionIn since_now later now e) c s (insertions_of notes) ms y)
   seated-since c None ms x y same is = tt
   seated-since c (Some s) ms x y same is =
@@ -113,7 +119,7 @@ module _ (origin : Origin) (told told_now : List ToldSecond) (trace trace_now : 
         is = parts.1.1 is.entry is.is;
         each_behind = each-as (sure_insertion origin log spans) (sure_insertion origin later now) (IsInsertionIn since_was log spans d) (IsInsertionIn since_now later now e) is.newer is.newers parts.2 is.each_behind;
         behind = is.behind;
-        there = ⊎_elim (λ at. inl (at.0, at.1, same ∙ at.2, at.3)) (λ gone. inr gone) is.there;
+        there = ⊎_elim (λ at. inl (at.0, at.1, same.0 ∙ at.2, at.3, at.4, subst (LiesBehind insertion_ring s.index (suc s.behind)) (sym same.1) at.5)) (λ gone. inr gone) is.there;
       }
 
 -- so far as it has gone
@@ -127,7 +133,7 @@ module _ (o : Since) (log later : RunLog) (spans now : List SpanFrom) (notes : L
   pub places-weaker : AllByRecursion (Weaker (sure_place o.origin log spans) (sure_place o.origin later now) (IsPlaceIn o.origin log spans) (IsPlaceIn o.origin later now)) (places_of notes)
   places-weaker = places-since o.origin o.told o.told o.trace o.trace (λ c u before. before) log later spans now notes d e more on
 
-  pub seated-as : (c : Card) (q : Option Seating) (ms : List (List ℕ)) (x y : List ℕ) → indices insertion_ring y ≡ indices insertion_ring x →
+  pub seated-as : (c : Card) (q : Option Seating) (ms : List (List ℕ)) (x y : List ℕ) → HasSameTurn x y →
       IfSome q (λ s. IsSeated (sure_insertion o.origin log spans) (IsInsertionIn o log spans d) c s (insertions_of notes) ms x) → IfSome q (λ s. IsSeated (sure_insertion o.origin later now) (IsInsertionIn o later now e) c s (insertions_of notes) ms y)
   seated-as = seated-since o.origin o.told o.told o.trace o.trace (λ c u before. before) log later spans now notes d e more on
 
@@ -160,7 +166,7 @@ come-before d o told later trace now come log spans notes seats v = record {
           stand = stand-as (sure_insertion o log spans) (sure_insertion o log spans) (IsInsertionIn (record { origin = o; told = told; trace = trace }) log spans d) (IsInsertionIn (record { origin = o; told = later; trace = now }) log spans d) (insertions_of notes) was.shows.more all was.shows.stand;
           few = was.shows.few;
         };
-        seated = λ c. seated-since o told later trace now come log log spans spans notes d d (record { unit = λ y h. h; card = λ c y h. h }) (go-on log spans notes) c (seats c) was.shows.more x x refl (was.seated c);
+        seated = λ c. seated-since o told later trace now come log log spans spans notes d d (record { unit = λ y h. h; card = λ c y h. h }) (go-on log spans notes) c (seats c) was.shows.more x x (refl, refl) (was.seated c);
       };
   places = v.places;
   on_cards = v.on_cards;
@@ -181,7 +187,7 @@ rings-stay d e o log later spans now notes seats v stays more cards on = record 
               (unsure-as (sure_insertion o.origin log spans) (sure_insertion o.origin later now) (IsInsertionIn o log spans d) (IsInsertionIn o later now e) (insertions_of notes) (insertions-weaker o log later spans now notes d e more on))
               (as-many insertion_ring insertion_shape w.0 y w.2.insertions was.shows.carries.points) was.shows.few;
         };
-        seated = λ c. seated-as o log later spans now notes d e more on c (seats c) was.shows.more w.0 y is.1 (was.seated c);
+        seated = λ c. seated-as o log later spans now notes d e more on c (seats c) was.shows.more w.0 y (is.1, taken_elsewhere insertion_ring insertion_shape w.0 y w.2.insertions was.shows.carries.points) (was.seated c);
       };
   places = λ ring y left.
       let w = stays y left in
@@ -233,7 +239,7 @@ place-noted d e o log spans notes seats v more p head added full is own long on 
               (few-as insertion_ring (sure_insertion o.origin log spans) (insertions_of notes) o.origin.recording.unit w.0 y (as-many insertion_ring insertion_shape w.0 y bytes was.shows.carries.points) was.shows.few);
         };
         seated = λ c. subst (λ (l : List InsertionNote). IfSome (seats c) (λ s. IsSeated (sure_insertion o.origin log spans) (IsInsertionIn o log spans e) c s l was.shows.more y)) (sym notes-same)
-            (seated-as o log log spans spans notes d e more (go-on log spans notes) c (seats c) was.shows.more w.0 y same.1 (was.seated c));
+            (seated-as o log log spans spans notes d e more (go-on log spans notes) c (seats c) was.shows.more w.0 y (same.1, taken_elsewhere insertion_ring insertion_shape w.0 y bytes was.shows.carries.points) (was.seated c));
       };
   places = λ ring y left.
       let w = added y left in
@@ -243,7 +249,7 @@ place-noted d e o log spans notes seats v more p head added full is own long on 
         stand = subst (λ (l : List PlaceNote). Stand (sure_place o.origin log spans) (IsPlaceIn o.origin log spans) l (was.more ++ head ∷ [])) (sym (places-more notes (Enters p)))
             (stand-one (sure_place o.origin log spans) (IsPlaceIn o.origin log spans) (places_of notes) was.more p head was.stand is);
         few = subst (λ (l : List PlaceNote). AreNoFewer unit_place_ring (sure_place o.origin log spans) l o.origin.recording.unit y) (sym (places-more notes (Enters p)))
-            (few-more unit_place_ring (sure_place o.origin log spans) (places_of notes) p o.origin.recording.unit w.0 y (added-long unit_place_ring head w.0 y was.carries.points was.carries.dense w.2) was.few);
+            (few-more unit_place_ring (sure_place o.origin log spans) (places_of notes) p o.origin.recording.unit w.0 y (added-long unit_place_ring head w.0 y was.carries.points w.2) was.few);
       };
   on_cards = places-taken o.origin log spans notes p own d e long on taken_ v.on_cards;
 }
@@ -277,12 +283,20 @@ place-broken d e o log spans notes seats v more p head adding full is has own lo
 
 -- ---- AN INSERTION
 
+-- as many, or fewer
+many-or : (n k : ℕ) (A : Type 0) → (k < n → A) → A ⊎ (n ≤ k)
+many-or n k A few = by (nat_lt k n) refl
+  where
+    by : (b : Bool) → nat_lt k n ≡ b → A ⊎ (n ≤ k)
+    by true is = inl (few (ltb-true k n is))
+    by false is = inr (ltb-false k n is)
+
 -- the cards that were accepted before
-seated-more : (sure : InsertionNote → Bool) (Is : InsertionNote → List ℕ → Type 0) (c : Card) (q : Option Seating) (ns : List InsertionNote) (ms : List (List ℕ)) (x y : List ℕ) (a : Acceptance) (head : List ℕ) → PointsInside insertion_ring x → IsDense insertion_ring x → IsAdded insertion_ring head x y →
+seated-more : (sure : InsertionNote → Bool) (Is : InsertionNote → List ℕ → Type 0) (c : Card) (q : Option Seating) (ns : List InsertionNote) (ms : List (List ℕ)) (x y : List ℕ) (a : Acceptance) (head : List ℕ) → PointsInside insertion_ring x → IsAdded insertion_ring head x y →
     same_card a.card c ≡ false → Is (record { accepted = a; withdrawn = None }) head → IfSome q (λ s. IsSeated sure Is c s ns ms x) →
     IfSome (option_map one_behind q) (λ s. IsSeated sure Is c s (ns ++ record { accepted = a; withdrawn = None } ∷ []) (ms ++ head ∷ []) y)
-seated-more sure Is c None ns ms x y a head points dense added other is sits = tt
-seated-more sure Is c (Some s) ns ms x y a head points dense added other is sits = record {
+seated-more sure Is c None ns ms x y a head points added other is sits = tt
+seated-more sure Is c (Some s) ns ms x y a head points added other is sits = record {
   older = sits.older;
   own = sits.own;
   newer = sits.newer ++ record { accepted = a; withdrawn = None } ∷ [];
@@ -300,21 +314,16 @@ seated-more sure Is c (Some s) ns ms x y a head points dense added other is sits
   behind = (let long : length (sits.newers ++ head ∷ []) ≡ length sits.newers + 1 = length-append sits.newers (head ∷ []) in let was = sits.behind in omega (arith, long, was));
   there = ⊎_elim
       (λ at. ⊎_elim
-      (λ stays. inl (stays.0, at.1 ++ taken insertion_ring x ∷ [], stays.1, (let long : length (at.1 ++ taken insertion_ring x ∷ []) ≡ length at.1 + 1 = length-append at.1 (taken insertion_ring x ∷ []) in let was = at.3 in omega (arith, long, was))))
-      (λ gone. inr (
-      let list-is : length (ring_list insertion_ring y) ≡ length (indices insertion_ring y) = length-map (indices insertion_ring y) (entry_at insertion_ring y) in
-      let was : length (ring_list insertion_ring x) ≡ length (indices insertion_ring x) = length-map (indices insertion_ring x) (entry_at insertion_ring x) in
-      let now : length (indices insertion_ring y) ≡ length (at.1 ++ taken insertion_ring x ∷ []) = ap (λ (l : List ℕ). length l) gone.1 in
-      let long : length (at.1 ++ taken insertion_ring x ∷ []) ≡ length at.1 + 1 = length-append at.1 (taken insertion_ring x ∷ []) in
-      let there : length (indices insertion_ring x) ≡ suc (length at.1) = ap (λ (l : List ℕ). length l) at.2 ∙ ap (λ (l : List ℕ). length (l ++ s.index ∷ at.1)) gone.0 in
-      let newest : length (ring_list insertion_ring y) ≡ length (newest_of insertion_ring.count (ring_list insertion_ring x ++ with_head insertion_ring x (taken insertion_ring x) head ∷ [])) =
-      ap (λ (l : List (List ℕ)). length l) ((added.list points).newest dense) in
-      let cut : length (newest_of insertion_ring.count (ring_list insertion_ring x ++ with_head insertion_ring x (taken insertion_ring x) head ∷ []))
-      ≡ length (ring_list insertion_ring x ++ with_head insertion_ring x (taken insertion_ring x) head ∷ []) - (length (ring_list insertion_ring x ++ with_head insertion_ring x (taken insertion_ring x) head ∷ []) - insertion_ring.count) =
-      length-drop (length (ring_list insertion_ring x ++ with_head insertion_ring x (taken insertion_ring x) head ∷ []) - insertion_ring.count) (ring_list insertion_ring x ++ with_head insertion_ring x (taken insertion_ring x) head ∷ []) in
-      let one : length (ring_list insertion_ring x ++ with_head insertion_ring x (taken insertion_ring x) head ∷ []) ≡ length (ring_list insertion_ring x) + 1 = length-append (ring_list insertion_ring x) (with_head insertion_ring x (taken insertion_ring x) head ∷ []) in
-      let so = at.3 in
-      omega (arith, list-is, was, now, long, there, newest, cut, one, so)))
+      (λ stays. many-or insertion_ring.count (suc s.behind) (StandsAt (one_behind s) y) (λ few. (
+        stays.0,
+        at.1 ++ taken insertion_ring x ∷ [],
+        stays.1,
+        (let long : length (at.1 ++ taken insertion_ring x ∷ []) ≡ length at.1 + 1 = length-append at.1 (taken insertion_ring x ∷ []) in let was = at.3 in omega (arith, long, was)),
+        at.4,
+        subst (LiesBehind insertion_ring s.index (suc (suc s.behind))) (sym (added.list points).next_is)
+            (lies-next insertion_ring.count s.index (suc s.behind) (taken insertion_ring x) at.4 few (taken_below insertion_ring x points) at.5),
+      )))
+      (λ gone. inr (⊎_elim (λ here. absurd (let own = gone.2 in omega (arith, here, own))) (λ round. let own = gone.2 in omega (arith, round, own)) at.5))
       (index-stays insertion_ring head x y points added at.0 s.index at.1 at.2))
       (λ few. inr (omega (arith, few)))
       sits.there;
@@ -336,12 +345,12 @@ insertion-noted d e o log spans notes seats now v more cards a head index added 
           stand = subst (λ (l : List InsertionNote). Stand (sure_insertion o.origin log spans) (IsInsertionIn o log spans e) l (was.shows.more ++ head ∷ [])) (sym are)
               (stand-one (sure_insertion o.origin log spans) (IsInsertionIn o log spans e) (insertions_of notes) was.shows.more (record { accepted = a; withdrawn = None }) head stands is);
           few = subst (λ (l : List InsertionNote). AreNoFewer insertion_ring (sure_insertion o.origin log spans) l o.origin.recording.unit y) (sym are)
-              (few-more insertion_ring (sure_insertion o.origin log spans) (insertions_of notes) (record { accepted = a; withdrawn = None }) o.origin.recording.unit w.0 y (added-long insertion_ring head w.0 y points was.shows.carries.dense w.2.0) was.shows.few);
+              (few-more insertion_ring (sure_insertion o.origin log spans) (insertions_of notes) (record { accepted = a; withdrawn = None }) o.origin.recording.unit w.0 y (added-long insertion_ring head w.0 y points w.2.0) was.shows.few);
         };
         seated = λ c. subst (λ (l : List InsertionNote). IfSome (now c) (λ s. IsSeated (sure_insertion o.origin log spans) (IsInsertionIn o log spans e) c s l (was.shows.more ++ head ∷ []) y)) (sym are) (⊎_elim
             (λ other. subst (λ (q : Option Seating). IfSome q (λ s. IsSeated (sure_insertion o.origin log spans) (IsInsertionIn o log spans e) c s (insertions_of notes ++ record { accepted = a; withdrawn = None } ∷ []) (was.shows.more ++ head ∷ []) y)) (sym other.1)
-            (seated-more (sure_insertion o.origin log spans) (IsInsertionIn o log spans e) c (seats c) (insertions_of notes) was.shows.more w.0 y a head points was.shows.carries.dense w.2.0 other.0 is
-            (seated-as o log log spans spans notes d e more (go-on log spans notes) c (seats c) was.shows.more w.0 w.0 refl (was.seated c))))
+            (seated-more (sure_insertion o.origin log spans) (IsInsertionIn o log spans e) c (seats c) (insertions_of notes) was.shows.more w.0 y a head points w.2.0 other.0 is
+            (seated-as o log log spans spans notes d e more (go-on log spans notes) c (seats c) was.shows.more w.0 w.0 (refl, refl) (was.seated c))))
             (λ own. subst (λ (q : Option Seating). IfSome q (λ s. IsSeated (sure_insertion o.origin log spans) (IsInsertionIn o log spans e) c s (insertions_of notes ++ record { accepted = a; withdrawn = None } ∷ []) (was.shows.more ++ head ∷ []) y)) (sym own.1)
             (record {
               older = insertions_of notes;
@@ -359,7 +368,14 @@ insertion-noted d e o log spans notes seats now v more cards a head index added 
               is = is;
               each_behind = tt;
               behind = refl;
-              there = inl (staying insertion_ring w.0, [], (w.2.0.list points).indices_are ∙ ap (λ (t : ℕ). staying insertion_ring w.0 ++ t ∷ []) (sym (w.2.1 points)), refl);
+              there = inl (
+                staying insertion_ring w.0,
+                [],
+                (w.2.0.list points).indices_are ∙ ap (λ (t : ℕ). staying insertion_ring w.0 ++ t ∷ []) (sym (w.2.1 points)),
+                refl,
+                subst (λ (t : ℕ). t < insertion_ring.count) (sym (w.2.1 points)) (taken_below insertion_ring w.0 points),
+                subst (LiesBehind insertion_ring index 1) (sym ((w.2.0.list points).next_is ∙ ap (next insertion_ring) (sym (w.2.1 points)))) (lies-first insertion_ring.count index),
+              );
             }))
             (each c));
       };

@@ -1,6 +1,7 @@
 -- A withdrawal is noted in the entry of the card's last insertion.
-use Rattle.std.proofs.Common.{◌≡◌, ◌≢◌, ◌⊎◌, inl, inr, ⊎_elim, ℕ, ◌+◌, ◌<◌, ◌≤◌, ◌^◌, Bool, true, false, ◌||◌, Option, Some, None, IfSome, List, [], ◌∷◌, ◌++◌, length, refl, ap, sym, subst, ◌∙◌, arith, append_assoc, append-nil}
+use Rattle.std.proofs.Common.{◌≡◌, ◌≢◌, ◌⊎◌, inl, inr, ⊎_elim, ℕ, suc, ◌+◌, ◌<◌, ◌≤◌, ◌^◌, Bool, true, false, cond, nat_eq, ◌||◌, Option, Some, None, IfSome, List, [], ◌∷◌, ◌++◌, length, refl, ap, sym, subst, ◌∙◌, arith, append_assoc, append-nil}
 use Rattle.std.specs.List.{list_any}
+use Rattle.std.proofs.lemmas.Bool.{eqb-true, eqb-false}
 use Rattle.std.proofs.lemmas.List.{length-map, length-append}
 use Rattle.card_layout.specs.Images.{bytes_at, put, big_number}
 use Rattle.card_layout.specs.Fields.{field_at, number_in}
@@ -12,9 +13,9 @@ use Rattle.tacho_types.specs.declared.numbers.Odometer.{Odometer}
 use Rattle.tacho_types.specs.Numbers.{time_bytes, odometer_bytes}
 use Rattle.trace_model.specs.declared.Card.{Card}
 use Rattle.trace_model.specs.declared.Card.TheVariants.{A, B}
-use Rattle.gated_ring.specs.Ring.{size_of, place_of, indices, ring_list, entry_at}
+use Rattle.gated_ring.specs.Ring.{PointsInside, size_of, place_of, pointer, next, is_there, indices, ring_list, entry_at, taken}
 use Rattle.gated_ring.specs.Change.{IsSet}
-use Rattle.gated_ring.proofs.Elsewhere.{ring_outside, ring_elsewhere}
+use Rattle.gated_ring.proofs.Elsewhere.{ring_outside, ring_elsewhere, taken_elsewhere}
 use Rattle.gated_ring.proofs.Listing.{few_indices}
 use Rattle.message_model.specs.Records.{insertion_widths, insertion_ring, unit_place_ring}
 use Rattle.unit_notes.specs.Noting.{out_place, out_odometer_place, with_withdrawal, IsWithdrawn}
@@ -31,11 +32,11 @@ use Rattle.run_rings.proofs.Indices.{index-alone, index-itself}
 use Rattle.run_rings.proofs.Standing.{stand-append, withdrawal-of-last}
 use Rattle.run_rings.proofs.Few.{as-many, as-many-at, few-as, few-changed}
 use Rattle.run_note_record.specs.Beside.{HaveLeftMore}
-use Rattle.run_note_record.specs.Ringed.{holder_in, TellsIn, Each, HasSameRings, IsInsertionIn, IsPlaceIn, sure_insertion, sure_place, ShowsNotes, Seating, IsSeated, Ringed, IsWithdrawnAt, MayBeWithdrawn, Since}
+use Rattle.run_note_record.specs.Ringed.{holder_in, TellsIn, Each, HasSameRings, IsInsertionIn, IsPlaceIn, sure_insertion, sure_place, ShowsNotes, Seating, LiesBehind, StandsAt, IsSeated, Ringed, IsWithdrawnAt, MayBeWithdrawn, Since}
 use Rattle.run_note_record.specs.OnCards.{PlacesStay}
 use Rattle.run_note_record.proofs.OnCards.{places-beside}
 use Rattle.run_note_record.proofs.Stands.{each-stand, each-long, each-append, each-split, insertions-more, places-more}
-use Rattle.run_note_record.proofs.Rings.{insertion_shape, place_shape, Writes, seated-as, go-on}
+use Rattle.run_note_record.proofs.Rings.{HasSameTurn, insertion_shape, place_shape, Writes, seated-as, go-on}
 
 -- ---- the entry
 
@@ -173,7 +174,7 @@ any-same c (j ∷ mid) own w newer = ap (λ (b : Bool). same_card j.accepted.car
 -- ---- the cards that stay
 
 module _ (sure : InsertionNote → Bool) (Is : InsertionNote → List ℕ → Type 0) (card : Card) (s : Seating) (ns : List InsertionNote) (ms : List (List ℕ)) (x y : List ℕ) (sits : IsSeated sure Is card s ns ms x) (u : ℕ) (bytes : List ℕ) (is : Is (record sits.own { withdrawn = Some u }) bytes)
-    (same : indices insertion_ring y ≡ indices insertion_ring x) where
+    (same : HasSameTurn x y) where
   -- notes and entries behind it
   abbrev pub notes-now : List InsertionNote
   notes-now = sits.older ++ record sits.own { withdrawn = Some u } ∷ sits.newer
@@ -205,7 +206,7 @@ module _ (sure : InsertionNote → Bool) (Is : InsertionNote → List ℕ → Ty
         is = newer.5;
         each_behind = newer.6;
         behind = each-long Is at.newer newer.2 newer.6 ∙ sym (each-long Is at.newer at.newers at.each_behind) ∙ at.behind;
-        there = ⊎_elim (λ here. inl (here.0, here.1, same ∙ here.2, here.3)) (λ gone. inr gone) at.there;
+        there = ⊎_elim (λ here. inl (here.0, here.1, same.0 ∙ here.2, here.3, here.4, subst (LiesBehind insertion_ring t.index (suc t.behind)) (sym same.1) here.5)) (λ gone. inr gone) at.there;
       })
       (λ others. ⊎_elim
       (λ own. absurd (clash sits.own.accepted.card card c sits.card_is (subst (λ (n : InsertionNote). same_card n.accepted.card c ≡ true) (sym own) at.card_is) apart))
@@ -234,7 +235,7 @@ module _ (sure : InsertionNote → Bool) (Is : InsertionNote → List ℕ → Ty
             let was : length at.newers ≡ length newer.0 + length (newer.1 ∷ newer.2) = ap (λ (l : List (List ℕ)). length l) newer.3 ∙ length-append newer.0 (newer.1 ∷ newer.2) in
             let so = at.behind in
             omega (arith, now, was, long, so));
-        there = ⊎_elim (λ here. inl (here.0, here.1, same ∙ here.2, here.3)) (λ gone. inr gone) at.there;
+        there = ⊎_elim (λ here. inl (here.0, here.1, same.0 ∙ here.2, here.3, here.4, subst (LiesBehind insertion_ring t.index (suc t.behind)) (sym same.1) here.5)) (λ gone. inr gone) at.there;
       })
       others)
       (splits sits.older sits.own sits.newer at.older at.own at.newer (sym sits.notes_are ∙ at.notes_are))
@@ -247,13 +248,23 @@ withdrawn-few sure notes older own out newer are start x y same long few =
 
 -- ---- the ring
 
+-- the next entry comes where it would
+withdrawn-turn : (i : ℕ) (time : TimeReal) (odometer : Odometer) (x y : List ℕ) → IsWithdrawn i time odometer x y → PointsInside insertion_ring x → taken insertion_ring y ≡ taken insertion_ring x
+withdrawn-turn i time odometer x y w points =
+    ap (λ (p : ℕ). cond (is_there insertion_ring y p) (next insertion_ring p) p) w.pointer_is
+    ∙ ap (λ (b : Bool). cond b (next insertion_ring (pointer insertion_ring x)) (pointer insertion_ring x)) (there (nat_eq (pointer insertion_ring x) i) refl)
+  where
+    there : (b : Bool) → nat_eq (pointer insertion_ring x) i ≡ b → is_there insertion_ring y (pointer insertion_ring x) ≡ is_there insertion_ring x (pointer insertion_ring x)
+    there true is = subst (λ (j : ℕ). is_there insertion_ring y j ≡ is_there insertion_ring x j) (sym (eqb-true (pointer insertion_ring x) i is)) w.there
+    there false is = (w.others (pointer insertion_ring x) points (eqb-false (pointer insertion_ring x) i is)).1
+
 carried : (start x y : List ℕ) (ms : List (List ℕ)) (h : RingKeeps insertion_ring start x ms) (s : Seating) (olders : List (List ℕ)) (entry : List ℕ) (newers : List (List ℕ)) → ms ≡ olders ++ entry ∷ newers → length newers ≡ s.behind →
-    ((front : List ℕ) × (back : List ℕ) × (indices insertion_ring x ≡ front ++ s.index ∷ back) × (length back ≡ s.behind)) ⊎ (insertion_ring.count ≤ s.behind) → (time : TimeReal) (odometer : Odometer) →
+    StandsAt s x ⊎ (insertion_ring.count ≤ s.behind) → (time : TimeReal) (odometer : Odometer) →
     (IsWithdrawn s.index time odometer x y × (s.behind < insertion_ring.count)) ⊎ (HasSameRings x y × (insertion_ring.count ≤ s.behind)) →
-    (indices insertion_ring y ≡ indices insertion_ring x) × RingKeeps insertion_ring start y (olders ++ with_withdrawal time odometer entry ∷ newers)
+    HasSameTurn x y × RingKeeps insertion_ring start y (olders ++ with_withdrawal time odometer entry ∷ newers)
 carried start x y ms h s olders entry newers are behind there time odometer (inl (w, lt)) = ⊎_elim
     (λ at. (
-      w.indices_are h.points,
+      (w.indices_are h.points, withdrawn-turn s.index time odometer x y w h.points),
       let was = entry-was insertion_ring start x ms h y s.index (with_withdrawal time odometer (entry_at insertion_ring x s.index)) at.0 at.1 w.pointer_is (w.indices_are h.points) at.2 (index-alone insertion_ring x at.0 s.index at.1 at.2) (w.list_is h.points)
           (index-itself s.index) olders entry newers are (behind ∙ sym at.3) in
           subst (λ (l : List ℕ). RingKeeps insertion_ring start y (olders ++ with_withdrawal time odometer l ∷ newers)) (sym was)
@@ -267,7 +278,7 @@ carried start x y ms h s olders entry newers are behind there time odometer (inr
     let still = carries-same insertion_ring start x ms h insertion_shape y same.insertions in
     let few = few_indices insertion_ring y still.points in
     let list-is : length (ring_list insertion_ring y) ≡ length (indices insertion_ring y) = length-map (indices insertion_ring y) (entry_at insertion_ring y) in
-    (rings.1, carries-gone insertion_ring start y ms still olders entry (with_withdrawal time odometer entry) newers are (omega (arith, few, list-is, many, behind)))
+    ((rings.1, taken_elsewhere insertion_ring insertion_shape x y same.insertions h.points), carries-gone insertion_ring start y ms still olders entry (with_withdrawal time odometer entry) newers are (omega (arith, few, list-is, many, behind)))
 
 pub withdrawal-noted : (d e : Devices) (o : Since) (log : RunLog) (spans : List SpanFrom) (notes : List Note) (seats now : Card → Option Seating) → Ringed o log spans notes seats d → HaveLeftMore o.origin d e → PlacesStay o.origin d e → (w : Withdrawal) (s : Seating) → seats w.card ≡ Some s → s.index < insertion_ring.count →
     (time : TimeReal) (odometer : Odometer) → time.0 ≡ w.second → odometer.0 ≡ odometer_at w.second spans → time.0 < 256 ^ 4 → odometer.0 < 256 ^ 3 → Writes (IsWithdrawnAt s time odometer) d e →
@@ -278,7 +289,7 @@ withdrawal-noted d e o log spans notes seats now v more cards w s at below time 
       let was = v.insertions ring i.0 i.1 in
       let sits : IsSeated (sure_insertion o.origin log spans) (IsInsertionIn o log spans e) w.card s (insertions_of notes) was.shows.more i.0 =
       subst (λ (q : Option Seating). IfSome q (λ t. IsSeated (sure_insertion o.origin log spans) (IsInsertionIn o log spans e) w.card t (insertions_of notes) was.shows.more i.0)) at
-      (seated-as o log log spans spans notes d e more (go-on log spans notes) w.card (seats w.card) was.shows.more i.0 i.0 refl (was.seated w.card)) in
+      (seated-as o log log spans spans notes d e more (go-on log spans notes) w.card (seats w.card) was.shows.more i.0 i.0 (refl, refl) (was.seated w.card)) in
       let is = insertion-withdrawn log spans (holder_in o.origin) (TellsIn o e sits.own.accepted.second) sits.own sits.entry sits.is w.second time odometer second stood time_fits odometer_fits in
       let ring-now = carried o.origin.recording.unit i.0 y was.shows.more was.shows.carries s sits.olders sits.entry sits.newers sits.more_are sits.behind sits.there time odometer i.2 in
       let are : insertions_of (notes ++ Withdraws w ∷ []) ≡ sits.older ++ record sits.own { withdrawn = Some w.second } ∷ sits.newer =
@@ -289,13 +300,13 @@ withdrawal-noted d e o log spans notes seats now v more cards w s at below time 
           stand = subst (λ (l : List InsertionNote). Stand (sure_insertion o.origin log spans) (IsInsertionIn o log spans e) l (sits.olders ++ with_withdrawal time odometer sits.entry ∷ sits.newers)) (sym are)
               (stands-now (sure_insertion o.origin log spans) (IsInsertionIn o log spans e) w.card s (insertions_of notes) was.shows.more i.0 y sits w.second (with_withdrawal time odometer sits.entry) is ring-now.0);
           few = subst (λ (l : List InsertionNote). AreNoFewer insertion_ring (sure_insertion o.origin log spans) l o.origin.recording.unit y) (sym are)
-              (withdrawn-few (sure_insertion o.origin log spans) (insertions_of notes) sits.older sits.own (record sits.own { withdrawn = Some w.second }) sits.newer sits.notes_are o.origin.recording.unit i.0 y refl (as-many-at insertion_ring i.0 y ring-now.0) was.shows.few);
+              (withdrawn-few (sure_insertion o.origin log spans) (insertions_of notes) sits.older sits.own (record sits.own { withdrawn = Some w.second }) sits.newer sits.notes_are o.origin.recording.unit i.0 y refl (as-many-at insertion_ring i.0 y ring-now.0.0) was.shows.few);
         };
         seated = λ c. ⊎_elim
             (λ other. subst (λ (q : Option Seating). IfSome q (λ t. IsSeated (sure_insertion o.origin log spans) (IsInsertionIn o log spans e) c t (insertions_of (notes ++ Withdraws w ∷ [])) (sits.olders ++ with_withdrawal time odometer sits.entry ∷ sits.newers) y)) (sym other.1)
             (subst (λ (l : List InsertionNote). IfSome (seats c) (λ t. IsSeated (sure_insertion o.origin log spans) (IsInsertionIn o log spans e) c t l (sits.olders ++ with_withdrawal time odometer sits.entry ∷ sits.newers) y)) (sym are)
             (other-stays (sure_insertion o.origin log spans) (IsInsertionIn o log spans e) w.card s (insertions_of notes) was.shows.more i.0 y sits w.second (with_withdrawal time odometer sits.entry) is ring-now.0 c other.0 (seats c)
-            (seated-as o log log spans spans notes d e more (go-on log spans notes) c (seats c) was.shows.more i.0 i.0 refl (was.seated c)))))
+            (seated-as o log log spans spans notes d e more (go-on log spans notes) c (seats c) was.shows.more i.0 i.0 (refl, refl) (was.seated c)))))
             (λ own. subst (λ (q : Option Seating). IfSome q (λ t. IsSeated (sure_insertion o.origin log spans) (IsInsertionIn o log spans e) c t (insertions_of (notes ++ Withdraws w ∷ [])) (sits.olders ++ with_withdrawal time odometer sits.entry ∷ sits.newers) y)) (sym own.1) tt)
             (each c);
       };
@@ -320,7 +331,7 @@ withdrawal-noted d e o log spans notes seats now v more cards w s at below time 
 
 -- the time alone was written
 timed-now : (start x y : List ℕ) (ms : List (List ℕ)) (h : RingKeeps insertion_ring start x ms) (s : Seating) (olders : List (List ℕ)) (entry : List ℕ) (newers : List (List ℕ)) → ms ≡ olders ++ entry ∷ newers → length newers ≡ s.behind →
-    ((front : List ℕ) × (back : List ℕ) × (indices insertion_ring x ≡ front ++ s.index ∷ back) × (length back ≡ s.behind)) ⊎ (insertion_ring.count ≤ s.behind) → (time : TimeReal) → IsSet insertion_ring s.index out_place (time_bytes time) x y → s.behind < insertion_ring.count →
+    StandsAt s x ⊎ (insertion_ring.count ≤ s.behind) → (time : TimeReal) → IsSet insertion_ring s.index out_place (time_bytes time) x y → s.behind < insertion_ring.count →
     RingKeeps insertion_ring start y (olders ++ put out_place (time_bytes time) entry ∷ newers)
 timed-now start x y ms h s olders entry newers are behind there time w lt = ⊎_elim
     (λ at.
@@ -341,7 +352,7 @@ withdrawal-broken d e o log spans notes seats v more cards w s at below time odo
       let was = v.insertions ring i.0 i.1 in
       let sits : IsSeated (sure_insertion o.origin log spans) (IsInsertionIn o log spans e) w.card s (insertions_of notes) was.shows.more i.0 =
       subst (λ (q : Option Seating). IfSome q (λ t. IsSeated (sure_insertion o.origin log spans) (IsInsertionIn o log spans e) w.card t (insertions_of notes) was.shows.more i.0)) at
-      (seated-as o log log spans spans notes d e more (go-on log spans notes) w.card (seats w.card) was.shows.more i.0 i.0 refl (was.seated w.card)) in
+      (seated-as o log log spans spans notes d e more (go-on log spans notes) w.card (seats w.card) was.shows.more i.0 i.0 (refl, refl) (was.seated w.card)) in
       let are : insertions_of (notes ++ Withdraws w ∷ []) ≡ sits.older ++ record sits.own { withdrawn = Some w.second } ∷ sits.newer =
       insertions-more notes (Withdraws w) ∙ ap (note_withdrawal w) sits.notes_are ∙ withdrawal-of-last w sits.older sits.own sits.newer sits.card_is sits.last in record {
         shows = subst (λ (l : List InsertionNote). ShowsNotes insertion_ring (sure_insertion o.origin log spans) (IsInsertionIn o log spans e) l o.origin.recording.unit y) (sym are) (by i.0 y was.shows.more was.shows.carries was.shows.few sits i.2);
@@ -371,27 +382,27 @@ withdrawal-broken d e o log spans notes seats v more cards w s at below time odo
       more = sits.olders ++ sits.entry ∷ sits.newers;
       carries = subst (λ (z : List ℕ). RingKeeps insertion_ring o.origin.recording.unit z (sits.olders ++ sits.entry ∷ sits.newers)) (sym same) (subst (λ (l : List (List ℕ)). RingKeeps insertion_ring o.origin.recording.unit x l) sits.more_are h);
       stand = stands-now (sure_insertion o.origin log spans) (IsInsertionIn o log spans e) w.card s (insertions_of notes) ms x x sits w.second sits.entry
-          (insertion-unwritten log spans (holder_in o.origin) (TellsIn o e sits.own.accepted.second) sits.own sits.entry sits.is w.second time odometer second stood time_fits odometer_fits sits.stays has) refl;
+          (insertion-unwritten log spans (holder_in o.origin) (TellsIn o e sits.own.accepted.second) sits.own sits.entry sits.is w.second time odometer second stood time_fits odometer_fits sits.stays has) (refl, refl);
       few = withdrawn-few (sure_insertion o.origin log spans) (insertions_of notes) sits.older sits.own (record sits.own { withdrawn = Some w.second }) sits.newer sits.notes_are o.origin.recording.unit x y refl (let is : length (ring_list insertion_ring y) ≡ length (ring_list insertion_ring x) = ap (λ (z : List ℕ). length (ring_list insertion_ring z)) same in omega (arith, is)) few;
     }
     by x y ms h few sits (inl (inr (inl set), lt)) = record {
       more = sits.olders ++ put out_place (time_bytes time) sits.entry ∷ sits.newers;
       carries = timed-now o.origin.recording.unit x y ms h s sits.olders sits.entry sits.newers sits.more_are sits.behind sits.there time set lt;
       stand = stands-now (sure_insertion o.origin log spans) (IsInsertionIn o log spans e) w.card s (insertions_of notes) ms x x sits w.second (put out_place (time_bytes time) sits.entry)
-          (insertion-timed log spans (holder_in o.origin) (TellsIn o e sits.own.accepted.second) sits.own sits.entry sits.is w.second time odometer second stood time_fits odometer_fits sits.stays has) refl;
+          (insertion-timed log spans (holder_in o.origin) (TellsIn o e sits.own.accepted.second) sits.own sits.entry sits.is w.second time odometer second stood time_fits odometer_fits sits.stays has) (refl, refl);
       few = withdrawn-few (sure_insertion o.origin log spans) (insertions_of notes) sits.older sits.own (record sits.own { withdrawn = Some w.second }) sits.newer sits.notes_are o.origin.recording.unit x y refl (as-many-at insertion_ring x y (set.indices_are h.points)) few;
     }
     by x y ms h few sits (inl (inr (inr whole), lt)) = record {
       more = sits.olders ++ with_withdrawal time odometer sits.entry ∷ sits.newers;
       carries = (carried o.origin.recording.unit x y ms h s sits.olders sits.entry sits.newers sits.more_are sits.behind sits.there time odometer (inl (whole, lt))).1;
       stand = stands-now (sure_insertion o.origin log spans) (IsInsertionIn o log spans e) w.card s (insertions_of notes) ms x x sits w.second (with_withdrawal time odometer sits.entry)
-          (insertion-withdrawn log spans (holder_in o.origin) (TellsIn o e sits.own.accepted.second) sits.own sits.entry sits.is w.second time odometer second stood time_fits odometer_fits) refl;
+          (insertion-withdrawn log spans (holder_in o.origin) (TellsIn o e sits.own.accepted.second) sits.own sits.entry sits.is w.second time odometer second stood time_fits odometer_fits) (refl, refl);
       few = withdrawn-few (sure_insertion o.origin log spans) (insertions_of notes) sits.older sits.own (record sits.own { withdrawn = Some w.second }) sits.newer sits.notes_are o.origin.recording.unit x y refl (as-many-at insertion_ring x y (whole.indices_are h.points)) few;
     }
     by x y ms h few sits (inr (same, many)) = record {
       more = sits.olders ++ with_withdrawal time odometer sits.entry ∷ sits.newers;
       carries = (carried o.origin.recording.unit x y ms h s sits.olders sits.entry sits.newers sits.more_are sits.behind sits.there time odometer (inr (same, many))).1;
       stand = stands-now (sure_insertion o.origin log spans) (IsInsertionIn o log spans e) w.card s (insertions_of notes) ms x x sits w.second (with_withdrawal time odometer sits.entry)
-          (insertion-withdrawn log spans (holder_in o.origin) (TellsIn o e sits.own.accepted.second) sits.own sits.entry sits.is w.second time odometer second stood time_fits odometer_fits) refl;
+          (insertion-withdrawn log spans (holder_in o.origin) (TellsIn o e sits.own.accepted.second) sits.own sits.entry sits.is w.second time odometer second stood time_fits odometer_fits) (refl, refl);
       few = withdrawn-few (sure_insertion o.origin log spans) (insertions_of notes) sits.older sits.own (record sits.own { withdrawn = Some w.second }) sits.newer sits.notes_are o.origin.recording.unit x y refl (as-many insertion_ring insertion_shape x y same.insertions h.points) few;
     }

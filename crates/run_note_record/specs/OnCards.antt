@@ -6,7 +6,7 @@ use Rattle.tacho_types.specs.declared.places.PlaceEntry.{PlaceEntry}
 use Rattle.card_layout.specs.Fields.{total_width}
 use Rattle.tacho_types.specs.Places.{place_widths, place_bytes}
 use Rattle.tach_media.specs.Medium.{State, bytes_at}
-use Rattle.gated_ring.specs.Ring.{Shape, IsShape, PointsInside, IsDense, size_of}
+use Rattle.gated_ring.specs.Ring.{Shape, IsShape, PointsInside, size_of}
 use Rattle.gated_ring.specs.Change.{IsAdded, IsAdding}
 use Rattle.card_files.specs.Rings.{place_ring}
 use Rattle.card_image.specs.Own.{own_sizes, IsOwnValid}
@@ -23,10 +23,9 @@ use Rattle.run_note_record.specs.Origin.{Origin}
 
 -- ---- rings
 
--- a ring that was dense at the start
-pub record HasRing (r : Shape) (start : List ℕ) : Type 0 where
-  pub points : PointsInside r start
-  pub dense : IsDense r start
+-- a ring whose pointer was an index at the start
+abbrev pub HasRing : Shape → (start : List ℕ) → Type 0
+HasRing r start = PointsInside r start
 
 -- A RING of which entries stand for these notes, behind what it showed at the start
 pub record ShowsNotes {N : Type 0} (r : Shape) (is_sure : N → Bool) (Is : N → List ℕ → Type 0) (notes : List N)
@@ -68,7 +67,7 @@ pub record IsPlaceOn (spans : List SpanFrom) (p : PlaceNote) (e : List ℕ) : Ty
 abbrev pub is_sure_on : RunLog → PlaceNote → Bool
 is_sure_on log p = not (has_call_failed_in log p.second)
 
--- a card that was valid at the start, with a dense ring of places
+-- a card that was valid at the start, with its ring of places
 pub record HasPlaces (start : List ℕ) : Type 0 where
   pub valid : IsOwnValid start
   pub shape : IsShape (places_in start)

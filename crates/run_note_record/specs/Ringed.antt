@@ -1,5 +1,5 @@
 -- What the rings of insertions and places of a unit carry of a run with cards (profile), from note to note.
-use Rattle.std.specs.Prelude.{◌≡◌, ◌⊎◌, ℕ, suc, ◌<◌, ◌≤◌, ◌^◌, Bool, true, false, Option, Some, None, IfSome}
+use Rattle.std.specs.Prelude.{◌≡◌, ◌⊎◌, ℕ, suc, ◌+◌, ◌<◌, ◌≤◌, ◌^◌, Bool, true, false, Option, Some, None, IfSome}
 use Rattle.std.specs.Prelude.{option_map, List, [], ◌∷◌, ◌++◌, length}
 use Rattle.std.specs.List.{AllByRecursion, list_any}
 use Rattle.trace_model.specs.declared.Card.{Card}
@@ -94,6 +94,16 @@ Each Is [] (e ∷ entries) = ⊥
 Each Is (n ∷ notes) [] = ⊥
 Each Is (n ∷ notes) (e ∷ entries) = Is n e × Each Is notes entries
 
+-- an index lies so many places behind another, round a ring
+abbrev pub LiesBehind : Shape → (index places at : ℕ) → Type 0
+LiesBehind r index places at = (at ≡ index + places) ⊎ (at + r.count ≡ index + places)
+
+-- an entry stands at its index, with so many behind it, and the next one comes behind these
+abbrev pub StandsAt : Seating → List ℕ → Type 0
+StandsAt s x = (front : List ℕ) × (back : List ℕ) × (indices insertion_ring x ≡ front ++ s.index ∷ back)
+    × (length back ≡ s.behind) × (s.index < insertion_ring.count)
+    × LiesBehind insertion_ring s.index (suc s.behind) (taken insertion_ring x)
+
 -- AN ACCEPTED CARD: the last insertion of it is not withdrawn; its entry stands at its index, with so many behind it,
 -- or as many came as the ring has places.
 pub record IsSeated (is_sure : InsertionNote → Bool) (Is : InsertionNote → List ℕ → Type 0) (card : Card) (s : Seating)
@@ -113,8 +123,7 @@ pub record IsSeated (is_sure : InsertionNote → Bool) (Is : InsertionNote → L
   pub is : Is own entry
   pub each_behind : Each Is newer newers
   pub behind : length newers ≡ s.behind
-  pub there : ((front : List ℕ) × (back : List ℕ) × (indices insertion_ring x ≡ front ++ s.index ∷ back)
-      × (length back ≡ s.behind)) ⊎ (insertion_ring.count ≤ s.behind)
+  pub there : StandsAt s x ⊎ (insertion_ring.count ≤ s.behind)
 
 -- the insertions of an image, with the cards that are accepted
 pub record ShowsInsertions (o : Since) (log : RunLog) (spans : List SpanFrom) (notes : List Note)

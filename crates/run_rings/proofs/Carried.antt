@@ -1,37 +1,14 @@
 -- Rings of which entries are added, one after another, or get a few bytes; and notes that these stand for.
-use Rattle.std.proofs.Common.{◌≡◌, ◌⊎◌, inl, inr, ⊎_elim, ℕ, suc, ◌+◌, ◌-◌, ◌<◌, ◌≤◌, Bool, true, false, cond, List, [], ◌∷◌, ◌++◌, length, take, drop, map, refl, ap, sym, subst, ◌∙◌, arith, append_assoc, append-nil, length-append, nat_lt}
+use Rattle.std.proofs.Common.{◌≡◌, ◌⊎◌, inl, inr, ⊎_elim, ℕ, suc, ◌+◌, ◌-◌, ◌<◌, ◌≤◌, true, false, cond, List, [], ◌∷◌, ◌++◌, length, map, refl, ap, sym, subst, ◌∙◌, arith, append_assoc, append-nil, length-append}
 use Rattle.std.specs.Prelude.{◌==◌, if◌then◌else◌}
 use Rattle.std.specs.List.{AllByRecursion}
-use Rattle.std.proofs.lemmas.Bool.{ltb-true, ltb-false}
-use Rattle.std.proofs.lemmas.List.{take-append-drop, length-drop, map-append, length-map}
+use Rattle.std.proofs.lemmas.List.{length-drop, map-append, length-map}
 use Rattle.card_layout.specs.Images.{SameOutside, bytes_at}
-use Rattle.gated_ring.specs.Ring.{Shape, IsShape, PointsInside, size_of, pointer, indices, ring_list, entry_at, taken, with_head, IsDense, newest_of}
+use Rattle.gated_ring.specs.Ring.{Shape, IsShape, PointsInside, size_of, pointer, is_there, indices, ring_list, entry_at, taken, staying, with_head, IsDense, newest_of}
 use Rattle.gated_ring.specs.Change.{IsShortened, IsExtended, IsAdding, IsAdded}
 use Rattle.gated_ring.proofs.Elsewhere.{ring_outside, ring_elsewhere}
+use Rattle.gated_ring.proofs.Listing.{indices_cases}
 use Rattle.run_rings.specs.Carried.{RingKeeps}
-
--- THE NEWEST of a list
-abbrev older_of : ℕ → List (List ℕ) → List (List ℕ)
-older_of n l = take (length l - n) l
-
-parts : (n : ℕ) (l : List (List ℕ)) → older_of n l ++ newest_of n l ≡ l
-parts n l = take-append-drop (length l - n) l
-
-none-older : (n : ℕ) (l : List (List ℕ)) → length l ≤ n → older_of n l ≡ []
-none-older n l few = let nothing : length l - n ≡ 0 = omega (arith, few) in ap (λ (k : ℕ). take k l) nothing
-
-long-newest : (n : ℕ) (l : List (List ℕ)) → n ≤ length l → length (newest_of n l) ≡ n
-long-newest n l many = let long : length (newest_of n l) ≡ length l - (length l - n) = length-drop (length l - n) l in omega (arith, long, many)
-
-short-newest : (n : ℕ) (l : List (List ℕ)) → length l ≤ n → newest_of n l ≡ l
-short-newest n l few = let nothing : length l - n ≡ 0 = omega (arith, few) in ap (λ (k : ℕ). drop k l) nothing
-
-few-or : (a b : ℕ) → (a ≤ b) ⊎ (b < a)
-few-or a b = by (nat_lt b a) refl
-  where
-    by : (t : Bool) → nat_lt b a ≡ t → (a ≤ b) ⊎ (b < a)
-    by true is = inr (ltb-true b a is)
-    by false is = inl (ltb-false b a is)
 
 -- LISTS that are equal, part by part
 pub same-parts : (a b : List (List ℕ)) (e f : List ℕ) (c d : List (List ℕ)) → a ++ e ∷ c ≡ b ++ f ∷ d → length c ≡ length d → (a ≡ b) × (e ≡ f) × (c ≡ d)
@@ -71,65 +48,95 @@ all-back : (P : ℕ → Type 0) (xs ys : List ℕ) → AllByRecursion P (xs ++ y
 all-back P [] ys all = all
 all-back P (x ∷ xs) ys all = all-back P xs ys all.1
 
--- WHAT IS SHOWN BEHIND A STEP: the newest of what was shown, and of one entry more
-module _ (r : Shape) (begins : List (List ℕ)) (more gone old new : List (List ℕ)) (shown : begins ++ more ≡ gone ++ old) (full : (gone ≡ []) ⊎ (r.count ≤ length old + 1)) where
-  abbrev Shows : List (List ℕ) → Type 0
-  Shows all = (away : List (List ℕ)) × (begins ++ all ≡ away ++ new) × ((away ≡ []) ⊎ (r.count ≤ length new + 1))
+-- WHAT IS SHOWN BEHIND A STEP: some are taken away at the front, and an entry may come
+module _ (begins : List (List ℕ)) (more gone old : List (List ℕ)) (shown : begins ++ more ≡ gone ++ old) (away kept : List (List ℕ)) (are : old ≡ away ++ kept) where
+  shown-less : begins ++ more ≡ (gone ++ away) ++ kept
+  shown-less = shown ∙ ap (λ (l : List (List ℕ)). gone ++ l) are ∙ sym (append_assoc gone away kept)
 
-  longer : (e : List ℕ) → new ≡ newest_of r.count (old ++ e ∷ []) → Shows (more ++ e ∷ [])
-  longer e is = (
-    gone ++ older_of r.count (old ++ e ∷ []),
-    sym (append_assoc begins more (e ∷ []))
-        ∙ ap (λ (l : List (List ℕ)). l ++ e ∷ []) shown
-        ∙ append_assoc gone old (e ∷ [])
-        ∙ ap (λ (l : List (List ℕ)). gone ++ l) (sym (parts r.count (old ++ e ∷ [])))
-        ∙ sym (append_assoc gone (older_of r.count (old ++ e ∷ [])) (newest_of r.count (old ++ e ∷ [])))
-        ∙ ap (λ (l : List (List ℕ)). (gone ++ older_of r.count (old ++ e ∷ [])) ++ l) (sym is),
-    ⊎_elim few many (few-or (length (old ++ e ∷ [])) r.count),
-  )
+  shown-more : (e : List ℕ) → begins ++ (more ++ e ∷ []) ≡ (gone ++ away) ++ (kept ++ e ∷ [])
+  shown-more e = sym (append_assoc begins more (e ∷ [])) ∙ ap (λ (l : List (List ℕ)). l ++ e ∷ []) shown-less ∙ append_assoc (gone ++ away) kept (e ∷ [])
+
+-- how many of a list are its newest
+newest-count : (n : ℕ) (l : List (List ℕ)) → length (newest_of n l) ≡ length l - (length l - n)
+newest-count n l = length-drop (length l - n) l
+
+-- where those that stay are the newest, none is gone, or the ring is full, or lacks one
+module _ (n : ℕ) (gone old away kept : List (List ℕ)) (are : old ≡ away ++ kept) (full : (gone ≡ []) ⊎ (n ≤ length old + 1)) where
+  long : length old ≡ length away + length kept
+  long = ap (λ (l : List (List ℕ)). length l) are ∙ length-append away kept
+
+  full-less : kept ≡ newest_of (n - 1) old → (gone ++ away ≡ []) ⊎ (n ≤ length kept + 1)
+  full-less newest = by away long full
+    where
+      is : length kept ≡ length old - (length old - (n - 1))
+      is = ap (λ (l : List (List ℕ)). length l) newest ∙ newest-count (n - 1) old
+
+      by : (a : List (List ℕ)) → length old ≡ length a + length kept → (gone ≡ []) ⊎ (n ≤ length old + 1) → (gone ++ a ≡ []) ⊎ (n ≤ length kept + 1)
+      by [] all (inl none) = inl (append-nil gone ∙ none)
+      by [] all (inr lacks) = inr (omega (arith, lacks, is))
+      by (a ∷ others) all (inl none) = inr (omega (arith, all, is))
+      by (a ∷ others) all (inr lacks) = inr (omega (arith, lacks, is))
+
+  full-more : (e : List ℕ) → kept ++ e ∷ [] ≡ newest_of n (old ++ e ∷ []) → (gone ++ away ≡ []) ⊎ (n ≤ length (kept ++ e ∷ []) + 1)
+  full-more e newest = by away long full
     where
       one : length (old ++ e ∷ []) ≡ length old + 1
       one = length-append old (e ∷ [])
 
-      few : length (old ++ e ∷ []) ≤ r.count → (gone ++ older_of r.count (old ++ e ∷ []) ≡ []) ⊎ (r.count ≤ length new + 1)
-      few le =
-          let long : length new ≡ length old + 1 = ap (λ (l : List (List ℕ)). length l) (is ∙ short-newest r.count (old ++ e ∷ []) le) ∙ one in
-          ⊎_elim (λ none. inl ((λ i. none i ++ none-older r.count (old ++ e ∷ []) le i))) (λ lacks. inr (omega (arith, lacks, long))) full
+      now : length (kept ++ e ∷ []) ≡ length kept + 1
+      now = length-append kept (e ∷ [])
 
-      many : r.count < length (old ++ e ∷ []) → (gone ++ older_of r.count (old ++ e ∷ []) ≡ []) ⊎ (r.count ≤ length new + 1)
-      many lt =
-          let long : length new ≡ r.count = ap (λ (l : List (List ℕ)). length l) is ∙ long-newest r.count (old ++ e ∷ []) (omega (arith, lt)) in
-          inr (omega (arith, long))
+      is : length (kept ++ e ∷ []) ≡ length (old ++ e ∷ []) - (length (old ++ e ∷ []) - n)
+      is = ap (λ (l : List (List ℕ)). length l) newest ∙ newest-count n (old ++ e ∷ [])
 
-  shorter : new ≡ newest_of (r.count - 1) old → Shows more
-  shorter is = (
-    gone ++ older_of (r.count - 1) old,
-    shown ∙ ap (λ (l : List (List ℕ)). gone ++ l) (sym (parts (r.count - 1) old)) ∙ sym (append_assoc gone (older_of (r.count - 1) old) (newest_of (r.count - 1) old))
-        ∙ ap (λ (l : List (List ℕ)). (gone ++ older_of (r.count - 1) old) ++ l) (sym is),
-    ⊎_elim few many (few-or (length old) (r.count - 1)),
-  )
-    where
-      few : length old ≤ r.count - 1 → (gone ++ older_of (r.count - 1) old ≡ []) ⊎ (r.count ≤ length new + 1)
-      few le =
-          let long : length new ≡ length old = ap (λ (l : List (List ℕ)). length l) (is ∙ short-newest (r.count - 1) old le) in
-          ⊎_elim (λ none. inl ((λ i. none i ++ none-older (r.count - 1) old le i))) (λ lacks. inr (omega (arith, lacks, long))) full
+      by : (a : List (List ℕ)) → length old ≡ length a + length kept → (gone ≡ []) ⊎ (n ≤ length old + 1) → (gone ++ a ≡ []) ⊎ (n ≤ length (kept ++ e ∷ []) + 1)
+      by [] all (inl none) = inl (append-nil gone ∙ none)
+      by [] all (inr lacks) = inr (omega (arith, lacks, one, now, is))
+      by (a ∷ others) all (inl none) = inr (omega (arith, all, one, now, is))
+      by (a ∷ others) all (inr lacks) = inr (omega (arith, lacks, one, now, is))
 
-      many : r.count - 1 < length old → (gone ++ older_of (r.count - 1) old ≡ []) ⊎ (r.count ≤ length new + 1)
-      many lt =
-          let long : length new ≡ r.count - 1 = ap (λ (l : List (List ℕ)). length l) is ∙ long-newest (r.count - 1) old (omega (arith, lt)) in
-          inr (omega (arith, long))
+-- those that stay behind the one whose place is taken
+leaving : (r : Shape) (x : List ℕ) → PointsInside r x → (away : List (List ℕ)) × (ring_list r x ≡ away ++ map (entry_at r x) (staying r x))
+leaving r x points = by (indices_cases r x points)
+  where
+    by : ((is_there r x (taken r x) ≡ true) × (indices r x ≡ taken r x ∷ staying r x)) ⊎ ((is_there r x (taken r x) ≡ false) × (indices r x ≡ staying r x)) → (away : List (List ℕ)) × (ring_list r x ≡ away ++ map (entry_at r x) (staying r x))
+    by (inl there) = (entry_at r x (taken r x) ∷ [], ap (λ (js : List ℕ). map (entry_at r x) js) there.1)
+    by (inr none) = ([], ap (λ (js : List ℕ). map (entry_at r x) js) none.1)
 
 -- A RING
-pub carries-none : (r : Shape) (start : List ℕ) → PointsInside r start → IsDense r start → RingKeeps r start start []
-carries-none r start points dense = record { points = points; dense = dense; gone = []; shown = append-nil (ring_list r start); full = inl refl }
+pub carries-none : (r : Shape) (start : List ℕ) → PointsInside r start → RingKeeps r start start []
+carries-none r start points = record { points = points; dense = λ d. d; gone = []; shown = append-nil (ring_list r start); full = λ d. inl refl }
 
 module _ (r : Shape) (start x : List ℕ) (more : List (List ℕ)) (h : RingKeeps r start x more) where
+  -- behind a step that takes away some of the front, and one that brings an entry, too
+  took : (c : List ℕ) → PointsInside r c → (IsDense r x → IsDense r c) → IsShortened r x c → RingKeeps r start c more
+  took c points dense shortened =
+      let s = leaving r x h.points in
+      record {
+        points = points;
+        dense = λ d. dense (h.dense d);
+        gone = h.gone ++ s.0;
+        shown = shown-less (ring_list r start) more h.gone (ring_list r x) h.shown s.0 (map (entry_at r x) (staying r x)) s.1 ∙ ap (λ (l : List (List ℕ)). (h.gone ++ s.0) ++ l) (sym shortened.list_is);
+        full = λ d. subst (λ (l : List (List ℕ)). (h.gone ++ s.0 ≡ []) ⊎ (r.count ≤ length l + 1)) (sym shortened.list_is)
+            (full-less r.count h.gone (ring_list r x) s.0 (map (entry_at r x) (staying r x)) s.1 (h.full d) (sym shortened.list_is ∙ shortened.newest (h.dense d)));
+      }
+
+  brought : (head c : List ℕ) → PointsInside r c → (IsDense r x → IsDense r c) → IsExtended r head x c → RingKeeps r start c (more ++ with_head r x (taken r x) head ∷ [])
+  brought head c points dense extended =
+      let s = leaving r x h.points in
+      let e : List ℕ = with_head r x (taken r x) head in
+      record {
+        points = points;
+        dense = λ d. dense (h.dense d);
+        gone = h.gone ++ s.0;
+        shown = shown-more (ring_list r start) more h.gone (ring_list r x) h.shown s.0 (map (entry_at r x) (staying r x)) s.1 e ∙ ap (λ (l : List (List ℕ)). (h.gone ++ s.0) ++ l) (sym extended.list_is);
+        full = λ d. subst (λ (l : List (List ℕ)). (h.gone ++ s.0 ≡ []) ⊎ (r.count ≤ length l + 1)) (sym extended.list_is)
+            (full-more r.count h.gone (ring_list r x) s.0 (map (entry_at r x) (staying r x)) s.1 (h.full d) e (sym extended.list_is ∙ extended.newest (h.dense d)));
+      }
+
   -- an entry is added
   pub carries-more : (head y : List ℕ) → IsAdded r head x y → RingKeeps r start y (more ++ with_head r x (taken r x) head ∷ [])
-  carries-more head y added =
-      let e : IsExtended r head x y = added.list h.points in
-      let s = longer r (ring_list r start) more h.gone (ring_list r x) (ring_list r y) h.shown h.full (with_head r x (taken r x) head) (e.newest h.dense) in
-      record { points = added.points h.points; dense = added.dense h.points h.dense; gone = s.0; shown = s.1; full = s.2 }
+  carries-more head y added = brought head y (added.points h.points) (added.dense h.points) (added.list h.points)
 
   -- a stop came at a moment of that
   pub carries-maybe : (head c : List ℕ) → IsAdding r head x c → RingKeeps r start c more ⊎ RingKeeps r start c (more ++ with_head r x (taken r x) head ∷ [])
@@ -137,18 +144,14 @@ module _ (r : Shape) (start x : List ℕ) (more : List (List ℕ)) (h : RingKeep
     where
       by : (c ≡ x) ⊎ (IsShortened r x c ⊎ IsExtended r head x c) → RingKeeps r start c more ⊎ RingKeeps r start c (more ++ with_head r x (taken r x) head ∷ [])
       by (inl is) = inl (subst (λ (z : List ℕ). RingKeeps r start z more) (sym is) h)
-      by (inr (inl shortened)) =
-          let s = shorter r (ring_list r start) more h.gone (ring_list r x) (ring_list r c) h.shown h.full (shortened.newest h.dense) in
-          inl (record { points = (moment.step h.points).points; dense = (moment.step h.points).dense h.dense; gone = s.0; shown = s.1; full = s.2 })
-      by (inr (inr extended)) =
-          let s = longer r (ring_list r start) more h.gone (ring_list r x) (ring_list r c) h.shown h.full (with_head r x (taken r x) head) (extended.newest h.dense) in
-          inr (record { points = (moment.step h.points).points; dense = (moment.step h.points).dense h.dense; gone = s.0; shown = s.1; full = s.2 })
+      by (inr (inl shortened)) = inl (took c (moment.step h.points).points (moment.step h.points).dense shortened)
+      by (inr (inr extended)) = inr (brought head c (moment.step h.points).points (moment.step h.points).dense extended)
 
-  -- a dense ring of the same indices with another list of as many entries
-  carries-as : (c : List ℕ) (others away : List (List ℕ)) → pointer r c ≡ pointer r x → indices r c ≡ indices r x → ring_list r start ++ others ≡ away ++ ring_list r c → ((away ≡ []) ⊎ (r.count ≤ length (ring_list r c) + 1)) → RingKeeps r start c others
+  -- a ring of the same indices with another list of as many entries
+  carries-as : (c : List ℕ) (others away : List (List ℕ)) → pointer r c ≡ pointer r x → indices r c ≡ indices r x → ring_list r start ++ others ≡ away ++ ring_list r c → (IsDense r start → (away ≡ []) ⊎ (r.count ≤ length (ring_list r c) + 1)) → RingKeeps r start c others
   carries-as c others away pointers same shown full = record {
     points = subst (λ (n : ℕ). n < r.count) (sym pointers) h.points;
-    dense = dense h.dense;
+    dense = λ d. dense (h.dense d);
     gone = away;
     shown = shown;
     full = full;
@@ -173,7 +176,7 @@ module _ (r : Shape) (start x : List ℕ) (more : List (List ℕ)) (h : RingKeep
   carries-same shape c bytes =
       let is = ring_elsewhere r shape x c bytes h.points in
       carries-as c more h.gone is.0 is.1 (h.shown ∙ ap (λ (l : List (List ℕ)). h.gone ++ l) (sym is.2))
-      (⊎_elim (λ none. inl none) (λ lacks. inr (subst (λ (l : List (List ℕ)). r.count ≤ length l + 1) (sym is.2) lacks)) h.full)
+      (λ d. ⊎_elim (λ none. inl none) (λ lacks. inr (subst (λ (l : List (List ℕ)). r.count ≤ length l + 1) (sym is.2) lacks)) (h.full d))
 
   -- bytes outside it
   pub carries-still : IsShape r → (place len : ℕ) (c : List ℕ) → (place + len ≤ r.base) ⊎ (r.base + size_of r ≤ place) → SameOutside place len x c → RingKeeps r start c more
@@ -216,7 +219,7 @@ module _ (r : Shape) (start x : List ℕ) (more : List (List ℕ)) (h : RingKeep
         ∙ (λ k. split.0 k ++ bytes ∷ split.2 k)
         ∙ append_assoc h.gone (map (entry_at r x) front) (bytes ∷ map (entry_at r x) back)
         ∙ ap (λ (l : List (List ℕ)). h.gone ++ l) (sym list-now))
-        (⊎_elim (λ none. inl none) (λ lacks. inr (let long : length (ring_list r c) ≡ length (ring_list r x) = length-as in omega (arith, lacks, long))) h.full)
+        (λ d. ⊎_elim (λ none. inl none) (λ lacks. inr (let long : length (ring_list r c) ≡ length (ring_list r x) = length-as in omega (arith, lacks, long))) (h.full d))
       where
         length-as : length (ring_list r c) ≡ length (ring_list r x)
         length-as = length-map (indices r c) (entry_at r c) ∙ ap (λ (js : List ℕ). length js) same ∙ sym (length-map (indices r x) (entry_at r x))
@@ -230,4 +233,4 @@ module _ (r : Shape) (start x : List ℕ) (more : List (List ℕ)) (h : RingKeep
       (sym (append_assoc (ring_list r start) older (other ∷ newer))
       ∙ ap (λ (l : List (List ℕ)). (ring_list r start ++ older) ++ other ∷ l) cut.1
       ∙ sym (append_assoc (ring_list r start ++ older) (other ∷ cut.0) (ring_list r x)))
-      (⊎_elim (λ none. absurd (not-both h.gone (ring_list r start ++ older) e cut.0 none cut.2)) (λ lacks. inr lacks) h.full)
+      (λ d. ⊎_elim (λ none. absurd (not-both h.gone (ring_list r start ++ older) e cut.0 none cut.2)) (λ lacks. inr lacks) (h.full d))

@@ -1,12 +1,12 @@
 -- A ring shows no fewer entries than at the start, but for one for each note that is not sure.
-use Rattle.std.proofs.Common.{◌≡◌, ◌⊎◌, inl, inr, ℕ, suc, ◌+◌, ◌-◌, ◌≤◌, Bool, true, false, cond, not, List, [], ◌∷◌, ◌++◌, length, filter, refl, ap, ◌∙◌, arith, length-append}
-use Rattle.std.proofs.lemmas.List.{length-drop, length-map}
+use Rattle.std.proofs.Common.{◌≡◌, ◌⊎◌, inl, inr, ℕ, suc, ◌+◌, ◌-◌, ◌≤◌, Bool, true, false, cond, not, List, [], ◌∷◌, ◌++◌, length, filter, map, refl, ap, ◌∙◌, arith, length-append}
+use Rattle.std.proofs.lemmas.List.{length-map}
 use Rattle.std.proofs.lemmas.List.Elements.{filter-append}
 use Rattle.card_layout.specs.Images.{bytes_at}
-use Rattle.gated_ring.specs.Ring.{Shape, IsShape, PointsInside, size_of, indices, ring_list, entry_at, taken, with_head, newest_of, IsDense}
+use Rattle.gated_ring.specs.Ring.{Shape, IsShape, PointsInside, size_of, is_there, indices, ring_list, entry_at, taken, staying, with_head}
 use Rattle.gated_ring.specs.Change.{IsShortened, IsExtended, IsAdded, IsAdding}
 use Rattle.gated_ring.proofs.Elsewhere.{ring_elsewhere}
-use Rattle.gated_ring.proofs.Listing.{few_indices}
+use Rattle.gated_ring.proofs.Listing.{indices_cases}
 use Rattle.note_model.specs.Rings.{unsure_count, AreNoFewer}
 
 -- ---- notes that are not sure
@@ -41,13 +41,6 @@ module _ {N : Type 0} (is_sure : N → Bool) where
 listed : (r : Shape) (x : List ℕ) → length (ring_list r x) ≡ length (indices r x)
 listed r x = length-map (indices r x) (entry_at r x)
 
--- at most as many as it has places
-few-listed : (r : Shape) (x : List ℕ) → PointsInside r x → length (ring_list r x) ≤ r.count
-few-listed r x points = let few = few_indices r x points in let is = listed r x in omega (arith, few, is)
-
-newest-long : (n : ℕ) (l : List (List ℕ)) → length (newest_of n l) ≡ length l - (length l - n)
-newest-long n l = length-drop (length l - n) l
-
 -- the same bytes of the ring, and the same indices
 pub as-many : (r : Shape) → IsShape r → (x y : List ℕ) → bytes_at y r.base (size_of r) ≡ bytes_at x r.base (size_of r) → PointsInside r x → length (ring_list r x) ≤ length (ring_list r y)
 as-many r shape x y bytes points =
@@ -61,31 +54,37 @@ as-many-at r x y same =
     let is : length (indices r y) ≡ length (indices r x) = ap (λ (l : List ℕ). length l) same in
     omega (arith, now, was, is)
 
--- an entry is added
-extended-long : (r : Shape) (head x y : List ℕ) → PointsInside r x → IsDense r x → IsExtended r head x y → length (ring_list r x) ≤ length (ring_list r y)
-extended-long r head x y points dense extended =
-    let few = few-listed r x points in
-    let is : length (ring_list r y) ≡ length (newest_of r.count (ring_list r x ++ with_head r x (taken r x) head ∷ [])) = ap (λ (l : List (List ℕ)). length l) (extended.newest dense) in
-    let cut = newest-long r.count (ring_list r x ++ with_head r x (taken r x) head ∷ []) in
-    let one : length (ring_list r x ++ with_head r x (taken r x) head ∷ []) ≡ length (ring_list r x) + 1 = length-append (ring_list r x) (with_head r x (taken r x) head ∷ []) in
-    omega (arith, few, is, cut, one)
+-- those that stay are one less at most
+staying-long : (r : Shape) (x : List ℕ) → PointsInside r x → length (ring_list r x) ≤ length (map (entry_at r x) (staying r x)) + 1
+staying-long r x points = by (indices_cases r x points)
+  where
+    by : ((is_there r x (taken r x) ≡ true) × (indices r x ≡ taken r x ∷ staying r x)) ⊎ ((is_there r x (taken r x) ≡ false) × (indices r x ≡ staying r x)) → length (ring_list r x) ≤ length (map (entry_at r x) (staying r x)) + 1
+    by (inl there) = let is : length (ring_list r x) ≡ suc (length (map (entry_at r x) (staying r x))) = ap (λ (js : List ℕ). length (map (entry_at r x) js)) there.1 in omega (arith, is)
+    by (inr none) = let is : length (ring_list r x) ≡ length (map (entry_at r x) (staying r x)) = ap (λ (js : List ℕ). length (map (entry_at r x) js)) none.1 in omega (arith, is)
 
-pub added-long : (r : Shape) (head x y : List ℕ) → PointsInside r x → IsDense r x → IsAdded r head x y → length (ring_list r x) ≤ length (ring_list r y)
-added-long r head x y points dense added = extended-long r head x y points dense (added.list points)
+-- an entry is added
+extended-long : (r : Shape) (head x y : List ℕ) → PointsInside r x → IsExtended r head x y → length (ring_list r x) ≤ length (ring_list r y)
+extended-long r head x y points extended =
+    let stay = staying-long r x points in
+    let is : length (ring_list r y) ≡ length (map (entry_at r x) (staying r x) ++ with_head r x (taken r x) head ∷ []) = ap (λ (l : List (List ℕ)). length l) extended.list_is in
+    let one : length (map (entry_at r x) (staying r x) ++ with_head r x (taken r x) head ∷ []) ≡ length (map (entry_at r x) (staying r x)) + 1 = length-append (map (entry_at r x) (staying r x)) (with_head r x (taken r x) head ∷ []) in
+    omega (arith, stay, is, one)
+
+pub added-long : (r : Shape) (head x y : List ℕ) → PointsInside r x → IsAdded r head x y → length (ring_list r x) ≤ length (ring_list r y)
+added-long r head x y points added = extended-long r head x y points (added.list points)
 
 -- at a moment of that one less may be there
-pub adding-long : (r : Shape) (head x y : List ℕ) → PointsInside r x → IsDense r x → (y ≡ x) ⊎ IsAdding r head x y → length (ring_list r x) ≤ length (ring_list r y) + 1
-adding-long r head x y points dense (inl same) = let is : length (ring_list r y) ≡ length (ring_list r x) = ap (λ (z : List ℕ). length (ring_list r z)) same in omega (arith, is)
-adding-long r head x y points dense (inr moment) = by (moment.step points).list
+pub adding-long : (r : Shape) (head x y : List ℕ) → PointsInside r x → (y ≡ x) ⊎ IsAdding r head x y → length (ring_list r x) ≤ length (ring_list r y) + 1
+adding-long r head x y points (inl same) = let is : length (ring_list r y) ≡ length (ring_list r x) = ap (λ (z : List ℕ). length (ring_list r z)) same in omega (arith, is)
+adding-long r head x y points (inr moment) = by (moment.step points).list
   where
     by : (y ≡ x) ⊎ (IsShortened r x y ⊎ IsExtended r head x y) → length (ring_list r x) ≤ length (ring_list r y) + 1
     by (inl same) = let is : length (ring_list r y) ≡ length (ring_list r x) = ap (λ (z : List ℕ). length (ring_list r z)) same in omega (arith, is)
     by (inr (inl shortened)) =
-        let few = few-listed r x points in
-        let is : length (ring_list r y) ≡ length (newest_of (r.count - 1) (ring_list r x)) = ap (λ (l : List (List ℕ)). length l) (shortened.newest dense) in
-        let cut = newest-long (r.count - 1) (ring_list r x) in
-        omega (arith, few, is, cut)
-    by (inr (inr extended)) = let long = extended-long r head x y points dense extended in omega (arith, long)
+        let stay = staying-long r x points in
+        let is : length (ring_list r y) ≡ length (map (entry_at r x) (staying r x)) = ap (λ (l : List (List ℕ)). length l) shortened.list_is in
+        omega (arith, stay, is)
+    by (inr (inr extended)) = let long = extended-long r head x y points extended in omega (arith, long)
 
 -- ---- no fewer
 

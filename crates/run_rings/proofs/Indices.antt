@@ -1,7 +1,8 @@
 -- Where an entry that was added stands, as more are added; and that no index stands twice.
-use Rattle.std.proofs.Common.{◌≡◌, ◌⊎◌, inl, inr, ℕ, zero, suc, ◌+◌, ◌-◌, ◌<◌, ◌≤◌, Bool, true, false, cond, List, [], ◌∷◌, ◌++◌, filter, refl, ap, subst, ◌∙◌, arith}
+use Rattle.std.proofs.Common.{◌≡◌, ◌⊎◌, inl, inr, ℕ, zero, suc, ◌+◌, ◌-◌, ◌<◌, ◌≤◌, Bool, true, false, cond, List, [], ◌∷◌, ◌++◌, filter, refl, ap, subst, ◌∙◌, arith, ⊎_elim}
 use Rattle.std.specs.Prelude.{◌==◌}
 use Rattle.std.specs.List.{AllByRecursion, range_with_len}
+use Rattle.std.proofs.lemmas.Bool.{eqb-true}
 use Rattle.std.proofs.lemmas.Bool.Decides.{nat_tests}
 use Rattle.gated_ring.specs.Ring.{Shape, PointsInside, pointer, next, order, is_there, indices, taken, without_first}
 use Rattle.gated_ring.specs.Change.{IsAdded}
@@ -9,16 +10,19 @@ use Rattle.gated_ring.specs.Change.{IsAdded}
 abbrev IsNone : List ℕ → Type 0
 IsNone l = l ≡ []
 
+same-index : (i t : ℕ) → (i == t) ≡ true → i ≡ t
+same-index i t is = eqb-true i t is
+
 -- AN INDEX STAYS, or is the one that the next entry takes
-stays : (t i : ℕ) (front back : List ℕ) → ((before : List ℕ) × (without_first t (front ++ i ∷ back) ≡ before ++ i ∷ back)) ⊎ ((front ≡ []) × (without_first t (front ++ i ∷ back) ≡ back))
-stays t i [] back = by (i == t)
+stays : (t i : ℕ) (front back : List ℕ) → ((before : List ℕ) × (without_first t (front ++ i ∷ back) ≡ before ++ i ∷ back)) ⊎ ((front ≡ []) × (without_first t (front ++ i ∷ back) ≡ back) × (i ≡ t))
+stays t i [] back = by (i == t) refl
   where
-    by : (b : Bool) → ((before : List ℕ) × (cond b back (i ∷ back) ≡ before ++ i ∷ back)) ⊎ (IsNone [] × (cond b back (i ∷ back) ≡ back))
-    by true = inr (refl, refl)
-    by false = inl ([], refl)
+    by : (b : Bool) → (i == t) ≡ b → ((before : List ℕ) × (cond b back (i ∷ back) ≡ before ++ i ∷ back)) ⊎ (IsNone [] × (cond b back (i ∷ back) ≡ back) × (i ≡ t))
+    by true is = inr (refl, refl, same-index i t is)
+    by false is = inl ([], refl)
 stays t i (j ∷ front) back = by (j == t)
   where
-    by : (b : Bool) → ((before : List ℕ) × (cond b (front ++ i ∷ back) (j ∷ (front ++ i ∷ back)) ≡ before ++ i ∷ back)) ⊎ (IsNone (j ∷ front) × (cond b (front ++ i ∷ back) (j ∷ (front ++ i ∷ back)) ≡ back))
+    by : (b : Bool) → ((before : List ℕ) × (cond b (front ++ i ∷ back) (j ∷ (front ++ i ∷ back)) ≡ before ++ i ∷ back)) ⊎ (IsNone (j ∷ front) × (cond b (front ++ i ∷ back) (j ∷ (front ++ i ∷ back)) ≡ back) × (i ≡ t))
     by true = inl (front, refl)
     by false = inl (j ∷ front, refl)
 
@@ -27,16 +31,16 @@ push [] i back t = refl
 push (j ∷ before) i back t = ap (λ (l : List ℕ). j ∷ l) (push before i back t)
 
 pub index-stays : (r : Shape) (head x y : List ℕ) → PointsInside r x → IsAdded r head x y → (front : List ℕ) (i : ℕ) (back : List ℕ) → indices r x ≡ front ++ i ∷ back →
-    ((before : List ℕ) × (indices r y ≡ before ++ i ∷ (back ++ taken r x ∷ []))) ⊎ ((front ≡ []) × (indices r y ≡ back ++ taken r x ∷ []))
+    ((before : List ℕ) × (indices r y ≡ before ++ i ∷ (back ++ taken r x ∷ []))) ⊎ ((front ≡ []) × (indices r y ≡ back ++ taken r x ∷ []) × (i ≡ taken r x))
 index-stays r head x y points added front i back there = by (stays (taken r x) i front back)
   where
     now : indices r y ≡ without_first (taken r x) (front ++ i ∷ back) ++ taken r x ∷ []
     now = (added.list points).indices_are ∙ ap (λ (l : List ℕ). without_first (taken r x) l ++ taken r x ∷ []) there
 
-    by : ((before : List ℕ) × (without_first (taken r x) (front ++ i ∷ back) ≡ before ++ i ∷ back)) ⊎ ((front ≡ []) × (without_first (taken r x) (front ++ i ∷ back) ≡ back)) →
-        ((before : List ℕ) × (indices r y ≡ before ++ i ∷ (back ++ taken r x ∷ []))) ⊎ ((front ≡ []) × (indices r y ≡ back ++ taken r x ∷ []))
+    by : ((before : List ℕ) × (without_first (taken r x) (front ++ i ∷ back) ≡ before ++ i ∷ back)) ⊎ ((front ≡ []) × (without_first (taken r x) (front ++ i ∷ back) ≡ back) × (i ≡ taken r x)) →
+        ((before : List ℕ) × (indices r y ≡ before ++ i ∷ (back ++ taken r x ∷ []))) ⊎ ((front ≡ []) × (indices r y ≡ back ++ taken r x ∷ []) × (i ≡ taken r x))
     by (inl (before, is)) = inl (before, now ∙ ap (λ (l : List ℕ). l ++ taken r x ∷ []) is ∙ push before i back (taken r x))
-    by (inr (none, is)) = inr (none, now ∙ ap (λ (l : List ℕ). l ++ taken r x ∷ []) is)
+    by (inr (none, is, own)) = inr (none, now ∙ ap (λ (l : List ℕ). l ++ taken r x ∷ []) is, own)
 
 -- NO INDEX STANDS TWICE
 abbrev Others : ℕ → List ℕ → Type 0
@@ -127,3 +131,22 @@ index-alone r x front i back there = front-others front i back (subst Distinct t
 
 pub index-itself : (i : ℕ) → (i == i) ≡ true
 index-itself i = grind (arith, nat_tests)
+
+-- THE NEXT INDEX lies one place further behind another, as long as fewer lie between than the ring has places
+pub lies-next : (count index places at : ℕ) → index < count → places < count → at < count → ((at ≡ index + places) ⊎ (at + count ≡ index + places)) →
+    ((cond (at + 1 == count) 0 (at + 1) ≡ index + suc places) ⊎ (cond (at + 1 == count) 0 (at + 1) + count ≡ index + suc places))
+lies-next count index places at below few inside lies = by (at + 1 == count) refl
+  where
+    by : (b : Bool) → (at + 1 == count) ≡ b → (cond b 0 (at + 1) ≡ index + suc places) ⊎ (cond b 0 (at + 1) + count ≡ index + suc places)
+    by true is =
+        let end : at + 1 ≡ count = same-index (at + 1) count is in
+        inr (⊎_elim (λ here. omega (arith, here, end)) (λ round. absurd (omega (arith, round, end, below, few))) lies)
+    by false is = ⊎_elim (λ here. inl (omega (arith, here))) (λ round. inr (omega (arith, round))) lies
+
+-- and it is the one behind that which was taken
+pub lies-first : (count index : ℕ) → (cond (index + 1 == count) 0 (index + 1) ≡ index + 1) ⊎ (cond (index + 1 == count) 0 (index + 1) + count ≡ index + 1)
+lies-first count index = by (index + 1 == count) refl
+  where
+    by : (b : Bool) → (index + 1 == count) ≡ b → (cond b 0 (index + 1) ≡ index + 1) ⊎ (cond b 0 (index + 1) + count ≡ index + 1)
+    by true is = let end : index + 1 ≡ count = same-index (index + 1) count is in inr (omega (arith, end))
+    by false is = inl refl

@@ -2,11 +2,12 @@
 use Rattle.std.specs.Prelude.{◌≡◌, ◌⊎◌, ℕ, ◌+◌, ◌≤◌, List, [], ◌++◌, length}
 use Rattle.gated_ring.specs.Ring.{Shape, PointsInside, ring_list, IsDense}
 
--- A RING CARRIES what it showed at the start and these entries behind it: only where it is full, or lacks one entry,
--- are some gone at its old end. It is dense, so the next one takes the place of the oldest.
+-- A RING CARRIES what it showed at the start and these entries behind it, but for some at its old end. Where it was
+-- dense at the start it is dense, so the next one takes the place of the oldest; and some are gone only where it is
+-- full, or lacks one entry.
 pub record RingKeeps (r : Shape) (start x : List ℕ) (more : List (List ℕ)) : Type 0 where
   pub points : PointsInside r x
-  pub dense : IsDense r x
+  pub dense : IsDense r start → IsDense r x
   pub gone : List (List ℕ)
   pub shown : ring_list r start ++ more ≡ gone ++ ring_list r x
-  pub full : (gone ≡ []) ⊎ (r.count ≤ length (ring_list r x) + 1)
+  pub full : IsDense r start → (gone ≡ []) ⊎ (r.count ≤ length (ring_list r x) + 1)

@@ -1,9 +1,9 @@
-ghost use Rattle.std.specs.Prelude.{◌≡◌, ◌⊎◌, ℕ, ◌+◌, ◌≤◌, ◌==◌, true, false, Some, List, [], ◌∷◌, ◌++◌, length, map};
-ghost use Rattle.std.specs.Prelude.{if◌then◌else◌};
+ghost use Rattle.std.specs.Prelude.{◌≡◌, ◌⊎◌, ℕ, suc, ◌+◌, ◌<◌, ◌≤◌, ◌==◌, true, false, Some, List, [], ◌∷◌, ◌++◌};
+ghost use Rattle.std.specs.Prelude.{length, map, if◌then◌else◌};
 ghost use Rattle.std.specs.List.{AllByRecursion, list_any};
 ghost use Rattle.card_layout.specs.Images.{SameOutside};
 ghost use Rattle.gated_ring.specs.Ring.{Shape, IsShape, PointsInside, size_of, pointer, indices, ring_list, entry_at};
-ghost use Rattle.gated_ring.specs.Ring.{taken, staying, with_head, IsDense};
+ghost use Rattle.gated_ring.specs.Ring.{taken, staying, with_head};
 ghost use Rattle.gated_ring.specs.Change.{IsAdding, IsAdded};
 ghost use Rattle.log_model.specs.Slots.{same_card};
 ghost use Rattle.note_model.specs.Noted.{InsertionNote, Withdrawal, with_withdrawal};
@@ -15,12 +15,11 @@ ghost use Rattle.run_rings.specs.Notes.{SelectionsNoteNothing, PullsNoteNothing,
 ghost use Rattle.run_rings.specs.Notes.{RefusalsNoteNothing, PlacesAreNoted, WithdrawalsAreNoted, InsertionsAreNoted};
 ghost use Rattle.run_rings.specs.Notes.{PowerOnsAreNoted};
 
-/// A ring that was dense at the start carries what it showed and the entries that were added since, over each step: an
+/// A ring carries what it showed at the start and the entries that were added since, over each step: an
 /// entry is added, or a stop comes at a moment of that; bytes outside the ring are written; one of the run's entries
 /// gets other bytes where it stands, or would have, but is gone.
 pub fn what_a_ring_carries()
-    ensures begins { (r : Shape) (start : List ℕ) → PointsInside r start → IsDense r start
-        → RingKeeps r start start [] }
+    ensures begins { (r : Shape) (start : List ℕ) → PointsInside r start → RingKeeps r start start [] }
     ensures added { (r : Shape) (start x : List ℕ) (more : List (List ℕ)) → RingKeeps r start x more → (head y : List ℕ)
         → IsAdded r head x y → RingKeeps r start y (more ++ with_head r x (taken r x) head ∷ []) }
     ensures moment { (r : Shape) (start x : List ℕ) (more : List (List ℕ)) → RingKeeps r start x more
@@ -56,7 +55,11 @@ pub fn an_index_stays()
     ensures stays { (r : Shape) (head x y : List ℕ) → PointsInside r x → IsAdded r head x y
         → (front : List ℕ) (i : ℕ) (back : List ℕ) → indices r x ≡ front ++ i ∷ back →
         ((before : List ℕ) × (indices r y ≡ before ++ i ∷ (back ++ taken r x ∷ [])))
-        ⊎ ((front ≡ []) × (indices r y ≡ back ++ taken r x ∷ [])) }
+        ⊎ ((front ≡ []) × (indices r y ≡ back ++ taken r x ∷ []) × (i ≡ taken r x)) }
+    ensures turn { (count index places at : ℕ) → index < count → places < count → at < count
+        → (at ≡ index + places) ⊎ (at + count ≡ index + places) →
+        ((if at + 1 == count then 0 else at + 1) ≡ index + suc places)
+        ⊎ ((if at + 1 == count then 0 else at + 1) + count ≡ index + suc places) }
     ensures alone { (r : Shape) (x front : List ℕ) (i : ℕ) (back : List ℕ) → indices r x ≡ front ++ i ∷ back
         → AllByRecursion (λ (j : ℕ). (j == i) ≡ false) (front ++ back) }
     ensures itself { (i : ℕ) → (i == i) ≡ true }

@@ -31,7 +31,7 @@ newest-same start x c blocks h same =
 
 module _ (is_sure : Block → Bool) (start : List ℕ) where
   nothing-yet : HasSpeedRing start → (x : List ℕ) → x ≡ start → CarriesBlocks is_sure start [] x
-  nothing-yet ring x is = subst (CarriesBlocks is_sure start []) (sym is) (record { more = []; stand = refl; carries = carries-none speed_ring start ring.0 ring.1 })
+  nothing-yet ring x is = subst (CarriesBlocks is_sure start []) (sym is) (record { more = []; stand = refl; carries = carries-none speed_ring start ring.0 })
 
   pub speeds-begin : (began : ℕ) (unit : State) → HasSpeedRing start → began ≤ unit.clock → ((x : List ℕ) → unit.may_leave x → x ≡ start) → ((x : List ℕ) → unit.left_since began x → x ≡ start) → HasSpeeds is_sure start began [] unit
   speeds-begin began unit ring later now since = record {

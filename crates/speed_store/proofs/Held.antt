@@ -94,10 +94,10 @@ module _ (start x : List ℕ) (more : List Block) (h : HoldsNewest start x more)
   pub newest-carries : RingKeeps speed_ring start x (map block_bytes more)
   newest-carries = record {
     points = h.points;
-    dense = h.dense;
+    dense = λ d. h.dense;
     gone = take (length all - 1440) all;
     shown = sym (take-append-drop (length all - 1440) all) ∙ ap (λ (l : List (List ℕ)). take (length all - 1440) all ++ l) (sym h.newest);
-    full = ⊎_elim few many (cases_lt 1440 (length all));
+    full = λ d. ⊎_elim few many (cases_lt 1440 (length all));
   }
     where
       many : length all ≤ 1440 → (take (length all - 1440) all ≡ []) ⊎ (1440 ≤ length (stored_blocks x) + 1)
