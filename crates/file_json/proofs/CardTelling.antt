@@ -13,6 +13,7 @@ use Rattle.hex.proofs.HexLemmas.{decode_of-encode_lower}
 use Rattle.card_layout.specs.Fields.{IsBytes, joined}
 use Rattle.card_layout.proofs.Cuts.{IsBytes-take, IsBytes-drop}
 use Rattle.card_layout.proofs.Numbers.{IsBytes-big_bytes, big_number-big_bytes}
+use Rattle.file_view.specs.Showing.{before_last}
 use Rattle.card_image.specs.CardFile.{FileEntry, IsFileEntry, entry_bytes}
 use Rattle.json.specs.Json.{Json, null, boolean, number, string, array, object, Items, no_items, item, Members, no_members, member, document}
 use Rattle.json.specs.Print.{print}
@@ -34,9 +35,10 @@ use Rattle.json_fields.proofs.Telling.{record_tells, items_flat, items_numbers, 
 use Rattle.file_json.specs.declared.card.Shape.{Shape}
 use Rattle.file_json.specs.declared.card.Shape.TheVariants.{Record, Events, Faults, Days, Vehicles, Places, Conditions, Bytes}
 use Rattle.file_json.specs.Parts.{changes_shown, width_of}
-use Rattle.file_json.specs.Days.{day_len, is_day, day_shown, days_shown, circle_from, far_between, string_shown}
-use Rattle.file_json.specs.Cards.{list_shown, lists_shown, told, fits, content_then, shape_of, file_name, kind_name, entry_shown, entries_shown, json_of_card, IsCardJson}
+use Rattle.file_json.specs.Days.{day_len, is_day, day_shown, days_shown, circle_from, far_between, items_behind, items_count, newest_items, string_shown}
+use Rattle.file_json.specs.Cards.{bytes_then, list_shown, lists_shown, told, fits, content_then, shape_of, file_name, kind_name, entry_shown, entries_shown, json_of_card, IsCardJson}
 use Rattle.unit_marks.specs.Files.{AreFiles}
+use Rattle.file_json.proofs.Stringing.{day_is}
 use Rattle.file_json.proofs.UnitTelling.{kinds_are, front_number, behind-bytes, changes-numbers, changes-depth}
 
 -- ---- what is told
@@ -95,7 +97,7 @@ ring_is w r len fit = by_test (nat_le w len) (λ is. (grind (arith, nat_tests, i
     clash is = cc
 
 -- a value by its shape
-told_tells : (s : Shape) (xs ys : List ℕ) → fits s (length xs) ≡ true → length xs ≡ length ys → IsBytes xs → IsBytes ys → told s xs ≡ told s ys → xs ≡ ys
+told_tells : (s : Shape) (xs ys : List ℕ) → fits s (length xs) ≡ true → length xs ≡ length ys → IsBytes xs → IsBytes ys → told None s xs ≡ told None s ys → xs ≡ ys
 told_tells (Record k) xs ys fit same bx by e =
     let wide : length xs ≡ width_of k = equal (length xs) (width_of k) fit in
     record_tells (fields_of k) xs ys (kinds_are k) wide (sym same ∙ wide) bx by (ap members_in e)
@@ -134,7 +136,7 @@ told_tells Conditions xs ys fit same bx by e =
 told_tells Bytes xs ys fit same bx by e = absurd (cc)
 
 -- what a file holds
-content_tells : (s : Shape) (xs ys : List ℕ) → length xs ≡ length ys → IsBytes xs → IsBytes ys → content_then s xs no_members ≡ content_then s ys no_members → xs ≡ ys
+content_tells : (s : Shape) (xs ys : List ℕ) → length xs ≡ length ys → IsBytes xs → IsBytes ys → content_then None s xs no_members ≡ content_then None s ys no_members → xs ≡ ys
 content_tells s xs ys same bx by e = by_test (fits s (length xs)) shaped digits
   where
     ys_too : (t : Bool) → fits s (length xs) ≡ t → fits s (length ys) ≡ t
@@ -155,7 +157,7 @@ kind-tells k l lk ll e = by_test (k == 0) (λ x. by_test (l == 0) (λ y. equal k
     other : codes "signature" ≡ codes "value" → ⊥
     other is = cc
 
-file_tells : (e f : FileEntry) (place other : ℕ) → IsFileEntry e → IsFileEntry f → IsBytes e.value → IsBytes f.value → entry_shown place e ≡ entry_shown other f → entry_bytes e ≡ entry_bytes f
+file_tells : (e f : FileEntry) (place other : ℕ) → IsFileEntry e → IsFileEntry f → IsBytes e.value → IsBytes f.value → entry_shown None place e ≡ entry_shown None other f → entry_bytes e ≡ entry_bytes f
 file_tells e f place other ie fine be bf is =
     let ms = ap members_in is in
     let ids : big_bytes 2 e.fid ≡ big_bytes 2 f.fid = digits-tell (big_bytes 2 e.fid) (big_bytes 2 f.fid) (IsBytes-big_bytes 2 e.fid) (IsBytes-big_bytes 2 f.fid) (ap (λ m. text_in (first_in (behind_in m))) ms) in
@@ -164,7 +166,7 @@ file_tells e f place other ie fine be bf is =
     let long : length e.value ≡ length f.value = decimal_injective (length e.value) (length f.value) (omega (arith, ie.short)) (omega (arith, fine.short)) (ap (λ m. text_in (first_in (behind_in (behind_in (behind_in (behind_in m)))))) ms) in
     let made = ap (λ m. behind_in (behind_in (behind_in (behind_in (behind_in m))))) ms in
     let shapes : shape_of e.fid e.kind ≡ shape_of f.fid f.kind = ap (λ (n : ℕ). shape_of n e.kind) fid ∙ ap (λ (n : ℕ). shape_of f.fid n) kinds in
-    let value = content_tells (shape_of f.fid f.kind) e.value f.value long be bf (ap (λ (s : Shape). content_then s e.value no_members) (sym shapes) ∙ made) in
+    let value = content_tells (shape_of f.fid f.kind) e.value f.value long be bf (ap (λ (s : Shape). content_then None s e.value no_members) (sym shapes) ∙ made) in
     ap entry_bytes (λ t. record { fid = fid t; kind = kinds t; value = value t })
 
 -- ---- a file
@@ -176,7 +178,7 @@ value_bytes e more fits =
     front-bytes e.value [] (front-bytes (e.value ++ []) more behind)
 
 files_tell : (es fs : List FileEntry) (place other : ℕ) → All IsFileEntry es → All IsFileEntry fs → IsBytes (joined (map entry_bytes es)) → IsBytes (joined (map entry_bytes fs))
-    → entries_shown place es ≡ entries_shown other fs → joined (map entry_bytes es) ≡ joined (map entry_bytes fs)
+    → entries_shown None place es ≡ entries_shown None other fs → joined (map entry_bytes es) ≡ joined (map entry_bytes fs)
 files_tell [] [] place other ie fine be bf is = refl
 files_tell [] (f ∷ fs) place other ie fine be bf is = absurd (cc)
 files_tell (e ∷ es) [] place other ie fine be bf is = absurd (cc)
@@ -208,15 +210,6 @@ lists-depth (suc count) len k value = omega (arith, list-depth k (take len value
 both-bytes : (front behind : List ℕ) → IsBytes front → IsBytes behind → IsBytes (front ++ behind)
 both-bytes [] behind ff fb = fb
 both-bytes (b ∷ front) behind ff fb = one_more_byte b (front ++ behind) (ff 0) (both-bytes front behind (λ i. ff (suc i)) fb)
-
-never : false ≡ true → ⊥
-never is = cc
-
-day_is : (bytes : List ℕ) → is_day bytes ≡ true → (14 ≤ day_len bytes) × (day_len bytes ≤ length bytes)
-day_is bytes is =
-    by_test (nat_le 14 (length bytes))
-    (λ x. by_test (nat_le 14 (day_len bytes)) (λ y. (grind (arith, nat_tests, y), grind (arith, nat_tests, rw (x, y) at is))) (λ y. absurd (never (rw (x, y) at is))))
-    (λ x. absurd (never (rw x at is)))
 
 day-numbers : (bytes : List ℕ) → 14 ≤ length bytes → IsBytes bytes → HasNumbers (day_shown bytes)
 day-numbers bytes long fits =
@@ -252,74 +245,101 @@ days-depth (suc most) far bytes =
     (λ y. rw (is, y) (omega (arith, day-depth (take (day_len bytes) bytes), days-depth most (far - day_len bytes) (drop (day_len bytes) bytes)))))
     (λ is. rw is (omega arith))
 
-string-numbers : (oldest newest : ℕ) (bytes : List ℕ) → IsBytes bytes → HasNumbers (string_shown oldest newest bytes)
-string-numbers oldest newest bytes fits =
-    days-numbers (length bytes) (far_between oldest newest (length bytes)) (circle_from oldest bytes) (both-bytes (drop oldest bytes) (take oldest bytes) (IsBytes-drop oldest bytes fits) (IsBytes-take oldest bytes fits))
+-- without the first of them
+behind-numbers : (n : ℕ) (js : Items) → ItemsHaveNumbers js → ItemsHaveNumbers (items_behind n js)
+behind-numbers zero js has = has
+behind-numbers (suc n) no_items has = tt
+behind-numbers (suc n) (item j js) has = behind-numbers n js has.1
 
-string-depth : (oldest newest : ℕ) (bytes : List ℕ) → depth (string_shown oldest newest bytes) ≤ 5
-string-depth oldest newest bytes = omega (arith, days-depth (length bytes) (far_between oldest newest (length bytes)) (circle_from oldest bytes))
+behind-depth : (n : ℕ) (js : Items) → items_depth (items_behind n js) ≤ items_depth js
+behind-depth zero js = omega arith
+behind-depth (suc n) no_items = omega arith
+behind-depth (suc n) (item j js) = omega (arith, behind-depth n js)
 
-told-numbers : (s : Shape) (value : List ℕ) → fits s (length value) ≡ true → IsBytes value → HasNumbers (told s value)
-told-numbers (Record k) value fit are = members_numbers (fields_of k) value (kinds_are k) (let wide : length value ≡ width_of k = equal (length value) (width_of k) fit in omega (arith, wide)) are
-told-numbers Events value fit are = (lists-numbers 6 (length value / 6) kind.CardEvent value are, tt)
-told-numbers Faults value fit are = (lists-numbers 2 (length value / 2) kind.CardFault value are, tt)
-told-numbers Days value fit are = (IsNumber-decimal (big_number 2 value) (two_low value are), (IsNumber-decimal (big_number 2 (drop 2 value)) (two_low (drop 2 value) (IsBytes-drop 2 value are)), (string-numbers (big_number 2 value) (big_number 2 (drop 2 value)) (drop 4 value) (IsBytes-drop 4 value are), (tt, tt))))
-told-numbers Vehicles value fit are = (IsNumber-decimal (big_number 2 value) (two_low value are), (list-numbers kind.Vehicle (drop 2 value) (IsBytes-drop 2 value are), tt))
-told-numbers Places value fit are = (IsNumber-decimal (big_number 1 value) (one_low value are), (list-numbers kind.CardPlace (drop 1 value) (IsBytes-drop 1 value are), tt))
-told-numbers Conditions value fit are = (list-numbers kind.Condition value are, tt)
-told-numbers Bytes value fit are = tt
+newest-numbers : (last : Option ℕ) (js : Items) → ItemsHaveNumbers js → ItemsHaveNumbers (newest_items last js)
+newest-numbers last js has = behind-numbers (before_last last (items_count js)) js has
 
-told-depth : (s : Shape) (value : List ℕ) → depth (told s value) ≤ 7
-told-depth (Record k) value = omega (arith, members_flat (fields_of k) value)
-told-depth Events value = omega (arith, lists-depth 6 (length value / 6) kind.CardEvent value)
-told-depth Faults value = omega (arith, lists-depth 2 (length value / 2) kind.CardFault value)
-told-depth Days value = omega (arith, string-depth (big_number 2 value) (big_number 2 (drop 2 value)) (drop 4 value))
-told-depth Vehicles value = omega (arith, list-depth kind.Vehicle (drop 2 value))
-told-depth Places value = omega (arith, list-depth kind.CardPlace (drop 1 value))
-told-depth Conditions value = omega (arith, list-depth kind.Condition value)
-told-depth Bytes value = omega arith
+newest-depth : (last : Option ℕ) (js : Items) → items_depth (newest_items last js) ≤ items_depth js
+newest-depth last js = behind-depth (before_last last (items_count js)) js
 
-content-numbers : (s : Shape) (value : List ℕ) → IsBytes value → MembersHaveNumbers (content_then s value no_members)
-content-numbers s value are = by_test (fits s (length value)) (λ is. rw is (told-numbers s value is are, tt)) (λ is. rw is (tt, tt))
+string-numbers : (last : Option ℕ) (oldest newest : ℕ) (bytes : List ℕ) → IsBytes bytes → HasNumbers (string_shown last oldest newest bytes)
+string-numbers last oldest newest bytes fits =
+    newest-numbers last (days_shown (length bytes) (far_between oldest newest (length bytes)) (circle_from oldest bytes))
+    (days-numbers (length bytes) (far_between oldest newest (length bytes)) (circle_from oldest bytes) (both-bytes (drop oldest bytes) (take oldest bytes) (IsBytes-drop oldest bytes fits) (IsBytes-take oldest bytes fits)))
 
-content-depth : (s : Shape) (value : List ℕ) → members_depth (content_then s value no_members) ≤ 7
-content-depth s value = by_test (fits s (length value)) (λ is. rw is (omega (arith, told-depth s value))) (λ is. rw is (omega arith))
+string-depth : (last : Option ℕ) (oldest newest : ℕ) (bytes : List ℕ) → depth (string_shown last oldest newest bytes) ≤ 5
+string-depth last oldest newest bytes =
+    omega (arith, newest-depth last (days_shown (length bytes) (far_between oldest newest (length bytes)) (circle_from oldest bytes)), days-depth (length bytes) (far_between oldest newest (length bytes)) (circle_from oldest bytes))
 
-file-numbers : (e : FileEntry) (place : ℕ) → place < 2 ^ 64 → IsFileEntry e → IsBytes e.value → HasNumbers (entry_shown place e)
-file-numbers e place low is are =
-    (IsNumber-decimal place low, (tt, (tt, (tt, (IsNumber-decimal (length e.value) (omega (arith, is.short)), content-numbers (shape_of e.fid e.kind) e.value are)))))
+bytes-numbers : (last : Option ℕ) (bytes : List ℕ) → MembersHaveNumbers (bytes_then last bytes no_members)
+bytes-numbers None bytes = (tt, tt)
+bytes-numbers (Some n) bytes = tt
 
-file-depth : (e : FileEntry) (place : ℕ) → depth (entry_shown place e) ≤ 8
-file-depth e place = omega (arith, content-depth (shape_of e.fid e.kind) e.value)
+bytes-depth : (last : Option ℕ) (bytes : List ℕ) → members_depth (bytes_then last bytes no_members) ≤ 0
+bytes-depth None bytes = omega arith
+bytes-depth (Some n) bytes = omega arith
 
-files-numbers : (es : List FileEntry) (place : ℕ) → place + length (joined (map entry_bytes es)) < 2 ^ 64 → All IsFileEntry es → IsBytes (joined (map entry_bytes es)) → ItemsHaveNumbers (entries_shown place es)
-files-numbers [] place low is fits = tt
-files-numbers (e ∷ es) place low is fits =
+told-numbers : (last : Option ℕ) (s : Shape) (value : List ℕ) → fits s (length value) ≡ true → IsBytes value → HasNumbers (told last s value)
+told-numbers last (Record k) value fit are = members_numbers (fields_of k) value (kinds_are k) (let wide : length value ≡ width_of k = equal (length value) (width_of k) fit in omega (arith, wide)) are
+told-numbers last Events value fit are = (lists-numbers 6 (length value / 6) kind.CardEvent value are, tt)
+told-numbers last Faults value fit are = (lists-numbers 2 (length value / 2) kind.CardFault value are, tt)
+told-numbers last Days value fit are = (IsNumber-decimal (big_number 2 value) (two_low value are), (IsNumber-decimal (big_number 2 (drop 2 value)) (two_low (drop 2 value) (IsBytes-drop 2 value are)), (string-numbers last (big_number 2 value) (big_number 2 (drop 2 value)) (drop 4 value) (IsBytes-drop 4 value are), bytes-numbers last (drop 4 value))))
+told-numbers last Vehicles value fit are = (IsNumber-decimal (big_number 2 value) (two_low value are), (list-numbers kind.Vehicle (drop 2 value) (IsBytes-drop 2 value are), tt))
+told-numbers last Places value fit are = (IsNumber-decimal (big_number 1 value) (one_low value are), (list-numbers kind.CardPlace (drop 1 value) (IsBytes-drop 1 value are), tt))
+told-numbers last Conditions value fit are = (list-numbers kind.Condition value are, tt)
+told-numbers last Bytes value fit are = tt
+
+told-depth : (last : Option ℕ) (s : Shape) (value : List ℕ) → depth (told last s value) ≤ 7
+told-depth last (Record k) value = omega (arith, members_flat (fields_of k) value)
+told-depth last Events value = omega (arith, lists-depth 6 (length value / 6) kind.CardEvent value)
+told-depth last Faults value = omega (arith, lists-depth 2 (length value / 2) kind.CardFault value)
+told-depth last Days value = omega (arith, string-depth last (big_number 2 value) (big_number 2 (drop 2 value)) (drop 4 value), bytes-depth last (drop 4 value))
+told-depth last Vehicles value = omega (arith, list-depth kind.Vehicle (drop 2 value))
+told-depth last Places value = omega (arith, list-depth kind.CardPlace (drop 1 value))
+told-depth last Conditions value = omega (arith, list-depth kind.Condition value)
+told-depth last Bytes value = omega arith
+
+content-numbers : (last : Option ℕ) (s : Shape) (value : List ℕ) → IsBytes value → MembersHaveNumbers (content_then last s value no_members)
+content-numbers last s value are = by_test (fits s (length value)) (λ is. rw is (told-numbers last s value is are, tt)) (λ is. rw is (tt, tt))
+
+content-depth : (last : Option ℕ) (s : Shape) (value : List ℕ) → members_depth (content_then last s value no_members) ≤ 7
+content-depth last s value = by_test (fits s (length value)) (λ is. rw is (omega (arith, told-depth last s value))) (λ is. rw is (omega arith))
+
+file-numbers : (last : Option ℕ) (e : FileEntry) (place : ℕ) → place < 2 ^ 64 → IsFileEntry e → IsBytes e.value → HasNumbers (entry_shown last place e)
+file-numbers last e place low is are =
+    (IsNumber-decimal place low, (tt, (tt, (tt, (IsNumber-decimal (length e.value) (omega (arith, is.short)), content-numbers last (shape_of e.fid e.kind) e.value are)))))
+
+file-depth : (last : Option ℕ) (e : FileEntry) (place : ℕ) → depth (entry_shown last place e) ≤ 8
+file-depth last e place = omega (arith, content-depth last (shape_of e.fid e.kind) e.value)
+
+files-numbers : (last : Option ℕ) (es : List FileEntry) (place : ℕ) → place + length (joined (map entry_bytes es)) < 2 ^ 64 → All IsFileEntry es → IsBytes (joined (map entry_bytes es)) → ItemsHaveNumbers (entries_shown last place es)
+files-numbers last [] place low is fits = tt
+files-numbers last (e ∷ es) place low is fits =
     let long : length (entry_bytes e ++ joined (map entry_bytes es)) ≡ length (entry_bytes e) + length (joined (map entry_bytes es)) = length-append (entry_bytes e) (joined (map entry_bytes es)) in (
-      file-numbers e place (omega (arith, low)) (All-head IsFileEntry e es is) (value_bytes e (joined (map entry_bytes es)) fits),
-      files-numbers es (place + length (entry_bytes e)) (omega (arith, low, long)) (All-tail IsFileEntry e es is) (behind-bytes (entry_bytes e) (joined (map entry_bytes es)) fits),
+      file-numbers last e place (omega (arith, low)) (All-head IsFileEntry e es is) (value_bytes e (joined (map entry_bytes es)) fits),
+      files-numbers last es (place + length (entry_bytes e)) (omega (arith, low, long)) (All-tail IsFileEntry e es is) (behind-bytes (entry_bytes e) (joined (map entry_bytes es)) fits),
     )
 
-files-depth : (es : List FileEntry) (place : ℕ) → items_depth (entries_shown place es) ≤ 8
-files-depth [] place = omega arith
-files-depth (e ∷ es) place = omega (arith, file-depth e place, files-depth es (place + length (entry_bytes e)))
+files-depth : (last : Option ℕ) (es : List FileEntry) (place : ℕ) → items_depth (entries_shown last place es) ≤ 8
+files-depth last [] place = omega arith
+files-depth last (e ∷ es) place = omega (arith, file-depth last e place, files-depth last es (place + length (entry_bytes e)))
 
 -- THE TEXT OF A CARD FILE is read as its value
-pub card_is_json : (entries : List FileEntry) (bytes : List ℕ) → length bytes < 2 ^ 32 → IsBytes bytes → AreFiles entries bytes → document (print (json_tokens (json_of_card entries))) ≡ Some (json_of_card entries)
-card_is_json entries bytes short fits files =
+pub card_is_json : (last : Option ℕ) (entries : List FileEntry) (bytes : List ℕ) → length bytes < 2 ^ 32 → IsBytes bytes → AreFiles entries bytes → document (print (json_tokens (json_of_card last entries))) ≡ Some (json_of_card last entries)
+card_is_json last entries bytes short fits files =
     let are : IsBytes (joined (map entry_bytes entries)) = subst IsBytes files.spelled fits in
-    document-print (json_of_card entries)
-    (tt, (files-numbers entries 0 (omega (arith, short, ap length files.spelled)) files.each are, tt))
-    (omega (arith, files-depth entries 0))
+    document-print (json_of_card last entries)
+    (tt, (files-numbers last entries 0 (omega (arith, short, ap length files.spelled)) files.each are, tt))
+    (omega (arith, files-depth last entries 0))
 
 -- and tells the file
-pub card_text_tells : (xs ys out : List ℕ) → length xs < 2 ^ 32 → length ys < 2 ^ 32 → IsBytes xs → IsBytes ys → IsCardJson xs out → IsCardJson ys out → xs ≡ ys
+pub card_text_tells : (xs ys out : List ℕ) → length xs < 2 ^ 32 → length ys < 2 ^ 32 → IsBytes xs → IsBytes ys → IsCardJson None xs out → IsCardJson None ys out → xs ≡ ys
 card_text_tells xs ys out lx ly bx by jx jy =
-    let texts = (same_from_push (print (json_tokens (json_of_card jx.entries))) (print (json_tokens (json_of_card jy.entries))) 10 10 (sym jx.text ∙ jy.text)).0 in
+    let texts = (same_from_push (print (json_tokens (json_of_card None jx.entries))) (print (json_tokens (json_of_card None jy.entries))) 10 10 (sym jx.text ∙ jy.text)).0 in
     let fx : AreFiles jx.entries xs = record { each = jx.are.each; spelled = jx.are.spelled } in
     let fy : AreFiles jy.entries ys = record { each = jy.are.each; spelled = jy.are.spelled } in
-    let reads = sym (card_is_json jx.entries xs lx bx fx) ∙ ap document texts ∙ card_is_json jy.entries ys ly by fy in
-    let items : entries_shown 0 jx.entries ≡ entries_shown 0 jy.entries = ap (λ (o : Option Json). items_in (first_in (behind_in (members_in (value_in o))))) reads in
+    let reads = sym (card_is_json None jx.entries xs lx bx fx) ∙ ap document texts ∙ card_is_json None jy.entries ys ly by fy in
+    let items : entries_shown None 0 jx.entries ≡ entries_shown None 0 jy.entries = ap (λ (o : Option Json). items_in (first_in (behind_in (members_in (value_in o))))) reads in
     jx.are.spelled
     ∙ files_tell jx.entries jy.entries 0 0 jx.are.each jy.are.each (subst IsBytes jx.are.spelled bx) (subst IsBytes jy.are.spelled by) items
     ∙ sym jy.are.spelled

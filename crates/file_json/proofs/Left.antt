@@ -1,5 +1,6 @@
 -- The parts of a message that are still to be written, and the records of lists.
-use Rattle.std.proofs.Common.{◌≡◌, ◌≢◌, ℕ, ◌+◌, ◌-◌, ◌*◌, zero, suc, ◌≤◌, List, [], ◌∷◌, ◌++◌, length, take, drop, refl, ap, ◌∙◌, arith, append_assoc, length-drop}
+use Rattle.std.proofs.Common.{◌≡◌, ◌≢◌, ℕ, ◌+◌, ◌-◌, ◌*◌, zero, suc, ◌≤◌, List, [], ◌∷◌, ◌++◌, length, take, drop, refl, ap, ◌∙◌, sym, subst, arith, append_assoc, length-drop}
+use Rattle.std.specs.Prelude.{Option, Some}
 use Rattle.byteorder.specs.Endian.{big_number}
 use Rattle.json.specs.Token.{Token}
 use Rattle.json.specs.Tree.{json_tokens, items_tokens, members_tokens}
@@ -9,7 +10,7 @@ use Rattle.json_fields.specs.Texts.{change_value}
 use Rattle.json_fields.specs.declared.kinds.Kind.{Kind}
 use Rattle.file_json.specs.declared.parts.Part.{Part}
 use Rattle.file_json.specs.Parts.{HasParts, changes_shown, part_len, part_then, parts_then}
-use Rattle.file_json.specs.Cards.{list_shown, lists_shown}
+use Rattle.file_json.specs.Cards.{bytes_then, list_shown, lists_shown}
 
 -- what is written with what the parts of the rest make, and whatever members follow, is the whole with these
 pub record AreLeft (parts : List Part) (rest : List ℕ) (old tokens : List Token) (all : Members → Members) : Type 0 where
@@ -96,9 +97,6 @@ pub five_then : (old a b c d e f g h i j k l m : List Token) (n o p q r : List �
     → m ≡ old ++ json_tokens (object (member n u (member o v (member p w (member q x (member r y (all no_members)))))))
 five_then old a b c d e f g h i j k l m n o p q r u v w x y all ea eb ec ed ee ef eg eh ei ej ek adds em = em ∙ adds no_members ∙ rw (ek, ej, ei, eh, eg, ef, ee, ed, ec, eb, ea) (simp append_assoc)
 
--- an object of four values
-pub four_values : (old a b c d e f g h i j : List Token) (k l m n : List ℕ) (u v w x : Json)
-    → a ≡ old ++ Token.begin_object ∷ [] → b ≡ a ++ Token.key k ∷ [] → c ≡ b ++ json_tokens u → d ≡ c ++ Token.key l ∷ [] → e ≡ d ++ json_tokens v → f ≡ e ++ Token.key m ∷ [] → g ≡ f ++ json_tokens w
-    → h ≡ g ++ Token.key n ∷ [] → i ≡ h ++ json_tokens x → j ≡ i ++ Token.end_object ∷ []
-    → j ≡ old ++ json_tokens (object (member k u (member l v (member m w (member n x no_members)))))
-four_values old a b c d e f g h i j k l m n u v w x ea eb ec ed ee ef eg eh ei ej = rw (ej, ei, eh, eg, ef, ee, ed, ec, eb, ea) (simp append_assoc)
+-- where the newest records of a string are told its bytes are not
+pub no_bytes : (last : Option ℕ) (n : ℕ) (tokens : List Token) (string : List ℕ) → last ≡ Some n → AddsMembers tokens tokens (bytes_then last string)
+no_bytes last n tokens string is = subst (λ (o : Option ℕ). AddsMembers tokens tokens (bytes_then o string)) (sym is) (λ more. refl)

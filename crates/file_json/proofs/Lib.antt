@@ -1,8 +1,12 @@
 mod Left
+mod LastDays
 mod Standing
+mod Printing
+mod Making
 mod Walking
 mod Filing
 mod Stringing
 mod UnitTelling
 mod CardTelling
+mod Apart
 mod Rows

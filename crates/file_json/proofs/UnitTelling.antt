@@ -1,5 +1,5 @@
 -- The text of a unit file is read as its JSON, and tells the file.
-use Rattle.std.proofs.Common.{◌≡◌, ◌∙◌, ℕ, zero, suc, ◌+◌, ◌*◌, ◌%◌, ◌<◌, ◌≤◌, ◌^◌, Some, List, [], ◌∷◌, ◌++◌, length, take, drop, map, All, refl, ap, sym, subst, arith, rules, length-append, length-drop}
+use Rattle.std.proofs.Common.{◌≡◌, ◌∙◌, ℕ, zero, suc, ◌+◌, ◌-◌, ◌*◌, ◌%◌, ◌<◌, ◌≤◌, ◌^◌, Some, List, [], ◌∷◌, ◌++◌, length, take, drop, map, All, refl, ap, sym, subst, arith, rules, length-append, length-drop}
 use Rattle.std.specs.Prelude.{Option, None, Bool, true, false, slice_index, codes}
 use Rattle.std.specs.Fmt.{decimal}
 use Rattle.std.proofs.lemmas.List.{take-append-drop, same_from_push, length-take-le}
@@ -21,6 +21,8 @@ use Rattle.json_fields.specs.declared.names.Name.{Name}
 use Rattle.json_fields.specs.Kinds.{fields_of}
 use Rattle.json_fields.specs.Shown.{members_then, value_shown, record_shown, records_shown, items_shown, width_of_record, AreFields}
 use Rattle.json_fields.specs.Texts.{change_value}
+use Rattle.file_view.specs.UnitFiles.{days_told}
+use Rattle.json_fields.proofs.Cutting.{by_test}
 use Rattle.json_fields.proofs.Forms.{change-tells, front-bytes}
 use Rattle.json_fields.proofs.Fronts.{two_parts, members_front, items_front, fields_numbers, fields_depth}
 use Rattle.json_fields.proofs.Taking.{text_in, members_in, first_in, behind_in, value_in, items_in, first_item, behind_item, count_in}
@@ -29,7 +31,8 @@ use Rattle.message_model.specs.Messages.{Message, AnOverview, ADay, AnEventList,
 use Rattle.file_json.specs.declared.parts.Part.{Part}
 use Rattle.file_json.specs.declared.parts.Part.TheVariants.{Fields, Record, List as ListOf, Changes}
 use Rattle.file_json.specs.Parts.{HasParts, IsThere, changes_shown, part_len, part_then, parts_then, width_of}
-use Rattle.file_json.specs.Units.{IsUnitJson, json_of_unit, message_shown, messages_shown, parts_of}
+use Rattle.file_json.specs.Units.{IsUnitJson, is_left_out, json_of_unit, message_shown, messages_shown, messages_told, parts_of}
+use Rattle.file_json.proofs.LastDays.{messages_behind, first_out, first_kept}
 use Rattle.file_json.proofs.Standing.{has_parts}
 
 -- every table can be shown
@@ -232,19 +235,50 @@ messages-depth : (ms : List Message) (place : ℕ) → items_depth (messages_sho
 messages-depth [] place = omega arith
 messages-depth (m ∷ ms) place = omega (arith, message-depth m place, messages-depth ms (place + length (message_bytes m)))
 
+-- without those of the first days
+behind-numbers : (skip place : ℕ) (ms : List Message) → place + length (joined (map message_bytes ms)) < 2 ^ 64 → All IsMessage ms → IsBytes (joined (map message_bytes ms)) → ItemsHaveNumbers (messages_behind skip place ms)
+behind-numbers skip place [] low is fits = tt
+behind-numbers skip place (m ∷ ms) low is fits =
+    let long : length (message_bytes m ++ joined (map message_bytes ms)) ≡ length (message_bytes m) + length (joined (map message_bytes ms)) = length-append (message_bytes m) (joined (map message_bytes ms)) in
+    let lower : place + length (message_bytes m) + length (joined (map message_bytes ms)) < 2 ^ 64 = omega (arith, low, long) in
+    let others = All-tail IsMessage m ms is in
+    let bytes = behind-bytes (message_bytes m) (joined (map message_bytes ms)) fits in
+    by_test (is_left_out skip m)
+    (λ out. subst ItemsHaveNumbers (sym (first_out skip place m ms out)) (behind-numbers (skip - 1) (place + length (message_bytes m)) ms lower others bytes))
+    (λ kept. subst ItemsHaveNumbers (sym (first_kept skip place m ms kept)) (
+      message-numbers m place (omega (arith, low)) (All-head IsMessage m ms is) (front-bytes (message_bytes m) (joined (map message_bytes ms)) fits),
+      behind-numbers skip (place + length (message_bytes m)) ms lower others bytes,
+    ))
+
+behind-depth : (skip place : ℕ) (ms : List Message) → items_depth (messages_behind skip place ms) ≤ 6
+behind-depth skip place [] = omega arith
+behind-depth skip place (m ∷ ms) =
+    by_test (is_left_out skip m)
+    (λ out. subst (λ (js : Items). items_depth js ≤ 6) (sym (first_out skip place m ms out)) (behind-depth (skip - 1) (place + length (message_bytes m)) ms))
+    (λ kept. subst (λ (js : Items). items_depth js ≤ 6) (sym (first_kept skip place m ms kept))
+    (omega (arith, message-depth m place, behind-depth skip (place + length (message_bytes m)) ms)))
+
+told-numbers : (last : Option ℕ) (ms : List Message) → length (joined (map message_bytes ms)) < 2 ^ 64 → All IsMessage ms → IsBytes (joined (map message_bytes ms)) → ItemsHaveNumbers (messages_told last ms)
+told-numbers None ms low is fits = messages-numbers ms 0 (omega (arith, low)) is fits
+told-numbers (Some n) ms low is fits = behind-numbers (length (days_told ms) - n) 0 ms (omega (arith, low)) is fits
+
+told-depth : (last : Option ℕ) (ms : List Message) → items_depth (messages_told last ms) ≤ 6
+told-depth None ms = messages-depth ms 0
+told-depth (Some n) ms = behind-depth (length (days_told ms) - n) 0 ms
+
 -- THE TEXT OF A UNIT FILE is read as its value
-pub unit_is_json : (messages : List Message) (bytes : List ℕ) → length bytes < 2 ^ 32 → IsBytes bytes → IsUnitFile messages bytes → document (print (json_tokens (json_of_unit messages))) ≡ Some (json_of_unit messages)
-unit_is_json messages bytes short fits file =
+pub unit_is_json : (last : Option ℕ) (messages : List Message) (bytes : List ℕ) → length bytes < 2 ^ 32 → IsBytes bytes → IsUnitFile messages bytes → document (print (json_tokens (json_of_unit last messages))) ≡ Some (json_of_unit last messages)
+unit_is_json last messages bytes short fits file =
     let are : IsBytes (joined (map message_bytes messages)) = subst IsBytes file.spelled fits in
-    document-print (json_of_unit messages)
-    (tt, (messages-numbers messages 0 (omega (arith, short, ap length file.spelled)) file.each are, tt))
-    (omega (arith, messages-depth messages 0))
+    document-print (json_of_unit last messages)
+    (tt, (told-numbers last messages (omega (arith, short, ap length file.spelled)) file.each are, tt))
+    (omega (arith, told-depth last messages))
 
 -- and tells the file
-pub unit_text_tells : (xs ys out : List ℕ) → length xs < 2 ^ 32 → length ys < 2 ^ 32 → IsBytes xs → IsBytes ys → IsUnitJson xs out → IsUnitJson ys out → xs ≡ ys
+pub unit_text_tells : (xs ys out : List ℕ) → length xs < 2 ^ 32 → length ys < 2 ^ 32 → IsBytes xs → IsBytes ys → IsUnitJson None xs out → IsUnitJson None ys out → xs ≡ ys
 unit_text_tells xs ys out lx ly bx by jx jy =
-    let texts = (same_from_push (print (json_tokens (json_of_unit jx.messages))) (print (json_tokens (json_of_unit jy.messages))) 10 10 (sym jx.text ∙ jy.text)).0 in
-    let reads = sym (unit_is_json jx.messages xs lx bx jx.are) ∙ ap document texts ∙ unit_is_json jy.messages ys ly by jy.are in
+    let texts = (same_from_push (print (json_tokens (json_of_unit None jx.messages))) (print (json_tokens (json_of_unit None jy.messages))) 10 10 (sym jx.text ∙ jy.text)).0 in
+    let reads = sym (unit_is_json None jx.messages xs lx bx jx.are) ∙ ap document texts ∙ unit_is_json None jy.messages ys ly by jy.are in
     let items : messages_shown 0 jx.messages ≡ messages_shown 0 jy.messages = ap (λ (o : Option Json). items_in (first_in (behind_in (members_in (value_in o))))) reads in
     jx.are.spelled
     ∙ messages_tell jx.messages jy.messages 0 0 jx.are.each jy.are.each (subst IsBytes jx.are.spelled bx) (subst IsBytes jy.are.spelled by) items

@@ -1,6 +1,6 @@
 -- A card file as JSON.
 use Rattle.std.specs.Prelude.{◌≡◌, ℕ, zero, suc, ◌+◌, ◌-◌, ◌*◌, ◌/◌, ◌%◌, ◌<◌, ◌≤◌, ◌==◌, ◌&&◌, nat_le, Bool, false}
-use Rattle.std.specs.Prelude.{if◌then◌else◌, List, [], ◌∷◌, ◌++◌, length, take, drop, codes}
+use Rattle.std.specs.Prelude.{if◌then◌else◌, Option, Some, None, List, [], ◌∷◌, ◌++◌, length, take, drop, codes}
 use Rattle.std.specs.Fmt.{decimal}
 use Rattle.byteorder.specs.Endian.{big_number, big_bytes}
 use Rattle.card_layout.specs.declared.files.Application.{Application}
@@ -64,25 +64,30 @@ ring_fits ring len = nat_le ring.width len && (len - ring.width) % width_of ring
 abbrev pub IsRing : Ring → Type 0
 IsRing ring = (1 ≤ ring.width) × (ring.width ≤ 2)
 
--- THE STRING OF DAYS: its pointers, its records, and its bytes
-abbrev pub days_told : List ℕ → Json
-days_told value =
+-- its bytes where all of its records are told
+abbrev pub bytes_then : Option ℕ → List ℕ → Members → Members
+bytes_then None bytes more = member (codes "bytes") (string (encode_lower bytes)) more
+bytes_then (Some last) bytes more = more
+
+-- THE STRING OF DAYS: its pointers, its records, and its bytes; or the newest so many of its records, without the bytes
+abbrev pub days_told : Option ℕ → List ℕ → Json
+days_told last value =
     object (member (name_text name.ActivityPointerOldestDayRecord) (number (decimal (big_number 2 value)))
     (member (name_text name.ActivityPointerNewestRecord) (number (decimal (big_number 2 (drop 2 value))))
     (member (name_text name.ActivityDailyRecords)
-    (string_shown (big_number 2 value) (big_number 2 (drop 2 value)) (drop 4 value))
-    (member (codes "bytes") (string (encode_lower (drop 4 value))) no_members))))
+    (string_shown last (big_number 2 value) (big_number 2 (drop 2 value)) (drop 4 value))
+    (bytes_then last (drop 4 value) no_members))))
 
 -- a value by its shape
-abbrev pub told : Shape → List ℕ → Json
-told (Record kind) value = record_shown (fields_of kind) value
-told Events value = sets_told EVENT_SETS value
-told Faults value = sets_told FAULT_SETS value
-told Days value = days_told value
-told Vehicles value = ring_told VEHICLES value
-told Places value = ring_told PLACES value
-told Conditions value = conditions_told value
-told Bytes value = string (encode_lower value)
+abbrev pub told : Option ℕ → Shape → List ℕ → Json
+told last (Record kind) value = record_shown (fields_of kind) value
+told last Events value = sets_told EVENT_SETS value
+told last Faults value = sets_told FAULT_SETS value
+told last Days value = days_told last value
+told last Vehicles value = ring_told VEHICLES value
+told last Places value = ring_told PLACES value
+told last Conditions value = conditions_told value
+told last Bytes value = string (encode_lower value)
 
 -- whether so many bytes have this shape
 abbrev pub fits : Shape → ℕ → Bool
@@ -96,9 +101,9 @@ fits Conditions len = len % width_of kind.Condition == 0
 fits Bytes len = false
 
 -- what a file holds: by its shape where its length fits that, else as bytes
-abbrev pub content_then : Shape → List ℕ → Members → Members
-content_then shape value more =
-    if fits shape (length value) then member (codes "value") (told shape value) more
+abbrev pub content_then : Option ℕ → Shape → List ℕ → Members → Members
+content_then last shape value more =
+    if fits shape (length value) then member (codes "value") (told last shape value) more
     else member (codes "bytes") (string (encode_lower value)) more
 
 -- ---- the files of a card by their identifiers (Appendix 2, section 4)
@@ -139,29 +144,30 @@ abbrev pub kind_name : ℕ → List ℕ
 kind_name kind = if kind == 0 then codes "value" else codes "signature"
 
 -- a file at a place
-abbrev pub entry_shown : (place : ℕ) → FileEntry → Json
-entry_shown place e =
+abbrev pub entry_shown : (last : Option ℕ) → (place : ℕ) → FileEntry → Json
+entry_shown last place e =
     object (member (codes "place") (number (decimal place))
     (member (codes "fileId") (string (encode_lower (big_bytes 2 e.fid)))
     (member (codes "name") (string (file_name e.fid))
     (member (codes "kind") (string (kind_name e.kind))
     (member (codes "length") (number (decimal (length e.value)))
-    (content_then (shape_of e.fid e.kind) e.value no_members))))))
+    (content_then last (shape_of e.fid e.kind) e.value no_members))))))
 
-abbrev pub entries_shown : (place : ℕ) → List FileEntry → Items
-entries_shown place [] = no_items
-entries_shown place (e ∷ es) = item (entry_shown place e) (entries_shown (place + length (entry_bytes e)) es)
+abbrev pub entries_shown : (last : Option ℕ) → (place : ℕ) → List FileEntry → Items
+entries_shown last place [] = no_items
+entries_shown last place (e ∷ es) = item (entry_shown last place e)
+    (entries_shown last (place + length (entry_bytes e)) es)
 
--- A CARD FILE AS JSON
-abbrev pub json_of_card : List FileEntry → Json
-json_of_card entries = object (member (codes "file") (string (codes "card"))
-    (member (codes "files") (array (entries_shown 0 entries)) no_members))
+-- A CARD FILE AS JSON, of all its days or of the newest so many
+abbrev pub json_of_card : Option ℕ → List FileEntry → Json
+json_of_card last entries = object (member (codes "file") (string (codes "card"))
+    (member (codes "files") (array (entries_shown last 0 entries)) no_members))
 
 -- the bytes are a card file, and what is printed is the text of its JSON, with LF behind it
-pub record IsCardJson (bytes out : List ℕ) : Type 0 where
+pub record IsCardJson (last : Option ℕ) (bytes out : List ℕ) : Type 0 where
   pub app : Application
   pub days : List ℕ
   pub vehicles : List ℕ
   pub entries : List FileEntry
   pub are : IsCardFile app days vehicles entries bytes
-  pub text : out ≡ print (json_tokens (json_of_card entries)) ++ 10 ∷ []
+  pub text : out ≡ print (json_tokens (json_of_card last entries)) ++ 10 ∷ []

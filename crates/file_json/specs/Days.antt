@@ -1,6 +1,6 @@
 -- The string of days of a card as JSON, record by record.
-use Rattle.std.specs.Prelude.{ℕ, zero, suc, ◌+◌, ◌-◌, ◌/◌, ◌&&◌, nat_le, nat_lt, Bool, if◌then◌else◌, List, [], ◌∷◌}
-use Rattle.std.specs.Prelude.{◌++◌, length, take, drop}
+use Rattle.std.specs.Prelude.{◌≡◌, ℕ, zero, suc, ◌+◌, ◌-◌, ◌/◌, ◌<◌, ◌≤◌, ◌==◌, ◌&&◌, not, nat_le, nat_lt, Bool}
+use Rattle.std.specs.Prelude.{if◌then◌else◌, Option, List, [], ◌∷◌, ◌++◌, length, take, drop}
 use Rattle.byteorder.specs.Endian.{big_number}
 use Rattle.json.specs.Json.{Json, array, object, Items, no_items, item, no_members, member}
 use Rattle.json_fields.specs.declared.kinds.Kind.TheVariants.{DailyRecord}
@@ -8,6 +8,8 @@ use Rattle.json_fields.specs.declared.names.Name.TheVariants.{ActivityChangeInfo
 use Rattle.json_fields.specs.Names.{name_text}
 use Rattle.json_fields.specs.Kinds.{fields_of}
 use Rattle.json_fields.specs.Shown.{members_then, value_shown}
+use Rattle.file_view.specs.Showing.{before_last}
+use Rattle.file_json.specs.declared.days.DaysAt.{DaysAt}
 use Rattle.file_json.specs.Parts.{changes_shown}
 
 -- the length that a record tells, and whether a record stands at the front: its head, a change, and all of its bytes
@@ -42,7 +44,42 @@ circle_from place string = drop place string ++ take place string
 abbrev pub far_between : (oldest newest size : ℕ) → ℕ
 far_between oldest newest size = if nat_lt newest oldest then newest + size - oldest else newest - oldest
 
--- THE RECORDS OF A STRING, from the oldest on
-abbrev pub string_shown : (oldest newest : ℕ) → List ℕ → Json
-string_shown oldest newest string = array
-    (days_shown (length string) (far_between oldest newest (length string)) (circle_from oldest string))
+-- how many items there are, and items without the first so many
+abbrev pub items_count : Items → ℕ
+items_count no_items = 0
+items_count (item j js) = suc (items_count js)
+
+abbrev pub items_behind : ℕ → Items → Items
+items_behind zero js = js
+items_behind (suc n) no_items = no_items
+items_behind (suc n) (item j js) = items_behind n js
+
+-- all of them, or the last so many
+abbrev pub newest_items : Option ℕ → Items → Items
+newest_items last js = items_behind (before_last last (items_count js)) js
+
+-- THE RECORDS OF A STRING, from the oldest on: all, or the newest so many
+abbrev pub records_of : (oldest newest : ℕ) → List ℕ → Items
+records_of oldest newest string = days_shown (length string) (far_between oldest newest (length string))
+    (circle_from oldest string)
+
+abbrev pub string_shown : (last : Option ℕ) → (oldest newest : ℕ) → List ℕ → Json
+string_shown last oldest newest string = array (newest_items last (records_of oldest newest string))
+
+-- ---- where the records of a circle stand
+
+-- those from a place on
+abbrev pub days_from : DaysAt → List ℕ → Items
+days_from at circle = days_shown at.most at.far (drop at.place circle)
+
+-- whether there is one
+abbrev pub stands_at : DaysAt → List ℕ → Bool
+stands_at at circle = not (at.most == 0) && is_day (drop at.place circle)
+
+-- the others stand behind the first of them
+pub record AreBehind (circle : List ℕ) (at next : DaysAt) : Type 0 where
+  pub shown : days_from at circle
+      ≡ item (day_shown (take (day_len (drop at.place circle)) (drop at.place circle))) (days_from next circle)
+  pub within : next.place ≤ length circle
+  pub later : at.place < next.place
+  pub fewer : next.most < at.most

@@ -1,5 +1,5 @@
 -- The parts of a message as members of a JSON object.
-use Rattle.std.specs.Prelude.{◌≡◌, ℕ, zero, suc, ◌+◌, ◌*◌, ◌≤◌, List, [], ◌∷◌, length, take, drop}
+use Rattle.std.specs.Prelude.{◌≡◌, ℕ, zero, suc, ◌+◌, ◌*◌, ◌≤◌, true, List, [], ◌∷◌, ◌++◌, length, take, drop, codes}
 use Rattle.byteorder.specs.Endian.{big_number}
 use Rattle.json.specs.Json.{Json, array, Items, no_items, item, Members, no_members, member}
 use Rattle.json_fields.specs.declared.fields.Field.{Field}
@@ -8,6 +8,7 @@ use Rattle.json_fields.specs.declared.names.Name.TheVariants.{ActivityChangeInfo
 use Rattle.json_fields.specs.Names.{name_text}
 use Rattle.json_fields.specs.Kinds.{fields_of}
 use Rattle.json_fields.specs.Shown.{members_then, record_shown, records_shown, value_shown, width_of_record}
+use Rattle.json_fields.specs.Shown.{are_distinct, names_in}
 use Rattle.json_fields.specs.Texts.{change_value}
 use Rattle.file_json.specs.declared.parts.Part.{Part}
 use Rattle.file_json.specs.declared.parts.Part.TheVariants.{Fields, Record, List as ListOf, Changes}
@@ -57,3 +58,18 @@ part_then Changes bytes more = member (name_text ActivityChangeInfos)
 abbrev pub parts_then : List Part → List ℕ → Members → Members
 parts_then [] bytes more = more
 parts_then (p ∷ ps) bytes more = part_then p bytes (parts_then ps (drop (part_len p bytes) bytes) more)
+
+-- the names of the members of parts
+abbrev pub names_of_part : Part → List (List ℕ)
+names_of_part (Fields kind) = names_in (fields_of kind)
+names_of_part (Record name kind) = name_text name ∷ []
+names_of_part (ListOf name count kind) = name_text name ∷ []
+names_of_part Changes = name_text ActivityChangeInfos ∷ []
+
+abbrev pub names_of_parts : List Part → List (List ℕ)
+names_of_parts [] = []
+names_of_parts (p ∷ ps) = names_of_part p ++ names_of_parts ps
+
+-- no two members of a message of these parts have one name
+abbrev pub AreNamedParts : List Part → Type 0
+AreNamedParts parts = are_distinct (codes "place" ∷ codes "trep" ∷ codes "message" ∷ names_of_parts parts) ≡ true

@@ -1,10 +1,13 @@
 -- A unit file as JSON.
-use Rattle.std.specs.Prelude.{◌≡◌, ℕ, ◌+◌, ◌==◌, if◌then◌else◌, List, [], ◌∷◌, ◌++◌, length, drop, slice_index, codes}
+use Rattle.std.specs.Prelude.{◌≡◌, ℕ, ◌+◌, ◌-◌, ◌==◌, ◌&&◌, not, Bool, true, false, if◌then◌else◌, Option, Some, None}
+use Rattle.std.specs.Prelude.{List, [], ◌∷◌, ◌++◌, length, drop, filter, slice_index, codes}
 use Rattle.std.specs.Fmt.{decimal}
 use Rattle.json.specs.Json.{Json, number, string, array, object, Items, no_items, item, Members, no_members, member}
 use Rattle.json.specs.Print.{print}
 use Rattle.json.specs.Tree.{json_tokens}
-use Rattle.message_model.specs.Messages.{Message, message_bytes, IsUnitFile}
+use Rattle.file_view.specs.UnitFiles.{days_told}
+use Rattle.message_model.specs.Messages.{Message, AnOverview, ADay, AnEventList, ASpeedList, ATechnical, message_bytes}
+use Rattle.message_model.specs.Messages.{IsUnitFile}
 use Rattle.file_json.specs.declared.parts.Part.{Part}
 use Rattle.file_json.specs.declared.parts.TheConstants.{OVERVIEW, ACTIVITIES, EVENTS, SPEEDS, TECHNICAL}
 use Rattle.file_json.specs.Parts.{parts_then}
@@ -34,13 +37,69 @@ messages_shown place [] = no_items
 messages_shown place (m ∷ ms) = item (message_shown place (message_bytes m))
     (messages_shown (place + length (message_bytes m)) ms)
 
--- A UNIT FILE AS JSON
-abbrev pub json_of_unit : List Message → Json
-json_of_unit messages = object (member (codes "file") (string (codes "unit"))
-    (member (codes "messages") (array (messages_shown 0 messages)) no_members))
+-- ---- of the last days alone
+
+-- a message, and the place where it begins
+pub record Standing : Type 0 where
+  pub place : ℕ
+  pub message : Message
+
+-- messages that stand one after the other
+abbrev pub standing_from : (place : ℕ) → List Message → List Standing
+standing_from place [] = []
+standing_from place (m ∷ ms) = record { place = place; message = m }
+    ∷ standing_from (place + length (message_bytes m)) ms
+
+-- whether a message is one of a day
+abbrev pub is_day_message : Message → Bool
+is_day_message (AnOverview m) = false
+is_day_message (ADay m) = true
+is_day_message (AnEventList m) = false
+is_day_message (ASpeedList m) = false
+is_day_message (ATechnical m) = false
+
+-- where so many messages of days are left out, this one is
+abbrev pub is_left_out : (skip : ℕ) → Message → Bool
+is_left_out skip m = not (skip == 0) && is_day_message m
+
+-- messages without the first so many of days
+abbrev pub without_days : (skip : ℕ) → List Standing → List Standing
+without_days skip [] = []
+without_days skip (s ∷ ss) = if is_left_out skip s.message then without_days (skip - 1) ss
+    else s ∷ without_days skip ss
+
+-- the messages among them, and those of no day
+abbrev pub messages_in : List Standing → List Message
+messages_in [] = []
+messages_in (s ∷ ss) = s.message ∷ messages_in ss
+
+abbrev pub of_no_day : List Message → List Message
+of_no_day ms = filter (λ (m : Message). not (is_day_message m)) ms
+
+-- those that stay of the last so many days
+abbrev pub of_last_days : (last : ℕ) → List Message → List Standing
+of_last_days last messages = without_days (length (days_told messages) - last) (standing_from 0 messages)
+
+-- each of them where it stands
+abbrev pub standing_shown : List Standing → Items
+standing_shown [] = no_items
+standing_shown (s ∷ ss) = item (message_shown s.place (message_bytes s.message)) (standing_shown ss)
+
+-- all messages of a file, or all but those of days before the last so many
+abbrev pub messages_told : Option ℕ → List Message → Items
+messages_told None messages = messages_shown 0 messages
+messages_told (Some last) messages = standing_shown (of_last_days last messages)
+
+abbrev pub json_of_messages : Items → Json
+json_of_messages items = object (member (codes "file") (string (codes "unit"))
+    (member (codes "messages") (array items) no_members))
+
+-- A UNIT FILE AS JSON, of all its days or of the last so many
+abbrev pub json_of_unit : Option ℕ → List Message → Json
+json_of_unit last messages = json_of_messages (messages_told last messages)
 
 -- the bytes are a unit file, and what is printed is the text of its JSON, with LF behind it
-pub record IsUnitJson (bytes out : List ℕ) : Type 0 where
+pub record IsUnitJson (last : Option ℕ) (bytes out : List ℕ) : Type 0 where
   pub messages : List Message
   pub are : IsUnitFile messages bytes
-  pub text : out ≡ print (json_tokens (json_of_unit messages)) ++ 10 ∷ []
+  pub text : out ≡ print (json_tokens (json_of_unit last messages)) ++ 10 ∷ []

@@ -1,27 +1,22 @@
-//! A card file: its files, one after the other.
-ghost use Rattle.std.specs.Prelude.{◌≡◌, ◌+◌, ◌*◌, ◌<◌, ◌≤◌, ◌^◌, ◌++◌, ◌∷◌, [], ℕ, List, true, IfOk, IfErr, OnOk};
+//! A file of a card file.
+ghost use Rattle.std.specs.Prelude.{◌≡◌, ◌+◌, ◌*◌, ◌<◌, ◌≤◌, ◌^◌, ◌++◌, ◌∷◌, [], ℕ, List, true, None, IfOk, IfErr, OnOk};
 ghost use Rattle.std.specs.Prelude.{drop, length, slice_index, take};
 ghost use Rattle.byteorder.specs.Endian.{big_number};
 ghost use Rattle.json.specs.Json.{array};
 ghost use Rattle.json.specs.Print.{print};
 ghost use Rattle.json.specs.Tree.{items_tokens, json_tokens};
 ghost use Rattle.json_fields.specs.Shown.{AddsMembers};
-ghost use Rattle.card_image.specs.CardFile.{FileEntry};
-ghost use Rattle.file_view.specs.Faults.{IfBadFile};
-ghost use Rattle.file_view.specs.CardFiles.{IsBadCardFile};
-ghost use Rattle.unit_marks.specs.Files.{AreFiles};
-ghost use Rattle.file_json.specs.Cards.{AreSets, IsCardJson, IsRing, conditions_told, content_then};
-ghost use Rattle.file_json.specs.Cards.{days_told, entries_shown, entry_shown, file_name, fits, json_of_card};
+ghost use Rattle.file_json.specs.Pieces.{entry_in};
+ghost use Rattle.file_json.specs.Cards.{AreSets, IsRing, bytes_then, conditions_told, content_then};
+ghost use Rattle.file_json.specs.Cards.{days_told, entry_shown, file_name, fits};
 ghost use Rattle.file_json.specs.Cards.{kind_name, list_shown, lists_shown, ring_fits, ring_told, sets_fit, sets_told};
 ghost use Rattle.file_json.specs.Cards.{shape_of, told};
 
-use crate::days::write_string;
-use crate::unit::line_of;
+use crate::days::{Pointers, write_string};
 use byteorder::{BigEndian, ByteOrder};
-use file_view::{ViewFault, read_card_file};
 use json_fields::{Kind, Name, TextWriter, write_digits, write_record, write_records};
 use std::alloc::{AllocError, Global};
-use unit_marks::{FILE_HEAD, file_behind, file_len, file_value};
+use unit_marks::FILE_HEAD;
 
 /// What a file of a card holds.
 #[derive(Clone, Copy)]
@@ -95,72 +90,20 @@ pub struct FileHead {
     pub kind: u8,
 }
 
-/// The JSON of a card file, with LF behind it.
-///
-/// # Errors
-///
-/// As those of `file_view::read_card_file`.
-pub fn card_json(alloc: Global, b: &[u8]) -> Result<Vec<u8>, ViewFault>
-    requires { length b.now < 2 ^ 32 }
-    ensures text { IfOk result (λ text. IsCardJson b.now text.items) }
-    ensures bad { IfErr result (λ fault. IfBadFile fault (λ place. IsBadCardFile place b.now)) }
+/// The text of a file, which these bytes spell with its head; of the string of days all records, or the newest so many.
+pub(crate) fn file_text(
+    alloc: Global,
+    last: Option<u32>,
+    place: usize,
+    file: &[u8],
+) -> Result<Vec<u8>, AllocError>
+    requires { 5 ≤ length file.now }
+    ensures { IfOk result (λ text. text.items ≡ print (json_tokens (entry_shown last place (entry_in file.now)))) }
 {
-    match read_card_file(alloc, b) {
-        Ok(_history) => {
-            let text = card_text(alloc, b)?;
-            Ok(text)
-        }
-        Err(fault) => Err(fault),
-    }
-}
-
-/// The text of a card file of these entries.
-fn card_text(alloc: Global, b: &[u8]) -> Result<Vec<u8>, AllocError>
-    requires { (entries : List FileEntry) × AreFiles entries b.now }
-    ensures { (entries : List FileEntry) → AreFiles entries b.now
-        → IfOk result (λ text. text.items ≡ print (json_tokens (json_of_card entries)) ++ 10 ∷ []) }
-{
+    let head = file_head(file, place);
     let mut writer = TextWriter::new(alloc);
-    write_card(alloc, &mut writer, b)?;
-    let text = line_of(writer)?;
-    Ok(text)
-}
-
-/// Writes a card file.
-fn write_card(alloc: Global, writer: &mut TextWriter, b: &[u8]) -> Result<(), AllocError>
-    requires { (entries : List FileEntry) × AreFiles entries b.now }
-    ensures { (entries : List FileEntry) → AreFiles entries b.now
-        → OnOk result (writer.new ≡ writer.old ++ json_tokens (json_of_card entries)) }
-{
-    writer.begin_object()?;
-    writer.key("file")?;
-    writer.string("card")?;
-    writer.key("files")?;
-    writer.begin_array()?;
-    write_files(alloc, writer, b)?;
-    writer.end_object()?;
-    Ok(())
-}
-
-/// Writes the files of a card, one after the other, and the end of their array.
-fn write_files(alloc: Global, writer: &mut TextWriter, b: &[u8]) -> Result<(), AllocError>
-    requires { (entries : List FileEntry) × AreFiles entries b.now }
-    ensures { (entries : List FileEntry) → AreFiles entries b.now
-        → OnOk result (writer.new ≡ writer.old ++ items_tokens (entries_shown 0 entries)) }
-{
-    let mut rest = b;
-    let mut place = 0;
-    while rest.len() != 0 {
-        let len = file_len(rest);
-        let head = file_head(rest, place);
-        let value = file_value(rest, len);
-        let behind = file_behind(rest, len);
-        write_file(alloc, writer, head, value)?;
-        rest = behind;
-        place += FILE_HEAD + len;
-    }
-    writer.end_array()?;
-    Ok(())
+    write_file(alloc, &mut writer, last, head, &file[FILE_HEAD..])?;
+    Ok(writer.into_text())
 }
 
 /// The head of the file at the front.
@@ -177,11 +120,12 @@ fn file_head(rest: &[u8], place: usize) -> FileHead
 fn write_file(
     alloc: Global,
     writer: &mut TextWriter,
+    last: Option<u32>,
     head: FileHead,
     value: &[u8],
 ) -> Result<(), AllocError>
-    ensures { OnOk result (writer.new ≡ writer.old
-        ++ json_tokens (entry_shown head.place (record { fid = head.fid; kind = head.kind; value = value.now }))) }
+    ensures { OnOk result (writer.new ≡ writer.old ++ json_tokens
+        (entry_shown last head.place (record { fid = head.fid; kind = head.kind; value = value.now }))) }
 {
     writer.begin_object()?;
     writer.key("place")?;
@@ -194,7 +138,7 @@ fn write_file(
     writer.string(kind_name(head.kind))?;
     writer.key("length")?;
     writer.u64(value.len() as u64)?;
-    write_content(alloc, writer, shape_of(head.fid, head.kind), value)?;
+    write_content(alloc, writer, last, shape_of(head.fid, head.kind), value)?;
     writer.end_object()?;
     Ok(())
 }
@@ -210,14 +154,15 @@ fn kind_name(kind: u8) -> &'static str
 fn write_content(
     alloc: Global,
     writer: &mut TextWriter,
+    last: Option<u32>,
     shape: Shape,
     value: &[u8],
 ) -> Result<(), AllocError>
-    ensures { OnOk result (AddsMembers writer.old writer.new (content_then shape value.now)) }
+    ensures { OnOk result (AddsMembers writer.old writer.new (content_then last shape value.now)) }
 {
     if fits(shape, value.len()) {
         writer.key("value")?;
-        return write_told(alloc, writer, shape, value);
+        return write_told(alloc, writer, last, shape, value);
     }
     writer.key("bytes")?;
     write_digits(alloc, writer, value)
@@ -261,17 +206,18 @@ fn ring_fits(ring: Ring, len: usize) -> bool
 fn write_told(
     alloc: Global,
     writer: &mut TextWriter,
+    last: Option<u32>,
     shape: Shape,
     value: &[u8],
 ) -> Result<(), AllocError>
     requires { fits shape (length value.now) ≡ true }
-    ensures { OnOk result (writer.new ≡ writer.old ++ json_tokens (told shape value.now)) }
+    ensures { OnOk result (writer.new ≡ writer.old ++ json_tokens (told last shape value.now)) }
 {
     match shape {
         Shape::Record(kind) => write_record(alloc, writer, kind.fields(), value),
         Shape::Events => write_sets(alloc, writer, EVENT_SETS, value),
         Shape::Faults => write_sets(alloc, writer, FAULT_SETS, value),
-        Shape::Days => write_days(alloc, writer, value),
+        Shape::Days => write_days(alloc, writer, last, value),
         Shape::Vehicles => write_ring(alloc, writer, VEHICLES, value),
         Shape::Places => write_ring(alloc, writer, PLACES, value),
         Shape::Conditions => write_conditions(alloc, writer, value),
@@ -371,10 +317,15 @@ fn write_ring(
     Ok(())
 }
 
-/// Writes the pointers of the string of days, its records, and its bytes.
-fn write_days(alloc: Global, writer: &mut TextWriter, value: &[u8]) -> Result<(), AllocError>
+/// Writes the pointers of the string of days, its records, and its bytes; or the newest so many of the records.
+fn write_days(
+    alloc: Global,
+    writer: &mut TextWriter,
+    last: Option<u32>,
+    value: &[u8],
+) -> Result<(), AllocError>
     requires { 4 ≤ length value.now }
-    ensures { OnOk result (writer.new ≡ writer.old ++ json_tokens (days_told value.now)) }
+    ensures { OnOk result (writer.new ≡ writer.old ++ json_tokens (days_told last value.now)) }
 {
     let oldest = BigEndian::read_u16(value) as usize;
     let newest = BigEndian::read_u16(&value[2..]) as usize;
@@ -384,11 +335,34 @@ fn write_days(alloc: Global, writer: &mut TextWriter, value: &[u8]) -> Result<()
     writer.key(Name::ActivityPointerNewestRecord.text())?;
     writer.u64(newest as u64)?;
     writer.key(Name::ActivityDailyRecords.text())?;
-    write_string(alloc, writer, &value[4..], oldest, newest)?;
-    writer.key("bytes")?;
-    write_digits(alloc, writer, &value[4..])?;
+    let pointers = Pointers { oldest, newest };
+    write_string(alloc, writer, last, pointers, &value[4..])?;
+    write_bytes(alloc, writer, last, &value[4..])?;
     writer.end_object()?;
     Ok(())
+}
+
+/// Writes the bytes of a string, where all of its records are told.
+fn write_bytes(
+    alloc: Global,
+    writer: &mut TextWriter,
+    last: Option<u32>,
+    string: &[u8],
+) -> Result<(), AllocError>
+    ensures { OnOk result (AddsMembers writer.old writer.new (bytes_then last string.now)) }
+{
+    match last {
+        None => write_all_bytes(alloc, writer, string),
+        Some(_last) => Ok(()),
+    }
+}
+
+/// Writes the bytes of a string, under their name.
+fn write_all_bytes(alloc: Global, writer: &mut TextWriter, string: &[u8]) -> Result<(), AllocError>
+    ensures { OnOk result (AddsMembers writer.old writer.new (bytes_then None string.now)) }
+{
+    writer.key("bytes")?;
+    write_digits(alloc, writer, string)
 }
 
 /// What a file is called (Appendix 2, section 4).

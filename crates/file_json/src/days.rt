@@ -1,9 +1,11 @@
 //! The string of days of a card, record by record (Annex IB, Appendix 1, CardDriverActivity).
-ghost use Rattle.std.specs.Prelude.{◌≡◌, ◌==◌, ◌&&◌, ◌+◌, ◌-◌, ◌<◌, ◌≤◌, ◌++◌, not, nat_lt, if◌then◌else◌, IfOk, OnOk};
-ghost use Rattle.std.specs.Prelude.{length};
+ghost use Rattle.std.specs.Prelude.{◌≡◌, ◌==◌, ◌&&◌, ◌+◌, ◌-◌, ◌<◌, ◌≤◌, ◌++◌, not, true, nat_lt, if◌then◌else◌, IfOk};
+ghost use Rattle.std.specs.Prelude.{OnOk, length};
+ghost use Rattle.file_view.specs.Showing.{before_last};
 ghost use Rattle.json.specs.Json.{array};
 ghost use Rattle.json.specs.Tree.{json_tokens};
-ghost use Rattle.file_json.specs.Days.{circle_from, day_len, day_shown, days_shown, far_between, is_day};
+ghost use Rattle.file_json.specs.Days.{AreBehind, circle_from, day_len, day_shown, days_from, days_shown, far_between};
+ghost use Rattle.file_json.specs.Days.{is_day, items_behind, items_count, newest_items, stands_at, string_shown};
 
 use crate::parts::write_changes;
 use byteorder::{BigEndian, ByteOrder};
@@ -16,21 +18,140 @@ const HEAD: usize = 12;
 /// The least that a record has: its head and one change.
 const DAY_LEAST: usize = 14;
 
-/// Writes the records of a string as a JSON array, from the oldest on.
+/// Where the oldest record of a string stands, and its newest.
+#[derive(Clone, Copy)]
+pub struct Pointers {
+    pub oldest: usize,
+    pub newest: usize,
+}
+
+/// Records that stand from a place on: at most so many, the last of them so far behind the place.
+#[derive(Clone, Copy)]
+pub struct DaysAt {
+    pub place: usize,
+    pub far: usize,
+    pub most: usize,
+}
+
+/// Writes the records of a string as a JSON array, from the oldest on: all, or the newest so many.
 pub(crate) fn write_string(
     alloc: Global,
     writer: &mut TextWriter,
+    last: Option<u32>,
+    pointers: Pointers,
     string: &[u8],
-    oldest: usize,
-    newest: usize,
 ) -> Result<(), AllocError>
     ensures { OnOk result (writer.new ≡ writer.old
-        ++ json_tokens (array (days_shown (length string.now) (far_between oldest newest (length string.now))
-        (circle_from oldest string.now)))) }
+        ++ json_tokens (string_shown last pointers.oldest pointers.newest string.now)) }
 {
-    let circle = circle_from(alloc, string, oldest)?;
-    let far = far_between(oldest, newest, string.len());
-    write_days_of(alloc, writer, string.len(), far, &circle)
+    let circle = circle_from(alloc, string, pointers.oldest)?;
+    let far = far_between(pointers.oldest, pointers.newest, string.len());
+    let all = DaysAt {
+        place: 0,
+        far,
+        most: string.len(),
+    };
+    write_newest(alloc, writer, last, all, circle.as_slice())
+}
+
+/// Writes all of these records, or the newest so many.
+fn write_newest(
+    alloc: Global,
+    writer: &mut TextWriter,
+    last: Option<u32>,
+    all: DaysAt,
+    circle: &[u8],
+) -> Result<(), AllocError>
+    requires { all.place ≤ length circle.now }
+    ensures { OnOk result (writer.new ≡ writer.old
+        ++ json_tokens (array (newest_items last (days_from all circle.now)))) }
+{
+    let days = newest_days(circle, all, last);
+    let (_front, rest) = circle.split_at(days.place);
+    write_days_of(alloc, writer, days.most, days.far, rest)
+}
+
+/// Where the newest so many of these records stand, or all.
+fn newest_days(circle: &[u8], all: DaysAt, last: Option<u32>) -> DaysAt
+    requires { all.place ≤ length circle.now }
+    ensures days { days_from result circle.now ≡ newest_items last (days_from all circle.now) }
+    ensures within { result.place ≤ length circle.now }
+{
+    let count = count_days(circle, all);
+    let skip = first_of(count, last);
+    behind_days(circle, all, skip)
+}
+
+/// Which of so many days is the first that is told.
+pub(crate) fn first_of(count: usize, last: Option<u32>) -> usize
+    ensures { result ≡ before_last last count }
+{
+    match last {
+        Some(n) => count.saturating_sub(n as usize),
+        None => 0,
+    }
+}
+
+/// How many records there are.
+fn count_days(circle: &[u8], all: DaysAt) -> usize
+    requires { all.place ≤ length circle.now }
+    ensures { result ≡ items_count (days_from all circle.now) }
+{
+    let mut at = all;
+    let mut count = 0;
+    'walk: while stands_at(circle, at) {
+        let next = behind_one(circle, at);
+        at = next;
+        count += 1;
+    }
+    count
+}
+
+/// Where the records behind the first so many stand.
+fn behind_days(circle: &[u8], all: DaysAt, skip: usize) -> DaysAt
+    requires { all.place ≤ length circle.now }
+    ensures days { days_from result circle.now ≡ items_behind skip (days_from all circle.now) }
+    ensures within { result.place ≤ length circle.now }
+{
+    let mut at = all;
+    let mut left = skip;
+    'walk: while goes_on(circle, at, left) {
+        let next = behind_one(circle, at);
+        at = next;
+        left -= 1;
+    }
+    at
+}
+
+/// Whether a record is there, of which so many are left.
+fn goes_on(circle: &[u8], at: DaysAt, left: usize) -> bool
+    requires { at.place ≤ length circle.now }
+    ensures { result ≡ not (left == 0) && stands_at at circle.now }
+{
+    left != 0 && stands_at(circle, at)
+}
+
+/// Whether a record is there.
+fn stands_at(circle: &[u8], at: DaysAt) -> bool
+    requires { at.place ≤ length circle.now }
+    ensures { result ≡ stands_at at circle.now }
+{
+    let (_front, rest) = circle.split_at(at.place);
+    is_left(at.most, rest)
+}
+
+/// Where the records behind the first one stand.
+fn behind_one(circle: &[u8], at: DaysAt) -> DaysAt
+    requires within { at.place ≤ length circle.now }
+    requires there { stands_at at circle.now ≡ true }
+    ensures { AreBehind circle.now at result }
+{
+    let (_front, rest) = circle.split_at(at.place);
+    let len = day_len(rest);
+    let place = at.place + len;
+    let far = far_after(at.far, len);
+    let most = left_after(at.most, at.far, len);
+    DaysAt { place, far, most }
 }
 
 /// The bytes of a string, read once round from a place on.

@@ -5,12 +5,14 @@ mod card;
 mod days;
 mod laws;
 mod parts;
+mod pieces;
 mod unit;
 
-pub use card::card_json;
 pub use laws::{
-    a_card_file_is_json, a_unit_file_is_json, nothing_of_a_card_file_is_left_out,
-    nothing_of_a_unit_file_is_left_out,
+    a_card_file_is_json, a_unit_file_is_json, a_unit_file_is_told_from_a_card_file,
+    nothing_of_a_card_file_is_left_out, nothing_of_a_unit_file_is_left_out,
+    the_last_days_of_a_unit_file_are_told, the_newest_days_of_a_card_are_told,
+    what_a_card_holds_is_told_under_its_name, what_a_unit_writes_is_told_under_its_name,
 };
 pub use parts::Part;
-pub use unit::unit_json;
+pub use pieces::{Piece, card_pieces, piece_text, unit_pieces};

@@ -1,4 +1,4 @@
--- Worked rows, computed by the checker: a vehicle entry as text, entries that were never written, codes, and times.
+-- Worked rows, computed by the checker: a vehicle entry as text, entries that were never written, codes, changes of activity, and times.
 use Rattle.std.proofs.Common.{◌≡◌, ℕ, List, [], ◌∷◌, refl}
 use Rattle.std.specs.Prelude.{codes, replicate}
 use Rattle.std.specs.Fmt.{digits}
@@ -9,7 +9,7 @@ use Rattle.json_fields.specs.declared.codes.Coding.TheVariants.{EventFault, Nati
 use Rattle.json_fields.specs.declared.tables.TheConstants.{VEHICLE}
 use Rattle.json_fields.specs.Dates.{date_of, time_text}
 use Rattle.json_fields.specs.Shown.{record_shown, records_shown, items_shown, width_of_record}
-use Rattle.json_fields.specs.Texts.{code_value}
+use Rattle.json_fields.specs.Texts.{change_value, code_value}
 
 -- from kilometre 0 to 528, of 1970-03-01 07:00 to 14:40, M-AB-1 of Germany, counter 1
 abbrev entry : List ℕ
@@ -35,6 +35,19 @@ while_driving = refl
 no_nation : print (json_tokens (code_value Nation 100)) ≡ codes "{\"code\":100,\"name\":null}"
 unfolding print_from escape_byte digits
 no_nation = refl
+
+-- a driver of a crew, with a card; without one an activity that was entered by hand, and one of which nothing is known
+of_a_crew : print (json_tokens (change_value 22903)) ≡ codes "{\"minute\":375,\"slot\":\"driver\",\"crew\":true,\"present\":true,\"activity\":\"drive\"}"
+unfolding print_from escape_byte digits
+of_a_crew = refl
+
+by_hand : print (json_tokens (change_value 29152)) ≡ codes "{\"minute\":480,\"slot\":\"driver\",\"byHand\":true,\"present\":false,\"activity\":\"work\"}"
+unfolding print_from escape_byte digits
+by_hand = refl
+
+unknown : print (json_tokens (change_value 8792)) ≡ codes "{\"minute\":600,\"slot\":\"driver\",\"byHand\":false,\"present\":false,\"activity\":\"rest\"}"
+unfolding print_from escape_byte digits
+unknown = refl
 
 -- the leap day of 1972, and the day after it
 leap_day : time_text 68255999 ≡ codes "1972-02-29T23:59:59Z"

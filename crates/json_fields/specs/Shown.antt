@@ -1,5 +1,6 @@
 -- Records of bytes as JSON values, by tables of named fields.
 use Rattle.std.specs.Prelude.{◌≡◌, ℕ, zero, suc, ◌+◌, ◌*◌, ◌≤◌, List, [], ◌∷◌, ◌++◌, length, take, drop, slice_index}
+use Rattle.std.specs.Prelude.{Bool, true, false, not, ◌&&◌, ◌||◌, bytes_eq}
 use Rattle.std.specs.Fmt.{decimal}
 use Rattle.byteorder.specs.Endian.{big_number}
 use Rattle.hex.specs.Hex.{encode_lower}
@@ -75,6 +76,24 @@ AllCan can (f ∷ fs) = can f.form f.width × AllCan can fs
 
 abbrev pub AreFields : List Field → Type 0
 AreFields fields = AllCan CanShow fields
+
+-- a name among others, and names of which none stands twice
+abbrev pub is_among : List ℕ → List (List ℕ) → Bool
+is_among name [] = false
+is_among name (other ∷ names) = bytes_eq name other || is_among name names
+
+abbrev pub are_distinct : List (List ℕ) → Bool
+are_distinct [] = true
+are_distinct (name ∷ names) = not (is_among name names) && are_distinct names
+
+-- the names of fields
+abbrev pub names_in : List Field → List (List ℕ)
+names_in [] = []
+names_in (f ∷ fs) = name_text f.name ∷ names_in fs
+
+-- no two fields of a table have one name
+abbrev pub AreNamed : List Field → Type 0
+AreNamed fields = are_distinct (names_in fields) ≡ true
 
 -- and each is no record of others
 abbrev pub ArePlain : List Field → Type 0

@@ -1,6 +1,6 @@
 //! The kinds of records, each with its table.
 ghost use Rattle.std.specs.Prelude.{◌≡◌, ◌<◌};
-ghost use Rattle.json_fields.specs.Shown.{AreFields, width_of_record};
+ghost use Rattle.json_fields.specs.Shown.{AreFields, AreNamed, width_of_record};
 ghost use Rattle.json_fields.specs.Kinds.{fields_of};
 
 use crate::fields::Field;
@@ -85,6 +85,7 @@ impl Kind {
     pub fn fields(self) -> &'static [Field]
         ensures fields { result.now ≡ fields_of self }
         ensures table { AreFields result.now }
+        ensures named { AreNamed result.now }
     {
         match self {
             Kind::Certificates => &CERTIFICATES,

@@ -257,7 +257,7 @@ impl Name {
             Name::ClockStop => "clockStop",
             Name::CardExtendedSerialNumber => "cardExtendedSerialNumber",
             Name::CardApprovalNumber => "cardApprovalNumber",
-            Name::CardPersonaliserId => "cardPersonaliserId",
+            Name::CardPersonaliserId => "cardPersonaliserID",
             Name::EmbedderIcAssemblerId => "embedderIcAssemblerId",
             Name::IcIdentifier => "icIdentifier",
             Name::IcSerialNumber => "icSerialNumber",

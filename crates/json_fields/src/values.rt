@@ -7,7 +7,7 @@ ghost use Rattle.json.specs.Tree.{json_tokens};
 ghost use Rattle.json_fields.specs.Shown.{CanShowPlain, plain_shown};
 ghost use Rattle.json_fields.specs.Texts.{activity_word, are_zeros, card_value, change_value, code_value, cut};
 ghost use Rattle.json_fields.specs.Texts.{holder_value, name_value, numbers_shown, or_none, registration_value};
-ghost use Rattle.json_fields.specs.Texts.{slot_word, text_of, text_value, time_value};
+ghost use Rattle.json_fields.specs.Texts.{slot_word, status_word, text_of, text_value, time_value};
 
 use crate::codes::Coding;
 use crate::fields::Form;
@@ -210,7 +210,7 @@ pub fn write_change(writer: &mut TextWriter, word: u16) -> Result<(), AllocError
     writer.u64((word % 2048) as u64)?;
     writer.key("slot")?;
     writer.string(slot_word(word))?;
-    writer.key("crew")?;
+    writer.key(status_word(word))?;
     writer.boolean(word / 16384 % 2 == 1)?;
     writer.key("present")?;
     writer.boolean(word / 8192 % 2 == 0)?;
@@ -240,6 +240,17 @@ fn slot_word(word: u16) -> &'static str
         "driver"
     } else {
         "codriver"
+    }
+}
+
+/// What the bit behind the slot's tells: CREW where a card is in the slot, else an entry by hand.
+fn status_word(word: u16) -> &'static str
+    ensures { result.now ≡ status_word word }
+{
+    if word / 8192 % 2 == 0 {
+        "crew"
+    } else {
+        "byHand"
     }
 }
 

@@ -5,11 +5,16 @@
 mod cards;
 mod entries;
 mod files;
+mod laws;
 mod marks;
 mod places;
 
 pub use cards::card_marks;
 pub use entries::entry_marks;
 pub use files::{FILE_HEAD, file_behind, file_len, file_value};
+pub use laws::{
+    a_place_of_a_card_is_read_as_it_is_written, a_place_of_a_unit_is_read_as_it_is_written,
+    an_event_of_a_card_is_read_as_it_is_written, an_event_of_a_unit_is_read_as_it_is_written,
+};
 pub use marks::{Marks, marks_of};
 pub use places::{MessageAt, messages_at};

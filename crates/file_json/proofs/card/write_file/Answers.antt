@@ -15,7 +15,7 @@ returns c =
     c.write_content.new.writer c.end_object.new.self
     (codes "place") (codes "fileId") (codes "name") (codes "kind") (codes "length")
     (number (decimal c.args.head.place)) (string (encode_lower (big_bytes 2 c.args.head.fid))) (string (file_name c.args.head.fid)) (string (kind_name c.args.head.kind)) (number (decimal (length c.args.value.now)))
-    (content_then (shape_of c.args.head.fid c.args.head.kind) c.args.value.now)
+    (content_then c.args.last (shape_of c.args.head.fid c.args.head.kind) c.args.value.now)
     c.in_ok-begin_object.ensures c.in_ok-key.ensures c.in_ok-u64.ensures c.in_ok-key-2.ensures
     (c.in_ok-write_digits.ensures ∙ ap (λ (l : List ℕ). c.key-2.new.self ++ json_tokens (string (encode_lower l))) c.to_be_bytes.ensures)
     c.in_ok-key-3.ensures (rw c.file_name.ensures at c.in_ok-string.ensures) c.in_ok-key-4.ensures (rw c.kind_name.ensures at c.in_ok-string-2.ensures) c.in_ok-key-5.ensures c.in_ok-u64-2.ensures

@@ -1,13 +1,13 @@
 use Rattle.std.proofs.Common.{◌≡◌, ◌∙◌, ◌++◌, ◌-◌, ℕ, List, take, drop, sym, ap}
 use Rattle.json.specs.Json.{array}
 use Rattle.json.specs.Tree.{items_tokens, json_tokens}
-use Rattle.file_json.specs.Days.{day_len, days_shown}
-use Rattle.file_json.proofs.Stringing.{both_of, left_after, one_day_more, no_day_left}
+use Rattle.file_json.specs.Days.{day_len, days_shown, is_day}
+use Rattle.file_json.proofs.Stringing.{two_of, left_after, one_day_more, no_day_left}
 use Rattle.file_json.proofs.days.write_days_of.Goals as goal
 
 pub days-preserved : goal.days-preserved
 days-preserved c =
-    let both = both_of c.days.left c.days.rest.now (sym c.is_left.ensures ∙ c.days-test.true) in
+    let both = two_of c.days.left (is_day c.days.rest.now) (sym c.is_left.ensures ∙ c.days-test.true) in
     let len : c.day_len-len.result ≡ day_len c.days.rest.now = c.day_len-len.ensures in
     let left : c.left_after-left.result ≡ left_after c.days.left c.days.far (day_len c.days.rest.now) = c.left_after-left.ensures ∙ ap (λ (n : ℕ). left_after c.days.left c.days.far n) len in
     let far : c.far_after-far.result ≡ c.days.far - day_len c.days.rest.now = c.far_after-far.ensures ∙ ap (λ (n : ℕ). c.days.far - n) len in

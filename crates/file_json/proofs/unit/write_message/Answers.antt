@@ -17,7 +17,7 @@ handed message bytes is has = subst (λ (l : List ℕ). HasParts (parts_of (slic
 
 pub write_parts-requires : goal.write_parts-requires
 write_parts-requires c =
-    rw c.parts_of.ensures
+    rw c.parts_of.ensures.parts
     (subst (λ (l : List ℕ). HasParts (parts_of (slice_index c.args.message.now 1)) l) (sym (behind_is 2 c.args.message.now))
     (handed c.args.message.now (message_bytes c.requires.0) c.requires.2 (has_parts c.requires.0 c.requires.1)))
 
@@ -29,5 +29,5 @@ returns c =
     (parts_then (parts_of (slice_index c.args.message.now 1)) (drop 2 c.args.message.now))
     c.in_ok-begin_object.ensures c.in_ok-key.ensures c.in_ok-u64.ensures c.in_ok-key-2.ensures c.in_ok-u64-2.ensures c.in_ok-key-3.ensures
     (rw c.message_name.ensures at c.in_ok-string.ensures)
-    (subst (λ (l : List ℕ). AddsMembers c.string.new.self c.write_parts.new.writer (parts_then (parts_of (slice_index c.args.message.now 1)) l)) (behind_is 2 c.args.message.now) (rw c.parts_of.ensures at c.in_ok-write_parts.ensures))
+    (subst (λ (l : List ℕ). AddsMembers c.string.new.self c.write_parts.new.writer (parts_then (parts_of (slice_index c.args.message.now 1)) l)) (behind_is 2 c.args.message.now) (rw c.parts_of.ensures.parts at c.in_ok-write_parts.ensures))
     c.in_ok-end_object.ensures

@@ -12,6 +12,7 @@ returns c =
       c.in_ok-key-4.ensures,
       c.in_ok-boolean.ensures,
       c.in_ok-key-3.ensures,
+      c.status_word.ensures,
       c.in_ok-string.ensures,
       c.slot_word.ensures,
       c.in_ok-key-2.ensures,
